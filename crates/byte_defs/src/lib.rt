@@ -1,0 +1,2 @@
+//! Words on lists and bytes that all definitions share.
+#![tactic(auto)]

@@ -1,0 +1,155 @@
+-- What the questions of a family read of its processes, and the questions.
+use Rattle.std.specs.Prelude.{◌≡◌, ◌≢◌, ℕ, ◌+◌, ◌<◌, ◌≤◌, Bool, ◌&&◌, ◌||◌, not, nat_lt, nat_le, ◌==◌, List, [], ◌∷◌, ◌++◌, length, map, take, drop, filter, flat_map, count_by, if◌then◌else◌, IsTrue, ◌↔◌, All, AllPairs, Contains, Some, slice_get, slice_index_or}
+use Rattle.std.specs.List.{list_any, list_all, range_with_len}
+use lib.Pointwise.{pointwise}
+use Rattle.byte_defs.specs.Equality.{is_yes, bytes_discrete}
+use Rattle.group_defs.specs.Views.{View, View-discrete, has, is_member, faulty, next_view, is_possible}
+use Rattle.message_defs.specs.Updates.{Update}
+use Rattle.group_defs.specs.Process.{Delivered, Delivered-discrete, Process, views_of, deliveries_of}
+
+pub record Account : Type 0 where
+  pub me : ℕ
+  pub views : List View
+  -- of each view, by its number
+  pub delivered : List (List Delivered)
+  pub accepted : List (List ℕ)
+  pub perceived : List (ℕ × Update)
+
+abbrev pub account_of : Process → Account
+account_of p = record { me = p.me; views = views_of p; delivered = deliveries_of p; accepted = p.accepted; perceived = p.perceived }
+
+-- what it delivered in the view of this number
+abbrev pub delivered_in : Account → ℕ → List Delivered
+delivered_in a x = slice_index_or a.delivered x []
+
+-- it left the view of this number
+abbrev pub HasLeft : Account → ℕ → Type 0
+HasLeft a x = x + 1 < length a.views
+
+abbrev pub IsPrefixOf : {A : Type 0} → List A → List A → Type 0
+IsPrefixOf {A} xs ys = (rest : List A) × (xs ++ rest ≡ ys)
+
+-- ---- the group
+
+pub record Group : Type 0 where
+  pub views : List View
+  -- of the view of this number
+  pub sequence : ℕ → List Delivered
+
+-- the first of the longest
+abbrev pub longest : {A : Type 0} → List (List A) → List A
+longest [] = []
+longest (xs ∷ more) = if nat_lt (length xs) (length (longest more)) then longest more else xs
+
+-- the accounts stand by rising process number
+abbrev pub group_of : List Account → Group
+group_of accounts = record { views = longest (map (λ a. a.views) accounts); sequence = λ x. longest (map (λ a. delivered_in a x) accounts) }
+
+-- the sequences in order of views
+abbrev pub history : Group → List Delivered
+history g = flat_map g.sequence (range_with_len 0 (length g.views))
+
+-- ---- the questions
+
+-- each view has at most f members that are not correct
+abbrev pub corrupt_in : List ℕ → View → ℕ
+corrupt_in correct v = count_by (λ m. not (has correct m)) v.members
+
+abbrev pub Bounded : List Account → List ℕ → Type 0
+Bounded accounts correct = All (λ a. All (λ v. corrupt_in correct v ≤ faulty (length v.members)) a.views) accounts
+
+pub record AgreesWith (g : Group) (a : Account) : Type 0 where
+  pub views : IsPrefixOf a.views g.views
+  pub prefixes : (x : ℕ) → IsPrefixOf (delivered_in a x) (g.sequence x)
+  pub whole : (x : ℕ) (v : View) → slice_get a.views x ≡ Some v → IsTrue (is_member v a.me) → HasLeft a x → delivered_in a x ≡ g.sequence x
+
+abbrev pub Agree : List Account → Type 0
+Agree accounts = All (AgreesWith (group_of accounts)) accounts
+
+-- a correct member of the view perceived the update that ended it
+pub record HasCause (accounts : List Account) (keyed : List ℕ) (v w : View) : Type 0 where
+  pub update : Update
+  pub possible : IsTrue (is_possible keyed v update)
+  pub next : w ≡ next_view v update
+  pub by : Account
+  pub correct : Contains accounts by
+  pub member : IsTrue (is_member v by.me)
+  pub perceived : Contains by.perceived (v.number, update)
+
+-- what the sequence has of the sender
+abbrev pub of_sender : ℕ → List Delivered → List Delivered
+of_sender sender ds = filter (λ d. d.message.sender == sender) ds
+
+pub record Sound (accounts : List Account) (keyed : List ℕ) : Type 0 where
+  pub causes : (x : ℕ) (v w : View) → slice_get (group_of accounts).views x ≡ Some v → slice_get (group_of accounts).views (x + 1) ≡ Some w → HasCause accounts keyed v w
+  pub once : (x : ℕ) → AllPairs (λ d e. d.message ≢ e.message) ((group_of accounts).sequence x)
+  pub in_order : (x sender : ℕ) → let ds = of_sender sender ((group_of accounts).sequence x) in map (λ d. d.message.number) ds ≡ range_with_len 0 (length ds)
+  pub accepted : All (λ a. IsPrefixOf (map (λ d. d.payload) (of_sender a.me (history (group_of accounts)))) a.accepted) accounts
+
+-- ---- the same, as the report computes them
+
+abbrev pub bounded : List Account → List ℕ → Bool
+bounded accounts correct = list_all (λ a. list_all (λ v. nat_le (corrupt_in correct v) (faulty (length v.members))) a.views) accounts
+
+abbrev pub same_views : List View → List View → Bool
+same_views = pointwise (λ v w. is_yes (View-discrete v w))
+
+abbrev pub same_sequence : List Delivered → List Delivered → Bool
+same_sequence = pointwise (λ d e. is_yes (Delivered-discrete d e))
+
+abbrev pub agrees_in : Group → Account → ℕ → Bool
+agrees_in g a x =
+    let ds = delivered_in a x in
+    same_sequence ds (take (length ds) (g.sequence x))
+    && (not (list_any (λ v. is_member v a.me) (take 1 (drop x a.views))) || not (nat_lt (x + 1) (length a.views)) || same_sequence ds (g.sequence x))
+
+abbrev pub agrees_with : Group → Account → Bool
+agrees_with g a =
+    same_views a.views (take (length a.views) g.views)
+    && list_all (agrees_in g a) (range_with_len 0 (length a.views))
+
+abbrev pub agree : List Account → Bool
+agree accounts = list_all (agrees_with (group_of accounts)) accounts
+
+-- the updates that some account perceived in a view
+abbrev pub perceived_in : List Account → View → List Update
+perceived_in accounts v = flat_map (λ a. if is_member v a.me then map (λ e. e.1) (filter (λ e. e.0 == v.number) a.perceived) else []) accounts
+
+abbrev pub has_cause : List Account → List ℕ → View × View → Bool
+has_cause accounts keyed e = list_any (λ u. is_possible keyed e.0 u && same_views (e.1 ∷ []) (next_view e.0 u ∷ [])) (perceived_in accounts e.0)
+
+abbrev pub is_in_order : List Delivered → ℕ → Bool
+is_in_order ds sender =
+    let numbers = map (λ d. d.message.number) (of_sender sender ds) in
+    pointwise (λ m n. m == n) numbers (range_with_len 0 (length numbers))
+
+abbrev pub is_sound_in : Group → ℕ → Bool
+is_sound_in g x = list_all (λ d. is_in_order (g.sequence x) d.message.sender) (g.sequence x)
+
+abbrev pub is_accepted : Group → Account → Bool
+is_accepted g a =
+    let payloads = map (λ d. d.payload) (of_sender a.me (history g)) in
+    pointwise (λ b c. is_yes (bytes_discrete b c)) payloads (take (length payloads) a.accepted)
+
+abbrev pub neighbours : {A : Type 0} → List A → List (A × A)
+neighbours [] = []
+neighbours (x ∷ []) = []
+neighbours (x ∷ y ∷ more) = (x, y) ∷ neighbours (y ∷ more)
+
+abbrev pub sound : List Account → List ℕ → Bool
+sound accounts keyed =
+    let g = group_of accounts in
+    list_all (has_cause accounts keyed) (neighbours g.views)
+    && list_all (is_sound_in g) (range_with_len 0 (length g.views))
+    && list_all (is_accepted g) accounts
+
+-- ---- left to be proved: the two ways say the same
+
+abbrev pub BoundedIsTested : Type 0
+BoundedIsTested = (accounts : List Account) (correct : List ℕ) → IsTrue (bounded accounts correct) ↔ Bounded accounts correct
+
+abbrev pub AgreeIsTested : Type 0
+AgreeIsTested = (accounts : List Account) → IsTrue (agree accounts) ↔ Agree accounts
+
+abbrev pub SoundIsTested : Type 0
+SoundIsTested = (accounts : List Account) (keyed : List ℕ) → IsTrue (sound accounts keyed) ↔ Sound accounts keyed

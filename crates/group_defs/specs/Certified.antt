@@ -1,0 +1,132 @@
+-- What the heard claims show.
+use Rattle.std.specs.Prelude.{ℕ, zero, suc, ◌+◌, ◌-◌, Bool, ◌&&◌, nat_lt, nat_le, ◌==◌, min, max, if◌then◌else◌, List, [], ◌∷◌, length, map, filter, find, filter_map, count_by, fold, take, take_while, Option, Some, None, is_some, option_map, option_and_then}
+use Rattle.byte_defs.specs.Choices.{is_some_and}
+use Rattle.byte_defs.specs.Orders.{sorted}
+use Rattle.message_defs.specs.Updates.{Update, Remove, Value}
+use Rattle.group_defs.specs.Views.{faulty, quorum}
+use Rattle.message_defs.specs.Statements.{Message, Statement, Order, Keep, Notify, Last, Ack, Ready, Slot, EchoAt, PlaceAt, EndAt, Claim, slot_of, view_of, message_of, payload_of, value_of, same_slot, same_statement}
+use Rattle.group_defs.specs.Process.{Pool, Process}
+
+-- the signer's first claim on the slot
+abbrev pub claim_on : List Claim → ℕ → Slot → Option Claim
+claim_on cs signer slot = find (λ c. (c.signer == signer) && same_slot (slot_of c.statement) slot) cs
+
+abbrev pub heard_on : Pool → ℕ → Slot → Option Statement
+heard_on h signer slot = option_map (λ c. c.statement) (claim_on h.heard signer slot)
+
+abbrev pub number_of_members : Pool → ℕ
+number_of_members h = length h.view.members
+
+-- the member's heard claim on the statement's slot says the same
+abbrev pub says : Pool → Statement → ℕ → Bool
+says h st member = is_some_and (heard_on h member (slot_of st)) (same_statement st)
+
+abbrev pub backers : Pool → Statement → List ℕ
+backers h st = filter (says h st) h.view.members
+
+abbrev pub is_certified : Pool → Statement → Bool
+is_certified h st = nat_le (quorum (number_of_members h)) (length (backers h st))
+
+-- more than f members notify it, so one of them is correct
+abbrev pub is_notified : Pool → Update → Bool
+is_notified h u = nat_lt (faulty (number_of_members h)) (length (backers h (Notify h.view.number u)))
+
+-- the statement of the slot that is certified
+abbrev pub certified_on : Pool → Slot → Option Statement
+certified_on h slot = find (is_certified h) (filter (λ st. same_slot (slot_of st) slot) (map (λ c. c.statement) h.heard))
+
+-- the certified payload of a message, message of a place, value of a rank's Acks or Readies
+abbrev pub payload_at : Pool → Message → Option (List ℕ)
+payload_at h m = option_and_then payload_of (certified_on h (EchoAt h.view.number m))
+
+abbrev pub place_at : Pool → ℕ → Option Message
+place_at h k = option_and_then message_of (certified_on h (PlaceAt h.view.number k))
+
+abbrev pub value_at : Pool → Slot → Option Value
+value_at h slot = option_and_then value_of (certified_on h slot)
+
+-- the claims of the first Q backers by process number; none where that is not certified
+abbrev pub certificate : Pool → Statement → List Claim
+certificate h st = if is_certified h st then filter_map (λ m. claim_on h.heard m (slot_of st)) (take (quorum (number_of_members h)) (sorted (λ m. m ∷ []) (backers h st))) else []
+
+abbrev pub certificate_on : Pool → Slot → List Claim
+certificate_on h slot = elim (certified_on h slot) [ None ↦ [] | Some st ↦ certificate h st ]
+
+-- ---- places
+
+-- at most `more` messages, of the places from k on, up to the first that is not certified
+abbrev pub placed_from : Pool → ℕ → ℕ → List Message
+placed_from h zero k = []
+placed_from h (suc more) k = elim (place_at h k) [ None ↦ [] | Some m ↦ m ∷ placed_from h more (k + 1) ]
+
+-- the messages of the places 0, 1, 2 and so on; its length is the placed length
+unfoldable pub placed : Pool → List Message
+placed h = placed_from h 1024 0
+
+abbrev pub place_kept : Pool → Statement → Option ℕ
+place_kept h (Keep x k m) = if is_certified h (Keep x k m) then Some k else None
+place_kept h _ = None
+
+-- the greatest kept place + 1, or 0
+abbrev pub fixed_length : Pool → ℕ
+fixed_length h = fold (λ most k. max most (k + 1)) 0 (filter_map (λ c. place_kept h c.statement) h.heard)
+
+-- how many of these messages are the sender's
+abbrev pub named : ℕ → List Message → ℕ
+named sender ms = count_by (λ m. m.sender == sender) ms
+
+-- ---- updates and ranks
+
+abbrev pub update_said : Statement → Option Update
+update_said (Notify x u) = Some u
+update_said _ = None
+
+abbrev pub notified_updates : Pool → List Update
+notified_updates h = filter (is_notified h) (filter_map (λ c. update_said c.statement) h.heard)
+
+-- the greatest rank such that each member of a rank below it is to be removed
+abbrev pub removed_rank : Pool → ℕ
+removed_rank h = min (number_of_members h - 1) (length (take_while (λ m. is_notified h (Remove m)) h.view.members))
+
+-- ---- the own statements of the view
+
+abbrev pub own : Process → List Statement
+own p = filter (λ st. view_of st == p.pool.view.number) (map (λ c. c.statement) p.signed)
+
+abbrev pub own_on : Process → Slot → Option Statement
+own_on p slot = option_map (λ c. c.statement) (claim_on p.signed p.me slot)
+
+abbrev pub is_signed : Process → Slot → Bool
+is_signed p slot = is_some (own_on p slot)
+
+abbrev pub is_ended : Process → Bool
+is_ended p = is_signed p (EndAt p.pool.view.number)
+
+abbrev pub ordered_message : Statement → Option Message
+ordered_message (Order x k m) = Some m
+ordered_message _ = None
+
+abbrev pub own_orders : Process → List Message
+own_orders p = filter_map ordered_message (own p)
+
+abbrev pub rank_said : Statement → ℕ
+rank_said (Last x r ready) = r
+rank_said (Ack x r v) = r
+rank_said (Ready x r v) = r
+rank_said _ = 0
+
+abbrev pub own_rank : Process → ℕ
+own_rank p = fold (λ most st. max most (rank_said st)) 0 (own p)
+
+abbrev pub readied : Statement → Option (ℕ × Value)
+readied (Ready x r v) = Some (r, v)
+readied _ = None
+
+-- the one of greater rank
+abbrev pub higher : Option (ℕ × Value) → ℕ × Value → Option (ℕ × Value)
+higher None b = Some b
+higher (Some a) b = if nat_lt a.0 b.0 then Some b else Some a
+
+-- the own Ready of greatest rank
+abbrev pub own_ready : Process → Option (ℕ × Value)
+own_ready p = fold higher None (filter_map readied (own p))

@@ -1,0 +1,181 @@
+-- What is signed: the table, and the least statement of a kind that is due.
+use Rattle.std.specs.Prelude.{◌≡◌, ℕ, IsTrue, IsFalse, Contains, ◌+◌, Bool, ◌&&◌, not, nat_lt, nat_le, ◌==◌, List, [], ◌∷◌, length, map, drop, take, filter, filter_map, Option, Some, None, is_some, option_map, option_and_then, option_to_list, unwrap_or, slice_get}
+use Rattle.std.specs.List.{list_any, enumerate_from}
+use native.Mathlib.Decide.{ℕ_discrete}
+use Rattle.byte_defs.specs.Choices.{is_some_and}
+use Rattle.byte_defs.specs.Orders.{least, numbers_below}
+use Rattle.byte_defs.specs.Equality.{is_yes, bytes_discrete, pair_discrete}
+use Rattle.group_defs.specs.Views.{View, is_member, rank_of, is_possible}
+use Rattle.message_defs.specs.Updates.{Update, Update-discrete, Value, Value-discrete}
+use Rattle.message_defs.specs.Statements.{Message, Message-discrete, Statement, Init, Echo, Order, Place, Keep, Notify, End, Last, Suggest, Ack, Ready, slot_of, slot_numbers, view_of}
+use Rattle.group_defs.specs.Process.{Kind, Inits, Echoes, Orders, Places, Keeps, Notifies, Ends, Readies, Lasts, Suggests, Acks, Setting, Process, keyed, earlier, delivered_from}
+use Rattle.group_defs.specs.Certified.{says, is_certified, payload_at, placed, named, notified_updates, removed_rank, is_signed, is_ended, own_orders, own_rank, own_ready}
+use Rattle.group_defs.specs.Values.{same_ready, choose, is_justified}
+
+abbrev pub window : ℕ
+window = 32
+
+abbrev pub is_of_rank : Process → ℕ → ℕ → Bool
+is_of_rank p m r = is_some_and (rank_of p.pool.view m) (λ rank. rank == r)
+
+-- the member of this rank has said it
+abbrev pub rank_says : Process → ℕ → Statement → Bool
+rank_says p r st = is_some_and (slice_get p.pool.view.members r) (says p.pool st)
+
+abbrev pub same_message : Message → Message → Bool
+same_message a b = is_yes (Message-discrete a b)
+
+abbrev pub same_value : Value → Value → Bool
+same_value v w = is_yes (Value-discrete v w)
+
+abbrev pub is_perceived : Process → ℕ × Update → Bool
+is_perceived p e = list_any (λ d. is_yes (pair_discrete ℕ_discrete (Update-discrete ℕ_discrete) d e)) p.perceived
+
+-- ---- the table: what each kind needs
+
+abbrev pub is_due : Setting → Process → Statement → Bool
+is_due s p (Init x l payload) =
+    nat_lt l (delivered_from p.me p.delivered + window) && nat_le l 1023
+    && is_some_and (slice_get p.accepted (earlier p + l)) (λ accepted. is_yes (bytes_discrete payload accepted))
+is_due s p (Echo x m payload) =
+    says p.pool (Init x m.number payload) m.sender && not (is_ended p)
+is_due s p (Order x k m) =
+    is_of_rank p p.me 0 && not (is_ended p)
+    && (k == length (own_orders p)) && nat_lt k (length p.delivered + window) && nat_le k 1023
+    && (m.number == named m.sender (own_orders p)) && is_some (payload_at p.pool m)
+is_due s p (Place x k m) =
+    rank_says p 0 (Order x k m) && not (is_ended p)
+    && nat_le k (length (placed p.pool)) && (m.number == named m.sender (take k (placed p.pool))) && is_some (payload_at p.pool m)
+is_due s p (Keep x k m) =
+    is_some_and (slice_get (placed p.pool) k) (same_message m) && not (is_ended p)
+is_due s p (Notify x u) =
+    is_perceived p (x, u) && is_possible (keyed s) p.pool.view u
+is_due s p (End x k) =
+    nat_lt 0 (length (notified_updates p.pool)) && (k == length (placed p.pool))
+is_due s p (Last x r ready) =
+    (r == removed_rank p.pool) && nat_lt (own_rank p) r && same_ready ready (own_ready p)
+is_due s p (Suggest x r v) =
+    is_of_rank p p.me r && nat_le (own_rank p) r && is_some_and (choose s p.pool r) (same_value v)
+is_due s p (Ack x r v) =
+    rank_says p r (Suggest x r v) && nat_le (own_rank p) r && is_justified s p.pool r v
+is_due s p (Ready x r v) =
+    is_certified p.pool (Ack x r v) && nat_le (own_rank p) r
+
+-- only members sign, in their view, and each slot once
+abbrev pub may_sign : Setting → Process → Statement → Bool
+may_sign s p st =
+    is_member p.pool.view p.me && (view_of st == p.pool.view.number) && not (is_signed p (slot_of st))
+    && is_due s p st
+
+-- ---- what can be due at all: a statement answers a heard one, or is made of the own data
+
+-- what a signer's statement asks for
+abbrev pub Answer : Type 0
+Answer = ℕ → Statement → Option Statement
+
+abbrev pub echo_of : Answer
+echo_of signer (Init x l payload) = Some (Echo x (record { sender = signer; number = l }) payload)
+echo_of signer _ = None
+
+-- a certified message takes the next place
+abbrev pub order_of : ℕ → Answer
+order_of k signer (Echo x m payload) = Some (Order x k m)
+order_of k signer _ = None
+
+abbrev pub place_of : Answer
+place_of signer (Order x k m) = Some (Place x k m)
+place_of signer _ = None
+
+abbrev pub ready_of : Answer
+ready_of signer (Ack x r v) = Some (Ready x r v)
+ready_of signer _ = None
+
+abbrev pub ack_of : Answer
+ack_of signer (Suggest x r v) = Some (Ack x r v)
+ack_of signer _ = None
+
+abbrev pub answers : Process → Answer → List Statement
+answers p answer = filter_map (λ c. answer c.signer c.statement) p.pool.heard
+
+abbrev pub inits : Setting → Process → List Statement
+inits s p = map (λ e. Init p.pool.view.number e.0 e.1) (enumerate_from 0 (drop (earlier p) p.accepted))
+
+abbrev pub echoes : Setting → Process → List Statement
+echoes s p = answers p echo_of
+
+abbrev pub orders : Setting → Process → List Statement
+orders s p = answers p (order_of (length (own_orders p)))
+
+abbrev pub places : Setting → Process → List Statement
+places s p = answers p place_of
+
+abbrev pub keeps : Setting → Process → List Statement
+keeps s p = map (λ e. Keep p.pool.view.number e.0 e.1) (enumerate_from 0 (placed p.pool))
+
+abbrev pub notifies : Setting → Process → List Statement
+notifies s p = map (λ e. Notify e.0 e.1) p.perceived
+
+abbrev pub end : Setting → Process → List Statement
+end s p = End p.pool.view.number (length (placed p.pool)) ∷ []
+
+abbrev pub readies : Setting → Process → List Statement
+readies s p = answers p ready_of
+
+abbrev pub last : Setting → Process → List Statement
+last s p = Last p.pool.view.number (removed_rank p.pool) (own_ready p) ∷ []
+
+abbrev pub suggests : Setting → Process → List Statement
+suggests s p = option_to_list (option_and_then (λ r. option_map (Suggest p.pool.view.number r) (choose s p.pool r)) (rank_of p.pool.view p.me))
+
+abbrev pub acks : Setting → Process → List Statement
+acks s p = answers p ack_of
+
+-- what can be due of a kind
+abbrev pub offers : Kind → Setting → Process → List Statement
+offers Inits = inits
+offers Echoes = echoes
+offers Orders = orders
+offers Places = places
+offers Keeps = keeps
+offers Notifies = notifies
+offers Ends = end
+offers Readies = readies
+offers Lasts = last
+offers Suggests = suggests
+offers Acks = acks
+
+-- ---- the least one
+
+-- The order of one kind: that of slots, but senders go by rank, and an Order of one place too
+abbrev pub due_numbers : View → Statement → List ℕ
+due_numbers v (Echo x m payload) = unwrap_or (rank_of v m.sender) 0 ∷ m.number ∷ []
+due_numbers v (Order x k m) = k ∷ unwrap_or (rank_of v m.sender) 0 ∷ []
+due_numbers v st = slot_numbers (slot_of st)
+
+-- the least statement of a kind that is due
+unfoldable pub least_due : Setting → Process → Kind → Option Statement
+least_due s p kind = least (due_numbers p.pool.view) (filter (may_sign s p) (offers kind s p))
+
+-- ---- that is the least one
+
+abbrev pub kind_of : Statement → Kind
+kind_of (Init x l payload) = Inits
+kind_of (Echo x m payload) = Echoes
+kind_of (Order x k m) = Orders
+kind_of (Place x k m) = Places
+kind_of (Keep x k m) = Keeps
+kind_of (Notify x u) = Notifies
+kind_of (End x k) = Ends
+kind_of (Last x r ready) = Lasts
+kind_of (Suggest x r v) = Suggests
+kind_of (Ack x r v) = Acks
+kind_of (Ready x r v) = Readies
+
+-- nothing else can be due
+abbrev pub EachDueIsOffered : Type 0
+EachDueIsOffered = (s : Setting) (p : Process) (st : Statement) → IsTrue (may_sign s p st) → Contains (offers (kind_of st) s p) st
+
+-- it is due, and none of its kind that is due stands before it
+abbrev pub LeastIsDue : Type 0
+LeastIsDue = (s : Setting) (p : Process) (st : Statement) → least_due s p (kind_of st) ≡ Some st
+    → IsTrue (may_sign s p st) × ((other : Statement) → Contains (offers (kind_of st) s p) other → IsTrue (may_sign s p other) → IsFalse (numbers_below (due_numbers p.pool.view other) (due_numbers p.pool.view st)))

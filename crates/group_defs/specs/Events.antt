@@ -1,0 +1,165 @@
+-- One event: its refusals, and the process after it.
+use Rattle.std.specs.Prelude.{ℕ, ◌+◌, ◌-◌, Bool, true, false, not, nat_lt, ◌==◌, List, [], ◌∷◌, ◌++◌, length, map, drop, if◌then◌else◌, Option, Some, None, option_to_list, slice_index_or, ◌≡◌}
+use Rattle.std.specs.List.{enumerate_from}
+use Rattle.std.specs.Option.{option_map_or}
+use Rattle.byte_defs.specs.Choices.{first_that_holds}
+use Rattle.byte_defs.specs.Orders.{put}
+use Rattle.group_defs.specs.Views.{View, UpdateFault, has, is_member, next_fault}
+use Rattle.message_defs.specs.Updates.{Update, Remove, Add, Renew, update_numbers}
+use Rattle.message_defs.specs.Statements.{Claim}
+use Rattle.message_defs.specs.Claims.{Frame, Claims, Wants, Faulty}
+use Rattle.message_defs.specs.declared.FrameFault.{FrameFault}
+use Rattle.group_defs.specs.Process.{Setting, Delivered, Process, keyed, earlier, delivered_from}
+use Rattle.group_defs.specs.Hearing.{hear_all}
+use Rattle.group_defs.specs.Due.{is_perceived}
+use Rattle.group_defs.specs.Signing.{Signer, Signing, sign_all}
+use Rattle.group_defs.specs.Settle.{decide, deliver, leave, settle}
+use Rattle.group_defs.specs.Sending.{Bundle, Proof, Want, Sending, bundle, answer, others, sends_to, unless_empty}
+
+pub data Event : Type 0 where
+  Submit : (payload : List ℕ) → Event
+  Hand : (from : ℕ) (frame : Frame) → Event
+  Suspect : (process : ℕ) → Event
+  Join : (process : ℕ) → Event
+  RenewView : Event
+  Tick : Event
+
+-- an event, how many signatures may still be made, and who makes them
+pub record Turn : Type 0 where
+  pub event : Event
+  pub allowance : ℕ
+  pub signer : Signer
+
+-- ---- refusals
+
+pub data EventFault : Type 0 where
+  HaltedNow : (delivered cut : ℕ) → EventFault
+  BadFrame : (fault : FrameFault) → EventFault
+  Outsider : EventFault
+  TooLong : EventFault
+  Backlog : EventFault
+  NoKey : EventFault
+  NoNext : (fault : UpdateFault) → EventFault
+
+abbrev pub no_next : Process → Update → List (Bool × EventFault)
+no_next p u = map (λ fault. (true, NoNext fault)) (option_to_list (next_fault p.pool.view u))
+
+abbrev pub outsider : Process → Bool × EventFault
+outsider p = (not (is_member p.pool.view p.me), Outsider)
+
+abbrev pub refusals : Setting → Process → Event → List (Bool × EventFault)
+refusals s p (Hand from (Faulty fault)) = (true, BadFrame fault) ∷ []
+refusals s p (Hand from frame) = []
+refusals s p (Submit payload) =
+    outsider p
+    ∷ (nat_lt 1024 (length payload), TooLong)
+    ∷ (length p.accepted - (earlier p + delivered_from p.me p.delivered) == 256, Backlog)
+    ∷ []
+refusals s p (Suspect q) = outsider p ∷ no_next p (Remove q)
+refusals s p (Join q) = outsider p ∷ (not (has (keyed s) q), NoKey) ∷ no_next p (Add q)
+refusals s p RenewView = outsider p ∷ no_next p Renew
+refusals s p Tick = []
+
+abbrev pub refusal : Setting → Process → Event → Option EventFault
+refusal s p e = first_that_holds ((p.halted, HaltedNow (length p.delivered) (option_map_or (λ d. d.1.cut) p.decision 0)) ∷ refusals s p e)
+
+-- ---- taking in
+
+abbrev pub perceived_numbers : ℕ × Update → List ℕ
+perceived_numbers e = e.0 ∷ update_numbers e.1
+
+-- rising, each once
+abbrev pub perceives : Process → Update → Process
+perceives p u =
+    if is_perceived p (p.pool.view.number, u) then p
+    else record p { perceived = put perceived_numbers (p.pool.view.number, u) p.perceived }
+
+abbrev pub take_in : Setting → Process → Event → Process
+take_in s p (Submit payload) = record p { accepted = p.accepted ++ payload ∷ [] }
+take_in s p (Hand from (Claims claims)) = hear_all s p claims
+take_in s p (Hand from frame) = p
+take_in s p (Suspect q) = perceives p (Remove q)
+take_in s p (Join q) = perceives p (Add q)
+take_in s p RenewView = perceives p Renew
+take_in s p Tick = p
+
+-- ---- after the event
+
+abbrev pub signing : Setting → Process → Turn → Signing
+signing s p t = sign_all s t.signer t.allowance (take_in s p t.event)
+
+unfoldable pub after : Setting → Process → Turn → Process
+after s p t = elim (refusal s p t.event) [ None ↦ settle s (signing s p t).now | Some fault ↦ p ]
+
+unfoldable pub run : Setting → Process → List Turn → Process
+run s p [] = p
+run s p (t ∷ ts) = run s (after s p t) ts
+
+-- ---- what the event answers
+
+pub data Note : Type 0 where
+  Delivers : (view place : ℕ) (delivered : Delivered) → Note
+  Installs : (view : View) → Note
+  Liar : (process : ℕ) → Note
+  Spent : Note
+  Halts : (delivered cut : ℕ) → Note
+
+pub record Outcome : Type 0 where
+  pub verdict : Option EventFault
+  pub heard : ℕ
+  pub signed : List Claim
+  pub spent : Bool
+  pub sends : List Sending
+  pub notes : List Note
+
+abbrev pub is_tick : Event → Bool
+is_tick Tick = true
+is_tick _ = false
+
+abbrev pub answers : Setting → Process → Event → List Sending
+answers s q (Hand from (Wants x k)) = if has (keyed s) from then unless_empty (answer q x k) Proof (from ∷ []) else []
+answers s q Tick = sends_to (others q q.pool.view) (Want q.pool.view.number (length q.delivered))
+answers s q _ = []
+
+abbrev pub note_if : Bool → Note → List Note
+note_if b note = if b then note ∷ [] else []
+
+-- of an event that takes p through `one`, signed, and `done`, delivered, to q
+abbrev pub notes : Process → Signing → Process → Process → List Note
+notes p one done q =
+    map (λ e. Delivers p.pool.view.number e.0 e.1) (enumerate_from (length p.delivered) (drop (length p.delivered) done.delivered))
+    ++ note_if (nat_lt (length p.left) (length q.left)) (Installs q.pool.view)
+    ++ map (λ pair. Liar pair.1.signer) (drop (length p.conflicts) q.conflicts)
+    ++ note_if one.spent Spent
+    ++ note_if q.halted (Halts (length q.delivered) (option_map_or (λ d. d.1.cut) q.decision 0))
+
+abbrev pub answered : Setting → Process → Turn → Signing → Outcome
+answered s p t one =
+    let done : Process = deliver (decide s one.now) in
+    let q : Process = leave done in
+    record {
+      verdict = None;
+      heard = length (take_in s p t.event).pool.heard - length p.pool.heard;
+      signed = drop (length p.signed) one.now.signed;
+      spent = one.spent;
+      sends = unless_empty (bundle (is_tick t.event) p one.now) Bundle (others p p.pool.view) ++ answers s q t.event;
+      notes = notes p one done q;
+    }
+
+abbrev pub outcome : Setting → Process → Turn → Outcome
+outcome s p t = elim (refusal s p t.event) [
+  | None ↦ answered s p t (signing s p t)
+  | Some fault ↦ record { verdict = Some fault; heard = 0; signed = []; spent = false; sends = []; notes = [] }
+]
+
+-- ---- journals
+
+-- the same event with an entry's signatures
+abbrev pub journalled : Process → Event → List (List ℕ) → Turn
+journalled p e signatures = record { event = e; allowance = length signatures; signer = λ used body. slice_index_or signatures (used - length p.signed) [] }
+
+-- all of the entry's signatures are used, and another was due exactly where it says so
+abbrev pub Fits : Setting → Process → Event → List (List ℕ) → Bool → Type 0
+Fits s p e signatures spent =
+    let o = outcome s p (journalled p e signatures) in
+    (length o.signed ≡ length signatures) × (o.spent ≡ spent)

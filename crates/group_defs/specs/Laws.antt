@@ -1,0 +1,221 @@
+-- The laws. Each is to be the contract of a public function with an empty body.
+use Rattle.std.specs.Prelude.{◌≡◌, ◌≢◌, ◌⊎◌, ℕ, ◌+◌, ◌<◌, ◌≤◌, Bool, false, not, ◌||◌, ◌==◌, List, [], ◌∷◌, ◌++◌, length, count_by, IsTrue, All, AllPairs, Contains, Option, Some, None, slice_get}
+use Rattle.std.specs.List.{list_any, list_all, AllZip}
+use Rattle.std.specs.List.Sorted.{IsStrictlyIncreasing}
+use Rattle.group_defs.specs.Views.{View, is_member, quorum}
+use Rattle.message_defs.specs.Updates.{Value}
+use Rattle.message_defs.specs.Statements.{Message, Statement, Keep, End, Last, Ack, Ready, Claim, Conflicts, slot_of, same_statement}
+use Rattle.group_defs.specs.Process.{Setting, Delivered, Process, keyed, views_of, start}
+use Rattle.group_defs.specs.Certified.{is_certified, payload_at, place_at}
+use Rattle.group_defs.specs.Values.{is_free}
+use Rattle.group_defs.specs.Due.{may_sign}
+use Rattle.group_defs.specs.Hearing.{is_valid}
+use Rattle.group_defs.specs.Settle.{decide, deliver}
+use Rattle.group_defs.specs.Events.{Turn, refusal, signing, after, run}
+use Rattle.group_defs.specs.Accounts.{Account, group_of, IsPrefixOf, HasLeft, delivered_in, Bounded, Agree, Sound}
+use Rattle.group_defs.specs.Family.{Correct, Family, numbers, ends, accounts, handed, handed_to, statements_of, Honest}
+
+-- ---- of one signed list
+
+-- at place i of the signed list stands this statement
+abbrev pub SignsAt : Process → ℕ → Statement → Type 0
+SignsAt p i st = slice_get (statements_of p) i ≡ Some st
+
+-- a claim of each run
+abbrev pub EachRun : (Setting → ℕ → List Turn → Process → Type 0) → Type 0
+EachRun P = (s : Setting) (me : ℕ) (turns : List Turn) → P s me turns (run s (start s me) turns)
+
+-- 1. of each slot at most one statement
+abbrev pub OnePerSlot : Type 0
+OnePerSlot = EachRun (λ s me turns p. AllPairs (λ c d. slot_of c.statement ≢ slot_of d.statement) p.signed)
+
+-- 2. a Keep stands before the End of its view, and the End says more
+abbrev pub KeepsBeforeEnd : Type 0
+KeepsBeforeEnd = EachRun (λ s me turns p. (i j x k n : ℕ) (m : Message) → SignsAt p i (Keep x k m) → SignsAt p j (End x n) → (i < j) × (k < n))
+
+-- a signed Ready of rank r or above, and below r'
+abbrev pub ReportsReady : Process → ℕ → ℕ → ℕ → Option (ℕ × Value) → Type 0
+ReportsReady p x r r' ready = (r1 : ℕ) × (v : Value) × (ready ≡ Some (r1, v)) × (r ≤ r1) × (r1 < r') × Contains (statements_of p) (Ready x r1 v)
+
+-- 3. a Ready stands before a Last of a greater rank, which reports one as late
+abbrev pub ReadyBeforeLast : Type 0
+ReadyBeforeLast = EachRun (λ s me turns p. (i j x r r' : ℕ) (v : Value) (ready : Option (ℕ × Value)) → SignsAt p i (Ready x r v) → SignsAt p j (Last x r' ready) → r < r'
+    → (i < j) × ReportsReady p x r r' ready)
+
+-- what a process keeps as it goes on
+pub record HasGrown (old new : Process) : Type 0 where
+  pub me : new.me ≡ old.me
+  pub left : IsPrefixOf old.left new.left
+  pub views : IsPrefixOf (views_of old) (views_of new)
+  pub signed : IsPrefixOf old.signed new.signed
+  pub accepted : IsPrefixOf old.accepted new.accepted
+  pub perceived : All (Contains new.perceived) old.perceived
+
+-- the claim was handed over and is valid, or is own
+abbrev pub IsFrom : Setting → List Claim → List Claim → Claim → Type 0
+IsFrom s handed signed c = (Contains handed c × IsTrue (is_valid s c)) ⊎ Contains signed c
+
+-- at some moment the i-th statement was due, over heard claims that were handed over or are own
+pub record WasDue (s : Setting) (turns : List Turn) (p : Process) (i : ℕ) (st : Statement) : Type 0 where
+  pub moment : Process
+  pub grown : HasGrown moment p
+  pub next : length moment.signed ≡ i
+  pub due : IsTrue (may_sign s moment st)
+  pub heard : All (IsFrom s (handed_to turns) moment.signed) moment.pool.heard
+
+-- 4. each statement was due at its moment
+abbrev pub EachWasDue : Type 0
+EachWasDue = EachRun (λ s me turns p. (i : ℕ) (st : Statement) → SignsAt p i st → WasDue s turns p i st)
+
+-- ---- of a family
+
+-- 1 to 16 members, each once
+pub record IsView (v : View) : Type 0 where
+  pub some : 1 ≤ length v.members
+  pub few : length v.members ≤ 16
+  pub distinct : AllPairs (λ m n. m ≢ n) v.members
+
+pub record Premises (f : Family) : Type 0 where
+  pub genesis : IsView f.setting.genesis
+  pub first : f.setting.genesis.number ≡ 0
+  pub rising : IsStrictlyIncreasing (numbers f)
+  pub honest : Honest f
+  pub bounded : Bounded (accounts f) (numbers f)
+
+-- as each of its events settles: what the process had signed and heard by then
+abbrev pub settlings_from : Setting → Process → List Turn → List Process
+settlings_from s p [] = []
+settlings_from s p (t ∷ ts) = settled (refusal s p t.event) (signing s p t).now ++ settlings_from s (after s p t) ts
+  where
+    settled : {A : Type 0} → Option A → Process → List Process
+    settled None q = q ∷ []
+    settled (Some fault) q = []
+
+abbrev pub settlings : Family → Correct → List Process
+settlings f c = settlings_from f.setting (start f.setting c.me) c.turns
+
+-- some correct process stood so as an event settled
+abbrev pub SettledSo : Family → Process → Type 0
+SettledSo f q = (c : Correct) × Contains f.correct c × Contains (settlings f c) q
+
+-- some correct process stood so at a moment, as far as laws 1 to 4 tell
+pub record StoodSo (f : Family) (q : Process) : Type 0 where
+  pub by : Process
+  pub correct : Contains (ends f) by
+  pub grown : HasGrown q by
+  pub heard : All (IsFrom f.setting (handed f) q.signed) q.pool.heard
+
+abbrev pub SettledStood : Type 0
+SettledStood = (f : Family) (q : Process) → SettledSo f q → StoodSo f q
+
+-- every correct process that installed the view of this number installed v
+abbrev pub IsViewOfAll : Family → View → Type 0
+IsViewOfAll f v = All (λ p. All (λ w. w.number ≡ v.number → w ≡ v) (views_of p)) (ends f)
+
+-- the member has signed it, or is not correct
+abbrev pub may_back : Family → Statement → ℕ → Bool
+may_back f st m = list_all (λ p. not (p.me == m) || list_any (same_statement st) (statements_of p)) (ends f)
+
+-- a quorum of the members may back it
+abbrev pub IsBacked : Family → View → Statement → Type 0
+IsBacked f v st = quorum (length v.members) ≤ count_by (may_back f st) v.members
+
+-- a view that correct processes installed, and none of them another one of its number
+pub record IsOneView (f : Family) (v : View) : Type 0 where
+  pub premises : Premises f
+  pub by : Process
+  pub correct : Contains (ends f) by
+  pub installed : Contains (views_of by) v
+  pub view : IsView v
+  pub of_all : IsViewOfAll f v
+
+-- each view that is installed is one
+abbrev pub InstalledIsView : Type 0
+InstalledIsView = (f : Family) → Premises f → All (λ p. All IsView (views_of p)) (ends f)
+
+-- certified gives backed: nothing below looks at heard claims again
+abbrev pub CertifiedIsBacked : Type 0
+CertifiedIsBacked = (f : Family) (v : View) (q : Process) (st : Statement) → IsOneView f v → StoodSo f q → q.pool.view ≡ v → IsTrue (is_certified q.pool st) → IsBacked f v st
+
+abbrev pub OneContent : Type 0
+OneContent = (f : Family) (v : View) (st other : Statement) → IsOneView f v → IsBacked f v st → IsBacked f v other → slot_of st ≡ slot_of other → st ≡ other
+
+-- 5. a backed Ready fixes the value of every backed Ack from its rank on
+abbrev pub ReadyFixesValue : Type 0
+ReadyFixesValue = (f : Family) (v : View) (r r' : ℕ) (w w' : Value) → IsOneView f v → IsBacked f v (Ready v.number r w) → IsBacked f v (Ack v.number r' w') → r ≤ r' → w' ≡ w
+
+-- 6. a backed Ack's value was free at a correct member, and each kept place is below its cut
+abbrev pub AckedWasFree : Type 0
+AckedWasFree = (f : Family) (v : View) (r : ℕ) (w : Value) → IsOneView f v → IsBacked f v (Ack v.number r w)
+    → (q : Process) × StoodSo f q × (q.pool.view ≡ v) × IsTrue (is_member v q.me) × IsTrue (is_free f.setting q.pool w)
+
+abbrev pub KeptBelowCut : Type 0
+KeptBelowCut = (f : Family) (v : View) (r k : ℕ) (w : Value) (m : Message) → IsOneView f v → IsBacked f v (Keep v.number k m) → IsBacked f v (Ack v.number r w) → k < w.cut
+
+-- where an event settles in this view: what is decided, and how far it delivers
+abbrev pub Decides : Family → View → Process → Value → Type 0
+Decides f v q w = SettledSo f q × (q.pool.view ≡ v) × ((r : ℕ) × ((decide f.setting q).decision ≡ Some (r, w)))
+
+-- 7. one value is decided, nobody delivers beyond its cut, and nobody halts
+abbrev pub OneDecision : Type 0
+OneDecision = (f : Family) (v : View) (q q' : Process) (w w' : Value) → IsOneView f v → Decides f v q w → Decides f v q' w' → w ≡ w'
+
+abbrev pub DeliversWithinCut : Type 0
+DeliversWithinCut = (f : Family) (v : View) (q q' : Process) (w : Value) → IsOneView f v → Decides f v q w → SettledSo f q' → q'.pool.view ≡ v → length (deliver (decide f.setting q')).delivered ≤ w.cut
+
+abbrev pub NobodyHalts : Type 0
+NobodyHalts = (f : Family) → Premises f → All (λ p. p.halted ≡ false) (ends f)
+
+-- of any two accounts: the views up to x are the same, and what was delivered in those before x
+pub record AgreeUpTo (x : ℕ) (a b : Account) : Type 0 where
+  pub views : (y : ℕ) (v w : View) → y ≤ x → slice_get a.views y ≡ Some v → slice_get b.views y ≡ Some w → v ≡ w
+  pub prefixes : (y : ℕ) → y < x → IsPrefixOf (delivered_in a y) (delivered_in b y) ⊎ IsPrefixOf (delivered_in b y) (delivered_in a y)
+  pub whole : (y : ℕ) (v : View) → y < x → slice_get a.views y ≡ Some v → IsTrue (is_member v a.me) → HasLeft a y → IsPrefixOf (delivered_in b y) (delivered_in a y)
+
+abbrev pub AllAgreeUpTo : Family → ℕ → Type 0
+AllAgreeUpTo f x = All (λ a. All (AgreeUpTo x a) (accounts f)) (accounts f)
+
+-- 8. from view to view
+abbrev pub AgreeGoesOn : Type 0
+AgreeGoesOn = (f : Family) (x : ℕ) → Premises f → AllAgreeUpTo f x → AllAgreeUpTo f (x + 1)
+
+-- ---- the theorems
+
+abbrev pub Agreement : Type 0
+Agreement = (f : Family) → Premises f → Agree (accounts f)
+
+abbrev pub CauseAndOrder : Type 0
+CauseAndOrder = (f : Family) → Premises f → Sound (accounts f) (keyed f.setting)
+
+-- ---- growth: of a schedule's first events each process has taken its first turns
+
+abbrev pub StandsBefore : Correct → Correct → Type 0
+StandsBefore early late = (early.me ≡ late.me) × IsPrefixOf early.turns late.turns
+
+pub record IsFrontOf (early late : Family) : Type 0 where
+  pub setting : early.setting ≡ late.setting
+  pub fronts : AllZip StandsBefore early.correct late.correct
+
+pub record GrowsTo (early late : List Account) : Type 0 where
+  pub views : IsPrefixOf (group_of early).views (group_of late).views
+  pub sequences : (x : ℕ) → IsPrefixOf ((group_of early).sequence x) ((group_of late).sequence x)
+  pub whole : All (λ a. (x : ℕ) (v : View) → slice_get a.views x ≡ Some v → IsTrue (is_member v a.me) → HasLeft a x → (group_of early).sequence x ≡ (group_of late).sequence x) early
+
+abbrev pub Growth : Type 0
+Growth = (early late : Family) → IsFrontOf early late → Premises late → GrowsTo (accounts early) (accounts late)
+
+-- ---- local agreement
+
+abbrev pub NoConflict : Type 0
+NoConflict = EachRun (λ s me turns p. AllPairs (λ c d. ¬ Conflicts c d) p.signed)
+
+abbrev pub OnePayload : Type 0
+OnePayload = (f : Family) (q q' : Process) (m : Message) (b b' : List ℕ) → Premises f → SettledSo f q → SettledSo f q' → q.pool.view.number ≡ q'.pool.view.number
+    → payload_at q.pool m ≡ Some b → payload_at q'.pool m ≡ Some b' → b ≡ b'
+
+abbrev pub OneMessage : Type 0
+OneMessage = (f : Family) (q q' : Process) (k : ℕ) (m m' : Message) → Premises f → SettledSo f q → SettledSo f q' → q.pool.view.number ≡ q'.pool.view.number
+    → place_at q.pool k ≡ Some m → place_at q'.pool k ≡ Some m' → m ≡ m'
+
+abbrev pub OneSequence : Type 0
+OneSequence = (f : Family) → Premises f → (ds : List Delivered) × All (λ a. IsPrefixOf (delivered_in a 0) ds) (accounts f)

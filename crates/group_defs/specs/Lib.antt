@@ -1,0 +1,13 @@
+pub mod Views
+pub mod Process
+pub mod Certified
+pub mod Values
+pub mod Due
+pub mod Hearing
+pub mod Signing
+pub mod Settle
+pub mod Sending
+pub mod Events
+pub mod Accounts
+pub mod Family
+pub mod Laws

@@ -1,0 +1,104 @@
+-- The data of a process, and its start.
+use Rattle.std.specs.Prelude.{ℕ, Bool, false, ◌==◌, List, [], ◌∷◌, ◌++◌, map, find, count_by, sum, Option, None, option_map}
+use Rattle.byte_defs.specs.Equality.{both, bytes_discrete}
+use Rattle.group_defs.specs.Views.{View}
+use Rattle.message_defs.specs.Updates.{Update, Value}
+use Rattle.message_defs.specs.Statements.{Message, Message-discrete, Claim}
+
+-- the kinds of statements
+pub data Kind : Type 0 where
+  Inits : Kind
+  Echoes : Kind
+  Orders : Kind
+  Places : Kind
+  Keeps : Kind
+  Notifies : Kind
+  Ends : Kind
+  Readies : Kind
+  Lasts : Kind
+  Suggests : Kind
+  Acks : Kind
+
+-- in the order in which an event goes through them
+abbrev pub all_kinds : List Kind
+all_kinds = Inits ∷ Echoes ∷ Orders ∷ Places ∷ Keeps ∷ Notifies ∷ Ends ∷ Readies ∷ Lasts ∷ Suggests ∷ Acks ∷ []
+
+-- What the processes of a family share. `valid` takes a key, a body and a signature; `signs` is the kinds that a
+-- process signs, in this order: all of them, or fewer in a narrower world.
+pub record Setting : Type 0 where
+  pub group : List ℕ
+  pub roster : List (ℕ × List ℕ)
+  pub genesis : View
+  pub valid : List ℕ → List ℕ → List ℕ → Bool
+  pub signs : List Kind
+
+abbrev pub keyed : Setting → List ℕ
+keyed s = map (λ k. k.0) s.roster
+
+abbrev pub key_of : Setting → ℕ → Option (List ℕ)
+key_of s p = option_map (λ k. k.1) (find (λ k. k.0 == p) s.roster)
+
+-- the heard claims of a view, in order of hearing
+pub record Pool : Type 0 where
+  pub view : View
+  pub heard : List Claim
+
+pub record Delivered : Type 0 where
+  pub message : Message
+  pub payload : List ℕ
+
+unfoldable pub Delivered-discrete : Discrete Delivered
+Delivered-discrete d e = both (λ m b. λ i. record { message = m i; payload = b i }) (λ q. λ i. (q i).message) (λ q. λ i. (q i).payload) (Message-discrete d.message e.message) (bytes_discrete d.payload e.payload)
+
+-- what is kept of a view that was left. `commit` is claims on the Ready content that decided it
+pub record Left : Type 0 where
+  pub view : View
+  pub delivered : List Delivered
+  pub commit : List Claim
+
+pub record Process : Type 0 where
+  pub me : ℕ
+  pub left : List Left
+  pub previous : Option Pool
+  pub pool : Pool
+  pub delivered : List Delivered
+  -- the rank and the value of the Ready content that gave it
+  pub decision : Option (ℕ × Value)
+  pub halted : Bool
+  -- of all views, in order of signing
+  pub signed : List Claim
+  -- the first pair of each signer, the heard one first
+  pub conflicts : List (Claim × Claim)
+  pub perceived : List (ℕ × Update)
+  pub accepted : List (List ℕ)
+
+abbrev pub start : Setting → ℕ → Process
+start s me = record {
+  me = me;
+  left = [];
+  previous = None;
+  pool = record { view = s.genesis; heard = [] };
+  delivered = [];
+  decision = None;
+  halted = false;
+  signed = [];
+  conflicts = [];
+  perceived = [];
+  accepted = [];
+}
+
+-- ---- as the reports see it
+
+abbrev pub views_of : Process → List View
+views_of p = map (λ v. v.view) p.left ++ p.pool.view ∷ []
+
+abbrev pub deliveries_of : Process → List (List Delivered)
+deliveries_of p = map (λ v. v.delivered) p.left ++ p.delivered ∷ []
+
+-- how many of the sender's messages are among these
+abbrev pub delivered_from : ℕ → List Delivered → ℕ
+delivered_from sender ds = count_by (λ d. d.message.sender == sender) ds
+
+-- the own messages delivered in the views that were left
+abbrev pub earlier : Process → ℕ
+earlier p = sum (map (λ v. delivered_from p.me v.delivered) p.left)

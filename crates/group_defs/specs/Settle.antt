@@ -1,0 +1,83 @@
+-- Settling: deciding, delivering, and leaving the view.
+use Rattle.std.specs.Prelude.{ℕ, zero, suc, ◌-◌, nat_lt, ◌==◌, [], ◌∷◌, ◌++◌, length, if◌then◌else◌, Option, Some, None, is_some, not, unwrap_or, option_map, option_and_then}
+use Rattle.std.specs.List.{range_with_len}
+use Rattle.std.specs.Option.{option_or, option_map_or}
+use Rattle.byte_defs.specs.Choices.{first_some, first_that_holds}
+use Rattle.message_defs.specs.Updates.{Value}
+use Rattle.group_defs.specs.Views.{is_member, is_possible, next_view}
+use Rattle.message_defs.specs.Statements.{Ready, ReadyAt}
+use Rattle.group_defs.specs.Process.{Setting, Pool, Delivered, Process, keyed}
+use Rattle.group_defs.specs.Certified.{value_at, place_at, payload_at, fixed_length, certificate, number_of_members, is_ended}
+
+-- ---- phases
+
+pub data Phase : Type 0 where
+  Observing : Phase
+  OpenView : Phase
+  ClosingView : Phase
+  DecidedView : Phase
+  HaltedView : Phase
+
+abbrev pub phase_of : Process → Phase
+phase_of p = unwrap_or (first_that_holds (
+    (p.halted, HaltedView)
+    ∷ (is_some p.decision, DecidedView)
+    ∷ (not (is_member p.pool.view p.me), Observing)
+    ∷ (is_ended p, ClosingView)
+    ∷ [])) OpenView
+
+-- ---- deciding
+
+-- the certified Ready value of a rank, where its update is possible
+abbrev pub decided_at : Setting → Pool → ℕ → Option (ℕ × Value)
+decided_at s h r = option_and_then (λ v. if is_possible (keyed s) h.view v.update then Some (r, v) else None) (value_at h (ReadyAt h.view.number r))
+
+abbrev pub decided_by : Setting → Pool → Option (ℕ × Value)
+decided_by s h = first_some (decided_at s h) (range_with_len 0 (number_of_members h))
+
+abbrev pub decide : Setting → Process → Process
+decide s p = record p { decision = option_or p.decision (decided_by s p.pool) }
+
+-- ---- delivering
+
+abbrev pub limit : Process → ℕ
+limit p = option_map_or (λ d. d.1.cut) p.decision (fixed_length p.pool)
+
+-- the message of the next place
+abbrev pub deliverable : Process → Option Delivered
+deliverable p = option_and_then (λ m. option_map (λ payload. record { message = m; payload = payload }) (payload_at p.pool m)) (place_at p.pool (length p.delivered))
+
+-- at most so many more
+unfoldable pub deliver_more : ℕ → Process → Process
+deliver_more zero p = p
+deliver_more (suc more) p = elim (deliverable p) [
+  | None ↦ p
+  | Some d ↦ deliver_more more (record p { delivered = p.delivered ++ d ∷ [] })
+]
+
+abbrev pub deliver : Process → Process
+deliver p = if is_member p.pool.view p.me then deliver_more (limit p - length p.delivered) p else p
+
+-- ---- leaving
+
+abbrev pub install : ℕ × Value → Process → Process
+install d p = record p {
+  left = p.left ++ record { view = p.pool.view; delivered = p.delivered; commit = certificate p.pool (Ready p.pool.view.number d.0 d.1) } ∷ [];
+  previous = Some p.pool;
+  pool = record { view = next_view p.pool.view d.1.update; heard = [] };
+  delivered = [];
+  decision = None;
+}
+
+-- a member waits for the whole cut, and halts beyond it
+abbrev pub leave_by : ℕ × Value → Process → Process
+leave_by d p =
+    if is_member p.pool.view p.me then
+    (if length p.delivered == d.1.cut then install d p else record p { halted = nat_lt d.1.cut (length p.delivered) })
+    else install d p
+
+abbrev pub leave : Process → Process
+leave p = elim p.decision [ None ↦ p | Some d ↦ leave_by d p ]
+
+unfoldable pub settle : Setting → Process → Process
+settle s p = leave (deliver (decide s p))

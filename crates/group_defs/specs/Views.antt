@@ -1,0 +1,67 @@
+-- Views, and the view that follows one.
+use Rattle.std.specs.Prelude.{ℕ, ◌+◌, ◌-◌, ◌/◌, Bool, true, ◌&&◌, not, ◌==◌, List, [], ◌∷◌, ◌++◌, length, filter, position, Option, Some, None, is_none, Result, Ok, Err}
+use Rattle.std.specs.List.{list_any}
+use native.Mathlib.Decide.{ℕ_discrete}
+use Rattle.byte_defs.specs.Choices.{first_that_holds}
+use Rattle.byte_defs.specs.Equality.{both, bytes_discrete}
+use Rattle.message_defs.specs.Updates.{Update, Remove, Add, Renew}
+
+pub record View : Type 0 where
+  pub number : ℕ
+  -- in rank order: the manager first, then its deputies
+  pub members : List ℕ
+
+unfoldable pub View-discrete : Discrete View
+View-discrete v w = both (λ x m. λ i. record { number = x i; members = m i }) (λ e. λ i. (e i).number) (λ e. λ i. (e i).members) (ℕ_discrete v.number w.number) (bytes_discrete v.members w.members)
+
+-- how many of n members may be corrupt, and how many make a quorum
+abbrev pub faulty : ℕ → ℕ
+faulty n = (n - 1) / 3
+
+abbrev pub quorum : ℕ → ℕ
+quorum n = n - faulty n
+
+abbrev pub has : List ℕ → ℕ → Bool
+has ps p = list_any (λ q. q == p) ps
+
+abbrev pub is_member : View → ℕ → Bool
+is_member v p = has v.members p
+
+abbrev pub rank_of : View → ℕ → Option ℕ
+rank_of v p = position (λ q. q == p) v.members
+
+-- ---- the next view
+
+pub data UpdateFault : Type 0 where
+  ViewsSpent : UpdateFault
+  AlreadyMember : UpdateFault
+  GroupFull : UpdateFault
+  NotMember : UpdateFault
+  LastMember : UpdateFault
+
+abbrev pub update_faults : View → Update → List (Bool × UpdateFault)
+update_faults v (Remove p) = (not (is_member v p), NotMember) ∷ (length v.members == 1, LastMember) ∷ []
+update_faults v (Add p) = (is_member v p, AlreadyMember) ∷ (length v.members == 16, GroupFull) ∷ []
+update_faults v Renew = []
+
+abbrev pub next_fault : View → Update → Option UpdateFault
+next_fault v u = first_that_holds ((v.number == 1023, ViewsSpent) ∷ update_faults v u)
+
+abbrev pub members_after : List ℕ → Update → List ℕ
+members_after ms (Remove p) = filter (λ m. not (m == p)) ms
+members_after ms (Add p) = ms ++ p ∷ []
+members_after ms Renew = ms
+
+abbrev pub next_view : View → Update → View
+next_view v u = record { number = v.number + 1; members = members_after v.members u }
+
+abbrev pub next : View → Update → Result View UpdateFault
+next v u = elim (next_fault v u) [ None ↦ Ok (next_view v u) | Some fault ↦ Err fault ]
+
+-- where these processes have a key
+abbrev pub has_keys : List ℕ → Update → Bool
+has_keys keyed (Add p) = has keyed p
+has_keys keyed _ = true
+
+abbrev pub is_possible : List ℕ → View → Update → Bool
+is_possible keyed v u = is_none (next_fault v u) && has_keys keyed u

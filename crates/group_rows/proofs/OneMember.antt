@@ -1,0 +1,42 @@
+-- The row «one_member», as the oracle runs it.
+use Rattle.std.proofs.Common.{◌≡◌, refl, ℕ, List, [], ◌∷◌, Bool, true, false, Option, Some, None, map}
+use native.Mathlib.Decide.{ℕ_discrete}
+use Rattle.byte_defs.specs.Equality.{bytes_discrete, option_discrete, pair_discrete}
+use Rattle.group_defs.specs.Views.{View, View-discrete, UpdateFault, ViewsSpent, AlreadyMember, GroupFull, NotMember, LastMember}
+use Rattle.message_defs.specs.Updates.{Update, Remove, Add, Renew, Value-discrete}
+use Rattle.message_defs.specs.Statements.{Statement, Init, Echo, Order, Place, Keep, Notify, End, Last, Suggest, Ack, Ready, Message-discrete}
+use Rattle.group_defs.specs.Process.{Setting, Process, Delivered, Delivered-discrete, start, keyed}
+use Rattle.group_defs.specs.Certified.{placed}
+use Rattle.group_defs.specs.Due.{least_due}
+use Rattle.group_defs.specs.Hearing.{hear_all}
+use Rattle.group_defs.specs.Signing.{sign_kind, sign_kinds, sign_all}
+use Rattle.group_defs.specs.Settle.{deliver_more, settle}
+use Rattle.message_defs.specs.Claims.{Claims, Wants, Faulty}
+use Rattle.group_defs.specs.Events.{Turn, after, run, Submit, Hand, Suspect, Join, RenewView, Tick, HaltedNow, BadFrame, Outsider, TooLong, Backlog, NoKey, NoNext, Note, Delivers, Installs, Liar, Spent, Halts}
+use Rattle.group_rows.specs.Scripts.{Seen, seen, setting, turn, by, forged, msg, value}
+use Rattle.group_defs.specs.Accounts.{bounded, agree, sound}
+use Rattle.group_defs.specs.Family.{Family, accounts, numbers, honest}
+
+s : Setting
+s = setting (0 ∷ []) (0 ∷ [])
+
+turns_0 : List Turn
+turns_0 =
+    turn 100000 (Submit (104 ∷ 105 ∷ []))
+    ∷ []
+
+answers_0 : List Seen
+answers_0 =
+    (None, ((Init 0 0 (104 ∷ 105 ∷ [])) ∷ (Echo 0 (msg 0 0) (104 ∷ 105 ∷ [])) ∷ (Order 0 0 (msg 0 0)) ∷ (Place 0 0 (msg 0 0)) ∷ (Keep 0 0 (msg 0 0)) ∷ []), ([]), (Delivers 0 0 (record { message = msg 0 0; payload = 104 ∷ 105 ∷ [] }) ∷ []))
+    ∷ []
+
+row_0 : seen s (start s 0) turns_0 ≡ answers_0
+unfolding ℕ_discrete bytes_discrete option_discrete pair_discrete Value-discrete Message-discrete placed least_due hear_all sign_kind sign_kinds sign_all deliver_more settle after s turns_0 answers_0
+row_0 = refl
+
+f : Family
+f = record { setting = s; correct = (record { me = 0; turns = turns_0 } ∷ []) }
+
+judged : honest f ∷ bounded (accounts f) (numbers f) ∷ agree (accounts f) ∷ sound (accounts f) (keyed f.setting) ∷ [] ≡ true ∷ true ∷ true ∷ true ∷ []
+unfolding ℕ_discrete bytes_discrete option_discrete pair_discrete Value-discrete Message-discrete placed least_due hear_all sign_kind sign_kinds sign_all deliver_more settle after run View-discrete Delivered-discrete f s turns_0
+judged = refl

@@ -1,0 +1,118 @@
+-- The row «split_init_one_corrupt», as the oracle runs it.
+use Rattle.std.proofs.Common.{◌≡◌, refl, ℕ, List, [], ◌∷◌, Bool, true, false, Option, Some, None, map}
+use native.Mathlib.Decide.{ℕ_discrete}
+use Rattle.byte_defs.specs.Equality.{bytes_discrete, option_discrete, pair_discrete}
+use Rattle.group_defs.specs.Views.{View, View-discrete, UpdateFault, ViewsSpent, AlreadyMember, GroupFull, NotMember, LastMember}
+use Rattle.message_defs.specs.Updates.{Update, Remove, Add, Renew, Value-discrete}
+use Rattle.message_defs.specs.Statements.{Statement, Init, Echo, Order, Place, Keep, Notify, End, Last, Suggest, Ack, Ready, Message-discrete}
+use Rattle.group_defs.specs.Process.{Setting, Process, Delivered, Delivered-discrete, start, keyed}
+use Rattle.group_defs.specs.Certified.{placed}
+use Rattle.group_defs.specs.Due.{least_due}
+use Rattle.group_defs.specs.Hearing.{hear_all}
+use Rattle.group_defs.specs.Signing.{sign_kind, sign_kinds, sign_all}
+use Rattle.group_defs.specs.Settle.{deliver_more, settle}
+use Rattle.message_defs.specs.Claims.{Claims, Wants, Faulty}
+use Rattle.group_defs.specs.Events.{Turn, after, run, Submit, Hand, Suspect, Join, RenewView, Tick, HaltedNow, BadFrame, Outsider, TooLong, Backlog, NoKey, NoNext, Note, Delivers, Installs, Liar, Spent, Halts}
+use Rattle.group_rows.specs.Scripts.{Seen, seen, setting, turn, by, forged, msg, value}
+use Rattle.group_defs.specs.Accounts.{bounded, agree, sound}
+use Rattle.group_defs.specs.Family.{Family, accounts, numbers, honest}
+
+s : Setting
+s = setting (0 ∷ 1 ∷ 2 ∷ 3 ∷ []) (0 ∷ 1 ∷ 2 ∷ 3 ∷ [])
+
+turns_0 : List Turn
+turns_0 =
+    turn 100000 (Hand 3 (Claims (by 3 (Init 0 0 (97 ∷ [])) ∷ [])))
+    ∷ turn 99999 (Hand 3 (Claims (by 3 (Echo 0 (msg 3 0) (97 ∷ [])) ∷ [])))
+    ∷ turn 99999 (Hand 3 (Claims (by 3 (Echo 0 (msg 3 0) (98 ∷ [])) ∷ [])))
+    ∷ turn 99999 (Hand 1 (Claims (by 1 (Echo 0 (msg 3 0) (97 ∷ [])) ∷ [])))
+    ∷ turn 99997 (Hand 2 (Claims (by 2 (Echo 0 (msg 3 0) (98 ∷ [])) ∷ [])))
+    ∷ turn 99997 (Hand 1 (Claims (by 1 (Place 0 0 (msg 3 0)) ∷ [])))
+    ∷ turn 99997 (Hand 2 (Claims (by 2 (Place 0 0 (msg 3 0)) ∷ [])))
+    ∷ turn 99996 (Hand 2 (Claims (by 2 (Keep 0 0 (msg 3 0)) ∷ [])))
+    ∷ turn 99996 (Hand 1 (Claims (by 1 (Keep 0 0 (msg 3 0)) ∷ [])))
+    ∷ []
+
+answers_0 : List Seen
+answers_0 =
+    (None, ((Echo 0 (msg 3 0) (97 ∷ [])) ∷ []), (((1 ∷ 2 ∷ 3 ∷ []), (1 ∷ 1 ∷ 1 ∷ 0 ∷ 9 ∷ 2 ∷ 0 ∷ 0 ∷ 3 ∷ 0 ∷ 0 ∷ 0 ∷ 1 ∷ 97 ∷ 1 ∷ 0 ∷ 0 ∷ 0 ∷ [])) ∷ []), ([]))
+    ∷ (None, ([]), ([]), ([]))
+    ∷ (None, ([]), ([]), (Liar 3 ∷ []))
+    ∷ (None, ((Order 0 0 (msg 3 0)) ∷ (Place 0 0 (msg 3 0)) ∷ []), (((1 ∷ 2 ∷ 3 ∷ []), (1 ∷ 1 ∷ 3 ∷ 0 ∷ 8 ∷ 3 ∷ 0 ∷ 0 ∷ 0 ∷ 0 ∷ 3 ∷ 0 ∷ 0 ∷ 1 ∷ 0 ∷ 0 ∷ 0 ∷ 0 ∷ 8 ∷ 4 ∷ 0 ∷ 0 ∷ 0 ∷ 0 ∷ 3 ∷ 0 ∷ 0 ∷ 1 ∷ 0 ∷ 0 ∷ 0 ∷ 0 ∷ 9 ∷ 2 ∷ 0 ∷ 0 ∷ 3 ∷ 0 ∷ 0 ∷ 0 ∷ 1 ∷ 97 ∷ 3 ∷ 0 ∷ 0 ∷ 0 ∷ 1 ∷ 0 ∷ 0 ∷ 3 ∷ 0 ∷ 0 ∷ [])) ∷ []), ([]))
+    ∷ (None, ([]), ([]), ([]))
+    ∷ (None, ([]), ([]), ([]))
+    ∷ (None, ((Keep 0 0 (msg 3 0)) ∷ []), (((1 ∷ 2 ∷ 3 ∷ []), (1 ∷ 1 ∷ 1 ∷ 0 ∷ 8 ∷ 5 ∷ 0 ∷ 0 ∷ 0 ∷ 0 ∷ 3 ∷ 0 ∷ 0 ∷ 1 ∷ 0 ∷ 0 ∷ 0 ∷ [])) ∷ []), ([]))
+    ∷ (None, ([]), ([]), ([]))
+    ∷ (None, ([]), ([]), (Delivers 0 0 (record { message = msg 3 0; payload = 97 ∷ [] }) ∷ []))
+    ∷ []
+
+row_0 : seen s (start s 0) turns_0 ≡ answers_0
+unfolding ℕ_discrete bytes_discrete option_discrete pair_discrete Value-discrete Message-discrete placed least_due hear_all sign_kind sign_kinds sign_all deliver_more settle after s turns_0 answers_0
+row_0 = refl
+
+turns_1 : List Turn
+turns_1 =
+    turn 100000 (Hand 3 (Claims (by 3 (Init 0 0 (97 ∷ [])) ∷ [])))
+    ∷ turn 99999 (Hand 3 (Claims (by 3 (Echo 0 (msg 3 0) (97 ∷ [])) ∷ [])))
+    ∷ turn 99999 (Hand 3 (Claims (by 3 (Echo 0 (msg 3 0) (98 ∷ [])) ∷ [])))
+    ∷ turn 99999 (Hand 0 (Claims (by 0 (Echo 0 (msg 3 0) (97 ∷ [])) ∷ [])))
+    ∷ turn 99999 (Hand 2 (Claims (by 2 (Echo 0 (msg 3 0) (98 ∷ [])) ∷ [])))
+    ∷ turn 99999 (Hand 0 (Claims (by 0 (Order 0 0 (msg 3 0)) ∷ by 0 (Place 0 0 (msg 3 0)) ∷ by 0 (Echo 0 (msg 3 0) (97 ∷ [])) ∷ by 1 (Echo 0 (msg 3 0) (97 ∷ [])) ∷ by 3 (Echo 0 (msg 3 0) (97 ∷ [])) ∷ [])))
+    ∷ turn 99998 (Hand 2 (Claims (by 2 (Place 0 0 (msg 3 0)) ∷ [])))
+    ∷ turn 99997 (Hand 2 (Claims (by 2 (Keep 0 0 (msg 3 0)) ∷ [])))
+    ∷ turn 99997 (Hand 0 (Claims (by 0 (Keep 0 0 (msg 3 0)) ∷ [])))
+    ∷ []
+
+answers_1 : List Seen
+answers_1 =
+    (None, ((Echo 0 (msg 3 0) (97 ∷ [])) ∷ []), (((0 ∷ 2 ∷ 3 ∷ []), (1 ∷ 1 ∷ 1 ∷ 0 ∷ 9 ∷ 2 ∷ 0 ∷ 0 ∷ 3 ∷ 0 ∷ 0 ∷ 0 ∷ 1 ∷ 97 ∷ 1 ∷ 1 ∷ 0 ∷ 0 ∷ [])) ∷ []), ([]))
+    ∷ (None, ([]), ([]), ([]))
+    ∷ (None, ([]), ([]), (Liar 3 ∷ []))
+    ∷ (None, ([]), ([]), ([]))
+    ∷ (None, ([]), ([]), ([]))
+    ∷ (None, ((Place 0 0 (msg 3 0)) ∷ []), (((0 ∷ 2 ∷ 3 ∷ []), (1 ∷ 1 ∷ 1 ∷ 0 ∷ 8 ∷ 4 ∷ 0 ∷ 0 ∷ 0 ∷ 0 ∷ 3 ∷ 0 ∷ 0 ∷ 1 ∷ 1 ∷ 0 ∷ 0 ∷ [])) ∷ []), ([]))
+    ∷ (None, ((Keep 0 0 (msg 3 0)) ∷ []), (((0 ∷ 2 ∷ 3 ∷ []), (1 ∷ 1 ∷ 1 ∷ 0 ∷ 8 ∷ 5 ∷ 0 ∷ 0 ∷ 0 ∷ 0 ∷ 3 ∷ 0 ∷ 0 ∷ 1 ∷ 1 ∷ 0 ∷ 0 ∷ [])) ∷ []), ([]))
+    ∷ (None, ([]), ([]), ([]))
+    ∷ (None, ([]), ([]), (Delivers 0 0 (record { message = msg 3 0; payload = 97 ∷ [] }) ∷ []))
+    ∷ []
+
+row_1 : seen s (start s 1) turns_1 ≡ answers_1
+unfolding ℕ_discrete bytes_discrete option_discrete pair_discrete Value-discrete Message-discrete placed least_due hear_all sign_kind sign_kinds sign_all deliver_more settle after s turns_1 answers_1
+row_1 = refl
+
+turns_2 : List Turn
+turns_2 =
+    turn 100000 (Hand 3 (Claims (by 3 (Init 0 0 (98 ∷ [])) ∷ [])))
+    ∷ turn 99999 (Hand 3 (Claims (by 3 (Echo 0 (msg 3 0) (97 ∷ [])) ∷ [])))
+    ∷ turn 99999 (Hand 3 (Claims (by 3 (Echo 0 (msg 3 0) (98 ∷ [])) ∷ [])))
+    ∷ turn 99999 (Hand 0 (Claims (by 0 (Echo 0 (msg 3 0) (97 ∷ [])) ∷ [])))
+    ∷ turn 99999 (Hand 1 (Claims (by 1 (Echo 0 (msg 3 0) (97 ∷ [])) ∷ [])))
+    ∷ turn 99999 (Hand 0 (Claims (by 0 (Order 0 0 (msg 3 0)) ∷ by 0 (Place 0 0 (msg 3 0)) ∷ by 0 (Echo 0 (msg 3 0) (97 ∷ [])) ∷ by 1 (Echo 0 (msg 3 0) (97 ∷ [])) ∷ by 3 (Echo 0 (msg 3 0) (97 ∷ [])) ∷ [])))
+    ∷ turn 99998 (Hand 1 (Claims (by 1 (Place 0 0 (msg 3 0)) ∷ [])))
+    ∷ turn 99997 (Hand 0 (Claims (by 0 (Keep 0 0 (msg 3 0)) ∷ [])))
+    ∷ turn 99997 (Hand 1 (Claims (by 1 (Keep 0 0 (msg 3 0)) ∷ [])))
+    ∷ []
+
+answers_2 : List Seen
+answers_2 =
+    (None, ((Echo 0 (msg 3 0) (98 ∷ [])) ∷ []), (((0 ∷ 1 ∷ 3 ∷ []), (1 ∷ 1 ∷ 1 ∷ 0 ∷ 9 ∷ 2 ∷ 0 ∷ 0 ∷ 3 ∷ 0 ∷ 0 ∷ 0 ∷ 1 ∷ 98 ∷ 1 ∷ 2 ∷ 0 ∷ 0 ∷ [])) ∷ []), ([]))
+    ∷ (None, ([]), ([]), ([]))
+    ∷ (None, ([]), ([]), (Liar 3 ∷ []))
+    ∷ (None, ([]), ([]), ([]))
+    ∷ (None, ([]), ([]), ([]))
+    ∷ (None, ((Place 0 0 (msg 3 0)) ∷ []), (((0 ∷ 1 ∷ 3 ∷ []), (1 ∷ 1 ∷ 1 ∷ 0 ∷ 8 ∷ 4 ∷ 0 ∷ 0 ∷ 0 ∷ 0 ∷ 3 ∷ 0 ∷ 0 ∷ 1 ∷ 2 ∷ 0 ∷ 0 ∷ [])) ∷ []), ([]))
+    ∷ (None, ((Keep 0 0 (msg 3 0)) ∷ []), (((0 ∷ 1 ∷ 3 ∷ []), (1 ∷ 1 ∷ 1 ∷ 0 ∷ 8 ∷ 5 ∷ 0 ∷ 0 ∷ 0 ∷ 0 ∷ 3 ∷ 0 ∷ 0 ∷ 1 ∷ 2 ∷ 0 ∷ 0 ∷ [])) ∷ []), ([]))
+    ∷ (None, ([]), ([]), ([]))
+    ∷ (None, ([]), ([]), (Delivers 0 0 (record { message = msg 3 0; payload = 97 ∷ [] }) ∷ []))
+    ∷ []
+
+row_2 : seen s (start s 2) turns_2 ≡ answers_2
+unfolding ℕ_discrete bytes_discrete option_discrete pair_discrete Value-discrete Message-discrete placed least_due hear_all sign_kind sign_kinds sign_all deliver_more settle after s turns_2 answers_2
+row_2 = refl
+
+f : Family
+f = record { setting = s; correct = (record { me = 0; turns = turns_0 } ∷ record { me = 1; turns = turns_1 } ∷ record { me = 2; turns = turns_2 } ∷ []) }
+
+judged : honest f ∷ bounded (accounts f) (numbers f) ∷ agree (accounts f) ∷ sound (accounts f) (keyed f.setting) ∷ [] ≡ true ∷ true ∷ true ∷ true ∷ []
+unfolding ℕ_discrete bytes_discrete option_discrete pair_discrete Value-discrete Message-discrete placed least_due hear_all sign_kind sign_kinds sign_all deliver_more settle after run View-discrete Delivered-discrete f s turns_0 turns_1 turns_2
+judged = refl

@@ -1,0 +1,64 @@
+-- The claims of bytes.
+use Rattle.std.specs.Prelude.{ℕ, Bool, true, ◌||◌, not, nat_lt, nat_le, ◌==◌, List, [], ◌∷◌, ◌++◌, Result, Ok, Err}
+use Rattle.byte_defs.specs.Fields.{◌>>=◌, refuse_if}
+use Rattle.message_defs.specs.declared.FrameFault.{FrameFault}
+use Rattle.message_defs.specs.declared.FrameFault.TheVariants.{Range}
+use Rattle.message_defs.specs.Statements.{Statement, Claim}
+use Rattle.message_defs.specs.Reading.{statement_in}
+use Rattle.message_defs.specs.Frames.{Group, FrameView, Bundle, Proof, Want, frame_of}
+
+-- a Bundle carries every kind
+abbrev pub in_bundle : ℕ → Bool
+in_bundle kind = true
+
+-- a Proof carries what makes certificates: Echo, Place, Keep and Ready
+abbrev pub in_proof : ℕ → Bool
+in_proof kind = (kind == 2) || (kind == 4) || (kind == 5) || (kind == 11)
+
+unfoldable pub claims_on : Statement → List (ℕ × List ℕ) → Result (List Claim) FrameFault
+claims_on st [] = Ok []
+claims_on st (s ∷ more) = do
+  _ ← refuse_if (nat_lt 63 s.0) Range
+  others ← claims_on st more
+  Ok (record { signer = s.0; statement = st; signature = s.1 } ∷ others)
+
+unfoldable pub claims_of_group : (ℕ → Bool) → Group → Result (List Claim) FrameFault
+claims_of_group carries g = do
+  st ← statement_in carries g.statement
+  claims_on st g.signatures
+
+unfoldable pub claims_of_groups : (ℕ → Bool) → List Group → Result (List Claim) FrameFault
+claims_of_groups carries [] = Ok []
+claims_of_groups carries (g ∷ gs) = do
+  first ← claims_of_group carries g
+  others ← claims_of_groups carries gs
+  Ok (first ++ others)
+
+-- of a Want: none, where its fields are in range
+abbrev pub want_claims : ℕ → ℕ → Result (List Claim) FrameFault
+want_claims x k = refuse_if (not (nat_le x 1023)) Range >>= λ _. refuse_if (not (nat_le k 1024)) Range >>= λ _. Ok []
+
+unfoldable pub claims_of : FrameView → Result (List Claim) FrameFault
+claims_of (Bundle gs) = claims_of_groups in_bundle gs
+claims_of (Proof gs) = claims_of_groups in_proof gs
+claims_of (Want x k) = want_claims x k
+
+-- ---- what bytes say that are handed over as a frame
+
+pub data Frame : Type 0 where
+  Claims : (claims : List Claim) → Frame
+  Wants : (view place : ℕ) → Frame
+  Faulty : (fault : FrameFault) → Frame
+
+abbrev pub said : FrameView → Result (List Claim) FrameFault → Frame
+said f (Err fault) = Faulty fault
+said (Want x k) (Ok cs) = Wants x k
+said (Bundle gs) (Ok cs) = Claims cs
+said (Proof gs) (Ok cs) = Claims cs
+
+abbrev pub said_by : Result FrameView FrameFault → Frame
+said_by (Err fault) = Faulty fault
+said_by (Ok f) = said f (claims_of f)
+
+unfoldable pub frame_said : List ℕ → Frame
+frame_said bytes = said_by (frame_of bytes)

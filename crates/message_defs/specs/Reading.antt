@@ -1,0 +1,180 @@
+-- Reading a statement, with the first fault: its kind, whether the frame carries it, its grammar, its ranges.
+use Rattle.std.specs.Prelude.{◌≡◌, ℕ, Bool, true, ◌&&◌, ◌||◌, not, nat_lt, nat_le, ◌==◌, List, [], ◌∷◌, length, if◌then◌else◌, Option, Some, None, Result, Ok, Err}
+use Rattle.std.specs.Int.{w8, w16}
+use Rattle.byte_defs.specs.Fields.{◌>>=◌, refuse_if, number_at}
+use Rattle.message_defs.specs.declared.FrameFault.{FrameFault}
+use Rattle.message_defs.specs.declared.FrameFault.TheVariants as faults
+use Rattle.message_defs.specs.Updates.{Update, Remove, Add, Renew, Value}
+use Rattle.message_defs.specs.Statements.{Message, Statement, Init, Echo, Order, Place, Keep, Notify, End, Last, Suggest, Ack, Ready}
+
+-- what a step reads, and the bytes after it
+abbrev pub Step : Type 0 → Type 0
+Step A = Result (A × List ℕ) FrameFault
+
+-- ---- the fields: a statement that ends in one is no statement
+
+abbrev pub byte_at : List ℕ → Step ℕ
+byte_at bytes = number_at faults.Statement w8 bytes
+
+abbrev pub short_at : List ℕ → Step ℕ
+short_at bytes = number_at faults.Statement w16 bytes
+
+-- nothing is left
+abbrev pub ended : List ℕ → Result (Unit {0}) FrameFault
+ended bytes = refuse_if (not (length bytes == 0)) faults.Statement
+
+unfoldable pub message_at : List ℕ → Step Message
+message_at bytes = do
+  sender ← byte_at bytes
+  number ← short_at sender.1
+  Ok (record { sender = sender.0; number = number.0 }, number.1)
+
+-- the length, and that many bytes, which are all that is left
+unfoldable pub payload_at : List ℕ → Result (List ℕ) FrameFault
+payload_at bytes = do
+  len ← short_at bytes
+  _ ← refuse_if (not (length len.1 == len.0)) faults.Statement
+  Ok len.1
+
+-- by its first byte and its second
+abbrev pub update_by : ℕ → ℕ → Result Update FrameFault
+update_by tag p =
+    if tag == 1 then Ok (Remove p) else
+    (if tag == 2 then Ok (Add p) else
+    (if (tag == 3) && (p == 0) then Ok Renew else Err faults.Statement))
+
+unfoldable pub update_at : List ℕ → Step Update
+update_at bytes = do
+  tag ← byte_at bytes
+  p ← byte_at tag.1
+  update ← update_by tag.0 p.0
+  Ok (update, p.1)
+
+unfoldable pub value_at : List ℕ → Step Value
+value_at bytes = do
+  update ← update_at bytes
+  cut ← short_at update.1
+  Ok (record { update = update.0; cut = cut.0 }, cut.1)
+
+-- a tag of 0, or of 1 and a Ready's rank and value
+unfoldable pub report_at : List ℕ → Step (Option (ℕ × Value))
+report_at bytes = do
+  tag ← byte_at bytes
+  if tag.0 == 0 then Ok (None, tag.1) else (do
+    _ ← refuse_if (not (tag.0 == 1)) faults.Statement
+    rank ← byte_at tag.1
+    value ← value_at rank.1
+    Ok (Some (rank.0, value.0), value.1))
+
+-- ---- the grammar of each kind, behind the kind byte
+
+unfoldable pub init_at : List ℕ → Result Statement FrameFault
+init_at bytes = do
+  view ← short_at bytes
+  number ← short_at view.1
+  payload ← payload_at number.1
+  Ok (Init view.0 number.0 payload)
+
+unfoldable pub echo_at : List ℕ → Result Statement FrameFault
+echo_at bytes = do
+  view ← short_at bytes
+  message ← message_at view.1
+  payload ← payload_at message.1
+  Ok (Echo view.0 message.0 payload)
+
+-- Order, Place or Keep
+unfoldable pub place_at : (ℕ → ℕ → Message → Statement) → List ℕ → Result Statement FrameFault
+place_at kind bytes = do
+  view ← short_at bytes
+  place ← short_at view.1
+  message ← message_at place.1
+  _ ← ended message.1
+  Ok (kind view.0 place.0 message.0)
+
+unfoldable pub notify_at : List ℕ → Result Statement FrameFault
+notify_at bytes = do
+  view ← short_at bytes
+  update ← update_at view.1
+  _ ← ended update.1
+  Ok (Notify view.0 update.0)
+
+unfoldable pub end_at : List ℕ → Result Statement FrameFault
+end_at bytes = do
+  view ← short_at bytes
+  len ← short_at view.1
+  _ ← ended len.1
+  Ok (End view.0 len.0)
+
+unfoldable pub last_at : List ℕ → Result Statement FrameFault
+last_at bytes = do
+  view ← short_at bytes
+  rank ← byte_at view.1
+  report ← report_at rank.1
+  _ ← ended report.1
+  Ok (Last view.0 rank.0 report.0)
+
+-- Suggest, Ack or Ready
+unfoldable pub ranked_at : (ℕ → ℕ → Value → Statement) → List ℕ → Result Statement FrameFault
+ranked_at kind bytes = do
+  view ← short_at bytes
+  rank ← byte_at view.1
+  value ← value_at rank.1
+  _ ← ended value.1
+  Ok (kind view.0 rank.0 value.0)
+
+-- by its kind
+unfoldable pub content_at : ℕ → List ℕ → Result Statement FrameFault
+content_at kind bytes =
+    if kind == 1 then init_at bytes else (if kind == 2 then echo_at bytes else
+    (if kind == 3 then place_at Order bytes else (if kind == 4 then place_at Place bytes else (if kind == 5 then place_at Keep bytes else
+    (if kind == 6 then notify_at bytes else (if kind == 7 then end_at bytes else (if kind == 8 then last_at bytes else
+    (if kind == 9 then ranked_at Suggest bytes else (if kind == 10 then ranked_at Ack bytes else (if kind == 11 then ranked_at Ready bytes else
+    Err faults.Statement))))))))))
+
+-- ---- the ranges, as tests
+
+abbrev pub is_message : Message → Bool
+is_message m = nat_le m.sender 63 && nat_le m.number 1023
+
+abbrev pub is_update : Update → Bool
+is_update (Remove p) = nat_le p 63
+is_update (Add p) = nat_le p 63
+is_update Renew = true
+
+abbrev pub is_value : Value → Bool
+is_value v = is_update v.update && nat_le v.cut 1024
+
+abbrev pub is_report : ℕ → Option (ℕ × Value) → Bool
+is_report r None = true
+is_report r (Some ready) = nat_lt ready.0 r && is_value ready.1
+
+abbrev pub is_in_range : Statement → Bool
+is_in_range (Init x l payload) = nat_le x 1023 && nat_le l 1023 && nat_le (length payload) 1024
+is_in_range (Echo x m payload) = nat_le x 1023 && is_message m && nat_le (length payload) 1024
+is_in_range (Order x k m) = nat_le x 1023 && nat_le k 1023 && is_message m
+is_in_range (Place x k m) = nat_le x 1023 && nat_le k 1023 && is_message m
+is_in_range (Keep x k m) = nat_le x 1023 && nat_le k 1023 && is_message m
+is_in_range (Notify x u) = nat_le x 1023 && is_update u
+is_in_range (End x k) = nat_le x 1023 && nat_le k 1024
+is_in_range (Last x r ready) = nat_le x 1023 && nat_le r 15 && is_report r ready
+is_in_range (Suggest x r v) = nat_le x 1023 && nat_le r 15 && is_value v
+is_in_range (Ack x r v) = nat_le x 1023 && nat_le r 15 && is_value v
+is_in_range (Ready x r v) = nat_le x 1023 && nat_le r 15 && is_value v
+
+-- ---- a statement, all of the bytes, where the frame carries these kinds
+
+abbrev pub is_kind : ℕ → Bool
+is_kind n = nat_le 1 n && nat_le n 11
+
+unfoldable pub statement_in : (ℕ → Bool) → List ℕ → Result Statement FrameFault
+statement_in carries bytes = do
+  kind ← byte_at bytes
+  _ ← refuse_if (not (is_kind kind.0)) faults.Statement
+  _ ← refuse_if (not (carries kind.0)) faults.Misplaced
+  st ← content_at kind.0 kind.1
+  _ ← refuse_if (not (is_in_range st)) faults.Range
+  Ok st
+
+-- every kind of statement is carried
+unfoldable pub statement_of : List ℕ → Result Statement FrameFault
+statement_of bytes = statement_in (λ kind. true) bytes

@@ -1,0 +1,75 @@
+-- A statement's bytes, and the body that is signed.
+-- A statement is its kind byte and its content; `x2` is a field x of two bytes, the higher one first:
+--   1 Init                      x2 l2 length2 payload
+--   2 Echo                      x2 s1 l2 length2 payload
+--   3 Order, 4 Place, 5 Keep    x2 k2 s1 l2
+--   6 Notify                    x2 update2
+--   7 End                       x2 k2
+--   8 Last                      x2 r1 00, or x2 r1 01 r0 value4
+--   9 Suggest, 10 Ack, 11 Ready x2 r1 value4
+-- An update is 01 p, 02 p or 03 00. A value is its update and its cut of two bytes.
+use Rattle.std.specs.Prelude.{ℕ, ◌<◌, ◌≤◌, List, [], ◌∷◌, ◌++◌, length, Option, Some, None, codes}
+use Rattle.byte_defs.specs.Fields.{two, text}
+use Rattle.message_defs.specs.Updates.{Update, Remove, Add, Renew, Value, update_numbers}
+use Rattle.message_defs.specs.Statements.{Message, Statement, Init, Echo, Order, Place, Keep, Notify, End, Last, Suggest, Ack, Ready}
+
+abbrev pub message_bytes : Message → List ℕ
+message_bytes m = m.sender ∷ two m.number
+
+abbrev pub value_bytes : Value → List ℕ
+value_bytes v = update_numbers v.update ++ two v.cut
+
+abbrev pub ready_bytes : Option (ℕ × Value) → List ℕ
+ready_bytes None = 0 ∷ []
+ready_bytes (Some ready) = 1 ∷ ready.0 ∷ value_bytes ready.1
+
+abbrev pub spelling : Statement → List ℕ
+spelling (Init x l payload) = 1 ∷ (two x ++ two l ++ text payload)
+spelling (Echo x m payload) = 2 ∷ (two x ++ message_bytes m ++ text payload)
+spelling (Order x k m) = 3 ∷ (two x ++ two k ++ message_bytes m)
+spelling (Place x k m) = 4 ∷ (two x ++ two k ++ message_bytes m)
+spelling (Keep x k m) = 5 ∷ (two x ++ two k ++ message_bytes m)
+spelling (Notify x u) = 6 ∷ (two x ++ update_numbers u)
+spelling (End x k) = 7 ∷ (two x ++ two k)
+spelling (Last x r ready) = 8 ∷ (two x ++ r ∷ ready_bytes ready)
+spelling (Suggest x r v) = 9 ∷ (two x ++ r ∷ value_bytes v)
+spelling (Ack x r v) = 10 ∷ (two x ++ r ∷ value_bytes v)
+spelling (Ready x r v) = 11 ∷ (two x ++ r ∷ value_bytes v)
+
+-- the four letters, the group, the signer and the statement
+abbrev pub body : List ℕ → ℕ → Statement → List ℕ
+body group signer st = codes "RPB1" ++ group ++ (signer ∷ spelling st)
+
+-- ---- the ranges: what has a spelling that is read again
+
+abbrev pub IsView : ℕ → Type 0
+IsView x = x ≤ 1023
+
+abbrev pub IsMessage : Message → Type 0
+IsMessage m = (m.sender ≤ 63) × (m.number ≤ 1023)
+
+abbrev pub IsUpdate : Update → Type 0
+IsUpdate (Remove p) = p ≤ 63
+IsUpdate (Add p) = p ≤ 63
+IsUpdate Renew = Unit {0}
+
+abbrev pub IsValue : Value → Type 0
+IsValue v = IsUpdate v.update × (v.cut ≤ 1024)
+
+-- a Last of rank r reports a Ready of a lower rank
+abbrev pub IsReport : ℕ → Option (ℕ × Value) → Type 0
+IsReport r None = Unit {0}
+IsReport r (Some ready) = (ready.0 < r) × IsValue ready.1
+
+abbrev pub IsStatement : Statement → Type 0
+IsStatement (Init x l payload) = IsView x × (l ≤ 1023) × (length payload ≤ 1024)
+IsStatement (Echo x m payload) = IsView x × IsMessage m × (length payload ≤ 1024)
+IsStatement (Order x k m) = IsView x × (k ≤ 1023) × IsMessage m
+IsStatement (Place x k m) = IsView x × (k ≤ 1023) × IsMessage m
+IsStatement (Keep x k m) = IsView x × (k ≤ 1023) × IsMessage m
+IsStatement (Notify x u) = IsView x × IsUpdate u
+IsStatement (End x k) = IsView x × (k ≤ 1024)
+IsStatement (Last x r ready) = IsView x × (r ≤ 15) × IsReport r ready
+IsStatement (Suggest x r v) = IsView x × (r ≤ 15) × IsValue v
+IsStatement (Ack x r v) = IsView x × (r ≤ 15) × IsValue v
+IsStatement (Ready x r v) = IsView x × (r ≤ 15) × IsValue v

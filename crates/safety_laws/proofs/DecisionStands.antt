@@ -1,0 +1,33 @@
+-- While a decision stands, its Ready is certified among the heard claims.
+use Rattle.std.proofs.Common.{◌≡◌, ◌⊎◌, inl, inr, ℕ, List, [], ◌∷◌, Option, Some, None, true}
+use Rattle.message_defs.specs.Updates.{Value}
+use Rattle.message_defs.specs.Statements.{Ready, Claim}
+use Rattle.group_defs.specs.Process.{Setting, Process, start}
+use Rattle.group_defs.specs.Certified.{is_certified, heard_on}
+use Rattle.group_defs.specs.Settle.{decided_by}
+use Rattle.group_defs.specs.Laws.{EachRun}
+use Rattle.safety_laws.proofs.Growing.{is_certified-stays}
+use Rattle.safety_laws.proofs.Installed.{decided_by-is, option_or-is}
+use Rattle.safety_laws.proofs.Induction.{Keeps, run-keeps}
+
+abbrev pub DecisionStands : Process → Type 0
+DecisionStands p = (d : ℕ × Value) → p.decision ≡ Some d → is_certified p.pool (Ready p.pool.view.number d.0 d.1) ≡ true
+
+pub decision-keeps : (s : Setting) (from : List Claim) → Keeps s from DecisionStands
+decision-keeps s from = record {
+  accepts = λ p payload ok. ok;
+  perceives = λ p e ok. ok;
+  hears = λ p c m e ok d decided. is_certified-stays p.pool (c ∷ []) (Ready p.pool.view.number d.0 d.1) (ok d decided);
+  doubts = λ p conflicts ok. ok;
+  signs = λ p signer st may none ok d decided. absurd (none-some none decided);
+  decides = λ p ok d e. elim (option_or-is p.decision (decided_by s p.pool) d e) [ inl before ↦ ok d before | inr by ↦ (decided_by-is s p.pool d by).1 ];
+  delivers = λ p d member room e ok. ok;
+  installs = λ p d decided whole ok d' e. absurd cc;
+  halts = λ p d decided member ok. ok;
+}
+  where
+    none-some : {A : Type 0} {o : Option A} {x : A} → o ≡ None → o ≡ Some x → ⊥
+    none-some n e = cc
+
+pub decision_stands : EachRun (λ s me turns p. DecisionStands p)
+decision_stands s me turns = run-keeps s DecisionStands turns (decision-keeps s _) (start s me) (λ d e. absurd cc)

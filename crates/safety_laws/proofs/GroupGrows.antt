@@ -1,0 +1,188 @@
+-- The group after the first events of a schedule is a front of the group at its end.
+use Rattle.std.proofs.Common.{◌≡◌, inl, inr, ℕ, zero, suc, ◌+◌, ◌<◌, ◌≤◌, List, [], ◌∷◌, ◌++◌, map, length, Some, true, refl, sym, ap, ◌∙◌, subst, arith, slice_get}
+use Rattle.std.specs.Prelude.{All, slice_index_or}
+use Rattle.std.specs.List.{AllZip}
+use Rattle.group_defs.specs.Views.{View, is_member}
+use Rattle.message_defs.specs.Statements.{Claim}
+use Rattle.group_defs.specs.Process.{Setting, Delivered, Left, Process, start, views_of, deliveries_of}
+use Rattle.group_defs.specs.Events.{Turn, after, run}
+use Rattle.group_defs.specs.Accounts.{Account, account_of, IsPrefixOf, HasLeft, delivered_in, longest, group_of, AgreesWith}
+use Rattle.group_defs.specs.Family.{Correct, Family, end_of, ends, accounts, handed_to}
+use Rattle.group_defs.specs.Laws.{Premises, HasGrown, StandsBefore, IsFrontOf, GrowsTo, Growth}
+use Rattle.safety_laws.proofs.Lists.{Mem, slice_get-mem, map-append}
+use Rattle.safety_laws.proofs.Offered.{mem-map, map-mem}
+use Rattle.safety_laws.proofs.OneContent.{All-mem}
+use Rattle.safety_laws.proofs.EachWasDue.{grown-self, prefix-self, prefix-more, append-append}
+use Rattle.safety_laws.proofs.Induction.{Keeps, run-keeps}
+use Rattle.safety_laws.proofs.Installed.{index-mem}
+use Rattle.safety_laws.proofs.History.{grows, slice_get-front, length-map, length-snoc}
+use Rattle.safety_laws.proofs.Decisions.{in-ends, get-some}
+use Rattle.safety_laws.proofs.Agreeing.{longest-mem, longest-most, left-delivered, agreement}
+
+-- ---- prefixes
+
+prefix-trans : {A : Type 0} (xs ys zs : List A) → IsPrefixOf xs ys → IsPrefixOf ys zs → IsPrefixOf xs zs
+prefix-trans xs ys zs p q = (p.0 ++ q.0, append-append xs p.0 q.0 ∙ ap (λ ys. ys ++ q.0) p.1 ∙ q.1)
+
+prefix-equal : {A : Type 0} (xs ys : List A) → IsPrefixOf xs ys → length ys ≤ length xs → xs ≡ ys
+prefix-equal [] [] p le = refl
+prefix-equal [] (y ∷ ys) p le = absurd (omega (arith, le))
+prefix-equal (x ∷ xs) [] p le = absurd (let e = p.1 in cc)
+prefix-equal {A} (x ∷ xs) (y ∷ ys) p le =
+    let tails : xs ++ p.0 ≡ ys = tail-is (xs ++ p.0) p.1 in
+    let head : x ≡ y = head-is (xs ++ p.0) p.1 in
+    let rest = prefix-equal xs ys (p.0, tails) (omega (arith, le)) in
+    λ i. head i ∷ rest i
+  where
+    head-is : (zs : List A) → x ∷ zs ≡ y ∷ ys → x ≡ y
+    head-is zs e = cc
+
+    tail-is : (zs : List A) → x ∷ zs ≡ y ∷ ys → zs ≡ ys
+    tail-is zs e = cc
+
+last-longer : (xs : List (List Delivered)) (ds es : List Delivered) → IsPrefixOf ds es → (i : ℕ) → IsPrefixOf (slice_index_or (xs ++ ds ∷ []) i []) (slice_index_or (xs ++ es ∷ []) i [])
+last-longer [] ds es p zero = p
+last-longer [] ds es p (suc i) = ([], refl)
+last-longer (x ∷ xs) ds es p zero = prefix-self x
+last-longer (x ∷ xs) ds es p (suc i) = last-longer xs ds es p i
+
+one-behind : (xs : List (List Delivered)) (i : ℕ) → IsPrefixOf (slice_index_or xs i []) (slice_index_or (xs ++ [] ∷ []) i [])
+one-behind [] zero = ([], refl)
+one-behind [] (suc i) = ([], refl)
+one-behind (x ∷ xs) zero = prefix-self x
+one-behind (x ∷ xs) (suc i) = one-behind xs i
+
+-- ---- what was delivered grows
+
+Extends : Process → Process → Type 0
+Extends old p = (i : ℕ) → IsPrefixOf (slice_index_or (deliveries_of old) i []) (slice_index_or (deliveries_of p) i [])
+
+extends : (s : Setting) (from : List Claim) (old : Process) → Keeps s from (Extends old)
+unfolding Extends
+extends s from old = record {
+  accepts = λ p payload g. g;
+  perceives = λ p e g. g;
+  hears = λ p c m e g. g;
+  doubts = λ p conflicts g. g;
+  signs = λ p signer st may none g. g;
+  decides = λ p g. g;
+  delivers = λ p d member room e g i. prefix-trans _ (slice_index_or (deliveries_of p) i []) _ (g i) (last-longer (map (λ (l : Left). l.delivered) p.left) p.delivered (p.delivered ++ d ∷ []) (d ∷ [], refl) i);
+  installs = λ p d decided whole g i. prefix-trans _ (slice_index_or (deliveries_of p) i []) _ (g i)
+      (subst (λ ds. IsPrefixOf (slice_index_or (deliveries_of p) i []) (slice_index_or (ds ++ [] ∷ []) i [])) (sym (map-append (λ (l : Left). l.delivered) p.left _)) (one-behind (deliveries_of p) i));
+  halts = λ p d decided member g. g;
+}
+
+extends-self : (p : Process) → Extends p p
+unfolding Extends
+extends-self p i = prefix-self (slice_index_or (deliveries_of p) i [])
+
+extends-at : (old p : Process) → Extends old p → (i : ℕ) → IsPrefixOf (slice_index_or (deliveries_of old) i []) (slice_index_or (deliveries_of p) i [])
+unfolding Extends
+extends-at old p e i = e i
+
+run-append : (s : Setting) (p : Process) (ts us : List Turn) → run s p (ts ++ us) ≡ run s (run s p ts) us
+unfolding run
+run-append s p [] us = refl
+run-append s p (t ∷ ts) us = run-append s (after s p t) ts us
+
+-- ---- fronts
+
+module _ (s : Setting) (c c' : Correct) (before : StandsBefore c c') where
+  later-is : run s (end_of s c) before.1.0 ≡ end_of s c'
+  later-is = sym (run-append s (start s c.me) c.turns before.1.0) ∙ (λ i. run s (start s (before.0 i)) (before.1.1 i))
+
+  grown-later : HasGrown (end_of s c) (end_of s c')
+  grown-later = subst (HasGrown (end_of s c)) later-is (run-keeps s (HasGrown (end_of s c)) before.1.0 (grows s (handed_to before.1.0) (end_of s c)) (end_of s c) (grown-self (end_of s c)))
+
+  extends-later : Extends (end_of s c) (end_of s c')
+  extends-later = subst (Extends (end_of s c)) later-is (run-keeps s (Extends (end_of s c)) before.1.0 (extends s (handed_to before.1.0) (end_of s c)) (end_of s c) (extends-self (end_of s c)))
+
+later-of : (cs cs' : List Correct) → AllZip StandsBefore cs cs' → (c : Correct) → Mem c cs → (c' : Correct) × Mem c' cs' × StandsBefore c c'
+later-of [] cs' all c m = absurd m
+later-of (d ∷ cs) [] all c m = absurd all
+later-of (d ∷ cs) (d' ∷ cs') all c (inl e) = (d', inl refl, subst (λ c. StandsBefore c d') e all.0)
+later-of (d ∷ cs) (d' ∷ cs') all c (inr m) = let rest = later-of cs cs' all.1 c m in (rest.0, inr rest.1, rest.2)
+
+longest-front : {A : Type 0} (g : Account → List A) (bs : List Account) (ys : List A) → ((a : Account) → Mem a bs → IsPrefixOf (g a) ys) → IsPrefixOf (longest (map g bs)) ys
+longest-front g [] ys each = (ys, refl)
+longest-front g (a ∷ bs) ys each =
+    let there = map-mem g (a ∷ bs) (longest (map g (a ∷ bs))) (longest-mem (map g (a ∷ bs)) (g a) (inl refl)) in
+    subst (λ xs. IsPrefixOf xs ys) there.2 (each there.0 there.1)
+
+-- an early account and its late one
+module _ (early late : Family) (front : IsFrontOf early late) where
+  Later : Account → Type 0
+  Later a = (c : Correct) × (c' : Correct) × Mem c' late.correct × StandsBefore c c' × (account_of (end_of late.setting c) ≡ a)
+
+  later : (a : Account) → Mem a (accounts early) → Later a
+  unfolding Later
+  later a there =
+      let p = map-mem account_of (ends early) a there in
+      let c = map-mem (end_of early.setting) early.correct p.0 p.1 in
+      let c' = later-of early.correct late.correct front.fronts c.0 c.1 in
+      (c.0, c'.0, c'.1, c'.2, ap (λ s. account_of (end_of s c.0)) (sym front.setting) ∙ ap account_of c.2 ∙ p.2)
+
+  module _ (premises : Premises late) where
+    agrees : (c' : Correct) → Mem c' late.correct → AgreesWith (group_of (accounts late)) (account_of (end_of late.setting c'))
+    agrees c' m' = All-mem (AgreesWith (group_of (accounts late))) (accounts late) (account_of (end_of late.setting c')) (agreement late premises) (mem-map account_of (ends late) (end_of late.setting c') (in-ends late c' m'))
+
+    views-front : (a : Account) → Mem a (accounts early) → IsPrefixOf a.views (group_of (accounts late)).views
+    unfolding Later
+    views-front a m =
+        let it = later a m in
+        let c = it.0 in
+        let c' = it.1 in
+        subst (λ (a : Account). IsPrefixOf a.views (group_of (accounts late)).views) it.4
+        (prefix-trans (views_of (end_of late.setting c)) (views_of (end_of late.setting c')) (group_of (accounts late)).views (grown-later late.setting c c' it.3).views (agrees c' it.2).views)
+
+    sequence-front : (x : ℕ) (a : Account) → Mem a (accounts early) → IsPrefixOf (delivered_in a x) ((group_of (accounts late)).sequence x)
+    unfolding Later
+    sequence-front x a m =
+        let it = later a m in
+        let c = it.0 in
+        let c' = it.1 in
+        subst (λ (a : Account). IsPrefixOf (delivered_in a x) ((group_of (accounts late)).sequence x)) it.4
+        (prefix-trans (delivered_in (account_of (end_of late.setting c)) x) (delivered_in (account_of (end_of late.setting c')) x) ((group_of (accounts late)).sequence x)
+        (extends-at (end_of late.setting c) (end_of late.setting c') (extends-later late.setting c c' it.3) x) ((agrees c' it.2).prefixes x))
+
+    -- who left it early as a member left it so
+    whole-later : (c c' : Correct) → Mem c' late.correct → StandsBefore c c' → (x : ℕ) (v : View) → slice_get (views_of (end_of late.setting c)) x ≡ Some v → is_member v (end_of late.setting c).me ≡ true → x + 1 < length (views_of (end_of late.setting c))
+        → delivered_in (account_of (end_of late.setting c)) x ≡ (group_of (accounts late)).sequence x
+    whole-later c c' m' before x v at member left =
+        let p : Process = end_of late.setting c in
+        let p' : Process = end_of late.setting c' in
+        let grown = grown-later late.setting c c' before in
+        let one = length-snoc (map (λ (l : Left). l.view) p.left) p.pool.view in
+        let two = length-map (λ (l : Left). l.view) p.left in
+        let l = get-some p.left x (omega (arith, one, two, left)) in
+        let in_late : slice_get p'.left x ≡ Some l.0 = subst (λ ls. slice_get ls x ≡ Some l.0) grown.left.1 (slice_get-front p.left grown.left.0 x l.0 l.1) in
+        let at' : slice_get (views_of p') x ≡ Some v = subst (λ vs. slice_get vs x ≡ Some v) grown.views.1 (slice_get-front (views_of p) grown.views.0 x v at) in
+        let longer : length (views_of p') ≡ length (views_of p) + length grown.views.0 = ap length (sym grown.views.1) ∙ length-append (views_of p) grown.views.0 in
+        let member' : is_member v p'.me ≡ true = subst (λ me. is_member v me ≡ true) (sym grown.me) member in
+        let whole = (agrees c' m').whole x v at' member' (omega (arith, longer, left)) in
+        left-delivered p x l.0 l.1 ∙ sym (left-delivered p' x l.0 in_late) ∙ whole
+      where
+        length-append : {A : Type 0} (xs ys : List A) → length (xs ++ ys) ≡ length xs + length ys
+        length-append [] ys = omega arith
+        length-append (x ∷ xs) ys = let rest = length-append xs ys in omega (arith, rest)
+
+    sequences : (x : ℕ) → IsPrefixOf ((group_of (accounts early)).sequence x) ((group_of (accounts late)).sequence x)
+    sequences x = longest-front (λ a. delivered_in a x) (accounts early) ((group_of (accounts late)).sequence x) (sequence-front x)
+
+    whole-early : (a : Account) → Mem a (accounts early) → (x : ℕ) (v : View) → slice_get a.views x ≡ Some v → is_member v a.me ≡ true → HasLeft a x → (group_of (accounts early)).sequence x ≡ (group_of (accounts late)).sequence x
+    unfolding Later
+    whole-early a m x v at member left =
+        let it = later a m in
+        let is : delivered_in a x ≡ (group_of (accounts late)).sequence x =
+        subst (λ (a : Account). (v : View) → slice_get a.views x ≡ Some v → is_member v a.me ≡ true → HasLeft a x → delivered_in a x ≡ (group_of (accounts late)).sequence x) it.4
+        (whole-later it.0 it.1 it.2 it.3 x) v at member left in
+        let same : length (delivered_in a x) ≡ length ((group_of (accounts late)).sequence x) = ap length is in
+        let most : length (delivered_in a x) ≤ length ((group_of (accounts early)).sequence x) = longest-most (map (λ a. delivered_in a x) (accounts early)) (delivered_in a x) (mem-map (λ a. delivered_in a x) (accounts early) a m) in
+        prefix-equal ((group_of (accounts early)).sequence x) ((group_of (accounts late)).sequence x) (sequences x) (omega (arith, same, most))
+
+pub growth : Growth
+growth early late front premises = record {
+  views = longest-front (λ a. a.views) (accounts early) (group_of (accounts late)).views (views-front early late front premises);
+  sequences = sequences early late front premises;
+  whole = λ k d lt. whole-early early late front premises (slice_index_or (accounts early) k d) (index-mem (accounts early) k d lt);
+}

@@ -1,0 +1,367 @@
+-- What a process has seen certified: of what it delivered, of what it decided, of the views that it left.
+use Rattle.std.proofs.Common.{◌≡◌, ◌≢◌, ◌⊎◌, inl, inr, ℕ, zero, suc, ◌+◌, ◌-◌, ◌<◌, ◌≤◌, max, List, [], ◌∷◌, ◌++◌, map, length, Option, Some, None, Bool, true, false, refl, sym, ap, ◌∙◌, subst, arith, slice_get}
+use Rattle.std.specs.Prelude.{if◌then◌else◌, ◌&&◌, ◌==◌, not, nat_lt, filter, filter_map, fold, All, Contains, is_some, unwrap_or, option_map, option_and_then, slice_index_or}
+use Rattle.std.specs.Option.{option_or, option_map_or}
+use Rattle.std.proofs.lemmas.Bool.{eqb-true, ltb-true, ltb-false}
+use Rattle.byte_defs.specs.Choices.{first_that_holds}
+use Rattle.byte_defs.specs.Orders.{put}
+use Rattle.group_defs.specs.Hearing.{Old, Early, Stranger, OutOfWindow, Known, Unsigned, Conflict, Heard, verdict, is_valid, is_strange, is_beyond, with_heard}
+use Rattle.group_defs.specs.Views.{View, is_member, next_view, is_possible}
+use Rattle.message_defs.specs.Updates.{Update, Value}
+use Rattle.message_defs.specs.Statements.{Message, Statement, Echo, Place, Keep, Ready, Slot, EchoAt, PlaceAt, Claim, slot_of, view_of, message_of, payload_of, same_slot}
+use Rattle.group_defs.specs.Process.{Setting, Pool, Delivered, Left, Process, start, keyed, views_of}
+use Rattle.group_defs.specs.Certified.{heard_on, says, is_certified, certified_on, place_at, payload_at, place_kept, fixed_length, certificate, is_signed}
+use Rattle.group_defs.specs.Due.{may_sign, is_due}
+use Rattle.group_defs.specs.Signing.{Signer, own_claim, signs}
+use Rattle.group_defs.specs.Settle.{decide, decided_by, limit, deliverable, install}
+use Rattle.group_defs.specs.Events.{Turn, perceived_numbers}
+use Rattle.group_defs.specs.Family.{handed_to}
+use Rattle.group_defs.specs.Laws.{HasGrown, IsFrom}
+use Rattle.safety_laws.proofs.Lists.{Mem, and-first, and-second, mem-Contains, slice_get-mem, slice_get-snoc, filter-mem, filter_map-mem, snoc-mem, map-append}
+use Rattle.safety_laws.proofs.OnePerSlot.{slice_get-index}
+use Rattle.safety_laws.proofs.Growing.{find-is, map-some, then-some, same_slot-is}
+use Rattle.safety_laws.proofs.EachWasDue.{EachDue, From, grown-self, accepting, perceiving, signing, installing, otherwise}
+use Rattle.safety_laws.proofs.EachWasDue as was
+use Rattle.safety_laws.proofs.Installed.{IsDecided, decided_by-is, option_or-is, some-same, mem-behind}
+use Rattle.safety_laws.proofs.Induction.{Keeps}
+
+-- ---- what stands certified
+
+pub certified_on-is : (h : Pool) (slot : Slot) (st : Statement) → certified_on h slot ≡ Some st → (is_certified h st ≡ true) × (slot_of st ≡ slot)
+certified_on-is h slot st e =
+    let found = find-is (is_certified h) (filter (λ st. same_slot (slot_of st) slot) (map (λ (c : Claim). c.statement) h.heard)) st e in
+    let at = filter-mem (λ st. same_slot (slot_of st) slot) (map (λ (c : Claim). c.statement) h.heard) st found.0 in
+    (found.1, same_slot-is (slot_of st) slot at.1)
+
+place-is : (st : Statement) (x k : ℕ) (m : Message) → message_of st ≡ Some m → slot_of st ≡ PlaceAt x k → st ≡ Place x k m
+place-is (Place y j n) x k m e at = let y_is : y ≡ x = cc in let j_is : j ≡ k = cc in let n_is : n ≡ m = cc in λ i. Place (y_is i) (j_is i) (n_is i)
+place-is _ x k m e at = absurd cc
+
+echo-is : (st : Statement) (x : ℕ) (m : Message) (b : List ℕ) → payload_of st ≡ Some b → slot_of st ≡ EchoAt x m → st ≡ Echo x m b
+echo-is (Echo y n c) x m b e at = let y_is : y ≡ x = cc in let n_is : n ≡ m = cc in let c_is : c ≡ b = cc in λ i. Echo (y_is i) (n_is i) (c_is i)
+echo-is _ x m b e at = absurd cc
+
+pub place-certified : (h : Pool) (k : ℕ) (m : Message) → place_at h k ≡ Some m → is_certified h (Place h.view.number k m) ≡ true
+place-certified h k m e =
+    let st = then-some message_of (certified_on h (PlaceAt h.view.number k)) m e in
+    let is = certified_on-is h (PlaceAt h.view.number k) st.0 st.1 in
+    subst (λ st. is_certified h st ≡ true) (place-is st.0 h.view.number k m st.2 is.1) is.0
+
+pub payload-certified : (h : Pool) (m : Message) (b : List ℕ) → payload_at h m ≡ Some b → is_certified h (Echo h.view.number m b) ≡ true
+payload-certified h m b e =
+    let st = then-some payload_of (certified_on h (EchoAt h.view.number m)) b e in
+    let is = certified_on-is h (EchoAt h.view.number m) st.0 st.1 in
+    subst (λ st. is_certified h st ≡ true) (echo-is st.0 h.view.number m b st.2 is.1) is.0
+
+fold-attained : (ks : List ℕ) (most : ℕ) → (fold (λ most k. max most (k + 1)) most ks ≡ most) ⊎ ((k : ℕ) × Mem k ks × (fold (λ most k. max most (k + 1)) most ks ≡ k + 1))
+fold-attained [] most = inl refl
+fold-attained (k ∷ ks) most = go (fold-attained ks (max most (k + 1)))
+  where
+    pick : (e : fold (λ most k. max most (k + 1)) (max most (k + 1)) ks ≡ max most (k + 1)) → (b : Bool) → nat_lt most (k + 1) ≡ b
+        → (fold (λ most k. max most (k + 1)) (max most (k + 1)) ks ≡ most) ⊎ ((j : ℕ) × Mem j (k ∷ ks) × (fold (λ most k. max most (k + 1)) (max most (k + 1)) ks ≡ j + 1))
+    pick e true f = inr (k, inl refl, (let lt = ltb-true most (k + 1) f in omega (arith, lt, e)))
+    pick e false f = inl (let ge = ltb-false most (k + 1) f in omega (arith, ge, e))
+
+    go : (fold (λ most k. max most (k + 1)) (max most (k + 1)) ks ≡ max most (k + 1)) ⊎ ((j : ℕ) × Mem j ks × (fold (λ most k. max most (k + 1)) (max most (k + 1)) ks ≡ j + 1))
+        → (fold (λ most k. max most (k + 1)) (max most (k + 1)) ks ≡ most) ⊎ ((j : ℕ) × Mem j (k ∷ ks) × (fold (λ most k. max most (k + 1)) (max most (k + 1)) ks ≡ j + 1))
+    go (inl e) = pick e (nat_lt most (k + 1)) refl
+    go (inr found) = inr (found.0, inr found.1, found.2)
+
+kept-is : (h : Pool) (st : Statement) (k : ℕ) → place_kept h st ≡ Some k → (m : Message) × (is_certified h (Keep (view_of st) k m) ≡ true)
+kept-is h (Keep x j m) k e = go (is_certified h (Keep x j m)) refl e
+  where
+    go : (b : Bool) → is_certified h (Keep x j m) ≡ b → (if b then Some j else None) ≡ Some k → (m : Message) × (is_certified h (Keep x k m) ≡ true)
+    go true f e = (m, subst (λ j. is_certified h (Keep x j m) ≡ true) (some-same j k e) f)
+    go false f e = absurd cc
+kept-is h _ k e = absurd cc
+
+-- ---- growing
+
+pub grows : (s : Setting) (from : List Claim) (old : Process) → Keeps s from (HasGrown old)
+grows s from old = record {
+  accepts = λ p payload g. accepting old p g payload;
+  perceives = λ p e g. perceiving old p g e;
+  hears = λ p c m e g. otherwise old p g _ refl refl refl refl refl refl;
+  doubts = λ p conflicts g. otherwise old p g _ refl refl refl refl refl refl;
+  signs = λ p signer st may none g. signing old p g s signer st;
+  decides = λ p g. otherwise old p g _ refl refl refl refl refl refl;
+  delivers = λ p d member room e g. otherwise old p g _ refl refl refl refl refl refl;
+  installs = λ p d decided whole g. installing old p g d;
+  halts = λ p d decided member g. otherwise old p g _ refl refl refl refl refl refl;
+}
+
+-- the entry that leaving makes
+abbrev last : Process → ℕ × Value → Left
+last p d = record { view = p.pool.view; delivered = p.delivered; commit = certificate p.pool (Ready p.pool.view.number d.0 d.1) }
+
+-- ---- history
+
+-- at a moment of the view the process saw it certified
+pub record Certifies (s : Setting) (turns : List Turn) (p : Process) (v : View) (st : Statement) : Type 0 where
+  pub moment : Process
+  pub grown : HasGrown moment p
+  pub at : moment.pool.view ≡ v
+  pub certified : is_certified moment.pool st ≡ true
+  pub heard : All (IsFrom s (handed_to turns) moment.signed) moment.pool.heard
+
+-- so many may be delivered: a place was kept, or it was decided
+pub data Reach (s : Setting) (turns : List Turn) (p : Process) (v : View) (n : ℕ) : Type 0 where
+  none : n ≡ 0 → Reach s turns p v n
+  kept : (k : ℕ) (m : Message) → Certifies s turns p v (Keep v.number k m) → n ≤ k + 1 → Reach s turns p v n
+  closed : (r : ℕ) (w : Value) → Certifies s turns p v (Ready v.number r w) → n ≤ w.cut → Reach s turns p v n
+
+-- what was delivered in a view
+pub record ViewSo (s : Setting) (turns : List Turn) (p : Process) (v : View) (ds : List Delivered) : Type 0 where
+  pub places : (k : ℕ) (d : Delivered) → slice_get ds k ≡ Some d → Certifies s turns p v (Place v.number k d.message)
+  pub payloads : (k : ℕ) (d : Delivered) → slice_get ds k ≡ Some d → Certifies s turns p v (Echo v.number d.message d.payload)
+  pub reach : Reach s turns p v (length ds)
+
+-- a view that was left
+pub record LeftSo (s : Setting) (turns : List Turn) (p : Process) (i : ℕ) (l : Left) : Type 0 where
+  pub number : l.view.number ≡ i
+  pub rank : ℕ
+  pub value : Value
+  pub possible : is_possible (keyed s) l.view value.update ≡ true
+  pub decided : Certifies s turns p l.view (Ready l.view.number rank value)
+  pub next : slice_get (views_of p) (suc i) ≡ Some (next_view l.view value.update)
+  pub whole : is_member l.view p.me ≡ true → length l.delivered ≡ value.cut
+  pub so : ViewSo s turns p l.view l.delivered
+
+pub record Halting (s : Setting) (turns : List Turn) (p : Process) : Type 0 where
+  pub view : View
+  pub rank : ℕ
+  pub value : Value
+  pub decided : Certifies s turns p view (Ready view.number rank value)
+  pub length : ℕ
+  pub reach : Reach s turns p view length
+  pub beyond : value.cut < length
+
+pub record History (s : Setting) (turns : List Turn) (p : Process) : Type 0 where
+  pub due : EachDue s turns p
+  pub current : (c : Claim) → Mem c p.pool.heard → view_of c.statement ≡ p.pool.view.number
+  pub number : p.pool.view.number ≡ length p.left
+  pub possible : (d : ℕ × Value) → p.decision ≡ Some d → is_possible (keyed s) p.pool.view d.1.update ≡ true
+  pub decided : (d : ℕ × Value) → p.decision ≡ Some d → Certifies s turns p p.pool.view (Ready p.pool.view.number d.0 d.1)
+  pub so : ViewSo s turns p p.pool.view p.delivered
+  pub lefts : (i : ℕ) (l : Left) → slice_get p.left i ≡ Some l → LeftSo s turns p i l
+  pub halts : p.halted ≡ true → Halting s turns p
+
+pub slice_get-front : {A : Type 0} (xs ys : List A) (i : ℕ) (y : A) → slice_get xs i ≡ Some y → slice_get (xs ++ ys) i ≡ Some y
+slice_get-front [] ys i y e = absurd cc
+slice_get-front (x ∷ xs) ys zero y e = e
+slice_get-front (x ∷ xs) ys (suc i) y e = slice_get-front xs ys i y e
+
+pub slice_get-last : {A : Type 0} (xs : List A) (last : A) (i : ℕ) → i ≡ length xs → slice_get (xs ++ last ∷ []) i ≡ Some last
+slice_get-last [] last i e = subst (λ i. slice_get (last ∷ []) i ≡ Some last) (sym e) refl
+slice_get-last (x ∷ xs) last zero e = absurd (omega (arith, e))
+slice_get-last (x ∷ xs) last (suc i) e = slice_get-last xs last i (omega (arith, e))
+
+pub length-map : {A B : Type 0} (f : A → B) (xs : List A) → length (map f xs) ≡ length xs
+length-map f [] = refl
+length-map f (x ∷ xs) = ap suc (length-map f xs)
+
+pub length-snoc : {A : Type 0} (xs : List A) (last : A) → length (xs ++ last ∷ []) ≡ suc (length xs)
+length-snoc [] last = refl
+length-snoc (x ∷ xs) last = ap suc (length-snoc xs last)
+
+heard-now : (s : Setting) (handed signed : List Claim) (c : Claim) → From s handed signed c → IsFrom s handed signed c
+heard-now s handed signed c (inl m) = inl (mem-Contains handed c m.0, m.1)
+heard-now s handed signed c (inr m) = inr (mem-Contains signed c m)
+
+heard-view : (a b : ℕ) (b3 b4 b5 b6 b7 : Bool) → unwrap_or (first_that_holds ((nat_lt a b, Old) ∷ (nat_lt b a, Early) ∷ (b3, Stranger) ∷ (b4, OutOfWindow) ∷ (b5, Known) ∷ (b6, Unsigned) ∷ (b7, Conflict) ∷ [])) Heard ≡ Heard → a ≡ b
+heard-view a b b3 b4 b5 b6 b7 e = go (nat_lt a b) refl (nat_lt b a) refl e
+  where
+    go : (one : Bool) → nat_lt a b ≡ one → (two : Bool) → nat_lt b a ≡ two → unwrap_or (first_that_holds ((one, Old) ∷ (two, Early) ∷ (b3, Stranger) ∷ (b4, OutOfWindow) ∷ (b5, Known) ∷ (b6, Unsigned) ∷ (b7, Conflict) ∷ [])) Heard ≡ Heard → a ≡ b
+    go true f two g e = absurd cc
+    go false f true g e = absurd cc
+    go false f false g e = let le = ltb-false a b f in let ge = ltb-false b a g in omega (arith, le, ge)
+
+verdict-view : (s : Setting) (p : Process) (c : Claim) → verdict s p c ≡ Heard → view_of c.statement ≡ p.pool.view.number
+verdict-view s p c e = heard-view (view_of c.statement) p.pool.view.number (is_strange p c) (is_beyond p c.signer c.statement) (says p.pool c.statement c.signer) (not (is_valid s c)) (is_some (heard_on p.pool c.signer (slot_of c.statement))) e
+
+pub signing-view : (s : Setting) (p : Process) (st : Statement) → may_sign s p st ≡ true → view_of st ≡ p.pool.view.number
+signing-view s p st may = eqb-true (view_of st) p.pool.view.number (and-second _ _ (and-first _ _ (and-first _ _ may)))
+
+module _ (s : Setting) (turns : List Turn) where
+  module _ (p q : Process) (grow : (old : Process) → HasGrown old p → HasGrown old q) where
+    pub certifies-on : (v : View) (st : Statement) → Certifies s turns p v st → Certifies s turns q v st
+    certifies-on v st c = record { moment = c.moment; grown = grow c.moment c.grown; at = c.at; certified = c.certified; heard = c.heard }
+
+    pub reach-on : (v : View) (n : ℕ) → Reach s turns p v n → Reach s turns q v n
+    reach-on v n (none e) = none e
+    reach-on v n (kept k m c le) = kept k m (certifies-on v (Keep v.number k m) c) le
+    reach-on v n (closed r w c le) = closed r w (certifies-on v (Ready v.number r w) c) le
+
+    pub view-on : (v : View) (ds : List Delivered) → ViewSo s turns p v ds → ViewSo s turns q v ds
+    view-on v ds so = record { places = λ k d at. certifies-on v _ (so.places k d at); payloads = λ k d at. certifies-on v _ (so.payloads k d at); reach = reach-on v (length ds) so.reach }
+
+    left-on : (i : ℕ) (l : Left) → LeftSo s turns p i l → LeftSo s turns q i l
+    left-on i l so =
+        let more = grow p (grown-self p) in
+        record {
+          number = so.number;
+          rank = so.rank;
+          value = so.value;
+          possible = so.possible;
+          decided = certifies-on l.view _ so.decided;
+          next = subst (λ vs. slice_get vs (suc i) ≡ Some (next_view l.view so.value.update)) more.views.1 (slice_get-front (views_of p) more.views.0 (suc i) (next_view l.view so.value.update) so.next);
+          whole = λ member. so.whole (subst (λ me. is_member l.view me ≡ true) more.me member);
+          so = view-on l.view l.delivered so.so;
+        }
+
+    halting-on : Halting s turns p → Halting s turns q
+    halting-on h = record { view = h.view; rank = h.rank; value = h.value; decided = certifies-on h.view _ h.decided; length = h.length; reach = reach-on h.view h.length h.reach; beyond = h.beyond }
+
+  -- what is certified now
+  now : (p : Process) → EachDue s turns p → (st : Statement) → is_certified p.pool st ≡ true → Certifies s turns p p.pool.view st
+  now p due st e = record {
+    moment = p;
+    grown = grown-self p;
+    at = refl;
+    certified = e;
+    heard = λ k d lt. heard-now s (handed_to turns) p.signed _ (due.heard _ (slice_get-mem p.pool.heard k _ (slice_get-index p.pool.heard k d lt)));
+  }
+
+  -- the next place may be delivered
+  further : (p : Process) → History s turns p → length p.delivered < limit p → Reach s turns p p.pool.view (suc (length p.delivered))
+  further p ok room = go p.decision refl room
+    where
+      go : (o : Option (ℕ × Value)) → p.decision ≡ o → length p.delivered < option_map_or (λ (d : ℕ × Value). d.1.cut) o (fixed_length p.pool) → Reach s turns p p.pool.view (suc (length p.delivered))
+      go (Some d) e lt = closed d.0 d.1 (ok.decided d e) (omega (arith, lt))
+      go None e lt = by-keep (fold-attained (filter_map (λ (c : Claim). place_kept p.pool c.statement) p.pool.heard) 0)
+        where
+          by-keep : (fixed_length p.pool ≡ 0) ⊎ ((k : ℕ) × Mem k (filter_map (λ (c : Claim). place_kept p.pool c.statement) p.pool.heard) × (fixed_length p.pool ≡ k + 1)) → Reach s turns p p.pool.view (suc (length p.delivered))
+          by-keep (inl zero') = absurd (omega (arith, lt, zero'))
+          by-keep (inr found) =
+              let c = filter_map-mem (λ (c : Claim). place_kept p.pool c.statement) p.pool.heard found.0 found.1 in
+              let m = kept-is p.pool c.0.statement found.0 c.2 in
+              let top = found.2 in
+              kept found.0 m.0 (now p ok.due (Keep p.pool.view.number found.0 m.0) (subst (λ x. is_certified p.pool (Keep x found.0 m.0) ≡ true) (ok.current c.0 c.1) m.1)) (omega (arith, lt, top))
+
+  keeps : Keeps s (handed_to turns) (History s turns)
+  keeps = record {
+    accepts = λ p payload ok. same p (record p { accepted = p.accepted ++ payload ∷ [] }) (λ old g. (grows s (handed_to turns) old).accepts p payload g) ((was.keeps s turns).accepts p payload ok.due) ok.current refl refl refl refl refl ok;
+    perceives = λ p e ok. same p (record p { perceived = put perceived_numbers e p.perceived }) (λ old g. (grows s (handed_to turns) old).perceives p e g) ((was.keeps s turns).perceives p e ok.due) ok.current refl refl refl refl refl ok;
+    hears = λ p c m e ok. same p (with_heard p c) (λ old g. (grows s (handed_to turns) old).hears p c m e g) ((was.keeps s turns).hears p c m e ok.due) (λ d there. one-more p (verdict-view s p c e) ok d (snoc-mem p.pool.heard c d there)) refl refl refl refl refl ok;
+    doubts = λ p conflicts ok. same p (record p { conflicts = conflicts }) (λ old g. (grows s (handed_to turns) old).doubts p conflicts g) ((was.keeps s turns).doubts p conflicts ok.due) ok.current refl refl refl refl refl ok;
+    signs = λ p signer st may none' ok. same p (signs s signer p st) (λ old g. (grows s (handed_to turns) old).signs p signer st may none' g) ((was.keeps s turns).signs p signer st may none' ok.due) (λ d there. own p signer st may ok d (is_some (heard_on p.pool p.me (slot_of st))) there) refl refl refl refl refl ok;
+    decides = λ p ok.
+        let grow : (old : Process) → HasGrown old p → HasGrown old (decide s p) = λ old g. (grows s (handed_to turns) old).decides p g in
+        record {
+          due = (was.keeps s turns).decides p ok.due;
+          current = ok.current;
+          number = ok.number;
+          possible = λ d e. elim (option_or-is p.decision (decided_by s p.pool) d e) [ inl before ↦ ok.possible d before | inr by ↦ (decided_by-is s p.pool d by).0 ];
+          decided = λ d e. certifies-on p (decide s p) grow p.pool.view (Ready p.pool.view.number d.0 d.1) (elim (option_or-is p.decision (decided_by s p.pool) d e) [ inl before ↦ ok.decided d before | inr by ↦ now p ok.due (Ready p.pool.view.number d.0 d.1) (decided_by-is s p.pool d by).1 ]);
+          so = view-on p (decide s p) grow p.pool.view p.delivered ok.so;
+          lefts = λ i l at. left-on p (decide s p) grow i l (ok.lefts i l at);
+          halts = λ e. halting-on p (decide s p) grow (ok.halts e);
+        };
+    delivers = λ p d member room e ok. delivering p d e room ok (λ old g. (grows s (handed_to turns) old).delivers p d member room e g) ((was.keeps s turns).delivers p d member room e ok.due);
+    installs = λ p d decided whole ok. leaving p d decided whole ok (λ old g. (grows s (handed_to turns) old).installs p d decided whole g) ((was.keeps s turns).installs p d decided whole ok.due);
+    halts = λ p d decided member ok. stopping p d decided ok (λ old g. (grows s (handed_to turns) old).halts p d decided member g) ((was.keeps s turns).halts p d decided member ok.due);
+  }
+    where
+      same : (p q : Process) → ((old : Process) → HasGrown old p → HasGrown old q) → EachDue s turns q → ((c : Claim) → Mem c q.pool.heard → view_of c.statement ≡ q.pool.view.number)
+          → p.left ≡ q.left → p.pool.view ≡ q.pool.view → p.delivered ≡ q.delivered → p.decision ≡ q.decision → p.halted ≡ q.halted → History s turns p → History s turns q
+      same p q grow due current left view delivered decision halted ok = record {
+        due = due;
+        current = current;
+        number = sym (ap (λ (v : View). v.number) view) ∙ ok.number ∙ ap length left;
+        possible = λ d e. subst (λ (v : View). is_possible (keyed s) v d.1.update ≡ true) view (ok.possible d (decision ∙ e));
+        decided = λ d e. subst (λ (v : View). Certifies s turns q v (Ready v.number d.0 d.1)) view (certifies-on p q grow p.pool.view (Ready p.pool.view.number d.0 d.1) (ok.decided d (decision ∙ e)));
+        so = subst (λ (v : View). ViewSo s turns q v q.delivered) view (subst (ViewSo s turns q p.pool.view) delivered (view-on p q grow p.pool.view p.delivered ok.so));
+        lefts = λ i l at. left-on p q grow i l (ok.lefts i l (ap (λ ls. slice_get ls i) left ∙ at));
+        halts = λ e. halting-on p q grow (ok.halts (halted ∙ e));
+      }
+
+      one-more : (p : Process) {c : Claim} → view_of c.statement ≡ p.pool.view.number → History s turns p → (d : Claim) → Mem d p.pool.heard ⊎ (c ≡ d) → view_of d.statement ≡ p.pool.view.number
+      one-more p e ok d (inl before) = ok.current d before
+      one-more p e ok d (inr is) = sym (ap (λ (c : Claim). view_of c.statement) is) ∙ e
+
+      own : (p : Process) (signer : Signer) (st : Statement) → may_sign s p st ≡ true → History s turns p → (d : Claim) (b : Bool) → Mem d (if b then p.pool.heard else p.pool.heard ++ own_claim s signer p st ∷ []) → view_of d.statement ≡ p.pool.view.number
+      own p signer st may ok d true m = ok.current d m
+      own p signer st may ok d false m = one-more p {c = own_claim s signer p st} (signing-view s p st may) ok d (snoc-mem p.pool.heard (own_claim s signer p st) d m)
+
+      delivering : (p : Process) (d : Delivered) → deliverable p ≡ Some d → length p.delivered < limit p → History s turns p → let q : Process = record p { delivered = p.delivered ++ d ∷ [] } in ((old : Process) → HasGrown old p → HasGrown old q) → EachDue s turns q → History s turns q
+      delivering p d e room ok grow due =
+          let q : Process = record p { delivered = p.delivered ++ d ∷ [] } in
+          let m = then-some (λ m. option_map (λ payload. record { message = m; payload = payload }) (payload_at p.pool m)) (place_at p.pool (length p.delivered)) d e in
+          let b = map-some (λ payload. record { message = m.0; payload = payload }) (payload_at p.pool m.0) d m.2 in
+          let placed = now p ok.due (Place p.pool.view.number (length p.delivered) m.0) (place-certified p.pool (length p.delivered) m.0 m.1) in
+          let paid = now p ok.due (Echo p.pool.view.number m.0 b.0) (payload-certified p.pool m.0 b.0 b.1) in
+          record {
+            due = due;
+            current = ok.current;
+            number = ok.number;
+            possible = ok.possible;
+            decided = λ d e. certifies-on p q grow p.pool.view _ (ok.decided d e);
+            so = record {
+              places = λ k d' at. certifies-on p q grow p.pool.view _ (elim (slice_get-snoc p.delivered d k d' at) [
+                | inl before ↦ ok.so.places k d' before
+                | inr end ↦ subst (λ k. Certifies s turns p p.pool.view (Place p.pool.view.number k d'.message)) (sym end.0) (subst (λ (d : Delivered). Certifies s turns p p.pool.view (Place p.pool.view.number (length p.delivered) d.message)) (b.2 ∙ end.1) placed)
+              ]);
+              payloads = λ k d' at. certifies-on p q grow p.pool.view _ (elim (slice_get-snoc p.delivered d k d' at) [
+                | inl before ↦ ok.so.payloads k d' before
+                | inr end ↦ subst (λ (d : Delivered). Certifies s turns p p.pool.view (Echo p.pool.view.number d.message d.payload)) (b.2 ∙ end.1) paid
+              ]);
+              reach = subst (Reach s turns q p.pool.view) (sym (length-snoc p.delivered d)) (reach-on p q grow p.pool.view (suc (length p.delivered)) (further p ok room));
+            };
+            lefts = λ i l at. left-on p q grow i l (ok.lefts i l at);
+            halts = λ e. halting-on p q grow (ok.halts e);
+          }
+
+      leaving : (p : Process) (d : ℕ × Value) → p.decision ≡ Some d → (is_member p.pool.view p.me ≡ true → length p.delivered ≡ d.1.cut) → History s turns p → ((old : Process) → HasGrown old p → HasGrown old (install d p)) → EachDue s turns (install d p) → History s turns (install d p)
+      leaving p d decided whole ok grow due =
+          let q : Process = install d p in
+          record {
+            due = due;
+            current = λ c m. absurd m;
+            number = (let longer = length-snoc p.left (last p d) in let before = ok.number in omega (arith, longer, before));
+            possible = λ d e. absurd cc;
+            decided = λ d e. absurd cc;
+            so = record { places = λ k d at. absurd cc; payloads = λ k d at. absurd cc; reach = none refl };
+            lefts = λ i l at. elim (slice_get-snoc p.left (last p d) i l at) [
+              | inl before ↦ left-on p q grow i l (ok.lefts i l before)
+              | inr end ↦ subst (λ i. LeftSo s turns q i l) (sym end.0) (subst (LeftSo s turns q (length p.left)) end.1 (record {
+                number = ok.number;
+                rank = d.0;
+                value = d.1;
+                possible = ok.possible d decided;
+                decided = certifies-on p q grow p.pool.view _ (ok.decided d decided);
+                next = slice_get-last (map (λ (l : Left). l.view) q.left) q.pool.view (suc (length p.left)) (sym (length-map (λ (l : Left). l.view) q.left ∙ length-snoc p.left (last p d)));
+                whole = whole;
+                so = view-on p q grow p.pool.view p.delivered ok.so;
+              }))
+            ];
+            halts = λ e. halting-on p q grow (ok.halts e);
+          }
+
+      stopping : (p : Process) (d : ℕ × Value) → p.decision ≡ Some d → History s turns p → let q : Process = record p { halted = nat_lt d.1.cut (length p.delivered) } in ((old : Process) → HasGrown old p → HasGrown old q) → EachDue s turns q → History s turns q
+      stopping p d decided ok grow due =
+          let q : Process = record p { halted = nat_lt d.1.cut (length p.delivered) } in
+          record {
+            due = due;
+            current = ok.current;
+            number = ok.number;
+            possible = ok.possible;
+            decided = λ d e. certifies-on p q grow p.pool.view _ (ok.decided d e);
+            so = view-on p q grow p.pool.view p.delivered ok.so;
+            lefts = λ i l at. left-on p q grow i l (ok.lefts i l at);
+            halts = λ e. record { view = p.pool.view; rank = d.0; value = d.1; decided = certifies-on p q grow p.pool.view _ (ok.decided d decided); length = length p.delivered; reach = reach-on p q grow p.pool.view (length p.delivered) ok.so.reach; beyond = ltb-true d.1.cut (length p.delivered) e };
+          }
+
+  pub history-keeps : Keeps s (handed_to turns) (History s turns)
+  history-keeps = keeps
+
+  pub history-start : (me : ℕ) → s.genesis.number ≡ 0 → History s turns (start s me)
+  history-start me first = record {
+    due = record { heard = λ c m. absurd m; dues = λ i st at. absurd cc };
+    current = λ c m. absurd m;
+    number = first;
+    possible = λ d e. absurd cc;
+    decided = λ d e. absurd cc;
+    so = record { places = λ k d at. absurd cc; payloads = λ k d at. absurd cc; reach = none refl };
+    lefts = λ i l at. absurd cc;
+    halts = λ e. absurd cc;
+  }

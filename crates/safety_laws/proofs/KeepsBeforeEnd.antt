@@ -1,0 +1,166 @@
+-- A Keep stands before the End of its view, and the End says more.
+use Rattle.std.proofs.Common.{◌≡◌, ◌⊎◌, inl, inr, ℕ, ◌<◌, ◌≤◌, List, [], ◌∷◌, ◌++◌, map, length, Some, Bool, true, false, refl, sym, ap, ◌∙◌, subst, arith, slice_get}
+use Rattle.std.specs.Prelude.{if◌then◌else◌, is_some, ◌&&◌, ◌==◌, not, ⊤, option_map}
+use Rattle.std.specs.List.{AllByRecursion}
+use Rattle.std.proofs.lemmas.Bool.{eqb-true, eq-eqb}
+use Rattle.byte_defs.specs.Choices.{is_some_and}
+use Rattle.message_defs.specs.Updates.{Value}
+use Rattle.message_defs.specs.Statements.{Message, Statement, Keep, End, EndAt, Claim, slot_of, view_of, same_slot}
+use Rattle.group_defs.specs.Process.{Setting, Process, start}
+use Rattle.group_defs.specs.Certified.{placed, is_signed, is_ended, heard_on}
+use Rattle.group_defs.specs.Due.{may_sign, same_message}
+use Rattle.group_defs.specs.Signing.{Signer, own_claim, own_heard, signs}
+use Rattle.group_defs.specs.Settle.{install}
+use Rattle.group_defs.specs.Events.{run}
+use Rattle.group_defs.specs.Family.{statements_of}
+use Rattle.group_defs.specs.Laws.{KeepsBeforeEnd}
+use Rattle.safety_laws.proofs.Lists.{and-first, and-second, Mem, slice_get-length, map-append, snoc-mem, Pairs, pairs-snoc, Compared, ahead, level, behind, compared}
+use Rattle.safety_laws.proofs.Growing.{is-same_slot, mem-find, placed-grows, with_more, some-and}
+use Rattle.safety_laws.proofs.Induction.{Keeps, run-keeps}
+
+-- ---- what a statement owes to an earlier one
+
+abbrev Owes : Statement → Statement → Type 0
+Owes (End x n) (Keep y k m) = x ≡ y → ⊥
+Owes (Keep x k m) (End y n) = x ≡ y → k < n
+Owes _ _ = ⊤
+
+record InOrder (p : Process) : Type 0 where
+  pub pairs : Pairs Owes (statements_of p)
+  pub signers : AllByRecursion (λ c. c.signer ≡ p.me) p.signed
+  pub views : (st : Statement) → Mem st (statements_of p) → view_of st ≤ p.pool.view.number
+  pub placed : (x k : ℕ) (m : Message) → Mem (Keep x k m) (statements_of p) → x ≡ p.pool.view.number → k < length (placed p.pool)
+
+-- ---- an End that was signed is found
+
+claim-of : (cs : List Claim) (me : ℕ) (st : Statement) → AllByRecursion (λ c. c.signer ≡ me) cs → Mem st (map (λ c. c.statement) cs) → (c : Claim) × Mem c cs × (c.statement ≡ st) × (c.signer ≡ me)
+claim-of [] me st own m = absurd m
+claim-of (c ∷ cs) me st own (inl e) = (c, inl refl, e, own.0)
+claim-of (c ∷ cs) me st own (inr m) = let r = claim-of cs me st own.1 m in (r.0, inr r.1, r.2, r.3)
+
+both-true : (a b : Bool) → a ≡ true → b ≡ true → (a && b) ≡ true
+both-true true b e f = f
+both-true false b e f = absurd cc
+
+pub is_signed-mem : (p : Process) (st : Statement) → AllByRecursion (λ c. c.signer ≡ p.me) p.signed → Mem st (statements_of p) → is_signed p (slot_of st) ≡ true
+is_signed-mem p st own m =
+    let c = claim-of p.signed p.me st own m in
+    let found = mem-find (λ d. (d.signer == p.me) && same_slot (slot_of d.statement) (slot_of st)) p.signed c.0 c.1
+    (both-true _ _ (eq-eqb _ _ c.3) (is-same_slot (slot_of c.0.statement) (slot_of st) (ap slot_of c.2))) in
+    ap (λ o. is_some (option_map (λ (d : Claim). d.statement) o)) found.1
+
+pub not-both : (b : Bool) → b ≡ true → not b ≡ true → ⊥
+not-both true e f = cc
+not-both false e f = cc
+
+-- ---- signing
+
+module _ (s : Setting) (p : Process) (signer : Signer) where
+  abbrev next : Statement → Process
+  next st = signs s signer p st
+
+  heard-grows : (c : Claim) → length (placed p.pool) ≤ length (placed (record { view = p.pool.view; heard = own_heard p c }))
+  heard-grows c = go (is_some (heard_on p.pool p.me (slot_of c.statement)))
+    where
+      go : (b : Bool) → length (placed p.pool) ≤ length (placed (record { view = p.pool.view; heard = if b then p.pool.heard else p.pool.heard ++ c ∷ [] }))
+      go true = omega arith
+      go false = placed-grows p.pool (c ∷ [])
+
+  current : (st : Statement) → may_sign s p st ≡ true → view_of st ≡ p.pool.view.number
+  current st may = eqb-true _ _ (and-second _ _ (and-first _ _ (and-first _ _ may)))
+
+  slice_get-some : (ms : List Message) (k : ℕ) (m : Message) → is_some_and (slice_get ms k) (same_message m) ≡ true → k < length ms
+  slice_get-some ms k m e = let found = some-and (slice_get ms k) (same_message m) e in slice_get-length ms k found.0 found.1
+
+  keep-placed : (y k : ℕ) (m : Message) → may_sign s p (Keep y k m) ≡ true → k < length (placed p.pool)
+  keep-placed y k m may = slice_get-some (placed p.pool) k m (and-first _ _ (and-second _ _ may))
+
+  owes : InOrder p → (a st : Statement) → may_sign s p st ≡ true → Mem a (statements_of p) → Owes a st
+  owes ok (End x n) (Keep y k m) may there = λ same.
+      not-both (is_ended p) (ap (λ v. is_signed p (EndAt v)) (sym (same ∙ current (Keep y k m) may)) ∙ is_signed-mem p (End x n) ok.signers there) (and-second _ _ (and-second _ _ may))
+  owes ok (Keep x k m) (End y n) may there = λ same.
+      let all : n ≡ length (placed p.pool) = eqb-true _ _ (and-second _ _ (and-second _ _ may)) in
+      let below = ok.placed x k m there (same ∙ current (End y n) may) in
+      omega (arith, all, below)
+  owes ok _ _ may there = tt
+
+  pub all-snoc : (cs : List Claim) (c : Claim) → AllByRecursion (λ c. c.signer ≡ p.me) cs → c.signer ≡ p.me → AllByRecursion (λ c. c.signer ≡ p.me) (cs ++ c ∷ [])
+  all-snoc [] c all e = (e, tt)
+  all-snoc (d ∷ ds) c all e = (all.0, all-snoc ds c all.1 e)
+
+  with-last : (st : Statement) → statements_of p ++ st ∷ [] ≡ statements_of (next st)
+  with-last st = sym (map-append (λ c. c.statement) p.signed (own_claim s signer p st ∷ []))
+
+  was : (st other : Statement) → Mem other (statements_of (next st)) → Mem other (statements_of p) ⊎ (st ≡ other)
+  was st other m = snoc-mem (statements_of p) st other (subst (Mem other) (sym (with-last st)) m)
+
+  signing-keeps : (st : Statement) → may_sign s p st ≡ true → InOrder p → InOrder (next st)
+  signing-keeps st may ok = record {
+    pairs = subst (Pairs Owes) (with-last st) (pairs-snoc Owes (statements_of p) st ok.pairs (λ a m. owes ok a st may m));
+    signers = all-snoc p.signed (own_claim s signer p st) ok.signers refl;
+    views = λ other m. below other (was st other m);
+    placed = λ x k m there e. let far = kept x k m e (was st (Keep x k m) there) in let more = heard-grows (own_claim s signer p st) in omega (arith, far, more);
+  }
+    where
+      below : (other : Statement) → Mem other (statements_of p) ⊎ (st ≡ other) → view_of other ≤ p.pool.view.number
+      below other (inl m) = ok.views other m
+      below other (inr e) = let now = current st may in let is = ap view_of e in omega (arith, now, is)
+
+      kept : (x k : ℕ) (m : Message) → x ≡ p.pool.view.number → Mem (Keep x k m) (statements_of p) ⊎ (st ≡ Keep x k m) → k < length (placed p.pool)
+      kept x k m e (inl there) = ok.placed x k m there e
+      kept x k m e (inr is) = keep-placed x k m (subst (λ st. may_sign s p st ≡ true) is may)
+
+-- ---- each run keeps it
+
+heard-keeps : (p : Process) (c : Claim) → InOrder p → InOrder (record p { pool = with_more p.pool (c ∷ []) })
+heard-keeps p c ok = record {
+  pairs = ok.pairs;
+  signers = ok.signers;
+  views = ok.views;
+  placed = λ x k m there e. let far = ok.placed x k m there e in let more = placed-grows p.pool (c ∷ []) in omega (arith, far, more);
+}
+
+-- the new view has a greater number than each statement
+installing-keeps : (p : Process) (d : ℕ × Value) → InOrder p → InOrder (install d p)
+installing-keeps p d ok = record {
+  pairs = ok.pairs;
+  signers = ok.signers;
+  views = λ st m. let below = ok.views st m in omega (arith, below);
+  placed = λ x k m there e. absurd (let below = ok.views (Keep x k m) there in omega (arith, below, e));
+}
+
+same-keeps : (p q : Process) → p.signed ≡ q.signed → p.me ≡ q.me → p.pool ≡ q.pool → InOrder p → InOrder q
+same-keeps p q signed me pool ok = record {
+  pairs = subst (λ cs. Pairs Owes (map (λ c. c.statement) cs)) signed ok.pairs;
+  signers = subst (λ n. AllByRecursion (λ c. c.signer ≡ n) q.signed) me (subst (λ cs. AllByRecursion (λ c. c.signer ≡ p.me) cs) signed ok.signers);
+  views = subst (λ h. (st : Statement) → Mem st (statements_of q) → view_of st ≤ h.view.number) pool (subst (λ cs. (st : Statement) → Mem st (map (λ c. c.statement) cs) → view_of st ≤ p.pool.view.number) signed ok.views);
+  placed = subst (λ h. (x k : ℕ) (m : Message) → Mem (Keep x k m) (statements_of q) → x ≡ h.view.number → k < length (placed h)) pool
+      (subst (λ cs. (x k : ℕ) (m : Message) → Mem (Keep x k m) (map (λ c. c.statement) cs) → x ≡ p.pool.view.number → k < length (placed p.pool)) signed ok.placed);
+}
+
+keeps : (s : Setting) (from : List Claim) → Keeps s from InOrder
+keeps s from = record {
+  accepts = λ p payload ok. same-keeps p _ refl refl refl ok;
+  perceives = λ p e ok. same-keeps p _ refl refl refl ok;
+  hears = λ p c m e ok. heard-keeps p c ok;
+  doubts = λ p conflicts ok. same-keeps p _ refl refl refl ok;
+  signs = λ p signer st may none ok. signing-keeps s p signer st may ok;
+  decides = λ p ok. same-keeps p _ refl refl refl ok;
+  delivers = λ p d member room e ok. same-keeps p _ refl refl refl ok;
+  installs = λ p d decided whole ok. installing-keeps p d ok;
+  halts = λ p d decided member ok. same-keeps p _ refl refl refl ok;
+}
+
+pub keeps_before_end : KeepsBeforeEnd
+keeps_before_end s me turns i j x k n m at_keep at_end = go (compared i j)
+  where
+    sts : List Statement
+    sts = statements_of (run s (start s me) turns)
+
+    order : InOrder (run s (start s me) turns)
+    order = run-keeps s InOrder turns (keeps s _) (start s me) (record { pairs = λ i j a b lt at. absurd cc; signers = tt; views = λ st m. absurd m; placed = λ x k m there. absurd there })
+
+    go : Compared i j → (i < j) × (k < n)
+    go (ahead first) = (first, order.pairs i j (Keep x k m) (End x n) first at_keep at_end refl)
+    go (level e) = absurd (let is : Some (Keep x k m) ≡ Some (End x n) = sym at_keep ∙ ap (slice_get sts) e ∙ at_end in cc)
+    go (behind last) = absurd (order.pairs j i (End x n) (Keep x k m) last at_end at_keep refl)

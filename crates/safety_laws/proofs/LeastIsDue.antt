@@ -1,0 +1,106 @@
+-- The statement that a kind gives next is due, and none of its kind that is due stands before it.
+use Rattle.std.proofs.Common.{◌≡◌, ◌⊎◌, inl, inr, ℕ, zero, suc, ◌<◌, ◌≤◌, List, [], ◌∷◌, Some, Bool, true, false, refl, subst, arith}
+use Rattle.std.specs.Prelude.{if◌then◌else◌, filter, ◌&&◌, ◌||◌, ◌==◌, nat_lt, Contains, slice_index_or, length}
+use Rattle.std.proofs.lemmas.Bool.{ltb-true, ltb-false, eqb-true, eq-eqb, le-ltb}
+use Rattle.byte_defs.specs.Orders.{numbers_below, least_from, least}
+use Rattle.group_defs.specs.Due.{may_sign, least_due, due_numbers, kind_of, offers, LeastIsDue}
+use Rattle.safety_laws.proofs.Lists.{Mem, mem-filter}
+use Rattle.safety_laws.proofs.Induction.{least_due-may}
+
+neither : (a b : Bool) → (a || b) ≡ false → (a ≡ false) × (b ≡ false)
+neither true b e = absurd cc
+neither false b e = (refl, e)
+
+no : (a b : Bool) → a ≡ false → b ≡ false → (a || b) ≡ false
+no true b e f = absurd cc
+no false b e f = f
+
+second : (a b : Bool) → a ≡ true → (a && b) ≡ false → b ≡ false
+second true b e f = f
+second false b e f = absurd cc
+
+not-and : (a b : Bool) → (a ≡ true → b ≡ false) → (a && b) ≡ false
+not-and true b h = h refl
+not-and false b h = refl
+
+pub below-trans : (a b c : List ℕ) → numbers_below a b ≡ false → numbers_below b c ≡ false → numbers_below a c ≡ false
+below-trans [] [] c e f = f
+below-trans [] (m ∷ ms) c e f = absurd cc
+below-trans (l ∷ ls) b [] e f = refl
+below-trans (l ∷ ls) [] (n ∷ ns) e f = absurd cc
+below-trans (l ∷ ls) (m ∷ ms) (n ∷ ns) e f =
+    let one = neither (nat_lt l m) ((l == m) && numbers_below ls ms) e in
+    let two = neither (nat_lt m n) ((m == n) && numbers_below ms ns) f in
+    let ml : m ≤ l = ltb-false l m one.0 in
+    let nm : n ≤ m = ltb-false m n two.0 in
+    no (nat_lt l n) ((l == n) && numbers_below ls ns) (le-ltb l n (omega (arith, ml, nm)))
+    (not-and (l == n) (numbers_below ls ns) (λ same. let is : l ≡ n = eqb-true l n same in
+    below-trans ls ms ns
+    (second (l == m) (numbers_below ls ms) (eq-eqb l m (omega (arith, ml, nm, is))) one.1)
+    (second (m == n) (numbers_below ms ns) (eq-eqb m n (omega (arith, ml, nm, is))) two.1)))
+
+either-true : (a b : Bool) → (a || b) ≡ true → (a ≡ true) ⊎ (b ≡ true)
+either-true true b e = inl refl
+either-true false b e = inr e
+
+and-parts : (a b : Bool) → (a && b) ≡ true → (a ≡ true) × (b ≡ true)
+and-parts true b e = (refl, e)
+and-parts false b e = absurd cc
+
+pub below-asym : (a b : List ℕ) → numbers_below a b ≡ true → numbers_below b a ≡ false
+below-asym [] [] e = absurd cc
+below-asym [] (n ∷ ns) e = refl
+below-asym (m ∷ ms) [] e = absurd cc
+below-asym (m ∷ ms) (n ∷ ns) e = elim (either-true (nat_lt m n) ((m == n) && numbers_below ms ns) e) [
+  | inl lt ↦ (let mn : m < n = ltb-true m n lt in no (nat_lt n m) ((n == m) && numbers_below ns ms) (le-ltb n m (omega (arith, mn))) (not-and (n == m) (numbers_below ns ms) (λ same. absurd (let is : n ≡ m = eqb-true n m same in omega (arith, mn, is)))))
+  | inr rest ↦ (let parts = and-parts (m == n) (numbers_below ms ns) rest in let is : m ≡ n = eqb-true m n parts.0 in
+      no (nat_lt n m) ((n == m) && numbers_below ns ms) (le-ltb n m (omega (arith, is))) (not-and (n == m) (numbers_below ns ms) (λ same. below-asym ms ns parts.1)))
+]
+
+module _ {A : Type 0} (key : A → List ℕ) where
+  NotBelow : A → A → Type 0
+  NotBelow z y = numbers_below (key z) (key y) ≡ false
+
+  chosen : (x a y : A) → NotBelow (if numbers_below (key x) (key a) then x else a) y → NotBelow x y × NotBelow a y
+  unfolding NotBelow
+  chosen x a y = go (numbers_below (key x) (key a)) refl
+    where
+      go : (b : Bool) → numbers_below (key x) (key a) ≡ b → numbers_below (key (if b then x else a)) (key y) ≡ false → (numbers_below (key x) (key y) ≡ false) × (numbers_below (key a) (key y) ≡ false)
+      go true e h = (h, below-trans (key a) (key x) (key y) (below-asym (key x) (key a) e) h)
+      go false e h = (below-trans (key x) (key a) (key y) e h, h)
+
+  start-least : (xs : List A) (a : A) → NotBelow a (least_from key a xs)
+  unfolding NotBelow
+  start-least [] a = self (key a)
+    where
+      self : (ns : List ℕ) → numbers_below ns ns ≡ false
+      self [] = refl
+      self (n ∷ ns) = no (nat_lt n n) ((n == n) && numbers_below ns ns) (le-ltb n n (omega arith)) (not-and (n == n) (numbers_below ns ns) (λ same. self ns))
+  start-least (x ∷ xs) a = unfold NotBelow in (chosen x a _ (start-least xs _)).1
+
+  rest-least : (xs : List A) (a z : A) → Mem z xs → NotBelow z (least_from key a xs)
+  rest-least [] a z m = absurd m
+  rest-least (x ∷ xs) a z (inl e) = subst (λ z. NotBelow z (least_from key a (x ∷ xs))) e (chosen x a _ (start-least xs _)).0
+  rest-least (x ∷ xs) a z (inr m) = rest-least xs _ z m
+
+  pub least-not-below : (xs : List A) (y z : A) → least key xs ≡ Some y → Mem z xs → numbers_below (key z) (key y) ≡ false
+  unfolding NotBelow
+  least-not-below [] y z e m = absurd m
+  least-not-below (x ∷ xs) y z e (inl same) = let is : least_from key x xs ≡ y = cc in subst (λ y. NotBelow z y) is (subst (λ z. NotBelow z (least_from key x xs)) same (start-least xs x))
+  least-not-below (x ∷ xs) y z e (inr m) = let is : least_from key x xs ≡ y = cc in subst (λ y. NotBelow z y) is (rest-least xs x z m)
+
+place-mem : {A : Type 0} (xs : List A) (y : A) (k : ℕ) → k < length xs → slice_index_or xs k y ≡ y → Mem y xs
+place-mem [] y k lt e = absurd (omega (arith, lt))
+place-mem (x ∷ xs) y zero lt e = inl e
+place-mem (x ∷ xs) y (suc k) lt e = inr (place-mem xs y k (omega (arith, lt)) e)
+
+pub Contains-mem : {A : Type 0} (xs : List A) (y : A) → Contains xs y → Mem y xs
+Contains-mem xs y c = place-mem xs y c.0 c.1 c.2
+
+pub least_is_due : LeastIsDue
+unfolding least_due
+least_is_due s p st e = (
+  least_due-may s p (kind_of st) st e,
+  λ other offered may. least-not-below (due_numbers p.pool.view) (filter (may_sign s p) (offers (kind_of st) s p)) st other e
+      (mem-filter (may_sign s p) (offers (kind_of st) s p) other (Contains-mem (offers (kind_of st) s p) other offered) may),
+)

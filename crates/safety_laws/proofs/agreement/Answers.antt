@@ -1,0 +1,5 @@
+use Rattle.safety_laws.proofs.Agreeing.{agreement}
+use Rattle.safety_laws.proofs.agreement.Goals as goal
+
+pub returns : goal.returns
+returns c = agreement
