@@ -11,3 +11,4 @@ pub mod Events
 pub mod Accounts
 pub mod Family
 pub mod Laws
+pub mod Echoing

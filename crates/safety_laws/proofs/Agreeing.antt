@@ -1,26 +1,25 @@
 -- All deliver the same in each view.
-use Rattle.std.proofs.Common.{◌≡◌, ◌⊎◌, inl, inr, ℕ, zero, suc, ◌+◌, ◌<◌, ◌≤◌, List, [], ◌∷◌, ◌++◌, map, length, Option, Some, None, Bool, true, false, refl, sym, ap, ◌∙◌, subst, arith, slice_get}
-use Rattle.std.specs.Prelude.{if◌then◌else◌, nat_lt, All, Contains, IsTrue, slice_index_or}
+use Rattle.std.proofs.Common.{◌≡◌, ◌⊎◌, inl, inr, ℕ, zero, suc, ◌+◌, ◌<◌, ◌≤◌, List, [], ◌∷◌, map, length, Some, Bool, true, false, refl, sym, ap, ◌∙◌, subst, arith, slice_get}
+use Rattle.std.specs.Prelude.{if◌then◌else◌, nat_lt, All, slice_index_or}
 use Rattle.std.proofs.lemmas.Bool.{ltb-true, ltb-false}
 use Rattle.group_defs.specs.Views.{View, is_member}
-use Rattle.message_defs.specs.Updates.{Value}
 use Rattle.message_defs.specs.Statements.{Message, Statement, Echo, Place, Ready, slot_of}
 use Rattle.group_defs.specs.Process.{Setting, Delivered, Left, Process, views_of, deliveries_of}
-use Rattle.group_defs.specs.Certified.{is_certified, payload_at, place_at}
+use Rattle.group_defs.specs.Certified.{is_certified, payload_at}
 use Rattle.group_defs.specs.Events.{Turn}
-use Rattle.group_defs.specs.Accounts.{Account, account_of, IsPrefixOf, HasLeft, delivered_in, longest, group_of, Agree, AgreesWith}
+use Rattle.group_defs.specs.Accounts.{Account, account_of, IsPrefixOf, delivered_in, longest, group_of, AgreesWith}
 use Rattle.group_defs.specs.Family.{Correct, Family, end_of, ends, accounts}
-use Rattle.group_defs.specs.Laws.{Premises, SettledSo, StoodSo, IsOneView, IsBacked, AgreeUpTo, AllAgreeUpTo, AgreeGoesOn, Agreement, OnePayload, OneMessage, OneSequence}
-use Rattle.safety_laws.proofs.Lists.{Mem, slice_get-mem, mem-slice_get, slice_get-length, Compared, ahead, level, behind, compared}
+use Rattle.group_defs.specs.Laws.{Premises, StoodSo, IsOneView, IsBacked, AgreeUpTo, AllAgreeUpTo, AgreeGoesOn, Agreement, OnePayload, OneMessage, OneSequence}
+use Rattle.group_defs.specs.Echoing.{OnePayloadAtTheEnd}
+use Rattle.safety_laws.proofs.Lists.{Mem, slice_get-mem, Compared, ahead, level, behind, compared}
 use Rattle.safety_laws.proofs.LeastIsDue.{Contains-mem}
 use Rattle.safety_laws.proofs.Offered.{mem-map, map-mem}
-use Rattle.safety_laws.proofs.OnePerSlot.{slice_get-index}
 use Rattle.safety_laws.proofs.Growing.{mem-append}
 use Rattle.safety_laws.proofs.OneContent.{All-mem, one_content}
 use Rattle.safety_laws.proofs.CertifiedIsBacked.{certified_is_backed}
 use Rattle.safety_laws.proofs.Installed.{index-mem, current-view}
-use Rattle.safety_laws.proofs.History.{Certifies, Reach, ViewSo, LeftSo, History, place-certified, payload-certified, slice_get-front, slice_get-last, length-map, length-snoc}
-use Rattle.safety_laws.proofs.Decisions.{backed, within, of-history, get-some, map-get, some-is, left-view, views-agree, one-view, in-ends, settled_stood}
+use Rattle.safety_laws.proofs.History.{Reach, ViewSo, History, place-certified, payload-certified, slice_get-front, slice_get-last, length-map, length-snoc}
+use Rattle.safety_laws.proofs.Decisions.{backed, within, of-history, get-some, map-get, some-is, left-view, views-agree, one-view, in-ends, settled_stood, end_stood}
 
 -- ---- local agreement
 
@@ -31,11 +30,9 @@ settled-view f q stood =
     let in_by : Mem q.pool.view (views_of stood.by) = subst (Mem q.pool.view) stood.grown.views.1 (mem-append (views_of q) stood.grown.views.0 q.pool.view (current-view q)) in
     (c.0, c.1, subst (λ (p : Process). Mem q.pool.view (views_of p)) (sym c.2) in_by)
 
-two-settled : (f : Family) (q q' : Process) → Premises f → SettledSo f q → SettledSo f q' → q.pool.view.number ≡ q'.pool.view.number
+two-stood : (f : Family) (q q' : Process) → Premises f → StoodSo f q → StoodSo f q' → q.pool.view.number ≡ q'.pool.view.number
     → (st st' : Statement) → is_certified q.pool st ≡ true → is_certified q'.pool st' ≡ true → slot_of st ≡ slot_of st' → st ≡ st'
-two-settled f q q' premises so so' number st st' e e' slot =
-    let stood = settled_stood f q so in
-    let stood' = settled_stood f q' so' in
+two-stood f q q' premises stood stood' number st st' e e' slot =
     let v : View = q.pool.view in
     let there = settled-view f q stood in
     let there' = settled-view f q' stood' in
@@ -44,17 +41,24 @@ two-settled f q q' premises so so' number st st' e e' slot =
     (All-mem (λ (p : Process). All (λ (w : View). w.number ≡ v.number → w ≡ v) (views_of p)) (ends f) (end_of f.setting there'.0) one.of_all (in-ends f there'.0 there'.1)) there'.2 (sym number) in
     one_content f v st st' one (certified_is_backed f v q st one stood refl e) (certified_is_backed f v q' st' one stood' is e') slot
 
-pub one_payload : OnePayload
-one_payload f q q' m b b' premises so so' number e e' =
-    let same = two-settled f q q' premises so so' number (Echo q.pool.view.number m b) (Echo q'.pool.view.number m b') (payload-certified q.pool m b e) (payload-certified q'.pool m b' e') (ap (λ x. slot_of (Echo x m b)) number) in
+one-payload : (f : Family) (q q' : Process) (m : Message) (b b' : List ℕ) → Premises f → StoodSo f q → StoodSo f q' → q.pool.view.number ≡ q'.pool.view.number
+    → payload_at q.pool m ≡ Some b → payload_at q'.pool m ≡ Some b' → b ≡ b'
+one-payload f q q' m b b' premises stood stood' number e e' =
+    let same = two-stood f q q' premises stood stood' number (Echo q.pool.view.number m b) (Echo q'.pool.view.number m b') (payload-certified q.pool m b e) (payload-certified q'.pool m b' e') (ap (λ x. slot_of (Echo x m b)) number) in
     payload-is same
   where
     payload-is : {x y : ℕ} → Echo x m b ≡ Echo y m b' → b ≡ b'
     payload-is e = cc
 
+pub one_payload : OnePayload
+one_payload f q q' m b b' premises so so' number e e' = one-payload f q q' m b b' premises (settled_stood f q so) (settled_stood f q' so') number e e'
+
+pub one_payload_at_the_end : OnePayloadAtTheEnd
+one_payload_at_the_end f p q m b c premises in_p in_q number e e' = one-payload f p q m b c premises (end_stood f p in_p) (end_stood f q in_q) number e e'
+
 pub one_message : OneMessage
 one_message f q q' k m m' premises so so' number e e' =
-    let same = two-settled f q q' premises so so' number (Place q.pool.view.number k m) (Place q'.pool.view.number k m') (place-certified q.pool k m e) (place-certified q'.pool k m' e') (ap (λ x. slot_of (Place x k m)) number) in
+    let same = two-stood f q q' premises (settled_stood f q so) (settled_stood f q' so') number (Place q.pool.view.number k m) (Place q'.pool.view.number k m') (place-certified q.pool k m e) (place-certified q'.pool k m' e') (ap (λ x. slot_of (Place x k m)) number) in
     message-is same
   where
     message-is : {x y : ℕ} → Place x k m ≡ Place y k m' → m ≡ m'

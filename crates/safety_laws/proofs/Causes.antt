@@ -1,6 +1,6 @@
 -- A view ends with an update that a correct member perceived in it.
-use Rattle.std.proofs.Common.{◌≡◌, ◌≢◌, ◌⊎◌, inl, inr, ℕ, zero, suc, ◌+◌, ◌<◌, ◌≤◌, List, [], ◌∷◌, map, length, Some, Bool, true, false, refl, sym, ap, ◌∙◌, subst, arith, slice_get}
-use Rattle.std.specs.Prelude.{◌&&◌, ◌||◌, ◌==◌, not, nat_lt, nat_le, count_by, filter, All, Contains, is_some, ◌-◌}
+use Rattle.std.proofs.Common.{◌≡◌, inl, ℕ, suc, ◌+◌, ◌<◌, ◌≤◌, List, [], ◌∷◌, map, length, Some, Bool, true, false, refl, sym, ap, ◌∙◌, subst, arith, slice_get}
+use Rattle.std.specs.Prelude.{◌&&◌, ◌||◌, ◌==◌, not, nat_le, count_by, filter, All, Contains, is_some, ◌-◌}
 use Rattle.std.specs.List.{list_any}
 use Rattle.std.proofs.lemmas.Bool.{eqb-true, ltb-true}
 use Rattle.std.proofs.lemmas.List.Sums.{length-filter}
@@ -8,16 +8,16 @@ use native.Mathlib.Decide.{ℕ_discrete}
 use Rattle.byte_defs.specs.Equality.{is_yes, pair_discrete}
 use Rattle.group_defs.specs.Views.{View, has, faulty, is_member, is_possible, next_view}
 use Rattle.message_defs.specs.Updates.{Update, Update-discrete, Value}
-use Rattle.message_defs.specs.Statements.{Statement, Notify, Ready, Claim}
-use Rattle.group_defs.specs.Process.{Setting, Pool, Left, Process, keyed, views_of}
+use Rattle.message_defs.specs.Statements.{Statement, Notify}
+use Rattle.group_defs.specs.Process.{Setting, Pool, Process, keyed, views_of}
 use Rattle.group_defs.specs.Certified.{says, backers, is_notified, place_at}
 use Rattle.group_defs.specs.Values.{ends, is_quorum, is_free}
-use Rattle.group_defs.specs.Due.{may_sign, is_due, is_perceived}
+use Rattle.group_defs.specs.Due.{is_due, is_perceived}
 use Rattle.group_defs.specs.Accounts.{Account, account_of, corrupt_in, longest, group_of, HasCause}
 use Rattle.group_defs.specs.Family.{Correct, Family, numbers, end_of, accounts}
 use Rattle.group_defs.specs.Family as family
-use Rattle.group_defs.specs.Laws.{Premises, StoodSo, IsOneView, IsBacked, may_back}
-use Rattle.safety_laws.proofs.Lists.{Mem, and-first, and-second, slice_get-mem, mem-slice_get, slice_get-length, mem-Contains}
+use Rattle.group_defs.specs.Laws.{Premises, StoodSo, IsOneView}
+use Rattle.safety_laws.proofs.Lists.{Mem, and-first, and-second, slice_get-mem, mem-Contains}
 use Rattle.safety_laws.proofs.LeastIsDue.{Contains-mem}
 use Rattle.safety_laws.proofs.Offered.{mem-map, map-mem, list_any-mem}
 use Rattle.safety_laws.proofs.Growing.{yes-is}
@@ -26,7 +26,6 @@ use Rattle.safety_laws.proofs.CertifiedIsBacked.{said-may_back}
 use Rattle.safety_laws.proofs.Moments.{due-at}
 use Rattle.safety_laws.proofs.ReadyFixesValue.{and-four}
 use Rattle.safety_laws.proofs.KeptBelowCut.{acked_was_free, signing-member}
-use Rattle.safety_laws.proofs.History.{LeftSo}
 use Rattle.safety_laws.proofs.Decisions.{backed, ready-ack, of-history, left-before, left-view, some-is, one-view}
 use Rattle.safety_laws.proofs.Agreeing.{longest-mem, account-of}
 

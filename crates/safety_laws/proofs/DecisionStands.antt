@@ -1,9 +1,9 @@
 -- While a decision stands, its Ready is certified among the heard claims.
-use Rattle.std.proofs.Common.{◌≡◌, ◌⊎◌, inl, inr, ℕ, List, [], ◌∷◌, Option, Some, None, true}
+use Rattle.std.proofs.Common.{◌≡◌, inl, inr, ℕ, List, [], ◌∷◌, Option, Some, None, true}
 use Rattle.message_defs.specs.Updates.{Value}
 use Rattle.message_defs.specs.Statements.{Ready, Claim}
 use Rattle.group_defs.specs.Process.{Setting, Process, start}
-use Rattle.group_defs.specs.Certified.{is_certified, heard_on}
+use Rattle.group_defs.specs.Certified.{is_certified}
 use Rattle.group_defs.specs.Settle.{decided_by}
 use Rattle.group_defs.specs.Laws.{EachRun}
 use Rattle.safety_laws.proofs.Growing.{is_certified-stays}
@@ -19,7 +19,7 @@ decision-keeps s from = record {
   perceives = λ p e ok. ok;
   hears = λ p c m e ok d decided. is_certified-stays p.pool (c ∷ []) (Ready p.pool.view.number d.0 d.1) (ok d decided);
   doubts = λ p conflicts ok. ok;
-  signs = λ p signer st may none ok d decided. absurd (none-some none decided);
+  signs = λ p signer st next none ok d decided. absurd (none-some none decided);
   decides = λ p ok d e. elim (option_or-is p.decision (decided_by s p.pool) d e) [ inl before ↦ ok d before | inr by ↦ (decided_by-is s p.pool d by).1 ];
   delivers = λ p d member room e ok. ok;
   installs = λ p d decided whole ok d' e. absurd cc;

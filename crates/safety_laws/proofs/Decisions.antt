@@ -1,30 +1,29 @@
 -- One value is decided, nobody delivers beyond its cut, and all have the same views.
-use Rattle.std.proofs.Common.{◌≡◌, ◌⊎◌, inl, inr, ℕ, zero, suc, ◌+◌, ◌-◌, ◌<◌, ◌≤◌, List, [], ◌∷◌, ◌++◌, map, length, Option, Some, None, Bool, true, false, refl, sym, ap, ◌∙◌, subst, arith, slice_get}
+use Rattle.std.proofs.Common.{◌≡◌, ◌⊎◌, inl, inr, ℕ, zero, suc, ◌-◌, ◌<◌, ◌≤◌, List, [], ◌∷◌, ◌++◌, map, length, Option, Some, None, Bool, true, false, refl, sym, ap, ◌∙◌, subst, arith, slice_get}
 use Rattle.std.specs.Prelude.{if◌then◌else◌, All, Contains, slice_index_or}
 use Rattle.group_defs.specs.Views.{View, is_member, next_view}
 use Rattle.message_defs.specs.Updates.{Value}
 use Rattle.message_defs.specs.Statements.{Statement, Keep, Ready, Ack, Claim}
 use Rattle.group_defs.specs.Process.{Setting, Delivered, Left, Process, start, views_of}
-use Rattle.group_defs.specs.Certified.{is_certified}
 use Rattle.group_defs.specs.Settle.{decide, deliver, deliverable, deliver_more, limit}
 use Rattle.group_defs.specs.Events.{Turn}
-use Rattle.group_defs.specs.Family.{Correct, Family, end_of, ends, handed, handed_to, statements_of}
-use Rattle.group_defs.specs.Laws.{HasGrown, IsFrom, IsView, Premises, StoodSo, SettledSo, SettledStood, IsViewOfAll, IsOneView, IsBacked, may_back, Decides, OneDecision, DeliversWithinCut, NobodyHalts, settlings, settlings_from}
+use Rattle.group_defs.specs.Family.{Correct, Family, end_of, ends, handed, handed_to}
+use Rattle.group_defs.specs.Laws.{HasGrown, IsFrom, IsView, Premises, StoodSo, SettledStood, IsOneView, IsBacked, may_back, Decides, OneDecision, DeliversWithinCut, NobodyHalts, settlings}
 use Rattle.safety_laws.proofs.Lists.{Mem, slice_get-mem, mem-slice_get, slice_get-length, slice_get-snoc, mem-Contains, Compared, ahead, level, behind, compared}
 use Rattle.safety_laws.proofs.LeastIsDue.{Contains-mem}
 use Rattle.safety_laws.proofs.Offered.{mem-map, map-mem}
 use Rattle.safety_laws.proofs.OnePerSlot.{slice_get-index}
 use Rattle.safety_laws.proofs.Growing.{mem-append}
-use Rattle.safety_laws.proofs.Induction.{Keeps, run-keeps, deliver-keeps}
+use Rattle.safety_laws.proofs.Induction.{run-keeps, deliver-keeps}
 use Rattle.safety_laws.proofs.EachWasDue.{EachDue, From, grown-self}
 use Rattle.safety_laws.proofs.EachWasDue as was
-use Rattle.safety_laws.proofs.OneContent.{All-mem, meeting, enough-of, signed-by, one_content}
+use Rattle.safety_laws.proofs.OneContent.{All-mem, meeting, enough-of, signed-by}
 use Rattle.safety_laws.proofs.CertifiedIsBacked.{certified_is_backed}
 use Rattle.safety_laws.proofs.Moments.{mem-flat_map, due-at}
 use Rattle.safety_laws.proofs.ReadyFixesValue.{ready-certified, ready_fixes_value}
 use Rattle.safety_laws.proofs.KeptBelowCut.{kept_below_cut}
 use Rattle.safety_laws.proofs.Installed.{index-mem, current-view, installed_is_view}
-use Rattle.safety_laws.proofs.History.{Certifies, Reach, none, kept, closed, ViewSo, LeftSo, Halting, History, history-keeps, history-start, grows, certifies-on, reach-on, length-map, length-snoc}
+use Rattle.safety_laws.proofs.History.{Certifies, Reach, none, kept, closed, History, history-keeps, history-start, grows, certifies-on, reach-on, length-map, length-snoc}
 use Rattle.safety_laws.proofs.Settlings.{reaches, goes-on, delivering-keeps}
 
 -- ---- in one view
@@ -205,12 +204,13 @@ module _ (f : Family) (c : Correct) (q : Process) (at : Mem q (settlings f c)) w
   due-there : EachDue f.setting c.turns q
   due-there = reaches f.setting (EachDue f.setting c.turns) c.turns (was.keeps f.setting c.turns) (start f.setting c.me) q (record { heard = λ c m. absurd m; dues = λ i st at. absurd cc }) at
 
-settled-stood' : (f : Family) (c : Correct) (q : Process) → Mem c f.correct → Mem q (settlings f c) → StoodSo f q
-settled-stood' f c q m at = record {
+-- what it has heard was handed over or is own
+stands-so : (f : Family) (c : Correct) (q : Process) → Mem c f.correct → HasGrown q (end_of f.setting c) → EachDue f.setting c.turns q → StoodSo f q
+stands-so f c q m grown due = record {
   by = end_of f.setting c;
   correct = mem-Contains (ends f) (end_of f.setting c) (in-ends f c m);
-  grown = from-settling f c q at q (grown-self q);
-  heard = λ k d lt. wider f c m q.signed _ (now' _ ((due-there f c q at).heard _ (slice_get-mem q.pool.heard k _ (slice_get-index q.pool.heard k d lt))));
+  grown = grown;
+  heard = λ k d lt. wider f c m q.signed _ (now' _ (due.heard _ (slice_get-mem q.pool.heard k _ (slice_get-index q.pool.heard k d lt))));
 }
   where
     now' : (d : Claim) → From f.setting (handed_to c.turns) q.signed d → IsFrom f.setting (handed_to c.turns) q.signed d
@@ -218,7 +218,16 @@ settled-stood' f c q m at = record {
     now' d (inr own) = inr (mem-Contains q.signed d own)
 
 pub settled_stood : SettledStood
-settled_stood f q so = settled-stood' f so.0 q (Contains-mem f.correct so.0 so.1) (Contains-mem (settlings f so.0) q so.2)
+settled_stood f q so =
+    let m = Contains-mem f.correct so.0 so.1 in
+    let at = Contains-mem (settlings f so.0) q so.2 in
+    stands-so f so.0 q m (from-settling f so.0 q at q (grown-self q)) (due-there f so.0 q at)
+
+pub end_stood : (f : Family) (p : Process) → Contains (ends f) p → StoodSo f p
+end_stood f p there =
+    let c = map-mem (end_of f.setting) f.correct p (Contains-mem (ends f) p there) in
+    subst (StoodSo f) c.2 (stands-so f c.0 (end_of f.setting c.0) c.1 (grown-self (end_of f.setting c.0))
+    (run-keeps f.setting (EachDue f.setting c.0.turns) c.0.turns (was.keeps f.setting c.0.turns) (start f.setting c.0.me) (record { heard = λ c m. absurd m; dues = λ i st at. absurd cc })))
 
 -- the Ready behind a decision
 decided-backed : (f : Family) (v : View) (q : Process) (w : Value) → IsOneView f v → Decides f v q w → (r : ℕ) × IsBacked f v (Ready v.number r w)

@@ -172,7 +172,7 @@ module _ (s : Setting) (turns : List Turn) where
     perceives = λ p e ok. record { heard = ok.heard; dues = λ i st at. goes-on p _ (λ old g. perceiving old p g e) i st (ok.dues i st at) };
     hears = λ p c m e ok. record { heard = λ d there. either p c m e ok d (snoc-mem p.pool.heard c d there); dues = λ i st at. goes-on p _ (λ old g. otherwise old p g _ refl refl refl refl refl refl) i st (ok.dues i st at) };
     doubts = λ p conflicts ok. record { heard = ok.heard; dues = λ i st at. goes-on p _ (λ old g. otherwise old p g _ refl refl refl refl refl refl) i st (ok.dues i st at) };
-    signs = λ p signer st may none ok. signing-keeps p signer st may ok;
+    signs = λ p signer st next none ok. signing-keeps p signer st next.may ok;
     decides = λ p ok. record { heard = ok.heard; dues = λ i st at. goes-on p _ (λ old g. otherwise old p g _ refl refl refl refl refl refl) i st (ok.dues i st at) };
     delivers = λ p d member room e ok. record { heard = ok.heard; dues = λ i st at. goes-on p _ (λ old g. otherwise old p g _ refl refl refl refl refl refl) i st (ok.dues i st at) };
     installs = λ p d decided whole ok. record { heard = λ c m. absurd m; dues = λ i st at. goes-on p _ (λ old g. installing old p g d) i st (ok.dues i st at) };

@@ -1,6 +1,6 @@
 -- The group after the first events of a schedule is a front of the group at its end.
 use Rattle.std.proofs.Common.{◌≡◌, inl, inr, ℕ, zero, suc, ◌+◌, ◌<◌, ◌≤◌, List, [], ◌∷◌, ◌++◌, map, length, Some, true, refl, sym, ap, ◌∙◌, subst, arith, slice_get}
-use Rattle.std.specs.Prelude.{All, slice_index_or}
+use Rattle.std.specs.Prelude.{slice_index_or}
 use Rattle.std.specs.List.{AllZip}
 use Rattle.group_defs.specs.Views.{View, is_member}
 use Rattle.message_defs.specs.Statements.{Claim}
@@ -8,11 +8,11 @@ use Rattle.group_defs.specs.Process.{Setting, Delivered, Left, Process, start, v
 use Rattle.group_defs.specs.Events.{Turn, after, run}
 use Rattle.group_defs.specs.Accounts.{Account, account_of, IsPrefixOf, HasLeft, delivered_in, longest, group_of, AgreesWith}
 use Rattle.group_defs.specs.Family.{Correct, Family, end_of, ends, accounts, handed_to}
-use Rattle.group_defs.specs.Laws.{Premises, HasGrown, StandsBefore, IsFrontOf, GrowsTo, Growth}
-use Rattle.safety_laws.proofs.Lists.{Mem, slice_get-mem, map-append}
+use Rattle.group_defs.specs.Laws.{Premises, HasGrown, StandsBefore, IsFrontOf, Growth}
+use Rattle.safety_laws.proofs.Lists.{Mem, map-append}
 use Rattle.safety_laws.proofs.Offered.{mem-map, map-mem}
 use Rattle.safety_laws.proofs.OneContent.{All-mem}
-use Rattle.safety_laws.proofs.EachWasDue.{grown-self, prefix-self, prefix-more, append-append}
+use Rattle.safety_laws.proofs.EachWasDue.{grown-self, prefix-self, append-append}
 use Rattle.safety_laws.proofs.Induction.{Keeps, run-keeps}
 use Rattle.safety_laws.proofs.Installed.{index-mem}
 use Rattle.safety_laws.proofs.History.{grows, slice_get-front, length-map, length-snoc}
@@ -64,7 +64,7 @@ extends s from old = record {
   perceives = λ p e g. g;
   hears = λ p c m e g. g;
   doubts = λ p conflicts g. g;
-  signs = λ p signer st may none g. g;
+  signs = λ p signer st next none g. g;
   decides = λ p g. g;
   delivers = λ p d member room e g i. prefix-trans _ (slice_index_or (deliveries_of p) i []) _ (g i) (last-longer (map (λ (l : Left). l.delivered) p.left) p.delivered (p.delivered ++ d ∷ []) (d ∷ [], refl) i);
   installs = λ p d decided whole g i. prefix-trans _ (slice_index_or (deliveries_of p) i []) _ (g i)

@@ -1,28 +1,28 @@
 -- What a process has seen certified: of what it delivered, of what it decided, of the views that it left.
-use Rattle.std.proofs.Common.{◌≡◌, ◌≢◌, ◌⊎◌, inl, inr, ℕ, zero, suc, ◌+◌, ◌-◌, ◌<◌, ◌≤◌, max, List, [], ◌∷◌, ◌++◌, map, length, Option, Some, None, Bool, true, false, refl, sym, ap, ◌∙◌, subst, arith, slice_get}
-use Rattle.std.specs.Prelude.{if◌then◌else◌, ◌&&◌, ◌==◌, not, nat_lt, filter, filter_map, fold, All, Contains, is_some, unwrap_or, option_map, option_and_then, slice_index_or}
-use Rattle.std.specs.Option.{option_or, option_map_or}
+use Rattle.std.proofs.Common.{◌≡◌, ◌⊎◌, inl, inr, ℕ, zero, suc, ◌+◌, ◌<◌, ◌≤◌, max, List, [], ◌∷◌, ◌++◌, map, length, Option, Some, None, Bool, true, false, refl, sym, ap, ◌∙◌, subst, arith, slice_get}
+use Rattle.std.specs.Prelude.{if◌then◌else◌, not, nat_lt, filter, filter_map, fold, All, is_some, unwrap_or, option_map}
+use Rattle.std.specs.Option.{option_map_or}
 use Rattle.std.proofs.lemmas.Bool.{eqb-true, ltb-true, ltb-false}
 use Rattle.byte_defs.specs.Choices.{first_that_holds}
 use Rattle.byte_defs.specs.Orders.{put}
 use Rattle.group_defs.specs.Hearing.{Old, Early, Stranger, OutOfWindow, Known, Unsigned, Conflict, Heard, verdict, is_valid, is_strange, is_beyond, with_heard}
 use Rattle.group_defs.specs.Views.{View, is_member, next_view, is_possible}
-use Rattle.message_defs.specs.Updates.{Update, Value}
+use Rattle.message_defs.specs.Updates.{Value}
 use Rattle.message_defs.specs.Statements.{Message, Statement, Echo, Place, Keep, Ready, Slot, EchoAt, PlaceAt, Claim, slot_of, view_of, message_of, payload_of, same_slot}
 use Rattle.group_defs.specs.Process.{Setting, Pool, Delivered, Left, Process, start, keyed, views_of}
-use Rattle.group_defs.specs.Certified.{heard_on, says, is_certified, certified_on, place_at, payload_at, place_kept, fixed_length, certificate, is_signed}
-use Rattle.group_defs.specs.Due.{may_sign, is_due}
+use Rattle.group_defs.specs.Certified.{heard_on, says, is_certified, certified_on, place_at, payload_at, place_kept, fixed_length, certificate}
+use Rattle.group_defs.specs.Due.{may_sign}
 use Rattle.group_defs.specs.Signing.{Signer, own_claim, signs}
 use Rattle.group_defs.specs.Settle.{decide, decided_by, limit, deliverable, install}
 use Rattle.group_defs.specs.Events.{Turn, perceived_numbers}
 use Rattle.group_defs.specs.Family.{handed_to}
 use Rattle.group_defs.specs.Laws.{HasGrown, IsFrom}
-use Rattle.safety_laws.proofs.Lists.{Mem, and-first, and-second, mem-Contains, slice_get-mem, slice_get-snoc, filter-mem, filter_map-mem, snoc-mem, map-append}
+use Rattle.safety_laws.proofs.Lists.{Mem, and-first, and-second, mem-Contains, slice_get-mem, slice_get-snoc, filter-mem, filter_map-mem, snoc-mem}
 use Rattle.safety_laws.proofs.OnePerSlot.{slice_get-index}
 use Rattle.safety_laws.proofs.Growing.{find-is, map-some, then-some, same_slot-is}
 use Rattle.safety_laws.proofs.EachWasDue.{EachDue, From, grown-self, accepting, perceiving, signing, installing, otherwise}
 use Rattle.safety_laws.proofs.EachWasDue as was
-use Rattle.safety_laws.proofs.Installed.{IsDecided, decided_by-is, option_or-is, some-same, mem-behind}
+use Rattle.safety_laws.proofs.Installed.{decided_by-is, option_or-is, some-same}
 use Rattle.safety_laws.proofs.Induction.{Keeps}
 
 -- ---- what stands certified
@@ -83,7 +83,7 @@ grows s from old = record {
   perceives = λ p e g. perceiving old p g e;
   hears = λ p c m e g. otherwise old p g _ refl refl refl refl refl refl;
   doubts = λ p conflicts g. otherwise old p g _ refl refl refl refl refl refl;
-  signs = λ p signer st may none g. signing old p g s signer st;
+  signs = λ p signer st next none g. signing old p g s signer st;
   decides = λ p g. otherwise old p g _ refl refl refl refl refl refl;
   delivers = λ p d member room e g. otherwise old p g _ refl refl refl refl refl refl;
   installs = λ p d decided whole g. installing old p g d;
@@ -244,7 +244,7 @@ module _ (s : Setting) (turns : List Turn) where
     perceives = λ p e ok. same p (record p { perceived = put perceived_numbers e p.perceived }) (λ old g. (grows s (handed_to turns) old).perceives p e g) ((was.keeps s turns).perceives p e ok.due) ok.current refl refl refl refl refl ok;
     hears = λ p c m e ok. same p (with_heard p c) (λ old g. (grows s (handed_to turns) old).hears p c m e g) ((was.keeps s turns).hears p c m e ok.due) (λ d there. one-more p (verdict-view s p c e) ok d (snoc-mem p.pool.heard c d there)) refl refl refl refl refl ok;
     doubts = λ p conflicts ok. same p (record p { conflicts = conflicts }) (λ old g. (grows s (handed_to turns) old).doubts p conflicts g) ((was.keeps s turns).doubts p conflicts ok.due) ok.current refl refl refl refl refl ok;
-    signs = λ p signer st may none' ok. same p (signs s signer p st) (λ old g. (grows s (handed_to turns) old).signs p signer st may none' g) ((was.keeps s turns).signs p signer st may none' ok.due) (λ d there. own p signer st may ok d (is_some (heard_on p.pool p.me (slot_of st))) there) refl refl refl refl refl ok;
+    signs = λ p signer st next none' ok. same p (signs s signer p st) (λ old g. (grows s (handed_to turns) old).signs p signer st next none' g) ((was.keeps s turns).signs p signer st next none' ok.due) (λ d there. own p signer st next.may ok d (is_some (heard_on p.pool p.me (slot_of st))) there) refl refl refl refl refl ok;
     decides = λ p ok.
         let grow : (old : Process) → HasGrown old p → HasGrown old (decide s p) = λ old g. (grows s (handed_to turns) old).decides p g in
         record {

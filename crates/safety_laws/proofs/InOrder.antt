@@ -1,6 +1,6 @@
 -- In each view the messages of a sender stand in the order of their numbers, each once.
-use Rattle.std.proofs.Common.{◌≡◌, ◌≢◌, ◌⊎◌, inl, inr, ℕ, zero, suc, ◌+◌, ◌<◌, ◌≤◌, List, [], ◌∷◌, map, length, Option, Some, None, Bool, true, false, refl, sym, ap, ◌∙◌, subst, arith, slice_get}
-use Rattle.std.specs.Prelude.{if◌then◌else◌, ◌&&◌, ◌==◌, not, nat_le, take, count_by, filter, All, AllPairs, is_some, slice_index_or}
+use Rattle.std.proofs.Common.{◌≡◌, ◌≢◌, inl, ℕ, zero, suc, ◌+◌, ◌<◌, ◌≤◌, List, [], ◌∷◌, map, length, Option, Some, None, Bool, true, false, refl, sym, ap, ◌∙◌, subst, arith, slice_get}
+use Rattle.std.specs.Prelude.{if◌then◌else◌, ◌&&◌, ◌==◌, not, nat_le, take, filter, AllPairs, is_some, slice_index_or}
 use Rattle.std.specs.List.{range_with_len}
 use Rattle.std.proofs.lemmas.Bool.{eqb-true, eq-eqb, leb-true}
 use Rattle.std.proofs.lemmas.List.Sums.{length-filter}
@@ -9,7 +9,7 @@ use Rattle.message_defs.specs.Statements.{Message, Statement, Order, Place}
 use Rattle.group_defs.specs.Process.{Setting, Pool, Delivered, Process}
 use Rattle.group_defs.specs.Certified.{is_certified, place_at, placed_from, placed, named, payload_at, is_ended}
 use Rattle.group_defs.specs.Due.{may_sign, is_due, rank_says}
-use Rattle.group_defs.specs.Accounts.{Account, account_of, delivered_in, longest, group_of, of_sender}
+use Rattle.group_defs.specs.Accounts.{account_of, delivered_in, longest, group_of, of_sender}
 use Rattle.group_defs.specs.Family.{Correct, Family, end_of, accounts}
 use Rattle.group_defs.specs.Laws.{Premises, IsOneView, IsBacked, may_back}
 use Rattle.safety_laws.proofs.Lists.{Mem, and-first, and-second, slice_get-mem, slice_get-length}
@@ -19,7 +19,7 @@ use Rattle.safety_laws.proofs.OneContent.{meeting, enough-of, signed-by, one_con
 use Rattle.safety_laws.proofs.CertifiedIsBacked.{certified_is_backed}
 use Rattle.safety_laws.proofs.Moments.{due-at}
 use Rattle.safety_laws.proofs.History.{ViewSo, place-certified}
-use Rattle.safety_laws.proofs.Decisions.{backed, of-history, one-view, get-map, map-get, get-some}
+use Rattle.safety_laws.proofs.Decisions.{backed, of-history, one-view, get-map}
 use Rattle.safety_laws.proofs.Agreeing.{Part, nothing, something, part, longest-mem, account-of, equal-by}
 
 -- ---- lists whose messages are numbered

@@ -2,7 +2,6 @@
 use Rattle.std.proofs.Common.{◌≡◌, ℕ, zero, suc, ◌+◌, ◌-◌, ◌<◌, ◌≤◌, List, [], ◌∷◌, ◌++◌, Option, None, Some, Bool, true, false, refl, sym, ap, length, subst, arith, inl, inr}
 use Rattle.std.specs.Prelude.{if◌then◌else◌, ◌==◌, nat_lt, nat_le, filter}
 use Rattle.std.proofs.lemmas.Bool.{leb-true, leb-false, eqb-true}
-use Rattle.std.specs.List.{AllByRecursion}
 use Rattle.byte_defs.specs.Orders.{least_from, least, numbers_below, put}
 use Rattle.message_defs.specs.Updates.{Update, Value}
 use Rattle.group_defs.specs.Views.{is_member}
@@ -13,36 +12,41 @@ use Rattle.group_defs.specs.Hearing.{Verdict, Old, Early, Stranger, OutOfWindow,
 use Rattle.group_defs.specs.Signing.{Signer, Signing, signs, sign_kind, sign_kinds, sign_all}
 use Rattle.group_defs.specs.Settle.{decide, limit, deliverable, deliver_more, deliver, install, leave_by, leave, settle}
 use Rattle.group_defs.specs.Family.{claims_in, handed_to}
-use Rattle.safety_laws.proofs.Lists.{Mem}
+use Rattle.safety_laws.proofs.Lists.{Mem, filter-mem}
 use Rattle.message_defs.specs.Claims.{Claims, Wants, Faulty}
 use Rattle.group_defs.specs.Events.{Event, Submit, Hand, Suspect, Join, RenewView, Tick, Turn, EventFault, refusal, perceived_numbers, perceives, take_in, signing, after, run}
 
 -- ---- the least statement that is due may be signed
 
-filter-passes : {A : Type 0} (test : A → Bool) (xs : List A) → AllByRecursion (λ x. test x ≡ true) (filter test xs)
-filter-passes test [] = tt
-filter-passes test (x ∷ xs) = go (test x) refl (filter-passes test xs)
-  where
-    go : (b : Bool) → test x ≡ b → AllByRecursion (λ x. test x ≡ true) (filter test xs) → AllByRecursion (λ x. test x ≡ true) (if b then x ∷ filter test xs else filter test xs)
-    go true e all = (e, all)
-    go false e all = all
-
-module _ {A : Type 0} (key : A → List ℕ) (P : A → Type 0) where
-  least_from-of : (a : A) (xs : List A) → P a → AllByRecursion P xs → P (least_from key a xs)
-  least_from-of a [] here all = here
-  least_from-of a (x ∷ xs) here all = least_from-of (if numbers_below (key x) (key a) then x else a) xs (pick (numbers_below (key x) (key a))) all.1
+module _ {A : Type 0} (key : A → List ℕ) where
+  least_from-mem : (a : A) (xs : List A) → Mem (least_from key a xs) (a ∷ xs)
+  least_from-mem a [] = inl refl
+  least_from-mem a (x ∷ xs) = go (numbers_below (key x) (key a)) (λ b. least_from-mem b xs)
     where
-      pick : (b : Bool) → P (if b then x else a)
-      pick true = all.0
-      pick false = here
+      go : (b : Bool) → ((c : A) → Mem (least_from key c xs) (c ∷ xs)) → Mem (least_from key (if b then x else a) xs) (a ∷ x ∷ xs)
+      go true rest = inr (rest x)
+      go false rest = elim (rest a) [ inl e ↦ inl e | inr m ↦ inr (inr m) ]
 
-  least-of : (xs : List A) (y : A) → AllByRecursion P xs → least key xs ≡ Some y → P y
-  least-of [] y all e = absurd cc
-  least-of (x ∷ xs) y all e = let is : least_from key x xs ≡ y = cc in subst P is (least_from-of x xs all.0 all.1)
+  least-mem : (xs : List A) (y : A) → least key xs ≡ Some y → Mem y xs
+  least-mem [] y e = absurd cc
+  least-mem (x ∷ xs) y e = let is : least_from key x xs ≡ y = cc in subst (λ y. Mem y (x ∷ xs)) is (least_from-mem x xs)
+
+-- a kind that the setting signs gives it next
+pub record IsNext (s : Setting) (p : Process) (st : Statement) : Type 0 where
+  pub kind : Kind
+  pub signed : Mem kind s.signs
+  pub offered : Mem st (offers kind s p)
+  pub may : may_sign s p st ≡ true
+
+least_due-passes : (s : Setting) (p : Process) (kind : Kind) (st : Statement) → least_due s p kind ≡ Some st → Mem st (filter (may_sign s p) (offers kind s p))
+unfolding least_due
+least_due-passes s p kind st e = least-mem (due_numbers p.pool.view) (filter (may_sign s p) (offers kind s p)) st e
 
 pub least_due-may : (s : Setting) (p : Process) (kind : Kind) (st : Statement) → least_due s p kind ≡ Some st → may_sign s p st ≡ true
-unfolding least_due
-least_due-may s p kind st e = least-of (due_numbers p.pool.view) (λ st. may_sign s p st ≡ true) (filter (may_sign s p) (offers kind s p)) st (filter-passes (may_sign s p) (offers kind s p)) e
+least_due-may s p kind st e = (filter-mem (may_sign s p) (offers kind s p) st (least_due-passes s p kind st e)).1
+
+is-next : (s : Setting) (p : Process) (kind : Kind) (st : Statement) → Mem kind s.signs → least_due s p kind ≡ Some st → IsNext s p st
+is-next s p kind st m e = let passes = filter-mem (may_sign s p) (offers kind s p) st (least_due-passes s p kind st e) in record { kind = kind; signed = m; offered = passes.0; may = passes.1 }
 
 -- ---- the changes
 
@@ -52,7 +56,7 @@ pub record Keeps (s : Setting) (from : List Claim) (P : Process → Type 0) : Ty
   pub perceives : (p : Process) (e : ℕ × Update) → P p → P (record p { perceived = put perceived_numbers e p.perceived })
   pub hears : (p : Process) (c : Claim) → Mem c from → verdict s p c ≡ Heard → P p → P (with_heard p c)
   pub doubts : (p : Process) (conflicts : List (Claim × Claim)) → P p → P (record p { conflicts = conflicts })
-  pub signs : (p : Process) (signer : Signer) (st : Statement) → may_sign s p st ≡ true → p.decision ≡ None → P p → P (signs s signer p st)
+  pub signs : (p : Process) (signer : Signer) (st : Statement) → IsNext s p st → p.decision ≡ None → P p → P (signs s signer p st)
   pub decides : (p : Process) → P p → P (decide s p)
   pub delivers : (p : Process) (d : Delivered) → is_member p.pool.view p.me ≡ true → length p.delivered < limit p → deliverable p ≡ Some d → P p → P (record p { delivered = p.delivered ++ d ∷ [] })
   pub installs : (p : Process) (d : ℕ × Value) → p.decision ≡ Some d → (is_member p.pool.view p.me ≡ true → length p.delivered ≡ d.1.cut) → P p → P (install d p)
@@ -81,23 +85,23 @@ module _ (s : Setting) (from : List Claim) (P : Process → Type 0) (k : Keeps s
   Undecided : Process → Type 0
   Undecided p = P p × (p.decision ≡ None)
 
-  sign_kind-keeps : (signer : Signer) (kind : Kind) (left : ℕ) (p : Process) → Undecided p → Undecided (sign_kind s signer kind left p).now
+  sign_kind-keeps : (signer : Signer) (kind : Kind) → Mem kind s.signs → (left : ℕ) (p : Process) → Undecided p → Undecided (sign_kind s signer kind left p).now
   unfolding sign_kind Undecided
-  sign_kind-keeps signer kind zero p ok = ok
-  sign_kind-keeps signer kind (suc left) p ok = go (least_due s p kind) refl (λ st may. sign_kind-keeps signer kind left (signs s signer p st) (k.signs p signer st may ok.1 ok.0, ok.1))
+  sign_kind-keeps signer kind m zero p ok = ok
+  sign_kind-keeps signer kind m (suc left) p ok = go (least_due s p kind) refl (λ st next. sign_kind-keeps signer kind m left (signs s signer p st) (k.signs p signer st next ok.1 ok.0, ok.1))
     where
-      go : (o : Option Statement) → least_due s p kind ≡ o → ((st : Statement) → may_sign s p st ≡ true → Undecided (sign_kind s signer kind left (signs s signer p st)).now)
+      go : (o : Option Statement) → least_due s p kind ≡ o → ((st : Statement) → IsNext s p st → Undecided (sign_kind s signer kind left (signs s signer p st)).now)
           → let it : Signing = elim o [ None ↦ record { now = p; left = suc left; spent = false } | Some st ↦ sign_kind s signer kind left (signs s signer p st) ] in Undecided it.now
       go None e more = ok
-      go (Some st) e more = more st (least_due-may s p kind st e)
+      go (Some st) e more = more st (is-next s p kind st m e)
 
-  sign_kinds-keeps : (signer : Signer) (ks : List Kind) (left : ℕ) (p : Process) → Undecided p → Undecided (sign_kinds s signer ks left p).now
+  sign_kinds-keeps : (signer : Signer) (ks : List Kind) → ((kind : Kind) → Mem kind ks → Mem kind s.signs) → (left : ℕ) (p : Process) → Undecided p → Undecided (sign_kinds s signer ks left p).now
   unfolding sign_kinds
-  sign_kinds-keeps signer [] left p ok = ok
-  sign_kinds-keeps signer (kind ∷ ks) left p ok =
+  sign_kinds-keeps signer [] are left p ok = ok
+  sign_kinds-keeps signer (kind ∷ ks) are left p ok =
       let one : Signing = sign_kind s signer kind left p in
-      let kept : Undecided one.now = sign_kind-keeps signer kind left p ok in
-      go one.spent one kept (sign_kinds-keeps signer ks one.left one.now kept)
+      let kept : Undecided one.now = sign_kind-keeps signer kind (are kind (inl refl)) left p ok in
+      go one.spent one kept (sign_kinds-keeps signer ks (λ other m. are other (inr m)) one.left one.now kept)
     where
       go : (b : Bool) (one : Signing) → Undecided one.now → Undecided (sign_kinds s signer ks one.left one.now).now → let it : Signing = elim b [ true ↦ one | false ↦ sign_kinds s signer ks one.left one.now ] in Undecided it.now
       go true one here there = here
@@ -108,7 +112,7 @@ module _ (s : Setting) (from : List Claim) (P : Process → Type 0) (k : Keeps s
   sign_all-keeps signer left p ok = go p.decision refl
     where
       go : (o : Option (ℕ × Value)) → p.decision ≡ o → let it : Signing = elim o [ None ↦ sign_kinds s signer s.signs left p | Some d ↦ record { now = p; left = left; spent = false } ] in P it.now
-      go None e = (sign_kinds-keeps signer s.signs left p (ok, e)).0
+      go None e = (sign_kinds-keeps signer s.signs (λ kind m. m) left p (ok, e)).0
       go (Some d) e = ok
 
   length-snoc : (ds : List Delivered) (d : Delivered) → length (ds ++ d ∷ []) ≡ suc (length ds)

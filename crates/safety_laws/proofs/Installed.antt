@@ -1,19 +1,19 @@
 -- Each installed view has 1 to 16 members, each once.
-use Rattle.std.proofs.Common.{◌≡◌, ◌≢◌, ◌⊎◌, inl, inr, ℕ, zero, suc, ◌+◌, ◌-◌, ◌<◌, ◌≤◌, List, [], ◌∷◌, ◌++◌, map, length, Option, Some, None, Bool, true, false, refl, sym, ap, ◌∙◌, subst, arith, slice_get}
-use Rattle.std.specs.Prelude.{if◌then◌else◌, ◌&&◌, ◌||◌, ◌==◌, not, filter, All, AllPairs, Contains, ⊤, is_none, option_and_then, slice_index_or}
-use Rattle.std.specs.List.{list_any, AllByRecursion, range_with_len}
+use Rattle.std.proofs.Common.{◌≡◌, ◌≢◌, ◌⊎◌, inl, inr, ℕ, zero, suc, ◌<◌, ◌≤◌, List, [], ◌∷◌, ◌++◌, map, length, Option, Some, None, Bool, true, false, refl, sym, ap, ◌∙◌, subst, arith}
+use Rattle.std.specs.Prelude.{if◌then◌else◌, ◌||◌, ◌==◌, not, filter, All, AllPairs, ⊤, is_none, slice_index_or}
+use Rattle.std.specs.List.{range_with_len}
 use Rattle.std.specs.Option.{option_or}
 use Rattle.std.proofs.lemmas.Bool.{eqb-true, eq-eqb}
 use Rattle.byte_defs.specs.Choices.{first_some, first_that_holds}
-use Rattle.group_defs.specs.Views.{View, UpdateFault, ViewsSpent, NotMember, LastMember, AlreadyMember, GroupFull, is_member, has, next_fault, members_after, next_view, has_keys, is_possible}
+use Rattle.group_defs.specs.Views.{View, ViewsSpent, NotMember, LastMember, AlreadyMember, GroupFull, is_member, has, next_fault, members_after, next_view, has_keys, is_possible}
 use Rattle.message_defs.specs.Updates.{Update, Remove, Add, Renew, Value}
 use Rattle.message_defs.specs.Statements.{Statement, Ready, ReadyAt, Claim, slot_of, value_of, same_slot}
 use Rattle.group_defs.specs.Process.{Setting, Pool, Left, Process, start, keyed, views_of}
 use Rattle.group_defs.specs.Certified.{is_certified, certified_on, value_at, number_of_members}
-use Rattle.group_defs.specs.Settle.{decide, decided_at, decided_by, install}
-use Rattle.group_defs.specs.Family.{Family, Correct, end_of, ends, handed_to}
-use Rattle.group_defs.specs.Laws.{IsView, Premises, InstalledIsView}
-use Rattle.safety_laws.proofs.Lists.{Mem, and-first, and-second, slice_get-mem, mem-slice_get, slice_get-length, map-append, filter-mem, snoc-mem}
+use Rattle.group_defs.specs.Settle.{decided_at, decided_by}
+use Rattle.group_defs.specs.Family.{Correct, end_of, ends}
+use Rattle.group_defs.specs.Laws.{IsView, InstalledIsView}
+use Rattle.safety_laws.proofs.Lists.{Mem, and-first, slice_get-mem, mem-slice_get, slice_get-length, map-append, filter-mem, snoc-mem}
 use Rattle.safety_laws.proofs.Offered.{map-mem}
 use Rattle.safety_laws.proofs.OnePerSlot.{slice_get-index}
 use Rattle.safety_laws.proofs.Growing.{find-is, then-some, same_slot-is}
@@ -194,7 +194,7 @@ keeps s from = record {
   perceives = λ p e ok. record { views = ok.views; possible = ok.possible };
   hears = λ p c m e ok. record { views = ok.views; possible = ok.possible };
   doubts = λ p conflicts ok. record { views = ok.views; possible = ok.possible };
-  signs = λ p signer st may none ok. record { views = ok.views; possible = ok.possible };
+  signs = λ p signer st next none ok. record { views = ok.views; possible = ok.possible };
   decides = λ p ok. record { views = ok.views; possible = λ d e. elim (option_or-is p.decision (decided_by s p.pool) d e) [ inl was ↦ ok.possible d was | inr now ↦ (decided_by-is s p.pool d now).0 ] };
   delivers = λ p d member room e ok. record { views = ok.views; possible = ok.possible };
   installs = λ p d decided whole ok. record { views = λ v m. installed p d decided ok v (snoc-mem (views_of p) (next_view p.pool.view d.1.update) v (subst (λ vs. Mem v (vs ++ next_view p.pool.view d.1.update ∷ [])) (map-append (λ (l : Left). l.view) p.left _) m)); possible = λ d e. absurd cc };

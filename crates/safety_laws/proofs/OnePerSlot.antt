@@ -34,8 +34,8 @@ keeps s from = record {
   perceives = λ p e ok. record { pairs = ok.pairs; signers = ok.signers };
   hears = λ p c m e ok. record { pairs = ok.pairs; signers = ok.signers };
   doubts = λ p conflicts ok. record { pairs = ok.pairs; signers = ok.signers };
-  signs = λ p signer st may none ok. record {
-    pairs = pairs-snoc Differ p.signed (own_claim s signer p st) ok.pairs (fresh s p st may ok.signers);
+  signs = λ p signer st next none ok. record {
+    pairs = pairs-snoc Differ p.signed (own_claim s signer p st) ok.pairs (fresh s p st next.may ok.signers);
     signers = all-snoc s p signer p.signed (own_claim s signer p st) ok.signers refl;
   };
   decides = λ p ok. record { pairs = ok.pairs; signers = ok.signers };

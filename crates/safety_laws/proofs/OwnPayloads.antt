@@ -1,28 +1,27 @@
 -- What is delivered of a correct sender is what it accepted, in order.
-use Rattle.std.proofs.Common.{◌≡◌, ◌≢◌, ◌⊎◌, inl, inr, ℕ, zero, suc, ◌+◌, ◌<◌, ◌≤◌, List, [], ◌∷◌, ◌++◌, map, length, Option, Some, None, Bool, true, false, refl, sym, ap, ◌∙◌, subst, arith, slice_get}
-use Rattle.std.specs.Prelude.{if◌then◌else◌, ◌&&◌, ◌==◌, not, nat_le, nat_lt, flat_map, sum, filter, All, slice_index_or}
+use Rattle.std.proofs.Common.{◌≡◌, ◌⊎◌, inl, inr, ℕ, zero, suc, ◌+◌, ◌<◌, List, [], ◌∷◌, ◌++◌, map, length, Some, Bool, true, false, refl, sym, ap, ◌∙◌, subst, arith, slice_get}
+use Rattle.std.specs.Prelude.{if◌then◌else◌, ◌&&◌, ◌==◌, not, nat_le, nat_lt, flat_map, sum, filter}
 use Rattle.std.specs.List.{range_with_len}
-use Rattle.std.proofs.lemmas.Bool.{eqb-true, eq-eqb}
+use Rattle.std.proofs.lemmas.Bool.{eqb-true}
 use Rattle.std.proofs.lemmas.List.Sums.{length-filter, sum_by-cons}
 use Rattle.byte_defs.specs.Equality.{is_yes, bytes_discrete}
 use Rattle.byte_defs.specs.Choices.{is_some_and}
 use Rattle.group_defs.specs.Views.{View, is_member}
-use Rattle.message_defs.specs.Statements.{Message, Statement, Init, Echo, Claim}
+use Rattle.message_defs.specs.Statements.{Statement, Init, Echo}
 use Rattle.group_defs.specs.Process.{Setting, Delivered, Left, Process, earlier, delivered_from, views_of}
 use Rattle.group_defs.specs.Certified.{says, is_ended}
 use Rattle.group_defs.specs.Due.{may_sign, is_due, window}
-use Rattle.group_defs.specs.Accounts.{Account, account_of, IsPrefixOf, delivered_in, longest, group_of, of_sender, history, AgreesWith}
+use Rattle.group_defs.specs.Accounts.{account_of, IsPrefixOf, delivered_in, longest, group_of, of_sender, history, AgreesWith}
 use Rattle.group_defs.specs.Family.{Correct, Family, end_of, ends, accounts, handed, statements_of}
 use Rattle.group_defs.specs.Laws.{Premises, HasGrown, IsOneView, IsFrom, may_back, CauseAndOrder}
 use Rattle.safety_laws.proofs.Lists.{Mem, and-first, and-second, slice_get-mem, mem-slice_get, filter-mem, map-append, slice_get-length}
 use Rattle.safety_laws.proofs.Offered.{mem-map, map-mem, heard-says}
 use Rattle.safety_laws.proofs.Growing.{some-and, yes-is, mem-append}
-use Rattle.safety_laws.proofs.OneContent.{All-mem, me-end_of, meeting, enough-of, signed-by}
+use Rattle.safety_laws.proofs.OneContent.{All-mem, meeting, enough-of, signed-by}
 use Rattle.safety_laws.proofs.CertifiedIsBacked.{own-word}
 use Rattle.safety_laws.proofs.Moments.{due-at}
 use Rattle.safety_laws.proofs.EachWasDue.{each_was_due}
 use Rattle.safety_laws.proofs.KeptBelowCut.{signing-member}
-use Rattle.safety_laws.proofs.Installed.{index-mem}
 use Rattle.safety_laws.proofs.History.{ViewSo, slice_get-front, slice_get-last, length-map, signing-view}
 use Rattle.safety_laws.proofs.Decisions.{backed, of-history, one-view, get-map, map-get, some-is, indexed, left-view, in-ends}
 use Rattle.safety_laws.proofs.Agreeing.{Part, nothing, something, part, longest-mem, account-of, left-delivered, agreement, each-account}

@@ -1,5 +1,5 @@
 -- What each change keeps holds where an event settles, and from there to the end.
-use Rattle.std.proofs.Common.{◌≡◌, inl, inr, List, [], ◌∷◌, ◌++◌, Option, Some, None, refl, sym, ap, ◌∙◌, subst}
+use Rattle.std.proofs.Common.{◌≡◌, inl, inr, List, [], ◌∷◌, Option, Some, None, refl, sym, ap, subst}
 use Rattle.message_defs.specs.Statements.{Claim}
 use Rattle.group_defs.specs.Process.{Setting, Process}
 use Rattle.group_defs.specs.Settle.{decide, deliver, leave, settle}
@@ -15,7 +15,7 @@ settles-none s p t ts e = cc
 settles-some : (s : Setting) (p : Process) (t : Turn) (ts : List Turn) (fault : EventFault) → refusal s p t.event ≡ Some fault → settlings_from s p (t ∷ ts) ≡ settlings_from s (after s p t) ts
 settles-some s p t ts fault e = cc
 
-after-none : (s : Setting) (p : Process) (t : Turn) → refusal s p t.event ≡ None → after s p t ≡ settle s (signing s p t).now
+pub after-none : (s : Setting) (p : Process) (t : Turn) → refusal s p t.event ≡ None → after s p t ≡ settle s (signing s p t).now
 unfolding after
 after-none s p t e = ap (λ (o : Option EventFault). elim o [ None ↦ settle s (signing s p t).now | Some fault ↦ p ]) e
 

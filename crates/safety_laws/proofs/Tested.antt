@@ -1,16 +1,16 @@
 -- What the report computes of the premises says them.
-use Rattle.std.proofs.Common.{◌≡◌, ℕ, ◌≤◌, List, length, Bool, true, false, refl, sym, ap, ◌∙◌, subst}
-use Rattle.std.specs.Prelude.{◌||◌, ◌==◌, not, nat_le, All, Contains, slice_index_or, ◌↔◌}
+use Rattle.std.proofs.Common.{◌≡◌, ◌≤◌, List, length, Bool, true, false, refl, sym, subst}
+use Rattle.std.specs.Prelude.{◌||◌, ◌==◌, not, nat_le, All, Contains, slice_index_or}
 use Rattle.std.specs.List.{list_any, list_all}
 use Rattle.std.proofs.lemmas.Bool.{eqb-true, eq-eqb, leb-true, le-leb}
 use native.Mathlib.Decide.{ℕ_discrete}
 use Rattle.byte_defs.specs.Equality.{bytes_discrete, option_discrete, pair_discrete}
 use Rattle.group_defs.specs.Views.{View, faulty}
 use Rattle.message_defs.specs.Updates.{Update-discrete, Value-discrete}
-use Rattle.message_defs.specs.Statements.{Statement, Statement-discrete, Message-discrete, Claim, same_statement}
+use Rattle.message_defs.specs.Statements.{Statement-discrete, Message-discrete, Claim, same_statement}
 use Rattle.group_defs.specs.Process.{Process}
 use Rattle.group_defs.specs.Hearing.{is_valid}
-use Rattle.group_defs.specs.Accounts.{Account, Bounded, corrupt_in, BoundedIsTested}
+use Rattle.group_defs.specs.Accounts.{Account, corrupt_in, BoundedIsTested}
 use Rattle.group_defs.specs.Family.{Family, ends, handed, statements_of, IsOwned, HonestIsTested}
 use Rattle.safety_laws.proofs.Lists.{Mem, mem-Contains}
 use Rattle.safety_laws.proofs.LeastIsDue.{Contains-mem}
