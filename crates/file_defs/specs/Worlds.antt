@@ -5,10 +5,11 @@ use Rattle.std.specs.List.{list_all, filter_map, flat_map}
 use Rattle.signature_defs.specs.Plain.{plain_signature, plain_valid}
 use Rattle.message_defs.specs.declared.FrameFault.{FrameFault}
 use Rattle.message_defs.specs.declared.FrameFault.TheVariants as faults
-use Rattle.message_defs.specs.Statements.{Statement, Init, Echo, Claim}
+use Rattle.message_defs.specs.Statements.{Claim}
 use Rattle.message_defs.specs.Frames.{FrameView, Bundle, Proof, Want, frame_of}
 use Rattle.message_defs.specs.Claims.{Frame, Claims, Faulty, in_bundle, claims_of_groups}
 use Rattle.group_defs.specs.Process.{Kind, Inits, Echoes, Setting, Process}
+use Rattle.group_defs.specs.Echoing.{is_echoing}
 use Rattle.group_defs.specs.Sending.{Sending, frames_of}
 use Rattle.group_defs.specs.Events as group
 use Rattle.group_defs.specs.Events.{Turn, EventFault, refusal, outcome}
@@ -17,14 +18,9 @@ use Rattle.file_defs.specs.Schedules.{Listed, ScheduleEvent, Submit, Raw, Pass, 
 
 -- ---- the frames of this world
 
-abbrev pub is_init_or_echo : Statement → Bool
-is_init_or_echo (Init x l payload) = true
-is_init_or_echo (Echo x m payload) = true
-is_init_or_echo _ = false
-
 -- what is not wholly Init and Echo is refused whole
 abbrev pub echo_claims : Result (List Claim) FrameFault → Frame
-echo_claims (Ok cs) = if list_all (λ c. is_init_or_echo c.statement) cs then Claims cs else Faulty faults.Kind
+echo_claims (Ok cs) = if list_all (λ c. is_echoing c.statement) cs then Claims cs else Faulty faults.Kind
 echo_claims (Err fault) = Faulty faults.Kind
 
 abbrev pub echo_said : Result FrameView FrameFault → Frame
