@@ -1,0 +1,12 @@
+-- What a reader of the code answers, beside what reading on lists answers. A view says what a value of the code is.
+use Rattle.std.specs.Prelude.{◌≡◌, List, ℕ, Result, Ok, Err}
+use Rattle.byte_defs.specs.Fields.{◌>>=◌}
+
+-- what was returned, seen by the view, is what reading gives
+abbrev pub Gives : {E X Y : Type 0} → (X → Y) → Result X E → Result Y E → Type 0
+Gives view (Ok x) read = read ≡ Ok (view x)
+Gives view (Err e) read = read ≡ Err e
+
+-- what is left, where the value is not kept
+abbrev pub rest_of : {E X Y : Type 0} → Result (X × Y) E → Result Y E
+rest_of read = read >>= λ x. Ok x.1
