@@ -1,0 +1,206 @@
+-- Schedules: who takes part, and what happens. `n2` is a number of two bytes, the higher one first; `n4` is one of four.
+--   52 50 53 31, scheme1 (0, plain), group16,
+--   number of processes1, and for each by rising number: process1, role1 (0 correct, 1 corrupt), key32, total4,
+--   number of genesis members1, and their numbers in rank order,
+--   events to the end of the input:
+--     01 Submit   process1 length2 payload
+--     02 Raw      to1 from1 length2 bytes
+--     03 Pass     frame4 to1
+-- Bytes are a schedule exactly where they are at most 67,108,864, with 1 to 64 processes and 1 to 16 different members of
+-- the roster, at most 1,000,000 events, each at a correct process, and nothing behind the last event.
+use Rattle.std.specs.Prelude.{◌≡◌, ◌≢◌, ℕ, zero, suc, ◌+◌, ◌<◌, ◌≤◌, ◌^◌, Bool, true, false, ◌&&◌, ◌||◌, not, nat_lt, nat_le, ◌==◌, IsTrue, List, [], ◌∷◌, ◌++◌, length, map, AllPairs, Result, Ok, Err, codes, if◌then◌else◌}
+use Rattle.std.specs.List.{list_any, flat_map, AllByRecursion}
+use Rattle.std.specs.Int.{w8, w16, w32, to_be_bytes}
+use Rattle.byte_defs.specs.Equality.{same_bytes}
+use Rattle.byte_defs.specs.Fields.{◌>>=◌, refuse_if, number_at, bytes_at, two, text}
+use Rattle.file_defs.specs.declared.ScheduleFault.{ScheduleFault}
+use Rattle.file_defs.specs.declared.ScheduleFault.TheVariants as faults
+
+pub record Listed : Type 0 where
+  pub process : ℕ
+  pub corrupt : Bool
+  pub key : List ℕ
+  -- how many signatures the key can make
+  pub total : ℕ
+
+pub data ScheduleEvent : Type 0 where
+  -- a payload is handed to a process, to be sent to the group
+  Submit : (at : ℕ) (payload : List ℕ) → ScheduleEvent
+  -- any bytes are handed to a process as a frame
+  Raw : (to from : ℕ) (bytes : List ℕ) → ScheduleEvent
+  -- the frame of this number is handed to a process
+  Pass : (frame to : ℕ) → ScheduleEvent
+
+pub record Schedule : Type 0 where
+  pub group : List ℕ
+  pub processes : List Listed
+  -- in rank order
+  pub genesis : List ℕ
+  pub events : List ScheduleEvent
+
+abbrev pub is_listed : List Listed → ℕ → Bool
+is_listed ls p = list_any (λ l. l.process == p) ls
+
+abbrev pub is_correct : List Listed → ℕ → Bool
+is_correct ls p = list_any (λ l. (l.process == p) && not l.corrupt) ls
+
+-- ---- the spelling
+
+abbrev pub four : ℕ → List ℕ
+four n = to_be_bytes w32 n
+
+abbrev pub listed_bytes : Listed → List ℕ
+listed_bytes l = l.process ∷ (if l.corrupt then 1 else 0) ∷ (l.key ++ four l.total)
+
+abbrev pub event_bytes : ScheduleEvent → List ℕ
+event_bytes (Submit at payload) = 1 ∷ at ∷ text payload
+event_bytes (Raw to from bytes) = 2 ∷ to ∷ from ∷ text bytes
+event_bytes (Pass frame to) = 3 ∷ (four frame ++ to ∷ [])
+
+abbrev pub schedule_bytes : Schedule → List ℕ
+schedule_bytes s =
+    codes "RPS1" ++ (0 ∷ (s.group
+    ++ (length s.processes ∷ (flat_map listed_bytes s.processes
+    ++ (length s.genesis ∷ (s.genesis
+    ++ flat_map event_bytes s.events))))))
+
+-- ---- the ranges
+
+-- by rising numbers from this one on
+abbrev pub AreListed : ℕ → List Listed → Type 0
+AreListed least [] = Unit {0}
+AreListed least (l ∷ more) = (least ≤ l.process) × (l.process ≤ 63) × (length l.key ≡ 32) × (l.total < 2 ^ 32) × AreListed (l.process + 1) more
+
+abbrev pub IsEvent : List Listed → ScheduleEvent → Type 0
+IsEvent ls (Submit at payload) = IsTrue (is_correct ls at) × (length payload < 65536)
+IsEvent ls (Raw to from bytes) = IsTrue (is_correct ls to) × (from ≤ 63) × (length bytes ≤ 61440)
+IsEvent ls (Pass frame to) = (frame < 2 ^ 32) × IsTrue (is_correct ls to)
+
+pub record IsSchedule (s : Schedule) : Type 0 where
+  pub group : length s.group ≡ 16
+  pub some : 1 ≤ length s.processes
+  pub few : length s.processes ≤ 64
+  pub processes : AreListed 0 s.processes
+  pub members : 1 ≤ length s.genesis
+  pub most : length s.genesis ≤ 16
+  pub listed : AllByRecursion (λ m. IsTrue (is_listed s.processes m)) s.genesis
+  pub distinct : AllPairs (λ m n. m ≢ n) s.genesis
+  pub events : AllByRecursion (IsEvent s.processes) s.events
+  pub steps : length s.events ≤ 1000000
+  pub size : length (schedule_bytes s) ≤ 67108864
+
+-- ---- reading, with the first fault from the left
+
+-- what a step reads, and the bytes after it
+abbrev pub Step : Type 0 → Type 0
+Step A = Result (A × List ℕ) ScheduleFault
+
+abbrev pub byte_at : List ℕ → Step ℕ
+byte_at bytes = number_at faults.Short w8 bytes
+
+abbrev pub short_at : List ℕ → Step ℕ
+short_at bytes = number_at faults.Short w16 bytes
+
+abbrev pub long_at : List ℕ → Step ℕ
+long_at bytes = number_at faults.Short w32 bytes
+
+unfoldable pub text_at : ℕ → List ℕ → Step (List ℕ)
+text_at most bytes = do
+  len ← short_at bytes
+  _ ← refuse_if (nat_lt most len.0) faults.Field
+  bytes_at faults.Short len.0 len.1
+
+unfoldable pub listed_at : ℕ → List ℕ → Step Listed
+listed_at least bytes = do
+  process ← byte_at bytes
+  _ ← refuse_if (nat_lt process.0 least) faults.Roster
+  _ ← refuse_if (nat_lt 63 process.0) faults.Roster
+  role ← byte_at process.1
+  _ ← refuse_if (nat_lt 1 role.0) faults.Roster
+  key ← bytes_at faults.Short 32 role.1
+  total ← long_at key.1
+  Ok (record { process = process.0; corrupt = role.0 == 1; key = key.0; total = total.0 }, total.1)
+
+unfoldable pub all_listed_at : ℕ → ℕ → List ℕ → Step (List Listed)
+all_listed_at zero least bytes = Ok ([], bytes)
+all_listed_at (suc n) least bytes = do
+  first ← listed_at least bytes
+  others ← all_listed_at n (first.0.process + 1) first.1
+  Ok (first.0 ∷ others.0, others.1)
+
+-- so many more members, each listed and none of those before
+unfoldable pub members_at : ℕ → List Listed → List ℕ → List ℕ → Step (List ℕ)
+members_at zero ls before bytes = Ok (before, bytes)
+members_at (suc n) ls before bytes = do
+  first ← byte_at bytes
+  _ ← refuse_if (not (is_listed ls first.0)) faults.Roster
+  _ ← refuse_if (list_any (λ m. m == first.0) before) faults.Roster
+  members_at n ls (before ++ first.0 ∷ []) first.1
+
+-- a correct process
+unfoldable pub correct_at : List Listed → List ℕ → Step ℕ
+correct_at ls bytes = do
+  p ← byte_at bytes
+  _ ← refuse_if (not (is_correct ls p.0)) faults.Field
+  Ok (p.0, p.1)
+
+unfoldable pub submit_at : List Listed → List ℕ → Step ScheduleEvent
+submit_at ls bytes = do
+  p ← correct_at ls bytes
+  payload ← text_at 65535 p.1
+  Ok (Submit p.0 payload.0, payload.1)
+
+unfoldable pub raw_at : List Listed → List ℕ → Step ScheduleEvent
+raw_at ls bytes = do
+  to ← correct_at ls bytes
+  from ← byte_at to.1
+  _ ← refuse_if (nat_lt 63 from.0) faults.Field
+  frame ← text_at 61440 from.1
+  Ok (Raw to.0 from.0 frame.0, frame.1)
+
+unfoldable pub pass_at : List Listed → List ℕ → Step ScheduleEvent
+pass_at ls bytes = do
+  frame ← long_at bytes
+  to ← correct_at ls frame.1
+  Ok (Pass frame.0 to.0, to.1)
+
+unfoldable pub event_at : List Listed → List ℕ → Step ScheduleEvent
+event_at ls bytes = do
+  tag ← byte_at bytes
+  if tag.0 == 1 then submit_at ls tag.1 else
+      (if tag.0 == 2 then raw_at ls tag.1 else
+      (if tag.0 == 3 then pass_at ls tag.1 else Err faults.Tag))
+
+-- events to the end of the bytes, and at most so many
+unfoldable pub events_at : ℕ → List Listed → List ℕ → Result (List ScheduleEvent) ScheduleFault
+events_at n ls [] = Ok []
+events_at zero ls (b ∷ bytes) = Err faults.TooMany
+events_at (suc n) ls (b ∷ bytes) = do
+  first ← event_at ls (b ∷ bytes)
+  others ← events_at n ls first.1
+  Ok (first.0 ∷ others)
+
+unfoldable pub most_events : ℕ
+most_events = 1000000
+
+unfoldable pub most_bytes : ℕ
+most_bytes = 67108864
+
+unfoldable pub schedule_of : List ℕ → Result Schedule ScheduleFault
+schedule_of bytes = do
+  _ ← refuse_if (nat_lt most_bytes (length bytes)) faults.TooLong
+  magic ← bytes_at faults.Short 4 bytes
+  _ ← refuse_if (not (same_bytes magic.0 (codes "RPS1"))) faults.Magic
+  scheme ← byte_at magic.1
+  _ ← refuse_if (not (scheme.0 == 0)) faults.Scheme
+  group ← bytes_at faults.Short 16 scheme.1
+  count ← byte_at group.1
+  _ ← refuse_if (count.0 == 0) faults.Roster
+  _ ← refuse_if (nat_lt 64 count.0) faults.Roster
+  listed ← all_listed_at count.0 0 count.1
+  size ← byte_at listed.1
+  _ ← refuse_if (size.0 == 0) faults.Roster
+  _ ← refuse_if (nat_lt 16 size.0) faults.Roster
+  genesis ← members_at size.0 listed.0 [] size.1
+  events ← events_at most_events listed.0 genesis.1
+  Ok (record { group = group.0; processes = listed.0; genesis = genesis.0; events = events })
