@@ -47,19 +47,34 @@ setting_of sch = record {
   signs = echo_kinds;
 }
 
--- the family so far, the frames sent so far with their senders, and what was refused: event, process, and whether it was a Submit
+-- a correct process, its key, and the turns that it has taken
+pub record Player : Type 0 where
+  pub listed : Listed
+  pub turns : List Turn
+
+-- the correct processes, the frames sent so far with their senders, and what was refused: event, process, and whether it was a Submit
 pub record World : Type 0 where
-  pub correct : List Correct
+  pub players : List Player
   pub frames : List (ℕ × List ℕ)
   pub refused : List (ℕ × ℕ × Bool)
   -- how many events there were
   pub count : ℕ
 
-abbrev pub begins : Listed → Option Correct
-begins l = if l.corrupt then None else Some (record { me = l.process; turns = [] })
+abbrev pub begins : Listed → Option Player
+begins l = if l.corrupt then None else Some (record { listed = l; turns = [] })
 
 abbrev pub start_of : Schedule → World
-start_of sch = record { correct = filter_map begins sch.processes; frames = []; refused = []; count = 0 }
+start_of sch = record { players = filter_map begins sch.processes; frames = []; refused = []; count = 0 }
+
+abbrev pub correct_of : Player → Correct
+correct_of c = record { me = c.listed.process; turns = c.turns }
+
+-- the player as a process, after its turns
+abbrev pub process_of : Setting → Player → Process
+process_of s c = end_of s (correct_of c)
+
+abbrev pub family_of : Schedule → World → Family
+family_of sch w = record { setting = setting_of sch; correct = map correct_of w.players }
 
 -- ---- one event
 
@@ -67,52 +82,49 @@ start_of sch = record { correct = filter_map begins sch.processes; frames = []; 
 abbrev pub turn_of : Listed → Process → group.Event → Turn
 turn_of l p e = record { event = e; allowance = l.total - length p.signed; signer = λ used body. plain_signature l.key body }
 
--- the process takes one turn more
-abbrev pub takes : ℕ → Turn → Correct → Correct
-takes p t c = if c.me == p then record { me = c.me; turns = c.turns ++ t ∷ [] } else c
+abbrev pub with_turn : Turn → Player → Player
+with_turn t c = record { listed = c.listed; turns = c.turns ++ t ∷ [] }
 
-abbrev pub frames_sent : ℕ → List Sending → List (ℕ × List ℕ)
-frames_sent sender sends = map (λ bytes. (sender, bytes)) (flat_map (λ out. frames_of out.parcel) sends)
+-- the player of this number takes one turn more
+abbrev pub takes : ℕ → Turn → Player → Player
+takes p t c = if c.listed.process == p then with_turn t c else c
 
-abbrev pub refused_if : Option EventFault → ℕ → ℕ → Bool → List (ℕ × ℕ × Bool)
-refused_if None event p submit = []
-refused_if (Some fault) event p submit = (event, p, submit) ∷ []
+abbrev pub frames_of_sends : List Sending → List (List ℕ)
+frames_of_sends sends = flat_map (λ out. frames_of out.parcel) sends
 
--- a correct process takes an event
-abbrev pub steps : Setting → World → Listed → Correct → group.Event → Bool → World
-steps s w l c e submit =
-    let p : Process = end_of s c in
-    let t : Turn = turn_of l p e in
+abbrev pub refused_if : Option EventFault → ℕ × ℕ × Bool → List (ℕ × ℕ × Bool)
+refused_if None what = []
+refused_if (Some fault) what = what ∷ []
+
+-- a player takes an event
+abbrev pub steps : Setting → World → Player → group.Event → Bool → World
+steps s w c e submit =
+    let p : Process = process_of s c in
+    let t : Turn = turn_of c.listed p e in
     record {
-      correct = map (takes c.me t) w.correct;
-      frames = w.frames ++ frames_sent c.me (outcome s p t).sends;
-      refused = w.refused ++ refused_if (refusal s p e) w.count c.me submit;
+      players = map (takes c.listed.process t) w.players;
+      frames = w.frames ++ map (λ bytes. (c.listed.process, bytes)) (frames_of_sends (outcome s p t).sends);
+      refused = w.refused ++ refused_if (refusal s p e) (w.count, c.listed.process, submit);
       count = w.count + 1;
     }
 
-abbrev pub listed_as : List Listed → ℕ → Option Listed
-listed_as ls p = find (λ l. l.process == p) ls
+abbrev pub player_of : World → ℕ → Option Player
+player_of w p = find (λ c. c.listed.process == p) w.players
 
-abbrev pub correct_as : World → ℕ → Option Correct
-correct_as w p = find (λ c. c.me == p) w.correct
-
--- an event is handed to a process of this number
-abbrev pub hands : Schedule → World → ℕ → group.Event → Bool → Option World
-hands sch w p e submit = option_and_then (λ l. option_map (λ c. steps (setting_of sch) w l c e submit) (correct_as w p)) (listed_as sch.processes p)
+-- an event is handed to the process of this number
+abbrev pub hands : Setting → World → ℕ → group.Event → Bool → World
+hands s w p e submit = elim (player_of w p) [ None ↦ w | Some c ↦ steps s w c e submit ]
 
 -- what an event makes of the world; none where it names a frame that is not sent yet
-abbrev pub happens : Schedule → World → ScheduleEvent → Option World
-happens sch w (Submit p payload) = hands sch w p (group.Submit payload) true
-happens sch w (Raw to from bytes) = hands sch w to (group.Hand from (echo_frame bytes)) false
-happens sch w (Pass k to) = option_and_then (λ f. hands sch w to (group.Hand f.0 (echo_frame f.1)) false) (slice_get w.frames k)
+abbrev pub happens : Setting → World → ScheduleEvent → Option World
+happens s w (Submit p payload) = Some (hands s w p (group.Submit payload) true)
+happens s w (Raw to from bytes) = Some (hands s w to (group.Hand from (echo_frame bytes)) false)
+happens s w (Pass k to) = option_map (λ f. hands s w to (group.Hand f.0 (echo_frame f.1)) false) (slice_get w.frames k)
 
-unfoldable pub run_events : Schedule → World → List ScheduleEvent → Option World
-run_events sch w [] = Some w
-run_events sch w (e ∷ es) = option_and_then (λ v. run_events sch v es) (happens sch w e)
+unfoldable pub run_events : Setting → World → List ScheduleEvent → Option World
+run_events s w [] = Some w
+run_events s w (e ∷ es) = option_and_then (λ v. run_events s v es) (happens s w e)
 
 -- the world at the end; none where a Pass names a frame that is not sent yet
 abbrev pub world_of : Schedule → Option World
-world_of sch = run_events sch (start_of sch) sch.events
-
-abbrev pub family_of : Schedule → World → Family
-family_of sch w = record { setting = setting_of sch; correct = w.correct }
+world_of sch = run_events (setting_of sch) (start_of sch) sch.events
