@@ -81,6 +81,14 @@ wide16 = record {
   below = λ bytes fits. omega (arith, fits 0, fits 1);
 }
 
+pub wide32 : IsWide w32 4294967296
+wide32 = record {
+  len = λ n. refl;
+  back = λ bytes len fits. be_bytes_4 bytes _ len fits refl;
+  again = λ n lt. from_be_bytes-to_be_bytes_4 n lt;
+  below = λ bytes fits. omega (arith, fits 0, fits 1, fits 2, fits 3);
+}
+
 module _ {E : Type 0} (fault : E) where
   pub number_takes : (w : Width) (limit : ℕ) (wide : IsWide w limit) (bytes : List ℕ) (n : ℕ) (rest : List ℕ) → IsBytes bytes → number_at fault w bytes ≡ Ok (n, rest) → Takes bytes (to_be_bytes w n) rest × (n < limit)
   number_takes w limit wide bytes n rest fits e =
@@ -112,6 +120,12 @@ module _ {E : Type 0} (fault : E) where
 
   pub short_again : (n : ℕ) (rest : List ℕ) → n < 65536 → number_at fault w16 (two n ++ rest) ≡ Ok (n, rest)
   short_again n rest lt = number_again w16 65536 wide16 n rest lt
+
+  pub long_takes : (bytes : List ℕ) (n : ℕ) (rest : List ℕ) → IsBytes bytes → number_at fault w32 bytes ≡ Ok (n, rest) → Takes bytes (to_be_bytes w32 n) rest × (n < 4294967296)
+  long_takes bytes n rest fits e = number_takes w32 4294967296 wide32 bytes n rest fits e
+
+  pub long_again : (n : ℕ) (rest : List ℕ) → n < 4294967296 → number_at fault w32 (to_be_bytes w32 n ++ rest) ≡ Ok (n, rest)
+  long_again n rest lt = number_again w32 4294967296 wide32 n rest lt
 
   -- so many bytes
   pub bytes_takes : (n : ℕ) (bytes out rest : List ℕ) → IsBytes bytes → bytes_at fault n bytes ≡ Ok (out, rest) → Takes bytes out rest × (length out ≡ n)

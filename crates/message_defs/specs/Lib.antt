@@ -5,3 +5,4 @@ pub mod Reading
 pub mod Frames
 pub mod Claims
 pub mod Packing
+pub mod Entries

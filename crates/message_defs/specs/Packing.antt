@@ -14,8 +14,11 @@ pub record Signed : Type 0 where
   pub signer : ℕ
   pub signature : List ℕ
 
+abbrev pub signed : List ℕ → ℕ → List ℕ → Signed
+signed statement signer signature = record { statement = statement; signer = signer; signature = signature }
+
 abbrev pub signed_of : Claim → Signed
-signed_of c = record { statement = spelling c.statement; signer = c.signer; signature = c.signature }
+signed_of c = signed (spelling c.statement) c.signer c.signature
 
 -- the claim joins the group: statement equal, signer above the last one, room for one more
 abbrev pub joins : Group → Signed → Bool
@@ -35,7 +38,7 @@ add [] c = group_of c ∷ []
 add (g ∷ []) c = if joins g c then with_signature g c ∷ [] else g ∷ group_of c ∷ []
 add (g ∷ h ∷ gs) c = g ∷ add (h ∷ gs) c
 
--- into so many bytes: a Proof has as many as a Bundle
+-- at most 255 groups, and at most so many bytes: a Proof has as many as a Bundle
 abbrev pub fits : ℕ → List Group → Bool
 fits room gs = nat_le (length gs) 255 && nat_le (length (frame_bytes (Bundle gs))) room
 

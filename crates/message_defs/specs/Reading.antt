@@ -66,13 +66,38 @@ report_at bytes = do
     value ← value_at rank.1
     Ok (Some (rank.0, value.0), value.1))
 
--- ---- the grammar of each kind, behind the kind byte
+-- ---- the ranges, which are tested once the whole statement is in its grammar
+
+-- at most the limit
+abbrev pub within : ℕ → ℕ → Result (Unit {0}) FrameFault
+within limit n = refuse_if (nat_lt limit n) faults.Range
+
+abbrev pub message_within : Message → Result (Unit {0}) FrameFault
+message_within m = within 63 m.sender >>= λ _. within 1023 m.number
+
+abbrev pub update_within : Update → Result (Unit {0}) FrameFault
+update_within (Remove p) = within 63 p
+update_within (Add p) = within 63 p
+update_within Renew = Ok tt
+
+abbrev pub value_within : Value → Result (Unit {0}) FrameFault
+value_within v = update_within v.update >>= λ _. within 1024 v.cut
+
+-- the rank of the Ready is below the Last's own
+abbrev pub report_within : ℕ → Option (ℕ × Value) → Result (Unit {0}) FrameFault
+report_within r None = Ok tt
+report_within r (Some ready) = refuse_if (nat_le r ready.0) faults.Range >>= λ _. value_within ready.1
+
+-- ---- each kind, behind the kind byte: its fields, nothing behind them, and their ranges
 
 unfoldable pub init_at : List ℕ → Result Statement FrameFault
 init_at bytes = do
   view ← short_at bytes
   number ← short_at view.1
   payload ← payload_at number.1
+  _ ← within 1023 view.0
+  _ ← within 1023 number.0
+  _ ← within 1024 (length payload)
   Ok (Init view.0 number.0 payload)
 
 unfoldable pub echo_at : List ℕ → Result Statement FrameFault
@@ -80,22 +105,34 @@ echo_at bytes = do
   view ← short_at bytes
   message ← message_at view.1
   payload ← payload_at message.1
+  _ ← within 1023 view.0
+  _ ← message_within message.0
+  _ ← within 1024 (length payload)
   Ok (Echo view.0 message.0 payload)
 
--- Order, Place or Keep
-unfoldable pub place_at : (ℕ → ℕ → Message → Statement) → List ℕ → Result Statement FrameFault
-place_at kind bytes = do
+-- the view, the place and the message
+unfoldable pub placed_at : List ℕ → Result (ℕ × ℕ × Message) FrameFault
+placed_at bytes = do
   view ← short_at bytes
   place ← short_at view.1
   message ← message_at place.1
   _ ← ended message.1
-  Ok (kind view.0 place.0 message.0)
+  _ ← within 1023 view.0
+  _ ← within 1023 place.0
+  _ ← message_within message.0
+  Ok (view.0, place.0, message.0)
+
+-- Order, Place or Keep
+abbrev pub place_at : (ℕ → ℕ → Message → Statement) → List ℕ → Result Statement FrameFault
+place_at kind bytes = placed_at bytes >>= λ p. Ok (kind p.0 p.1 p.2)
 
 unfoldable pub notify_at : List ℕ → Result Statement FrameFault
 notify_at bytes = do
   view ← short_at bytes
   update ← update_at view.1
   _ ← ended update.1
+  _ ← within 1023 view.0
+  _ ← update_within update.0
   Ok (Notify view.0 update.0)
 
 unfoldable pub end_at : List ℕ → Result Statement FrameFault
@@ -103,6 +140,8 @@ end_at bytes = do
   view ← short_at bytes
   len ← short_at view.1
   _ ← ended len.1
+  _ ← within 1023 view.0
+  _ ← within 1024 len.0
   Ok (End view.0 len.0)
 
 unfoldable pub last_at : List ℕ → Result Statement FrameFault
@@ -111,16 +150,26 @@ last_at bytes = do
   rank ← byte_at view.1
   report ← report_at rank.1
   _ ← ended report.1
+  _ ← within 1023 view.0
+  _ ← within 15 rank.0
+  _ ← report_within rank.0 report.0
   Ok (Last view.0 rank.0 report.0)
 
--- Suggest, Ack or Ready
-unfoldable pub ranked_at : (ℕ → ℕ → Value → Statement) → List ℕ → Result Statement FrameFault
-ranked_at kind bytes = do
+-- the view, the rank and the value
+unfoldable pub valued_at : List ℕ → Result (ℕ × ℕ × Value) FrameFault
+valued_at bytes = do
   view ← short_at bytes
   rank ← byte_at view.1
   value ← value_at rank.1
   _ ← ended value.1
-  Ok (kind view.0 rank.0 value.0)
+  _ ← within 1023 view.0
+  _ ← within 15 rank.0
+  _ ← value_within value.0
+  Ok (view.0, rank.0, value.0)
+
+-- Suggest, Ack or Ready
+abbrev pub ranked_at : (ℕ → ℕ → Value → Statement) → List ℕ → Result Statement FrameFault
+ranked_at kind bytes = valued_at bytes >>= λ v. Ok (kind v.0 v.1 v.2)
 
 -- by its kind
 unfoldable pub content_at : ℕ → List ℕ → Result Statement FrameFault
@@ -130,36 +179,6 @@ content_at kind bytes =
     (if kind == 6 then notify_at bytes else (if kind == 7 then end_at bytes else (if kind == 8 then last_at bytes else
     (if kind == 9 then ranked_at Suggest bytes else (if kind == 10 then ranked_at Ack bytes else (if kind == 11 then ranked_at Ready bytes else
     Err faults.Statement))))))))))
-
--- ---- the ranges, as tests
-
-abbrev pub is_message : Message → Bool
-is_message m = nat_le m.sender 63 && nat_le m.number 1023
-
-abbrev pub is_update : Update → Bool
-is_update (Remove p) = nat_le p 63
-is_update (Add p) = nat_le p 63
-is_update Renew = true
-
-abbrev pub is_value : Value → Bool
-is_value v = is_update v.update && nat_le v.cut 1024
-
-abbrev pub is_report : ℕ → Option (ℕ × Value) → Bool
-is_report r None = true
-is_report r (Some ready) = nat_lt ready.0 r && is_value ready.1
-
-abbrev pub is_in_range : Statement → Bool
-is_in_range (Init x l payload) = nat_le x 1023 && nat_le l 1023 && nat_le (length payload) 1024
-is_in_range (Echo x m payload) = nat_le x 1023 && is_message m && nat_le (length payload) 1024
-is_in_range (Order x k m) = nat_le x 1023 && nat_le k 1023 && is_message m
-is_in_range (Place x k m) = nat_le x 1023 && nat_le k 1023 && is_message m
-is_in_range (Keep x k m) = nat_le x 1023 && nat_le k 1023 && is_message m
-is_in_range (Notify x u) = nat_le x 1023 && is_update u
-is_in_range (End x k) = nat_le x 1023 && nat_le k 1024
-is_in_range (Last x r ready) = nat_le x 1023 && nat_le r 15 && is_report r ready
-is_in_range (Suggest x r v) = nat_le x 1023 && nat_le r 15 && is_value v
-is_in_range (Ack x r v) = nat_le x 1023 && nat_le r 15 && is_value v
-is_in_range (Ready x r v) = nat_le x 1023 && nat_le r 15 && is_value v
 
 -- ---- a statement, all of the bytes, where the frame carries these kinds
 
@@ -171,9 +190,7 @@ statement_in carries bytes = do
   kind ← byte_at bytes
   _ ← refuse_if (not (is_kind kind.0)) faults.Statement
   _ ← refuse_if (not (carries kind.0)) faults.Misplaced
-  st ← content_at kind.0 kind.1
-  _ ← refuse_if (not (is_in_range st)) faults.Range
-  Ok st
+  content_at kind.0 kind.1
 
 -- every kind of statement is carried
 unfoldable pub statement_of : List ℕ → Result Statement FrameFault

@@ -11,7 +11,7 @@
 use Rattle.std.specs.Prelude.{ℕ, ◌<◌, ◌≤◌, List, [], ◌∷◌, ◌++◌, length, Option, Some, None, codes}
 use Rattle.byte_defs.specs.Fields.{two, text}
 use Rattle.message_defs.specs.Updates.{Update, Remove, Add, Renew, Value, update_numbers}
-use Rattle.message_defs.specs.Statements.{Message, Statement, Init, Echo, Order, Place, Keep, Notify, End, Last, Suggest, Ack, Ready}
+use Rattle.message_defs.specs.Statements.{Message, Statement, Init, Echo, Order, Place, Keep, Notify, End, Last, Suggest, Ack, Ready, Claim}
 
 abbrev pub message_bytes : Message → List ℕ
 message_bytes m = m.sender ∷ two m.number
@@ -73,3 +73,7 @@ IsStatement (Last x r ready) = IsView x × (r ≤ 15) × IsReport r ready
 IsStatement (Suggest x r v) = IsView x × (r ≤ 15) × IsValue v
 IsStatement (Ack x r v) = IsView x × (r ≤ 15) × IsValue v
 IsStatement (Ready x r v) = IsView x × (r ≤ 15) × IsValue v
+
+-- what a frame can carry
+abbrev pub IsClaim : Claim → Type 0
+IsClaim c = (c.signer ≤ 63) × IsStatement c.statement × (length c.signature ≤ 16384)

@@ -54,6 +54,20 @@ slot_of (Suggest x r v) = SuggestAt x r
 slot_of (Ack x r v) = AckAt x r
 slot_of (Ready x r v) = ReadyAt x r
 
+-- a statement's first byte, as bodies and slots have it
+abbrev pub kind_number : Statement → ℕ
+kind_number (Init x l payload) = 1
+kind_number (Echo x m payload) = 2
+kind_number (Order x k m) = 3
+kind_number (Place x k m) = 4
+kind_number (Keep x k m) = 5
+kind_number (Notify x u) = 6
+kind_number (End x k) = 7
+kind_number (Last x r ready) = 8
+kind_number (Suggest x r v) = 9
+kind_number (Ack x r v) = 10
+kind_number (Ready x r v) = 11
+
 -- the kind's number, the view's, and then what is left of the slot: slots are ordered by these
 abbrev pub slot_numbers : Slot → List ℕ
 slot_numbers (InitAt x l) = 1 ∷ x ∷ l ∷ []

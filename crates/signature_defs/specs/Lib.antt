@@ -1,1 +1,5 @@
 pub mod Plain
+pub mod Strings
+pub mod LmOts
+pub mod Lms
+pub mod Laws
