@@ -57,9 +57,13 @@ held_words p m = codes "held " ++ (decimal p ++ (codes " " ++ (decimal m.sender 
 abbrev pub held_line : Process → Message → List ℕ
 held_line p m = elim (payload_at p.pool m) [ None ↦ [] | Some payload ↦ held_words p.me m ++ (codes " " ++ (payload_word payload ++ end_line)) ]
 
--- the process, how many statements it signed, and what it holds, by the sender's rank and then the number
+-- the process, and how many statements it signed
+abbrev pub process_line : Process → List ℕ
+process_line p = codes "process " ++ (decimal p.me ++ (codes " " ++ (decimal (length p.signed) ++ end_line)))
+
+-- and what it holds, by the sender's rank and then the number
 abbrev pub process_lines : List Message → Process → List ℕ
-process_lines messages p = (codes "process " ++ (decimal p.me ++ (codes " " ++ (decimal (length p.signed) ++ end_line)))) ++ flat_map (held_line p) messages
+process_lines messages p = process_line p ++ flat_map (held_line p) messages
 
 abbrev pub answer_line : List ℕ → Bool → List ℕ
 answer_line word holds = word ++ ((if holds then codes " yes" else codes " no") ++ end_line)

@@ -8,7 +8,7 @@
 --     03 Pass     frame4 to1
 -- Bytes are a schedule exactly where they are at most 67,108,864, with 1 to 64 processes and 1 to 16 different members of
 -- the roster, at most 1,000,000 events, each at a correct process, and nothing behind the last event.
-use Rattle.std.specs.Prelude.{◌≡◌, ◌≢◌, ℕ, zero, suc, ◌+◌, ◌<◌, ◌≤◌, ◌^◌, Bool, true, false, ◌&&◌, ◌||◌, not, nat_lt, nat_le, ◌==◌, IsTrue, List, [], ◌∷◌, ◌++◌, length, map, AllPairs, Result, Ok, Err, codes, if◌then◌else◌}
+use Rattle.std.specs.Prelude.{◌≡◌, ◌≢◌, ℕ, zero, suc, ◌+◌, ◌<◌, ◌≤◌, ◌^◌, Bool, true, false, ◌&&◌, ◌||◌, not, nat_lt, nat_le, ◌==◌, IsTrue, List, [], ◌∷◌, ◌++◌, length, take, map, AllPairs, Result, Ok, Err, codes, if◌then◌else◌}
 use Rattle.std.specs.List.{list_any, flat_map, AllByRecursion}
 use Rattle.std.specs.Int.{w8, w16, w32, to_be_bytes}
 use Rattle.byte_defs.specs.Equality.{same_bytes}
@@ -38,11 +38,17 @@ pub record Schedule : Type 0 where
   pub genesis : List ℕ
   pub events : List ScheduleEvent
 
+-- one of them has this number
 abbrev pub is_listed : List Listed → ℕ → Bool
 is_listed ls p = list_any (λ l. l.process == p) ls
 
+-- a correct one of them has this number
 abbrev pub is_correct : List Listed → ℕ → Bool
 is_correct ls p = list_any (λ l. (l.process == p) && not l.corrupt) ls
+
+-- one of these numbers is this one
+abbrev pub is_among : List ℕ → ℕ → Bool
+is_among ps p = list_any (λ q. q == p) ps
 
 -- ---- the spelling
 
@@ -110,11 +116,18 @@ text_at most bytes = do
   _ ← refuse_if (nat_lt most len.0) faults.Field
   bytes_at faults.Short len.0 len.1
 
+-- the number of a process
+unfoldable pub process_at : ScheduleFault → List ℕ → Step ℕ
+process_at fault bytes = do
+  p ← byte_at bytes
+  _ ← refuse_if (nat_lt 63 p.0) fault
+  Ok (p.0, p.1)
+
+-- a process of this number or a higher one
 unfoldable pub listed_at : ℕ → List ℕ → Step Listed
 listed_at least bytes = do
-  process ← byte_at bytes
+  process ← process_at faults.Roster bytes
   _ ← refuse_if (nat_lt process.0 least) faults.Roster
-  _ ← refuse_if (nat_lt 63 process.0) faults.Roster
   role ← byte_at process.1
   _ ← refuse_if (nat_lt 1 role.0) faults.Roster
   key ← bytes_at faults.Short 32 role.1
@@ -128,56 +141,81 @@ all_listed_at (suc n) least bytes = do
   others ← all_listed_at n (first.0.process + 1) first.1
   Ok (first.0 ∷ others.0, others.1)
 
--- so many more members, each listed and none of those before
-unfoldable pub members_at : ℕ → List Listed → List ℕ → List ℕ → Step (List ℕ)
-members_at zero ls before bytes = Ok (before, bytes)
-members_at (suc n) ls before bytes = do
-  first ← byte_at bytes
-  _ ← refuse_if (not (is_listed ls first.0)) faults.Roster
-  _ ← refuse_if (list_any (λ m. m == first.0) before) faults.Roster
-  members_at n ls (before ++ first.0 ∷ []) first.1
+-- their number, and each of them
+unfoldable pub processes_at : List ℕ → Step (List Listed)
+processes_at bytes = do
+  count ← byte_at bytes
+  _ ← refuse_if (count.0 == 0) faults.Roster
+  _ ← refuse_if (nat_lt 64 count.0) faults.Roster
+  all_listed_at count.0 0 count.1
+
+-- a member, listed and none of those before
+unfoldable pub member_at : (ℕ → Bool) → List ℕ → List ℕ → Step ℕ
+member_at listed before bytes = do
+  m ← process_at faults.Roster bytes
+  _ ← refuse_if (not (listed m.0)) faults.Roster
+  _ ← refuse_if (is_among before m.0) faults.Roster
+  Ok (m.0, m.1)
+
+-- those before, and so many more members
+unfoldable pub members_at : ℕ → (ℕ → Bool) → List ℕ → List ℕ → Step (List ℕ)
+members_at zero listed before bytes = Ok (before, bytes)
+members_at (suc n) listed before bytes = do
+  first ← member_at listed before bytes
+  members_at n listed (before ++ first.0 ∷ []) first.1
+
+-- their number, and each of them
+unfoldable pub genesis_at : (ℕ → Bool) → List ℕ → Step (List ℕ)
+genesis_at listed bytes = do
+  count ← byte_at bytes
+  _ ← refuse_if (count.0 == 0) faults.Roster
+  _ ← refuse_if (nat_lt 16 count.0) faults.Roster
+  members_at count.0 listed [] count.1
 
 -- a correct process
-unfoldable pub correct_at : List Listed → List ℕ → Step ℕ
-correct_at ls bytes = do
-  p ← byte_at bytes
-  _ ← refuse_if (not (is_correct ls p.0)) faults.Field
+unfoldable pub correct_at : (ℕ → Bool) → List ℕ → Step ℕ
+correct_at correct bytes = do
+  p ← process_at faults.Field bytes
+  _ ← refuse_if (not (correct p.0)) faults.Field
   Ok (p.0, p.1)
 
-unfoldable pub submit_at : List Listed → List ℕ → Step ScheduleEvent
-submit_at ls bytes = do
-  p ← correct_at ls bytes
+unfoldable pub submit_at : (ℕ → Bool) → List ℕ → Step ScheduleEvent
+submit_at correct bytes = do
+  p ← correct_at correct bytes
   payload ← text_at 65535 p.1
   Ok (Submit p.0 payload.0, payload.1)
 
-unfoldable pub raw_at : List Listed → List ℕ → Step ScheduleEvent
-raw_at ls bytes = do
-  to ← correct_at ls bytes
-  from ← byte_at to.1
-  _ ← refuse_if (nat_lt 63 from.0) faults.Field
+unfoldable pub raw_at : (ℕ → Bool) → List ℕ → Step ScheduleEvent
+raw_at correct bytes = do
+  to ← correct_at correct bytes
+  from ← process_at faults.Field to.1
   frame ← text_at 61440 from.1
   Ok (Raw to.0 from.0 frame.0, frame.1)
 
-unfoldable pub pass_at : List Listed → List ℕ → Step ScheduleEvent
-pass_at ls bytes = do
+unfoldable pub pass_at : (ℕ → Bool) → List ℕ → Step ScheduleEvent
+pass_at correct bytes = do
   frame ← long_at bytes
-  to ← correct_at ls frame.1
+  to ← correct_at correct frame.1
   Ok (Pass frame.0 to.0, to.1)
 
-unfoldable pub event_at : List Listed → List ℕ → Step ScheduleEvent
-event_at ls bytes = do
+unfoldable pub event_at : (ℕ → Bool) → List ℕ → Step ScheduleEvent
+event_at correct bytes = do
   tag ← byte_at bytes
-  if tag.0 == 1 then submit_at ls tag.1 else
-      (if tag.0 == 2 then raw_at ls tag.1 else
-      (if tag.0 == 3 then pass_at ls tag.1 else Err faults.Tag))
+  if tag.0 == 1 then submit_at correct tag.1 else
+      (if tag.0 == 2 then raw_at correct tag.1 else
+      (if tag.0 == 3 then pass_at correct tag.1 else Err faults.Tag))
+
+-- the fault of one event too many
+abbrev pub too_many : ℕ → ScheduleFault
+too_many tag = if nat_le 1 tag && nat_le tag 3 then faults.TooMany else faults.Tag
 
 -- events to the end of the bytes, and at most so many
-unfoldable pub events_at : ℕ → List Listed → List ℕ → Result (List ScheduleEvent) ScheduleFault
-events_at n ls [] = Ok []
-events_at zero ls (b ∷ bytes) = Err faults.TooMany
-events_at (suc n) ls (b ∷ bytes) = do
-  first ← event_at ls (b ∷ bytes)
-  others ← events_at n ls first.1
+unfoldable pub events_at : ℕ → (ℕ → Bool) → List ℕ → Result (List ScheduleEvent) ScheduleFault
+events_at n correct [] = Ok []
+events_at zero correct (b ∷ bytes) = Err (too_many b)
+events_at (suc n) correct (b ∷ bytes) = do
+  first ← event_at correct (b ∷ bytes)
+  others ← events_at n correct first.1
   Ok (first.0 ∷ others)
 
 unfoldable pub most_events : ℕ
@@ -186,21 +224,33 @@ most_events = 1000000
 unfoldable pub most_bytes : ℕ
 most_bytes = 67108864
 
-unfoldable pub schedule_of : List ℕ → Result Schedule ScheduleFault
-schedule_of bytes = do
-  _ ← refuse_if (nat_lt most_bytes (length bytes)) faults.TooLong
+-- the group, behind what every schedule begins with
+unfoldable pub group_at : List ℕ → Step (List ℕ)
+group_at bytes = do
   magic ← bytes_at faults.Short 4 bytes
   _ ← refuse_if (not (same_bytes magic.0 (codes "RPS1"))) faults.Magic
   scheme ← byte_at magic.1
   _ ← refuse_if (not (scheme.0 == 0)) faults.Scheme
-  group ← bytes_at faults.Short 16 scheme.1
-  count ← byte_at group.1
-  _ ← refuse_if (count.0 == 0) faults.Roster
-  _ ← refuse_if (nat_lt 64 count.0) faults.Roster
-  listed ← all_listed_at count.0 0 count.1
-  size ← byte_at listed.1
-  _ ← refuse_if (size.0 == 0) faults.Roster
-  _ ← refuse_if (nat_lt 16 size.0) faults.Roster
-  genesis ← members_at size.0 listed.0 [] size.1
-  events ← events_at most_events listed.0 genesis.1
-  Ok (record { group = group.0; processes = listed.0; genesis = genesis.0; events = events })
+  bytes_at faults.Short 16 scheme.1
+
+-- the schedule that all of the bytes spell, however many they are
+unfoldable pub whole_of : List ℕ → Result Schedule ScheduleFault
+whole_of bytes = do
+  group ← group_at bytes
+  processes ← processes_at group.1
+  genesis ← genesis_at (is_listed processes.0) processes.1
+  events ← events_at most_events (is_correct processes.0) genesis.1
+  Ok (record { group = group.0; processes = processes.0; genesis = genesis.0; events = events })
+
+-- A field that the limit cuts off is no fault.
+abbrev pub fault_past_limit : ScheduleFault → ScheduleFault
+fault_past_limit faults.Short = faults.TooLong
+fault_past_limit fault = fault
+
+-- Too long are bytes where no other fault stands within the limit.
+abbrev pub past_limit : Result Schedule ScheduleFault → Result Schedule ScheduleFault
+past_limit (Ok s) = Err faults.TooLong
+past_limit (Err fault) = Err (fault_past_limit fault)
+
+unfoldable pub schedule_of : List ℕ → Result Schedule ScheduleFault
+schedule_of bytes = if nat_lt most_bytes (length bytes) then past_limit (whole_of (take most_bytes bytes)) else whole_of bytes

@@ -111,9 +111,13 @@ steps s w c e submit =
 abbrev pub player_of : World → ℕ → Option Player
 player_of w p = find (λ c. c.listed.process == p) w.players
 
+abbrev pub hands_to : Setting → World → group.Event → Bool → Option Player → World
+hands_to s w e submit None = w
+hands_to s w e submit (Some c) = steps s w c e submit
+
 -- an event is handed to the process of this number
 abbrev pub hands : Setting → World → ℕ → group.Event → Bool → World
-hands s w p e submit = elim (player_of w p) [ None ↦ w | Some c ↦ steps s w c e submit ]
+hands s w p e submit = hands_to s w e submit (player_of w p)
 
 -- what an event makes of the world; none where it names a frame that is not sent yet
 abbrev pub happens : Setting → World → ScheduleEvent → Option World

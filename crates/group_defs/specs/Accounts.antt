@@ -143,13 +143,21 @@ sound accounts keyed =
     && list_all (is_sound_in g) (range_with_len 0 (length g.views))
     && list_all (is_accepted g) accounts
 
--- ---- left to be proved: the two ways say the same
+-- ---- the two ways say the same
 
 abbrev pub BoundedIsTested : Type 0
 BoundedIsTested = (accounts : List Account) (correct : List ℕ) → IsTrue (bounded accounts correct) ↔ Bounded accounts correct
 
+-- The tests of the other two look at the views that there are, so they want what each account of a process has: one
+-- delivered list for each view. Of other accounts they say too little.
+abbrev pub HasListOfEachView : Account → Type 0
+HasListOfEachView a = length a.delivered ≡ length a.views
+
+abbrev pub AccountsHaveLists : Type 0
+AccountsHaveLists = (ps : List Process) → All HasListOfEachView (map account_of ps)
+
 abbrev pub AgreeIsTested : Type 0
-AgreeIsTested = (accounts : List Account) → IsTrue (agree accounts) ↔ Agree accounts
+AgreeIsTested = (accounts : List Account) → All HasListOfEachView accounts → IsTrue (agree accounts) ↔ Agree accounts
 
 abbrev pub SoundIsTested : Type 0
-SoundIsTested = (accounts : List Account) (keyed : List ℕ) → IsTrue (sound accounts keyed) ↔ Sound accounts keyed
+SoundIsTested = (accounts : List Account) (keyed : List ℕ) → All HasListOfEachView accounts → IsTrue (sound accounts keyed) ↔ Sound accounts keyed

@@ -1,14 +1,14 @@
--- The laws. Each is to be the contract of a public function with an empty body.
-use Rattle.std.specs.Prelude.{◌≡◌, ◌≢◌, ◌⊎◌, ℕ, ◌+◌, ◌<◌, ◌≤◌, Bool, false, not, ◌||◌, ◌==◌, List, [], ◌∷◌, ◌++◌, length, count_by, IsTrue, All, AllPairs, Contains, Option, Some, None, slice_get}
+-- The laws, each the contract of a public function of safety_laws.
+use Rattle.std.specs.Prelude.{◌≡◌, ◌≢◌, ◌⊎◌, ℕ, ◌+◌, ◌<◌, ◌≤◌, Bool, false, not, ◌&&◌, ◌||◌, ◌==◌, List, [], ◌∷◌, ◌++◌, length, count_by, is_some, IsTrue, IsFalse, All, AllPairs, Contains, Option, Some, None, slice_get}
 use Rattle.std.specs.List.{list_any, list_all, AllZip}
 use Rattle.std.specs.List.Sorted.{IsStrictlyIncreasing}
-use Rattle.group_defs.specs.Views.{View, is_member, quorum}
+use Rattle.group_defs.specs.Views.{View, is_member, faulty, quorum}
 use Rattle.message_defs.specs.Updates.{Value}
-use Rattle.message_defs.specs.Statements.{Message, Statement, Keep, End, Last, Ack, Ready, Claim, Conflicts, slot_of, same_statement}
-use Rattle.group_defs.specs.Process.{Setting, Delivered, Process, keyed, views_of, start}
+use Rattle.message_defs.specs.Statements.{Message, Statement, Keep, End, Last, Ack, Ready, Claim, Conflicts, slot_of, view_of, message_of, same_statement}
+use Rattle.group_defs.specs.Process.{Setting, Pool, Delivered, Process, keyed, views_of, start}
 use Rattle.group_defs.specs.Certified.{is_certified, payload_at, place_at}
-use Rattle.group_defs.specs.Values.{is_free}
-use Rattle.group_defs.specs.Due.{may_sign}
+use Rattle.group_defs.specs.Values.{is_free, is_second_way, is_justified, choose}
+use Rattle.group_defs.specs.Due.{may_sign, kind_of}
 use Rattle.group_defs.specs.Hearing.{is_valid}
 use Rattle.group_defs.specs.Settle.{decide, deliver}
 use Rattle.group_defs.specs.Events.{Turn, refusal, signing, after, run}
@@ -67,7 +67,52 @@ pub record WasDue (s : Setting) (turns : List Turn) (p : Process) (i : ℕ) (st 
 abbrev pub EachWasDue : Type 0
 EachWasDue = EachRun (λ s me turns p. (i : ℕ) (st : Statement) → SignsAt p i st → WasDue s turns p i st)
 
+-- each is of a kind that the setting signs
+abbrev pub SignsItsKinds : Type 0
+SignsItsKinds = EachRun (λ s me turns p. All (λ c. Contains s.signs (kind_of c.statement)) p.signed)
+
+-- a claim of the view: a member's, and of no sender outside it
+pub record IsOfView (v : View) (c : Claim) : Type 0 where
+  pub number : view_of c.statement ≡ v.number
+  pub signer : IsTrue (is_member v c.signer)
+  pub sender : (m : Message) → message_of c.statement ≡ Some m → IsTrue (is_member v m.sender)
+
+-- what is heard is of the current view
+abbrev pub HeardIsOfView : Type 0
+HeardIsOfView = EachRun (λ s me turns p. All (IsOfView p.pool.view) p.pool.heard)
+
+-- only members deliver, and only messages of members
+pub record DeliversIn (me : ℕ) (v : View) (ds : List Delivered) : Type 0 where
+  pub outside : IsFalse (is_member v me) → ds ≡ []
+  pub senders : All (λ d. IsTrue (is_member v d.message.sender)) ds
+
+abbrev pub MembersDeliver : Type 0
+MembersDeliver = EachRun (λ s me turns p. All (λ l. DeliversIn p.me l.view l.delivered) p.left × DeliversIn p.me p.pool.view p.delivered)
+
+-- while a decision stands, the Ready that gave it is certified
+abbrev pub DecisionStands : Type 0
+DecisionStands = EachRun (λ s me turns p. (d : ℕ × Value) → p.decision ≡ Some d → IsTrue (is_certified p.pool (Ready p.pool.view.number d.0 d.1)))
+
+-- ---- of one heard list: what a deputy chooses
+
+-- It is justified, and where an earlier rank may have decided, it is a value of the last such rank or of a later one.
+pub record IsChoice (s : Setting) (h : Pool) (r : ℕ) (v : Value) : Type 0 where
+  pub justified : IsTrue (is_justified s h r v)
+  pub adopts : (r0 : ℕ) (w : Value) → IsTrue (is_second_way h r r0 w) → (r1 : ℕ) × (r0 ≤ r1) × IsTrue (is_second_way h r r1 v)
+
+abbrev pub DeputyAdopts : Type 0
+DeputyAdopts = (s : Setting) (h : Pool) (r : ℕ) (v : Value) → choose s h r ≡ Some v → IsChoice s h r v
+
+-- and where some value is justified there is one
+abbrev pub DeputyChooses : Type 0
+DeputyChooses = (s : Setting) (h : Pool) (r : ℕ) (v : Value) → IsTrue (is_justified s h r v) → IsTrue (is_some (choose s h r))
+
 -- ---- of a family
+
+-- two quorums share more than f members
+abbrev pub QuorumsMeet : Type 0
+QuorumsMeet = (members : List ℕ) (p q : ℕ → Bool) → 1 ≤ length members → quorum (length members) ≤ count_by p members → quorum (length members) ≤ count_by q members
+    → faulty (length members) < count_by (λ m. p m && q m) members
 
 -- 1 to 16 members, each once
 pub record IsView (v : View) : Type 0 where
@@ -108,6 +153,9 @@ pub record StoodSo (f : Family) (q : Process) : Type 0 where
 abbrev pub SettledStood : Type 0
 SettledStood = (f : Family) (q : Process) → SettledSo f q → StoodSo f q
 
+abbrev pub EndStood : Type 0
+EndStood = (f : Family) (p : Process) → Contains (ends f) p → StoodSo f p
+
 -- every correct process that installed the view of this number installed v
 abbrev pub IsViewOfAll : Family → View → Type 0
 IsViewOfAll f v = All (λ p. All (λ w. w.number ≡ v.number → w ≡ v) (views_of p)) (ends f)
@@ -132,6 +180,10 @@ pub record IsOneView (f : Family) (v : View) : Type 0 where
 -- each view that is installed is one
 abbrev pub InstalledIsView : Type 0
 InstalledIsView = (f : Family) → Premises f → All (λ p. All IsView (views_of p)) (ends f)
+
+-- and the one of its number: so what follows holds of each view that a correct process installed
+abbrev pub InstalledIsOne : Type 0
+InstalledIsOne = (f : Family) → Premises f → All (λ p. All (IsOneView f) (views_of p)) (ends f)
 
 -- certified gives backed: nothing below looks at heard claims again
 abbrev pub CertifiedIsBacked : Type 0
