@@ -1,23 +1,26 @@
--- The row «deputy_hides_ready», as the oracle runs it.
-use Rattle.std.proofs.Common.{◌≡◌, refl, ℕ, List, [], ◌∷◌, Bool, true, false, Option, Some, None, map}
+-- All correct members have signed a Ready at rank 0. The corrupt deputy of rank 1 says Last none and suggests another value:
+-- nobody acknowledges it.
+use Rattle.std.proofs.Common.{◌≡◌, refl, List, [], ◌∷◌, true, Some, None}
 use native.Mathlib.Decide.{ℕ_discrete}
 use Rattle.byte_defs.specs.Equality.{bytes_discrete, option_discrete, pair_discrete}
-use Rattle.group_defs.specs.Views.{View, View-discrete, UpdateFault, ViewsSpent, AlreadyMember, GroupFull, NotMember, LastMember}
-use Rattle.message_defs.specs.Updates.{Update, Remove, Add, Renew, Value-discrete}
-use Rattle.message_defs.specs.Statements.{Statement, Init, Echo, Order, Place, Keep, Notify, End, Last, Suggest, Ack, Ready, Message-discrete}
-use Rattle.group_defs.specs.Process.{Setting, Process, Delivered, Delivered-discrete, start, keyed}
+use Rattle.group_defs.specs.Views.{View-discrete}
+use Rattle.message_defs.specs.Updates.{Remove, Renew, Value-discrete}
+use Rattle.message_defs.specs.Statements.{Notify, End, Last, Suggest, Ack, Ready, Message-discrete}
+use Rattle.group_defs.specs.Process.{Setting, Delivered-discrete, start, keyed}
 use Rattle.group_defs.specs.Certified.{placed}
 use Rattle.group_defs.specs.Due.{least_due}
 use Rattle.group_defs.specs.Hearing.{hear_all}
 use Rattle.group_defs.specs.Signing.{sign_kind, sign_kinds, sign_all}
 use Rattle.group_defs.specs.Settle.{deliver_more, settle}
-use Rattle.message_defs.specs.Claims.{Claims, Wants, Faulty}
-use Rattle.group_defs.specs.Events.{Turn, after, run, Submit, Hand, Suspect, Join, RenewView, Tick, HaltedNow, BadFrame, Outsider, TooLong, Backlog, NoKey, NoNext, Note, Delivers, Installs, Liar, Spent, Halts}
-use Rattle.group_rows.specs.Scripts.{Seen, seen, setting, turn, by, forged, msg, value}
+use Rattle.message_defs.specs.Claims.{Claims}
+use Rattle.group_defs.specs.Events.{Turn, after, run, Hand, Suspect, RenewView}
+use Rattle.group_rows.specs.Scripts.{Seen, seen, setting, turn, by, value}
 use Rattle.group_defs.specs.Accounts.{bounded, agree, sound}
 use Rattle.group_defs.specs.Family.{Family, accounts, numbers, honest}
+use Rattle.group_defs.specs.Laws.{Premises}
+use Rattle.group_rows.proofs.Premises.{is_well_set, premises-of, four}
 
-s : Setting
+pub s : Setting
 s = setting (0 ∷ 1 ∷ 2 ∷ 3 ∷ []) (0 ∷ 1 ∷ 2 ∷ 3 ∷ [])
 
 turns_0 : List Turn
@@ -128,9 +131,16 @@ row_3 : seen s (start s 3) turns_3 ≡ answers_3
 unfolding ℕ_discrete bytes_discrete option_discrete pair_discrete Value-discrete Message-discrete placed least_due hear_all sign_kind sign_kinds sign_all deliver_more settle after s turns_3 answers_3
 row_3 = refl
 
-f : Family
+pub f : Family
 f = record { setting = s; correct = (record { me = 0; turns = turns_0 } ∷ record { me = 2; turns = turns_2 } ∷ record { me = 3; turns = turns_3 } ∷ []) }
 
-judged : honest f ∷ bounded (accounts f) (numbers f) ∷ agree (accounts f) ∷ sound (accounts f) (keyed f.setting) ∷ [] ≡ true ∷ true ∷ true ∷ true ∷ []
+pub judged : honest f ∷ bounded (accounts f) (numbers f) ∷ agree (accounts f) ∷ sound (accounts f) (keyed f.setting) ∷ [] ≡ true ∷ true ∷ true ∷ true ∷ []
 unfolding ℕ_discrete bytes_discrete option_discrete pair_discrete Value-discrete Message-discrete placed least_due hear_all sign_kind sign_kinds sign_all deliver_more settle after run View-discrete Delivered-discrete f s turns_0 turns_2 turns_3
 judged = refl
+
+well_set : is_well_set f ≡ true
+unfolding f s
+well_set = refl
+
+pub premises : Premises f
+premises = premises-of f well_set (four judged).0 (four judged).1

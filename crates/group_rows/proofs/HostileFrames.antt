@@ -1,24 +1,26 @@
--- The row «hostile_frames», as the oracle runs it.
-use Rattle.std.proofs.Common.{◌≡◌, refl, ℕ, List, [], ◌∷◌, Bool, true, false, Option, Some, None, map}
+-- Frames with each fault are refused, and change nothing.
+use Rattle.std.proofs.Common.{◌≡◌, refl, List, [], ◌∷◌, true, Some}
 use native.Mathlib.Decide.{ℕ_discrete}
 use Rattle.byte_defs.specs.Equality.{bytes_discrete, option_discrete, pair_discrete}
-use Rattle.group_defs.specs.Views.{View, View-discrete, UpdateFault, ViewsSpent, AlreadyMember, GroupFull, NotMember, LastMember}
-use Rattle.message_defs.specs.Updates.{Update, Remove, Add, Renew, Value-discrete}
-use Rattle.message_defs.specs.Statements.{Statement, Init, Echo, Order, Place, Keep, Notify, End, Last, Suggest, Ack, Ready, Message-discrete}
-use Rattle.group_defs.specs.Process.{Setting, Process, Delivered, Delivered-discrete, start, keyed}
+use Rattle.group_defs.specs.Views.{View-discrete}
+use Rattle.message_defs.specs.Updates.{Value-discrete}
+use Rattle.message_defs.specs.Statements.{Message-discrete}
+use Rattle.group_defs.specs.Process.{Setting, Delivered-discrete, start, keyed}
 use Rattle.group_defs.specs.Certified.{placed}
 use Rattle.group_defs.specs.Due.{least_due}
 use Rattle.group_defs.specs.Hearing.{hear_all}
 use Rattle.group_defs.specs.Signing.{sign_kind, sign_kinds, sign_all}
 use Rattle.group_defs.specs.Settle.{deliver_more, settle}
 use Rattle.message_defs.specs.declared.FrameFault.TheVariants as faults
-use Rattle.message_defs.specs.Claims.{Claims, Wants, Faulty}
-use Rattle.group_defs.specs.Events.{Turn, after, run, Submit, Hand, Suspect, Join, RenewView, Tick, HaltedNow, BadFrame, Outsider, TooLong, Backlog, NoKey, NoNext, Note, Delivers, Installs, Liar, Spent, Halts}
-use Rattle.group_rows.specs.Scripts.{Seen, seen, setting, turn, by, forged, msg, value}
+use Rattle.message_defs.specs.Claims.{Faulty}
+use Rattle.group_defs.specs.Events.{Turn, after, run, Hand, BadFrame}
+use Rattle.group_rows.specs.Scripts.{Seen, seen, setting, turn}
 use Rattle.group_defs.specs.Accounts.{bounded, agree, sound}
 use Rattle.group_defs.specs.Family.{Family, accounts, numbers, honest}
+use Rattle.group_defs.specs.Laws.{Premises}
+use Rattle.group_rows.proofs.Premises.{is_well_set, premises-of, four}
 
-s : Setting
+pub s : Setting
 s = setting (0 ∷ 1 ∷ 2 ∷ 3 ∷ []) (0 ∷ 1 ∷ 2 ∷ 3 ∷ [])
 
 turns_0 : List Turn
@@ -77,9 +79,16 @@ row_2 : seen s (start s 2) turns_2 ≡ answers_2
 unfolding ℕ_discrete bytes_discrete option_discrete pair_discrete Value-discrete Message-discrete placed least_due hear_all sign_kind sign_kinds sign_all deliver_more settle after s turns_2 answers_2
 row_2 = refl
 
-f : Family
+pub f : Family
 f = record { setting = s; correct = (record { me = 0; turns = turns_0 } ∷ record { me = 1; turns = turns_1 } ∷ record { me = 2; turns = turns_2 } ∷ []) }
 
-judged : honest f ∷ bounded (accounts f) (numbers f) ∷ agree (accounts f) ∷ sound (accounts f) (keyed f.setting) ∷ [] ≡ true ∷ true ∷ true ∷ true ∷ []
+pub judged : honest f ∷ bounded (accounts f) (numbers f) ∷ agree (accounts f) ∷ sound (accounts f) (keyed f.setting) ∷ [] ≡ true ∷ true ∷ true ∷ true ∷ []
 unfolding ℕ_discrete bytes_discrete option_discrete pair_discrete Value-discrete Message-discrete placed least_due hear_all sign_kind sign_kinds sign_all deliver_more settle after run View-discrete Delivered-discrete f s turns_0 turns_1 turns_2
 judged = refl
+
+well_set : is_well_set f ≡ true
+unfolding f s
+well_set = refl
+
+pub premises : Premises f
+premises = premises-of f well_set (four judged).0 (four judged).1

@@ -1,25 +1,23 @@
 -- What is certified at a correct process is backed in the family.
 use Rattle.std.proofs.Common.{◌≡◌, inl, inr, ℕ, zero, suc, ◌+◌, ◌-◌, ◌<◌, List, [], ◌∷◌, map, length, Some, Bool, true, false, refl, sym, ap, ◌∙◌, subst, arith, slice_get}
-use Rattle.std.specs.Prelude.{◌&&◌, ◌||◌, ◌==◌, not, Contains, slice_index}
-use Rattle.std.specs.List.{list_any, list_all, AllByRecursion}
+use Rattle.std.specs.Prelude.{◌||◌, ◌==◌, not, Contains, slice_index}
+use Rattle.std.specs.List.{list_any}
 use Rattle.std.specs.List.Sorted.{IsStrictlyIncreasing}
 use Rattle.std.proofs.lemmas.Bool.{eqb-true, leb-true}
 use Rattle.std.proofs.lemmas.List.Sums.{length-filter}
-use native.Mathlib.Decide.{ℕ_discrete}
-use Rattle.byte_defs.specs.Equality.{bytes_discrete, option_discrete, pair_discrete}
 use Rattle.group_defs.specs.Views.{View, quorum}
-use Rattle.message_defs.specs.Updates.{Value-discrete, Update-discrete}
-use Rattle.message_defs.specs.Statements.{Statement, Statement-discrete, Message-discrete, Claim, same_statement}
+use Rattle.message_defs.specs.Statements.{Statement, Claim, same_statement, Slot, slot_of}
 use Rattle.group_defs.specs.Process.{Process}
-use Rattle.group_defs.specs.Certified.{says, backers, number_of_members}
+use Rattle.group_defs.specs.Certified.{says, backers, number_of_members, heard_on}
 use Rattle.group_defs.specs.Family.{Correct, Family, numbers, end_of, ends, handed, statements_of, IsOwned}
 use Rattle.group_defs.specs.Laws.{IsFrom, StoodSo, IsOneView, IsBacked, may_back, CertifiedIsBacked}
-use Rattle.safety_laws.proofs.Lists.{Mem, mem-slice_get, slice_get-length, Compared, ahead, level, behind, compared}
-use Rattle.safety_laws.proofs.Growing.{is-yes, length-filter-le, mem-append}
-use Rattle.safety_laws.proofs.LeastIsDue.{Contains-mem}
-use Rattle.safety_laws.proofs.Offered.{mem-map, map-mem, heard-says}
+use Rattle.safety_laws.proofs.Counting.{length-filter-le}
+use Rattle.safety_laws.proofs.Heard.{heard-says, heard_on-said}
+use Rattle.safety_laws.proofs.Members.{All-mem, Contains-mem, Mem, each-list_all, map-mem, mem-append, mem-list_any, mem-map}
 use Rattle.safety_laws.proofs.OnePerSlot.{own-signers}
-use Rattle.safety_laws.proofs.OneContent.{All-mem, me-end_of}
+use Rattle.safety_laws.proofs.Places.{Compared, ahead, behind, compared, level, mem-slice_get, slice_get-length}
+use Rattle.safety_laws.proofs.Quorums.{in-ends, me-end_of}
+use Rattle.safety_laws.proofs.Slots.{is-same_statement}
 
 -- ---- each process of a family has a number of its own
 
@@ -63,34 +61,6 @@ module _ (f : Family) (rising : IsStrictlyIncreasing (numbers f)) where
       go i j at_i at_j (behind lt) = absurd (let less = apart j i b a lt at_j at_i in omega (arith, less, e))
       go i j at_i at_j (level same) = let is : Some a ≡ Some b = sym at_i ∙ ap (slice_get f.correct) same ∙ at_j in cc
 
--- ---- tests of lists
-
-pub each-list_all : {A : Type 0} (test : A → Bool) (xs : List A) → ((x : A) → Mem x xs → test x ≡ true) → list_all test xs ≡ true
-each-list_all test [] each = refl
-each-list_all test (x ∷ xs) each = go (test x) (each x (inl refl)) (each-list_all test xs (λ y m. each y (inr m)))
-  where
-    go : (b : Bool) → b ≡ true → list_all test xs ≡ true → (b && list_all test xs) ≡ true
-    go true e rest = rest
-    go false e rest = absurd cc
-
-pub mem-list_any : {A : Type 0} (test : A → Bool) (xs : List A) (y : A) → Mem y xs → test y ≡ true → list_any test xs ≡ true
-mem-list_any test [] y m e = absurd m
-mem-list_any test (x ∷ xs) y (inl same) e = go (test x) (subst (λ z. test z ≡ true) (sym same) e)
-  where
-    go : (b : Bool) → b ≡ true → (b || list_any test xs) ≡ true
-    go true t = refl
-    go false t = absurd cc
-mem-list_any test (x ∷ xs) y (inr m) e = go (test x) (mem-list_any test xs y m e)
-  where
-    go : (b : Bool) → list_any test xs ≡ true → (b || list_any test xs) ≡ true
-    go true t = refl
-    go false t = t
-
-recursion-mem : {A : Type 0} (P : A → Type 0) (xs : List A) (y : A) → AllByRecursion P xs → Mem y xs → P y
-recursion-mem P [] y all m = absurd m
-recursion-mem P (x ∷ xs) y all (inl e) = subst P e all.0
-recursion-mem P (x ∷ xs) y all (inr m) = recursion-mem P xs y all.1 m
-
 -- ---- the law
 
 module _ (f : Family) (v : View) (q : Process) (one : IsOneView f v) (stood : StoodSo f q) where
@@ -103,10 +73,18 @@ module _ (f : Family) (v : View) (q : Process) (one : IsOneView f v) (stood : St
       let b = map-mem (end_of f.setting) f.correct stood.by (Contains-mem (ends f) stood.by stood.correct) in
       let in_by : Mem c stood.by.signed = subst (Mem c) stood.grown.signed.1 (mem-append q.signed stood.grown.signed.0 c (Contains-mem q.signed c own)) in
       let in_end : Mem c (end_of f.setting b.0).signed = subst (λ (p : Process). Mem c p.signed) (sym b.2) in_by in
-      let signer : c.signer ≡ b.0.me = recursion-mem (λ c. c.signer ≡ (end_of f.setting b.0).me) (end_of f.setting b.0).signed c (own-signers f.setting b.0.me b.0.turns) in_end ∙ me-end_of f.setting b.0 in
+      let signer : c.signer ≡ b.0.me = own-signers f.setting b.0.me b.0.turns c in_end ∙ me-end_of f.setting b.0 in
       let number : a.0.me ≡ b.0.me = sym (me-end_of f.setting a.0) ∙ ap (λ (p : Process). p.me) a.2 ∙ e ∙ signer in
       let same : a.0 ≡ b.0 = one-of-number f one.premises.rising a.0 b.0 a.1 b.1 number in
       subst (λ (p : Process). Mem c.statement (statements_of p)) (ap (end_of f.setting) (sym same) ∙ a.2) (mem-map (λ (c : Claim). c.statement) (end_of f.setting b.0).signed c in_end)
+
+  -- what was heard of a correct process on a slot stands in its signed list
+  pub heard-word : (c : Correct) → Mem c f.correct → (slot : Slot) (st : Statement) → heard_on q.pool c.me slot ≡ Some st → Mem st (statements_of (end_of f.setting c)) × (slot_of st ≡ slot)
+  heard-word c m slot st e =
+      let said = heard_on-said q.pool c.me slot st e in
+      let claim = said.0 in
+      let word = own-word claim.0 (All-mem (IsFrom f.setting (handed f) q.signed) q.pool.heard claim.0 stood.heard claim.1) (end_of f.setting c) (in-ends f c m) (me-end_of f.setting c ∙ sym claim.2) in
+      (subst (λ st. Mem st (statements_of (end_of f.setting c))) claim.3 word, said.1)
 
   pub said-may_back : (st : Statement) (m : ℕ) → says q.pool st m ≡ true → may_back f st m ≡ true
   said-may_back st m e =
@@ -115,7 +93,7 @@ module _ (f : Family) (v : View) (q : Process) (one : IsOneView f v) (stood : St
       each-list_all (λ p. not (p.me == m) || list_any (same_statement st) (statements_of p)) (ends f) (λ p at. go p (p.me == m) refl (λ is.
       mem-list_any (same_statement st) (statements_of p) st
       (subst (λ st. Mem st (statements_of p)) c.3 (own-word c.0 source p at (is ∙ sym c.2)))
-      (is-yes (Statement-discrete ℕ_discrete bytes_discrete Message-discrete (Update-discrete ℕ_discrete) (option_discrete (pair_discrete ℕ_discrete Value-discrete)) Value-discrete st st) refl)))
+      (is-same_statement st st refl)))
     where
       go : (p : Process) (b : Bool) → (p.me == m) ≡ b → (p.me ≡ m → list_any (same_statement st) (statements_of p) ≡ true) → (not b || list_any (same_statement st) (statements_of p)) ≡ true
       go p true e said = said (eqb-true p.me m e)

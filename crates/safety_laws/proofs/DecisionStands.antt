@@ -1,20 +1,21 @@
--- While a decision stands, its Ready is certified among the heard claims.
-use Rattle.std.proofs.Common.{◌≡◌, inl, inr, ℕ, List, [], ◌∷◌, Option, Some, None, true}
+-- While a decision stands, the Ready that gave it is certified.
+use Rattle.std.proofs.Common.{◌≡◌, inl, inr, ℕ, List, [], ◌∷◌, Some, true}
 use Rattle.message_defs.specs.Updates.{Value}
 use Rattle.message_defs.specs.Statements.{Ready, Claim}
 use Rattle.group_defs.specs.Process.{Setting, Process, start}
 use Rattle.group_defs.specs.Certified.{is_certified}
 use Rattle.group_defs.specs.Settle.{decided_by}
-use Rattle.group_defs.specs.Laws.{EachRun}
+use Rattle.group_defs.specs.Laws.{DecisionStands}
 use Rattle.safety_laws.proofs.Growing.{is_certified-stays}
-use Rattle.safety_laws.proofs.Installed.{decided_by-is, option_or-is}
 use Rattle.safety_laws.proofs.Induction.{Keeps, run-keeps}
+use Rattle.safety_laws.proofs.Installed.{decided_by-is}
+use Rattle.safety_laws.proofs.Tests.{none-some, option_or-is}
 
-abbrev pub DecisionStands : Process → Type 0
-DecisionStands p = (d : ℕ × Value) → p.decision ≡ Some d → is_certified p.pool (Ready p.pool.view.number d.0 d.1) ≡ true
+abbrev Stands : Process → Type 0
+Stands p = (d : ℕ × Value) → p.decision ≡ Some d → is_certified p.pool (Ready p.pool.view.number d.0 d.1) ≡ true
 
-pub decision-keeps : (s : Setting) (from : List Claim) → Keeps s from DecisionStands
-decision-keeps s from = record {
+keeps : (s : Setting) (from : List Claim) → Keeps s from Stands
+keeps s from = record {
   accepts = λ p payload ok. ok;
   perceives = λ p e ok. ok;
   hears = λ p c m e ok d decided. is_certified-stays p.pool (c ∷ []) (Ready p.pool.view.number d.0 d.1) (ok d decided);
@@ -25,9 +26,6 @@ decision-keeps s from = record {
   installs = λ p d decided whole ok d' e. absurd cc;
   halts = λ p d decided member ok. ok;
 }
-  where
-    none-some : {A : Type 0} {o : Option A} {x : A} → o ≡ None → o ≡ Some x → ⊥
-    none-some n e = cc
 
-pub decision_stands : EachRun (λ s me turns p. DecisionStands p)
-decision_stands s me turns = run-keeps s DecisionStands turns (decision-keeps s _) (start s me) (λ d e. absurd cc)
+pub decision_stands : DecisionStands
+decision_stands s me turns = run-keeps s Stands turns (keeps s _) (start s me) (λ d e. absurd cc)

@@ -1,13 +1,12 @@
 -- Each statement was due at its moment.
 use Rattle.std.proofs.Common.{◌≡◌, ◌⊎◌, inl, inr, ℕ, List, [], ◌∷◌, ◌++◌, map, length, Some, Bool, true, false, refl, sym, ap, ◌∙◌, subst, arith, slice_get}
-use Rattle.std.specs.Prelude.{if◌then◌else◌, is_some, not, nat_lt, unwrap_or, All, Contains, slice_index_or}
-use Rattle.byte_defs.specs.Orders.{put, numbers_below}
-use Rattle.byte_defs.specs.Choices.{first_that_holds}
-use Rattle.group_defs.specs.Hearing.{Old, Early, Stranger, OutOfWindow, Known, Unsigned, Conflict, Heard, verdict, is_valid, is_strange, is_beyond}
+use Rattle.std.specs.Prelude.{if◌then◌else◌, is_some, All, Contains, slice_index_or}
+use Rattle.byte_defs.specs.Orders.{put}
+use Rattle.group_defs.specs.Hearing.{Heard, verdict, is_valid}
 use Rattle.message_defs.specs.Updates.{Update, Value}
-use Rattle.message_defs.specs.Statements.{Statement, Claim, slot_of, view_of}
+use Rattle.message_defs.specs.Statements.{Statement, Claim, slot_of}
 use Rattle.group_defs.specs.Process.{Setting, Left, Process, start, views_of}
-use Rattle.group_defs.specs.Certified.{heard_on, says}
+use Rattle.group_defs.specs.Certified.{heard_on}
 use Rattle.group_defs.specs.Due.{may_sign}
 use Rattle.group_defs.specs.Signing.{Signer, own_claim, signs}
 use Rattle.group_defs.specs.Settle.{install}
@@ -15,42 +14,16 @@ use Rattle.group_defs.specs.Events.{Turn, perceived_numbers}
 use Rattle.group_defs.specs.Accounts.{IsPrefixOf}
 use Rattle.group_defs.specs.Family.{statements_of, handed_to}
 use Rattle.group_defs.specs.Laws.{SignsAt, HasGrown, IsFrom, WasDue, EachWasDue}
-use Rattle.safety_laws.proofs.Lists.{Mem, mem-Contains, slice_get-mem, slice_get-snoc, map-append, mem-snoc, snoc-mem}
-use Rattle.safety_laws.proofs.LeastIsDue.{Contains-mem}
-use Rattle.safety_laws.proofs.OnePerSlot.{slice_get-index}
+use Rattle.std.proofs.lemmas.List.{map-append, length-map}
+use Rattle.safety_laws.proofs.Heard.{verdict-valid}
 use Rattle.safety_laws.proofs.Induction.{Keeps, run-keeps}
+use Rattle.safety_laws.proofs.Members.{Contains-mem, Mem, mem-Contains, mem-snoc, put-mem, snoc-mem}
+use Rattle.safety_laws.proofs.Places.{prefix-more, prefix-self, slice_get-index, slice_get-mem, slice_get-snoc}
 
 -- ---- prefixes
 
-pub append-nil : {A : Type 0} (xs : List A) → xs ++ [] ≡ xs
-append-nil [] = refl
-append-nil (x ∷ xs) = λ i. x ∷ append-nil xs i
-
-pub append-append : {A : Type 0} (xs ys zs : List A) → xs ++ (ys ++ zs) ≡ (xs ++ ys) ++ zs
-append-append [] ys zs = refl
-append-append (x ∷ xs) ys zs = λ i. x ∷ append-append xs ys zs i
-
-pub prefix-self : {A : Type 0} (xs : List A) → IsPrefixOf xs xs
-prefix-self xs = ([], append-nil xs)
-
-pub prefix-more : {A : Type 0} (xs ys zs : List A) → IsPrefixOf xs ys → IsPrefixOf xs (ys ++ zs)
-prefix-more xs ys zs p = (p.0 ++ zs, append-append xs p.0 zs ∙ ap (λ ys. ys ++ zs) p.1)
-
 each-contained : {A : Type 0} (xs : List A) → All (Contains xs) xs
 each-contained xs = λ k d lt. mem-Contains xs (slice_index_or xs k d) (slice_get-mem xs k (slice_index_or xs k d) (slice_get-index xs k d lt))
-
-put-mem : {A : Type 0} (key : A → List ℕ) (a : A) (xs : List A) (y : A) → Mem y xs → Mem y (put key a xs)
-put-mem key a [] y m = absurd m
-put-mem key a (x ∷ xs) y (inl e) = go (numbers_below (key a) (key x))
-  where
-    go : (b : Bool) → Mem y (if b then a ∷ x ∷ xs else x ∷ put key a xs)
-    go true = inr (inl e)
-    go false = inl e
-put-mem key a (x ∷ xs) y (inr m) = go (numbers_below (key a) (key x)) (put-mem key a xs y m)
-  where
-    go : (b : Bool) → Mem y (put key a xs) → Mem y (if b then a ∷ x ∷ xs else x ∷ put key a xs)
-    go true later = inr (inr m)
-    go false later = inr later
 
 -- ---- growing
 
@@ -95,20 +68,6 @@ module _ (old p : Process) (g : HasGrown old p) where
     perceived = subst (λ es. All (Contains es) old.perceived) perceived g.perceived;
   }
 
--- ---- what is heard is valid
-
-heard-valid : (b1 b2 b3 b4 b5 valid b7 : Bool) → unwrap_or (first_that_holds ((b1, Old) ∷ (b2, Early) ∷ (b3, Stranger) ∷ (b4, OutOfWindow) ∷ (b5, Known) ∷ (not valid, Unsigned) ∷ (b7, Conflict) ∷ [])) Heard ≡ Heard → valid ≡ true
-heard-valid true b2 b3 b4 b5 valid b7 e = absurd cc
-heard-valid false true b3 b4 b5 valid b7 e = absurd cc
-heard-valid false false true b4 b5 valid b7 e = absurd cc
-heard-valid false false false true b5 valid b7 e = absurd cc
-heard-valid false false false false true valid b7 e = absurd cc
-heard-valid false false false false false true b7 e = refl
-heard-valid false false false false false false b7 e = absurd cc
-
-verdict-valid : (s : Setting) (p : Process) (c : Claim) → verdict s p c ≡ Heard → is_valid s c ≡ true
-verdict-valid s p c e = heard-valid (nat_lt (view_of c.statement) p.pool.view.number) (nat_lt p.pool.view.number (view_of c.statement)) (is_strange p c) (is_beyond p c.signer c.statement) (says p.pool c.statement c.signer) (is_valid s c) (is_some (heard_on p.pool c.signer (slot_of c.statement))) e
-
 -- ---- each run keeps it
 
 -- handed over and valid, or own
@@ -122,10 +81,6 @@ pub record EachDue (s : Setting) (turns : List Turn) (p : Process) : Type 0 wher
 module _ (s : Setting) (turns : List Turn) where
   goes-on : (p q : Process) → ((old : Process) → HasGrown old p → HasGrown old q) → (i : ℕ) (st : Statement) → WasDue s turns p i st → WasDue s turns q i st
   goes-on p q grow i st was = record { moment = was.moment; grown = grow was.moment was.grown; next = was.next; due = was.due; heard = was.heard }
-
-  length-map : {A B : Type 0} (f : A → B) (xs : List A) → length (map f xs) ≡ length xs
-  length-map f [] = refl
-  length-map f (x ∷ xs) = let rest = length-map f xs in omega (arith, rest)
 
   signing-keeps : (p : Process) (signer : Signer) (st : Statement) → may_sign s p st ≡ true → EachDue s turns p → EachDue s turns (signs s signer p st)
   signing-keeps p signer st may ok = record {
@@ -161,7 +116,7 @@ module _ (s : Setting) (turns : List Turn) where
       now i st' (inr end) = record {
         moment = p;
         grown = signing p p (grown-self p) s signer st;
-        next = let same = length-map (λ (c : Claim). c.statement) p.signed in let at = end.0 in omega (arith, same, at);
+        next = let same = length-map p.signed (λ (c : Claim). c.statement) in let at = end.0 in omega (arith, same, at);
         due = subst (λ st. may_sign s p st ≡ true) end.1 may;
         heard = λ k d lt. heard-now _ (ok.heard _ (slice_get-mem p.pool.heard k _ (slice_get-index p.pool.heard k d lt)));
       }

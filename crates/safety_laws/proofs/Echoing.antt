@@ -1,6 +1,5 @@
--- A world of Init and Echo alone: nothing is decided, ordered, delivered or sent beside what is signed, and at the end
--- all correct processes hold one payload for each message.
-use Rattle.std.proofs.Common.{◌≡◌, inl, inr, ℕ, zero, suc, ◌+◌, ◌-◌, List, [], ◌∷◌, ◌++◌, map, length, drop, Option, Some, None, Bool, true, false, refl, sym, ap, ◌∙◌, subst, arith}
+-- A world of Init and Echo alone: nothing is decided, ordered or delivered, and nothing is sent beside what is signed.
+use Rattle.std.proofs.Common.{◌≡◌, inl, inr, ℕ, ◌+◌, ◌-◌, List, [], ◌∷◌, ◌++◌, map, length, Option, Some, None, Bool, true, false, refl, sym, ap, ◌∙◌, subst, arith}
 use Rattle.std.specs.Prelude.{if◌then◌else◌, is_some, ◌==◌, max, fold, filter, find, filter_map, flat_map, IsTrue, option_and_then, option_to_list, slice_index_or}
 use Rattle.std.specs.List.{range_with_len}
 use Rattle.std.specs.Option.{option_or, option_map_or}
@@ -9,28 +8,24 @@ use Rattle.message_defs.specs.Claims.{Claims, Wants, Faulty}
 use Rattle.message_defs.specs.Updates.{Value}
 use Rattle.message_defs.specs.Statements.{Statement, Init, Echo, Order, Keep, Suggest, Slot, EchoAt, PlaceAt, KeepAt, ReadyAt, Claim, slot_of, same_slot, message_of, value_of}
 use Rattle.group_defs.specs.Views.{is_member, is_possible, has}
-use Rattle.group_defs.specs.Process.{Kind, Inits, Echoes, Setting, Pool, Left, Process, start, keyed}
+use Rattle.group_defs.specs.Process.{Inits, Echoes, Setting, Pool, Left, Process, start, keyed}
 use Rattle.group_defs.specs.Certified.{heard_on, certificate, certificate_on, certified_on, is_certified, place_at, place_kept, fixed_length, number_of_members}
-use Rattle.group_defs.specs.Due.{offers, inits, echoes, echo_of}
+use Rattle.group_defs.specs.Due.{kind_of}
 use Rattle.group_defs.specs.Signing.{Signer, own_claim, signs}
 use Rattle.group_defs.specs.Settle.{decided_at, decided_by, decide, limit, deliver_more, deliver, leave_by, leave, settle}
 use Rattle.group_defs.specs.Sending.{Bundle, Proof, beside_order, beside_suggest, joined, with_what_goes_beside, newly_signed, bundle, place_certificates, commits_of, pools_of, answer, others, unless_empty}
 use Rattle.group_defs.specs.Events.{Event, Submit, Hand, Suspect, Join, RenewView, Tick, EventFault, Outcome, refusal, signing, after, is_tick, answers, answered, outcome}
 use Rattle.group_defs.specs.Family.{claims_in, handed_to}
 use Rattle.group_defs.specs.Echoing.{is_echoing, AreEchoing, SignsEchoing, Echoing, SettlesNothing, EachEventEchoes, EchoesThroughout}
-use Rattle.safety_laws.proofs.Lists.{Mem, filter-mem, filter_map-mem, snoc-mem}
-use Rattle.safety_laws.proofs.Offered.{map-mem}
-use Rattle.safety_laws.proofs.Growing.{same_slot-is}
-use Rattle.safety_laws.proofs.OneContent.{All-mem}
-use Rattle.safety_laws.proofs.Installed.{index-mem}
+use Rattle.std.proofs.lemmas.List.{append-nil}
+use Rattle.safety_laws.proofs.Induction.{AreFrom, Keeps, after-keeps, run-keeps, sign_all-keeps, take_in-keeps}
+use Rattle.safety_laws.proofs.KindsSigned.{offers-kind}
+use Rattle.safety_laws.proofs.Members.{All-mem, Mem, each-snoc, filter-mem, filter_map-mem, index-mem, map-mem, mem-drop, none-in}
 use Rattle.safety_laws.proofs.Settlings.{after-none}
-use Rattle.safety_laws.proofs.Induction.{Keeps, AreFrom, sign_all-keeps, take_in-keeps, after-keeps, run-keeps}
+use Rattle.safety_laws.proofs.Slots.{same_slot-is}
+use Rattle.safety_laws.proofs.Tests.{none-some}
 
 -- ---- lists without what is looked for
-
-none-in : {A : Type 0} (xs : List A) → ((x : A) → Mem x xs → ⊥) → xs ≡ []
-none-in [] not = refl
-none-in (x ∷ xs) not = absurd (not x (inl refl))
 
 first_some-none : {A B : Type 0} (g : A → Option B) (xs : List A) → ((x : A) → g x ≡ None) → first_some g xs ≡ None
 first_some-none g [] each = refl
@@ -39,11 +34,6 @@ first_some-none {A} {B} g (x ∷ xs) each = ap (λ (o : Option B). elim o [ None
 flat_map-none : {A B : Type 0} (g : A → List B) (xs : List A) → ((x : A) → Mem x xs → g x ≡ []) → flat_map g xs ≡ []
 flat_map-none g [] each = refl
 flat_map-none g (x ∷ xs) each = ap (λ ys. ys ++ flat_map g xs) (each x (inl refl)) ∙ flat_map-none g xs (λ y m. each y (inr m))
-
-mem-drop : {A : Type 0} (n : ℕ) (xs : List A) (y : A) → Mem y (drop n xs) → Mem y xs
-mem-drop zero xs y m = m
-mem-drop (suc n) [] y m = m
-mem-drop (suc n) (x ∷ xs) y m = inr (mem-drop n xs y m)
 
 -- ---- what Init and Echo don't show
 
@@ -134,23 +124,15 @@ settles_nothing s p are undecided = ap (λ p. leave (deliver p)) (decides-nothin
 
 -- ---- what is signed
 
-offers-echoing : (s : Setting) (p : Process) (kind : Kind) (st : Statement) → Mem kind (Inits ∷ Echoes ∷ []) → Mem st (offers kind s p) → is_echoing st ≡ true
-offers-echoing s p kind st (inl e) m = init-mem (subst (λ kind. Mem st (offers kind s p)) (sym e) m)
-  where
-    init-mem : Mem st (inits s p) → is_echoing st ≡ true
-    init-mem m = let e = map-mem (λ (e : ℕ × List ℕ). Init p.pool.view.number e.0 e.1) _ st m in ap is_echoing (sym e.2)
-offers-echoing s p kind st (inr (inl e)) m = echo-mem (subst (λ kind. Mem st (offers kind s p)) (sym e) m)
-  where
-    echo-is : (signer : ℕ) (heard : Statement) → echo_of signer heard ≡ Some st → is_echoing st ≡ true
-    echo-is signer (Init x l payload) e = let is : Echo x (record { sender = signer; number = l }) payload ≡ st = cc in ap is_echoing (sym is)
-    echo-is signer _ e = absurd cc
-
-    echo-mem : Mem st (echoes s p) → is_echoing st ≡ true
-    echo-mem m = let c = filter_map-mem (λ (c : Claim). echo_of c.signer c.statement) p.pool.heard st m in echo-is c.0.signer c.0.statement c.2
-offers-echoing s p kind st (inr (inr none)) m = absurd none
+kinds-echoing : (st : Statement) → Mem (kind_of st) (Inits ∷ Echoes ∷ []) → is_echoing st ≡ true
+kinds-echoing (Init x l payload) m = refl
+kinds-echoing (Echo x m payload) n = refl
+kinds-echoing _ (inl e) = absurd cc
+kinds-echoing _ (inr (inl e)) = absurd cc
+kinds-echoing _ (inr (inr none)) = absurd none
 
 snoc-echoing : (cs : List Claim) (c : Claim) → AreEchoing cs → is_echoing c.statement ≡ true → AreEchoing (cs ++ c ∷ [])
-snoc-echoing cs c are e = mem-echoing (cs ++ c ∷ []) (λ d m. elim (snoc-mem cs c d m) [ inl before ↦ echoing-mem cs are d before | inr is ↦ subst (λ (d : Claim). is_echoing d.statement ≡ true) is e ])
+snoc-echoing cs c are e = mem-echoing (cs ++ c ∷ []) (each-snoc (λ (d : Claim). is_echoing d.statement ≡ true) cs c (echoing-mem cs are) e)
 
 keeps : (s : Setting) (from : List Claim) → SignsEchoing s → AreEchoing from → Keeps s from (Echoing s)
 keeps s from two are = record {
@@ -158,16 +140,13 @@ keeps s from two are = record {
   perceives = λ p e ok. record { view = ok.view; heard = ok.heard; signed = ok.signed; undecided = ok.undecided; delivered = ok.delivered; left = ok.left; previous = ok.previous; running = ok.running };
   hears = λ p c m e ok. record { view = ok.view; heard = snoc-echoing p.pool.heard c ok.heard (echoing-mem from are c m); signed = ok.signed; undecided = ok.undecided; delivered = ok.delivered; left = ok.left; previous = ok.previous; running = ok.running };
   doubts = λ p conflicts ok. record { view = ok.view; heard = ok.heard; signed = ok.signed; undecided = ok.undecided; delivered = ok.delivered; left = ok.left; previous = ok.previous; running = ok.running };
-  signs = λ p signer st next none ok. signing-keeps p signer st (offers-echoing s p next.kind st (subst (Mem next.kind) two next.signed) next.offered) ok;
+  signs = λ p signer st next none ok. signing-keeps p signer st (kinds-echoing st (subst (λ kind. Mem kind (Inits ∷ Echoes ∷ [])) (sym (offers-kind next.kind s p st next.offered)) (subst (Mem next.kind) two next.signed))) ok;
   decides = λ p ok. subst (Echoing s) (sym (decides-nothing s p ok.heard ok.undecided)) ok;
   delivers = λ p d member room e ok. absurd (let none = no-limit s p ok.heard ok.undecided in omega (arith, none, room));
   installs = λ p d decided whole ok. absurd (none-some ok.undecided decided);
   halts = λ p d decided member ok. absurd (none-some ok.undecided decided);
 }
   where
-    none-some : {A : Type 0} {o : Option A} {x : A} → o ≡ None → o ≡ Some x → ⊥
-    none-some n e = cc
-
     signing-keeps : (p : Process) (signer : Signer) (st : Statement) → is_echoing st ≡ true → Echoing s p → Echoing s (signs s signer p st)
     signing-keeps p signer st e ok =
         let c : Claim = own_claim s signer p st in
@@ -269,10 +248,6 @@ each_event_echoes s p t two are ok = record { stands = stands; signs = signs_onl
 
     bundled : is_tick t.event ≡ false → bundle (is_tick t.event) p (signing s p t).now ≡ newly_signed p (signing s p t).now
     bundled e = ap (λ tick. bundle tick p (signing s p t).now) e ∙ nothing-beside p (signing s p t).now.pool (newly_signed p (signing s p t).now) new
-
-    append-nil : {A : Type 0} (xs : List A) → xs ++ [] ≡ xs
-    append-nil [] = refl
-    append-nil (x ∷ xs) = λ i. x ∷ append-nil xs i
 
     sent : refusal s p t.event ≡ None → is_tick t.event ≡ false → (outcome s p t).sends ≡ unless_empty (newly_signed p (signing s p t).now) Bundle (others p p.pool.view)
     sent e quiet =

@@ -9,36 +9,17 @@ use Rattle.group_defs.specs.Events.{Turn, after, run}
 use Rattle.group_defs.specs.Accounts.{Account, account_of, IsPrefixOf, HasLeft, delivered_in, longest, group_of, AgreesWith}
 use Rattle.group_defs.specs.Family.{Correct, Family, end_of, ends, accounts, handed_to}
 use Rattle.group_defs.specs.Laws.{Premises, HasGrown, StandsBefore, IsFrontOf, Growth}
-use Rattle.safety_laws.proofs.Lists.{Mem, map-append}
-use Rattle.safety_laws.proofs.Offered.{mem-map, map-mem}
-use Rattle.safety_laws.proofs.OneContent.{All-mem}
-use Rattle.safety_laws.proofs.EachWasDue.{grown-self, prefix-self, append-append}
+use Rattle.std.proofs.lemmas.List.{length-append, map-append}
+use Rattle.safety_laws.proofs.AllAgree.{agreement}
+use Rattle.safety_laws.proofs.EachWasDue.{grown-self}
+use Rattle.safety_laws.proofs.History.{grows}
 use Rattle.safety_laws.proofs.Induction.{Keeps, run-keeps}
-use Rattle.safety_laws.proofs.Installed.{index-mem}
-use Rattle.safety_laws.proofs.History.{grows, slice_get-front, length-map, length-snoc}
-use Rattle.safety_laws.proofs.Decisions.{in-ends, get-some}
-use Rattle.safety_laws.proofs.Agreeing.{longest-mem, longest-most, left-delivered, agreement}
+use Rattle.safety_laws.proofs.Members.{All-mem, Mem, index-mem, map-mem, mem-map}
+use Rattle.safety_laws.proofs.Places.{get-some, longest-mem, longest-most, prefix-equal, prefix-self, prefix-trans, slice_get-front}
+use Rattle.safety_laws.proofs.Quorums.{in-ends}
+use Rattle.safety_laws.proofs.ViewsOf.{left-delivered, length-views}
 
 -- ---- prefixes
-
-prefix-trans : {A : Type 0} (xs ys zs : List A) → IsPrefixOf xs ys → IsPrefixOf ys zs → IsPrefixOf xs zs
-prefix-trans xs ys zs p q = (p.0 ++ q.0, append-append xs p.0 q.0 ∙ ap (λ ys. ys ++ q.0) p.1 ∙ q.1)
-
-prefix-equal : {A : Type 0} (xs ys : List A) → IsPrefixOf xs ys → length ys ≤ length xs → xs ≡ ys
-prefix-equal [] [] p le = refl
-prefix-equal [] (y ∷ ys) p le = absurd (omega (arith, le))
-prefix-equal (x ∷ xs) [] p le = absurd (let e = p.1 in cc)
-prefix-equal {A} (x ∷ xs) (y ∷ ys) p le =
-    let tails : xs ++ p.0 ≡ ys = tail-is (xs ++ p.0) p.1 in
-    let head : x ≡ y = head-is (xs ++ p.0) p.1 in
-    let rest = prefix-equal xs ys (p.0, tails) (omega (arith, le)) in
-    λ i. head i ∷ rest i
-  where
-    head-is : (zs : List A) → x ∷ zs ≡ y ∷ ys → x ≡ y
-    head-is zs e = cc
-
-    tail-is : (zs : List A) → x ∷ zs ≡ y ∷ ys → zs ≡ ys
-    tail-is zs e = cc
 
 last-longer : (xs : List (List Delivered)) (ds es : List Delivered) → IsPrefixOf ds es → (i : ℕ) → IsPrefixOf (slice_index_or (xs ++ ds ∷ []) i []) (slice_index_or (xs ++ es ∷ []) i [])
 last-longer [] ds es p zero = p
@@ -152,19 +133,14 @@ module _ (early late : Family) (front : IsFrontOf early late) where
         let p : Process = end_of late.setting c in
         let p' : Process = end_of late.setting c' in
         let grown = grown-later late.setting c c' before in
-        let one = length-snoc (map (λ (l : Left). l.view) p.left) p.pool.view in
-        let two = length-map (λ (l : Left). l.view) p.left in
-        let l = get-some p.left x (omega (arith, one, two, left)) in
+        let long = length-views p in
+        let l = get-some p.left x (omega (arith, long, left)) in
         let in_late : slice_get p'.left x ≡ Some l.0 = subst (λ ls. slice_get ls x ≡ Some l.0) grown.left.1 (slice_get-front p.left grown.left.0 x l.0 l.1) in
         let at' : slice_get (views_of p') x ≡ Some v = subst (λ vs. slice_get vs x ≡ Some v) grown.views.1 (slice_get-front (views_of p) grown.views.0 x v at) in
         let longer : length (views_of p') ≡ length (views_of p) + length grown.views.0 = ap length (sym grown.views.1) ∙ length-append (views_of p) grown.views.0 in
         let member' : is_member v p'.me ≡ true = subst (λ me. is_member v me ≡ true) (sym grown.me) member in
         let whole = (agrees c' m').whole x v at' member' (omega (arith, longer, left)) in
         left-delivered p x l.0 l.1 ∙ sym (left-delivered p' x l.0 in_late) ∙ whole
-      where
-        length-append : {A : Type 0} (xs ys : List A) → length (xs ++ ys) ≡ length xs + length ys
-        length-append [] ys = omega arith
-        length-append (x ∷ xs) ys = let rest = length-append xs ys in omega (arith, rest)
 
     sequences : (x : ℕ) → IsPrefixOf ((group_of (accounts early)).sequence x) ((group_of (accounts late)).sequence x)
     sequences x = longest-front (λ a. delivered_in a x) (accounts early) ((group_of (accounts late)).sequence x) (sequence-front x)

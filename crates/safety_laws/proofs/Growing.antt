@@ -1,32 +1,17 @@
 -- What is certified stays certified as more is heard.
-use Rattle.std.proofs.Common.{◌≡◌, ◌⊎◌, inl, inr, ℕ, zero, suc, ◌+◌, ◌≤◌, List, [], ◌∷◌, ◌++◌, map, length, Option, Some, None, Bool, true, false, refl, sym, ap, ◌∙◌, subst, arith}
+use Rattle.std.proofs.Common.{◌≡◌, ℕ, zero, suc, ◌+◌, ◌≤◌, List, [], ◌∷◌, ◌++◌, map, length, Option, Some, None, Bool, true, false, refl, sym, ap, ◌∙◌, subst, arith}
 use Rattle.std.specs.Prelude.{if◌then◌else◌, filter, find, ◌&&◌, ◌==◌, option_map, option_and_then}
 use Rattle.std.proofs.lemmas.Bool.{leb-true, le-leb}
-use native.Mathlib.Decide.{ℕ_discrete}
-use Rattle.byte_defs.specs.Equality.{is_yes}
 use Rattle.byte_defs.specs.Choices.{is_some_and}
-use Rattle.message_defs.specs.Updates.{Update-discrete}
 use Rattle.group_defs.specs.Views.{quorum}
-use Rattle.message_defs.specs.Statements.{Message, Message-discrete, Statement, Place, Slot, Slot-discrete, PlaceAt, Claim, slot_of, message_of, same_slot, same_statement}
+use Rattle.message_defs.specs.Statements.{Message, Statement, Place, Slot, PlaceAt, Claim, slot_of, message_of, same_slot, same_statement}
 use Rattle.group_defs.specs.Process.{Pool}
 use Rattle.group_defs.specs.Certified.{claim_on, heard_on, says, backers, is_certified, certified_on, place_at, placed_from, placed, number_of_members}
-use Rattle.safety_laws.proofs.Lists.{Mem, mem-filter, filter-mem, map-append}
-
--- ---- decided equality
-
-pub yes-is : {A : Type 0} (d : Dec A) → is_yes d ≡ true → A
-yes-is (yes a) e = a
-yes-is (no n) e = absurd cc
-
-pub is-yes : {A : Type 0} (d : Dec A) → A → is_yes d ≡ true
-is-yes (yes a) e = refl
-is-yes (no n) e = absurd (n e)
-
-pub same_slot-is : (a b : Slot) → same_slot a b ≡ true → a ≡ b
-same_slot-is a b e = yes-is (Slot-discrete ℕ_discrete Message-discrete (Update-discrete ℕ_discrete) a b) e
-
-pub is-same_slot : (a b : Slot) → a ≡ b → same_slot a b ≡ true
-is-same_slot a b e = is-yes (Slot-discrete ℕ_discrete Message-discrete (Update-discrete ℕ_discrete) a b) e
+use Rattle.std.proofs.lemmas.List.{map-append}
+use Rattle.safety_laws.proofs.Counting.{length-filter-le}
+use Rattle.safety_laws.proofs.Members.{Mem, filter-mem, find-is, mem-append, mem-filter, mem-find}
+use Rattle.safety_laws.proofs.Slots.{same_slot-is}
+use Rattle.safety_laws.proofs.Tests.{map-some, some-and, then-some}
 
 -- ---- finding
 
@@ -38,54 +23,10 @@ find-append test (x ∷ xs) ys y e = go (test x) e (find-append test xs ys y)
     go true e rest = e
     go false e rest = rest e
 
-pub find-is : {A : Type 0} (test : A → Bool) (xs : List A) (y : A) → find test xs ≡ Some y → Mem y xs × (test y ≡ true)
-find-is test [] y e = absurd cc
-find-is test (x ∷ xs) y e = go (test x) refl e (find-is test xs y)
-  where
-    go : (b : Bool) → test x ≡ b → (if b then Some x else find test xs) ≡ Some y → (find test xs ≡ Some y → Mem y xs × (test y ≡ true)) → Mem y (x ∷ xs) × (test y ≡ true)
-    go true t e rest = let is : x ≡ y = cc in (inl is, subst (λ z. test z ≡ true) is t)
-    go false t e rest = let r = rest e in (inr r.0, r.1)
-
-pub mem-find : {A : Type 0} (test : A → Bool) (xs : List A) (y : A) → Mem y xs → test y ≡ true → (z : A) × (find test xs ≡ Some z)
-mem-find test [] y m t = absurd m
-mem-find {A} test (x ∷ xs) y m t = go (test x) refl m (λ m'. mem-find test xs y m' t)
-  where
-    go : (b : Bool) → test x ≡ b → (x ≡ y) ⊎ Mem y xs → (Mem y xs → (z : A) × (find test xs ≡ Some z)) → (z : A) × ((if b then Some x else find test xs) ≡ Some z)
-    go true e m rest = (x, refl)
-    go false e (inl is) rest = absurd (let no' : test x ≡ true = subst (λ z. test z ≡ true) (sym is) t in cc)
-    go false e (inr m) rest = rest m
-
-pub length-filter-le : {A : Type 0} (t u : A → Bool) (xs : List A) → ((x : A) → t x ≡ true → u x ≡ true) → length (filter t xs) ≤ length (filter u xs)
-length-filter-le t u [] h = omega arith
-length-filter-le {A} t u (x ∷ xs) h = go (t x) refl (u x) refl (length-filter-le t u xs h)
-  where
-    go : (b : Bool) → t x ≡ b → (c : Bool) → u x ≡ c → length (filter t xs) ≤ length (filter u xs) → length (if b then x ∷ filter t xs else filter t xs) ≤ length (if c then x ∷ filter u xs else filter u xs)
-    go true e true f le = omega (arith, le)
-    go true e false f le = absurd (let yes' = h x e in cc)
-    go false e true f le = omega (arith, le)
-    go false e false f le = le
-
-pub mem-append : {A : Type 0} (xs ys : List A) (y : A) → Mem y xs → Mem y (xs ++ ys)
-mem-append [] ys y m = absurd m
-mem-append (x ∷ xs) ys y (inl e) = inl e
-mem-append (x ∷ xs) ys y (inr m) = inr (mem-append xs ys y m)
-
 -- ---- with more heard
 
 abbrev pub with_more : Pool → List Claim → Pool
 with_more h more = record { view = h.view; heard = h.heard ++ more }
-
-pub some-and : {A : Type 0} (o : Option A) (test : A → Bool) → is_some_and o test ≡ true → (a : A) × (o ≡ Some a) × (test a ≡ true)
-some-and None test e = absurd cc
-some-and (Some a) test e = (a, refl, e)
-
-pub map-some : {A B : Type 0} (f : A → B) (o : Option A) (b : B) → option_map f o ≡ Some b → (a : A) × (o ≡ Some a) × (f a ≡ b)
-map-some f None b e = absurd cc
-map-some f (Some a) b e = (a, refl, cc)
-
-pub then-some : {A B : Type 0} (f : A → Option B) (o : Option A) (b : B) → option_and_then f o ≡ Some b → (a : A) × (o ≡ Some a) × (f a ≡ Some b)
-then-some f None b e = absurd cc
-then-some f (Some a) b e = (a, refl, e)
 
 module _ (h : Pool) (more : List Claim) where
   heard_on-stays : (signer : ℕ) (slot : Slot) (st : Statement) → heard_on h signer slot ≡ Some st → heard_on (with_more h more) signer slot ≡ Some st

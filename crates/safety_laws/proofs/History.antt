@@ -1,79 +1,31 @@
 -- What a process has seen certified: of what it delivered, of what it decided, of the views that it left.
-use Rattle.std.proofs.Common.{◌≡◌, ◌⊎◌, inl, inr, ℕ, zero, suc, ◌+◌, ◌<◌, ◌≤◌, max, List, [], ◌∷◌, ◌++◌, map, length, Option, Some, None, Bool, true, false, refl, sym, ap, ◌∙◌, subst, arith, slice_get}
-use Rattle.std.specs.Prelude.{if◌then◌else◌, not, nat_lt, filter, filter_map, fold, All, is_some, unwrap_or, option_map}
+use Rattle.std.proofs.Common.{◌≡◌, ◌⊎◌, inl, inr, ℕ, suc, ◌+◌, ◌<◌, ◌≤◌, List, [], ◌∷◌, ◌++◌, map, length, Option, Some, None, Bool, true, false, refl, sym, ap, ◌∙◌, subst, arith, slice_get}
+use Rattle.std.specs.Prelude.{if◌then◌else◌, nat_lt, filter_map, All, is_some, option_map}
 use Rattle.std.specs.Option.{option_map_or}
-use Rattle.std.proofs.lemmas.Bool.{eqb-true, ltb-true, ltb-false}
-use Rattle.byte_defs.specs.Choices.{first_that_holds}
+use Rattle.std.proofs.lemmas.Bool.{ltb-true}
 use Rattle.byte_defs.specs.Orders.{put}
-use Rattle.group_defs.specs.Hearing.{Old, Early, Stranger, OutOfWindow, Known, Unsigned, Conflict, Heard, verdict, is_valid, is_strange, is_beyond, with_heard}
+use Rattle.group_defs.specs.Hearing.{with_heard}
 use Rattle.group_defs.specs.Views.{View, is_member, next_view, is_possible}
 use Rattle.message_defs.specs.Updates.{Value}
-use Rattle.message_defs.specs.Statements.{Message, Statement, Echo, Place, Keep, Ready, Slot, EchoAt, PlaceAt, Claim, slot_of, view_of, message_of, payload_of, same_slot}
-use Rattle.group_defs.specs.Process.{Setting, Pool, Delivered, Left, Process, start, keyed, views_of}
-use Rattle.group_defs.specs.Certified.{heard_on, says, is_certified, certified_on, place_at, payload_at, place_kept, fixed_length, certificate}
+use Rattle.message_defs.specs.Statements.{Message, Statement, Echo, Place, Keep, Ready, Claim, slot_of, view_of}
+use Rattle.group_defs.specs.Process.{Setting, Delivered, Left, Process, start, keyed, views_of}
+use Rattle.group_defs.specs.Certified.{heard_on, is_certified, place_at, payload_at, place_kept, fixed_length, certificate}
 use Rattle.group_defs.specs.Due.{may_sign}
 use Rattle.group_defs.specs.Signing.{Signer, own_claim, signs}
 use Rattle.group_defs.specs.Settle.{decide, decided_by, limit, deliverable, install}
 use Rattle.group_defs.specs.Events.{Turn, perceived_numbers}
 use Rattle.group_defs.specs.Family.{handed_to}
 use Rattle.group_defs.specs.Laws.{HasGrown, IsFrom}
-use Rattle.safety_laws.proofs.Lists.{Mem, and-first, and-second, mem-Contains, slice_get-mem, slice_get-snoc, filter-mem, filter_map-mem, snoc-mem}
-use Rattle.safety_laws.proofs.OnePerSlot.{slice_get-index}
-use Rattle.safety_laws.proofs.Growing.{find-is, map-some, then-some, same_slot-is}
-use Rattle.safety_laws.proofs.EachWasDue.{EachDue, From, grown-self, accepting, perceiving, signing, installing, otherwise}
 use Rattle.safety_laws.proofs.EachWasDue as was
-use Rattle.safety_laws.proofs.Installed.{decided_by-is, option_or-is, some-same}
+use Rattle.std.proofs.lemmas.List.{length-map}
+use Rattle.safety_laws.proofs.EachWasDue.{EachDue, From, accepting, grown-self, installing, otherwise, perceiving, signing}
+use Rattle.safety_laws.proofs.Heard.{fold-attained, kept-is, payload-certified, place-certified, verdict-view}
 use Rattle.safety_laws.proofs.Induction.{Keeps}
-
--- ---- what stands certified
-
-pub certified_on-is : (h : Pool) (slot : Slot) (st : Statement) → certified_on h slot ≡ Some st → (is_certified h st ≡ true) × (slot_of st ≡ slot)
-certified_on-is h slot st e =
-    let found = find-is (is_certified h) (filter (λ st. same_slot (slot_of st) slot) (map (λ (c : Claim). c.statement) h.heard)) st e in
-    let at = filter-mem (λ st. same_slot (slot_of st) slot) (map (λ (c : Claim). c.statement) h.heard) st found.0 in
-    (found.1, same_slot-is (slot_of st) slot at.1)
-
-place-is : (st : Statement) (x k : ℕ) (m : Message) → message_of st ≡ Some m → slot_of st ≡ PlaceAt x k → st ≡ Place x k m
-place-is (Place y j n) x k m e at = let y_is : y ≡ x = cc in let j_is : j ≡ k = cc in let n_is : n ≡ m = cc in λ i. Place (y_is i) (j_is i) (n_is i)
-place-is _ x k m e at = absurd cc
-
-echo-is : (st : Statement) (x : ℕ) (m : Message) (b : List ℕ) → payload_of st ≡ Some b → slot_of st ≡ EchoAt x m → st ≡ Echo x m b
-echo-is (Echo y n c) x m b e at = let y_is : y ≡ x = cc in let n_is : n ≡ m = cc in let c_is : c ≡ b = cc in λ i. Echo (y_is i) (n_is i) (c_is i)
-echo-is _ x m b e at = absurd cc
-
-pub place-certified : (h : Pool) (k : ℕ) (m : Message) → place_at h k ≡ Some m → is_certified h (Place h.view.number k m) ≡ true
-place-certified h k m e =
-    let st = then-some message_of (certified_on h (PlaceAt h.view.number k)) m e in
-    let is = certified_on-is h (PlaceAt h.view.number k) st.0 st.1 in
-    subst (λ st. is_certified h st ≡ true) (place-is st.0 h.view.number k m st.2 is.1) is.0
-
-pub payload-certified : (h : Pool) (m : Message) (b : List ℕ) → payload_at h m ≡ Some b → is_certified h (Echo h.view.number m b) ≡ true
-payload-certified h m b e =
-    let st = then-some payload_of (certified_on h (EchoAt h.view.number m)) b e in
-    let is = certified_on-is h (EchoAt h.view.number m) st.0 st.1 in
-    subst (λ st. is_certified h st ≡ true) (echo-is st.0 h.view.number m b st.2 is.1) is.0
-
-fold-attained : (ks : List ℕ) (most : ℕ) → (fold (λ most k. max most (k + 1)) most ks ≡ most) ⊎ ((k : ℕ) × Mem k ks × (fold (λ most k. max most (k + 1)) most ks ≡ k + 1))
-fold-attained [] most = inl refl
-fold-attained (k ∷ ks) most = go (fold-attained ks (max most (k + 1)))
-  where
-    pick : (e : fold (λ most k. max most (k + 1)) (max most (k + 1)) ks ≡ max most (k + 1)) → (b : Bool) → nat_lt most (k + 1) ≡ b
-        → (fold (λ most k. max most (k + 1)) (max most (k + 1)) ks ≡ most) ⊎ ((j : ℕ) × Mem j (k ∷ ks) × (fold (λ most k. max most (k + 1)) (max most (k + 1)) ks ≡ j + 1))
-    pick e true f = inr (k, inl refl, (let lt = ltb-true most (k + 1) f in omega (arith, lt, e)))
-    pick e false f = inl (let ge = ltb-false most (k + 1) f in omega (arith, ge, e))
-
-    go : (fold (λ most k. max most (k + 1)) (max most (k + 1)) ks ≡ max most (k + 1)) ⊎ ((j : ℕ) × Mem j ks × (fold (λ most k. max most (k + 1)) (max most (k + 1)) ks ≡ j + 1))
-        → (fold (λ most k. max most (k + 1)) (max most (k + 1)) ks ≡ most) ⊎ ((j : ℕ) × Mem j (k ∷ ks) × (fold (λ most k. max most (k + 1)) (max most (k + 1)) ks ≡ j + 1))
-    go (inl e) = pick e (nat_lt most (k + 1)) refl
-    go (inr found) = inr (found.0, inr found.1, found.2)
-
-kept-is : (h : Pool) (st : Statement) (k : ℕ) → place_kept h st ≡ Some k → (m : Message) × (is_certified h (Keep (view_of st) k m) ≡ true)
-kept-is h (Keep x j m) k e = go (is_certified h (Keep x j m)) refl e
-  where
-    go : (b : Bool) → is_certified h (Keep x j m) ≡ b → (if b then Some j else None) ≡ Some k → (m : Message) × (is_certified h (Keep x k m) ≡ true)
-    go true f e = (m, subst (λ j. is_certified h (Keep x j m) ≡ true) (some-same j k e) f)
-    go false f e = absurd cc
-kept-is h _ k e = absurd cc
+use Rattle.safety_laws.proofs.Installed.{decided_by-is}
+use Rattle.safety_laws.proofs.MaySign.{signing-view}
+use Rattle.safety_laws.proofs.Members.{Mem, filter_map-mem, mem-Contains, snoc-mem}
+use Rattle.safety_laws.proofs.Places.{length-snoc, slice_get-front, slice_get-index, slice_get-last, slice_get-mem, slice_get-snoc}
+use Rattle.safety_laws.proofs.Tests.{map-some, option_or-is, then-some}
 
 -- ---- growing
 
@@ -146,41 +98,9 @@ pub record History (s : Setting) (turns : List Turn) (p : Process) : Type 0 wher
   pub lefts : (i : ℕ) (l : Left) → slice_get p.left i ≡ Some l → LeftSo s turns p i l
   pub halts : p.halted ≡ true → Halting s turns p
 
-pub slice_get-front : {A : Type 0} (xs ys : List A) (i : ℕ) (y : A) → slice_get xs i ≡ Some y → slice_get (xs ++ ys) i ≡ Some y
-slice_get-front [] ys i y e = absurd cc
-slice_get-front (x ∷ xs) ys zero y e = e
-slice_get-front (x ∷ xs) ys (suc i) y e = slice_get-front xs ys i y e
-
-pub slice_get-last : {A : Type 0} (xs : List A) (last : A) (i : ℕ) → i ≡ length xs → slice_get (xs ++ last ∷ []) i ≡ Some last
-slice_get-last [] last i e = subst (λ i. slice_get (last ∷ []) i ≡ Some last) (sym e) refl
-slice_get-last (x ∷ xs) last zero e = absurd (omega (arith, e))
-slice_get-last (x ∷ xs) last (suc i) e = slice_get-last xs last i (omega (arith, e))
-
-pub length-map : {A B : Type 0} (f : A → B) (xs : List A) → length (map f xs) ≡ length xs
-length-map f [] = refl
-length-map f (x ∷ xs) = ap suc (length-map f xs)
-
-pub length-snoc : {A : Type 0} (xs : List A) (last : A) → length (xs ++ last ∷ []) ≡ suc (length xs)
-length-snoc [] last = refl
-length-snoc (x ∷ xs) last = ap suc (length-snoc xs last)
-
 heard-now : (s : Setting) (handed signed : List Claim) (c : Claim) → From s handed signed c → IsFrom s handed signed c
 heard-now s handed signed c (inl m) = inl (mem-Contains handed c m.0, m.1)
 heard-now s handed signed c (inr m) = inr (mem-Contains signed c m)
-
-heard-view : (a b : ℕ) (b3 b4 b5 b6 b7 : Bool) → unwrap_or (first_that_holds ((nat_lt a b, Old) ∷ (nat_lt b a, Early) ∷ (b3, Stranger) ∷ (b4, OutOfWindow) ∷ (b5, Known) ∷ (b6, Unsigned) ∷ (b7, Conflict) ∷ [])) Heard ≡ Heard → a ≡ b
-heard-view a b b3 b4 b5 b6 b7 e = go (nat_lt a b) refl (nat_lt b a) refl e
-  where
-    go : (one : Bool) → nat_lt a b ≡ one → (two : Bool) → nat_lt b a ≡ two → unwrap_or (first_that_holds ((one, Old) ∷ (two, Early) ∷ (b3, Stranger) ∷ (b4, OutOfWindow) ∷ (b5, Known) ∷ (b6, Unsigned) ∷ (b7, Conflict) ∷ [])) Heard ≡ Heard → a ≡ b
-    go true f two g e = absurd cc
-    go false f true g e = absurd cc
-    go false f false g e = let le = ltb-false a b f in let ge = ltb-false b a g in omega (arith, le, ge)
-
-verdict-view : (s : Setting) (p : Process) (c : Claim) → verdict s p c ≡ Heard → view_of c.statement ≡ p.pool.view.number
-verdict-view s p c e = heard-view (view_of c.statement) p.pool.view.number (is_strange p c) (is_beyond p c.signer c.statement) (says p.pool c.statement c.signer) (not (is_valid s c)) (is_some (heard_on p.pool c.signer (slot_of c.statement))) e
-
-pub signing-view : (s : Setting) (p : Process) (st : Statement) → may_sign s p st ≡ true → view_of st ≡ p.pool.view.number
-signing-view s p st may = eqb-true (view_of st) p.pool.view.number (and-second _ _ (and-first _ _ (and-first _ _ may)))
 
 module _ (s : Setting) (turns : List Turn) where
   module _ (p q : Process) (grow : (old : Process) → HasGrown old p → HasGrown old q) where
@@ -238,8 +158,99 @@ module _ (s : Setting) (turns : List Turn) where
               let top = found.2 in
               kept found.0 m.0 (now p ok.due (Keep p.pool.view.number found.0 m.0) (subst (λ x. is_certified p.pool (Keep x found.0 m.0) ≡ true) (ok.current c.0 c.1) m.1)) (omega (arith, lt, top))
 
-  keeps : Keeps s (handed_to turns) (History s turns)
-  keeps = record {
+  -- ---- what each change keeps
+
+  same : (p q : Process) → ((old : Process) → HasGrown old p → HasGrown old q) → EachDue s turns q → ((c : Claim) → Mem c q.pool.heard → view_of c.statement ≡ q.pool.view.number)
+      → p.left ≡ q.left → p.pool.view ≡ q.pool.view → p.delivered ≡ q.delivered → p.decision ≡ q.decision → p.halted ≡ q.halted → History s turns p → History s turns q
+  same p q grow due current left view delivered decision halted ok = record {
+    due = due;
+    current = current;
+    number = sym (ap (λ (v : View). v.number) view) ∙ ok.number ∙ ap length left;
+    possible = λ d e. subst (λ (v : View). is_possible (keyed s) v d.1.update ≡ true) view (ok.possible d (decision ∙ e));
+    decided = λ d e. subst (λ (v : View). Certifies s turns q v (Ready v.number d.0 d.1)) view (certifies-on p q grow p.pool.view (Ready p.pool.view.number d.0 d.1) (ok.decided d (decision ∙ e)));
+    so = subst (λ (v : View). ViewSo s turns q v q.delivered) view (subst (ViewSo s turns q p.pool.view) delivered (view-on p q grow p.pool.view p.delivered ok.so));
+    lefts = λ i l at. left-on p q grow i l (ok.lefts i l (ap (λ ls. slice_get ls i) left ∙ at));
+    halts = λ e. halting-on p q grow (ok.halts (halted ∙ e));
+  }
+
+  one-more : (p : Process) {c : Claim} → view_of c.statement ≡ p.pool.view.number → History s turns p → (d : Claim) → Mem d p.pool.heard ⊎ (c ≡ d) → view_of d.statement ≡ p.pool.view.number
+  one-more p e ok d (inl before) = ok.current d before
+  one-more p e ok d (inr is) = sym (ap (λ (c : Claim). view_of c.statement) is) ∙ e
+
+  own : (p : Process) (signer : Signer) (st : Statement) → may_sign s p st ≡ true → History s turns p → (d : Claim) (b : Bool) → Mem d (if b then p.pool.heard else p.pool.heard ++ own_claim s signer p st ∷ []) → view_of d.statement ≡ p.pool.view.number
+  own p signer st may ok d true m = ok.current d m
+  own p signer st may ok d false m = one-more p {c = own_claim s signer p st} (signing-view s p st may) ok d (snoc-mem p.pool.heard (own_claim s signer p st) d m)
+
+  delivering : (p : Process) (d : Delivered) → deliverable p ≡ Some d → length p.delivered < limit p → History s turns p → let q : Process = record p { delivered = p.delivered ++ d ∷ [] } in ((old : Process) → HasGrown old p → HasGrown old q) → EachDue s turns q → History s turns q
+  delivering p d e room ok grow due =
+      let q : Process = record p { delivered = p.delivered ++ d ∷ [] } in
+      let m = then-some (λ m. option_map (λ payload. record { message = m; payload = payload }) (payload_at p.pool m)) (place_at p.pool (length p.delivered)) d e in
+      let b = map-some (λ payload. record { message = m.0; payload = payload }) (payload_at p.pool m.0) d m.2 in
+      let placed = now p ok.due (Place p.pool.view.number (length p.delivered) m.0) (place-certified p.pool (length p.delivered) m.0 m.1) in
+      let paid = now p ok.due (Echo p.pool.view.number m.0 b.0) (payload-certified p.pool m.0 b.0 b.1) in
+      record {
+        due = due;
+        current = ok.current;
+        number = ok.number;
+        possible = ok.possible;
+        decided = λ d e. certifies-on p q grow p.pool.view _ (ok.decided d e);
+        so = record {
+          places = λ k d' at. certifies-on p q grow p.pool.view _ (elim (slice_get-snoc p.delivered d k d' at) [
+            | inl before ↦ ok.so.places k d' before
+            | inr end ↦ subst (λ k. Certifies s turns p p.pool.view (Place p.pool.view.number k d'.message)) (sym end.0) (subst (λ (d : Delivered). Certifies s turns p p.pool.view (Place p.pool.view.number (length p.delivered) d.message)) (b.2 ∙ end.1) placed)
+          ]);
+          payloads = λ k d' at. certifies-on p q grow p.pool.view _ (elim (slice_get-snoc p.delivered d k d' at) [
+            | inl before ↦ ok.so.payloads k d' before
+            | inr end ↦ subst (λ (d : Delivered). Certifies s turns p p.pool.view (Echo p.pool.view.number d.message d.payload)) (b.2 ∙ end.1) paid
+          ]);
+          reach = subst (Reach s turns q p.pool.view) (sym (length-snoc p.delivered d)) (reach-on p q grow p.pool.view (suc (length p.delivered)) (further p ok room));
+        };
+        lefts = λ i l at. left-on p q grow i l (ok.lefts i l at);
+        halts = λ e. halting-on p q grow (ok.halts e);
+      }
+
+  leaving : (p : Process) (d : ℕ × Value) → p.decision ≡ Some d → (is_member p.pool.view p.me ≡ true → length p.delivered ≡ d.1.cut) → History s turns p → ((old : Process) → HasGrown old p → HasGrown old (install d p)) → EachDue s turns (install d p) → History s turns (install d p)
+  leaving p d decided whole ok grow due =
+      let q : Process = install d p in
+      record {
+        due = due;
+        current = λ c m. absurd m;
+        number = (let longer = length-snoc p.left (last p d) in let before = ok.number in omega (arith, longer, before));
+        possible = λ d e. absurd cc;
+        decided = λ d e. absurd cc;
+        so = record { places = λ k d at. absurd cc; payloads = λ k d at. absurd cc; reach = none refl };
+        lefts = λ i l at. elim (slice_get-snoc p.left (last p d) i l at) [
+          | inl before ↦ left-on p q grow i l (ok.lefts i l before)
+          | inr end ↦ subst (λ i. LeftSo s turns q i l) (sym end.0) (subst (LeftSo s turns q (length p.left)) end.1 (record {
+            number = ok.number;
+            rank = d.0;
+            value = d.1;
+            possible = ok.possible d decided;
+            decided = certifies-on p q grow p.pool.view _ (ok.decided d decided);
+            next = slice_get-last (map (λ (l : Left). l.view) q.left) q.pool.view (suc (length p.left)) (sym (length-map q.left (λ (l : Left). l.view) ∙ length-snoc p.left (last p d)));
+            whole = whole;
+            so = view-on p q grow p.pool.view p.delivered ok.so;
+          }))
+        ];
+        halts = λ e. halting-on p q grow (ok.halts e);
+      }
+
+  stopping : (p : Process) (d : ℕ × Value) → p.decision ≡ Some d → History s turns p → let q : Process = record p { halted = nat_lt d.1.cut (length p.delivered) } in ((old : Process) → HasGrown old p → HasGrown old q) → EachDue s turns q → History s turns q
+  stopping p d decided ok grow due =
+      let q : Process = record p { halted = nat_lt d.1.cut (length p.delivered) } in
+      record {
+        due = due;
+        current = ok.current;
+        number = ok.number;
+        possible = ok.possible;
+        decided = λ d e. certifies-on p q grow p.pool.view _ (ok.decided d e);
+        so = view-on p q grow p.pool.view p.delivered ok.so;
+        lefts = λ i l at. left-on p q grow i l (ok.lefts i l at);
+        halts = λ e. record { view = p.pool.view; rank = d.0; value = d.1; decided = certifies-on p q grow p.pool.view _ (ok.decided d decided); length = length p.delivered; reach = reach-on p q grow p.pool.view (length p.delivered) ok.so.reach; beyond = ltb-true d.1.cut (length p.delivered) e };
+      }
+
+  pub history-keeps : Keeps s (handed_to turns) (History s turns)
+  history-keeps = record {
     accepts = λ p payload ok. same p (record p { accepted = p.accepted ++ payload ∷ [] }) (λ old g. (grows s (handed_to turns) old).accepts p payload g) ((was.keeps s turns).accepts p payload ok.due) ok.current refl refl refl refl refl ok;
     perceives = λ p e ok. same p (record p { perceived = put perceived_numbers e p.perceived }) (λ old g. (grows s (handed_to turns) old).perceives p e g) ((was.keeps s turns).perceives p e ok.due) ok.current refl refl refl refl refl ok;
     hears = λ p c m e ok. same p (with_heard p c) (λ old g. (grows s (handed_to turns) old).hears p c m e g) ((was.keeps s turns).hears p c m e ok.due) (λ d there. one-more p (verdict-view s p c e) ok d (snoc-mem p.pool.heard c d there)) refl refl refl refl refl ok;
@@ -261,98 +272,6 @@ module _ (s : Setting) (turns : List Turn) where
     installs = λ p d decided whole ok. leaving p d decided whole ok (λ old g. (grows s (handed_to turns) old).installs p d decided whole g) ((was.keeps s turns).installs p d decided whole ok.due);
     halts = λ p d decided member ok. stopping p d decided ok (λ old g. (grows s (handed_to turns) old).halts p d decided member g) ((was.keeps s turns).halts p d decided member ok.due);
   }
-    where
-      same : (p q : Process) → ((old : Process) → HasGrown old p → HasGrown old q) → EachDue s turns q → ((c : Claim) → Mem c q.pool.heard → view_of c.statement ≡ q.pool.view.number)
-          → p.left ≡ q.left → p.pool.view ≡ q.pool.view → p.delivered ≡ q.delivered → p.decision ≡ q.decision → p.halted ≡ q.halted → History s turns p → History s turns q
-      same p q grow due current left view delivered decision halted ok = record {
-        due = due;
-        current = current;
-        number = sym (ap (λ (v : View). v.number) view) ∙ ok.number ∙ ap length left;
-        possible = λ d e. subst (λ (v : View). is_possible (keyed s) v d.1.update ≡ true) view (ok.possible d (decision ∙ e));
-        decided = λ d e. subst (λ (v : View). Certifies s turns q v (Ready v.number d.0 d.1)) view (certifies-on p q grow p.pool.view (Ready p.pool.view.number d.0 d.1) (ok.decided d (decision ∙ e)));
-        so = subst (λ (v : View). ViewSo s turns q v q.delivered) view (subst (ViewSo s turns q p.pool.view) delivered (view-on p q grow p.pool.view p.delivered ok.so));
-        lefts = λ i l at. left-on p q grow i l (ok.lefts i l (ap (λ ls. slice_get ls i) left ∙ at));
-        halts = λ e. halting-on p q grow (ok.halts (halted ∙ e));
-      }
-
-      one-more : (p : Process) {c : Claim} → view_of c.statement ≡ p.pool.view.number → History s turns p → (d : Claim) → Mem d p.pool.heard ⊎ (c ≡ d) → view_of d.statement ≡ p.pool.view.number
-      one-more p e ok d (inl before) = ok.current d before
-      one-more p e ok d (inr is) = sym (ap (λ (c : Claim). view_of c.statement) is) ∙ e
-
-      own : (p : Process) (signer : Signer) (st : Statement) → may_sign s p st ≡ true → History s turns p → (d : Claim) (b : Bool) → Mem d (if b then p.pool.heard else p.pool.heard ++ own_claim s signer p st ∷ []) → view_of d.statement ≡ p.pool.view.number
-      own p signer st may ok d true m = ok.current d m
-      own p signer st may ok d false m = one-more p {c = own_claim s signer p st} (signing-view s p st may) ok d (snoc-mem p.pool.heard (own_claim s signer p st) d m)
-
-      delivering : (p : Process) (d : Delivered) → deliverable p ≡ Some d → length p.delivered < limit p → History s turns p → let q : Process = record p { delivered = p.delivered ++ d ∷ [] } in ((old : Process) → HasGrown old p → HasGrown old q) → EachDue s turns q → History s turns q
-      delivering p d e room ok grow due =
-          let q : Process = record p { delivered = p.delivered ++ d ∷ [] } in
-          let m = then-some (λ m. option_map (λ payload. record { message = m; payload = payload }) (payload_at p.pool m)) (place_at p.pool (length p.delivered)) d e in
-          let b = map-some (λ payload. record { message = m.0; payload = payload }) (payload_at p.pool m.0) d m.2 in
-          let placed = now p ok.due (Place p.pool.view.number (length p.delivered) m.0) (place-certified p.pool (length p.delivered) m.0 m.1) in
-          let paid = now p ok.due (Echo p.pool.view.number m.0 b.0) (payload-certified p.pool m.0 b.0 b.1) in
-          record {
-            due = due;
-            current = ok.current;
-            number = ok.number;
-            possible = ok.possible;
-            decided = λ d e. certifies-on p q grow p.pool.view _ (ok.decided d e);
-            so = record {
-              places = λ k d' at. certifies-on p q grow p.pool.view _ (elim (slice_get-snoc p.delivered d k d' at) [
-                | inl before ↦ ok.so.places k d' before
-                | inr end ↦ subst (λ k. Certifies s turns p p.pool.view (Place p.pool.view.number k d'.message)) (sym end.0) (subst (λ (d : Delivered). Certifies s turns p p.pool.view (Place p.pool.view.number (length p.delivered) d.message)) (b.2 ∙ end.1) placed)
-              ]);
-              payloads = λ k d' at. certifies-on p q grow p.pool.view _ (elim (slice_get-snoc p.delivered d k d' at) [
-                | inl before ↦ ok.so.payloads k d' before
-                | inr end ↦ subst (λ (d : Delivered). Certifies s turns p p.pool.view (Echo p.pool.view.number d.message d.payload)) (b.2 ∙ end.1) paid
-              ]);
-              reach = subst (Reach s turns q p.pool.view) (sym (length-snoc p.delivered d)) (reach-on p q grow p.pool.view (suc (length p.delivered)) (further p ok room));
-            };
-            lefts = λ i l at. left-on p q grow i l (ok.lefts i l at);
-            halts = λ e. halting-on p q grow (ok.halts e);
-          }
-
-      leaving : (p : Process) (d : ℕ × Value) → p.decision ≡ Some d → (is_member p.pool.view p.me ≡ true → length p.delivered ≡ d.1.cut) → History s turns p → ((old : Process) → HasGrown old p → HasGrown old (install d p)) → EachDue s turns (install d p) → History s turns (install d p)
-      leaving p d decided whole ok grow due =
-          let q : Process = install d p in
-          record {
-            due = due;
-            current = λ c m. absurd m;
-            number = (let longer = length-snoc p.left (last p d) in let before = ok.number in omega (arith, longer, before));
-            possible = λ d e. absurd cc;
-            decided = λ d e. absurd cc;
-            so = record { places = λ k d at. absurd cc; payloads = λ k d at. absurd cc; reach = none refl };
-            lefts = λ i l at. elim (slice_get-snoc p.left (last p d) i l at) [
-              | inl before ↦ left-on p q grow i l (ok.lefts i l before)
-              | inr end ↦ subst (λ i. LeftSo s turns q i l) (sym end.0) (subst (LeftSo s turns q (length p.left)) end.1 (record {
-                number = ok.number;
-                rank = d.0;
-                value = d.1;
-                possible = ok.possible d decided;
-                decided = certifies-on p q grow p.pool.view _ (ok.decided d decided);
-                next = slice_get-last (map (λ (l : Left). l.view) q.left) q.pool.view (suc (length p.left)) (sym (length-map (λ (l : Left). l.view) q.left ∙ length-snoc p.left (last p d)));
-                whole = whole;
-                so = view-on p q grow p.pool.view p.delivered ok.so;
-              }))
-            ];
-            halts = λ e. halting-on p q grow (ok.halts e);
-          }
-
-      stopping : (p : Process) (d : ℕ × Value) → p.decision ≡ Some d → History s turns p → let q : Process = record p { halted = nat_lt d.1.cut (length p.delivered) } in ((old : Process) → HasGrown old p → HasGrown old q) → EachDue s turns q → History s turns q
-      stopping p d decided ok grow due =
-          let q : Process = record p { halted = nat_lt d.1.cut (length p.delivered) } in
-          record {
-            due = due;
-            current = ok.current;
-            number = ok.number;
-            possible = ok.possible;
-            decided = λ d e. certifies-on p q grow p.pool.view _ (ok.decided d e);
-            so = view-on p q grow p.pool.view p.delivered ok.so;
-            lefts = λ i l at. left-on p q grow i l (ok.lefts i l at);
-            halts = λ e. record { view = p.pool.view; rank = d.0; value = d.1; decided = certifies-on p q grow p.pool.view _ (ok.decided d decided); length = length p.delivered; reach = reach-on p q grow p.pool.view (length p.delivered) ok.so.reach; beyond = ltb-true d.1.cut (length p.delivered) e };
-          }
-
-  pub history-keeps : Keeps s (handed_to turns) (History s turns)
-  history-keeps = keeps
 
   pub history-start : (me : ℕ) → s.genesis.number ≡ 0 → History s turns (start s me)
   history-start me first = record {

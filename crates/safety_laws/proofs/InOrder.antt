@@ -1,34 +1,37 @@
 -- In each view the messages of a sender stand in the order of their numbers, each once.
-use Rattle.std.proofs.Common.{◌≡◌, ◌≢◌, inl, ℕ, zero, suc, ◌+◌, ◌<◌, ◌≤◌, List, [], ◌∷◌, map, length, Option, Some, None, Bool, true, false, refl, sym, ap, ◌∙◌, subst, arith, slice_get}
-use Rattle.std.specs.Prelude.{if◌then◌else◌, ◌&&◌, ◌==◌, not, nat_le, take, filter, AllPairs, is_some, slice_index_or}
+use Rattle.std.proofs.Common.{◌≡◌, ◌≢◌, ℕ, zero, suc, ◌+◌, ◌<◌, ◌≤◌, List, [], ◌∷◌, map, length, Some, Bool, true, false, refl, sym, ap, ◌∙◌, subst, arith, slice_get}
+use Rattle.std.specs.Prelude.{if◌then◌else◌, ◌&&◌, ◌==◌, not, nat_le, take, filter, AllPairs, is_some}
 use Rattle.std.specs.List.{range_with_len}
 use Rattle.std.proofs.lemmas.Bool.{eqb-true, eq-eqb, leb-true}
 use Rattle.std.proofs.lemmas.List.Sums.{length-filter}
 use Rattle.group_defs.specs.Views.{View}
-use Rattle.message_defs.specs.Statements.{Message, Statement, Order, Place}
-use Rattle.group_defs.specs.Process.{Setting, Pool, Delivered, Process}
-use Rattle.group_defs.specs.Certified.{is_certified, place_at, placed_from, placed, named, payload_at, is_ended}
+use Rattle.message_defs.specs.Statements.{Message, Order, Place}
+use Rattle.group_defs.specs.Process.{Setting, Delivered, Process, views_of}
+use Rattle.group_defs.specs.Certified.{is_certified, placed, named, payload_at, is_ended}
 use Rattle.group_defs.specs.Due.{may_sign, is_due, rank_says}
-use Rattle.group_defs.specs.Accounts.{account_of, delivered_in, longest, group_of, of_sender}
+use Rattle.group_defs.specs.Accounts.{group_of, of_sender}
 use Rattle.group_defs.specs.Family.{Correct, Family, end_of, accounts}
-use Rattle.group_defs.specs.Laws.{Premises, IsOneView, IsBacked, may_back}
-use Rattle.safety_laws.proofs.Lists.{Mem, and-first, and-second, slice_get-mem, slice_get-length}
-use Rattle.safety_laws.proofs.OnePerSlot.{slice_get-index}
-use Rattle.safety_laws.proofs.Offered.{map-mem}
-use Rattle.safety_laws.proofs.OneContent.{meeting, enough-of, signed-by, one_content}
+use Rattle.group_defs.specs.Laws.{Premises, IsOneView, IsBacked, StoodSo}
+use Rattle.std.proofs.lemmas.List.{length-map}
+use Rattle.safety_laws.proofs.AllAgree.{SequenceSo, delivered_by, empty, sequence-so}
 use Rattle.safety_laws.proofs.CertifiedIsBacked.{certified_is_backed}
-use Rattle.safety_laws.proofs.Moments.{due-at}
-use Rattle.safety_laws.proofs.History.{ViewSo, place-certified}
-use Rattle.safety_laws.proofs.Decisions.{backed, of-history, one-view, get-map}
-use Rattle.safety_laws.proofs.Agreeing.{Part, nothing, something, part, longest-mem, account-of, equal-by}
+use Rattle.safety_laws.proofs.Heard.{place-certified, placed-at}
+use Rattle.safety_laws.proofs.History.{ViewSo}
+use Rattle.safety_laws.proofs.Members.{Mem}
+use Rattle.safety_laws.proofs.Moments.{DueAt, backed-due}
+use Rattle.safety_laws.proofs.OneContent.{one_content}
+use Rattle.safety_laws.proofs.Places.{equal-by, get-map, pairs-all, slice_get-length, slice_get-mem, take-get, take-length}
+use Rattle.safety_laws.proofs.Slots.{place-message}
+use Rattle.safety_laws.proofs.Tests.{and-first, and-second}
+use Rattle.safety_laws.proofs.ViewsAgree.{backed, one-view}
 
 -- ---- lists whose messages are numbered
 
-abbrev by_sender : ℕ → Delivered → Bool
+abbrev pub by_sender : ℕ → Delivered → Bool
 by_sender s d = d.message.sender == s
 
 -- so many of the sender stood before
-abbrev Numbered : (ℕ → ℕ) → List Delivered → Type 0
+abbrev pub Numbered : (ℕ → ℕ) → List Delivered → Type 0
 Numbered start ds = (k : ℕ) (d : Delivered) → slice_get ds k ≡ Some d → d.message.number ≡ start d.message.sender + length (filter (by_sender d.message.sender) (take k ds))
 
 abbrev one-if : Bool → ℕ
@@ -83,51 +86,14 @@ take-more test (x ∷ xs) (suc i) (suc j) d lt at e = go (test x) (take-more tes
     go true less = omega (arith, less)
     go false less = less
 
-numbered-once : (ds : List Delivered) → Numbered (λ s. 0) ds → AllPairs (λ d e. d.message ≢ e.message) ds
-numbered-once ds all i j d lt far = λ same.
-    let a : Delivered = slice_index_or ds i d in
-    let b : Delivered = slice_index_or ds j d in
-    let at_a : slice_get ds i ≡ Some a = slice_get-index ds i d (omega (arith, lt, far)) in
-    let at_b : slice_get ds j ≡ Some b = slice_get-index ds j d far in
+pub numbered-once : (ds : List Delivered) → Numbered (λ s. 0) ds → AllPairs (λ d e. d.message ≢ e.message) ds
+numbered-once ds all = pairs-all (λ d e. d.message ≢ e.message) ds (λ i j a b lt at_a at_b. λ same.
     let n_a = all i a at_a in
-    let n_b : b.message.number ≡ 0 + length (filter (by_sender b.message.sender) (take j ds)) = all j b at_b in
-    let n_b' : a.message.number ≡ 0 + length (filter (by_sender a.message.sender) (take j ds)) = subst (λ (m : Message). m.number ≡ 0 + length (filter (by_sender m.sender) (take j ds))) (sym same) n_b in
+    let n_b : a.message.number ≡ 0 + length (filter (by_sender a.message.sender) (take j ds)) = subst (λ (m : Message). m.number ≡ 0 + length (filter (by_sender m.sender) (take j ds))) (sym same) (all j b at_b) in
     let more = take-more (by_sender a.message.sender) ds i j a lt at_a (eq-eqb a.message.sender a.message.sender refl) in
-    omega (arith, n_a, n_b', more)
+    omega (arith, n_a, n_b, more))
 
 -- ---- they are
-
-placed-place : (h : Pool) (more k j : ℕ) (m : Message) → slice_get (placed_from h more k) j ≡ Some m → place_at h (k + j) ≡ Some m
-placed-place h zero k j m e = absurd cc
-placed-place h (suc more) k j m e = go (place_at h k) refl j e (placed-place h more (k + 1))
-  where
-    go : (o : Option Message) → place_at h k ≡ o → (j : ℕ) → (let it : List Message = elim o [ None ↦ [] | Some m ↦ m ∷ placed_from h more (k + 1) ] in slice_get it j ≡ Some m)
-        → ((j : ℕ) (m : Message) → slice_get (placed_from h more (k + 1)) j ≡ Some m → place_at h ((k + 1) + j) ≡ Some m) → place_at h (k + j) ≡ Some m
-    go None f j e rest = absurd cc
-    go (Some n) f zero e rest = let same : k + 0 ≡ k = omega arith in ap (place_at h) same ∙ f ∙ e
-    go (Some n) f (suc j) e rest = let same : k + suc j ≡ (k + 1) + j = omega arith in ap (place_at h) same ∙ rest j m e
-
-placed-at : (h : Pool) (j : ℕ) (m : Message) → slice_get (placed h) j ≡ Some m → place_at h j ≡ Some m
-unfolding placed
-placed-at h j m e = let same : 0 + j ≡ j = omega arith in subst (λ j. place_at h j ≡ Some m) same (placed-place h 1024 0 j m e)
-
-take-get : {A : Type 0} (k : ℕ) (xs : List A) (j : ℕ) (y : A) → slice_get (take k xs) j ≡ Some y → slice_get xs j ≡ Some y
-take-get zero xs j y e = absurd (none-at j y e)
-  where
-    none-at : {A : Type 0} (j : ℕ) (y : A) → slice_get (take zero []) j ≡ Some y → ⊥
-    none-at j y e = cc
-take-get (suc k) [] j y e = absurd cc
-take-get (suc k) (x ∷ xs) zero y e = e
-take-get (suc k) (x ∷ xs) (suc j) y e = take-get k xs j y e
-
-take-length : {A : Type 0} (k : ℕ) (xs : List A) → k ≤ length xs → length (take k xs) ≡ k
-take-length zero xs le = refl
-take-length (suc k) [] le = absurd (omega (arith, le))
-take-length (suc k) (x ∷ xs) le = ap suc (take-length k xs (omega (arith, le)))
-
-length-map : {A B : Type 0} (f : A → B) (xs : List A) → length (map f xs) ≡ length xs
-length-map f [] = refl
-length-map f (x ∷ xs) = ap suc (length-map f xs)
 
 filter-map : (s : ℕ) (ds : List Delivered) → length (filter (λ (m : Message). m.sender == s) (map (λ (d : Delivered). d.message) ds)) ≡ length (filter (by_sender s) ds)
 filter-map s [] = refl
@@ -147,49 +113,45 @@ place-due s q x k m may =
       eqb-true m.number (named m.sender (take k (placed q.pool))) (and-second (rank_says q 0 (Order x k m) && not (is_ended q) && nat_le k (length (placed q.pool))) (m.number == named m.sender (take k (placed q.pool))) four),
     )
 
-place-message : (x k : ℕ) (a b : Message) → Place x k a ≡ Place x k b → a ≡ b
-place-message x k a b e = cc
+module _ (f : Family) (v : View) (one : IsOneView f v) (c : Correct) (m : Mem c f.correct) (ds : List Delivered) (so : ViewSo f.setting c.turns (end_of f.setting c) v ds) where
+  place-backed : (j : ℕ) (e : Delivered) → slice_get ds j ≡ Some e → IsBacked f v (Place v.number j e.message)
+  place-backed j e at = backed f v one c m (Place v.number j e.message) (so.places j e at)
 
-module _ (f : Family) (v : View) (one : IsOneView f v) (c : Correct) (m : Mem c f.correct) where
-  numbered-view : (ds : List Delivered) → ViewSo f.setting c.turns (end_of f.setting c) v ds → Numbered (λ s. 0) ds
-  numbered-view ds so k d at =
-      let st : Statement = Place v.number k d.message in
-      let placed-backed : (j : ℕ) (e : Delivered) → slice_get ds j ≡ Some e → IsBacked f v (Place v.number j e.message) = λ j e at. backed f v one c m (Place v.number j e.message) (so.places j e at) in
-      let b = meeting f v one (may_back f st) (may_back f st) (enough-of f v st (placed-backed k d at)) (enough-of f v st (placed-backed k d at)) in
-      let due = due-at f v one b.0 b.1 st (signed-by f st b.0 b.1 b.2) refl in
-      let q : Process = due.0 in
-      let need = place-due f.setting q v.number k d.message due.3 in
-      let far = slice_get-length ds k d at in
-      let long = take-length k (placed q.pool) need.0 in
-      let long' = length-map (λ (d : Delivered). d.message) (take k ds) in
-      let long'' = take-length k ds (omega (arith, far)) in
-      let same : take k (placed q.pool) ≡ map (λ (d : Delivered). d.message) (take k ds) = equal-by (take k (placed q.pool)) (map (λ (d : Delivered). d.message) (take k ds)) (omega (arith, long, long', long'')) (λ j a b at_a at_b.
+  -- where a Place was due, the placed messages before it are those delivered
+  same-before : (q : Process) → StoodSo f q → q.pool.view ≡ v → (k : ℕ) → k ≤ length (placed q.pool) → k ≤ length ds → take k (placed q.pool) ≡ map (λ (d : Delivered). d.message) (take k ds)
+  same-before q stood at_v k some far =
+      let one_long = take-length k (placed q.pool) some in
+      let other_long = length-map (take k ds) (λ (d : Delivered). d.message) in
+      let long = take-length k ds far in
+      equal-by (take k (placed q.pool)) (map (λ (d : Delivered). d.message) (take k ds)) (omega (arith, one_long, other_long, long)) (λ j a b at_a at_b.
       let e = get-map (λ (d : Delivered). d.message) (take k ds) j b at_b in
-      let here : IsBacked f v (Place v.number j e.0.message) = placed-backed j e.0 (take-get k ds j e.0 e.1) in
-      let there : IsBacked f v (Place v.number j a) = certified_is_backed f v q (Place v.number j a) one due.1 due.2
-      (subst (λ (u : View). is_certified q.pool (Place u.number j a) ≡ true) due.2 (place-certified q.pool j a (placed-at q.pool j a (take-get k (placed q.pool) j a at_a)))) in
-      place-message v.number j a e.0.message (one_content f v (Place v.number j a) (Place v.number j e.0.message) one there here refl) ∙ e.2) in
-      let counted = length-filter (λ (m : Message). m.sender == d.message.sender) (map (λ (d : Delivered). d.message) (take k ds)) in
-      let crossed = filter-map d.message.sender (take k ds) in
-      let number : d.message.number ≡ named d.message.sender (map (λ (d : Delivered). d.message) (take k ds)) = subst (λ ms. d.message.number ≡ named d.message.sender ms) same need.1 in
-      omega (arith, number, counted, crossed)
+      placed-same j a (take-get k (placed q.pool) j a at_a) e.0 (take-get k ds j e.0 e.1) ∙ e.2)
+    where
+      placed-same : (j : ℕ) (a : Message) → slice_get (placed q.pool) j ≡ Some a → (e : Delivered) → slice_get ds j ≡ Some e → a ≡ e.message
+      placed-same j a at e at' =
+          let certified = place-certified q.pool j a (placed-at q.pool j a at) in
+          let there : IsBacked f v (Place v.number j a) = certified_is_backed f v q (Place v.number j a) one stood at_v (subst (λ (u : View). is_certified q.pool (Place u.number j a) ≡ true) at_v certified) in
+          place-message v.number j a e.message (one_content f v (Place v.number j a) (Place v.number j e.message) one there (place-backed j e at') refl)
 
-numbered-nothing : (ds : List Delivered) → ds ≡ [] → Numbered (λ s. 0) ds
-numbered-nothing ds e = subst (Numbered (λ s. 0)) (sym e) (λ k d at. absurd cc)
+  numbered-view : Numbered (λ s. 0) ds
+  numbered-view k d at = go (backed-due f v (Place v.number k d.message) one (place-backed k d at) refl)
+    where
+      go : DueAt f v (Place v.number k d.message) → d.message.number ≡ 0 + length (filter (by_sender d.message.sender) (take k ds))
+      go (q, stood, at_v, may) =
+          let need = place-due f.setting q v.number k d.message may in
+          let far = slice_get-length ds k d at in
+          let same = same-before q stood at_v k need.0 (omega (arith, far)) in
+          let number : d.message.number ≡ named d.message.sender (map (λ (d : Delivered). d.message) (take k ds)) = subst (λ ms. d.message.number ≡ named d.message.sender ms) same need.1 in
+          let counted = length-filter (λ (m : Message). m.sender == d.message.sender) (map (λ (d : Delivered). d.message) (take k ds)) in
+          let crossed = filter-map d.message.sender (take k ds) in
+          omega (arith, number, counted, crossed)
 
 pub numbered-sequence : (f : Family) → Premises f → (x : ℕ) → Numbered (λ s. 0) ((group_of (accounts f)).sequence x)
-numbered-sequence f premises x = go (map (λ a. delivered_in a x) (accounts f)) refl
+numbered-sequence f premises x = go (sequence-so f premises x)
   where
-    of-correct : (c : Correct) → Mem c f.correct → Part f.setting c.turns (end_of f.setting c) x → Numbered (λ s. 0) (delivered_in (account_of (end_of f.setting c)) x)
-    of-correct c m (nothing none) = numbered-nothing _ none
-    of-correct c m (something v at so) = numbered-view f v (one-view f premises c m v (slice_get-mem _ x v at)) c m (delivered_in (account_of (end_of f.setting c)) x) so
-
-    go : (dss : List (List Delivered)) → map (λ a. delivered_in a x) (accounts f) ≡ dss → Numbered (λ s. 0) (longest dss)
-    go [] e = λ k d at. absurd cc
-    go (ds ∷ more) e =
-        let a = map-mem (λ a. delivered_in a x) (accounts f) (longest (ds ∷ more)) (subst (Mem (longest (ds ∷ more))) (sym e) (longest-mem (ds ∷ more) ds (inl refl))) in
-        let c = account-of f a.0 a.1 in
-        subst (Numbered (λ s. 0)) (ap (λ a. delivered_in a x) c.2 ∙ a.2) (of-correct c.0 c.1 (part f.setting c.0.turns (end_of f.setting c.0) (of-history f premises c.0) x))
+    go : SequenceSo f x → Numbered (λ s. 0) ((group_of (accounts f)).sequence x)
+    go (empty none) = subst (Numbered (λ s. 0)) (sym none) (λ k d at. absurd cc)
+    go (delivered_by c m v at so) = numbered-view f v (one-view f premises c m v (slice_get-mem (views_of (end_of f.setting c)) x v at)) c m ((group_of (accounts f)).sequence x) so
 
 pub each-once : (f : Family) → Premises f → (x : ℕ) → AllPairs (λ d e. d.message ≢ e.message) ((group_of (accounts f)).sequence x)
 each-once f premises x = numbered-once ((group_of (accounts f)).sequence x) (numbered-sequence f premises x)

@@ -1,5 +1,5 @@
 -- What each change of a process keeps, each run keeps.
-use Rattle.std.proofs.Common.{◌≡◌, ℕ, zero, suc, ◌+◌, ◌-◌, ◌<◌, ◌≤◌, List, [], ◌∷◌, ◌++◌, Option, None, Some, Bool, true, false, refl, sym, ap, length, subst, arith, inl, inr}
+use Rattle.std.proofs.Common.{◌≡◌, ℕ, zero, suc, ◌+◌, ◌-◌, ◌<◌, ◌≤◌, List, [], ◌∷◌, ◌++◌, Option, None, Some, Bool, true, false, refl, sym, length, subst, arith, inl, inr}
 use Rattle.std.specs.Prelude.{if◌then◌else◌, ◌==◌, nat_lt, nat_le, filter}
 use Rattle.std.proofs.lemmas.Bool.{leb-true, leb-false, eqb-true}
 use Rattle.byte_defs.specs.Orders.{least_from, least, numbers_below, put}
@@ -12,9 +12,10 @@ use Rattle.group_defs.specs.Hearing.{Verdict, Old, Early, Stranger, OutOfWindow,
 use Rattle.group_defs.specs.Signing.{Signer, Signing, signs, sign_kind, sign_kinds, sign_all}
 use Rattle.group_defs.specs.Settle.{decide, limit, deliverable, deliver_more, deliver, install, leave_by, leave, settle}
 use Rattle.group_defs.specs.Family.{claims_in, handed_to}
-use Rattle.safety_laws.proofs.Lists.{Mem, filter-mem}
 use Rattle.message_defs.specs.Claims.{Claims, Wants, Faulty}
 use Rattle.group_defs.specs.Events.{Event, Submit, Hand, Suspect, Join, RenewView, Tick, Turn, EventFault, refusal, perceived_numbers, perceives, take_in, signing, after, run}
+use Rattle.safety_laws.proofs.Members.{Mem, filter-mem}
+use Rattle.safety_laws.proofs.Places.{length-snoc}
 
 -- ---- the least statement that is due may be signed
 
@@ -27,7 +28,7 @@ module _ {A : Type 0} (key : A → List ℕ) where
       go true rest = inr (rest x)
       go false rest = elim (rest a) [ inl e ↦ inl e | inr m ↦ inr (inr m) ]
 
-  least-mem : (xs : List A) (y : A) → least key xs ≡ Some y → Mem y xs
+  pub least-mem : (xs : List A) (y : A) → least key xs ≡ Some y → Mem y xs
   least-mem [] y e = absurd cc
   least-mem (x ∷ xs) y e = let is : least_from key x xs ≡ y = cc in subst (λ y. Mem y (x ∷ xs)) is (least_from-mem x xs)
 
@@ -114,10 +115,6 @@ module _ (s : Setting) (from : List Claim) (P : Process → Type 0) (k : Keeps s
       go : (o : Option (ℕ × Value)) → p.decision ≡ o → let it : Signing = elim o [ None ↦ sign_kinds s signer s.signs left p | Some d ↦ record { now = p; left = left; spent = false } ] in P it.now
       go None e = (sign_kinds-keeps signer s.signs (λ kind m. m) left p (ok, e)).0
       go (Some d) e = ok
-
-  length-snoc : (ds : List Delivered) (d : Delivered) → length (ds ++ d ∷ []) ≡ suc (length ds)
-  length-snoc [] d = refl
-  length-snoc (e ∷ ds) d = ap suc (length-snoc ds d)
 
   deliver_more-keeps : (more : ℕ) (p : Process) → is_member p.pool.view p.me ≡ true → length p.delivered + more ≤ limit p → P p → P (deliver_more more p)
   unfolding deliver_more

@@ -1,34 +1,33 @@
 -- Each installed view has 1 to 16 members, each once.
-use Rattle.std.proofs.Common.{◌≡◌, ◌≢◌, ◌⊎◌, inl, inr, ℕ, zero, suc, ◌<◌, ◌≤◌, List, [], ◌∷◌, ◌++◌, map, length, Option, Some, None, Bool, true, false, refl, sym, ap, ◌∙◌, subst, arith}
+use Rattle.std.proofs.Common.{◌≡◌, ◌≢◌, ◌⊎◌, inl, inr, ℕ, zero, suc, ◌≤◌, List, [], ◌∷◌, ◌++◌, length, Option, Some, None, Bool, true, false, refl, sym, ◌∙◌, subst, arith}
 use Rattle.std.specs.Prelude.{if◌then◌else◌, ◌||◌, ◌==◌, not, filter, All, AllPairs, ⊤, is_none, slice_index_or}
 use Rattle.std.specs.List.{range_with_len}
-use Rattle.std.specs.Option.{option_or}
 use Rattle.std.proofs.lemmas.Bool.{eqb-true, eq-eqb}
 use Rattle.byte_defs.specs.Choices.{first_some, first_that_holds}
 use Rattle.group_defs.specs.Views.{View, ViewsSpent, NotMember, LastMember, AlreadyMember, GroupFull, is_member, has, next_fault, members_after, next_view, has_keys, is_possible}
 use Rattle.message_defs.specs.Updates.{Update, Remove, Add, Renew, Value}
-use Rattle.message_defs.specs.Statements.{Statement, Ready, ReadyAt, Claim, slot_of, value_of, same_slot}
+use Rattle.message_defs.specs.Statements.{Ready, ReadyAt, Claim}
 use Rattle.group_defs.specs.Process.{Setting, Pool, Left, Process, start, keyed, views_of}
-use Rattle.group_defs.specs.Certified.{is_certified, certified_on, value_at, number_of_members}
+use Rattle.group_defs.specs.Certified.{is_certified, value_at, number_of_members}
 use Rattle.group_defs.specs.Settle.{decided_at, decided_by}
 use Rattle.group_defs.specs.Family.{Correct, end_of, ends}
 use Rattle.group_defs.specs.Laws.{IsView, InstalledIsView}
-use Rattle.safety_laws.proofs.Lists.{Mem, and-first, slice_get-mem, mem-slice_get, slice_get-length, map-append, filter-mem, snoc-mem}
-use Rattle.safety_laws.proofs.Offered.{map-mem}
-use Rattle.safety_laws.proofs.OnePerSlot.{slice_get-index}
-use Rattle.safety_laws.proofs.Growing.{find-is, then-some, same_slot-is}
+use Rattle.std.proofs.lemmas.List.{map-append}
+use Rattle.safety_laws.proofs.Counting.{length-filter-few}
+use Rattle.safety_laws.proofs.Heard.{value-certified}
 use Rattle.safety_laws.proofs.Induction.{Keeps, run-keeps}
+use Rattle.safety_laws.proofs.Members.{Mem, filter-mem, index-mem, map-mem, snoc-mem}
+use Rattle.safety_laws.proofs.Places.{length-snoc, mem-slice_get, slice_get-index, slice_get-length}
+use Rattle.safety_laws.proofs.Tests.{and-first, none-is, option_or-is, some-same, then-some}
+use Rattle.safety_laws.proofs.ViewsOf.{current-view}
 
 -- ---- each once
 
-abbrev Distinct : List ℕ → Type 0
+abbrev pub Distinct : List ℕ → Type 0
 Distinct [] = ⊤
 Distinct (x ∷ xs) = ((y : ℕ) → Mem y xs → x ≢ y) × Distinct xs
 
-pub index-mem : {A : Type 0} (xs : List A) (i : ℕ) (d : A) → i < length xs → Mem (slice_index_or xs i d) xs
-index-mem xs i d lt = slice_get-mem xs i (slice_index_or xs i d) (slice_get-index xs i d lt)
-
-distinct-pairs : (xs : List ℕ) → Distinct xs → AllPairs (λ m n. m ≢ n) xs
+pub distinct-pairs : (xs : List ℕ) → Distinct xs → AllPairs (λ m n. m ≢ n) xs
 distinct-pairs [] all i j d lt far = absurd (omega (arith, far))
 distinct-pairs (x ∷ xs) all i zero d lt far = absurd (omega (arith, lt))
 distinct-pairs (x ∷ xs) all zero (suc j) d lt far = all.0 (slice_index_or xs j d) (index-mem xs j d (omega (arith, far)))
@@ -56,23 +55,7 @@ distinct-snoc : (xs : List ℕ) (last : ℕ) → Distinct xs → ((y : ℕ) → 
 distinct-snoc [] last all new = ((λ y m. absurd m), tt)
 distinct-snoc (x ∷ xs) last all new = ((λ y m. elim (snoc-mem xs last y m) [ inl there ↦ all.0 y there | inr e ↦ subst (λ z. x ≢ z) e (new x (inl refl)) ]), distinct-snoc xs last all.1 (λ y m. new y (inr m)))
 
-length-snoc : (xs : List ℕ) (last : ℕ) → length (xs ++ last ∷ []) ≡ suc (length xs)
-length-snoc [] last = refl
-length-snoc (x ∷ xs) last = ap suc (length-snoc xs last)
-
-length-filter-few : (test : ℕ → Bool) (xs : List ℕ) → length (filter test xs) ≤ length xs
-length-filter-few test [] = omega arith
-length-filter-few test (x ∷ xs) = go (test x) (length-filter-few test xs)
-  where
-    go : (b : Bool) → length (filter test xs) ≤ length xs → length (if b then x ∷ filter test xs else filter test xs) ≤ suc (length xs)
-    go true le = omega (arith, le)
-    go false le = omega (arith, le)
-
-mem-some : (xs : List ℕ) (y : ℕ) → Mem y xs → 1 ≤ length xs
-mem-some [] y m = absurd m
-mem-some (x ∷ xs) y m = omega arith
-
-has-mem : (xs : List ℕ) (p : ℕ) → has xs p ≡ false → (y : ℕ) → Mem y xs → y ≢ p
+pub has-mem : (xs : List ℕ) (p : ℕ) → has xs p ≡ false → (y : ℕ) → Mem y xs → y ≢ p
 has-mem [] p e y m = absurd m
 has-mem (x ∷ xs) p e y m = go (x == p) refl e m (λ e m. has-mem xs p e y m)
   where
@@ -105,10 +88,6 @@ ifs false true d x y z e = absurd cc
 ifs false false true x y z e = absurd cc
 ifs false false false x y z e = (refl, refl, refl)
 
-none-is : {A : Type 0} (o : Option A) → is_none o ≡ true → o ≡ None
-none-is None e = refl
-none-is (Some a) e = absurd cc
-
 ok-after : (v : View) (u : Update) → next_fault v u ≡ None → Ok v.members → Ok (members_after v.members u)
 ok-after v Renew e ok = ok
 ok-after v (Remove p) e ok =
@@ -133,9 +112,6 @@ ok-after v (Add p) e ok =
 
 -- ---- what is decided
 
-pub some-same : {A : Type 0} (x y : A) → Some x ≡ Some y → x ≡ y
-some-same x y e = cc
-
 pub first_some-is : {A B : Type 0} (g : A → Option B) (xs : List A) (y : B) → first_some g xs ≡ Some y → (x : A) × (g x ≡ Some y)
 first_some-is g [] y e = absurd cc
 first_some-is {A} {B} g (x ∷ xs) y e = go (g x) refl e (first_some-is g xs y)
@@ -147,17 +123,6 @@ first_some-is {A} {B} g (x ∷ xs) y e = go (g x) refl e (first_some-is g xs y)
 abbrev pub IsDecided : Setting → Pool → ℕ × Value → Type 0
 IsDecided s h d = (is_possible (keyed s) h.view d.1.update ≡ true) × (is_certified h (Ready h.view.number d.0 d.1) ≡ true)
 
-ready-is : (st : Statement) (x r : ℕ) (w : Value) → value_of st ≡ Some w → slot_of st ≡ ReadyAt x r → st ≡ Ready x r w
-ready-is (Ready y q u) x r w e at = let y_is : y ≡ x = cc in let q_is : q ≡ r = cc in let u_is : u ≡ w = cc in λ i. Ready (y_is i) (q_is i) (u_is i)
-ready-is _ x r w e at = absurd cc
-
-value-certified : (h : Pool) (r : ℕ) (w : Value) → value_at h (ReadyAt h.view.number r) ≡ Some w → is_certified h (Ready h.view.number r w) ≡ true
-value-certified h r w e =
-    let st = then-some value_of (certified_on h (ReadyAt h.view.number r)) w e in
-    let found = find-is (is_certified h) (filter (λ st. same_slot (slot_of st) (ReadyAt h.view.number r)) (map (λ (c : Claim). c.statement) h.heard)) st.0 st.1 in
-    let slot = filter-mem (λ st. same_slot (slot_of st) (ReadyAt h.view.number r)) (map (λ (c : Claim). c.statement) h.heard) st.0 found.0 in
-    subst (λ st. is_certified h st ≡ true) (ready-is st.0 h.view.number r w st.2 (same_slot-is (slot_of st.0) (ReadyAt h.view.number r) slot.1)) found.1
-
 pub decided_by-is : (s : Setting) (h : Pool) (d : ℕ × Value) → decided_by s h ≡ Some d → IsDecided s h d
 decided_by-is s h d e =
     let at = first_some-is (decided_at s h) (range_with_len 0 (number_of_members h)) d e in
@@ -168,10 +133,6 @@ decided_by-is s h d e =
     go r w e true f is = subst (IsDecided s h) (some-same (r, w) d is) (f, value-certified h r w e)
     go r w e false f is = absurd cc
 
-pub option_or-is : {A : Type 0} (o p : Option A) (x : A) → option_or o p ≡ Some x → (o ≡ Some x) ⊎ (p ≡ Some x)
-option_or-is None p x e = inr e
-option_or-is (Some y) p x e = inl e
-
 -- ---- each view of a process
 
 abbrev OkViews : Process → Type 0
@@ -180,13 +141,6 @@ OkViews p = (v : View) → Mem v (views_of p) → Ok v.members
 record Fine (s : Setting) (p : Process) : Type 0 where
   pub views : OkViews p
   pub possible : (d : ℕ × Value) → p.decision ≡ Some d → is_possible (keyed s) p.pool.view d.1.update ≡ true
-
-pub mem-behind : {A : Type 0} (xs ys : List A) (y : A) → Mem y ys → Mem y (xs ++ ys)
-mem-behind [] ys y m = m
-mem-behind (x ∷ xs) ys y m = inr (mem-behind xs ys y m)
-
-pub current-view : (p : Process) → Mem p.pool.view (views_of p)
-current-view p = mem-behind (map (λ (l : Left). l.view) p.left) (p.pool.view ∷ []) p.pool.view (inl refl)
 
 keeps : (s : Setting) (from : List Claim) → Keeps s from (Fine s)
 keeps s from = record {

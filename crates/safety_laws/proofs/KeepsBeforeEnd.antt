@@ -1,7 +1,6 @@
 -- A Keep stands before the End of its view, and the End says more.
 use Rattle.std.proofs.Common.{◌≡◌, ◌⊎◌, inl, inr, ℕ, ◌<◌, ◌≤◌, List, [], ◌∷◌, ◌++◌, map, length, Some, Bool, true, false, refl, sym, ap, ◌∙◌, subst, arith, slice_get}
-use Rattle.std.specs.Prelude.{if◌then◌else◌, is_some, ◌&&◌, ◌==◌, not, ⊤, option_map}
-use Rattle.std.specs.List.{AllByRecursion}
+use Rattle.std.specs.Prelude.{if◌then◌else◌, is_some, ◌&&◌, ◌==◌, ⊤, option_map}
 use Rattle.std.proofs.lemmas.Bool.{eqb-true, eq-eqb}
 use Rattle.byte_defs.specs.Choices.{is_some_and}
 use Rattle.message_defs.specs.Updates.{Value}
@@ -14,9 +13,14 @@ use Rattle.group_defs.specs.Settle.{install}
 use Rattle.group_defs.specs.Events.{run}
 use Rattle.group_defs.specs.Family.{statements_of}
 use Rattle.group_defs.specs.Laws.{KeepsBeforeEnd}
-use Rattle.safety_laws.proofs.Lists.{and-first, and-second, Mem, slice_get-length, map-append, snoc-mem, Pairs, pairs-snoc, Compared, ahead, level, behind, compared}
-use Rattle.safety_laws.proofs.Growing.{is-same_slot, mem-find, placed-grows, with_more, some-and}
+use Rattle.std.proofs.lemmas.List.{map-append}
+use Rattle.safety_laws.proofs.Growing.{placed-grows, with_more}
 use Rattle.safety_laws.proofs.Induction.{Keeps, run-keeps}
+use Rattle.safety_laws.proofs.MaySign.{end-placed}
+use Rattle.safety_laws.proofs.Members.{Mem, each-snoc, map-mem, mem-find, snoc-mem}
+use Rattle.safety_laws.proofs.Places.{Compared, Pairs, ahead, behind, compared, level, pairs-snoc, slice_get-length}
+use Rattle.safety_laws.proofs.Slots.{is-same_slot}
+use Rattle.safety_laws.proofs.Tests.{and-first, and-second, both-true, not-both, some-and}
 
 -- ---- what a statement owes to an earlier one
 
@@ -27,31 +31,18 @@ Owes _ _ = ⊤
 
 record InOrder (p : Process) : Type 0 where
   pub pairs : Pairs Owes (statements_of p)
-  pub signers : AllByRecursion (λ c. c.signer ≡ p.me) p.signed
+  pub signers : (c : Claim) → Mem c p.signed → c.signer ≡ p.me
   pub views : (st : Statement) → Mem st (statements_of p) → view_of st ≤ p.pool.view.number
   pub placed : (x k : ℕ) (m : Message) → Mem (Keep x k m) (statements_of p) → x ≡ p.pool.view.number → k < length (placed p.pool)
 
 -- ---- an End that was signed is found
 
-claim-of : (cs : List Claim) (me : ℕ) (st : Statement) → AllByRecursion (λ c. c.signer ≡ me) cs → Mem st (map (λ c. c.statement) cs) → (c : Claim) × Mem c cs × (c.statement ≡ st) × (c.signer ≡ me)
-claim-of [] me st own m = absurd m
-claim-of (c ∷ cs) me st own (inl e) = (c, inl refl, e, own.0)
-claim-of (c ∷ cs) me st own (inr m) = let r = claim-of cs me st own.1 m in (r.0, inr r.1, r.2, r.3)
-
-both-true : (a b : Bool) → a ≡ true → b ≡ true → (a && b) ≡ true
-both-true true b e f = f
-both-true false b e f = absurd cc
-
-pub is_signed-mem : (p : Process) (st : Statement) → AllByRecursion (λ c. c.signer ≡ p.me) p.signed → Mem st (statements_of p) → is_signed p (slot_of st) ≡ true
+pub is_signed-mem : (p : Process) (st : Statement) → ((c : Claim) → Mem c p.signed → c.signer ≡ p.me) → Mem st (statements_of p) → is_signed p (slot_of st) ≡ true
 is_signed-mem p st own m =
-    let c = claim-of p.signed p.me st own m in
+    let c = map-mem (λ (c : Claim). c.statement) p.signed st m in
     let found = mem-find (λ d. (d.signer == p.me) && same_slot (slot_of d.statement) (slot_of st)) p.signed c.0 c.1
-    (both-true _ _ (eq-eqb _ _ c.3) (is-same_slot (slot_of c.0.statement) (slot_of st) (ap slot_of c.2))) in
+    (both-true _ _ (eq-eqb _ _ (own c.0 c.1)) (is-same_slot (slot_of c.0.statement) (slot_of st) (ap slot_of c.2))) in
     ap (λ o. is_some (option_map (λ (d : Claim). d.statement) o)) found.1
-
-pub not-both : (b : Bool) → b ≡ true → not b ≡ true → ⊥
-not-both true e f = cc
-not-both false e f = cc
 
 -- ---- signing
 
@@ -79,14 +70,10 @@ module _ (s : Setting) (p : Process) (signer : Signer) where
   owes ok (End x n) (Keep y k m) may there = λ same.
       not-both (is_ended p) (ap (λ v. is_signed p (EndAt v)) (sym (same ∙ current (Keep y k m) may)) ∙ is_signed-mem p (End x n) ok.signers there) (and-second _ _ (and-second _ _ may))
   owes ok (Keep x k m) (End y n) may there = λ same.
-      let all : n ≡ length (placed p.pool) = eqb-true _ _ (and-second _ _ (and-second _ _ may)) in
+      let all : n ≡ length (placed p.pool) = end-placed s p y n may in
       let below = ok.placed x k m there (same ∙ current (End y n) may) in
       omega (arith, all, below)
   owes ok _ _ may there = tt
-
-  pub all-snoc : (cs : List Claim) (c : Claim) → AllByRecursion (λ c. c.signer ≡ p.me) cs → c.signer ≡ p.me → AllByRecursion (λ c. c.signer ≡ p.me) (cs ++ c ∷ [])
-  all-snoc [] c all e = (e, tt)
-  all-snoc (d ∷ ds) c all e = (all.0, all-snoc ds c all.1 e)
 
   with-last : (st : Statement) → statements_of p ++ st ∷ [] ≡ statements_of (next st)
   with-last st = sym (map-append (λ c. c.statement) p.signed (own_claim s signer p st ∷ []))
@@ -97,7 +84,7 @@ module _ (s : Setting) (p : Process) (signer : Signer) where
   signing-keeps : (st : Statement) → may_sign s p st ≡ true → InOrder p → InOrder (next st)
   signing-keeps st may ok = record {
     pairs = subst (Pairs Owes) (with-last st) (pairs-snoc Owes (statements_of p) st ok.pairs (λ a m. owes ok a st may m));
-    signers = all-snoc p.signed (own_claim s signer p st) ok.signers refl;
+    signers = each-snoc (λ (c : Claim). c.signer ≡ p.me) p.signed (own_claim s signer p st) ok.signers refl;
     views = λ other m. below other (was st other m);
     placed = λ x k m there e. let far = kept x k m e (was st (Keep x k m) there) in let more = heard-grows (own_claim s signer p st) in omega (arith, far, more);
   }
@@ -132,7 +119,7 @@ installing-keeps p d ok = record {
 same-keeps : (p q : Process) → p.signed ≡ q.signed → p.me ≡ q.me → p.pool ≡ q.pool → InOrder p → InOrder q
 same-keeps p q signed me pool ok = record {
   pairs = subst (λ cs. Pairs Owes (map (λ c. c.statement) cs)) signed ok.pairs;
-  signers = subst (λ n. AllByRecursion (λ c. c.signer ≡ n) q.signed) me (subst (λ cs. AllByRecursion (λ c. c.signer ≡ p.me) cs) signed ok.signers);
+  signers = subst (λ n. (c : Claim) → Mem c q.signed → c.signer ≡ n) me (subst (λ cs. (c : Claim) → Mem c cs → c.signer ≡ p.me) signed ok.signers);
   views = subst (λ h. (st : Statement) → Mem st (statements_of q) → view_of st ≤ h.view.number) pool (subst (λ cs. (st : Statement) → Mem st (map (λ c. c.statement) cs) → view_of st ≤ p.pool.view.number) signed ok.views);
   placed = subst (λ h. (x k : ℕ) (m : Message) → Mem (Keep x k m) (statements_of q) → x ≡ h.view.number → k < length (placed h)) pool
       (subst (λ cs. (x k : ℕ) (m : Message) → Mem (Keep x k m) (map (λ c. c.statement) cs) → x ≡ p.pool.view.number → k < length (placed p.pool)) signed ok.placed);
@@ -158,7 +145,7 @@ keeps_before_end s me turns i j x k n m at_keep at_end = go (compared i j)
     sts = statements_of (run s (start s me) turns)
 
     order : InOrder (run s (start s me) turns)
-    order = run-keeps s InOrder turns (keeps s _) (start s me) (record { pairs = λ i j a b lt at. absurd cc; signers = tt; views = λ st m. absurd m; placed = λ x k m there. absurd there })
+    order = run-keeps s InOrder turns (keeps s _) (start s me) (record { pairs = λ i j a b lt at. absurd cc; signers = λ c m. absurd m; views = λ st m. absurd m; placed = λ x k m there. absurd there })
 
     go : Compared i j → (i < j) × (k < n)
     go (ahead first) = (first, order.pairs i j (Keep x k m) (End x n) first at_keep at_end refl)

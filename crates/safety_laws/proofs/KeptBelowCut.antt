@@ -1,43 +1,39 @@
 -- A backed Ack's value was free at a correct member, and each kept place is below its cut.
-use Rattle.std.proofs.Common.{◌≡◌, ◌⊎◌, inl, inr, ℕ, zero, suc, ◌<◌, ◌≤◌, length, Some, Bool, true, refl, sym, ap, ◌∙◌, subst, arith}
-use Rattle.std.specs.Prelude.{◌-◌, not, ◌&&◌, ◌||◌, ◌==◌, nat_le, filter, count_by, is_some, option_and_then}
+use Rattle.std.proofs.Common.{◌≡◌, ◌⊎◌, inl, inr, ℕ, zero, suc, ◌<◌, ◌≤◌, length, Bool, true, refl, subst, arith, List}
+use Rattle.std.specs.Prelude.{◌-◌, ◌&&◌, ◌||◌, ◌==◌, nat_le, filter, count_by, is_some, option_and_then}
 use Rattle.std.specs.List.{list_any, range_with_len}
-use Rattle.std.proofs.lemmas.Bool.{eqb-true, leb-true, ltb-true}
+use Rattle.std.proofs.lemmas.Bool.{leb-true, ltb-true}
 use Rattle.std.proofs.lemmas.List.Sums.{length-filter}
 use Rattle.byte_defs.specs.Choices.{is_some_and}
 use Rattle.group_defs.specs.Views.{View, quorum, is_member, is_possible}
 use Rattle.message_defs.specs.Updates.{Value}
-use Rattle.message_defs.specs.Statements.{Statement, Keep, End, Ack, EndAt, Claim, slot_of, view_of}
+use Rattle.message_defs.specs.Statements.{Statement, Keep, End, Ack, EndAt, Slot, Message}
 use Rattle.group_defs.specs.Process.{Setting, Pool, Process, keyed}
-use Rattle.group_defs.specs.Certified.{heard_on, claim_on, is_certified, is_notified, is_signed, place_at}
+use Rattle.group_defs.specs.Certified.{heard_on, is_certified, is_notified, place_at}
 use Rattle.group_defs.specs.Values.{length_said, ends, is_quorum, is_free, is_first_way, is_second_way}
-use Rattle.group_defs.specs.Due.{may_sign, is_due}
-use Rattle.group_defs.specs.Family.{Family, end_of, statements_of}
-use Rattle.group_defs.specs.Laws.{StoodSo, IsOneView, IsBacked, IsFrom, may_back, AckedWasFree, KeptBelowCut}
-use Rattle.safety_laws.proofs.Lists.{and-first, and-second, Mem, mem-slice_get}
-use Rattle.safety_laws.proofs.Growing.{find-is, some-and, map-some, then-some, same_slot-is}
-use Rattle.safety_laws.proofs.Offered.{mem-map, list_any-mem}
-use Rattle.safety_laws.proofs.OneContent.{All-mem, me-end_of, meeting, enough-of, signed-by}
-use Rattle.safety_laws.proofs.CertifiedIsBacked.{own-word, certified_is_backed}
-use Rattle.safety_laws.proofs.Moments.{due-at}
-use Rattle.safety_laws.proofs.ReadyFixesValue.{length-filter_map, or-cases, and-four, second-parts, ack-justified}
+use Rattle.group_defs.specs.Family.{Family, end_of, statements_of, Correct}
+use Rattle.group_defs.specs.Laws.{StoodSo, IsOneView, IsBacked, AckedWasFree, KeptBelowCut}
+use Rattle.safety_laws.proofs.CertifiedIsBacked.{certified_is_backed, heard-word}
+use Rattle.safety_laws.proofs.Counting.{length-filter_map}
 use Rattle.safety_laws.proofs.KeepsBeforeEnd.{keeps_before_end}
+use Rattle.safety_laws.proofs.MaySign.{ack-justified, second-parts, signing-member}
+use Rattle.safety_laws.proofs.Members.{Mem, list_any-mem}
+use Rattle.safety_laws.proofs.Moments.{backed-due}
+use Rattle.safety_laws.proofs.Places.{mem-slice_get}
+use Rattle.safety_laws.proofs.Quorums.{backer-in}
+use Rattle.safety_laws.proofs.Slots.{end-is}
+use Rattle.safety_laws.proofs.Tests.{and-first, and-four, or-cases, some-and, then-some}
 
 abbrev WasFree : Family → View → Value → Type 0
 WasFree f v w = (q : Process) × StoodSo f q × (q.pool.view ≡ v) × (is_member v q.me ≡ true) × (is_free f.setting q.pool w ≡ true)
-
-pub signing-member : (s : Setting) (q : Process) (st : Statement) → may_sign s q st ≡ true → is_member q.pool.view q.me ≡ true
-signing-member s q st may = (and-four (is_member q.pool.view q.me) (view_of st == q.pool.view.number) (not (is_signed q (slot_of st))) (is_due s q st) may).0
 
 module _ (f : Family) (v : View) (one : IsOneView f v) where
   was-free : (fuel r : ℕ) (w : Value) → r < fuel → IsBacked f v (Ack v.number r w) → WasFree f v w
   was-free zero r w room ack = absurd (omega (arith, room))
   was-free (suc fuel) r w room ack =
-      let st : Statement = Ack v.number r w in
-      let c = meeting f v one (may_back f st) (may_back f st) (enough-of f v st ack) (enough-of f v st ack) in
-      let due = due-at f v one c.0 c.1 st (signed-by f st c.0 c.1 c.2) refl in
-      ways due.0 due.1 due.2 (subst (λ (u : View). is_member u due.0.me ≡ true) due.2 (signing-member f.setting due.0 st due.3))
-      (or-cases f v one (is_free f.setting due.0.pool w && is_first_way due.0.pool r) (list_any (λ r0. is_second_way due.0.pool r r0 w) (range_with_len 0 r)) (ack-justified f.setting due.0 v.number r w due.3))
+      let due = backed-due f v (Ack v.number r w) one ack refl in
+      ways due.0 due.1 due.2 (subst (λ (u : View). is_member u due.0.me ≡ true) due.2 (signing-member f.setting due.0 (Ack v.number r w) due.3))
+      (or-cases (is_free f.setting due.0.pool w && is_first_way due.0.pool r) (list_any (λ r0. is_second_way due.0.pool r r0 w) (range_with_len 0 r)) (ack-justified f.setting due.0 v.number r w due.3))
       (λ r0 lt backed. was-free fuel r0 w (omega (arith, room, lt)) backed)
     where
       ways : (q : Process) → StoodSo f q → q.pool.view ≡ v → is_member v q.me ≡ true → ((is_free f.setting q.pool w && is_first_way q.pool r) ≡ true) ⊎ (list_any (λ r0. is_second_way q.pool r r0 w) (range_with_len 0 r) ≡ true)
@@ -65,27 +61,34 @@ free-quorum s h w e =
     let same = length-filter_map (λ m. option_and_then length_said (heard_on h m (EndAt h.view.number))) (λ k. nat_le k w.cut) h.view.members in
     omega (arith, enough, counted, same)
 
-end-is : (st : Statement) (x n : ℕ) → length_said st ≡ Some n → slot_of st ≡ EndAt x → st ≡ End x n
-end-is (End y k) x n e at = let y_is : y ≡ x = cc in let k_is : k ≡ n = cc in λ i. End (y_is i) (k_is i)
-end-is _ x n e at = absurd cc
+module _ (f : Family) (v : View) (one : IsOneView f v) (q : Process) (stood : StoodSo f q) (at : q.pool.view ≡ v) (c : Correct) (m : Mem c f.correct) where
+  -- a correct member's heard End stands in its signed list
+  end-signed : (cut : ℕ) → end_within q.pool cut c.me ≡ true → (n : ℕ) × Mem (End v.number n) (statements_of (end_of f.setting c)) × (n ≤ cut)
+  end-signed cut e =
+      let slot : Slot = EndAt q.pool.view.number in
+      let said = some-and (option_and_then length_said (heard_on q.pool c.me slot)) (λ k. nat_le k cut) e in
+      let statement = then-some length_said (heard_on q.pool c.me slot) said.0 said.1 in
+      let word = heard-word f v q one stood c m slot statement.0 statement.1 in
+      let sts : List Statement = statements_of (end_of f.setting c) in
+      let is : Mem (End q.pool.view.number said.0) sts = subst (λ st. Mem st sts) (end-is statement.0 q.pool.view.number said.0 statement.2 word.1) word.0 in
+      (said.0, subst (λ (u : View). Mem (End u.number said.0) sts) at is, leb-true said.0 cut said.2)
 
+  kept-before : (cut k : ℕ) (msg : Message) → Mem (Keep v.number k msg) (statements_of (end_of f.setting c)) → end_within q.pool cut c.me ≡ true → k < cut
+  kept-before cut k msg keep e =
+      let end = end-signed cut e in
+      let sts : List Statement = statements_of (end_of f.setting c) in
+      let i = mem-slice_get sts (Keep v.number k msg) keep in
+      let j = mem-slice_get sts (End v.number end.0) end.1 in
+      let before = (keeps_before_end f.setting c.me c.turns i.0 j.0 v.number k end.0 msg i.1 j.1).1 in
+      let within = end.2 in
+      omega (arith, before, within)
+
+-- a member of both quorums has said so
 pub kept_below_cut : KeptBelowCut
-kept_below_cut f v r k w m one keep ack =
-    let free = acked_was_free f v r w one ack in
-    let q : Process = free.0 in
-    let enough = subst (λ (u : View). quorum (length u.members) ≤ length (filter (end_within q.pool w.cut) u.members)) free.2 (free-quorum f.setting q.pool w free.4) in
-    let c = meeting f v one (end_within q.pool w.cut) (may_back f (Keep v.number k m)) enough (enough-of f v (Keep v.number k m) keep) in
-    let said = some-and (option_and_then length_said (heard_on q.pool c.0.me (EndAt q.pool.view.number))) (λ k. nat_le k w.cut) c.2 in
-    let statement = then-some length_said (heard_on q.pool c.0.me (EndAt q.pool.view.number)) said.0 said.1 in
-    let claim = map-some (λ (c : Claim). c.statement) (claim_on q.pool.heard c.0.me (EndAt q.pool.view.number)) statement.0 statement.1 in
-    let found = find-is _ q.pool.heard claim.0 claim.1 in
-    let ended : claim.0.statement ≡ End q.pool.view.number said.0 = end-is claim.0.statement q.pool.view.number said.0 (ap length_said claim.2 ∙ statement.2) (same_slot-is (slot_of claim.0.statement) (EndAt q.pool.view.number) (and-second _ _ found.1)) in
-    let signer : claim.0.signer ≡ c.0.me = eqb-true _ _ (and-first _ _ found.1) in
-    let p : Process = end_of f.setting c.0 in
-    let mine = own-word f v q one free.1 claim.0 (All-mem (IsFrom f.setting _ q.signed) q.pool.heard claim.0 free.1.heard found.0) p (mem-map (end_of f.setting) f.correct c.0 c.1) (me-end_of f.setting c.0 ∙ sym signer) in
-    let mine' : Mem (End v.number said.0) (statements_of p) = subst (λ st. Mem st (statements_of p)) (ended ∙ ap (λ (u : View). End u.number said.0) free.2) mine in
-    let i = mem-slice_get (statements_of p) (Keep v.number k m) (signed-by f (Keep v.number k m) c.0 c.1 c.3) in
-    let j = mem-slice_get (statements_of p) (End v.number said.0) mine' in
-    let before = (keeps_before_end f.setting c.0.me c.0.turns i.0 j.0 v.number k said.0 m i.1 j.1).1 in
-    let within : said.0 ≤ w.cut = leb-true said.0 w.cut said.2 in
-    omega (arith, before, within)
+kept_below_cut f v r k w m one keep ack = go (acked_was_free f v r w one ack)
+  where
+    go : WasFree f v w → k < w.cut
+    go (q, stood, at, member, free) =
+        let enough = subst (λ (u : View). quorum (length u.members) ≤ length (filter (end_within q.pool w.cut) u.members)) at (free-quorum f.setting q.pool w free) in
+        let c = backer-in f v (Keep v.number k m) one keep (end_within q.pool w.cut) enough in
+        kept-before f v one q stood at c.0 c.1 w.cut k m c.3 c.2

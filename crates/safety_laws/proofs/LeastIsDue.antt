@@ -1,15 +1,12 @@
 -- The statement that a kind gives next is due, and none of its kind that is due stands before it.
-use Rattle.std.proofs.Common.{◌≡◌, ◌⊎◌, inl, inr, ℕ, zero, suc, ◌<◌, ◌≤◌, List, [], ◌∷◌, Some, Bool, true, false, refl, subst, arith}
-use Rattle.std.specs.Prelude.{if◌then◌else◌, filter, ◌&&◌, ◌||◌, ◌==◌, nat_lt, Contains, slice_index_or, length}
+use Rattle.std.proofs.Common.{◌≡◌, inl, inr, ℕ, ◌<◌, ◌≤◌, List, [], ◌∷◌, Some, Bool, true, false, refl, subst, arith}
+use Rattle.std.specs.Prelude.{if◌then◌else◌, filter, ◌&&◌, ◌||◌, ◌==◌, nat_lt}
 use Rattle.std.proofs.lemmas.Bool.{ltb-true, ltb-false, eqb-true, eq-eqb, le-ltb}
 use Rattle.byte_defs.specs.Orders.{numbers_below, least_from, least}
 use Rattle.group_defs.specs.Due.{may_sign, least_due, due_numbers, kind_of, offers, LeastIsDue}
-use Rattle.safety_laws.proofs.Lists.{Mem, mem-filter}
 use Rattle.safety_laws.proofs.Induction.{least_due-may}
-
-neither : (a b : Bool) → (a || b) ≡ false → (a ≡ false) × (b ≡ false)
-neither true b e = absurd cc
-neither false b e = (refl, e)
+use Rattle.safety_laws.proofs.Members.{Contains-mem, Mem, mem-filter}
+use Rattle.safety_laws.proofs.Tests.{or-cases, neither}
 
 no : (a b : Bool) → a ≡ false → b ≡ false → (a || b) ≡ false
 no true b e f = absurd cc
@@ -39,10 +36,6 @@ below-trans (l ∷ ls) (m ∷ ms) (n ∷ ns) e f =
     (second (l == m) (numbers_below ls ms) (eq-eqb l m (omega (arith, ml, nm, is))) one.1)
     (second (m == n) (numbers_below ms ns) (eq-eqb m n (omega (arith, ml, nm, is))) two.1)))
 
-either-true : (a b : Bool) → (a || b) ≡ true → (a ≡ true) ⊎ (b ≡ true)
-either-true true b e = inl refl
-either-true false b e = inr e
-
 and-parts : (a b : Bool) → (a && b) ≡ true → (a ≡ true) × (b ≡ true)
 and-parts true b e = (refl, e)
 and-parts false b e = absurd cc
@@ -51,7 +44,7 @@ pub below-asym : (a b : List ℕ) → numbers_below a b ≡ true → numbers_bel
 below-asym [] [] e = absurd cc
 below-asym [] (n ∷ ns) e = refl
 below-asym (m ∷ ms) [] e = absurd cc
-below-asym (m ∷ ms) (n ∷ ns) e = elim (either-true (nat_lt m n) ((m == n) && numbers_below ms ns) e) [
+below-asym (m ∷ ms) (n ∷ ns) e = elim (or-cases (nat_lt m n) ((m == n) && numbers_below ms ns) e) [
   | inl lt ↦ (let mn : m < n = ltb-true m n lt in no (nat_lt n m) ((n == m) && numbers_below ns ms) (le-ltb n m (omega (arith, mn))) (not-and (n == m) (numbers_below ns ms) (λ same. absurd (let is : n ≡ m = eqb-true n m same in omega (arith, mn, is)))))
   | inr rest ↦ (let parts = and-parts (m == n) (numbers_below ms ns) rest in let is : m ≡ n = eqb-true m n parts.0 in
       no (nat_lt n m) ((n == m) && numbers_below ns ms) (le-ltb n m (omega (arith, is))) (not-and (n == m) (numbers_below ns ms) (λ same. below-asym ms ns parts.1)))
@@ -88,14 +81,6 @@ module _ {A : Type 0} (key : A → List ℕ) where
   least-not-below [] y z e m = absurd m
   least-not-below (x ∷ xs) y z e (inl same) = let is : least_from key x xs ≡ y = cc in subst (λ y. NotBelow z y) is (subst (λ z. NotBelow z (least_from key x xs)) same (start-least xs x))
   least-not-below (x ∷ xs) y z e (inr m) = let is : least_from key x xs ≡ y = cc in subst (λ y. NotBelow z y) is (rest-least xs x z m)
-
-place-mem : {A : Type 0} (xs : List A) (y : A) (k : ℕ) → k < length xs → slice_index_or xs k y ≡ y → Mem y xs
-place-mem [] y k lt e = absurd (omega (arith, lt))
-place-mem (x ∷ xs) y zero lt e = inl e
-place-mem (x ∷ xs) y (suc k) lt e = inr (place-mem xs y k (omega (arith, lt)) e)
-
-pub Contains-mem : {A : Type 0} (xs : List A) (y : A) → Contains xs y → Mem y xs
-Contains-mem xs y c = place-mem xs y c.0 c.1 c.2
 
 pub least_is_due : LeastIsDue
 unfolding least_due

@@ -1,32 +1,35 @@
 -- What is delivered of a correct sender is what it accepted, in order.
 use Rattle.std.proofs.Common.{◌≡◌, ◌⊎◌, inl, inr, ℕ, zero, suc, ◌+◌, ◌<◌, List, [], ◌∷◌, ◌++◌, map, length, Some, Bool, true, false, refl, sym, ap, ◌∙◌, subst, arith, slice_get}
-use Rattle.std.specs.Prelude.{if◌then◌else◌, ◌&&◌, ◌==◌, not, nat_le, nat_lt, flat_map, sum, filter}
+use Rattle.std.specs.Prelude.{◌==◌, not, flat_map, sum}
 use Rattle.std.specs.List.{range_with_len}
 use Rattle.std.proofs.lemmas.Bool.{eqb-true}
 use Rattle.std.proofs.lemmas.List.Sums.{length-filter, sum_by-cons}
-use Rattle.byte_defs.specs.Equality.{is_yes, bytes_discrete}
-use Rattle.byte_defs.specs.Choices.{is_some_and}
 use Rattle.group_defs.specs.Views.{View, is_member}
 use Rattle.message_defs.specs.Statements.{Statement, Init, Echo}
-use Rattle.group_defs.specs.Process.{Setting, Delivered, Left, Process, earlier, delivered_from, views_of}
+use Rattle.group_defs.specs.Process.{Delivered, Left, Process, earlier, delivered_from, views_of}
 use Rattle.group_defs.specs.Certified.{says, is_ended}
-use Rattle.group_defs.specs.Due.{may_sign, is_due, window}
-use Rattle.group_defs.specs.Accounts.{account_of, IsPrefixOf, delivered_in, longest, group_of, of_sender, history, AgreesWith}
+use Rattle.group_defs.specs.Accounts.{account_of, IsPrefixOf, delivered_in, group_of, of_sender, history, AgreesWith}
 use Rattle.group_defs.specs.Family.{Correct, Family, end_of, ends, accounts, handed, statements_of}
-use Rattle.group_defs.specs.Laws.{Premises, HasGrown, IsOneView, IsFrom, may_back, CauseAndOrder}
-use Rattle.safety_laws.proofs.Lists.{Mem, and-first, and-second, slice_get-mem, mem-slice_get, filter-mem, map-append, slice_get-length}
-use Rattle.safety_laws.proofs.Offered.{mem-map, map-mem, heard-says}
-use Rattle.safety_laws.proofs.Growing.{some-and, yes-is, mem-append}
-use Rattle.safety_laws.proofs.OneContent.{All-mem, meeting, enough-of, signed-by}
-use Rattle.safety_laws.proofs.CertifiedIsBacked.{own-word}
-use Rattle.safety_laws.proofs.Moments.{due-at}
-use Rattle.safety_laws.proofs.EachWasDue.{each_was_due}
-use Rattle.safety_laws.proofs.KeptBelowCut.{signing-member}
-use Rattle.safety_laws.proofs.History.{ViewSo, slice_get-front, slice_get-last, length-map, signing-view}
-use Rattle.safety_laws.proofs.Decisions.{backed, of-history, one-view, get-map, map-get, some-is, indexed, left-view, in-ends}
-use Rattle.safety_laws.proofs.Agreeing.{Part, nothing, something, part, longest-mem, account-of, left-delivered, agreement, each-account}
+use Rattle.group_defs.specs.Laws.{Premises, HasGrown, IsOneView, IsFrom, CauseAndOrder}
+use Rattle.std.proofs.lemmas.List.{map-append, length-map}
+use Rattle.std.proofs.lemmas.List.Elements.{filter-append}
+use Rattle.safety_laws.proofs.AllAgree.{SequenceSo, agreement, delivered_by, empty, sequence-so}
 use Rattle.safety_laws.proofs.Causes.{causes}
-use Rattle.safety_laws.proofs.InOrder.{each-once, each-in-order}
+use Rattle.safety_laws.proofs.CertifiedIsBacked.{own-word}
+use Rattle.safety_laws.proofs.EachWasDue.{each_was_due}
+use Rattle.safety_laws.proofs.Heard.{heard-says}
+use Rattle.safety_laws.proofs.History.{ViewSo}
+use Rattle.safety_laws.proofs.InOrder.{each-in-order, each-once}
+use Rattle.safety_laws.proofs.MaySign.{signing-due, signing-member, signing-view}
+use Rattle.safety_laws.proofs.Members.{All-mem, Mem, filter-mem, mem-append, mem-map}
+use Rattle.safety_laws.proofs.Moments.{DueAt, backed-due}
+use Rattle.safety_laws.proofs.OfGroup.{each-account}
+use Rattle.safety_laws.proofs.Offered.{init-accepted}
+use Rattle.safety_laws.proofs.Places.{get-map, map-get, mem-slice_get, range-get, slice_get-front, slice_get-length, slice_get-mem}
+use Rattle.safety_laws.proofs.Quorums.{in-ends}
+use Rattle.safety_laws.proofs.Tests.{and-first, some-is}
+use Rattle.safety_laws.proofs.ViewsAgree.{backed, indexed, of-history, one-view}
+use Rattle.safety_laws.proofs.ViewsOf.{current-at, left-delivered, left-view}
 
 module _ (f : Family) (premises : Premises f) (c : Correct) (m : Mem c f.correct) where
   abbrev me : ℕ
@@ -43,55 +46,46 @@ module _ (f : Family) (premises : Premises f) (c : Correct) (m : Mem c f.correct
     pub number : moment.pool.view.number ≡ x
     pub accepted : slice_get moment.accepted (earlier moment + l) ≡ Some b
 
-  init-accepted : (s : Setting) (q : Process) (x l : ℕ) (b : List ℕ) → may_sign s q (Init x l b) ≡ true → slice_get q.accepted (earlier q + l) ≡ Some b
-  init-accepted s q x l b may =
-      let due : is_due s q (Init x l b) ≡ true = and-second _ (is_due s q (Init x l b)) may in
-      let last = and-second (nat_lt l (delivered_from q.me q.delivered + window) && nat_le l 1023) (is_some_and (slice_get q.accepted (earlier q + l)) (λ accepted. is_yes (bytes_discrete b accepted))) due in
-      let at = some-and (slice_get q.accepted (earlier q + l)) (λ accepted. is_yes (bytes_discrete b accepted)) last in
-      at.1 ∙ ap Some (sym (yes-is (bytes_discrete b at.0) at.2))
-
-  in-view : (v : View) (one : IsOneView f v) (c' : Correct) → Mem c' f.correct → (ds : List Delivered) → ViewSo f.setting c'.turns (end_of f.setting c') v ds → (d : Delivered) → Mem d ds → d.message.sender ≡ me → OwnInit v.number d.message.number d.payload
-  in-view v one c' m' ds so d there sender =
-      let k = mem-slice_get ds d there in
-      let st : Statement = Echo v.number d.message d.payload in
-      let echo = backed f v one c' m' st (so.payloads k.0 d k.1) in
-      let b = meeting f v one (may_back f st) (may_back f st) (enough-of f v st echo) (enough-of f v st echo) in
-      let due = due-at f v one b.0 b.1 st (signed-by f st b.0 b.1 b.2) refl in
-      let q : Process = due.0 in
-      let init : Statement = Init v.number d.message.number d.payload in
-      let said : says q.pool init d.message.sender ≡ true = and-first (says q.pool init d.message.sender) (not (is_ended q)) (and-second _ (is_due f.setting q st) due.3) in
-      let claim = heard-says q.pool init d.message.sender said in
-      let word = own-word f v q one due.1 claim.0 (All-mem (IsFrom f.setting (handed f) q.signed) q.pool.heard claim.0 due.1.heard claim.1) (end_of f.setting c) (in-ends f c m) (sym (claim.2 ∙ sender)) in
-      let i = mem-slice_get (statements_of (end_of f.setting c)) init (subst (λ st. Mem st (statements_of (end_of f.setting c))) claim.3 word) in
-      let was = each_was_due f.setting c.me c.turns i.0 init i.1 in
+  -- an Init that it signed was due
+  of-signed : (v : View) (l : ℕ) (b : List ℕ) → Mem (Init v.number l b) (statements_of (end_of f.setting c)) → OwnInit v.number l b
+  of-signed v l b signed =
+      let i = mem-slice_get (statements_of (end_of f.setting c)) (Init v.number l b) signed in
+      let was = each_was_due f.setting c.me c.turns i.0 (Init v.number l b) i.1 in
       record {
         moment = was.moment;
         grown = was.grown;
-        member = signing-member f.setting was.moment init was.due;
-        number = sym (signing-view f.setting was.moment init was.due);
-        accepted = init-accepted f.setting was.moment v.number d.message.number d.payload was.due;
+        member = signing-member f.setting was.moment (Init v.number l b) was.due;
+        number = sym (signing-view f.setting was.moment (Init v.number l b) was.due);
+        accepted = init-accepted f.setting was.moment v.number l b was.due;
       }
 
-  own-init : (x : ℕ) (d : Delivered) → Mem d (seq x) → d.message.sender ≡ me → OwnInit x d.message.number d.payload
-  own-init x d there sender = go (map (λ a. delivered_in a x) (accounts f)) refl there
-    where
-      of-part : (c' : Correct) → Mem c' f.correct → Mem d (delivered_in (account_of (end_of f.setting c')) x) → Part f.setting c'.turns (end_of f.setting c') x → OwnInit x d.message.number d.payload
-      of-part c' m' there (nothing none) = absurd (subst (Mem d) none there)
-      of-part c' m' there (something v at so) =
-          subst (λ x. OwnInit x d.message.number d.payload) (indexed f.setting c'.turns (end_of f.setting c') (of-history f premises c') x v at)
-          (in-view v (one-view f premises c' m' v (slice_get-mem (views_of (end_of f.setting c')) x v at)) c' m' (delivered_in (account_of (end_of f.setting c')) x) so d there sender)
+  -- an Echo of its message was due where its Init is heard
+  of-echo : (v : View) → IsOneView f v → (d : Delivered) → d.message.sender ≡ me → DueAt f v (Echo v.number d.message d.payload) → OwnInit v.number d.message.number d.payload
+  of-echo v one d sender (q, stood, at, may) =
+      let init : Statement = Init v.number d.message.number d.payload in
+      let said : says q.pool init d.message.sender ≡ true = and-first (says q.pool init d.message.sender) (not (is_ended q)) (signing-due f.setting q (Echo v.number d.message d.payload) may) in
+      let claim = heard-says q.pool init d.message.sender said in
+      let source = All-mem (IsFrom f.setting (handed f) q.signed) q.pool.heard claim.0 stood.heard claim.1 in
+      let word = own-word f v q one stood claim.0 source (end_of f.setting c) (in-ends f c m) (sym (claim.2 ∙ sender)) in
+      of-signed v d.message.number d.payload (subst (λ st. Mem st (statements_of (end_of f.setting c))) claim.3 word)
 
-      go : (dss : List (List Delivered)) → map (λ a. delivered_in a x) (accounts f) ≡ dss → Mem d (longest dss) → OwnInit x d.message.number d.payload
-      go [] e there = absurd there
-      go (ds ∷ more) e there =
-          let a = map-mem (λ a. delivered_in a x) (accounts f) (longest (ds ∷ more)) (subst (Mem (longest (ds ∷ more))) (sym e) (longest-mem (ds ∷ more) ds (inl refl))) in
-          let c' = account-of f a.0 a.1 in
-          of-part c'.0 c'.1 (subst (Mem d) (sym (ap (λ a. delivered_in a x) c'.2 ∙ a.2)) there) (part f.setting c'.0.turns (end_of f.setting c'.0) (of-history f premises c'.0) x)
+  in-view : (v : View) → IsOneView f v → (c' : Correct) → Mem c' f.correct → (ds : List Delivered) → ViewSo f.setting c'.turns (end_of f.setting c') v ds → (d : Delivered) → Mem d ds → d.message.sender ≡ me → OwnInit v.number d.message.number d.payload
+  in-view v one c' m' ds so d there sender =
+      let k = mem-slice_get ds d there in
+      of-echo v one d sender (backed-due f v (Echo v.number d.message d.payload) one (backed f v one c' m' (Echo v.number d.message d.payload) (so.payloads k.0 d k.1)) refl)
+
+  own-init : (x : ℕ) (d : Delivered) → Mem d (seq x) → d.message.sender ≡ me → OwnInit x d.message.number d.payload
+  own-init x d there sender = go (sequence-so f premises x)
+    where
+      go : SequenceSo f x → OwnInit x d.message.number d.payload
+      go (empty none) = absurd (subst (Mem d) none there)
+      go (delivered_by c' m' v at so) =
+          subst (λ x. OwnInit x d.message.number d.payload) (indexed f.setting c'.turns (end_of f.setting c') (of-history f premises c') x v at)
+          (in-view v (one-view f premises c' m' v (slice_get-mem (views_of (end_of f.setting c')) x v at)) c' m' (seq x) so d there sender)
 
   -- the view of a moment stands behind those that were left
-  moment-view : (q : Process) → HasGrown q (end_of f.setting c) → slice_get (views_of (end_of f.setting c)) (length q.left) ≡ Some q.pool.view
-  moment-view q g = subst (λ vs. slice_get vs (length q.left) ≡ Some q.pool.view) g.views.1 (slice_get-front (views_of q) g.views.0 (length q.left) q.pool.view
-      (slice_get-last (map (λ (l : Left). l.view) q.left) q.pool.view (length q.left) (sym (length-map (λ (l : Left). l.view) q.left))))
+  moment-at : (q : Process) → HasGrown q (end_of f.setting c) → slice_get (views_of (end_of f.setting c)) (length q.left) ≡ Some q.pool.view
+  moment-at q g = subst (λ vs. slice_get vs (length q.left) ≡ Some q.pool.view) g.views.1 (slice_get-front (views_of q) g.views.0 (length q.left) q.pool.view (current-at q))
 
   -- ---- how many stood before
 
@@ -142,7 +136,7 @@ module _ (f : Family) (premises : Premises f) (c : Correct) (m : Mem c f.correct
           outside d there sender =
               let init = own-init y d there sender in
               let q : Process = init.moment in
-              let at' = moment-view q init.grown in
+              let at' = moment-at q init.grown in
               let y_is : length q.left ≡ y = sym (indexed f.setting c.turns (end_of f.setting c) (of-history f premises c) (length q.left) q.pool.view at') ∙ init.number in
               let is : q.pool.view ≡ l.view = some-is q.pool.view l.view _ (ap (slice_get (views_of (end_of f.setting c))) (sym y_is) ∙ at') (left-view (end_of f.setting c) y l at) in
               clash e (subst (λ (v : View). is_member v me ≡ true) is (subst (λ n. is_member q.pool.view n ≡ true) (sym init.grown.me) init.member))
@@ -160,7 +154,7 @@ module _ (f : Family) (premises : Premises f) (c : Correct) (m : Mem c f.correct
 
   earlier-is : (q : Process) → HasGrown q (end_of f.setting c) → earlier q ≡ total 0 q.pool.view.number
   earlier-is q g =
-      let at = moment-view q g in
+      let at = moment-at q g in
       let far = slice_get-length (views_of (end_of f.setting c)) (length q.left) q.pool.view at in
       let x_is = indexed f.setting c.turns (end_of f.setting c) (of-history f premises c) (length q.left) q.pool.view at in
       ap (λ n. sum (map (λ (l : Left). delivered_from n l.delivered) q.left)) (sym g.me)
@@ -168,11 +162,6 @@ module _ (f : Family) (premises : Premises f) (c : Correct) (m : Mem c f.correct
       let same : i ≡ 0 + i = omega arith in
       left-count i l (subst (λ ls. slice_get ls i ≡ Some l) g.left.1 (slice_get-front q.left g.left.0 i l in_left)) (omega (arith, short, far)) ∙ ap count same)
       ∙ ap (total 0) (sym x_is)
-
-  range-get : (a n l y : ℕ) → slice_get (range_with_len a n) l ≡ Some y → y ≡ a + l
-  range-get a zero l y e = absurd cc
-  range-get a (suc n) zero y e = let is : a ≡ y = cc in omega (arith, is)
-  range-get a (suc n) (suc l) y e = let rest = range-get (a + 1) n l y e in omega (arith, rest)
 
   own-at : (x l : ℕ) (d : Delivered) → slice_get (of_sender me (seq x)) l ≡ Some d → slice_get (end_of f.setting c).accepted (total 0 x + l) ≡ Some d.payload
   own-at x l d at =
@@ -191,14 +180,6 @@ module _ (f : Family) (premises : Premises f) (c : Correct) (m : Mem c f.correct
   get-append (x ∷ xs) ys zero y e = inl e
   get-append (x ∷ xs) ys (suc i) y e = elim (get-append xs ys i y e) [ inl here ↦ inl here | inr there ↦ inr (there.0, (let is = there.1 in omega (arith, is)), there.2) ]
 
-  filter-append : (test : Delivered → Bool) (xs ys : List Delivered) → filter test (xs ++ ys) ≡ filter test xs ++ filter test ys
-  filter-append test [] ys = refl
-  filter-append test (x ∷ xs) ys = go (test x) (filter-append test xs ys)
-    where
-      go : (b : Bool) → filter test (xs ++ ys) ≡ filter test xs ++ filter test ys → (if b then x ∷ filter test (xs ++ ys) else filter test (xs ++ ys)) ≡ (if b then x ∷ filter test xs else filter test xs) ++ filter test ys
-      go true e = λ i. x ∷ e i
-      go false e = e
-
   abbrev payloads : List Delivered → List (List ℕ)
   payloads ds = map (λ (d : Delivered). d.payload) (of_sender me ds)
 
@@ -213,7 +194,7 @@ module _ (f : Family) (premises : Premises f) (c : Correct) (m : Mem c f.correct
           → ((j : ℕ) (b : List ℕ) → slice_get (payloads (flat_map seq (range_with_len (a + 1) n))) j ≡ Some b → slice_get (end_of f.setting c).accepted (total 0 (a + 1) + j) ≡ Some b) → slice_get (end_of f.setting c).accepted (total 0 a + i) ≡ Some b
       go (inl here) rest = let d = get-map (λ (d : Delivered). d.payload) (of_sender me (seq a)) i b here in own-at a i d.0 d.1 ∙ ap Some d.2
       go (inr there) rest =
-          let long = length-map (λ (d : Delivered). d.payload) (of_sender me (seq a)) in
+          let long = length-map (of_sender me (seq a)) (λ (d : Delivered). d.payload) in
           let next : a + 1 ≡ suc a = omega arith in
           let base : total 0 (a + 1) ≡ total 0 (suc a) = ap (total 0) next in
           let more = total-last 0 a in

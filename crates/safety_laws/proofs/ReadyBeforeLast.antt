@@ -1,26 +1,26 @@
 -- A Ready stands before a Last of a greater rank, which reports one as late.
 use Rattle.std.proofs.Common.{◌≡◌, ◌⊎◌, inl, inr, ℕ, ◌<◌, ◌≤◌, List, [], ◌∷◌, Option, Some, None, Bool, true, false, refl, sym, ap, ◌∙◌, subst, arith, slice_get}
 use Rattle.std.specs.Prelude.{if◌then◌else◌, filter_map, fold, ◌==◌, nat_lt, ⊤}
-use Rattle.std.proofs.lemmas.Bool.{eqb-true, leb-true, ltb-true, eq-eqb, ltb-false}
-use native.Mathlib.Decide.{ℕ_discrete}
-use Rattle.byte_defs.specs.Equality.{is_yes, option_discrete, pair_discrete}
-use Rattle.message_defs.specs.Updates.{Value, Value-discrete}
+use Rattle.std.proofs.lemmas.Bool.{eqb-true, ltb-true, eq-eqb, ltb-false}
+use Rattle.message_defs.specs.Updates.{Value}
 use Rattle.message_defs.specs.Statements.{Statement, Last, Ready, Claim, view_of}
 use Rattle.group_defs.specs.Process.{Setting, Process, start}
-use Rattle.group_defs.specs.Certified.{own, own_rank, own_ready, rank_said, readied, higher}
+use Rattle.group_defs.specs.Certified.{own, own_rank, rank_said, readied, higher}
 use Rattle.group_defs.specs.Due.{may_sign, is_due}
 use Rattle.group_defs.specs.Signing.{Signer, own_claim, signs}
 use Rattle.group_defs.specs.Events.{Turn, run}
 use Rattle.group_defs.specs.Family.{statements_of}
 use Rattle.group_defs.specs.Laws.{ReportsReady, ReadyBeforeLast}
-use Rattle.safety_laws.proofs.Lists.{and-first, and-second, Mem, slice_get-mem, mem-filter, filter-mem, filter_map-mem, mem-filter_map, fold-max, map-append, mem-snoc, snoc-mem, Pairs, pairs-snoc, mem-Contains, Compared, ahead, level, behind, compared}
+use Rattle.std.proofs.lemmas.List.{map-append}
+use Rattle.safety_laws.proofs.Counting.{fold-max}
 use Rattle.safety_laws.proofs.Induction.{Keeps, run-keeps}
+use Rattle.safety_laws.proofs.MaySign.{last-rank, ready-rank}
+use Rattle.safety_laws.proofs.Members.{Mem, filter-mem, filter_map-mem, mem-Contains, mem-filter, mem-filter_map, mem-snoc, snoc-mem}
+use Rattle.safety_laws.proofs.Places.{Compared, Pairs, ahead, behind, compared, level, pairs-snoc, slice_get-mem}
+use Rattle.safety_laws.proofs.Slots.{readied-is}
+use Rattle.safety_laws.proofs.Tests.{and-first, and-second}
 
 -- ---- the own Ready of greatest rank
-
-yes-is : {A : Type 0} (d : Dec A) → is_yes d ≡ true → A
-yes-is (yes a) e = a
-yes-is (no n) e = absurd cc
 
 -- what a fold of `higher` gives from best is not below b
 abbrev IsHighest : List (ℕ × Value) → Option (ℕ × Value) → ℕ × Value → Type 0
@@ -81,16 +81,8 @@ module _ (s : Setting) (p : Process) (st : Statement) (may : may_sign s p st ≡
 rank_said-own : (p : Process) (a : Statement) → Mem a (own p) → rank_said a ≤ own_rank p
 rank_said-own p a m = fold-max rank_said (own p) 0 a m
 
--- what a Last reports
-reported : (s : Setting) (p : Process) (y r' : ℕ) (ready : Option (ℕ × Value)) → may_sign s p (Last y r' ready) ≡ true → ready ≡ own_ready p
-reported s p y r' ready may = yes-is (option_discrete (pair_discrete ℕ_discrete Value-discrete) ready (own_ready p)) (and-second _ _ (due s p (Last y r' ready) may))
-
-readied-is : (a : Statement) (y : ℕ) (best : ℕ × Value) → readied a ≡ Some best → view_of a ≡ y → a ≡ Ready y best.0 best.1
-readied-is (Ready x r v) y best e at = let is : (r, v) ≡ best = cc in λ i. Ready (at i) (is i).0 (is i).1
-readied-is _ y best e at = absurd cc
-
 own_ready-mem : (s : Setting) (p : Process) (y r' : ℕ) (best : ℕ × Value) → may_sign s p (Last y r' (Some best)) ≡ true → Mem (Ready y best.0 best.1) (statements_of p)
-own_ready-mem s p y r' best may = elim (highest-mem (filter_map readied (own p)) None best (sym (reported s p y r' (Some best) may))) [
+own_ready-mem s p y r' best may = elim (highest-mem (filter_map readied (own p)) None best (sym (last-rank s p y r' (Some best) may).1)) [
   | inl m ↦ named (filter_map-mem readied (own p) best m)
   | inr was ↦ absurd cc
 ]
@@ -102,13 +94,13 @@ own_ready-mem s p y r' best may = elim (highest-mem (filter_map readied (own p))
 
 owes : (s : Setting) (p : Process) (a st : Statement) → may_sign s p st ≡ true → Mem a (statements_of p) → Owes a st
 owes s p (Last x r' ready) (Ready y r v) may m = λ same.
-    let least : own_rank p ≤ r = leb-true (own_rank p) r (and-second _ _ (due s p (Ready y r v) may)) in
+    let least : own_rank p ≤ r = ready-rank s p y r v may in
     let said = rank_said-own p (Last x r' ready) (own-mem s p (Ready y r v) may (Last x r' ready) m same) in
     omega (arith, least, said)
 owes s p (Ready x r v) (Last y r' ready) may m = λ same.
-    let above : own_rank p < r' = ltb-true (own_rank p) r' (and-second _ _ (and-first _ _ (due s p (Last y r' ready) may))) in
+    let above : own_rank p < r' = (last-rank s p y r' ready may).0 in
     let high = highest-of (filter_map readied (own p)) None (r, v) (mem-filter_map readied (own p) (Ready x r v) (r, v) (own-mem s p (Last y r' ready) may (Ready x r v) m same) refl) in
-    let is : ready ≡ Some high.0 = reported s p y r' ready may ∙ high.1 in
+    let is : ready ≡ Some high.0 = (last-rank s p y r' ready may).1 ∙ high.1 in
     let there : Mem (Ready y high.0.0 high.0.1) (statements_of p) = own_ready-mem s p y r' high.0 (subst (λ o. may_sign s p (Last y r' o) ≡ true) is may) in
     let said = rank_said-own p (Ready y high.0.0 high.0.1) (own-mem s p (Last y r' ready) may (Ready y high.0.0 high.0.1) there refl) in
     (high.0, is, high.2, omega (arith, above, said))

@@ -6,8 +6,8 @@ use Rattle.group_defs.specs.Settle.{decide, deliver, leave, settle}
 use Rattle.group_defs.specs.Events.{Turn, EventFault, refusal, signing, after, run}
 use Rattle.group_defs.specs.Family.{claims_in, handed_to}
 use Rattle.group_defs.specs.Laws.{settlings_from}
-use Rattle.safety_laws.proofs.Lists.{Mem}
-use Rattle.safety_laws.proofs.Induction.{Keeps, AreFrom, front, back, take_in-keeps, sign_all-keeps, deliver-keeps, leave-keeps, after-keeps, turns-keep}
+use Rattle.safety_laws.proofs.Induction.{AreFrom, Keeps, after-keeps, back, deliver-keeps, front, leave-keeps, sign_all-keeps, take_in-keeps, turns-keep}
+use Rattle.safety_laws.proofs.Members.{Mem}
 
 settles-none : (s : Setting) (p : Process) (t : Turn) (ts : List Turn) → refusal s p t.event ≡ None → settlings_from s p (t ∷ ts) ≡ (signing s p t).now ∷ settlings_from s (after s p t) ts
 settles-none s p t ts e = cc

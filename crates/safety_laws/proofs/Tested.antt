@@ -1,30 +1,17 @@
 -- What the report computes of the premises says them.
-use Rattle.std.proofs.Common.{◌≡◌, ◌≤◌, List, length, Bool, true, false, refl, sym, subst}
-use Rattle.std.specs.Prelude.{◌||◌, ◌==◌, not, nat_le, All, Contains, slice_index_or}
+use Rattle.std.proofs.Common.{◌≡◌, ◌≤◌, length, Bool, true, refl, sym, subst}
+use Rattle.std.specs.Prelude.{◌||◌, ◌==◌, not, nat_le, All, Contains}
 use Rattle.std.specs.List.{list_any, list_all}
 use Rattle.std.proofs.lemmas.Bool.{eqb-true, eq-eqb, leb-true, le-leb}
-use native.Mathlib.Decide.{ℕ_discrete}
-use Rattle.byte_defs.specs.Equality.{bytes_discrete, option_discrete, pair_discrete}
 use Rattle.group_defs.specs.Views.{View, faulty}
-use Rattle.message_defs.specs.Updates.{Update-discrete, Value-discrete}
-use Rattle.message_defs.specs.Statements.{Statement-discrete, Message-discrete, Claim, same_statement}
+use Rattle.message_defs.specs.Statements.{Claim, same_statement}
 use Rattle.group_defs.specs.Process.{Process}
 use Rattle.group_defs.specs.Hearing.{is_valid}
 use Rattle.group_defs.specs.Accounts.{Account, corrupt_in, BoundedIsTested}
 use Rattle.group_defs.specs.Family.{Family, ends, handed, statements_of, IsOwned, HonestIsTested}
-use Rattle.safety_laws.proofs.Lists.{Mem, mem-Contains}
-use Rattle.safety_laws.proofs.LeastIsDue.{Contains-mem}
-use Rattle.safety_laws.proofs.Offered.{list_any-mem}
-use Rattle.safety_laws.proofs.Growing.{yes-is, is-yes}
-use Rattle.safety_laws.proofs.OneContent.{All-mem, list_all-mem}
-use Rattle.safety_laws.proofs.CertifiedIsBacked.{each-list_all, mem-list_any}
-use Rattle.safety_laws.proofs.Installed.{index-mem}
-
-tested-all : {A : Type 0} (test : A → Bool) (P : A → Type 0) (xs : List A) → ((x : A) → test x ≡ true → P x) → list_all test xs ≡ true → All P xs
-tested-all test P xs each e k d lt = each (slice_index_or xs k d) (list_all-mem test xs (slice_index_or xs k d) e (index-mem xs k d lt))
-
-all-tested : {A : Type 0} (test : A → Bool) (P : A → Type 0) (xs : List A) → ((x : A) → P x → test x ≡ true) → All P xs → list_all test xs ≡ true
-all-tested test P xs each all = each-list_all test xs (λ x m. each x (All-mem P xs x all m))
+use Rattle.safety_laws.proofs.Members.{Contains-mem, Mem, all-tested, list_any-mem, mem-Contains, mem-list_any, tested-all}
+use Rattle.safety_laws.proofs.Slots.{is-same_statement, same_statement-is}
+use Rattle.safety_laws.proofs.Tests.{implied, implies}
 
 pub bounded_is_tested : BoundedIsTested
 bounded_is_tested accounts correct = (
@@ -33,14 +20,6 @@ bounded_is_tested accounts correct = (
   all-tested (λ a. list_all (λ v. nat_le (corrupt_in correct v) (faulty (length v.members))) a.views) (λ (a : Account). All (λ v. corrupt_in correct v ≤ faulty (length v.members)) a.views) accounts
       (λ a all. all-tested (λ v. nat_le (corrupt_in correct v) (faulty (length v.members))) (λ (v : View). corrupt_in correct v ≤ faulty (length v.members)) a.views (λ v le. le-leb _ _ le) all),
 )
-
-implied : (b c : Bool) → (not b || c) ≡ true → b ≡ true → c ≡ true
-implied true c e f = e
-implied false c e f = absurd cc
-
-implies : (b c : Bool) → (b ≡ true → c ≡ true) → (not b || c) ≡ true
-implies true c h = h refl
-implies false c h = refl
 
 module _ (f : Family) (c : Claim) where
   abbrev own_test : Process → Bool
@@ -52,12 +31,12 @@ module _ (f : Family) (c : Claim) where
   own-there : (p : Process) → own_test p ≡ true → IsOwn p
   own-there p e is =
       let found = list_any-mem (same_statement c.statement) (statements_of p) (implied (p.me == c.signer) (list_any (same_statement c.statement) (statements_of p)) e (eq-eqb p.me c.signer is)) in
-      mem-Contains (statements_of p) c.statement (subst (λ st. Mem st (statements_of p)) (sym (yes-is (Statement-discrete ℕ_discrete bytes_discrete Message-discrete (Update-discrete ℕ_discrete) (option_discrete (pair_discrete ℕ_discrete Value-discrete)) Value-discrete c.statement found.0) found.2)) found.1)
+      mem-Contains (statements_of p) c.statement (subst (λ st. Mem st (statements_of p)) (sym (same_statement-is c.statement found.0 found.2)) found.1)
 
   there-own : (p : Process) → IsOwn p → own_test p ≡ true
   there-own p own = implies (p.me == c.signer) (list_any (same_statement c.statement) (statements_of p)) (λ e.
       mem-list_any (same_statement c.statement) (statements_of p) c.statement (Contains-mem (statements_of p) c.statement (own (eqb-true p.me c.signer e)))
-      (is-yes (Statement-discrete ℕ_discrete bytes_discrete Message-discrete (Update-discrete ℕ_discrete) (option_discrete (pair_discrete ℕ_discrete Value-discrete)) Value-discrete c.statement c.statement) refl))
+      (is-same_statement c.statement c.statement refl))
 
 pub honest_is_tested : HonestIsTested
 honest_is_tested f = (

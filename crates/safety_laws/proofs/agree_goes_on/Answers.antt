@@ -1,4 +1,4 @@
-use Rattle.safety_laws.proofs.Agreeing.{agree_goes_on}
+use Rattle.safety_laws.proofs.AllAgree.{agree_goes_on}
 use Rattle.safety_laws.proofs.agree_goes_on.Goals as goal
 
 pub returns : goal.returns

@@ -1,4 +1,4 @@
-use Rattle.safety_laws.proofs.Agreeing.{agreement}
+use Rattle.safety_laws.proofs.AllAgree.{agreement}
 use Rattle.safety_laws.proofs.agreement.Goals as goal
 
 pub returns : goal.returns

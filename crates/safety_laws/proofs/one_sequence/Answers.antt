@@ -1,4 +1,4 @@
-use Rattle.safety_laws.proofs.Agreeing.{one_sequence}
+use Rattle.safety_laws.proofs.AllAgree.{one_sequence}
 use Rattle.safety_laws.proofs.one_sequence.Goals as goal
 
 pub returns : goal.returns
