@@ -1,5 +1,12 @@
+pub mod Absent
+pub mod Calls
 pub mod Causes
-pub mod Signer
 pub mod Disks
 pub mod Links
+pub mod Masks
 pub mod Mem
+pub mod Pids
+pub mod PidsLeft
+pub mod Rosters
+pub mod Signer
+pub mod Views

@@ -1,10 +1,37 @@
-//! What every other crate stands on: process numbers, the outside as traits, signatures.
+//! What every other crate stands on: process numbers and sets of them, updates and values, the roster, the outside as
+//! traits, and signatures.
 #![tactic(auto)]
 
-mod outside;
+mod absent;
+mod calls;
+mod disk;
+mod failed;
+mod group_id;
+mod link;
+mod mem_sink;
+mod mem_source;
+mod memory;
 mod pid;
+mod pid_set;
+mod roster;
 mod scheme;
+mod streams;
+mod updates;
 
-pub use outside::{Disk, Failed, Got, Link, MemSink, MemSource, NoDisk, NoLink, Sink, Source};
+pub use absent::{NoDisk, NoLink};
+pub use disk::Disk;
+pub use failed::Failed;
+pub use group_id::GroupId;
+pub use link::{Got, Link};
+pub use mem_sink::MemSink;
+pub use mem_source::MemSource;
+pub use memory::NoMemory;
 pub use pid::Pid;
-pub use scheme::{PlainScheme, PlainSigner, Scheme, Signer, Spent, Tally};
+pub use pid_set::{PidSet, Pids};
+pub use roster::Roster;
+pub use scheme::{Count, PlainScheme, PlainSigner, Scheme, Signer, Spent, Tally};
+pub use streams::{Sink, Source};
+pub use updates::{Update, UpdateFault, Value};
+
+#[cfg(test)]
+mod tests;

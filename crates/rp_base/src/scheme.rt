@@ -1,21 +1,23 @@
 ghost use Rattle.std.specs.Prelude.{◌≡◌, ◌<◌, ◌≤◌, ◌+◌, ◌++◌, ℕ, List, Bool, true, length, take, IfOk, OnErr, IsErr, IsTrue, ◌↔◌, ◌≢◌};
-ghost use Rattle.sha2.specs.Sha256.{sha256};
-ghost use Rattle.signature_defs.specs.Plain.{plain_valid};
+ghost use Rattle.signature_defs.specs.Plain.{plain_signature, plain_valid};
 
 use sha2::{Digest, Sha256};
 
-/// No signature is left.
+/// The signer has made as many signatures as it can. Nothing has changed.
 #[derive(Clone, Copy, Debug, PartialEq, Eq)]
 pub struct Spent;
 
+/// A rule of which signatures are valid.
 pub trait Scheme {
-    /// Whether this is a signature under the key on the body.
+    /// Whether this is a signature under the key on the body: key, body, signature.
     ghost valid: { Self → List ℕ → List ℕ → List ℕ → Bool };
 
+    /// Whether the signature is valid. Any bytes may be asked about.
     fn verify(&self, key: &[u8], body: &[u8], sig: &[u8]) -> bool
         ensures { result ≡ valid self.now key.now body.now sig.now };
 }
 
+/// A count of signatures, up to a total.
 pub trait Tally {
     /// How many signatures were made.
     ghost used: { Self → ℕ };
@@ -23,23 +25,35 @@ pub trait Tally {
     /// How many can be made in all.
     ghost total: { Self → ℕ };
 
+    /// The same key stands behind both, however many signatures were made.
+    ghost same_key: { Self → Self → Type 0 };
+
+    /// How many signatures were made: 0 to the total.
     fn used(&self) -> u32
         ensures value { result ≡ used self.now }
         ensures within { result ≤ total self.now };
 
+    /// How many signatures can be made in all. It never changes.
     fn total(&self) -> u32
         ensures value { result ≡ total self.now };
 
+    /// Counts those up to this number as made, so that none of them is made again.
     fn skip_to(&mut self, to: u32)
         requires from { used self.old ≤ to }
         requires within { to ≤ total self.old }
         ensures used { used self.new ≡ to }
-        ensures total { total self.new ≡ total self.old };
+        ensures total { total self.new ≡ total self.old }
+        ensures key { same_key self.old self.new };
 }
 
+/// A key that signs a body once with each number below its total.
 pub trait Signer: Tally {
+    ghost use Rattle.rp_base.specs.Signer.{KeyKeeps};
+
+    /// The public key.
     ghost public: { Self → List ℕ };
 
+    /// The most bytes that a signature has.
     ghost sig_len: { Self → ℕ };
 
     /// The signature that the secret, the number used and the body determine.
@@ -48,13 +62,18 @@ pub trait Signer: Tally {
     /// What the signer's own rule admits: key, body, signature.
     ghost admits: { Self → List ℕ → List ℕ → List ℕ → Bool };
 
+    /// The public key.
     fn public(&self) -> &[u8]
         ensures { result.now ≡ public self.now };
 
+    /// The most bytes that a signature has: at most 16,384. It never changes.
     fn sig_len(&self) -> usize
         ensures value { result ≡ sig_len self.now }
         ensures bound { result ≤ 16384 };
 
+    /// Writes the signature that the secret, the number used and the body determine to the front of `out`, which has
+    /// at least `sig_len` bytes, and answers its length. The signer's own rule admits it, and one more is used.
+    /// `Spent` comes exactly where all are used, and changes nothing.
     fn sign(&mut self, body: &[u8], out: &mut [u8]) -> Result<usize, Spent>
         requires { sig_len self.old ≤ length out.old }
         ensures written { IfOk result (λ n. (n ≤ sig_len self.old) × (take n out.new ≡ signature self.old (Self.used self.old) body.now)) }
@@ -62,19 +81,24 @@ pub trait Signer: Tally {
         ensures used { IfOk result (λ _. Self.used self.new ≡ Self.used self.old + 1) }
         ensures spent { IsErr result ↔ (Self.used self.old ≡ Self.total self.old) }
         ensures same { OnErr result (self.new ≡ self.old) }
+        ensures unwritten { OnErr result (out.new ≡ out.old) }
         ensures total { Self.total self.new ≡ Self.total self.old }
         ensures key { public self.new ≡ public self.old }
         ensures secret { signature self.new ≡ signature self.old }
         ensures rule { admits self.new ≡ admits self.old }
         ensures len { sig_len self.new ≡ sig_len self.old };
+
+    /// What stays as long as the key does.
+    ghost keeps: { (s t : Self) → Self.same_key s t → KeyKeeps (public s) (public t) (sig_len s) (sig_len t) (signature s) (signature t) (admits s) (admits t) };
 }
 
-/// SHA-256 of key and body, for rehearsals: whoever has the key can sign.
-#[derive(Clone, Copy, Debug)]
+/// Plain signatures, for rehearsals: the signature is SHA-256 of key and body, and the public key is the key. Whoever
+/// knows a public key can sign for it.
+#[derive(Clone, Copy, Debug, PartialEq, Eq)]
 pub struct PlainScheme;
 
 fn digest(key: &[u8], body: &[u8]) -> [u8; 32]
-    ensures value { result ≡ sha256 (key.now ++ body.now) }
+    ensures value { result ≡ plain_signature key.now body.now }
     ensures len { length result ≡ 32 }
 {
     let mut hasher = Sha256::new();
@@ -84,13 +108,14 @@ fn digest(key: &[u8], body: &[u8]) -> [u8; 32]
 }
 
 impl Scheme for PlainScheme {
-    ghost valid = { λ s key body sig. plain_valid key body sig };
+    ghost valid = { λ s. plain_valid };
 
     fn verify(&self, key: &[u8], body: &[u8], sig: &[u8]) -> bool {
         digest(key, body).as_slice() == sig
     }
 }
 
+/// A signer of plain signatures.
 #[derive(Debug, Drop)]
 pub struct PlainSigner {
     key: [u8; 32],
@@ -102,6 +127,7 @@ pub struct PlainSigner {
 impl PlainSigner {
     ghost use Rattle.rp_base.specs.Signer.{key_of, total_of, used_of};
 
+    /// A signer with this key, which can sign so many times.
     pub fn new(key: [u8; 32], total: u32) -> PlainSigner
         ensures key { key_of result ≡ key }
         ensures total { total_of result ≡ total }
@@ -120,6 +146,8 @@ impl Tally for PlainSigner {
 
     ghost total = { λ s. s.total };
 
+    ghost same_key = { λ s t. t.key ≡ s.key };
+
     fn used(&self) -> u32 {
         self.used
     }
@@ -134,13 +162,17 @@ impl Tally for PlainSigner {
 }
 
 impl Signer for PlainSigner {
-    ghost public = { λ s. s.key };
+    ghost use Rattle.rp_base.specs.Signer.{key_of, plain_keeps};
+
+    ghost public = { key_of };
 
     ghost sig_len = { λ s. 32 };
 
-    ghost signature = { λ s q body. sha256 (s.key ++ body) };
+    ghost signature = { λ s q body. plain_signature (key_of s) body };
 
-    ghost admits = { λ s key body sig. plain_valid key body sig };
+    ghost admits = { λ s. plain_valid };
+
+    ghost keeps = { λ s t same. plain_keeps s t same };
 
     fn public(&self) -> &[u8] {
         &self.key
@@ -154,9 +186,48 @@ impl Signer for PlainSigner {
         if self.used == self.total {
             return Err(Spent);
         }
-        let made = digest(&self.key, body);
-        out[..32].copy_from_slice(&made);
+        out[..32].copy_from_slice(&digest(&self.key, body));
         self.used += 1;
         Ok(32)
+    }
+}
+
+/// A count of signatures without a key, for whoever checks signatures that others made.
+#[derive(Debug, Drop)]
+pub struct Count {
+    total: u32,
+    used: u32,
+    ghost within: { used ≤ total },
+}
+
+impl Count {
+    ghost use Rattle.rp_base.specs.Signer.{count_total, count_used};
+
+    /// Up to this total; none is used.
+    pub fn new(total: u32) -> Count
+        ensures total { count_total result ≡ total }
+        ensures used { count_used result ≡ 0 }
+    {
+        Count { total, used: 0 }
+    }
+}
+
+impl Tally for Count {
+    ghost used = { λ c. c.used };
+
+    ghost total = { λ c. c.total };
+
+    ghost same_key = { λ c d. Unit {0} };
+
+    fn used(&self) -> u32 {
+        self.used
+    }
+
+    fn total(&self) -> u32 {
+        self.total
+    }
+
+    fn skip_to(&mut self, to: u32) {
+        self.used = to;
     }
 }
