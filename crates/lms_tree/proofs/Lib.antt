@@ -1,0 +1,2 @@
+pub mod TreeShape
+pub mod Siblings
