@@ -1,0 +1,4 @@
+pub mod Loops
+pub mod Items
+pub mod Grammar
+pub mod Drafting
