@@ -1,0 +1,7 @@
+pub mod Views
+pub mod Raw
+pub mod Looks
+pub mod Cursor
+pub mod Left
+pub mod Finds
+pub mod Kept
