@@ -1,0 +1,10 @@
+//! Schedules: what they are, and reading them from bytes (docs/FORMATS.md).
+#![tactic(auto)]
+
+mod reader;
+mod reading;
+mod schedule;
+
+pub use file_defs::ScheduleFault;
+pub use reading::read_schedule;
+pub use schedule::{Listed, ReadError, Schedule, ScheduleEvent};
