@@ -1,0 +1,10 @@
+use Rattle.std.proofs.Common.{◌≡◌}
+use Rattle.std.specs.Io.KnownBytes.{Keeps}
+use Rattle.net_edge.proofs.streams.ReadingSource.read.Given as goal
+
+-- an interrupted call has taken nothing
+abbrev pub invariant-loop : goal.invariant-loop
+invariant-loop g l = record {
+  kept : Keeps (g.R.Read.remaining l.fn.self.reader) (g.R.Read.remaining l.self.reader);
+  steady : l.self.faults ≡ l.fn.self.faults;
+}

@@ -1,0 +1,10 @@
+use Rattle.std.proofs.Common.{◌≡◌}
+use Rattle.std.specs.Io.KnownBytes.{Keeps}
+use Rattle.net_edge.proofs.streams.WritingSink.write.Given as goal
+
+-- an interrupted call has written nothing
+abbrev pub invariant-loop : goal.invariant-loop
+invariant-loop g l = record {
+  kept : Keeps (g.W.Write.contents l.fn.self.writer) (g.W.Write.contents l.self.writer);
+  steady : l.self.faults ≡ l.fn.self.faults;
+}

@@ -1,0 +1,6 @@
+//! The trusted edge: the system's streams as the traits of the outside.
+#![tactic(auto)]
+
+mod streams;
+
+pub use streams::{Reading, StdSink, StdSource, Writing};

@@ -1,0 +1,4 @@
+pub mod Known
+pub mod Runs
+pub mod Single
+pub mod Stopped

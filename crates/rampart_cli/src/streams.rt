@@ -1,0 +1,75 @@
+ghost use Rattle.std.specs.Prelude.{◌≡◌, ◌≤◌, length, IfOk, OnOk, OnErr, IsErrOf};
+ghost use Rattle.std.specs.Io.KnownBytes.{Appends, Consumes, IsAtEnd};
+ghost use Rattle.rp_base.specs.Causes.{Rose};
+ghost use Rattle.rampart_cli.specs.declared.streams.ReadFault.TheVariants as faults;
+ghost use Rattle.rampart_cli.specs.Streams.{AppendsFront};
+
+use rp_base::{Failed, Sink, Source};
+use std::alloc::{AllocError, Global};
+
+/// The most bytes that an input may have.
+const LIMIT: usize = 67108864;
+
+/// How many bytes are asked of a source at a time.
+const PIECE: usize = 16384;
+
+/// Why an input was not read to its end.
+#[derive(Clone, Copy, Debug, PartialEq, Eq)]
+pub enum ReadFault {
+    /// No memory is left.
+    NoMemory,
+
+    /// The source failed.
+    Failed,
+}
+
+impl From<Failed> for ReadFault {
+    ghost from_gives = { λ _ e. e ≡ faults.Failed };
+
+    fn from(_: Failed) -> ReadFault {
+        ReadFault::Failed
+    }
+}
+
+impl From<AllocError> for ReadFault {
+    ghost from_gives = { λ _ e. e ≡ faults.NoMemory };
+
+    fn from(_: AllocError) -> ReadFault {
+        ReadFault::NoMemory
+    }
+}
+
+/// All that is left of an input, or its first bytes where it is longer than an input may be.
+pub fn read_all<S: Source>(alloc: Global, input: &mut S) -> Result<Vec<u8>, ReadFault>
+    ensures bytes { IfOk result (λ all. Consumes (S.left input.old) (S.left input.new) all.items) }
+    ensures end { IfOk result (λ all. length all.items ≤ LIMIT → IsAtEnd (S.left input.new)) }
+    ensures failed { IsErrOf result ReadFault.Failed → Rose (S.faults input.old) (S.faults input.new) }
+    ensures steady { OnOk result (S.faults input.new ≡ S.faults input.old) }
+{
+    let mut all = Vec::new(alloc);
+    let mut piece = [0u8; PIECE];
+    'pieces: while all.len() <= LIMIT {
+        let n = input.read(&mut piece)?;
+        if n == 0 {
+            return Ok(all);
+        }
+        all.extend_from_slice(&piece[..n])?;
+    }
+    Ok(all)
+}
+
+/// Writes all the bytes.
+pub fn write_all<K: Sink>(output: &mut K, bytes: &[u8]) -> Result<(), Failed>
+    ensures bytes { OnOk result (Appends (K.written output.old) (K.written output.new) bytes.now) }
+    ensures part { OnErr result (AppendsFront (K.written output.old) (K.written output.new) bytes.now) }
+    ensures failed { OnErr result (Rose (K.faults output.old) (K.faults output.new)) }
+    ensures steady { OnOk result (K.faults output.new ≡ K.faults output.old) }
+{
+    let mut rest = bytes;
+    'pieces: while !rest.is_empty() {
+        let n = output.write(rest)?;
+        let (_, after) = rest.split_at(n);
+        rest = after;
+    }
+    Ok(())
+}

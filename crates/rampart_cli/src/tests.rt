@@ -1,0 +1,108 @@
+use crate::rampart;
+use rp_base::{Failed, MemSink, MemSource, NoDisk, NoLink, Sink};
+use std::alloc::{AllocError, Global};
+use std::test::Fail;
+
+/// Process 0 alone submits `hi`. The group is 16 dots, and the key is 32 digits 0 and makes 256 signatures.
+const ONE_MEMBER: [u8; 68] =
+    *b"RPS1\x00................\x01\x00\x0000000000000000000000000000000000\x00\x00\x01\x00\x01\x00\x01\x00\x00\x02hi";
+
+const REPORT: &[u8] =
+    b"rampart report 0\nevents 1\nprocess 0 2\nheld 0 0 0 6869\nhonest yes\nbounded yes\nsingle yes\n";
+
+fn asked(alloc: Global, word: &str) -> Result<Vec<String>, AllocError> {
+    let mut words = Vec::new(alloc);
+    words.push(String::from_str(alloc, word)?)?;
+    Ok(words)
+}
+
+/// The status, and what was written.
+fn run(
+    alloc: Global,
+    words: &[String],
+    input: &[u8],
+    failing: &[u64],
+) -> Result<(u8, MemSink), AllocError> {
+    let mut source = MemSource::new(input.to_vec(alloc)?, failing.to_vec(alloc)?);
+    let mut sink = MemSink::new(alloc, Vec::new(alloc));
+    let status = rampart(
+        alloc,
+        words,
+        &mut source,
+        &mut sink,
+        &mut NoDisk::new(),
+        &mut NoLink::new(),
+    );
+    Ok((status, sink))
+}
+
+#[test]
+fn a_schedule_gives_its_report(rt: HostRuntime) -> Result<(), Fail> {
+    let alloc = rt.alloc();
+    let (status, sink) = run(alloc, &asked(alloc, "replay")?, &ONE_MEMBER, &[])?;
+    assert_eq!(rt; sink.bytes(), REPORT);
+    assert_eq!(rt; status, 0);
+    Ok(())
+}
+
+#[test]
+fn other_words_and_no_schedule_stop(rt: HostRuntime) -> Result<(), Fail> {
+    let alloc = rt.alloc();
+    let (status, sink) = run(alloc, &Vec::new(alloc), &ONE_MEMBER, &[])?;
+    assert_eq!(rt; sink.bytes(), b"stop 2 words\n".as_slice());
+    assert_eq!(rt; status, 2);
+    let (status, sink) = run(alloc, &asked(alloc, "replays")?, &ONE_MEMBER, &[])?;
+    assert_eq!(rt; sink.bytes(), b"stop 2 words\n".as_slice());
+    assert_eq!(rt; status, 2);
+    let (status, sink) = run(alloc, &asked(alloc, "replay")?, &[], &[])?;
+    assert_eq!(rt; sink.bytes(), b"stop 7 input\n".as_slice());
+    assert_eq!(rt; status, 7);
+    Ok(())
+}
+
+/// The first read gives the whole schedule, and the second one fails.
+#[test]
+fn a_read_that_fails_is_no_end(rt: HostRuntime) -> Result<(), Fail> {
+    let alloc = rt.alloc();
+    let (status, sink) = run(alloc, &asked(alloc, "replay")?, &ONE_MEMBER, &[1])?;
+    assert_eq!(rt; sink.bytes(), b"stop 3 read\n".as_slice());
+    assert_eq!(rt; status, 3);
+    Ok(())
+}
+
+/// Takes ten bytes at a time.
+#[derive(Drop)]
+struct Narrow<K> {
+    sink: K,
+}
+
+impl<K: Sink> Sink for Narrow<K> {
+    ghost written = { λ s. K.written s.sink };
+
+    ghost faults = { λ s. K.faults s.sink };
+
+    fn write(&mut self, piece: &[u8]) -> Result<usize, Failed> {
+        self.sink.write(&piece[..piece.len().min(10)])
+    }
+}
+
+/// The third call fails.
+#[test]
+fn a_write_that_fails_leaves_a_front(rt: HostRuntime) -> Result<(), Fail> {
+    let alloc = rt.alloc();
+    let mut source = MemSource::new(ONE_MEMBER.to_vec(alloc)?, Vec::new(alloc));
+    let mut output = Narrow {
+        sink: MemSink::new(alloc, [2].to_vec(alloc)?),
+    };
+    let status = rampart(
+        alloc,
+        &asked(alloc, "replay")?,
+        &mut source,
+        &mut output,
+        &mut NoDisk::new(),
+        &mut NoLink::new(),
+    );
+    assert_eq!(rt; output.sink.bytes(), b"rampart report 0\neve".as_slice());
+    assert_eq!(rt; status, 4);
+    Ok(())
+}
