@@ -1,0 +1,14 @@
+//! Lines of text, read word by word and written: a line is its words with one blank between them, and ends with a line
+//! feed.
+#![tactic(auto)]
+
+mod hexadecimal;
+mod numbers;
+mod parts;
+
+pub use hexadecimal::{bytes, push_hex};
+pub use numbers::{number, process, push_number};
+pub use parts::{Parts, cut};
+
+#[cfg(test)]
+mod tests;

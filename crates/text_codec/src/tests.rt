@@ -1,0 +1,46 @@
+use crate::{Parts, bytes, cut, number, process, push_hex, push_number};
+use rp_base::NoMemory;
+
+#[test]
+fn a_text_is_cut_into_lines_and_words(rt: HostRuntime) {
+    assert_eq!(rt;
+        cut(b"a b c", b' '),
+        (b"a".as_slice(), Some(b"b c".as_slice()))
+    );
+    let mut lines = Parts::lines(b"key 3  00ff\n");
+    let line = lines.next().unwrap_or(b"");
+    let mut words = Parts::words(line);
+    assert_eq!(rt; words.next(), Some(b"key".as_slice()));
+    assert_eq!(rt; words.next(), Some(b"3".as_slice()));
+    assert_eq!(rt; words.next(), Some(b"".as_slice()));
+    assert_eq!(rt; words.next(), Some(b"00ff".as_slice()));
+    assert!(rt; words.is_done());
+    assert_eq!(rt; words.next(), None);
+    assert_eq!(rt; lines.next(), Some(b"".as_slice()));
+    assert_eq!(rt; lines.next(), None);
+}
+
+#[test]
+fn words_are_read(rt: HostRuntime) {
+    assert_eq!(rt;
+        number(b"4294967295", 0, 4_294_967_295),
+        Some(4_294_967_295)
+    );
+    assert_eq!(rt; number(b"4294967296", 0, 4_294_967_295), None);
+    assert_eq!(rt; number(b"08", 0, 9), None);
+    assert_eq!(rt; number(b"", 0, 9), None);
+    assert_eq!(rt; process(b"63").map(|p| p.get()), Some(63));
+    assert_eq!(rt; process(b"64").map(|p| p.get()), None);
+    assert_eq!(rt; bytes::<2>(b"00ff"), Some([0, 255]));
+    assert_eq!(rt; bytes::<2>(b"00fF"), None);
+    assert_eq!(rt; bytes::<2>(b"00ff00"), None);
+}
+
+#[test]
+fn words_are_written(rt: HostRuntime) -> Result<(), NoMemory> {
+    let mut out = Vec::new(rt.alloc());
+    push_number(&mut out, 18_446_744_073_709_551_615)?;
+    push_hex(&mut out, &[0, 0xab])?;
+    assert_eq!(rt; out.as_slice(), b"1844674407370955161500ab".as_slice());
+    Ok(())
+}

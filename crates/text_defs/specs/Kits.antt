@@ -1,0 +1,157 @@
+-- Kits: what the processes of a group start with. The first lines are public, the others are each host's secrets.
+--   rampart kit 1
+--   scheme plain | scheme lms
+--   group HEX                        16 bytes
+--   key P HEX                        for each process of the roster by rising number: 32 bytes plain, 56 bytes LMS
+--   genesis P P P                    the members of the first view in rank order: 1 to 16 different ones of the roster
+--   port P N                         for each process of the roster by rising number: N from 1 to 65,535
+-- and for each process that is hosted by rising number
+--   host P plain TOTAL | host P lms H W I SEED      the typecodes, 16 bytes and 32 bytes in hexadecimal
+--   pair P Q HEX                     32 bytes, for each other process Q of the roster by rising number
+-- The key of a process is its host's public key.
+use Rattle.std.specs.Prelude.{◌≡◌, ◌≢◌, ℕ, ◌+◌, ◌<◌, ◌≤◌, ◌^◌, ◌==◌, not, Bool, List, [], ◌∷◌, ◌++◌, length, map, filter, find, Option, Some, option_map, codes, IsTrue}
+use Rattle.std.specs.List.{flat_map, list_any, AllByRecursion, AllPairs}
+use Rattle.std.specs.Fmt.{decimal}
+use Rattle.hex.specs.Hex.{encode_lower}
+use Rattle.sha2.specs.Sha256.{sha256}
+use Rattle.signature_defs.specs.declared.OtsType.{OtsType}
+use Rattle.signature_defs.specs.LmOts.{ots_typecode}
+use Rattle.secret_defs.specs.Schemes.{Scheme}
+use Rattle.secret_defs.specs.Schemes as schemes
+use Rattle.secret_defs.specs.Secrets.{Secret, Plain, Lms, scheme_of, public_key_of}
+use Rattle.text_defs.specs.Words.{line_text, AreBytes}
+
+-- what a process that is hosted holds
+pub record Host : Type 0 where
+  pub process : ℕ
+  pub secret : Secret
+  -- the keys that it shares with the other processes, by their rising numbers
+  pub pairs : List (ℕ × List ℕ)
+
+pub record Kit : Type 0 where
+  pub scheme : Scheme
+  pub group : List ℕ
+  -- the roster: each process and its public key
+  pub keys : List (ℕ × List ℕ)
+  -- in rank order
+  pub genesis : List ℕ
+  -- each process of the roster and its port
+  pub ports : List (ℕ × ℕ)
+  pub hosts : List Host
+
+-- the processes of a roster
+abbrev pub roster_of : List (ℕ × List ℕ) → List ℕ
+roster_of keys = map (λ k. k.0) keys
+
+abbrev pub is_one_of : List ℕ → ℕ → Bool
+is_one_of ps p = list_any (λ q. q == p) ps
+
+-- the others of a roster
+abbrev pub others_than : ℕ → List ℕ → List ℕ
+others_than p roster = filter (λ q. not (q == p)) roster
+
+-- the public key of a process
+abbrev pub key_of : List (ℕ × List ℕ) → ℕ → Option (List ℕ)
+key_of keys p = option_map (λ k. k.1) (find (λ k. k.0 == p) keys)
+
+-- ---- lines
+
+-- what a line says
+pub data KitLine : Type 0 where
+  Version : KitLine
+  SchemeIs : (scheme : Scheme) → KitLine
+  GroupIs : (group : List ℕ) → KitLine
+  Key : (process : ℕ) (key : List ℕ) → KitLine
+  Genesis : (members : List ℕ) → KitLine
+  Port : (process port : ℕ) → KitLine
+  PlainHost : (process total : ℕ) → KitLine
+  LmsHost : (process code : ℕ) (kind : OtsType) (id seed : List ℕ) → KitLine
+  Pair : (process other : ℕ) (key : List ℕ) → KitLine
+
+abbrev pub scheme_word : Scheme → List ℕ
+scheme_word schemes.Plain = codes "plain"
+scheme_word schemes.Lms = codes "lms"
+
+abbrev pub line_words : KitLine → List (List ℕ)
+line_words Version = codes "rampart" ∷ codes "kit" ∷ codes "1" ∷ []
+line_words (SchemeIs scheme) = codes "scheme" ∷ scheme_word scheme ∷ []
+line_words (GroupIs group) = codes "group" ∷ encode_lower group ∷ []
+line_words (Key process key) = codes "key" ∷ decimal process ∷ encode_lower key ∷ []
+line_words (Genesis members) = codes "genesis" ∷ map decimal members
+line_words (Port process port) = codes "port" ∷ decimal process ∷ decimal port ∷ []
+line_words (PlainHost process total) = codes "host" ∷ decimal process ∷ codes "plain" ∷ decimal total ∷ []
+line_words (LmsHost process code kind id seed) = codes "host" ∷ decimal process ∷ codes "lms" ∷ decimal code ∷ decimal (ots_typecode kind) ∷ encode_lower id ∷ encode_lower seed ∷ []
+line_words (Pair process other key) = codes "pair" ∷ decimal process ∷ decimal other ∷ encode_lower key ∷ []
+
+abbrev pub key_line : ℕ × List ℕ → KitLine
+key_line k = Key k.0 k.1
+
+abbrev pub port_line : ℕ × ℕ → KitLine
+port_line p = Port p.0 p.1
+
+abbrev pub secret_line : ℕ → Secret → KitLine
+secret_line process (Plain key total) = PlainHost process total
+secret_line process (Lms code kind id seed) = LmsHost process code kind id seed
+
+abbrev pub pair_line : ℕ → ℕ × List ℕ → KitLine
+pair_line process pair = Pair process pair.0 pair.1
+
+abbrev pub host_lines : Host → List KitLine
+host_lines h = secret_line h.process h.secret ∷ map (pair_line h.process) h.pairs
+
+abbrev pub public_lines : Kit → List KitLine
+public_lines kit = Version ∷ SchemeIs kit.scheme ∷ GroupIs kit.group ∷ (map key_line kit.keys ++ Genesis kit.genesis ∷ map port_line kit.ports)
+
+abbrev pub kit_lines : Kit → List KitLine
+kit_lines kit = public_lines kit ++ flat_map host_lines kit.hosts
+
+abbrev pub text_of_lines : List KitLine → List ℕ
+text_of_lines lines = flat_map (λ line. line_text (line_words line)) lines
+
+-- ---- the spelling
+
+abbrev pub kit_text : Kit → List ℕ
+kit_text kit = text_of_lines (kit_lines kit)
+
+-- of the public lines
+abbrev pub kit_digest : Kit → List ℕ
+kit_digest kit = sha256 (text_of_lines (public_lines kit))
+
+-- ---- the ranges
+
+-- how many bytes a public key has
+abbrev pub key_length : Scheme → ℕ
+key_length schemes.Plain = 32
+key_length schemes.Lms = 56
+
+-- by rising numbers from this one on, each with a key of so many bytes
+abbrev pub AreKeys : ℕ → ℕ → List (ℕ × List ℕ) → Type 0
+AreKeys size least [] = Unit {0}
+AreKeys size least (k ∷ keys) = (least ≤ k.0) × (k.0 ≤ 63) × AreBytes size k.1 × AreKeys size (k.0 + 1) keys
+
+abbrev pub IsSecret : Secret → Type 0
+IsSecret (Plain key total) = AreBytes 32 key × (total < 2 ^ 32)
+IsSecret (Lms code kind id seed) = (5 ≤ code) × (code ≤ 7) × AreBytes 16 id × AreBytes 32 seed
+
+pub record IsHost (scheme : Scheme) (keys : List (ℕ × List ℕ)) (h : Host) : Type 0 where
+  pub secret : IsSecret h.secret
+  pub scheme_is : scheme_of h.secret ≡ scheme
+  pub key : key_of keys h.process ≡ Some (public_key_of h.secret)
+  pub shared_with : roster_of h.pairs ≡ others_than h.process (roster_of keys)
+  pub shared : AllByRecursion (λ p. AreBytes 32 p.1) h.pairs
+
+-- by rising numbers from this one on
+abbrev pub AreHosts : Scheme → List (ℕ × List ℕ) → ℕ → List Host → Type 0
+AreHosts scheme keys least [] = Unit {0}
+AreHosts scheme keys least (h ∷ hosts) = (least ≤ h.process) × IsHost scheme keys h × AreHosts scheme keys (h.process + 1) hosts
+
+pub record IsKit (kit : Kit) : Type 0 where
+  pub group : AreBytes 16 kit.group
+  pub keys : AreKeys (key_length kit.scheme) 0 kit.keys
+  pub some : 1 ≤ length kit.genesis
+  pub most : length kit.genesis ≤ 16
+  pub listed : AllByRecursion (λ m. IsTrue (is_one_of (roster_of kit.keys) m)) kit.genesis
+  pub distinct : AllPairs (λ m n. m ≢ n) kit.genesis
+  pub ported : map (λ p. p.0) kit.ports ≡ roster_of kit.keys
+  pub ports : AllByRecursion (λ p. (1 ≤ p.1) × (p.1 ≤ 65535)) kit.ports
+  pub hosts : AreHosts kit.scheme kit.keys 0 kit.hosts

@@ -1,0 +1,5 @@
+pub mod Words
+pub mod Kits
+pub mod KitReading
+pub mod KitMaking
+pub mod KitLaws
