@@ -1,0 +1,5 @@
+pub mod Views
+pub mod LineViews
+pub mod Drafts
+pub mod Faults
+pub mod Purposes
