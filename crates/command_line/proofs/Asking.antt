@@ -1,0 +1,76 @@
+-- A command is read of the words that spell it, and of no others.
+use Rattle.std.proofs.Common.{◌≡◌, ℕ, true, List, [], ◌∷◌, codes, Option, Some, None, IfSome, option_map, refl, sym, ap, subst, ◌∙◌, arith}
+use Rattle.std.specs.Fmt.{decimal}
+use Rattle.std.proofs.lemmas.Slice.Eq.{bytes_eq-Decides}
+use Rattle.hex.specs.Hex.{encode_lower}
+use Rattle.byte_defs.specs.Equality.{same_bytes}
+use Rattle.text_defs.specs.declared.KeyPlan.{KeyPlan}
+use Rattle.text_defs.specs.Words.{bytes_of, number_within}
+use Rattle.text_defs.proofs.Bytes.{bytes_found, bytes_spelled}
+use Rattle.text_defs.proofs.Choosing.{if_some, map_some, some_is, then_some}
+use Rattle.text_defs.proofs.Numbers.{number_within_found, number_within_spelled}
+use Rattle.command_line.specs.Commands.{Asks, Command, Replay, Keygen, IsOrder, Order, plan_word}
+use Rattle.command_line.specs.Laws.{CommandIsSpelled}
+use Rattle.command_line.specs.Reading.{command_of, order_of, plan_of}
+use Rattle.command_line.proofs.Plans.{plan_found, plan_spelled}
+
+word_is : (word w : List ℕ) → same_bytes word w ≡ true → word ≡ w
+word_is word w e = (bytes_eq-Decides word w).0 e
+
+-- ---- orders
+
+abbrev order_words : Order → List (List ℕ)
+order_words order = decimal order.members ∷ decimal order.roster ∷ plan_word order.keys ∷ encode_lower order.seed ∷ []
+
+-- an order whose seed is not read yet
+abbrev with_seed : ℕ → ℕ → KeyPlan → List ℕ → Order
+with_seed n r plan s = record { members = n; roster = r; keys = plan; seed = s }
+
+order_found : (members roster keys seed : List ℕ) (order : Order) → order_of members roster keys seed ≡ Some order → (members ∷ roster ∷ keys ∷ seed ∷ [] ≡ order_words order) × IsOrder order
+order_found members roster keys seed order e =
+    let n = then_some _ (number_within 1 16 members) order e in
+    let r = then_some _ (number_within n.0 64 roster) order n.2 in
+    let k = then_some _ (plan_of keys) order r.2 in
+    let s = map_some (with_seed n.0 r.0 k.0) (bytes_of 32 seed) order k.2 in
+    let n_is = number_within_found 1 16 members n.0 n.1 in
+    let r_is = number_within_found n.0 64 roster r.0 r.1 in
+    let k_is = plan_found keys k.0 k.1 in
+    let s_is = bytes_found 32 seed s.0 s.1 in
+    subst (λ o. (members ∷ roster ∷ keys ∷ seed ∷ [] ≡ order_words o) × IsOrder o) s.2
+    ((λ i. n_is.0 i ∷ r_is.0 i ∷ k_is.0 i ∷ s_is.0 i ∷ []), record { some = n_is.1; few = n_is.2; within = r_is.1; most = r_is.2; keys = k_is.1; seed = s_is.1 })
+
+order_spelled : (order : Order) → IsOrder order → order_of (decimal order.members) (decimal order.roster) (plan_word order.keys) (encode_lower order.seed) ≡ Some order
+order_spelled order fits =
+    let members = number_within_spelled 1 16 order.members fits.some fits.few (omega (arith, fits.few)) in
+    let roster = number_within_spelled order.members 64 order.roster fits.within fits.most (omega (arith, fits.most)) in
+    rw (members, roster, plan_spelled order.keys fits.keys, bytes_spelled 32 order.seed fits.seed) refl
+
+-- ---- commands
+
+command_found : (words : List (List ℕ)) (c : Command) → command_of words ≡ Some c → Asks words c
+command_found (word ∷ []) c e =
+    let tested = if_some (same_bytes word (codes "replay")) (Some Replay) c e in
+    subst (Asks (word ∷ [])) (some_is Replay c tested.1) (record { fits = tt; spelled = λ i. word_is word (codes "replay") tested.0 i ∷ [] })
+command_found (word ∷ members ∷ roster ∷ keys ∷ seed ∷ []) c e =
+    let tested = if_some (same_bytes word (codes "keygen")) (option_map Keygen (order_of members roster keys seed)) c e in
+    let read = map_some Keygen (order_of members roster keys seed) c tested.1 in
+    let found = order_found members roster keys seed read.0 read.1 in
+    subst (Asks (word ∷ members ∷ roster ∷ keys ∷ seed ∷ [])) read.2
+    (record { fits = found.1; spelled = λ i. word_is word (codes "keygen") tested.0 i ∷ found.0 i })
+command_found _ c e = absurd cc
+
+command_spelled : (c : Command) (words : List (List ℕ)) → Asks words c → command_of words ≡ Some c
+command_spelled Replay words asks = ap command_of asks.spelled
+command_spelled (Keygen order) words asks = ap command_of asks.spelled ∙ ap (option_map Keygen) (order_spelled order asks.fits)
+
+pub command_is_spelled : CommandIsSpelled
+command_is_spelled words c = (command_found words c, command_spelled c words)
+
+-- ---- what a reader promises
+
+pub asks_of : {C : Type 0} (view : C → Command) (words : List (List ℕ)) (o : Option C) → option_map view o ≡ command_of words → IfSome o (λ c. Asks words (view c))
+asks_of view words None e = tt
+asks_of view words (Some c) e = command_found words (view c) (sym e)
+
+pub asked_only : (words : List (List ℕ)) (o : Option Command) → o ≡ command_of words → (c : Command) → Asks words c → o ≡ Some c
+asked_only words o e c asks = e ∙ command_spelled c words asks

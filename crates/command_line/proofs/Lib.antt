@@ -1,0 +1,3 @@
+mod Words
+mod Plans
+mod Asking

@@ -1,0 +1,52 @@
+-- The commands of the program, and the words that ask for them.
+--   replay                    the schedule that is read gives its report
+--   keygen N R KEYS SEED      a new kit: N members, 1 to 16, of R processes, N to 64; KEYS is plain:T, or lms:H:W with the
+--                             typecodes of height, 5 to 7, and one-time parameter set, 1 to 4; SEED is 32 bytes in hexadecimal
+use Rattle.std.specs.Prelude.{◌≡◌, ℕ, ◌≤◌, List, [], ◌∷◌, ◌++◌, codes}
+use Rattle.std.specs.Fmt.{decimal}
+use Rattle.hex.specs.Hex.{encode_lower}
+use Rattle.signature_defs.specs.LmOts.{ots_typecode}
+use Rattle.text_defs.specs.declared.KeyPlan.{KeyPlan}
+use Rattle.text_defs.specs.declared.KeyPlan.TheVariants.{Plain, Lms}
+use Rattle.text_defs.specs.Words.{AreBytes}
+use Rattle.text_defs.specs.KitMaking.{IsPlan}
+
+-- what a new kit is to be like
+pub record Order : Type 0 where
+  pub members : ℕ
+  pub roster : ℕ
+  pub keys : KeyPlan
+  pub seed : List ℕ
+
+pub data Command : Type 0 where
+  Replay : Command
+  Keygen : (order : Order) → Command
+
+-- ---- the words
+
+abbrev pub plan_word : KeyPlan → List ℕ
+plan_word (Plain total) = codes "plain:" ++ decimal total
+plan_word (Lms code kind) = codes "lms:" ++ (decimal code ++ (codes ":" ++ decimal (ots_typecode kind)))
+
+abbrev pub command_words : Command → List (List ℕ)
+command_words Replay = codes "replay" ∷ []
+command_words (Keygen order) = codes "keygen" ∷ decimal order.members ∷ decimal order.roster ∷ plan_word order.keys ∷ encode_lower order.seed ∷ []
+
+-- ---- the ranges
+
+pub record IsOrder (order : Order) : Type 0 where
+  pub some : 1 ≤ order.members
+  pub few : order.members ≤ 16
+  pub within : order.members ≤ order.roster
+  pub most : order.roster ≤ 64
+  pub keys : IsPlan order.keys
+  pub seed : AreBytes 32 order.seed
+
+abbrev pub IsCommand : Command → Type 0
+IsCommand Replay = Unit {0}
+IsCommand (Keygen order) = IsOrder order
+
+-- the words are those of the command
+pub record Asks (words : List (List ℕ)) (command : Command) : Type 0 where
+  pub fits : IsCommand command
+  pub spelled : words ≡ command_words command

@@ -1,0 +1,35 @@
+-- The command that words ask for, word by word.
+use Rattle.std.specs.Prelude.{ℕ, ◌^◌, ◌-◌, ◌==◌, ◌&&◌, if◌then◌else◌, List, [], ◌∷◌, length, take, drop, slice_index, Option, Some, None, option_map, option_and_then, codes}
+use Rattle.std.specs.Option.{option_or}
+use Rattle.byte_defs.specs.Equality.{same_bytes}
+use Rattle.signature_defs.specs.LmOts.{ots_type_of}
+use Rattle.text_defs.specs.declared.KeyPlan.{KeyPlan}
+use Rattle.text_defs.specs.declared.KeyPlan.TheVariants.{Plain, Lms}
+use Rattle.text_defs.specs.Words.{number_within, bytes_of}
+use Rattle.text_defs.specs.KitReading.{and_then}
+use Rattle.command_line.specs.Commands.{Order, Command, Replay, Keygen}
+
+-- what stands behind this front
+abbrev pub behind : List ℕ → List ℕ → Option (List ℕ)
+behind front word = if same_bytes (take (length front) word) front then Some (drop (length front) word) else None
+
+abbrev pub plain_by : List ℕ → Option KeyPlan
+plain_by total = option_map Plain (number_within 0 (2 ^ 32 - 1) total)
+
+-- two digits with a colon between them
+abbrev pub lms_by : List ℕ → Option KeyPlan
+lms_by word =
+    if (length word == 3) && (slice_index word 1 == 58) then and_then (number_within 5 7 (take 1 word)) (λ code. option_map (Lms code) (option_and_then ots_type_of (number_within 1 4 (drop 2 word)))) else None
+
+abbrev pub plan_of : List ℕ → Option KeyPlan
+plan_of word = option_or (and_then (behind (codes "plain:") word) plain_by) (and_then (behind (codes "lms:") word) lms_by)
+
+abbrev pub order_of : List ℕ → List ℕ → List ℕ → List ℕ → Option Order
+order_of members roster keys seed =
+    and_then (number_within 1 16 members) (λ n. and_then (number_within n 64 roster) (λ r. and_then (plan_of keys) (λ plan.
+    option_map (λ s. record { members = n; roster = r; keys = plan; seed = s }) (bytes_of 32 seed))))
+
+abbrev pub command_of : List (List ℕ) → Option Command
+command_of (word ∷ []) = if same_bytes word (codes "replay") then Some Replay else None
+command_of (word ∷ members ∷ roster ∷ keys ∷ seed ∷ []) = if same_bytes word (codes "keygen") then option_map Keygen (order_of members roster keys seed) else None
+command_of _ = None

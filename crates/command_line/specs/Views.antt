@@ -1,0 +1,12 @@
+-- Commands of the code, as plain data.
+use Rattle.command_line.specs.Commands as plain
+use Rattle.command_line.specs.declared.commands.Command.{Command}
+use Rattle.command_line.specs.declared.commands.Command.TheVariants.{Replay, Keygen}
+use Rattle.command_line.specs.declared.orders.Order.{Order}
+
+abbrev pub order : Order → plain.Order
+order o = record { members = o.members; roster = o.roster; keys = o.keys; seed = o.seed }
+
+abbrev pub command : Command → plain.Command
+command Replay = plain.Replay
+command (Keygen o) = plain.Keygen (order o)

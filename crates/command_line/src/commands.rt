@@ -1,0 +1,74 @@
+ghost use Rattle.std.specs.Prelude.{◌≡◌, [], ◌∷◌, map, string_bytes, option_map, Some, IfSome};
+ghost use Rattle.command_line.specs.Commands.{Asks};
+ghost use Rattle.command_line.specs.Commands as plain;
+ghost use Rattle.command_line.specs.Reading.{command_of};
+ghost use Rattle.command_line.specs.Views as views;
+
+use crate::orders::{Order, read_order};
+
+/// What the program is to do.
+#[derive(Clone, Copy, Debug, PartialEq, Eq)]
+pub enum Command {
+    /// Read a schedule, and write its report.
+    Replay,
+
+    /// Write a new kit.
+    Keygen(Order),
+}
+
+fn of_one_word(word: &[u8]) -> Option<Command>
+    ensures { option_map views.command result ≡ command_of (word.now ∷ []) }
+{
+    if word == b"replay".as_slice() {
+        Some(Command::Replay)
+    } else {
+        None
+    }
+}
+
+fn of_five_words(
+    word: &[u8],
+    members: &[u8],
+    roster: &[u8],
+    keys: &[u8],
+    seed: &[u8],
+) -> Option<Command>
+    ensures { option_map views.command result ≡ command_of (word.now ∷ members.now ∷ roster.now ∷ keys.now ∷ seed.now ∷ []) }
+{
+    if word == b"keygen".as_slice() {
+        Some(Command::Keygen(read_order(members, roster, keys, seed)?))
+    } else {
+        None
+    }
+}
+
+fn of_words(words: &[String]) -> Option<Command>
+    ensures { option_map views.command result ≡ command_of (map string_bytes words.now) }
+{
+    match words {
+        [word] => of_one_word(word.as_bytes()),
+        [word, members, roster, keys, seed] => of_five_words(
+            word.as_bytes(),
+            members.as_bytes(),
+            roster.as_bytes(),
+            keys.as_bytes(),
+            seed.as_bytes(),
+        ),
+        _ => None,
+    }
+}
+
+/// The command that the words ask for; None exactly where they ask for none. The words are those behind the program's
+/// name: `replay`, or `keygen N R KEYS SEED` with the ranges of [`Order`].
+pub fn read_command(words: &[String]) -> Option<Command>
+    // The words are those of the command that is read, and it is in its ranges.
+    ensures found { IfSome result (λ c. Asks (map string_bytes words.now) (views.command c)) }
+
+    // A command in its ranges is read of its words.
+    ensures only { (c : plain.Command) → Asks (map string_bytes words.now) c → option_map views.command result ≡ Some c }
+
+    // The same, word by word.
+    ensures exact { option_map views.command result ≡ command_of (map string_bytes words.now) }
+{
+    of_words(words)
+}

@@ -1,0 +1,18 @@
+//! What the words behind the program's name ask for.
+#![tactic(auto)]
+
+ghost use Rattle.command_line.specs.Laws.{CommandIsSpelled};
+
+mod commands;
+mod orders;
+
+pub use commands::{Command, read_command};
+pub use orders::Order;
+
+/// The command that is read of words is the one whose words they are, in its ranges, and no other words give it.
+pub fn command_is_spelled()
+    ensures { CommandIsSpelled }
+{}
+
+#[cfg(test)]
+mod tests;

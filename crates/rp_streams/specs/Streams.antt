@@ -1,0 +1,13 @@
+-- What was written where a sink may fail.
+use Rattle.std.specs.Prelude.{◌≡◌, ◌⊎◌, ℕ, ◌≤◌, List, length, take, Option}
+use Rattle.std.specs.Io.KnownBytes.{Appends}
+use Rattle.rp_base.specs.Causes.{Rose}
+
+-- a front of the bytes was written
+abbrev pub AppendsFront : Option (List ℕ) → Option (List ℕ) → List ℕ → Type 0
+AppendsFront old new bytes = (n : ℕ) × (n ≤ length bytes) × Appends old new (take n bytes)
+
+-- The bytes were written and nothing else, or the sink failed and a front of them was written: by the count of faults
+-- before and now.
+abbrev pub Says : List ℕ → Option (List ℕ) → Option (List ℕ) → ℕ → ℕ → Type 0
+Says bytes old new before now = (Appends old new bytes × (now ≡ before)) ⊎ (AppendsFront old new bytes × Rose before now)
