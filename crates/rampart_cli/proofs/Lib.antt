@@ -1,4 +1,4 @@
-pub mod Known
 pub mod Runs
 pub mod Single
 pub mod Stopped
+mod Orders

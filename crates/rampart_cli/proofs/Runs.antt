@@ -11,7 +11,7 @@ use Rattle.file_defs.specs.Schedules.{Schedule, IsSchedule, schedule_bytes, sche
 use Rattle.file_defs.specs.Worlds.{World, world_of, family_of}
 use Rattle.file_defs.specs.Reports.{report, report_of, if_read}
 use Rattle.schedule_file.proofs.Grammar.{schedule_takes, schedule_again}
-use Rattle.rampart_cli.specs.Streams.{AppendsFront}
+use Rattle.rp_streams.specs.Streams.{AppendsFront}
 use Rattle.rampart_cli.specs.Top.{Runs, HasNoRun, Replayed, Refused, Reported, ReportedInPart, report_of_run}
 use Rattle.rampart_cli.proofs.Single.{single_payloads}
 

@@ -1,5 +1,5 @@
 -- What the program answers.
-use Rattle.std.specs.Prelude.{◌≡◌, ℕ, ◌≤◌, List, [], ◌∷◌, length, map, Option, Some, None, Ok, codes, String, string_bytes}
+use Rattle.std.specs.Prelude.{◌≡◌, ℕ, ◌≤◌, List, ◌++◌, length, map, Option, Some, None, Ok, codes, String, string_bytes}
 use Rattle.std.specs.Io.KnownBytes.{Appends, Consumes, IsAtEnd}
 use Rattle.std.specs.declared.alloc.Global.{Global}
 use Rattle.group_defs.specs.Accounts.{Bounded}
@@ -7,13 +7,21 @@ use Rattle.group_defs.specs.Family.{Family, accounts, numbers, Honest}
 use Rattle.file_defs.specs.Schedules.{Schedule, IsSchedule, schedule_bytes, schedule_of, most_bytes}
 use Rattle.file_defs.specs.Worlds.{World, world_of, family_of}
 use Rattle.file_defs.specs.Reports.{Single, report, report_of}
-use Rattle.rampart_cli.specs.Streams.{AppendsFront}
+use Rattle.text_defs.specs.Kits.{kit_text}
+use Rattle.text_defs.specs.KitMaking.{made_kit}
+use Rattle.command_line.specs.Commands as commands
+use Rattle.command_line.specs.Commands.{Order, Command}
+use Rattle.rp_streams.specs.Streams.{AppendsFront}
 
 -- ---- the words
 
--- the words are those of the command that replays a schedule
-abbrev pub AskReplay : List (String Global) → Type 0
-AskReplay words = map string_bytes words ≡ codes "replay" ∷ []
+-- the words are those of this command
+abbrev pub Asks : List (String Global) → Command → Type 0
+Asks words command = commands.Asks (map string_bytes words) command
+
+-- the words are those of some command
+abbrev pub AskAny : List (String Global) → Type 0
+AskAny words = (command : Command) × Asks words command
 
 -- ---- the bytes of an input
 
@@ -67,3 +75,9 @@ pub record Reported (before now old new : Option (List ℕ)) : Type 0 where
 pub record ReportedInPart (before now old new : Option (List ℕ)) : Type 0 where
   pub replayed : Replayed before now
   pub written : AppendsFront old new (report_of_run replayed.run)
+
+-- ---- kits
+
+-- The text of the kit that is ordered, and the line that ends it.
+abbrev pub kit_of_order : Order → List ℕ
+kit_of_order order = kit_text (made_kit order.members order.roster order.keys order.seed) ++ codes "go\n"

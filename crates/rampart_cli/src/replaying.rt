@@ -1,12 +1,13 @@
 ghost use Rattle.std.specs.Prelude.{◌≡◌, ◌⊎◌, OnOk, IfErr, IsErrOf};
 ghost use Rattle.std.specs.Io.KnownBytes.{Appends};
 ghost use Rattle.rp_base.specs.Causes.{Rose};
-ghost use Rattle.rampart_cli.specs.Streams.{AppendsFront};
+ghost use Rattle.rp_streams.specs.Streams.{AppendsFront};
 ghost use Rattle.rampart_cli.specs.Top.{Runs, HasNoRun, report_of_run, Reported, ReportedInPart, Refused};
 
 use crate::stops::Stop;
-use crate::streams::{read_all, write_all};
+use crate::streams::read_all;
 use rp_base::{Sink, Source};
+use rp_streams::write_all;
 use std::alloc::Global;
 use world_run::replay;
 

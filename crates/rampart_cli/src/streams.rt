@@ -1,10 +1,9 @@
-ghost use Rattle.std.specs.Prelude.{◌≡◌, ◌≤◌, length, IfOk, OnOk, OnErr, IsErrOf};
-ghost use Rattle.std.specs.Io.KnownBytes.{Appends, Consumes, IsAtEnd};
+ghost use Rattle.std.specs.Prelude.{◌≡◌, ◌≤◌, length, IfOk, OnOk, IsErrOf};
+ghost use Rattle.std.specs.Io.KnownBytes.{Consumes, IsAtEnd};
 ghost use Rattle.rp_base.specs.Causes.{Rose};
 ghost use Rattle.rampart_cli.specs.declared.streams.ReadFault.TheVariants as faults;
-ghost use Rattle.rampart_cli.specs.Streams.{AppendsFront};
 
-use rp_base::{Failed, Sink, Source};
+use rp_base::{Failed, Source};
 use std::alloc::{AllocError, Global};
 
 /// The most bytes that an input may have.
@@ -56,20 +55,4 @@ pub fn read_all<S: Source>(alloc: Global, input: &mut S) -> Result<Vec<u8>, Read
         all.extend_from_slice(&piece[..n])?;
     }
     Ok(all)
-}
-
-/// Writes all the bytes.
-pub fn write_all<K: Sink>(output: &mut K, bytes: &[u8]) -> Result<(), Failed>
-    ensures bytes { OnOk result (Appends (K.written output.old) (K.written output.new) bytes.now) }
-    ensures part { OnErr result (AppendsFront (K.written output.old) (K.written output.new) bytes.now) }
-    ensures failed { OnErr result (Rose (K.faults output.old) (K.faults output.new)) }
-    ensures steady { OnOk result (K.faults output.new ≡ K.faults output.old) }
-{
-    let mut rest = bytes;
-    'pieces: while !rest.is_empty() {
-        let n = output.write(rest)?;
-        let (_, after) = rest.split_at(n);
-        rest = after;
-    }
-    Ok(())
 }

@@ -10,9 +10,35 @@ const ONE_MEMBER: [u8; 68] =
 const REPORT: &[u8] =
     b"rampart report 0\nevents 1\nprocess 0 2\nheld 0 0 0 6869\nhonest yes\nbounded yes\nsingle yes\n";
 
-fn asked(alloc: Global, word: &str) -> Result<Vec<String>, AllocError> {
+// What another program, in Python, writes for these words.
+const KEYGEN: [&str; 5] = [
+    "keygen",
+    "1",
+    "2",
+    "plain:9",
+    "000102030405060708090a0b0c0d0e0f101112131415161718191a1b1c1d1e1f",
+];
+
+const KIT: &[u8] = b"rampart kit 1
+scheme plain
+group 8303ca4d81d97afed6931bd5391d7eb0
+key 0 3427359e9e727deb642976176fede3de0e5cb7af24fca3d2ddec8c3c5663fe09
+key 1 7e9344677ed099c935bbbc976be09051ea5cce1f353d88a9a04617026201d83f
+genesis 0
+port 0 47000
+port 1 47001
+host 0 plain 9
+pair 0 1 5855ee5121fe557457f8e9e9fd737e34751991ec45348663fd50cfeca1ea1b21
+host 1 plain 9
+pair 1 0 5855ee5121fe557457f8e9e9fd737e34751991ec45348663fd50cfeca1ea1b21
+go
+";
+
+fn asked(alloc: Global, all: &[&str]) -> Result<Vec<String>, AllocError> {
     let mut words = Vec::new(alloc);
-    words.push(String::from_str(alloc, word)?)?;
+    for word in all {
+        words.push(String::from_str(alloc, word)?)?;
+    }
     Ok(words)
 }
 
@@ -39,7 +65,7 @@ fn run(
 #[test]
 fn a_schedule_gives_its_report(rt: HostRuntime) -> Result<(), Fail> {
     let alloc = rt.alloc();
-    let (status, sink) = run(alloc, &asked(alloc, "replay")?, &ONE_MEMBER, &[])?;
+    let (status, sink) = run(alloc, &asked(alloc, &["replay"])?, &ONE_MEMBER, &[])?;
     assert_eq!(rt; sink.bytes(), REPORT);
     assert_eq!(rt; status, 0);
     Ok(())
@@ -51,10 +77,10 @@ fn other_words_and_no_schedule_stop(rt: HostRuntime) -> Result<(), Fail> {
     let (status, sink) = run(alloc, &Vec::new(alloc), &ONE_MEMBER, &[])?;
     assert_eq!(rt; sink.bytes(), b"stop 2 words\n".as_slice());
     assert_eq!(rt; status, 2);
-    let (status, sink) = run(alloc, &asked(alloc, "replays")?, &ONE_MEMBER, &[])?;
+    let (status, sink) = run(alloc, &asked(alloc, &["replays"])?, &ONE_MEMBER, &[])?;
     assert_eq!(rt; sink.bytes(), b"stop 2 words\n".as_slice());
     assert_eq!(rt; status, 2);
-    let (status, sink) = run(alloc, &asked(alloc, "replay")?, &[], &[])?;
+    let (status, sink) = run(alloc, &asked(alloc, &["replay"])?, &[], &[])?;
     assert_eq!(rt; sink.bytes(), b"stop 7 input\n".as_slice());
     assert_eq!(rt; status, 7);
     Ok(())
@@ -64,7 +90,7 @@ fn other_words_and_no_schedule_stop(rt: HostRuntime) -> Result<(), Fail> {
 #[test]
 fn a_read_that_fails_is_no_end(rt: HostRuntime) -> Result<(), Fail> {
     let alloc = rt.alloc();
-    let (status, sink) = run(alloc, &asked(alloc, "replay")?, &ONE_MEMBER, &[1])?;
+    let (status, sink) = run(alloc, &asked(alloc, &["replay"])?, &ONE_MEMBER, &[1])?;
     assert_eq!(rt; sink.bytes(), b"stop 3 read\n".as_slice());
     assert_eq!(rt; status, 3);
     Ok(())
@@ -96,7 +122,7 @@ fn a_write_that_fails_leaves_a_front(rt: HostRuntime) -> Result<(), Fail> {
     };
     let status = rampart(
         alloc,
-        &asked(alloc, "replay")?,
+        &asked(alloc, &["replay"])?,
         &mut source,
         &mut output,
         &mut NoDisk::new(),
@@ -104,5 +130,17 @@ fn a_write_that_fails_leaves_a_front(rt: HostRuntime) -> Result<(), Fail> {
     );
     assert_eq!(rt; output.sink.bytes(), b"rampart report 0\neve".as_slice());
     assert_eq!(rt; status, 4);
+    Ok(())
+}
+
+#[test]
+fn a_kit_is_written_as_the_other_program_does(rt: HostRuntime) -> Result<(), Fail> {
+    let alloc = rt.alloc();
+    let (status, sink) = run(alloc, &asked(alloc, &KEYGEN)?, &[], &[])?;
+    assert_eq!(rt; sink.bytes(), KIT);
+    assert_eq!(rt; status, 0);
+    let (status, sink) = run(alloc, &asked(alloc, &KEYGEN[..4])?, &[], &[])?;
+    assert_eq!(rt; sink.bytes(), b"stop 2 words\n".as_slice());
+    assert_eq!(rt; status, 2);
     Ok(())
 }

@@ -1,27 +1,16 @@
 ghost use Rattle.std.specs.Prelude.{◌≡◌, ◌≢◌, ◌↔◌, ◌⊎◌, codes, IsSome, IfSome, IsSomeAnd};
-ghost use Rattle.std.specs.Io.KnownBytes.{Keeps};
+ghost use Rattle.std.specs.Io.KnownBytes.{Appends, Keeps};
 ghost use Rattle.rp_base.specs.Causes.{Rose};
 ghost use Rattle.file_defs.specs.Reports.{report_of};
-ghost use Rattle.rampart_cli.specs.Statuses.{status_of, line_of};
-ghost use Rattle.rampart_cli.specs.Streams.{Says};
-ghost use Rattle.rampart_cli.specs.Top.{AskReplay, Reported, ReportedInPart, Refused};
+ghost use Rattle.command_line.specs.Commands.{Order, Replay, Keygen};
+ghost use Rattle.rp_streams.specs.Streams.{AppendsFront, Says};
+ghost use Rattle.rampart_cli.specs.Top.{Asks, AskAny, Reported, ReportedInPart, Refused, kit_of_order};
 
-use crate::replaying::replay_input;
+use crate::running::{run_keygen, run_replay, tell};
 use crate::stops::Stop;
-use crate::streams::write_all;
-use crate::words::ask_replay;
+use command_line::{Command, read_command};
 use rp_base::{Disk, Link, Sink, Source};
 use std::alloc::Global;
-
-/// Writes the line that says why a run stops, and answers its status. A fault meanwhile leaves the status as it is.
-fn tell<K: Sink>(output: &mut K, stop: Stop) -> u8
-    ensures status { result ≡ status_of stop }
-    ensures line { Says (line_of stop)
-        (K.written output.old) (K.written output.new) (K.faults output.old) (K.faults output.new) }
-{
-    let _ = write_all(output, stop.line());
-    stop.status()
-}
 
 /// The whole program: `words` are those behind the program's name, and the answer is the status that it ends with.
 pub fn rampart<S: Source, K: Sink, D: Disk, L: Link>(
@@ -32,9 +21,15 @@ pub fn rampart<S: Source, K: Sink, D: Disk, L: Link>(
     disk: &mut D,
     link: &mut L,
 ) -> u8
-    // 0: a schedule was read to its end, and the report of its own family was written and nothing else.
-    ensures done { result ≡ 0
+    // replay, 0: a schedule was read to its end, and the report of its own family was written and nothing else.
+    ensures done { Asks words.now Replay → result ≡ 0
         → Reported (S.left input.old) (S.left input.new) (K.written output.old) (K.written output.new) }
+
+    // keygen, 0: the text of the kit that the words order was written with the line that ends it, and nothing else.
+    ensures made { (order : Order) → Asks words.now (Keygen order) → result ≡ 0
+        → Appends (K.written output.old) (K.written output.new) (kit_of_order order) }
+
+    // 0: nothing failed.
     ensures steady { result ≡ 0
         → (S.faults input.new ≡ S.faults input.old) × (K.faults output.new ≡ K.faults output.old) }
 
@@ -42,8 +37,8 @@ pub fn rampart<S: Source, K: Sink, D: Disk, L: Link>(
     ensures silent { result ≡ 1 → Keeps (K.written output.old) (K.written output.new) }
 
     // 2: exactly where the words are no command; nothing was read.
-    ensures words { (result ≡ 2) ↔ (¬ AskReplay words.now) }
-    ensures asked { result ≢ 2 → AskReplay words.now }
+    ensures words { (result ≡ 2) ↔ (¬ AskAny words.now) }
+    ensures asked { result ≢ 2 → AskAny words.now }
     ensures unread { result ≡ 2 → input.new ≡ input.old }
     ensures words_line { result ≡ 2 → Says (codes "stop 2 words\n")
         (K.written output.old) (K.written output.new) (K.faults output.old) (K.faults output.new) }
@@ -53,10 +48,12 @@ pub fn rampart<S: Source, K: Sink, D: Disk, L: Link>(
     ensures read_line { result ≡ 3 → Says (codes "stop 3 read\n")
         (K.written output.old) (K.written output.new) (K.faults output.old) (K.faults output.new) }
 
-    // 4: only where the sink failed; a front of the report was written and nothing else.
+    // 4: only where the sink failed; a front of the report or of the kit's text was written and nothing else.
     ensures write { result ≡ 4 → Rose (K.faults output.old) (K.faults output.new) }
-    ensures part { result ≡ 4
+    ensures part { Asks words.now Replay → result ≡ 4
         → ReportedInPart (S.left input.old) (S.left input.new) (K.written output.old) (K.written output.new) }
+    ensures part_of_kit { (order : Order) → Asks words.now (Keygen order) → result ≡ 4
+        → AppendsFront (K.written output.old) (K.written output.new) (kit_of_order order) }
 
     // 4, 7: no read failed.
     ensures whole { (result ≡ 4) ⊎ (result ≡ 7) → S.faults input.new ≡ S.faults input.old }
@@ -67,13 +64,19 @@ pub fn rampart<S: Source, K: Sink, D: Disk, L: Link>(
     ensures input_line { result ≡ 7 → Says (codes "stop 7 input\n")
         (K.written output.old) (K.written output.new) (K.faults output.old) (K.faults output.new) }
 
-    // A schedule with a report gives 0, and other input 7, where memory is left and nothing failed.
-    ensures completes { AskReplay words.now → IsSomeAnd (S.left input.old) (λ told. IsSome (report_of told))
+    // replay: a schedule with a report gives 0, and other input 7, where memory is left and nothing failed.
+    ensures completes { Asks words.now Replay → IsSomeAnd (S.left input.old) (λ told. IsSome (report_of told))
         → ¬ Rose (S.faults input.old) (S.faults input.new) → ¬ Rose (K.faults output.old) (K.faults output.new)
         → (result ≡ 0) ⊎ (result ≡ 1) }
-    ensures refuses { AskReplay words.now → IsSomeAnd (S.left input.old) (λ told. report_of told ≡ None)
+    ensures refuses { Asks words.now Replay → IsSomeAnd (S.left input.old) (λ told. report_of told ≡ None)
         → ¬ Rose (S.faults input.old) (S.faults input.new)
         → (result ≡ 7) ⊎ (result ≡ 1) }
+
+    // keygen: 0 where memory is left and nothing failed. It reads nothing, and no status but 0, 1 and 4 comes.
+    ensures makes { (order : Order) → Asks words.now (Keygen order)
+        → ¬ Rose (K.faults output.old) (K.faults output.new) → (result ≡ 0) ⊎ (result ≡ 1) }
+    ensures reads_nothing { (order : Order) → Asks words.now (Keygen order) → input.new ≡ input.old }
+    ensures only_made { (order : Order) → Asks words.now (Keygen order) → (result ≡ 0) ⊎ (result ≡ 1) ⊎ (result ≡ 4) }
 
     // No other status comes, and neither disk nor link is touched.
     ensures only { (result ≡ 0) ⊎ (result ≡ 1) ⊎ (result ≡ 2)
@@ -81,11 +84,9 @@ pub fn rampart<S: Source, K: Sink, D: Disk, L: Link>(
     ensures disk { disk.new ≡ disk.old }
     ensures link { link.new ≡ link.old }
 {
-    if !ask_replay(words) {
-        return tell(output, Stop::Words);
-    }
-    match replay_input(alloc, input, output) {
-        Ok(()) => 0,
-        Err(stop) => tell(output, stop),
+    match read_command(words) {
+        Some(Command::Replay) => run_replay(alloc, input, output),
+        Some(Command::Keygen(ordered)) => run_keygen(alloc, &ordered, output),
+        None => tell(output, Stop::Words),
     }
 }

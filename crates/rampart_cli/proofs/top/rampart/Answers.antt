@@ -1,32 +1,25 @@
-use Rattle.std.proofs.Common.{sym, ◌∙◌, inr}
-use Rattle.file_defs.specs.Reports.{report_of}
-use Rattle.rampart_cli.proofs.Runs.{told_none, replayed_told}
-use Rattle.rampart_cli.proofs.Stopped.{at_write, at_input, only_memory, memory_or_input, either_status, stopped_so, part_stays, rose_still, some_and_none}
+use Rattle.std.proofs.Common.{subst}
+use Rattle.std.specs.Io.KnownBytes.{Appends}
+use Rattle.command_line.specs.Commands.{Order, Keygen}
+use Rattle.rp_streams.specs.Streams.{AppendsFront}
+use Rattle.rampart_cli.specs.Top.{kit_of_order}
+use Rattle.rampart_cli.proofs.Orders.{same_order, no_command}
 use Rattle.rampart_cli.proofs.top.rampart.Goals as goal
 
-pub returns-in-Err-clause-part : goal.returns-in-Err-clause-part
-returns-in-Err-clause-part g c = λ e.
-    let is = at_write c.in-Err.stop (sym c.tell-in-Err.ensures.status ∙ e) in
-    part_stays c.in-Err.stop _ _ _ _ _ _ _ is (c.in-Err.ensures.write (stopped_so _ _ is)) c.tell-in-Err.ensures.line
+pub returns-in-Some-Keygen-clause-made : goal.returns-in-Some-Keygen-clause-made
+returns-in-Some-Keygen-clause-made g c = λ order asks zero.
+    subst (λ (o : Order). Appends (g.K.Sink.written c.args.output.now) (g.K.Sink.written c.run_keygen.new.output) (kit_of_order o))
+    (same_order _ order (rw c.in-Some-Keygen.field-0-is at c.in-Some-Keygen.ensures.only (Keygen order) asks))
+    (c.run_keygen.ensures.made zero)
 
-pub returns-in-Err-clause-no_report : goal.returns-in-Err-clause-no_report
-returns-in-Err-clause-no_report g c = λ e.
-    told_none _ _ (c.in-Err.ensures.refused (stopped_so _ _ (at_input c.in-Err.stop (sym c.tell-in-Err.ensures.status ∙ e))))
+pub returns-in-Some-Keygen-clause-part_of_kit : goal.returns-in-Some-Keygen-clause-part_of_kit
+returns-in-Some-Keygen-clause-part_of_kit g c = λ order asks four.
+    subst (λ (o : Order). AppendsFront (g.K.Sink.written c.args.output.now) (g.K.Sink.written c.run_keygen.new.output) (kit_of_order o))
+    (same_order _ order (rw c.in-Some-Keygen.field-0-is at c.in-Some-Keygen.ensures.only (Keygen order) asks))
+    (c.run_keygen.ensures.part four)
 
-pub returns-in-Err-clause-completes : goal.returns-in-Err-clause-completes
-returns-in-Err-clause-completes g c = λ asks told calm calm_sink.
-    inr (c.tell-in-Err.ensures.status ∙ only_memory c.in-Err.stop
-    (λ is. c.in-Err.ensures.no_words (stopped_so _ _ is))
-    (λ is. calm (c.in-Err.ensures.read (stopped_so _ _ is)))
-    (λ is. calm_sink (rose_still _ _ _ _ _ _ (c.in-Err.ensures.write_failed (stopped_so _ _ is)) c.tell-in-Err.ensures.line))
-    (λ is. some_and_none (g.S.Source.left c.args.input.now) report_of told (told_none _ _ (c.in-Err.ensures.refused (stopped_so _ _ is)))))
+pub returns-in-None-clause-makes : goal.returns-in-None-clause-makes
+returns-in-None-clause-makes g c = λ order asks calm. absurd (no_command _ (c.in-None.ensures.only (Keygen order) asks))
 
-pub returns-in-Err-clause-refuses : goal.returns-in-Err-clause-refuses
-returns-in-Err-clause-refuses g c = λ asks told calm.
-    either_status c.tell-in-Err.ensures.status (memory_or_input c.in-Err.stop
-    (λ is. c.in-Err.ensures.no_words (stopped_so _ _ is))
-    (λ is. calm (c.in-Err.ensures.read (stopped_so _ _ is)))
-    (λ is. let part = c.in-Err.ensures.write (stopped_so _ _ is) in replayed_told _ _ part.replayed told))
-
-pub returns-in-Ok-clause-refuses : goal.returns-in-Ok-clause-refuses
-returns-in-Ok-clause-refuses g c = λ asks told calm. absurd (let done = c.in-Ok.ensures.done in replayed_told _ _ done.replayed told)
+pub returns-in-None-clause-only_made : goal.returns-in-None-clause-only_made
+returns-in-None-clause-only_made g c = λ order asks. absurd (no_command _ (c.in-None.ensures.only (Keygen order) asks))

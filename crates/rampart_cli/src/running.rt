@@ -1,0 +1,79 @@
+//! Each command to its end, with the status that the program ends with and the line that says why it stopped.
+ghost use Rattle.std.specs.Prelude.{◌≡◌, ◌⊎◌, codes, IsSome, IfSome, IsSomeAnd};
+ghost use Rattle.std.specs.Io.KnownBytes.{Appends, Keeps};
+ghost use Rattle.rp_base.specs.Causes.{Rose};
+ghost use Rattle.file_defs.specs.Reports.{report_of};
+ghost use Rattle.command_line.specs.Commands.{IsOrder};
+ghost use Rattle.command_line.specs.Views.{order};
+ghost use Rattle.rampart_cli.specs.Statuses.{status_of, line_of};
+ghost use Rattle.rp_streams.specs.Streams.{AppendsFront, Says};
+ghost use Rattle.rampart_cli.specs.Top.{Reported, ReportedInPart, Refused, kit_of_order};
+
+use crate::keygen::keygen;
+use crate::replaying::replay_input;
+use crate::stops::Stop;
+use command_line::Order;
+use rp_base::{Sink, Source};
+use rp_streams::write_all;
+use std::alloc::Global;
+
+/// Writes the line that says why a run stops, and answers its status. A fault meanwhile leaves the status as it is.
+pub fn tell<K: Sink>(output: &mut K, stop: Stop) -> u8
+    ensures status { result ≡ status_of stop }
+    ensures line { Says (line_of stop)
+        (K.written output.old) (K.written output.new) (K.faults output.old) (K.faults output.new) }
+{
+    let _ = write_all(output, stop.line());
+    stop.status()
+}
+
+/// The command `replay`. `rampart` says what each status means.
+pub fn run_replay<S: Source, K: Sink>(alloc: Global, input: &mut S, output: &mut K) -> u8
+    ensures done { result ≡ 0
+        → Reported (S.left input.old) (S.left input.new) (K.written output.old) (K.written output.new) }
+    ensures steady { result ≡ 0
+        → (S.faults input.new ≡ S.faults input.old) × (K.faults output.new ≡ K.faults output.old) }
+    ensures silent { result ≡ 1 → Keeps (K.written output.old) (K.written output.new) }
+    ensures read { result ≡ 3 → Rose (S.faults input.old) (S.faults input.new) }
+    ensures read_line { result ≡ 3 → Says (codes "stop 3 read\n")
+        (K.written output.old) (K.written output.new) (K.faults output.old) (K.faults output.new) }
+    ensures write { result ≡ 4 → Rose (K.faults output.old) (K.faults output.new) }
+    ensures part { result ≡ 4
+        → ReportedInPart (S.left input.old) (S.left input.new) (K.written output.old) (K.written output.new) }
+    ensures whole { (result ≡ 4) ⊎ (result ≡ 7) → S.faults input.new ≡ S.faults input.old }
+    ensures input { result ≡ 7 → Refused (S.left input.old) (S.left input.new) }
+    ensures no_report { result ≡ 7 → IfSome (S.left input.old) (λ told. report_of told ≡ None) }
+    ensures input_line { result ≡ 7 → Says (codes "stop 7 input\n")
+        (K.written output.old) (K.written output.new) (K.faults output.old) (K.faults output.new) }
+    ensures completes { IsSomeAnd (S.left input.old) (λ told. IsSome (report_of told))
+        → ¬ Rose (S.faults input.old) (S.faults input.new) → ¬ Rose (K.faults output.old) (K.faults output.new)
+        → (result ≡ 0) ⊎ (result ≡ 1) }
+    ensures refuses { IsSomeAnd (S.left input.old) (λ told. report_of told ≡ None)
+        → ¬ Rose (S.faults input.old) (S.faults input.new)
+        → (result ≡ 7) ⊎ (result ≡ 1) }
+    ensures only { (result ≡ 0) ⊎ (result ≡ 1) ⊎ (result ≡ 3) ⊎ (result ≡ 4) ⊎ (result ≡ 7) }
+{
+    match replay_input(alloc, input, output) {
+        Ok(()) => 0,
+        Err(stop) => tell(output, stop),
+    }
+}
+
+/// The command `keygen`. `rampart` says what each status means.
+pub fn run_keygen<K: Sink>(alloc: Global, ordered: &Order, output: &mut K) -> u8
+    requires { IsOrder (order ordered.now) }
+    ensures made { result ≡ 0
+        → Appends (K.written output.old) (K.written output.new) (kit_of_order (order ordered.now)) }
+    ensures steady { result ≡ 0 → K.faults output.new ≡ K.faults output.old }
+    ensures silent { result ≡ 1 → Keeps (K.written output.old) (K.written output.new) }
+    ensures write { result ≡ 4 → Rose (K.faults output.old) (K.faults output.new) }
+    ensures part { result ≡ 4
+        → AppendsFront (K.written output.old) (K.written output.new) (kit_of_order (order ordered.now)) }
+    ensures makes { ¬ Rose (K.faults output.old) (K.faults output.new) → (result ≡ 0) ⊎ (result ≡ 1) }
+    ensures only { (result ≡ 0) ⊎ (result ≡ 1) ⊎ (result ≡ 4) }
+{
+    match keygen(alloc, ordered, output) {
+        Ok(()) => 0,
+        Err(stop) => tell(output, stop),
+    }
+}
