@@ -1,0 +1,11 @@
+//! Answers questions of one line each, so that other implementations can be compared with this one.
+#![tactic(auto)]
+
+use interop_lines::interop;
+use net_edge::{StdSink, StdSource};
+use std::process::ExitCode;
+
+fn main(rt: HostRuntime) -> ExitCode {
+    let status = interop(rt.alloc(), &mut StdSource::new(&rt), &mut StdSink::new(&rt));
+    ExitCode::from(status)
+}

@@ -1,0 +1,6 @@
+pub mod FieldLaws
+pub mod FrameLaws
+pub mod KindLaws
+pub mod LineLaws
+pub mod ServingLaws
+pub mod SignatureLaws

@@ -1,0 +1,13 @@
+-- What a line asks.
+use Rattle.std.specs.Prelude.{◌≡◌, ◌⊎◌, ℕ, List}
+use Rattle.interop_lines.specs.Fields.{words}
+use Rattle.interop_lines.specs.Signatures as signatures
+use Rattle.interop_lines.specs.Frames as frames
+
+-- the line's words are those of a question, and this is what is answered
+abbrev pub Answers : List ℕ → List ℕ → Type 0
+Answers line told = signatures.Answers (words line) told ⊎ frames.Answers (words line) told
+
+-- no line has two answers
+abbrev pub OneAnswer : Type 0
+OneAnswer = (line a b : List ℕ) → Answers line a → Answers line b → a ≡ b

@@ -1,0 +1,30 @@
+ghost use Rattle.std.specs.Prelude.{ℕ, List, IfOk, IsErrOf};
+ghost use Rattle.interop_lines.specs.Lines.{Answers};
+
+use crate::fields::words_of;
+use crate::frames::answer_frames;
+use crate::line_fault::LineFault;
+use crate::signatures::answer_signatures;
+use std::alloc::Global;
+
+/// The answer to a line, which is given without its line feed.
+///
+/// | Line | Answer |
+/// |---|---|
+/// | `verify lms KEY BODY SIG` | `true` or `false`: whether this is an LMS signature under the key on the body (RFC 8554, section 5.4.2) |
+/// | `lms H W I SEED Q BODY` | `KEY SIG`: the public key of the tree of typecode H (5 to 7) and one-time typecode W (1 to 4), and its signature on the body with leaf Q (RFC 8554, sections 5.3 and 5.4) |
+/// | `frame HEX` | what the bytes say as a frame: the word of their first fault (docs/FORMATS.md, «Frames»), or `bundle` or `proof` and for each claim ` SIGNER STATEMENT SIGNATURE`, or `want VIEW PLACE` |
+/// | `statement HEX` | what the bytes say as a statement: the word of their fault (docs/FORMATS.md, «Statements»), or `ok STATEMENT`, spelled from what was read |
+///
+/// Words stand between single spaces. Bytes are in lower-case hexadecimal, or `-` where there are none; I has 16 bytes and
+/// SEED 32. Numbers are decimal, without sign or leading zero. `NoQuestion` comes exactly where the line is none of these.
+pub fn answer(alloc: Global, line: &[u8]) -> Result<Vec<u8>, LineFault>
+    ensures answers { IfOk result (λ told. Answers line.now told.items) }
+    ensures no_question { IsErrOf result LineFault.NoQuestion → (told : List ℕ) → ¬ Answers line.now told }
+{
+    let words = words_of(alloc, line)?;
+    match answer_signatures(alloc, &words) {
+        Err(LineFault::NoQuestion) => answer_frames(alloc, &words),
+        answered => answered,
+    }
+}
