@@ -1,5 +1,5 @@
 -- Questions on signatures, by the words of a line.
-use Rattle.std.proofs.Common.{◌≡◌, ◌⊎◌, inl, inr, ℕ, suc, ◌^◌, ◌<◌, ◌≤◌, List, [], ◌∷◌, length, get_or, map, true, nat_eq, Bor, Option, Some, Ok, Err, refl, sym, ap, ◌∙◌, subst, arith}
+use Rattle.std.proofs.Common.{◌≡◌, ◌⊎◌, inl, inr, ℕ, ◌^◌, ◌<◌, ◌≤◌, List, [], ◌∷◌, length, get_or, map, true, nat_eq, Bor, Option, Some, Ok, Err, refl, sym, ap, ◌∙◌, subst, arith}
 use Rattle.std.specs.Prelude.{codes, if◌then◌else◌}
 use Rattle.std.specs.Option.{ok_or}
 use Rattle.std.proofs.lemmas.Slice.Eq.{bytes_eq-Decides}
@@ -140,52 +140,12 @@ pub six : {A B : Type 0} (f : A → B) (xs : List A) (d : A) → length xs ≡ 6
 six f (a ∷ b ∷ c ∷ e ∷ g ∷ h ∷ []) d is = refl
 six f _ d is = absurd (omega arith)
 
-words-behind : (v : List ℕ) (ws : List (List ℕ)) (n : ℕ) (all : List (List ℕ)) → v ∷ ws ≡ all → length all ≡ suc n → length ws ≡ n
-words-behind v ws n all e len = omega (arith, ap length e, len)
-
-pub verify_has_four : (ws : List (List ℕ)) (told : List ℕ) → Answers (codes "verify" ∷ ws) told → length ws ≡ 4
-verify_has_four ws told a = of a.question a.asked
-  where
-    of : (q : Question) → codes "verify" ∷ ws ≡ spelled q → length ws ≡ 4
-    of (Verify key body sig) is = words-behind _ ws 4 _ is refl
-    of (Sign s) is = absurd cc
-
-pub sign_has_six : (ws : List (List ℕ)) (told : List ℕ) → Answers (codes "lms" ∷ ws) told → length ws ≡ 6
-sign_has_six ws told a = of a.question a.asked
-  where
-    of : (q : Question) → codes "lms" ∷ ws ≡ spelled q → length ws ≡ 6
-    of (Verify key body sig) is = absurd cc
-    of (Sign s) is = words-behind _ ws 6 _ is refl
-
--- a question begins with one of two words
-pub first_word : (v : List ℕ) (ws : List (List ℕ)) (told : List ℕ) → Answers (v ∷ ws) told → (v ≡ codes "verify") ⊎ (v ≡ codes "lms")
-first_word v ws told a = of a.question a.asked
-  where
-    of : (q : Question) → v ∷ ws ≡ spelled q → (v ≡ codes "verify") ⊎ (v ≡ codes "lms")
-    of (Verify key body sig) is = inl cc
-    of (Sign s) is = inr cc
-
--- the scheme of a question that begins with `verify` is LMS
-pub scheme_is : (v : List ℕ) (ws : List (List ℕ)) (told : List ℕ) → Answers (codes "verify" ∷ v ∷ ws) told → v ≡ codes "lms"
-scheme_is v ws told a = of a.question a.asked
-  where
-    of : (q : Question) → codes "verify" ∷ v ∷ ws ≡ spelled q → v ≡ codes "lms"
-    of (Verify key body sig) is = cc
-    of (Sign s) is = absurd cc
-
 -- the first word is this one
 pub begun : (words rest : List (Bor (List ℕ))) (v : Bor (List ℕ)) (as_slice word : List ℕ) → words ≡ v ∷ rest → true ≡ pointwise nat_eq v.now as_slice → as_slice ≡ word
     → map (λ w. w.now) words ≡ word ∷ map (λ w. w.now) rest
 begun words rest v as_slice word is same spelled =
     let first : v.now ≡ word = (bytes_eq-Decides v.now as_slice).0 (sym same) ∙ spelled in
     ap (map (λ (w : Bor (List ℕ)). w.now)) is ∙ ap (λ (w : List ℕ). w ∷ map (λ (u : Bor (List ℕ)). u.now) rest) first
-
-pub no_words : (told : List ℕ) → Answers [] told → ⊥
-no_words told a = of a.question a.asked
-  where
-    of : (q : Question) → [] ≡ spelled q → ⊥
-    of (Verify key body sig) is = absurd cc
-    of (Sign s) is = absurd cc
 
 -- ---- one answer
 
