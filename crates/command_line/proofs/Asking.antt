@@ -1,7 +1,6 @@
 -- A command is read of the words that spell it, and of no others.
 use Rattle.std.proofs.Common.{◌≡◌, ℕ, true, List, [], ◌∷◌, codes, Option, Some, None, IfSome, option_map, refl, sym, ap, subst, ◌∙◌, arith}
 use Rattle.std.specs.Fmt.{decimal}
-use Rattle.std.proofs.lemmas.Slice.Eq.{bytes_eq-Decides}
 use Rattle.hex.specs.Hex.{encode_lower}
 use Rattle.byte_defs.specs.Equality.{same_bytes}
 use Rattle.text_defs.specs.declared.KeyPlan.{KeyPlan}
@@ -9,13 +8,11 @@ use Rattle.text_defs.specs.Words.{bytes_of, number_within}
 use Rattle.text_defs.proofs.Bytes.{bytes_found, bytes_spelled}
 use Rattle.text_defs.proofs.Choosing.{if_some, map_some, some_is, then_some}
 use Rattle.text_defs.proofs.Numbers.{number_within_found, number_within_spelled}
+use Rattle.text_defs.proofs.Tests.{word_is}
 use Rattle.command_line.specs.Commands.{Asks, Command, Replay, Keygen, IsOrder, Order, plan_word}
 use Rattle.command_line.specs.Laws.{CommandIsSpelled}
 use Rattle.command_line.specs.Reading.{command_of, order_of, plan_of}
 use Rattle.command_line.proofs.Plans.{plan_found, plan_spelled}
-
-word_is : (word w : List ℕ) → same_bytes word w ≡ true → word ≡ w
-word_is word w e = (bytes_eq-Decides word w).0 e
 
 -- ---- orders
 

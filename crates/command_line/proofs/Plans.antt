@@ -5,18 +5,18 @@ use Rattle.std.specs.Option.{option_or}
 use Rattle.std.specs.Fmt.{decimal}
 use Rattle.std.proofs.lemmas.Fmt.{decimal_digit}
 use Rattle.std.proofs.lemmas.Bool.{and_parts, eqb-true}
-use Rattle.std.proofs.lemmas.Slice.Eq.{bytes_eq-Decides}
 use Rattle.byte_defs.specs.Equality.{same_bytes}
 use Rattle.signature_defs.specs.declared.OtsType.{OtsType}
 use Rattle.signature_defs.specs.LmOts.{ots_type_of, ots_typecode}
-use Rattle.signature_defs.proofs.OtsLaws.{type_of_typecode}
+use Rattle.signature_defs.proofs.OtsLaws.{typecode_of_type, typecode_range}
 use Rattle.text_defs.specs.declared.KeyPlan.{KeyPlan}
 use Rattle.text_defs.specs.declared.KeyPlan.TheVariants.{Plain, Lms}
 use Rattle.text_defs.specs.Words.{number_within}
 use Rattle.text_defs.specs.KitReading.{and_then}
-use Rattle.text_defs.proofs.Choosing.{if_some, map_some, some_is, then_some}
-use Rattle.text_defs.proofs.LineSpelled.{kind_range}
+use Rattle.text_defs.proofs.Choosing.{if_some, map_some, or_some, some_is, then_some}
+use Rattle.text_defs.proofs.LineSpelled.{kind_spelled}
 use Rattle.text_defs.proofs.Numbers.{number_within_found, number_within_spelled}
+use Rattle.text_defs.proofs.Tests.{word_is}
 use Rattle.text_defs.specs.KitMaking.{IsPlan}
 use Rattle.command_line.specs.Commands.{plan_word}
 use Rattle.command_line.specs.Reading.{behind, lms_by, plain_by, plan_of}
@@ -26,7 +26,7 @@ use Rattle.command_line.specs.Reading.{behind, lms_by, plain_by, plan_of}
 behind_found : (front word rest : List ℕ) → behind front word ≡ Some rest → word ≡ front ++ rest
 behind_found front word rest e =
     let tested = if_some (same_bytes (take (length front) word) front) (Some (drop (length front) word)) rest e in
-    let begins : take (length front) word ≡ front = (bytes_eq-Decides (take (length front) word) front).0 tested.0 in
+    let begins : take (length front) word ≡ front = word_is (take (length front) word) front tested.0 in
     sym (take-append-drop (length front) word) ∙ ap (λ t. t ++ drop (length front) word) begins ∙ ap (λ t. front ++ t) (some_is _ rest tested.1)
 
 plain_found : (total : List ℕ) (plan : KeyPlan) → plain_by total ≡ Some plan → (codes "plain:" ++ total ≡ plan_word plan) × IsPlan plan
@@ -36,14 +36,10 @@ plain_found total plan e =
     let fits : read.0 < 2 ^ 32 = omega (arith, n.2) in
     subst (λ p. (codes "plain:" ++ total ≡ plan_word p) × IsPlan p) read.2 (ap (λ t. codes "plain:" ++ t) n.0, fits)
 
--- a number that is an LM-OTS typecode is the one of its type
-type_found : (code : ℕ) (kind : OtsType) → ots_type_of code ≡ Some kind → code ≡ ots_typecode kind
-type_found code kind e = grind arith
-
 kind_found : (word : List ℕ) (kind : OtsType) → option_and_then ots_type_of (number_within 1 4 word) ≡ Some kind → word ≡ decimal (ots_typecode kind)
 kind_found word kind e =
     let read = then_some ots_type_of (number_within 1 4 word) kind e in
-    (number_within_found 1 4 word read.0 read.1).0 ∙ ap decimal (type_found read.0 kind read.2)
+    (number_within_found 1 4 word read.0 read.1).0 ∙ ap decimal (typecode_of_type read.0 kind read.2)
 
 -- what the two words of digits say
 abbrev lms_of : List ℕ → List ℕ → Option KeyPlan
@@ -65,11 +61,6 @@ lms_found word plan e =
 
 -- ---- what is spelled
 
-kind_spelled : (kind : OtsType) → option_and_then ots_type_of (number_within 1 4 (decimal (ots_typecode kind))) ≡ Some kind
-kind_spelled kind =
-    let range = kind_range kind in
-    ap (option_and_then ots_type_of) (number_within_spelled 1 4 (ots_typecode kind) range.0 range.1 (omega (arith, range.1))) ∙ type_of_typecode kind
-
 -- digits with a colon between them
 lms_of_digits : (a c code : ℕ) (kind : OtsType) → number_within 5 7 (a ∷ []) ≡ Some code → option_and_then ots_type_of (number_within 1 4 (c ∷ [])) ≡ Some kind → lms_by (a ∷ 58 ∷ c ∷ []) ≡ Some (Lms code kind)
 lms_of_digits a c code kind h w = rw (h, w) refl
@@ -81,17 +72,13 @@ lms_spelled : (code : ℕ) (kind : OtsType) → 5 ≤ code → code ≤ 7 → lm
 lms_spelled code kind least most =
     let t = ots_typecode kind in
     let h = digit_is code (omega arith) in
-    let w = digit_is t (omega (arith, (kind_range kind).1)) in
+    let w = digit_is t (omega (arith, (typecode_range kind).1)) in
     ap (λ d. lms_by (d ++ (codes ":" ++ decimal t))) h ∙ ap (λ d. lms_by ((48 + code) ∷ 58 ∷ d)) w
     ∙ lms_of_digits (48 + code) (48 + t) code kind
     (ap (number_within 5 7) (sym h) ∙ number_within_spelled 5 7 code least most (omega arith))
     (ap (λ d. option_and_then ots_type_of (number_within 1 4 d)) (sym w) ∙ kind_spelled kind)
 
 -- ---- plans
-
-or_some : {A : Type 0} (o p : Option A) (a : A) → option_or o p ≡ Some a → (o ≡ Some a) ⊎ (p ≡ Some a)
-or_some None p a e = inr e
-or_some (Some b) p a e = inl e
 
 pub plan_found : (word : List ℕ) (plan : KeyPlan) → plan_of word ≡ Some plan → (word ≡ plan_word plan) × IsPlan plan
 plan_found word plan e = ⊎_elim plain lms (or_some (and_then (behind (codes "plain:") word) plain_by) (and_then (behind (codes "lms:") word) lms_by) plan e)

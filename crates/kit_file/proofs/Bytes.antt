@@ -10,7 +10,7 @@ use Rattle.signature_defs.specs.declared.OtsType.{OtsType}
 use Rattle.signature_defs.specs.LmOts.{ots_typecode}
 use Rattle.signature_defs.specs.Lms.{node, lms_public_key}
 use Rattle.signature_defs.specs.Strings.{u32str}
-use Rattle.secret_defs.proofs.KeySizes.{key_length}
+use Rattle.signature_defs.proofs.LmsLaws.{key_length}
 use Rattle.text_defs.specs.Words.{AreBytes}
 
 bytes_cons : (b : ℕ) (xs : List ℕ) → b < 256 → IsBytes xs → IsBytes (b ∷ xs)

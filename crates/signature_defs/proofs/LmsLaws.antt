@@ -57,7 +57,7 @@ module _ (kind : OtsType) (code h : ℕ) (id seed : List ℕ) (size : length id 
   id_is : part 8 16 (lms_public_key code kind h id seed) ≡ id
   id_is = part_front id (node kind h id seed h 1) 16 size
 
-  key_length : length (lms_public_key code kind h id seed) ≡ 56
+  pub key_length : length (lms_public_key code kind h id seed) ≡ 56
   key_length =
       let root = length-node kind h id seed h 1 in
       length-append (u32str code ++ u32str (ots_typecode kind) ++ id) (node kind h id seed h 1) ∙ omega (arith, root, size)

@@ -25,6 +25,15 @@ type_of_typecode W2 = refl
 type_of_typecode W4 = refl
 type_of_typecode W8 = refl
 
+pub typecode_of_type : (code : ℕ) (kind : OtsType) → ots_type_of code ≡ Some kind → code ≡ ots_typecode kind
+typecode_of_type code kind e = grind arith
+
+pub typecode_range : (kind : OtsType) → (1 ≤ ots_typecode kind) × (ots_typecode kind ≤ 4)
+typecode_range W1 = omega arith
+typecode_range W2 = omega arith
+typecode_range W4 = omega arith
+typecode_range W8 = omega arith
+
 below_power : (x w : ℕ) → x % 2 ^ w ≤ 2 ^ w - 1
 below_power x w = omega (arith, mod_below x (2 ^ w) (pow_pos w))
 

@@ -6,13 +6,12 @@ use Rattle.std.specs.Fmt.{decimal}
 use Rattle.std.specs.List.{AllByRecursion}
 use Rattle.std.proofs.lemmas.Bool.{and_parts, eqb-false, eqb-true, leb-true}
 use Rattle.std.proofs.lemmas.List.{length-map}
-use Rattle.std.proofs.lemmas.Slice.Eq.{bytes_eq-Decides}
 use Rattle.hex.specs.Hex.{encode_lower}
 use Rattle.byte_defs.specs.Choices.{first_that_holds}
 use Rattle.byte_defs.specs.Equality.{same_bytes}
 use Rattle.signature_defs.specs.declared.OtsType.{OtsType}
-use Rattle.signature_defs.specs.declared.OtsType.TheVariants.{W1, W2, W4, W8}
 use Rattle.signature_defs.specs.LmOts.{ots_type_of, ots_typecode}
+use Rattle.signature_defs.proofs.OtsLaws.{typecode_of_type}
 use Rattle.secret_defs.specs.Schemes.{Scheme}
 use Rattle.secret_defs.specs.Schemes as schemes
 use Rattle.text_defs.specs.Words.{bytes_of, number_within, process_of}
@@ -20,12 +19,10 @@ use Rattle.text_defs.specs.Kits.{KitLine, Version, SchemeIs, GroupIs, Key, Genes
 use Rattle.text_defs.specs.KitReading.{genesis_by, group_by, host_by, key_by, line_by, lms_host_by, may_be_lms, may_be_plain, members_by, pair_by, plain_host_by, port_by, public_key_by, scheme_by, version_by}
 use Rattle.text_defs.proofs.Bytes.{bytes_found}
 use Rattle.text_defs.proofs.Numbers.{number_within_found}
-use Rattle.text_defs.proofs.Choosing.{by_row, if_some, map_some, some_is, then_some, unless_some}
+use Rattle.text_defs.proofs.Choosing.{by_row, if_some, map_some, or_some, some_is, then_some, unless_some}
 use Rattle.text_defs.proofs.Lists.{distinct_push}
+use Rattle.text_defs.proofs.Tests.{word_is}
 use Rattle.text_defs.proofs.LineShapes.{IsLine, IsPublicKey, Reads}
-
-word_is : (word w : List ℕ) → same_bytes word w ≡ true → word ≡ w
-word_is word w e = (bytes_eq-Decides word w).0 e
 
 read_as : (o : Option Scheme) (words : List (List ℕ)) (said : KitLine) (a : KitLine) → a ≡ said → words ≡ line_words a → IsLine o a → Reads o words said
 read_as o words said a e w h = subst (Reads o words) e (w, h)
@@ -85,10 +82,6 @@ module _ (o : Option Scheme) (word : List ℕ) (said : KitLine) where
 -- ---- key lines
 
 -- a word that may be read by one length or the other
-or_some : {A : Type 0} (o p : Option A) (a : A) → option_or o p ≡ Some a → (o ≡ Some a) ⊎ (p ≡ Some a)
-or_some None p a e = inr e
-or_some (Some b) p a e = inl e
-
 public_key_found : (o : Option Scheme) (word key : List ℕ) → public_key_by o word ≡ Some key → (word ≡ encode_lower key) × IsPublicKey o key
 public_key_found o word key e =
     ⊎_elim plain lms (or_some (if may_be_plain o then bytes_of 32 word else None) (if may_be_lms o then bytes_of 56 word else None) key e)
@@ -160,18 +153,6 @@ genesis_found o word said words is e =
 
 -- ---- host lines
 
--- a number that is an LM-OTS typecode is the one of its type
-type_found : (code : ℕ) (kind : OtsType) → ots_type_of code ≡ Some kind → code ≡ ots_typecode kind
-type_found code kind e = by (code == 1) refl (code == 2) refl (code == 3) refl (code == 4) refl e
-  where
-    by : (one : Bool) → (code == 1) ≡ one → (two : Bool) → (code == 2) ≡ two → (three : Bool) → (code == 3) ≡ three → (four : Bool) → (code == 4) ≡ four
-        → first_that_holds ((one, W1) ∷ (two, W2) ∷ (three, W4) ∷ (four, W8) ∷ []) ≡ Some kind → code ≡ ots_typecode kind
-    by true t two _ three _ four _ e = eqb-true code 1 t ∙ ap ots_typecode (some_is W1 kind e)
-    by false _ true t three _ four _ e = eqb-true code 2 t ∙ ap ots_typecode (some_is W2 kind e)
-    by false _ false _ true t four _ e = eqb-true code 3 t ∙ ap ots_typecode (some_is W4 kind e)
-    by false _ false _ false _ true t e = eqb-true code 4 t ∙ ap ots_typecode (some_is W8 kind e)
-    by false _ false _ false _ false _ e = absurd cc
-
 module _ (o : Option Scheme) (word process scheme : List ℕ) (said : KitLine) (p : ℕ) (is : same_bytes word (codes "host") ≡ true) (p_is : process ≡ decimal p) (number : p ≤ 63) where
   plain_host_found : (more : List (List ℕ)) → (same_bytes scheme (codes "plain") && may_be_plain o) ≡ true → plain_host_by p more ≡ Some said → Reads o (word ∷ process ∷ scheme ∷ more) said
   plain_host_found (total ∷ []) tested e =
@@ -191,7 +172,7 @@ module _ (o : Option Scheme) (word process scheme : List ℕ) (said : KitLine) (
       let s = map_some (LmsHost p h.0 w.0 i.0) (bytes_of 32 seed) said i.2 in
       let number_of_kind = then_some ots_type_of (number_within 1 4 kind) w.0 w.1 in
       let h_is = number_within_found 5 7 code h.0 h.1 in
-      let w_is : kind ≡ decimal (ots_typecode w.0) = (number_within_found 1 4 kind number_of_kind.0 number_of_kind.1).0 ∙ ap decimal (type_found number_of_kind.0 w.0 number_of_kind.2) in
+      let w_is : kind ≡ decimal (ots_typecode w.0) = (number_within_found 1 4 kind number_of_kind.0 number_of_kind.1).0 ∙ ap decimal (typecode_of_type number_of_kind.0 w.0 number_of_kind.2) in
       let i_is = bytes_found 16 id i.0 i.1 in
       let s_is = bytes_found 32 seed s.0 s.1 in
       read_as o _ said (LmsHost p h.0 w.0 i.0 s.0) s.2

@@ -10,11 +10,10 @@ use Rattle.std.proofs.lemmas.List.Elements.{recursion_from_All}
 use Rattle.std.proofs.Math.Seq.{get_or-append_seam}
 use Rattle.hex.specs.Hex.{encode_lower}
 use Rattle.signature_defs.specs.declared.OtsType.{OtsType}
-use Rattle.signature_defs.specs.declared.OtsType.TheVariants.{W1, W2, W4, W8}
 use Rattle.signature_defs.specs.LmOts.{ots_type_of, ots_typecode}
 use Rattle.secret_defs.specs.Schemes.{Scheme}
 use Rattle.secret_defs.specs.Schemes as schemes
-use Rattle.signature_defs.proofs.OtsLaws.{type_of_typecode}
+use Rattle.signature_defs.proofs.OtsLaws.{type_of_typecode, typecode_range}
 use Rattle.text_defs.specs.Words.{bytes_of, number_within, process_of}
 use Rattle.text_defs.specs.Kits.{KitLine, Version, SchemeIs, GroupIs, Key, Genesis, Port, PlainHost, LmsHost, Pair, is_one_of, line_words}
 use Rattle.text_defs.specs.KitReading.{and_then, genesis_by, line_by, may_be_plain, members_by, public_key_by}
@@ -82,15 +81,9 @@ plain_spelled schemes.Plain p total small is fits =
     ∙ ap (option_map (PlainHost p)) (number_within_spelled 0 (2 ^ 32 - 1) total (omega arith) (omega arith) (omega arith))
 plain_spelled schemes.Lms p total small is fits = unless (sym is)
 
-pub kind_range : (kind : OtsType) → (1 ≤ ots_typecode kind) × (ots_typecode kind ≤ 4)
-kind_range W1 = omega arith
-kind_range W2 = omega arith
-kind_range W4 = omega arith
-kind_range W8 = omega arith
-
-kind_spelled : (kind : OtsType) → option_and_then ots_type_of (number_within 1 4 (decimal (ots_typecode kind))) ≡ Some kind
+pub kind_spelled : (kind : OtsType) → option_and_then ots_type_of (number_within 1 4 (decimal (ots_typecode kind))) ≡ Some kind
 kind_spelled kind =
-    let range = kind_range kind in
+    let range = typecode_range kind in
     then_is (number_within 1 4 (decimal (ots_typecode kind))) (ots_typecode kind) ots_type_of (number_within_spelled 1 4 (ots_typecode kind) range.0 range.1 (omega (arith, range.1))) ∙ type_of_typecode kind
 
 lms_spelled : (scheme : Scheme) (p code : ℕ) (kind : OtsType) (id seed : List ℕ) → IsLmsHost (Some scheme) p code id seed → line_by (Some scheme) (line_words (LmsHost p code kind id seed)) ≡ Some (LmsHost p code kind id seed)

@@ -14,7 +14,7 @@ use Rattle.text_defs.specs.Words.{AreBytes, blank, line_feed, words_of}
 use Rattle.text_defs.specs.Kits.{KitLine, Version, SchemeIs, GroupIs, Key, Genesis, Port, PlainHost, LmsHost, Pair, line_words}
 use Rattle.text_defs.specs.KitReading.{most_line_bytes}
 use Rattle.text_defs.proofs.LineShapes.{IsLine, IsPublicKey}
-use Rattle.text_defs.proofs.LineSpelled.{kind_range}
+use Rattle.signature_defs.proofs.OtsLaws.{typecode_range}
 use Rattle.text_defs.proofs.Lines.{decimal_has_no, has_byte, hex_has_no, join_has_no, words_of_join}
 
 -- the text of a line, without its line feed
@@ -72,7 +72,7 @@ are_words o (LmsHost p code kind id seed) h = (
       fixed_word _ refl (lit≤ tt),
       (
         number_word code (omega (arith, h.most)),
-        (number_word (ots_typecode kind) (omega (arith, kind_range kind)), (bytes_word 16 id h.id_is (lit≤ tt), (bytes_word 32 seed h.seed_is (lit≤ tt), tt))),
+        (number_word (ots_typecode kind) (omega (arith, typecode_range kind)), (bytes_word 16 id h.id_is (lit≤ tt), (bytes_word 32 seed h.seed_is (lit≤ tt), tt))),
       ),
     ),
   ),
