@@ -6,11 +6,11 @@ use Rattle.std.specs.Fmt.{decimal}
 use Rattle.std.proofs.lemmas.Bool.{not-false, or_parts, ltb-false}
 use Rattle.std.proofs.lemmas.List.Elements.{All-from_recursion}
 use Rattle.std.proofs.lemmas.List.Quantifiers.{all_pairs_push}
-use Rattle.byte_defs.specs.Equality.{same_bytes}
+use Rattle.byte_defs.specs.Fields.{◌>>=◌}
 use Rattle.byte_defs.proofs.Fields.{bind_ok, ok_is}
 use Rattle.secret_defs.specs.Schemes.{Scheme}
 use Rattle.secret_defs.specs.Schemes as schemes
-use Rattle.secret_defs.specs.Secrets.{Secret, Plain, Lms, scheme_of, public_key_of}
+use Rattle.secret_defs.specs.Secrets.{Secret, Plain, Lms, scheme_of}
 use Rattle.text_defs.specs.Words.{begin_with}
 use Rattle.text_defs.specs.Kits.{Host, KitLine, Version, SchemeIs, GroupIs, Key, Genesis, Port, PlainHost, LmsHost, Pair, is_one_of, key_length, key_of, line_words, roster_of, secret_line}
 use Rattle.text_defs.specs.KitReading.{Draft, KitFault, has_genesis, host_above, host_stands, is_early, is_late, is_outside, is_repeated, lacks_port, line_by, listed_key, matching, may_be_lms, may_be_plain, next_pair, next_port, with_host, with_line, with_pair}
@@ -216,6 +216,6 @@ module _ (d v : Draft) (is : v ≡ d) where
   pub hosts_changed : (f : List Host → List Host) (hs : List Host) → hs ≡ f v.hosts → ok (record d { hosts = f d.hosts }) ≡ ok (record v { hosts = hs })
   hosts_changed f hs e = ap (λ (x : Draft). ok (record x { hosts = f x.hosts })) (sym is) ∙ ap (λ (l : List Host). ok (record v { hosts = l })) (sym e)
 
-pub lms_taken : (n : ℕ) (d : Draft) (p : ℕ) (s : Secret) → scheme_of s ≡ schemes.Lms → same_bytes (public_key_of s) (listed_key d p) ≡ true → with_line n d (secret_line p s) ≡ ok (with_host d p s)
-lms_taken n d p (Plain key total) lms same = absurd cc
-lms_taken n d p (Lms code kind id seed) lms same = rw same refl
+pub lms_taken : (n : ℕ) (d : Draft) (p : ℕ) (s : Secret) (nothing : Unit {0}) → scheme_of s ≡ schemes.Lms → matching n d p s ≡ Ok nothing → with_line n d (secret_line p s) ≡ ok (with_host d p s)
+lms_taken n d p (Plain key total) nothing lms same = absurd cc
+lms_taken n d p (Lms code kind id seed) nothing lms same = ap (λ (r : Result (Unit {0}) KitFault). r >>= λ _. ok (with_host d p (Lms code kind id seed))) same

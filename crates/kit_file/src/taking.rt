@@ -4,7 +4,7 @@ ghost use Rattle.byte_defs.specs.Reads.{Makes};
 ghost use Rattle.sig_scheme.specs.Keys.{IsTooTall};
 ghost use Rattle.sig_scheme.specs.Views.{secret};
 ghost use Rattle.secret_defs.specs.Schemes as schemes;
-ghost use Rattle.secret_defs.specs.Secrets.{scheme_of, public_key_of};
+ghost use Rattle.secret_defs.specs.Secrets.{Plain, scheme_of, public_key_of};
 ghost use Rattle.text_defs.specs.Kits as plain_kits;
 ghost use Rattle.text_defs.specs.Kits.{secret_line};
 ghost use Rattle.text_defs.specs.KitReading as plain;
@@ -71,7 +71,7 @@ fn push_pair(all: &mut Vec<Host>, other: Pid, key: [u8; 32]) -> Result<(), NoMem
 }
 
 impl Draft {
-    ghost use Rattle.kit_file.specs.Drafts.{CanAdd};
+    ghost use Rattle.kit_file.specs.Drafts.{CanAdd, IsDraft};
 
     // The public key on the key line of a process; empty where it has none.
     fn listed_key(&self, p: Pid) -> &[u8]
@@ -83,15 +83,11 @@ impl Draft {
         }
     }
 
-    fn add_plain_host(
-        &mut self,
-        alloc: Global,
-        number: usize,
-        process: Pid,
-        total: u32,
-    ) -> Result<(), KitFault>
-        requires { CanAdd number self.old (plain_kits.PlainHost process total) }
-        ensures added { Makes fault_of (λ _. self.new) result (plain.with_line number self.old (plain_kits.PlainHost process total)) }
+    // The process is hosted behind those that stand, with its listed key.
+    fn add_plain_host(&mut self, alloc: Global, process: Pid, total: u32) -> Result<(), NoMemory>
+        requires size { length (plain.listed_key self.old process) ≡ 32 }
+        requires keeps { IsDraft (plain.with_host self.old process (Plain (plain.listed_key self.old process) total)) }
+        ensures added { OnOk result (self.new ≡ plain.with_host self.old process (Plain (plain.listed_key self.old process) total)) }
         ensures unchanged { OnErr result (self.new ≡ self.old) }
     {
         let key = array_of(self.listed_key(process));
@@ -100,10 +96,35 @@ impl Draft {
             alloc,
             process,
             Secret::Plain { key, total },
-        )?;
+        )
+    }
+
+    // Passes where the secret makes the public key on the key line of the process.
+    fn match_key(
+        &self,
+        alloc: Global,
+        number: usize,
+        process: Pid,
+        of: Secret,
+    ) -> Result<(), KitFault>
+        requires lms { scheme_of (secret of) ≡ schemes.Lms }
+        requires low { ¬ IsTooTall (secret of) }
+        requires size { length (plain.listed_key self.now process) ≡ 56 }
+        ensures { Makes fault_of (λ nothing. nothing) result (plain.matching number self.now process (secret of)) }
+    {
+        let made = made_key(alloc, of)?;
+        let listed = array_of(self.listed_key(process));
+        if made != listed {
+            return Err(KitFault::KeyMismatch {
+                line: number,
+                made,
+                listed,
+            });
+        }
         Ok(())
     }
 
+    // The process is hosted behind those that stand, where the secret makes its listed key.
     fn add_lms_host(
         &mut self,
         alloc: Global,
@@ -116,15 +137,7 @@ impl Draft {
         ensures added { Makes fault_of (λ _. self.new) result (plain.with_line number self.old (secret_line process (secret of))) }
         ensures unchanged { OnErr result (self.new ≡ self.old) }
     {
-        let made = made_key(alloc, of)?;
-        let listed = array_of(self.listed_key(process));
-        if made != listed {
-            return Err(KitFault::KeyMismatch {
-                line: number,
-                made,
-                listed,
-            });
-        }
+        self.match_key(alloc, number, process, of)?;
         push_host(&mut self.hosts, alloc, process, of)?;
         Ok(())
     }
@@ -143,7 +156,7 @@ impl Draft {
             KitLine::Genesis(members) => self.genesis = members,
             KitLine::Port { process, port } => self.ports.push((process, port))?,
             KitLine::PlainHost { process, total } => {
-                self.add_plain_host(alloc, number, process, total)?;
+                self.add_plain_host(alloc, process, total)?;
             }
             KitLine::LmsHost {
                 process,

@@ -1,5 +1,5 @@
 use Rattle.std.proofs.Common.{sym, ◌∙◌, ap, length}
-use Rattle.secret_defs.proofs.KeySizes.{key_length}
+use Rattle.signature_defs.proofs.LmsLaws.{key_length}
 use Rattle.sig_scheme.proofs.secret.lms_bytes.Goals as goal
 
 pub copy_from_slice-requires : goal.copy_from_slice-requires

@@ -24,6 +24,10 @@ invariant_of-self-in-Continue-1 c =
     ∙ keys_changed c.args.self.now _ c.self-in-Key.view_is (c.in-Key.process, key_bytes c.in-Key.key) c.add.new.self
     (c.in_ok-add-in-Key.ensures.added ∙ ap (λ (bytes : List ℕ). c.self-in-Key.inside.roster ++ (c.in-Key.process, bytes) ∷ []) c.as_bytes.ensures.value))
 
+pub add_plain_host-requires-clause-keeps : goal.add_plain_host-requires-clause-keeps
+add_plain_host-requires-clause-keeps c =
+    c.requires.keeps _ (ap (λ (l : KitLine). with_line c.args.number c.args.self.now l) (ap line c.in-PlainHost.is))
+
 pub invariant_of-self-in-Continue-branch-5 : goal.invariant_of-self-in-Continue-branch-5
 invariant_of-self-in-Continue-branch-5 c =
     c.requires.keeps _ (ap (λ (l : KitLine). with_line c.args.number c.args.self.now l) (ap line c.in-Pair.is)
