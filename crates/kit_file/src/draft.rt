@@ -17,7 +17,7 @@ use std::marker::Model;
 use text_codec::Parts as Words;
 
 /// What stands of a kit. Contracts see it as the plain draft.
-#[derive(Debug, Drop)]
+#[derive(Drop)]
 pub struct Draft {
     pub version: bool,
     pub scheme: Option<AnyScheme>,
@@ -46,7 +46,7 @@ impl Model for Draft {
 }
 
 impl Draft {
-    /// Of no line.
+    /// The draft before the first line.
     pub fn new(alloc: Global) -> Result<Draft, NoMemory>
         ensures { IfOk result (λ d. d ≡ plain.nothing) }
     {
@@ -167,9 +167,9 @@ impl Draft {
         ensures { result ≡ list_any (λ p. not (is_one_of (roster_of self.now.keys) p)) (plain.named_by (line said.now)) }
     {
         match said {
-            KitLine::Port { process, .. } => !self.is_listed(*process),
-            KitLine::PlainHost { process, .. } => !self.is_listed(*process),
-            KitLine::LmsHost { process, .. } => !self.is_listed(*process),
+            KitLine::Port { process, .. }
+            | KitLine::PlainHost { process, .. }
+            | KitLine::LmsHost { process, .. } => !self.is_listed(*process),
             KitLine::Pair { process, other, .. } => {
                 !self.is_listed(*process) || !self.is_listed(*other)
             }
@@ -197,8 +197,9 @@ impl Draft {
     {
         match said {
             KitLine::Key { process, .. } => self.has_genesis() || self.key_above(*process),
-            KitLine::PlainHost { process, .. } => self.host_above(*process),
-            KitLine::LmsHost { process, .. } => self.host_above(*process),
+            KitLine::PlainHost { process, .. } | KitLine::LmsHost { process, .. } => {
+                self.host_above(*process)
+            }
             KitLine::Pair { process, .. } => {
                 !self.is_hosted(*process) && self.host_above(*process)
             }
@@ -245,8 +246,7 @@ impl Draft {
             KitLine::Key { .. } => self.group.is_none(),
             KitLine::Genesis(_) => self.has_no_key(),
             KitLine::Port { process, .. } => !self.has_genesis() || !self.is_next_port(*process),
-            KitLine::PlainHost { .. } => self.is_unfinished(),
-            KitLine::LmsHost { .. } => self.is_unfinished(),
+            KitLine::PlainHost { .. } | KitLine::LmsHost { .. } => self.is_unfinished(),
             KitLine::Pair { process, other, .. } => {
                 self.lacks_port() || !self.is_next_pair(*process, *other)
             }

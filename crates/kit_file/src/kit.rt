@@ -9,11 +9,12 @@ use rp_base::{GroupId, NoMemory, Pid, PidSet, Roster};
 use sha2::{Digest, Sha256};
 use sig_scheme::{AnyScheme, Secret};
 use std::alloc::Global;
+use std::fmt;
 use std::marker::Model;
 
 /// What the processes of a group start with: the public part that all of them know, and the secrets of those that are
 /// hosted here. Contracts see it as the plain kit whose text is its spelling; it is always in a kit's ranges.
-#[derive(Debug, Drop)]
+#[derive(Drop)]
 pub struct Kit {
     parts: Parts,
     digest: [u8; 32],
@@ -92,7 +93,7 @@ impl Kit {
         ensures listed { IsSome result ↔ IsTrue (is_one_of (roster_of self.now.keys) p) }
         ensures value { result ≡ option_map (λ port. port.1) (find (λ port. port.0 == p) self.now.ports) }
     {
-        let _ = &self.parts;
+        let _ = &self.parts; // for the proof: what holds of a kit's parts
         self.find_port(p)
     }
 
@@ -144,7 +145,7 @@ impl Kit {
             ↔ (IsTrue (is_one_of (map (λ host. host.process) self.now.hosts) p) × IsTrue (is_one_of (roster_of self.now.keys) q) × (p ≢ q)) }
         ensures value { option_copied result ≡ option_and_then (λ host. key_of host.pairs q) (find (λ host. host.process == p) self.now.hosts) }
     {
-        let _ = &self.parts;
+        let _ = &self.parts; // for the proof: what holds of a kit's parts
         self.find_pair(p, q)
     }
 
@@ -157,6 +158,17 @@ impl Kit {
             }
         }
         None
+    }
+}
+
+/// Without the secrets and the keys that processes share.
+impl fmt::Debug for Kit {
+    fn fmt<W: fmt::Write>(&self, f: &mut fmt::Formatter<W>) -> fmt::Result {
+        f.debug_struct("Kit")
+            .field("scheme", &self.parts.scheme)
+            .field("group", &self.parts.group)
+            .field("genesis", &self.parts.genesis)
+            .finish_non_exhaustive()
     }
 }
 

@@ -27,7 +27,7 @@ use sig_scheme::{AnyScheme, OtsType, PublicKey};
 use text_codec::{Parts as Words, bytes, number, process};
 
 /// What a line of a kit says.
-#[derive(Clone, Debug, Drop)]
+#[derive(Drop)]
 pub enum KitLine {
     Version,
     SchemeIs(AnyScheme),

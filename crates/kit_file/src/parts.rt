@@ -4,7 +4,7 @@ use sig_scheme::{AnyScheme, Secret};
 use std::marker::Model;
 
 /// What a process that is hosted holds.
-#[derive(Debug, Drop)]
+#[derive(Drop)]
 pub struct Host {
     pub process: Pid,
     pub secret: Secret,
@@ -14,7 +14,7 @@ pub struct Host {
 }
 
 /// What the lines of a kit say. Contracts see it as the plain kit whose text is its spelling.
-#[derive(Debug, Drop)]
+#[derive(Drop)]
 pub struct Parts {
     pub scheme: AnyScheme,
     pub group: GroupId,

@@ -26,7 +26,7 @@ pub enum KitFault {
     },
 
     /// The writer of the text is to blame: a line that says the same thing stands before.
-    #[error("line {line} is a line again")]
+    #[error("line {line} repeats an earlier line")]
     Repeated {
         line: usize,
     },
@@ -38,7 +38,7 @@ pub enum KitFault {
     },
 
     /// The secret and the key line of its process were not made together: who made the kit is to blame.
-    #[error("line {line} has a secret of another key")]
+    #[error("line {line} has a secret whose public key is not the one on its key line")]
     KeyMismatch {
         line: usize,
 
@@ -131,6 +131,9 @@ fn read(alloc: Global, text: &[u8]) -> Result<Kit, KitFault>
 }
 
 /// The kit that the text spells, all of it: the lines of a kit, and none behind them. docs/FORMATS.md has the format.
+///
+/// # Errors
+/// The first fault of the lines in their order; [`KitFault::NoMemory`] where memory for the kit or for one tree is refused.
 pub fn read_kit(alloc: Global, text: &[u8]) -> Result<Kit, KitFault>
     // What is read is a kit, and the text is its spelling.
     ensures found { IfOk result (λ kit. IsKit kit) }

@@ -54,3 +54,14 @@ fn a_kit_of_trees_is_written_as_the_other_program_does(rt: HostRuntime) -> Resul
     assert_eq!(rt; number(&kit.digest()), 0x5a41605d0b0212fc);
     Ok(())
 }
+
+#[test]
+fn a_kit_is_shown_without_its_secrets(rt: HostRuntime) -> Result<(), Fail> {
+    let kit = make_kit(rt.alloc(), 1, 2, KeyPlan::Plain(7), &SEED)?;
+    let shown = format!(in rt.alloc(); "{kit:?}")?;
+    assert_eq!(rt;
+        shown.as_str(),
+        "Kit { scheme: Plain, group: GroupId([131, 3, 202, 77, 129, 217, 122, 254, 214, 147, 27, 213, 57, 29, 126, 176]), genesis: [Pid(0)], .. }"
+    );
+    Ok(())
+}
