@@ -1,6 +1,6 @@
 #!/bin/bash
 # Prints how many megabytes a second `split_frame` reads, over Bundles of 1, 16 and 255 groups, each of a statement of
-# 16 bytes and a signature of 32. The goal is 500. Run it from any folder, with `rt` in the path.
+# 16 bytes and a signature of 32. Run it from any folder, with `rt` in the path.
 cd "$(dirname "$0")/../crates/frame_bench" || exit 1
 rt run >/dev/null 2>&1 || { echo 'frame_bench is not built' >&2; exit 1; }
 while read -r groups times; do
