@@ -5,7 +5,7 @@ use Rattle.std.specs.Int.{Width, w8, w16, w32, byte_len, from_be_bytes, to_be_by
 use Rattle.std.proofs.lemmas.Bool.{cases_lt, ltb-false, le-ltb, eqb-true, eq-eqb}
 use Rattle.std.proofs.lemmas.List.{take_at, drop_at, take-append-drop, length-append, length-take, get_or-drop, get_or-take, get_or_past}
 use Rattle.std.proofs.lemmas.Nat.{be_bytes_2, from_be_bytes-to_be_bytes_2, be_bytes_4, from_be_bytes-to_be_bytes_4}
-use Rattle.byte_defs.specs.Fields.{◌>>=◌, number_at, bytes_at, refuse_if, two, text}
+use Rattle.byte_defs.specs.Fields.{◌>>=◌, number_at, bytes_at, refuse_if, two_bytes, four_bytes, text}
 
 abbrev pub IsBytes : List ℕ → Type 0
 IsBytes bytes = (i : ℕ) → get_or bytes i 0 < 256
@@ -115,16 +115,16 @@ module _ {E : Type 0} (fault : E) where
   pub byte_again : (n : ℕ) (rest : List ℕ) → number_at fault w8 (n ∷ rest) ≡ Ok (n, rest)
   byte_again n rest = let long : ltb (suc (length rest)) 1 ≡ false = le-ltb _ _ (omega arith) in rw long refl
 
-  pub short_takes : (bytes : List ℕ) (n : ℕ) (rest : List ℕ) → IsBytes bytes → number_at fault w16 bytes ≡ Ok (n, rest) → Takes bytes (two n) rest × (n < 65536)
+  pub short_takes : (bytes : List ℕ) (n : ℕ) (rest : List ℕ) → IsBytes bytes → number_at fault w16 bytes ≡ Ok (n, rest) → Takes bytes (two_bytes n) rest × (n < 65536)
   short_takes bytes n rest fits e = number_takes w16 65536 wide16 bytes n rest fits e
 
-  pub short_again : (n : ℕ) (rest : List ℕ) → n < 65536 → number_at fault w16 (two n ++ rest) ≡ Ok (n, rest)
+  pub short_again : (n : ℕ) (rest : List ℕ) → n < 65536 → number_at fault w16 (two_bytes n ++ rest) ≡ Ok (n, rest)
   short_again n rest lt = number_again w16 65536 wide16 n rest lt
 
-  pub long_takes : (bytes : List ℕ) (n : ℕ) (rest : List ℕ) → IsBytes bytes → number_at fault w32 bytes ≡ Ok (n, rest) → Takes bytes (to_be_bytes w32 n) rest × (n < 4294967296)
+  pub long_takes : (bytes : List ℕ) (n : ℕ) (rest : List ℕ) → IsBytes bytes → number_at fault w32 bytes ≡ Ok (n, rest) → Takes bytes (four_bytes n) rest × (n < 4294967296)
   long_takes bytes n rest fits e = number_takes w32 4294967296 wide32 bytes n rest fits e
 
-  pub long_again : (n : ℕ) (rest : List ℕ) → n < 4294967296 → number_at fault w32 (to_be_bytes w32 n ++ rest) ≡ Ok (n, rest)
+  pub long_again : (n : ℕ) (rest : List ℕ) → n < 4294967296 → number_at fault w32 (four_bytes n ++ rest) ≡ Ok (n, rest)
   long_again n rest lt = number_again w32 4294967296 wide32 n rest lt
 
   -- so many bytes

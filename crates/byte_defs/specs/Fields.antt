@@ -1,7 +1,7 @@
 -- Fields of bytes, read from the front. A step of a reading answers what it read and the bytes after it, or the
 -- first fault; the fault of a field that the bytes don't hold is named where the field is read.
 use Rattle.std.specs.Prelude.{Bool, ℕ, List, length, take, drop, ◌++◌, Result, Ok, Err, nat_lt, if◌then◌else◌}
-use Rattle.std.specs.Int.{Width, w16, byte_len, from_be_bytes, to_be_bytes}
+use Rattle.std.specs.Int.{Width, w16, w32, byte_len, from_be_bytes, to_be_bytes}
 
 -- the second step, where the first did not fail
 infixl 10 ◌>>=◌
@@ -23,9 +23,14 @@ bytes_at fault n bytes = if nat_lt (length bytes) n then Err fault else Ok (take
 
 -- ---- how fields are spelled
 
-abbrev pub two : ℕ → List ℕ
-two n = to_be_bytes w16 n
+-- a number in two bytes, the higher one first
+abbrev pub two_bytes : ℕ → List ℕ
+two_bytes n = to_be_bytes w16 n
+
+-- a number in four bytes, the highest one first
+abbrev pub four_bytes : ℕ → List ℕ
+four_bytes n = to_be_bytes w32 n
 
 -- two bytes of length, and that many bytes
 abbrev pub text : List ℕ → List ℕ
-text bytes = two (length bytes) ++ bytes
+text bytes = two_bytes (length bytes) ++ bytes

@@ -1,4 +1,5 @@
 pub mod Choices
+pub mod Members
 pub mod Orders
 pub mod Equality
 pub mod Fields

@@ -6,13 +6,13 @@ use Rattle.std.specs.Fmt.{decimal}
 use Rattle.std.proofs.lemmas.Fmt.{decimal_digit}
 use Rattle.std.proofs.lemmas.Bool.{and_parts, eqb-true}
 use Rattle.byte_defs.specs.Equality.{same_bytes}
+use Rattle.byte_defs.specs.Choices.{and_then}
 use Rattle.signature_defs.specs.declared.OtsType.{OtsType}
 use Rattle.signature_defs.specs.LmOts.{ots_type_of, ots_typecode}
 use Rattle.signature_defs.proofs.OtsLaws.{typecode_of_type, typecode_range}
 use Rattle.text_defs.specs.declared.KeyPlan.{KeyPlan}
 use Rattle.text_defs.specs.declared.KeyPlan.TheVariants.{Plain, Lms}
 use Rattle.text_defs.specs.Words.{number_within}
-use Rattle.text_defs.specs.KitReading.{and_then}
 use Rattle.text_defs.proofs.Choosing.{if_some, map_some, or_some, some_is, then_some}
 use Rattle.text_defs.proofs.LineSpelled.{kind_spelled}
 use Rattle.text_defs.proofs.Numbers.{number_within_found, number_within_spelled}

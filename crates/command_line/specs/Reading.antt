@@ -2,11 +2,11 @@
 use Rattle.std.specs.Prelude.{ℕ, ◌^◌, ◌-◌, ◌==◌, ◌&&◌, if◌then◌else◌, List, [], ◌∷◌, length, take, drop, slice_index, Option, Some, None, option_map, option_and_then, codes}
 use Rattle.std.specs.Option.{option_or}
 use Rattle.byte_defs.specs.Equality.{same_bytes}
+use Rattle.byte_defs.specs.Choices.{and_then}
 use Rattle.signature_defs.specs.LmOts.{ots_type_of}
 use Rattle.text_defs.specs.declared.KeyPlan.{KeyPlan}
 use Rattle.text_defs.specs.declared.KeyPlan.TheVariants.{Plain, Lms}
 use Rattle.text_defs.specs.Words.{number_within, bytes_of}
-use Rattle.text_defs.specs.KitReading.{and_then}
 use Rattle.command_line.specs.Commands.{Order, Command, Replay, Keygen}
 
 -- what stands behind this front

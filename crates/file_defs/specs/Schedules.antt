@@ -10,9 +10,10 @@
 -- the roster, at most 1,000,000 events, each at a correct process, and nothing behind the last event.
 use Rattle.std.specs.Prelude.{◌≡◌, ◌≢◌, ℕ, zero, suc, ◌+◌, ◌<◌, ◌≤◌, ◌^◌, Bool, true, false, ◌&&◌, ◌||◌, not, nat_lt, nat_le, ◌==◌, IsTrue, List, [], ◌∷◌, ◌++◌, length, take, map, AllPairs, Result, Ok, Err, codes, if◌then◌else◌}
 use Rattle.std.specs.List.{list_any, flat_map, AllByRecursion}
-use Rattle.std.specs.Int.{w8, w16, w32, to_be_bytes}
+use Rattle.std.specs.Int.{w8, w16, w32}
 use Rattle.byte_defs.specs.Equality.{same_bytes}
-use Rattle.byte_defs.specs.Fields.{◌>>=◌, refuse_if, number_at, bytes_at, two, text}
+use Rattle.byte_defs.specs.Fields.{◌>>=◌, refuse_if, number_at, bytes_at, two_bytes, four_bytes, text}
+use Rattle.byte_defs.specs.Members.{has}
 use Rattle.file_defs.specs.declared.ScheduleFault.{ScheduleFault}
 use Rattle.file_defs.specs.declared.ScheduleFault.TheVariants as faults
 
@@ -46,22 +47,15 @@ is_listed ls p = list_any (λ l. l.process == p) ls
 abbrev pub is_correct : List Listed → ℕ → Bool
 is_correct ls p = list_any (λ l. (l.process == p) && not l.corrupt) ls
 
--- one of these numbers is this one
-abbrev pub is_among : List ℕ → ℕ → Bool
-is_among ps p = list_any (λ q. q == p) ps
-
 -- ---- the spelling
 
-abbrev pub four : ℕ → List ℕ
-four n = to_be_bytes w32 n
-
 abbrev pub listed_bytes : Listed → List ℕ
-listed_bytes l = l.process ∷ (if l.corrupt then 1 else 0) ∷ (l.key ++ four l.total)
+listed_bytes l = l.process ∷ (if l.corrupt then 1 else 0) ∷ (l.key ++ four_bytes l.total)
 
 abbrev pub event_bytes : ScheduleEvent → List ℕ
 event_bytes (Submit at payload) = 1 ∷ at ∷ text payload
 event_bytes (Raw to from bytes) = 2 ∷ to ∷ from ∷ text bytes
-event_bytes (Pass frame to) = 3 ∷ (four frame ++ to ∷ [])
+event_bytes (Pass frame to) = 3 ∷ (four_bytes frame ++ to ∷ [])
 
 abbrev pub schedule_bytes : Schedule → List ℕ
 schedule_bytes s =
@@ -154,7 +148,7 @@ unfoldable pub member_at : (ℕ → Bool) → List ℕ → List ℕ → Step ℕ
 member_at listed before bytes = do
   m ← process_at faults.Roster bytes
   _ ← refuse_if (not (listed m.0)) faults.Roster
-  _ ← refuse_if (is_among before m.0) faults.Roster
+  _ ← refuse_if (has before m.0) faults.Roster
   Ok (m.0, m.1)
 
 -- those before, and so many more members

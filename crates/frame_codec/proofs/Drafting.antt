@@ -6,7 +6,7 @@ use Rattle.std.proofs.Math.Bool.{and-false}
 use Rattle.std.proofs.Math.Seq.{set-append_seam, get_or-append_seam}
 use Rattle.std.proofs.lemmas.Bool.{ltb-true, le-leb, lt-leb, eqb-true, eqb-false}
 use Rattle.std.proofs.lemmas.List.{append-nil, take_at, drop_at, length-append, length-set, map-append, flat_map_more}
-use Rattle.byte_defs.specs.Fields.{two, text}
+use Rattle.byte_defs.specs.Fields.{two_bytes, text}
 use Rattle.byte_defs.specs.Choices.{is_some_and}
 use Rattle.byte_defs.specs.Equality.{same_bytes}
 use Rattle.message_defs.specs.Frames.{Group, FrameView, Bundle, Proof, signature_bytes, group_bytes, groups_bytes, frame_bytes, AreSignatures, IsGroup, AreGroups, HasParts, IsFrame, groups_at, frame_of}
@@ -72,7 +72,7 @@ whole-last kind before g =
     ∙ ap (λ (t : List ℕ). 1 ∷ kind ∷ (length before + 1) ∷ t) (flat_map-last group_bytes before g ∙ sym (append_assoc (flat_map group_bytes before) (text g.statement) (length g.signatures ∷ flat_map signature_bytes g.signatures)))
 
 length-front : (kind count : ℕ) (before : List Group) (statement : List ℕ) → length (front kind count before statement) ≡ 5 + length (flat_map group_bytes before) + length statement
-length-front kind count before statement = omega (arith, length-append (flat_map group_bytes before) (text statement), length-append (two (length statement)) statement)
+length-front kind count before statement = omega (arith, length-append (flat_map group_bytes before) (text statement), length-append (two_bytes (length statement)) statement)
 
 -- what the bytes show of the last group
 record Shows (bytes : List ℕ) (last : Last) (g : Group) : Type 0 where
@@ -130,19 +130,19 @@ test bytes c last = same_bytes (slice_range bytes last.statement_at last.count_a
 abbrev last_group : (gs : List Group) (last : Last) → IsLast gs last → Group
 last_group gs last l = record { statement = l.statement; signatures = l.earlier ++ (last.signer, l.signature) ∷ [] }
 
-length-head : (kind count : ℕ) (before : List Group) (statement : List ℕ) → length (1 ∷ kind ∷ count ∷ (flat_map group_bytes before ++ two (length statement))) ≡ 5 + length (flat_map group_bytes before)
-length-head kind count before statement = omega (arith, length-append (flat_map group_bytes before) (two (length statement)))
+length-head : (kind count : ℕ) (before : List Group) (statement : List ℕ) → length (1 ∷ kind ∷ count ∷ (flat_map group_bytes before ++ two_bytes (length statement))) ≡ 5 + length (flat_map group_bytes before)
+length-head kind count before statement = omega (arith, length-append (flat_map group_bytes before) (two_bytes (length statement)))
 
 -- where the last group stands, the bytes show it
 holds-shows : (kind room capacity : ℕ) (bytes : List ℕ) (last : Last) (gs : List Group) (h : Holds kind room capacity bytes (Some last) gs) → Shows bytes last (last_group gs last h.ends)
 holds-shows kind room capacity bytes last gs h =
     let l : IsLast gs last = h.ends in
     let g : Group = last_group gs last l in
-    let first : List ℕ = 1 ∷ kind ∷ (length l.before + 1) ∷ (flat_map group_bytes l.before ++ two (length l.statement)) in
+    let first : List ℕ = 1 ∷ kind ∷ (length l.before + 1) ∷ (flat_map group_bytes l.before ++ two_bytes (length l.statement)) in
     let after : List ℕ = flat_map signature_bytes g.signatures in
     let split : bytes ≡ first ++ (l.statement ++ length g.signatures ∷ after) =
     h.spelled ∙ ap (whole kind) l.parts ∙ whole-last kind l.before g
-    ∙ ap (λ (t : List ℕ). 1 ∷ kind ∷ (length l.before + 1) ∷ (t ++ length g.signatures ∷ after)) (sym (append_assoc (flat_map group_bytes l.before) (two (length l.statement)) l.statement))
+    ∙ ap (λ (t : List ℕ). 1 ∷ kind ∷ (length l.before + 1) ∷ (t ++ length g.signatures ∷ after)) (sym (append_assoc (flat_map group_bytes l.before) (two_bytes (length l.statement)) l.statement))
     ∙ append_assoc first l.statement (length g.signatures ∷ after) in
     let place : last.statement_at ≡ length first = l.statement_at ∙ sym (length-head kind (length l.before + 1) l.before l.statement) in
     subst (λ (t : List ℕ). Shows t last g) (sym split) (shows first l.statement after (length g.signatures) last g place l.count_at refl refl)
@@ -267,7 +267,7 @@ not_chosen (Some m) p e = stays (p m) e
     stays false e = refl
 
 length-text : (t : List ℕ) → length (text t) ≡ 2 + length t
-length-text t = length-append (two (length t)) t
+length-text t = length-append (two_bytes (length t)) t
 
 length-single : (c : Signed) → length (group_bytes (group_of c)) ≡ 6 + length c.statement + length c.signature
 length-single c = length-append (text c.statement) (1 ∷ signature_bytes (c.signer, c.signature) ++ []) ∙ omega (arith, length-text c.statement, length-append (signature_bytes (c.signer, c.signature)) [], length-text c.signature)

@@ -8,7 +8,7 @@ use Rattle.std.proofs.lemmas.List.{append-nil, nil_from_length}
 use Rattle.std.proofs.lemmas.List.Concat.{flat_map-cons}
 use Rattle.message_defs.specs.declared.FrameFault.{FrameFault}
 use Rattle.message_defs.specs.declared.FrameFault.TheVariants as faults
-use Rattle.byte_defs.specs.Fields.{◌>>=◌, number_at, bytes_at, refuse_if, two, text}
+use Rattle.byte_defs.specs.Fields.{◌>>=◌, number_at, bytes_at, refuse_if, two_bytes, text}
 use Rattle.byte_defs.specs.Reads.{Gives}
 use Rattle.byte_defs.proofs.Fields.{IsBytes, bind_ok, refuse_ok, ok_is, Takes, Takes-then, byte_takes, byte_again, short_takes, short_again, bytes_takes, bytes_again, is_some, not_zero, not_false}
 use Rattle.message_defs.specs.Frames.{Group, FrameView, Bundle, Proof, Want, signature_bytes, group_bytes, groups_bytes, frame_bytes, AreSignatures, IsGroup, AreGroups, HasParts, IsFrame, signature_at, signatures_at, group_at, groups_at, all_groups, want_at, groups_as, frame_of}
@@ -38,7 +38,7 @@ signature_takes least bytes x fits e =
     let t0 = byte_takes faults.Short bytes a.0.0 a.0.1 fits a.1 in
     let t1 = short_takes faults.Short a.0.1 b.0.0 b.0.1 t0.0.rest_fits b.1 in
     let t2 = bytes_takes faults.Length b.0.0 b.0.1 c.0.0 c.0.1 t1.0.rest_fits c.1 in
-    let spelled : Takes a.0.1 (text c.0.0) c.0.1 = rw t2.1 (Takes-then a.0.1 (two b.0.0) b.0.1 c.0.0 c.0.1 t1.0 t2.0) in
+    let spelled : Takes a.0.1 (text c.0.0) c.0.1 = rw t2.1 (Takes-then a.0.1 (two_bytes b.0.0) b.0.1 c.0.0 c.0.1 t1.0 t2.0) in
     let whole = Takes-then bytes (a.0.0 ∷ []) a.0.1 (text c.0.0) c.0.1 t0.0 spelled in
     let made : (ℕ × List ℕ) × List ℕ = ((a.0.0, c.0.0), c.0.1) in
     let low : least ≤ a.0.0 = ltb-false _ _ g.0 in
@@ -50,8 +50,8 @@ unfolding signature_at
 signature_again least s rest fits =
     let ordered : ltb s.0 least ≡ false = le-ltb _ _ fits.0 in
     let short : ltb 16384 (length s.1) ≡ false = le-ltb _ _ fits.2 in
-    ap (λ (t : List ℕ). signature_at least (s.0 ∷ t)) (append_assoc (two (length s.1)) s.1 rest)
-    ∙ rw (byte_again faults.Short s.0 (two (length s.1) ++ (s.1 ++ rest)), ordered, short_again faults.Short (length s.1) (s.1 ++ rest) (omega (arith, fits.2)), short, bytes_again faults.Length s.1 rest) refl
+    ap (λ (t : List ℕ). signature_at least (s.0 ∷ t)) (append_assoc (two_bytes (length s.1)) s.1 rest)
+    ∙ rw (byte_again faults.Short s.0 (two_bytes (length s.1) ++ (s.1 ++ rest)), ordered, short_again faults.Short (length s.1) (s.1 ++ rest) (omega (arith, fits.2)), short, bytes_again faults.Length s.1 rest) refl
 
 -- ---- signatures
 
@@ -101,7 +101,7 @@ group_takes bytes x fits e =
     let t1 = bytes_takes faults.Length a.0.0 a.0.1 b.0.0 b.0.1 t0.0.rest_fits b.1 in
     let t2 = byte_takes faults.Short b.0.1 c.0.0 c.0.1 t1.0.rest_fits c.1 in
     let t3 = signatures_take c.0.0 0 c.0.1 d.0 t2.0.rest_fits d.1 in
-    let statement : Takes bytes (text b.0.0) b.0.1 = rw t1.1 (Takes-then bytes (two a.0.0) a.0.1 b.0.0 b.0.1 t0.0 t1.0) in
+    let statement : Takes bytes (text b.0.0) b.0.1 = rw t1.1 (Takes-then bytes (two_bytes a.0.0) a.0.1 b.0.0 b.0.1 t0.0 t1.0) in
     let sigs : Takes b.0.1 (length d.0.0 ∷ flat_map signature_bytes d.0.0) d.0.1 = rw t3.1 (Takes-then b.0.1 (c.0.0 ∷ []) c.0.1 (flat_map signature_bytes d.0.0) d.0.1 t2.0 t3.0) in
     let whole = Takes-then bytes (text b.0.0) b.0.1 (length d.0.0 ∷ flat_map signature_bytes d.0.0) d.0.1 statement sigs in
     let made : Group × List ℕ = (record { statement = b.0.0; signatures = d.0.0 }, d.0.1) in
@@ -112,9 +112,9 @@ group_again : (g : Group) (rest : List ℕ) → IsGroup g → group_at (group_by
 unfolding group_at
 group_again g rest fits =
     let after : List ℕ = flat_map signature_bytes g.signatures ++ rest in
-    let regrouped : group_bytes g ++ rest ≡ two (length g.statement) ++ (g.statement ++ (length g.signatures ∷ after)) =
+    let regrouped : group_bytes g ++ rest ≡ two_bytes (length g.statement) ++ (g.statement ++ (length g.signatures ∷ after)) =
     append_assoc (text g.statement) (length g.signatures ∷ flat_map signature_bytes g.signatures) rest
-    ∙ append_assoc (two (length g.statement)) g.statement (length g.signatures ∷ after) in
+    ∙ append_assoc (two_bytes (length g.statement)) g.statement (length g.signatures ∷ after) in
     let some : eqb (length g.signatures) 0 ≡ false = is_some (length g.signatures) fits.some in
     let few : ltb 16 (length g.signatures) ≡ false = le-ltb _ _ fits.few in
     ap group_at regrouped ∙ rw (short_again faults.Short (length g.statement) (g.statement ++ (length g.signatures ∷ after)) fits.statement, bytes_again faults.Length g.statement (length g.signatures ∷ after), byte_again faults.Short (length g.signatures) after, some, few, signatures_again 0 g.signatures rest fits.signatures) refl
@@ -175,17 +175,17 @@ want_takes bytes f fits e =
     let h = refuse_ok (not (eqb (length b.0.1) 0)) faults.Trailing (λ _. Ok (Want a.0.0 b.0.0)) f b.2 in
     let t0 = short_takes faults.Short bytes a.0.0 a.0.1 fits a.1 in
     let t1 = short_takes faults.Short a.0.1 b.0.0 b.0.1 t0.0.rest_fits b.1 in
-    let whole = (Takes-then bytes (two a.0.0) a.0.1 (two b.0.0) b.0.1 t0.0 t1.0).parts in
+    let whole = (Takes-then bytes (two_bytes a.0.0) a.0.1 (two_bytes b.0.0) b.0.1 t0.0 t1.0).parts in
     let nothing : b.0.1 ≡ [] = nil_from_length b.0.1 (eqb-true _ _ (not_false _ h.0)) in
-    let spelled : bytes ≡ two a.0.0 ++ two b.0.0 = whole ∙ ap (λ (r : List ℕ). (two a.0.0 ++ two b.0.0) ++ r) nothing ∙ append-nil _ in
+    let spelled : bytes ≡ two_bytes a.0.0 ++ two_bytes b.0.0 = whole ∙ ap (λ (r : List ℕ). (two_bytes a.0.0 ++ two_bytes b.0.0) ++ r) nothing ∙ append-nil _ in
     subst (λ (v : FrameView). HasParts v × (1 ∷ 3 ∷ bytes ≡ frame_bytes v)) {x = (Want a.0.0 b.0.0)} {y = f} (ok_is (Want a.0.0 b.0.0) f h.1) ((t0.1, t1.1), ap (λ (t : List ℕ). 1 ∷ 3 ∷ t) spelled)
 
-want_reads : (x k : ℕ) (place : List ℕ) → x < 65536 → number_at faults.Short w16 place ≡ Ok (k, []) → want_at (two x ++ place) ≡ Ok (Want x k)
+want_reads : (x k : ℕ) (place : List ℕ) → x < 65536 → number_at faults.Short w16 place ≡ Ok (k, []) → want_at (two_bytes x ++ place) ≡ Ok (Want x k)
 unfolding want_at
 want_reads x k place lt read = rw (short_again faults.Short x place lt, read) refl
 
-want_again : (x k : ℕ) → x < 65536 → k < 65536 → want_at (two x ++ two k) ≡ Ok (Want x k)
-want_again x k view place = want_reads x k (two k) view (short_again faults.Short k [] place)
+want_again : (x k : ℕ) → x < 65536 → k < 65536 → want_at (two_bytes x ++ two_bytes k) ≡ Ok (Want x k)
+want_again x k view place = want_reads x k (two_bytes k) view (short_again faults.Short k [] place)
 
 -- ---- the whole frame
 

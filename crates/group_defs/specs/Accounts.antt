@@ -3,7 +3,8 @@ use Rattle.std.specs.Prelude.{◌≡◌, ◌≢◌, ℕ, ◌+◌, ◌<◌, ◌�
 use Rattle.std.specs.List.{list_any, list_all, range_with_len}
 use lib.Pointwise.{pointwise}
 use Rattle.byte_defs.specs.Equality.{is_yes, bytes_discrete}
-use Rattle.group_defs.specs.Views.{View, View-discrete, has, is_member, faulty, next_view, is_possible}
+use Rattle.byte_defs.specs.Members.{has}
+use Rattle.group_defs.specs.Views.{View, View-discrete, is_member, faulty, next_view, is_possible}
 use Rattle.message_defs.specs.Updates.{Update}
 use Rattle.group_defs.specs.Process.{Delivered, Delivered-discrete, Process, views_of, deliveries_of}
 

@@ -4,7 +4,8 @@ use Rattle.std.specs.List.{enumerate_from}
 use Rattle.std.specs.Option.{option_map_or}
 use Rattle.byte_defs.specs.Choices.{first_that_holds}
 use Rattle.byte_defs.specs.Orders.{put}
-use Rattle.group_defs.specs.Views.{View, UpdateFault, has, is_member, next_fault}
+use Rattle.byte_defs.specs.Members.{has}
+use Rattle.group_defs.specs.Views.{View, UpdateFault, is_member, next_fault}
 use Rattle.message_defs.specs.Updates.{Update, Remove, Add, Renew, update_numbers}
 use Rattle.message_defs.specs.Statements.{Claim}
 use Rattle.message_defs.specs.Claims.{Frame, Claims, Wants, Faulty}

@@ -2,7 +2,7 @@
 use Rattle.std.specs.Prelude.{◌≡◌, ◌≢◌, ◌⊎◌, ℕ, ◌+◌, ◌<◌, ◌≤◌, Bool, false, not, ◌&&◌, ◌||◌, ◌==◌, List, [], ◌∷◌, ◌++◌, length, count_by, is_some, IsTrue, IsFalse, All, AllPairs, Contains, Option, Some, None, slice_get}
 use Rattle.std.specs.List.{list_any, list_all, AllZip}
 use Rattle.std.specs.List.Sorted.{IsStrictlyIncreasing}
-use Rattle.group_defs.specs.Views.{View, is_member, faulty, quorum}
+use Rattle.group_defs.specs.Views.{View, IsView, is_member, faulty, quorum}
 use Rattle.message_defs.specs.Updates.{Value}
 use Rattle.message_defs.specs.Statements.{Message, Statement, Keep, End, Last, Ack, Ready, Claim, Conflicts, slot_of, view_of, message_of, same_statement}
 use Rattle.group_defs.specs.Process.{Setting, Pool, Delivered, Process, keyed, views_of, start}
@@ -113,12 +113,6 @@ DeputyChooses = (s : Setting) (h : Pool) (r : ℕ) (v : Value) → IsTrue (is_ju
 abbrev pub QuorumsMeet : Type 0
 QuorumsMeet = (members : List ℕ) (p q : ℕ → Bool) → 1 ≤ length members → quorum (length members) ≤ count_by p members → quorum (length members) ≤ count_by q members
     → faulty (length members) < count_by (λ m. p m && q m) members
-
--- 1 to 16 members, each once
-pub record IsView (v : View) : Type 0 where
-  pub some : 1 ≤ length v.members
-  pub few : length v.members ≤ 16
-  pub distinct : AllPairs (λ m n. m ≢ n) v.members
 
 pub record Premises (f : Family) : Type 0 where
   pub genesis : IsView f.setting.genesis

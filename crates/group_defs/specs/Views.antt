@@ -1,9 +1,9 @@
 -- Views, and the view that follows one.
-use Rattle.std.specs.Prelude.{ℕ, ◌+◌, ◌-◌, ◌/◌, Bool, true, ◌&&◌, not, ◌==◌, List, [], ◌∷◌, ◌++◌, length, filter, position, Option, Some, None, is_none, Result, Ok, Err}
-use Rattle.std.specs.List.{list_any}
+use Rattle.std.specs.Prelude.{◌≢◌, ℕ, ◌+◌, ◌-◌, ◌/◌, ◌≤◌, Bool, true, ◌&&◌, not, ◌==◌, List, [], ◌∷◌, ◌++◌, length, filter, AllPairs, position, Option, Some, None, is_none, Result, Ok, Err}
 use native.Mathlib.Decide.{ℕ_discrete}
 use Rattle.byte_defs.specs.Choices.{first_that_holds}
 use Rattle.byte_defs.specs.Equality.{both, bytes_discrete}
+use Rattle.byte_defs.specs.Members.{has}
 use Rattle.message_defs.specs.Updates.{Update, Remove, Add, Renew}
 
 pub record View : Type 0 where
@@ -14,15 +14,18 @@ pub record View : Type 0 where
 unfoldable pub View-discrete : Discrete View
 View-discrete v w = both (λ x m. λ i. record { number = x i; members = m i }) (λ e. λ i. (e i).number) (λ e. λ i. (e i).members) (ℕ_discrete v.number w.number) (bytes_discrete v.members w.members)
 
+-- a view has 1 to 16 members, each once
+pub record IsView (v : View) : Type 0 where
+  pub some : 1 ≤ length v.members
+  pub few : length v.members ≤ 16
+  pub distinct : AllPairs (λ m n. m ≢ n) v.members
+
 -- how many of n members may be corrupt, and how many make a quorum
 abbrev pub faulty : ℕ → ℕ
 faulty n = (n - 1) / 3
 
 abbrev pub quorum : ℕ → ℕ
 quorum n = n - faulty n
-
-abbrev pub has : List ℕ → ℕ → Bool
-has ps p = list_any (λ q. q == p) ps
 
 abbrev pub is_member : View → ℕ → Bool
 is_member v p = has v.members p

@@ -3,11 +3,12 @@ use Rattle.std.proofs.Common.{◌≡◌, ℕ, zero, suc, ◌+◌, ◌<◌, List,
 use Rattle.std.specs.Prelude.{◌&&◌, ◌==◌, not, nat_lt, nat_le, slice_index}
 use Rattle.std.specs.List.Sorted.{IsStrictlyIncreasing}
 use Rattle.std.proofs.lemmas.Bool.{eqb-true, leb-true, ltb-true}
-use Rattle.group_defs.specs.Views.{has}
+use Rattle.byte_defs.specs.Members.{has}
+use Rattle.group_defs.specs.Views.{IsView}
 use Rattle.group_defs.specs.Accounts.{Bounded, bounded, Agree, agree, Sound, sound}
 use Rattle.group_defs.specs.Family.{Family, ends, accounts, numbers, Honest, honest}
 use Rattle.group_defs.specs.Process.{keyed}
-use Rattle.group_defs.specs.Laws.{IsView, Premises}
+use Rattle.group_defs.specs.Laws.{Premises}
 use Rattle.safety_laws.proofs.Tests.{and-first, and-second}
 use Rattle.safety_laws.proofs.Installed.{Distinct, distinct-pairs, has-mem}
 use Rattle.safety_laws.proofs.Tested.{bounded_is_tested, honest_is_tested}

@@ -8,11 +8,12 @@ use Rattle.std.proofs.lemmas.List.Elements.{All-from_recursion}
 use Rattle.std.proofs.lemmas.List.Quantifiers.{all_pairs_push}
 use Rattle.byte_defs.specs.Fields.{◌>>=◌}
 use Rattle.byte_defs.proofs.Fields.{bind_ok, ok_is}
+use Rattle.byte_defs.specs.Members.{has}
 use Rattle.secret_defs.specs.Schemes.{Scheme}
 use Rattle.secret_defs.specs.Schemes as schemes
 use Rattle.secret_defs.specs.Secrets.{Secret, Plain, Lms, scheme_of}
 use Rattle.text_defs.specs.Words.{begin_with}
-use Rattle.text_defs.specs.Kits.{Host, KitLine, Version, SchemeIs, GroupIs, Key, Genesis, Port, PlainHost, LmsHost, Pair, is_one_of, key_length, key_of, line_words, roster_of, secret_line}
+use Rattle.text_defs.specs.Kits.{Host, KitLine, Version, SchemeIs, GroupIs, Key, Genesis, Port, PlainHost, LmsHost, Pair, key_length, key_of, line_words, roster_of, secret_line}
 use Rattle.text_defs.specs.KitReading.{Draft, KitFault, has_genesis, host_above, host_stands, is_early, is_late, is_outside, is_repeated, lacks_port, line_by, listed_key, matching, may_be_lms, may_be_plain, next_pair, next_port, with_host, with_line, with_pair}
 use Rattle.text_defs.proofs.Lists.{each_fails, each_push, each_weaker, each_with}
 use Rattle.text_defs.proofs.Choosing.{none_some, some_is}
@@ -54,13 +55,13 @@ no_key o k none is = none_some (length k.1) (sym (ap (option_map key_length) non
 
 -- ---- keys
 
-listed_size : (o : Option Scheme) (keys : List (ℕ × List ℕ)) (p : ℕ) → AllByRecursion (IsKeyIn o) keys → is_one_of (roster_of keys) p ≡ true → Some (length (unwrap_or (key_of keys p) [])) ≡ option_map key_length o
+listed_size : (o : Option Scheme) (keys : List (ℕ × List ℕ)) (p : ℕ) → AllByRecursion (IsKeyIn o) keys → has (roster_of keys) p ≡ true → Some (length (unwrap_or (key_of keys p) [])) ≡ option_map key_length o
 listed_size o [] p each e = absurd (true≢false (sym e))
 listed_size o (k ∷ keys) p each e = by (k.0 == p) refl (listed_size o keys p each.1)
   where
-    by : (b : Bool) → (k.0 == p) ≡ b → (is_one_of (roster_of keys) p ≡ true → Some (length (unwrap_or (key_of keys p) [])) ≡ option_map key_length o) → Some (length (unwrap_or (key_of (k ∷ keys) p) [])) ≡ option_map key_length o
+    by : (b : Bool) → (k.0 == p) ≡ b → (has (roster_of keys) p ≡ true → Some (length (unwrap_or (key_of keys p) [])) ≡ option_map key_length o) → Some (length (unwrap_or (key_of (k ∷ keys) p) [])) ≡ option_map key_length o
     by true is later = rw is each.0.1
-    by false is later = rw is (later (sym (ap (λ t. t || is_one_of (roster_of keys) p) is) ∙ e))
+    by false is later = rw is (later (sym (ap (λ t. t || has (roster_of keys) p) is) ∙ e))
 
 plain_size : (o : Option Scheme) (n : ℕ) → may_be_plain o ≡ true → Some n ≡ option_map key_length o → n ≡ 32
 plain_size None n may is = none_some n (sym is)
@@ -126,13 +127,13 @@ with_host_is d p s ok small low =
 -- ---- the lines
 
 -- what the tests of a host line say
-listed : (d : Draft) (p : ℕ) → (has_genesis d && (not (is_one_of (roster_of d.keys) p) || false)) ≡ false → (lacks_port d || is_some (next_pair d)) ≡ false → is_one_of (roster_of d.keys) p ≡ true
+listed : (d : Draft) (p : ℕ) → (has_genesis d && (not (has (roster_of d.keys) p) || false)) ≡ false → (lacks_port d || is_some (next_pair d)) ≡ false → has (roster_of d.keys) p ≡ true
 listed d p inside due =
     let lacks = or_parts (lacks_port d) (is_some (next_pair d)) due in
     let no_genesis = or_parts (not (has_genesis d)) (is_some (next_port d)) lacks.0 in
     let stands : has_genesis d ≡ true = not-false _ no_genesis.0 in
-    let outside : (not (is_one_of (roster_of d.keys) p) || false) ≡ false = sym (ap (λ b. b && (not (is_one_of (roster_of d.keys) p) || false)) stands) ∙ inside in
-    not-false _ (or_parts (not (is_one_of (roster_of d.keys) p)) false outside).0
+    let outside : (not (has (roster_of d.keys) p) || false) ≡ false = sym (ap (λ b. b && (not (has (roster_of d.keys) p) || false)) stands) ∙ inside in
+    not-false _ (or_parts (not (has (roster_of d.keys) p)) false outside).0
 
 module _ (n : ℕ) (d : Draft) (ok : IsDraft d) where
   scheme_can : (s : Scheme) → IsFresh d (line_words (SchemeIs s)) → CanAdd n d (SchemeIs s)

@@ -3,11 +3,12 @@ use Rattle.std.proofs.Common.{◌≡◌, ◌≢◌, ℕ, zero, suc, ◌+◌, ◌
 use Rattle.std.specs.List.{AllByRecursion, list_any, range_with_len}
 use Rattle.std.proofs.lemmas.Bool.{eqb-false, eqb-true}
 use Rattle.std.proofs.lemmas.List.FromFn.{length-range_with_len, get_or-range_with_len}
+use Rattle.byte_defs.specs.Members.{has}
 use Rattle.secret_defs.specs.Secrets.{scheme_of, public_key_of, height_of}
 use Rattle.text_defs.specs.declared.KeyPlan.{KeyPlan}
 use Rattle.text_defs.specs.declared.KeyPlan.TheVariants as plans
 use Rattle.text_defs.specs.Words.{AreBytes}
-use Rattle.text_defs.specs.Kits.{AreHosts, AreKeys, IsHost, IsKit, IsSecret, is_one_of, key_length, others_than, roster_of}
+use Rattle.text_defs.specs.Kits.{AreHosts, AreKeys, IsHost, IsKit, IsSecret, key_length, others_than, roster_of}
 use Rattle.text_defs.specs.KitMaking.{IsPlan, derive, derived_pair, derived_secret, first_numbers, made_host, made_kit, planned_scheme}
 use Rattle.kit_file.proofs.Bytes.{hash_is, half_is, tree_key_is}
 
@@ -105,9 +106,9 @@ module _ (plan : KeyPlan) (seed : List ℕ) (roster : ℕ) (is : IsPlan plan) wh
     hosts = hosts_are 0 roster (omega arith);
   }
     where
-      listed_are : (a n : ℕ) → a + n ≤ roster → AllByRecursion (λ m. IsTrue (is_one_of (roster_of keys) m)) (range_with_len a n)
+      listed_are : (a n : ℕ) → a + n ≤ roster → AllByRecursion (λ m. IsTrue (has (roster_of keys) m)) (range_with_len a n)
       listed_are a zero low = tt
       listed_are a (suc n) low = (true_is a (omega arith), listed_are (a + 1) n (omega arith))
         where
-          true_is : (m : ℕ) → m < roster → IsTrue (is_one_of (roster_of keys) m)
-          true_is m below = subst IsTrue (sym (ap (λ ps. is_one_of ps m) (firsts_are public (first_numbers roster)) ∙ is_among m 0 roster (omega arith) (omega arith))) refl
+          true_is : (m : ℕ) → m < roster → IsTrue (has (roster_of keys) m)
+          true_is m below = subst IsTrue (sym (ap (λ ps. has ps m) (firsts_are public (first_numbers roster)) ∙ is_among m 0 roster (omega arith) (omega arith))) refl

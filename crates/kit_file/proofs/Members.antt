@@ -2,11 +2,12 @@
 use Rattle.std.proofs.Common.{◌≡◌, ℕ, ◌<◌, ◌≤◌, ◌&&◌, Bool, true, false, List, [], ◌∷◌, ◌++◌, length, Option, Some, None, option_map, refl, sym, ap, ◌∙◌}
 use Rattle.std.specs.Prelude.{if◌then◌else◌, nat_le}
 use Rattle.std.proofs.lemmas.Bool.{le-leb, lt-leb}
+use Rattle.byte_defs.specs.Members.{has}
 use Rattle.text_defs.specs.Words.{process_of}
-use Rattle.text_defs.specs.Kits.{KitLine, Genesis, is_one_of}
+use Rattle.text_defs.specs.Kits.{KitLine, Genesis}
 use Rattle.text_defs.specs.KitReading.{members_by, genesis_by}
 
-pub one_more : (before : List ℕ) (left : List (List ℕ)) (word : List ℕ) (words : List (List ℕ)) (p : ℕ) (all : Option (List ℕ)) → left ≡ word ∷ words → process_of word ≡ Some p → is_one_of before p ≡ false → members_by before left ≡ all → members_by (before ++ p ∷ []) words ≡ all
+pub one_more : (before : List ℕ) (left : List (List ℕ)) (word : List ℕ) (words : List (List ℕ)) (p : ℕ) (all : Option (List ℕ)) → left ≡ word ∷ words → process_of word ≡ Some p → has before p ≡ false → members_by before left ≡ all → members_by (before ++ p ∷ []) words ≡ all
 unfolding members_by
 one_more before left word words p all parts names new so_far = sym (ap (members_by before) parts ∙ rw (names, new) refl) ∙ so_far
 
@@ -22,7 +23,7 @@ pub names_none : (before : List ℕ) (left : List (List ℕ)) (word : List ℕ) 
 unfolding members_by
 names_none before left word words all parts names so_far = no_members all (sym so_far ∙ ap (members_by before) parts ∙ rw names refl)
 
-pub names_again : (before : List ℕ) (left : List (List ℕ)) (word : List ℕ) (words : List (List ℕ)) (p : ℕ) (all : List (List ℕ)) → left ≡ word ∷ words → process_of word ≡ Some p → is_one_of before p ≡ true → members_by before left ≡ members_by [] all → genesis_by all ≡ None
+pub names_again : (before : List ℕ) (left : List (List ℕ)) (word : List ℕ) (words : List (List ℕ)) (p : ℕ) (all : List (List ℕ)) → left ≡ word ∷ words → process_of word ≡ Some p → has before p ≡ true → members_by before left ≡ members_by [] all → genesis_by all ≡ None
 unfolding members_by
 names_again before left word words p all parts names again so_far = no_members all (sym so_far ∙ ap (members_by before) parts ∙ rw (names, again) refl)
 

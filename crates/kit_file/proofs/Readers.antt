@@ -2,19 +2,20 @@
 use Rattle.std.proofs.Common.{◌≡◌, ◌≢◌, ℕ, ◌+◌, ◌==◌, Bool, true, false, true≢false, List, [], ◌∷◌, map, Option, None, Some, refl, sym, ap, ◌∙◌, subst}
 use Rattle.std.specs.Prelude.{◌↔◌, ◌&&◌, not, find, is_some, option_map, option_and_then, IsTrue}
 use Rattle.std.proofs.lemmas.Bool.{eqb-true, eq-eqb}
+use Rattle.byte_defs.specs.Members.{has}
 use Rattle.secret_defs.specs.Schemes.{Scheme}
-use Rattle.text_defs.specs.Kits.{AreHosts, Host, IsHost, is_one_of, key_of, others_than, roster_of}
+use Rattle.text_defs.specs.Kits.{AreHosts, Host, IsHost, key_of, others_than, roster_of}
 use Rattle.text_defs.proofs.Tests.{and_true}
 
 pub same_truth : {a b : Bool} → a ≡ b → IsTrue a ↔ IsTrue b
 same_truth e = (λ t. sym e ∙ t, λ t. e ∙ t)
 
 -- something is found exactly where a key is this one
-pub found_is : {A B : Type 0} (key : A → ℕ) (f : A → B) (p : ℕ) (xs : List A) → is_some (option_map f (find (λ x. key x == p) xs)) ≡ is_one_of (map key xs) p
+pub found_is : {A B : Type 0} (key : A → ℕ) (f : A → B) (p : ℕ) (xs : List A) → is_some (option_map f (find (λ x. key x == p) xs)) ≡ has (map key xs) p
 found_is key f p [] = refl
 found_is key f p (x ∷ xs) = go (found_is key f p xs) (key x == p) refl
   where
-    go : is_some (option_map f (find (λ y. key y == p) xs)) ≡ is_one_of (map key xs) p → (b : Bool) → (key x == p) ≡ b → is_some (option_map f (find (λ y. key y == p) (x ∷ xs))) ≡ is_one_of (map key (x ∷ xs)) p
+    go : is_some (option_map f (find (λ y. key y == p) xs)) ≡ has (map key xs) p → (b : Bool) → (key x == p) ≡ b → is_some (option_map f (find (λ y. key y == p) (x ∷ xs))) ≡ has (map key (x ∷ xs)) p
     go rest true e = rw e refl
     go rest false e = rw e rest
 
@@ -23,14 +24,14 @@ no_and true = refl
 no_and false = refl
 
 -- one of the others is one of the roster, and another
-pub others_are : (p q : ℕ) (roster : List ℕ) → is_one_of (others_than p roster) q ≡ (is_one_of roster q && not (q == p))
+pub others_are : (p q : ℕ) (roster : List ℕ) → has (others_than p roster) q ≡ (has roster q && not (q == p))
 others_are p q [] = refl
 others_are p q (r ∷ roster) = go (others_are p q roster) (r == p) refl (r == q) refl
   where
-    go : is_one_of (others_than p roster) q ≡ (is_one_of roster q && not (q == p)) → (b : Bool) → (r == p) ≡ b → (c : Bool) → (r == q) ≡ c → is_one_of (others_than p (r ∷ roster)) q ≡ (is_one_of (r ∷ roster) q && not (q == p))
+    go : has (others_than p roster) q ≡ (has roster q && not (q == p)) → (b : Bool) → (r == p) ≡ b → (c : Bool) → (r == q) ≡ c → has (others_than p (r ∷ roster)) q ≡ (has (r ∷ roster) q && not (q == p))
     go rest true e true d =
         let same : (q == p) ≡ true = eq-eqb q p (sym (eqb-true r q d) ∙ eqb-true r p e) in
-        rw (e, d, same) (rest ∙ rw same (no_and (is_one_of roster q)))
+        rw (e, d, same) (rest ∙ rw same (no_and (has roster q)))
     go rest true e false d = rw (e, d) rest
     go rest false e true d =
         let other : (q == p) ≡ false = subst (λ n. (n == p) ≡ false) (eqb-true r q d) e in
@@ -55,20 +56,20 @@ module _ (scheme : Scheme) (keys : List (ℕ × List ℕ)) (hosts : List Host) (
   found-host = find (λ h. h.process == p) hosts
 
   abbrev AreShared : Type 0
-  AreShared = IsTrue (is_one_of (map (λ h. h.process) hosts) p) × IsTrue (is_one_of (roster_of keys) q) × (p ≢ q)
+  AreShared = IsTrue (has (map (λ h. h.process) hosts) p) × IsTrue (has (roster_of keys) q) × (p ≢ q)
 
-  hosted : is_some (option_map (λ (h : Host). h) found-host) ≡ is_one_of (map (λ h. h.process) hosts) p
+  hosted : is_some (option_map (λ (h : Host). h) found-host) ≡ has (map (λ h. h.process) hosts) p
   hosted = found_is (λ h. h.process) (λ (h : Host). h) p hosts
 
-  shared : (h : Host) → found-host ≡ Some h → is_some (key_of h.pairs q) ≡ (is_one_of (roster_of keys) q && not (q == p))
+  shared : (h : Host) → found-host ≡ Some h → is_some (key_of h.pairs q) ≡ (has (roster_of keys) q && not (q == p))
   shared h e =
       let is = host_found scheme keys 0 hosts p h are e in
-      found_is (λ k. k.0) (λ k. k.1) q h.pairs ∙ ap (λ ps. is_one_of ps q) is.0.shared_with ∙ others_are h.process q (roster_of keys) ∙ ap (λ n. is_one_of (roster_of keys) q && not (q == n)) is.1
+      found_is (λ k. k.0) (λ k. k.1) q h.pairs ∙ ap (λ ps. has ps q) is.0.shared_with ∙ others_are h.process q (roster_of keys) ∙ ap (λ n. has (roster_of keys) q && not (q == n)) is.1
 
   none-shared : found-host ≡ None → ¬ AreShared
   none-shared e both = true≢false (sym both.0 ∙ sym hosted ∙ ap (λ (o : Option Host). is_some (option_map (λ (h : Host). h) o)) e)
 
-  some-hosted : (h : Host) → found-host ≡ Some h → IsTrue (is_one_of (map (λ g. g.process) hosts) p)
+  some-hosted : (h : Host) → found-host ≡ Some h → IsTrue (has (map (λ g. g.process) hosts) p)
   some-hosted h e = sym hosted ∙ ap (λ (o : Option Host). is_some (option_map (λ (g : Host). g) o)) e
 
   differ : (q == p) ≡ false → p ≢ q
@@ -90,7 +91,7 @@ module _ (scheme : Scheme) (keys : List (ℕ × List ℕ)) (hosts : List Host) (
           let nothing : o ≡ None = is ∙ ap (option_and_then (λ h. key_of h.pairs q)) e in
           (λ t. absurd (true≢false (sym t ∙ ap is_some nothing)), λ both. absurd (none-shared e both))
       go (Some h) e =
-          let test : is_some o ≡ (is_one_of (roster_of keys) q && not (q == p)) = ap is_some (is ∙ ap (option_and_then (λ h. key_of h.pairs q)) e) ∙ shared h e in (
+          let test : is_some o ≡ (has (roster_of keys) q && not (q == p)) = ap is_some (is ∙ ap (option_and_then (λ h. key_of h.pairs q)) e) ∙ shared h e in (
             λ t. let both = and_true _ _ (sym test ∙ t) in (some-hosted h e, both.0, differ (not-false _ both.1)),
             λ both. test ∙ rw (both.1, test-false (q == p) refl both.2) refl,
           )

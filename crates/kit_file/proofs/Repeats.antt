@@ -6,8 +6,9 @@ use Rattle.std.proofs.lemmas.Bool.Decides.{same_from_decides, Decides-eqb}
 use Rattle.std.proofs.lemmas.Slice.Eq.{bytes_eq-Decides}
 use Rattle.byte_defs.specs.Choices.{first_that_holds, is_some_and}
 use Rattle.byte_defs.specs.Equality.{same_bytes}
+use Rattle.byte_defs.specs.Members.{has}
 use Rattle.text_defs.specs.Words.{begin_with, process_of}
-use Rattle.text_defs.specs.Kits.{is_one_of, roster_of}
+use Rattle.text_defs.specs.Kits.{roster_of}
 use Rattle.text_defs.specs.KitReading.{Draft, has_genesis, is_hosted, is_repeated}
 use Rattle.text_defs.proofs.Choosing.{none_some, some_is}
 use Rattle.text_defs.proofs.LineFound.{process_found}
@@ -225,10 +226,10 @@ numbered P number small ws xs each =
     ∙ swapped (first_process ws) (λ x p. number x == p) xs
 
 module _ (d : Draft) (ok : IsDraft d) (ws : List (List ℕ)) where
-  pub key_stands : stands d ws firsts.Key ≡ is_some_and (first_process ws) (is_one_of (roster_of d.keys))
+  pub key_stands : stands d ws firsts.Key ≡ is_some_and (first_process ws) (has (roster_of d.keys))
   key_stands = numbered _ (λ k. k.0) (λ k fits. fits.0) ws d.keys ok.keys ∙ by (first_process ws)
     where
-      by : (o : Option ℕ) → is_some_and o (λ p. list_any (λ k. k.0 == p) d.keys) ≡ is_some_and o (is_one_of (roster_of d.keys))
+      by : (o : Option ℕ) → is_some_and o (λ p. list_any (λ k. k.0 == p) d.keys) ≡ is_some_and o (has (roster_of d.keys))
       by None = refl
       by (Some p) = sym (any_map (λ k. k.0) (λ q. q == p) d.keys)
 

@@ -2,8 +2,9 @@
 ghost use Rattle.std.specs.Prelude.{◌≡◌, ◌==◌, ◌&&◌, ◌||◌, not, nat_lt, length, is_some, drop, option_map, IfOk};
 ghost use Rattle.std.specs.List.{list_any};
 ghost use Rattle.byte_defs.specs.Choices.{is_some_and};
+ghost use Rattle.byte_defs.specs.Members.{has};
 ghost use Rattle.text_codec.specs.Views.{parts_left};
-ghost use Rattle.text_defs.specs.Kits.{is_one_of, roster_of, others_than};
+ghost use Rattle.text_defs.specs.Kits.{roster_of, others_than};
 ghost use Rattle.text_defs.specs.KitReading as plain;
 ghost use Rattle.kit_file.specs.LineViews.{line, first_process};
 
@@ -69,7 +70,7 @@ impl Draft {
     }
 
     fn is_listed(&self, p: Pid) -> bool
-        ensures { result ≡ is_one_of (roster_of self.now.keys) p }
+        ensures { result ≡ has (roster_of self.now.keys) p }
     {
         self.roster.processes().contains(p)
     }
@@ -115,7 +116,7 @@ impl Draft {
 
     // The key line of the process that the first word names stands.
     fn is_key_again(&self, mut words: Words<'_>) -> bool
-        ensures { result ≡ is_some_and (first_process (parts_left words.entry)) (is_one_of (roster_of self.now.keys)) }
+        ensures { result ≡ is_some_and (first_process (parts_left words.entry)) (has (roster_of self.now.keys)) }
     {
         match next_process(&mut words) {
             Some(p) => self.is_listed(p),
@@ -164,7 +165,7 @@ impl Draft {
     }
 
     fn names_a_stranger(&self, said: &KitLine) -> bool
-        ensures { result ≡ list_any (λ p. not (is_one_of (roster_of self.now.keys) p)) (plain.named_by (line said.now)) }
+        ensures { result ≡ list_any (λ p. not (has (roster_of self.now.keys) p)) (plain.named_by (line said.now)) }
     {
         match said {
             KitLine::Port { process, .. }
@@ -341,7 +342,7 @@ fn shares_with(pairs: &[(Pid, [u8; 32])], q: Pid) -> bool
 
 // Whether one of them is not in the set.
 fn has_other(members: &[Pid], set: PidSet) -> bool
-    ensures { result ≡ list_any (λ p. not (is_one_of set p)) members.now }
+    ensures { result ≡ list_any (λ p. not (has set p)) members.now }
 {
     members.iter().any(|p| !set.contains(*p))
 }

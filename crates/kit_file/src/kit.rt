@@ -33,7 +33,8 @@ impl Model for Kit {
 
 impl Kit {
     ghost use Rattle.std.specs.Prelude.{◌↔◌, ◌≢◌, IsSome, IsTrue, IfOk};
-    ghost use Rattle.text_defs.specs.Kits.{IsKit, is_one_of, kit_digest, roster_of};
+    ghost use Rattle.byte_defs.specs.Members.{has};
+    ghost use Rattle.text_defs.specs.Kits.{IsKit, kit_digest, roster_of};
 
     /// The kit of these parts; its digest takes the memory of the public lines, which are let go again.
     pub(crate) fn new(alloc: Global, parts: Parts) -> Result<Kit, NoMemory>
@@ -90,7 +91,7 @@ impl Kit {
 
     /// The port of a process; None exactly where it is not in the roster.
     pub fn port(&self, p: Pid) -> Option<u16>
-        ensures listed { IsSome result ↔ IsTrue (is_one_of (roster_of self.now.keys) p) }
+        ensures listed { IsSome result ↔ IsTrue (has (roster_of self.now.keys) p) }
         ensures value { result ≡ option_map (λ port. port.1) (find (λ port. port.0 == p) self.now.ports) }
     {
         let _ = &self.parts; // for the proof: what holds of a kit's parts
@@ -121,7 +122,7 @@ impl Kit {
 
     /// The secret of a process; None exactly where it is not hosted here.
     pub fn secret(&self, p: Pid) -> Option<&Secret>
-        ensures hosted { IsSome result ↔ IsTrue (is_one_of (map (λ host. host.process) self.now.hosts) p) }
+        ensures hosted { IsSome result ↔ IsTrue (has (map (λ host. host.process) self.now.hosts) p) }
         ensures value { option_map secret (option_copied result) ≡ option_map (λ host. host.secret) (find (λ host. host.process == p) self.now.hosts) }
     {
         self.find_secret(p)
@@ -142,7 +143,7 @@ impl Kit {
     /// here, the other is not in the roster, or both are one process.
     pub fn pair(&self, p: Pid, q: Pid) -> Option<&[u8; 32]>
         ensures shared { IsSome result
-            ↔ (IsTrue (is_one_of (map (λ host. host.process) self.now.hosts) p) × IsTrue (is_one_of (roster_of self.now.keys) q) × (p ≢ q)) }
+            ↔ (IsTrue (has (map (λ host. host.process) self.now.hosts) p) × IsTrue (has (roster_of self.now.keys) q) × (p ≢ q)) }
         ensures value { option_copied result ≡ option_and_then (λ host. key_of host.pairs q) (find (λ host. host.process == p) self.now.hosts) }
     {
         let _ = &self.parts; // for the proof: what holds of a kit's parts

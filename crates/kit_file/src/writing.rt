@@ -1,10 +1,10 @@
-//! Kits as text: each line is its words with one blank between them and a line feed behind.
+//! Kits as text: each line is its words with one space between them and a line feed behind.
 ghost use Rattle.std.specs.Prelude.{◌≡◌, ◌++◌, ◌∷◌, [], codes, map, OnOk, OnErr};
 ghost use Rattle.std.specs.List.{flat_map, join_with_byte};
 ghost use Rattle.std.specs.Fmt.{decimal};
 ghost use Rattle.hex.specs.Hex.{encode_lower};
 ghost use Rattle.sig_scheme.specs.Views.{scheme, secret};
-ghost use Rattle.text_defs.specs.Words.{blank, line_feed, line_text};
+ghost use Rattle.text_defs.specs.Words.{space, line_feed, line_text};
 ghost use Rattle.text_defs.specs.Kits.{line_words, text_of_lines, public_lines, host_lines, key_line, port_line, pair_line, secret_line, kit_text, Version, SchemeIs, GroupIs, Genesis, Key, Port, PlainHost, LmsHost, Pair};
 ghost use Rattle.kit_file.specs.Views.{host, hosts};
 
@@ -157,7 +157,7 @@ fn push_lms(
 
 // The words with which a host line begins: `host`, the process, and the scheme.
 fn push_host(out: &mut Vec<u8>, process: Pid, scheme: &[u8]) -> Result<(), NoMemory>
-    ensures { OnOk result (out.new.items ≡ out.old.items ++ join_with_byte blank (codes "host" ∷ decimal process ∷ scheme.now ∷ [])) }
+    ensures { OnOk result (out.new.items ≡ out.old.items ++ join_with_byte space (codes "host" ∷ decimal process ∷ scheme.now ∷ [])) }
 {
     out.extend_from_slice(b"host")?;
     push_number_word(out, process.get().into())?;
@@ -185,17 +185,17 @@ fn push_pair(out: &mut Vec<u8>, process: Pid, other: Pid, key: &[u8; 32]) -> Res
     end_line(out)
 }
 
-// A blank, and a number as the next word.
+// A space, and a number as the next word.
 fn push_number_word(out: &mut Vec<u8>, n: u64) -> Result<(), NoMemory>
-    ensures { OnOk result (out.new.items ≡ out.old.items ++ blank ∷ decimal n) }
+    ensures { OnOk result (out.new.items ≡ out.old.items ++ space ∷ decimal n) }
 {
     out.push(b' ')?;
     push_number(out, n)
 }
 
-// A blank, and bytes as the next word.
+// A space, and bytes as the next word.
 fn push_bytes_word(out: &mut Vec<u8>, bytes: &[u8]) -> Result<(), NoMemory>
-    ensures { OnOk result (out.new.items ≡ out.old.items ++ blank ∷ encode_lower bytes.now) }
+    ensures { OnOk result (out.new.items ≡ out.old.items ++ space ∷ encode_lower bytes.now) }
 {
     out.push(b' ')?;
     push_hex(out, bytes)

@@ -8,7 +8,7 @@
 use Rattle.std.specs.Prelude.{◌≡◌, ℕ, zero, suc, ◌+◌, ◌<◌, ◌≤◌, List, [], ◌∷◌, ◌++◌, length, Result, Ok, Err, nat_lt, not, ◌==◌, if◌then◌else◌}
 use Rattle.std.specs.List.{flat_map, AllByRecursion}
 use Rattle.std.specs.Int.{w8, w16}
-use Rattle.byte_defs.specs.Fields.{◌>>=◌, refuse_if, number_at, bytes_at, two, text}
+use Rattle.byte_defs.specs.Fields.{◌>>=◌, refuse_if, number_at, bytes_at, two_bytes, text}
 use Rattle.message_defs.specs.declared.FrameFault.{FrameFault}
 use Rattle.message_defs.specs.declared.FrameFault.TheVariants as faults
 
@@ -37,7 +37,7 @@ groups_bytes gs = length gs ∷ flat_map group_bytes gs
 abbrev pub frame_bytes : FrameView → List ℕ
 frame_bytes (Bundle gs) = 1 ∷ 1 ∷ groups_bytes gs
 frame_bytes (Proof gs) = 1 ∷ 2 ∷ groups_bytes gs
-frame_bytes (Want x k) = 1 ∷ 3 ∷ (two x ++ two k)
+frame_bytes (Want x k) = 1 ∷ 3 ∷ (two_bytes x ++ two_bytes k)
 
 -- the signers rise from this number on, and each signature has its length
 abbrev pub AreSignatures : ℕ → List (ℕ × List ℕ) → Type 0

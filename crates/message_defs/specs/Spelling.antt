@@ -9,32 +9,32 @@
 --   9 Suggest, 10 Ack, 11 Ready x2 r1 value4
 -- An update is 01 p, 02 p or 03 00. A value is its update and its cut of two bytes.
 use Rattle.std.specs.Prelude.{ℕ, ◌<◌, ◌≤◌, List, [], ◌∷◌, ◌++◌, length, Option, Some, None, codes}
-use Rattle.byte_defs.specs.Fields.{two, text}
+use Rattle.byte_defs.specs.Fields.{two_bytes, text}
 use Rattle.message_defs.specs.Updates.{Update, Remove, Add, Renew, Value, update_numbers}
 use Rattle.message_defs.specs.Statements.{Message, Statement, Init, Echo, Order, Place, Keep, Notify, End, Last, Suggest, Ack, Ready, Claim}
 
 abbrev pub message_bytes : Message → List ℕ
-message_bytes m = m.sender ∷ two m.number
+message_bytes m = m.sender ∷ two_bytes m.number
 
 abbrev pub value_bytes : Value → List ℕ
-value_bytes v = update_numbers v.update ++ two v.cut
+value_bytes v = update_numbers v.update ++ two_bytes v.cut
 
 abbrev pub ready_bytes : Option (ℕ × Value) → List ℕ
 ready_bytes None = 0 ∷ []
 ready_bytes (Some ready) = 1 ∷ ready.0 ∷ value_bytes ready.1
 
 abbrev pub spelling : Statement → List ℕ
-spelling (Init x l payload) = 1 ∷ (two x ++ two l ++ text payload)
-spelling (Echo x m payload) = 2 ∷ (two x ++ message_bytes m ++ text payload)
-spelling (Order x k m) = 3 ∷ (two x ++ two k ++ message_bytes m)
-spelling (Place x k m) = 4 ∷ (two x ++ two k ++ message_bytes m)
-spelling (Keep x k m) = 5 ∷ (two x ++ two k ++ message_bytes m)
-spelling (Notify x u) = 6 ∷ (two x ++ update_numbers u)
-spelling (End x k) = 7 ∷ (two x ++ two k)
-spelling (Last x r ready) = 8 ∷ (two x ++ r ∷ ready_bytes ready)
-spelling (Suggest x r v) = 9 ∷ (two x ++ r ∷ value_bytes v)
-spelling (Ack x r v) = 10 ∷ (two x ++ r ∷ value_bytes v)
-spelling (Ready x r v) = 11 ∷ (two x ++ r ∷ value_bytes v)
+spelling (Init x l payload) = 1 ∷ (two_bytes x ++ two_bytes l ++ text payload)
+spelling (Echo x m payload) = 2 ∷ (two_bytes x ++ message_bytes m ++ text payload)
+spelling (Order x k m) = 3 ∷ (two_bytes x ++ two_bytes k ++ message_bytes m)
+spelling (Place x k m) = 4 ∷ (two_bytes x ++ two_bytes k ++ message_bytes m)
+spelling (Keep x k m) = 5 ∷ (two_bytes x ++ two_bytes k ++ message_bytes m)
+spelling (Notify x u) = 6 ∷ (two_bytes x ++ update_numbers u)
+spelling (End x k) = 7 ∷ (two_bytes x ++ two_bytes k)
+spelling (Last x r ready) = 8 ∷ (two_bytes x ++ r ∷ ready_bytes ready)
+spelling (Suggest x r v) = 9 ∷ (two_bytes x ++ r ∷ value_bytes v)
+spelling (Ack x r v) = 10 ∷ (two_bytes x ++ r ∷ value_bytes v)
+spelling (Ready x r v) = 11 ∷ (two_bytes x ++ r ∷ value_bytes v)
 
 -- the four letters, the group, the signer and the statement
 abbrev pub body : List ℕ → ℕ → Statement → List ℕ
@@ -42,8 +42,8 @@ body group signer st = codes "RPB1" ++ group ++ (signer ∷ spelling st)
 
 -- ---- the ranges: what has a spelling that is read again
 
-abbrev pub IsView : ℕ → Type 0
-IsView x = x ≤ 1023
+abbrev pub IsViewNumber : ℕ → Type 0
+IsViewNumber x = x ≤ 1023
 
 abbrev pub IsMessage : Message → Type 0
 IsMessage m = (m.sender ≤ 63) × (m.number ≤ 1023)
@@ -62,17 +62,17 @@ IsReport r None = Unit {0}
 IsReport r (Some ready) = (ready.0 < r) × IsValue ready.1
 
 abbrev pub IsStatement : Statement → Type 0
-IsStatement (Init x l payload) = IsView x × (l ≤ 1023) × (length payload ≤ 1024)
-IsStatement (Echo x m payload) = IsView x × IsMessage m × (length payload ≤ 1024)
-IsStatement (Order x k m) = IsView x × (k ≤ 1023) × IsMessage m
-IsStatement (Place x k m) = IsView x × (k ≤ 1023) × IsMessage m
-IsStatement (Keep x k m) = IsView x × (k ≤ 1023) × IsMessage m
-IsStatement (Notify x u) = IsView x × IsUpdate u
-IsStatement (End x k) = IsView x × (k ≤ 1024)
-IsStatement (Last x r ready) = IsView x × (r ≤ 15) × IsReport r ready
-IsStatement (Suggest x r v) = IsView x × (r ≤ 15) × IsValue v
-IsStatement (Ack x r v) = IsView x × (r ≤ 15) × IsValue v
-IsStatement (Ready x r v) = IsView x × (r ≤ 15) × IsValue v
+IsStatement (Init x l payload) = IsViewNumber x × (l ≤ 1023) × (length payload ≤ 1024)
+IsStatement (Echo x m payload) = IsViewNumber x × IsMessage m × (length payload ≤ 1024)
+IsStatement (Order x k m) = IsViewNumber x × (k ≤ 1023) × IsMessage m
+IsStatement (Place x k m) = IsViewNumber x × (k ≤ 1023) × IsMessage m
+IsStatement (Keep x k m) = IsViewNumber x × (k ≤ 1023) × IsMessage m
+IsStatement (Notify x u) = IsViewNumber x × IsUpdate u
+IsStatement (End x k) = IsViewNumber x × (k ≤ 1024)
+IsStatement (Last x r ready) = IsViewNumber x × (r ≤ 15) × IsReport r ready
+IsStatement (Suggest x r v) = IsViewNumber x × (r ≤ 15) × IsValue v
+IsStatement (Ack x r v) = IsViewNumber x × (r ≤ 15) × IsValue v
+IsStatement (Ready x r v) = IsViewNumber x × (r ≤ 15) × IsValue v
 
 -- what a frame can carry
 abbrev pub IsClaim : Claim → Type 0

@@ -7,7 +7,7 @@ use Rattle.byte_defs.specs.Choices.{first_some}
 use Rattle.message_defs.specs.Claims.{Claims, Wants, Faulty}
 use Rattle.message_defs.specs.Updates.{Value}
 use Rattle.message_defs.specs.Statements.{Statement, Init, Echo, Order, Keep, Suggest, Slot, EchoAt, PlaceAt, KeepAt, ReadyAt, Claim, slot_of, same_slot, message_of, value_of}
-use Rattle.group_defs.specs.Views.{is_member, is_possible, has}
+use Rattle.group_defs.specs.Views.{is_member, is_possible}
 use Rattle.group_defs.specs.Process.{Inits, Echoes, Setting, Pool, Left, Process, start, keyed}
 use Rattle.group_defs.specs.Certified.{heard_on, certificate, certificate_on, certified_on, is_certified, place_at, place_kept, fixed_length, number_of_members}
 use Rattle.group_defs.specs.Due.{kind_of}
@@ -18,6 +18,7 @@ use Rattle.group_defs.specs.Events.{Event, Submit, Hand, Suspect, Join, RenewVie
 use Rattle.group_defs.specs.Family.{claims_in, handed_to}
 use Rattle.group_defs.specs.Echoing.{is_echoing, AreEchoing, SignsEchoing, Echoing, SettlesNothing, EachEventEchoes, EchoesThroughout}
 use Rattle.std.proofs.lemmas.List.{append-nil}
+use Rattle.byte_defs.specs.Members.{has}
 use Rattle.safety_laws.proofs.Induction.{AreFrom, Keeps, after-keeps, run-keeps, sign_all-keeps, take_in-keeps}
 use Rattle.safety_laws.proofs.KindsSigned.{offers-kind}
 use Rattle.safety_laws.proofs.Members.{All-mem, Mem, each-snoc, filter-mem, filter_map-mem, index-mem, map-mem, mem-drop, none-in}

@@ -4,15 +4,16 @@ use Rattle.std.specs.Prelude.{if◌then◌else◌, ◌||◌, ◌==◌, not, filt
 use Rattle.std.specs.List.{range_with_len}
 use Rattle.std.proofs.lemmas.Bool.{eqb-true, eq-eqb}
 use Rattle.byte_defs.specs.Choices.{first_some, first_that_holds}
-use Rattle.group_defs.specs.Views.{View, ViewsSpent, NotMember, LastMember, AlreadyMember, GroupFull, is_member, has, next_fault, members_after, next_view, has_keys, is_possible}
+use Rattle.group_defs.specs.Views.{View, ViewsSpent, NotMember, LastMember, AlreadyMember, GroupFull, is_member, next_fault, members_after, next_view, has_keys, is_possible, IsView}
 use Rattle.message_defs.specs.Updates.{Update, Remove, Add, Renew, Value}
 use Rattle.message_defs.specs.Statements.{Ready, ReadyAt, Claim}
 use Rattle.group_defs.specs.Process.{Setting, Pool, Left, Process, start, keyed, views_of}
 use Rattle.group_defs.specs.Certified.{is_certified, value_at, number_of_members}
 use Rattle.group_defs.specs.Settle.{decided_at, decided_by}
 use Rattle.group_defs.specs.Family.{Correct, end_of, ends}
-use Rattle.group_defs.specs.Laws.{IsView, InstalledIsView}
+use Rattle.group_defs.specs.Laws.{InstalledIsView}
 use Rattle.std.proofs.lemmas.List.{map-append}
+use Rattle.byte_defs.specs.Members.{has}
 use Rattle.safety_laws.proofs.Counting.{length-filter-few}
 use Rattle.safety_laws.proofs.Heard.{value-certified}
 use Rattle.safety_laws.proofs.Induction.{Keeps, run-keeps}

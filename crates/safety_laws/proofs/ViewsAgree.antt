@@ -1,13 +1,13 @@
 -- All correct processes have the same views.
 use Rattle.std.proofs.Common.{◌≡◌, ◌⊎◌, inl, inr, ℕ, zero, suc, ◌≤◌, List, map, length, Some, refl, sym, ap, ◌∙◌, subst, arith, slice_get}
 use Rattle.std.specs.Prelude.{All, slice_index_or}
-use Rattle.group_defs.specs.Views.{View, next_view}
+use Rattle.group_defs.specs.Views.{View, next_view, IsView}
 use Rattle.message_defs.specs.Updates.{Value}
 use Rattle.message_defs.specs.Statements.{Statement, Keep, Ready}
 use Rattle.group_defs.specs.Process.{Setting, Left, Process, start, views_of}
 use Rattle.group_defs.specs.Events.{Turn}
 use Rattle.group_defs.specs.Family.{Correct, Family, end_of, ends, handed_to}
-use Rattle.group_defs.specs.Laws.{HasGrown, IsView, Premises, IsOneView, IsBacked, InstalledIsOne}
+use Rattle.group_defs.specs.Laws.{HasGrown, Premises, IsOneView, IsBacked, InstalledIsOne}
 use Rattle.std.proofs.lemmas.List.{length-map}
 use Rattle.safety_laws.proofs.CertifiedIsBacked.{certified_is_backed}
 use Rattle.safety_laws.proofs.EachWasDue.{grown-self}

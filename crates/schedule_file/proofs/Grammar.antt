@@ -10,12 +10,13 @@ use Rattle.std.proofs.lemmas.Slice.Eq.{bytes_eq-Decides}
 use Rattle.std.proofs.lemmas.List.Quantifiers.{all_pairs_push}
 use Rattle.std.proofs.lemmas.List.Concat.{flat_map-cons}
 use Rattle.byte_defs.specs.Equality.{same_bytes}
-use Rattle.byte_defs.specs.Fields.{bytes_at, two, text}
+use Rattle.byte_defs.specs.Fields.{bytes_at, two_bytes, text, four_bytes}
 use Rattle.byte_defs.proofs.Fields.{IsBytes, bind_ok, refuse_ok, ok_is, Takes, Takes-then, byte_takes, byte_again, short_takes, short_again, long_takes, long_again, bytes_takes, bytes_again, false_unless, is_some, not_zero, not_false}
 use Rattle.file_defs.specs.declared.ScheduleFault.{ScheduleFault}
 use Rattle.file_defs.specs.declared.ScheduleFault.TheVariants as faults
-use Rattle.file_defs.specs.Schedules.{Listed, ScheduleEvent, Submit, Raw, Pass, Schedule, Step, is_listed, is_correct, is_among, four, listed_bytes, event_bytes, schedule_bytes, AreListed, IsEvent, IsSchedule, byte_at, short_at, long_at, text_at, process_at, listed_at, all_listed_at, processes_at, member_at, members_at, genesis_at, correct_at, submit_at, raw_at, pass_at, event_at, events_at, group_at, whole_of, past_limit, schedule_of, most_events, most_bytes}
+use Rattle.file_defs.specs.Schedules.{Listed, ScheduleEvent, Submit, Raw, Pass, Schedule, Step, is_listed, is_correct, listed_bytes, event_bytes, schedule_bytes, AreListed, IsEvent, IsSchedule, byte_at, short_at, long_at, text_at, process_at, listed_at, all_listed_at, processes_at, member_at, members_at, genesis_at, correct_at, submit_at, raw_at, pass_at, event_at, events_at, group_at, whole_of, past_limit, schedule_of, most_events, most_bytes}
 use Rattle.byte_defs.specs.Reads.{Makes}
+use Rattle.byte_defs.specs.Members.{has}
 use Rattle.schedule_file.specs.declared.schedule.Schedule as code
 use Rattle.schedule_file.specs.declared.schedule.ReadError.{ReadError}
 use Rattle.schedule_file.specs.Schedules.{schedule, fault_of}
@@ -42,14 +43,14 @@ text_takes most bytes x fits e =
     let g = refuse_ok (ltb most a.0.0) faults.Field _ x a.2 in
     let t0 = short_takes faults.Short bytes a.0.0 a.0.1 fits a.1 in
     let t1 = bytes_takes faults.Short a.0.0 a.0.1 x.0 x.1 t0.0.rest_fits g.1 in
-    let whole : Takes bytes (text x.0) x.1 = rw t1.1 (Takes-then bytes (two a.0.0) a.0.1 x.0 x.1 t0.0 t1.0) in
+    let whole : Takes bytes (text x.0) x.1 = rw t1.1 (Takes-then bytes (two_bytes a.0.0) a.0.1 x.0 x.1 t0.0 t1.0) in
     (whole, omega (arith, t1.1, t0.1), omega (arith, t1.1, ltb-false most a.0.0 g.0))
 
 text_again : (most : ℕ) (out rest : List ℕ) → length out < 65536 → length out ≤ most → text_at most (text out ++ rest) ≡ Ok (out, rest)
 unfolding text_at
 text_again most out rest fits le =
     let fine : ltb most (length out) ≡ false = le-ltb _ _ le in
-    ap (text_at most) (append_assoc (two (length out)) out rest) ∙ rw (short_again faults.Short (length out) (out ++ rest) fits, fine, bytes_again faults.Short out rest) refl
+    ap (text_at most) (append_assoc (two_bytes (length out)) out rest) ∙ rw (short_again faults.Short (length out) (out ++ rest) fits, fine, bytes_again faults.Short out rest) refl
 
 -- ---- a listed process
 
@@ -83,18 +84,18 @@ listed_takes least bytes x fits e =
     let t3 = long_takes faults.Short c.0.1 d.0.0 d.0.1 t2.0.rest_fits d.1 in
     let made : Listed × List ℕ = (record { process = a.0.0; corrupt = eqb b.0.0 1; key = c.0.0; total = d.0.0 }, d.0.1) in
     let role : b.0.0 ≡ role_byte (eqb b.0.0 1) = role_spelled b.0.0 (ltb-false _ _ h.0) in
-    let secret = Takes-then b.0.1 c.0.0 c.0.1 (four d.0.0) d.0.1 t2.0 t3.0 in
-    let roled : Takes a.0.1 (role_byte (eqb b.0.0 1) ∷ (c.0.0 ++ four d.0.0)) d.0.1 = subst (λ (n : ℕ). Takes a.0.1 (n ∷ (c.0.0 ++ four d.0.0)) d.0.1) role (Takes-then a.0.1 (b.0.0 ∷ []) b.0.1 (c.0.0 ++ four d.0.0) d.0.1 t1.0 secret) in
-    let whole = Takes-then bytes (a.0.0 ∷ []) a.0.1 (role_byte (eqb b.0.0 1) ∷ (c.0.0 ++ four d.0.0)) d.0.1 t0.0 roled in
+    let secret = Takes-then b.0.1 c.0.0 c.0.1 (four_bytes d.0.0) d.0.1 t2.0 t3.0 in
+    let roled : Takes a.0.1 (role_byte (eqb b.0.0 1) ∷ (c.0.0 ++ four_bytes d.0.0)) d.0.1 = subst (λ (n : ℕ). Takes a.0.1 (n ∷ (c.0.0 ++ four_bytes d.0.0)) d.0.1) role (Takes-then a.0.1 (b.0.0 ∷ []) b.0.1 (c.0.0 ++ four_bytes d.0.0) d.0.1 t1.0 secret) in
+    let whole = Takes-then bytes (a.0.0 ∷ []) a.0.1 (role_byte (eqb b.0.0 1) ∷ (c.0.0 ++ four_bytes d.0.0)) d.0.1 t0.0 roled in
     subst (λ (y : Listed × List ℕ). Takes bytes (listed_bytes y.0) y.1 × IsListed least y.0) {x = made} {y = x} (ok_is made x d.2) (whole, (ltb-false _ _ g.0, t0.1, t2.1, t3.1))
 
 listed_again : (least : ℕ) (l : Listed) (rest : List ℕ) → IsListed least l → listed_at least (listed_bytes l ++ rest) ≡ Ok (l, rest)
 unfolding listed_at
 listed_again least l rest fits =
     let rising : ltb l.process least ≡ false = le-ltb _ _ fits.0 in
-    let key_at : bytes_at faults.Short 32 (l.key ++ (four l.total ++ rest)) ≡ Ok (l.key, four l.total ++ rest) = ap (λ (n : ℕ). bytes_at faults.Short n (l.key ++ (four l.total ++ rest))) (sym fits.2) ∙ bytes_again faults.Short l.key (four l.total ++ rest) in
-    ap (λ (t : List ℕ). listed_at least (l.process ∷ role_byte l.corrupt ∷ t)) (append_assoc l.key (four l.total) rest)
-    ∙ rw (process_again faults.Roster l.process (role_byte l.corrupt ∷ (l.key ++ (four l.total ++ rest))) fits.1, rising, byte_again faults.Short (role_byte l.corrupt) (l.key ++ (four l.total ++ rest)), (role_again l.corrupt).0, key_at, long_again faults.Short l.total rest fits.3, (role_again l.corrupt).1) refl
+    let key_at : bytes_at faults.Short 32 (l.key ++ (four_bytes l.total ++ rest)) ≡ Ok (l.key, four_bytes l.total ++ rest) = ap (λ (n : ℕ). bytes_at faults.Short n (l.key ++ (four_bytes l.total ++ rest))) (sym fits.2) ∙ bytes_again faults.Short l.key (four_bytes l.total ++ rest) in
+    ap (λ (t : List ℕ). listed_at least (l.process ∷ role_byte l.corrupt ∷ t)) (append_assoc l.key (four_bytes l.total) rest)
+    ∙ rw (process_again faults.Roster l.process (role_byte l.corrupt ∷ (l.key ++ (four_bytes l.total ++ rest))) fits.1, rising, byte_again faults.Short (role_byte l.corrupt) (l.key ++ (four_bytes l.total ++ rest)), (role_again l.corrupt).0, key_at, long_again faults.Short l.total rest fits.3, (role_again l.corrupt).1) refl
 
 -- ---- all of them
 
@@ -173,33 +174,33 @@ is_correct_below least (l ∷ ls) p fits e =
 abbrev Differ : ℕ → ℕ → Type 0
 Differ m n = m ≢ n
 
-not_among : (before : List ℕ) (m : ℕ) → ((k d : ℕ) → k < length before → get_or before k d ≢ m) → is_among before m ≡ false
+not_among : (before : List ℕ) (m : ℕ) → ((k d : ℕ) → k < length before → get_or before k d ≢ m) → has before m ≡ false
 not_among [] m h = refl
 not_among (b ∷ bs) m h =
     let other : eqb b m ≡ false = false_unless (eqb b m) (λ e. h 0 0 (omega arith) (eqb-true b m e)) in
     rw (other, not_among bs m (λ k d lt. h (suc k) d (omega arith))) refl
 
-among_not : (before : List ℕ) (m : ℕ) → is_among before m ≡ false → (k d : ℕ) → k < length before → get_or before k d ≢ m
+among_not : (before : List ℕ) (m : ℕ) → has before m ≡ false → (k d : ℕ) → k < length before → get_or before k d ≢ m
 among_not [] m e k d lt = absurd (omega arith)
-among_not (b ∷ bs) m e zero d lt = λ same. let not_it = (or_false (eqb b m) (is_among bs m) e).0 in let it = eq-eqb b m same in absurd cc
-among_not (b ∷ bs) m e (suc k) d lt = among_not bs m (or_false (eqb b m) (is_among bs m) e).1 k d (omega arith)
+among_not (b ∷ bs) m e zero d lt = λ same. let not_it = (or_false (eqb b m) (has bs m) e).0 in let it = eq-eqb b m same in absurd cc
+among_not (b ∷ bs) m e (suc k) d lt = among_not bs m (or_false (eqb b m) (has bs m) e).1 k d (omega arith)
 
 module _ (listed : ℕ → Bool) where
   -- members that are listed and none of those before
   abbrev AreMembers : List ℕ → List ℕ → Type 0
   AreMembers before [] = Unit {0}
-  AreMembers before (m ∷ ms) = (m ≤ 63) × (listed m ≡ true) × (is_among before m ≡ false) × AreMembers (before ++ m ∷ []) ms
+  AreMembers before (m ∷ ms) = (m ≤ 63) × (listed m ≡ true) × (has before m ≡ false) × AreMembers (before ++ m ∷ []) ms
 
-  member_takes : (before bytes : List ℕ) (x : ℕ × List ℕ) → IsBytes bytes → member_at listed before bytes ≡ Ok x → Takes bytes (x.0 ∷ []) x.1 × (x.0 ≤ 63) × (listed x.0 ≡ true) × (is_among before x.0 ≡ false)
+  member_takes : (before bytes : List ℕ) (x : ℕ × List ℕ) → IsBytes bytes → member_at listed before bytes ≡ Ok x → Takes bytes (x.0 ∷ []) x.1 × (x.0 ≤ 63) × (listed x.0 ≡ true) × (has before x.0 ≡ false)
   unfolding member_at
   member_takes before bytes x fits e =
       let a = bind_ok (process_at faults.Roster bytes) _ x e in
       let g = refuse_ok (not (listed a.0.0)) faults.Roster _ x a.2 in
-      let h = refuse_ok (is_among before a.0.0) faults.Roster _ x g.1 in
+      let h = refuse_ok (has before a.0.0) faults.Roster _ x g.1 in
       let t = process_takes faults.Roster bytes a.0 fits a.1 in
-      subst (λ (y : ℕ × List ℕ). Takes bytes (y.0 ∷ []) y.1 × (y.0 ≤ 63) × (listed y.0 ≡ true) × (is_among before y.0 ≡ false)) {x = a.0} {y = x} (ok_is a.0 x h.1) (t.0, t.1, not_false _ g.0, h.0)
+      subst (λ (y : ℕ × List ℕ). Takes bytes (y.0 ∷ []) y.1 × (y.0 ≤ 63) × (listed y.0 ≡ true) × (has before y.0 ≡ false)) {x = a.0} {y = x} (ok_is a.0 x h.1) (t.0, t.1, not_false _ g.0, h.0)
 
-  member_again : (before : List ℕ) (m : ℕ) (rest : List ℕ) → m ≤ 63 → listed m ≡ true → is_among before m ≡ false → member_at listed before (m ∷ rest) ≡ Ok (m, rest)
+  member_again : (before : List ℕ) (m : ℕ) (rest : List ℕ) → m ≤ 63 → listed m ≡ true → has before m ≡ false → member_at listed before (m ∷ rest) ≡ Ok (m, rest)
   unfolding member_at
   member_again before m rest le here new = rw (process_again faults.Roster m rest le, here, new) refl
 
@@ -322,10 +323,10 @@ module _ (ls : List Listed) where
       let b = bind_ok (correct_at correct a.0.1) _ x a.2 in
       let t0 = long_takes faults.Short bytes a.0.0 a.0.1 fits a.1 in
       let t1 = correct_takes a.0.1 b.0 t0.0.rest_fits b.1 in
-      let both = Takes-then bytes (four a.0.0) a.0.1 (b.0.0 ∷ []) b.0.1 t0.0 t1.0 in
+      let both = Takes-then bytes (four_bytes a.0.0) a.0.1 (b.0.0 ∷ []) b.0.1 t0.0 t1.0 in
       let made : ScheduleEvent × List ℕ = (Pass a.0.0 b.0.0, b.0.1) in
       subst (λ (y : ScheduleEvent × List ℕ). Takes (3 ∷ bytes) (event_bytes y.0) y.1 × IsEvent ls y.0) {x = made} {y = x} (ok_is made x b.2)
-      (Takes-behind 3 bytes (four a.0.0 ++ b.0.0 ∷ []) b.0.1 both, (t0.1, t1.1))
+      (Takes-behind 3 bytes (four_bytes a.0.0 ++ b.0.0 ∷ []) b.0.1 both, (t0.1, t1.1))
 
   no_event : (x : ScheduleEvent × List ℕ) → (let none : Step ScheduleEvent = Err faults.Tag in none) ≡ Ok x → ⊥
   no_event x e = cc
@@ -377,7 +378,7 @@ module _ (ls : List Listed) where
     event_again (Raw to from bytes) rest fits =
         rw (byte_again faults.Short 2 (to ∷ from ∷ (text bytes ++ rest)), correct_again to (from ∷ (text bytes ++ rest)) fits.0, process_again faults.Field from (text bytes ++ rest) fits.1, text_again 61440 bytes rest (omega (arith, fits.2)) fits.2) refl
     event_again (Pass frame to) rest fits =
-        rw (byte_again faults.Short 3 (four frame ++ (to ∷ rest)), long_again faults.Short frame (to ∷ rest) fits.0, correct_again to rest fits.1) refl
+        rw (byte_again faults.Short 3 (four_bytes frame ++ (to ∷ rest)), long_again faults.Short frame (to ∷ rest) fits.0, correct_again to rest fits.1) refl
 
     events_again : (n : ℕ) (es : List ScheduleEvent) → length es ≤ n → AllByRecursion (IsEvent ls) es → events_at n correct (flat_map event_bytes es) ≡ Ok es
     events_again n [] le fits = nothing_left n correct

@@ -6,8 +6,9 @@ use Rattle.std.proofs.lemmas.Bool.{cases_lt, cases_eq, lt-ltb, le-ltb, eq-eqb, n
 use Rattle.std.proofs.lemmas.List.{append-nil, map_more}
 use Rattle.file_defs.specs.declared.ScheduleFault.{ScheduleFault}
 use Rattle.byte_defs.specs.Fields.{◌>>=◌}
+use Rattle.byte_defs.specs.Members.{has}
 use Rattle.rp_base.specs.Pids.{put_once}
-use Rattle.file_defs.specs.Schedules.{Listed, Step, is_among, listed_at, all_listed_at, member_at, members_at}
+use Rattle.file_defs.specs.Schedules.{Listed, Step, listed_at, all_listed_at, member_at, members_at}
 
 -- ---- processes
 
@@ -81,13 +82,13 @@ or_twice true b = refl
 or_twice false b = refl
 
 -- the process that was put in, and those before
-pub is_among-put_once : (p : ℕ) (qs : List ℕ) (n : ℕ) → is_among (put_once p qs) n ≡ (eqb p n || is_among qs n)
-is_among-put_once p [] n = refl
-is_among-put_once p (q ∷ qs) n =
+pub has-put_once : (p : ℕ) (qs : List ℕ) (n : ℕ) → has (put_once p qs) n ≡ (eqb p n || has qs n)
+has-put_once p [] n = refl
+has-put_once p (q ∷ qs) n =
     elim (cases_lt q p) [
-      | inl lt ↦ rw (lt-ltb q p lt) (ap (λ (b : Bool). eqb q n || b) (is_among-put_once p qs n) ∙ or_swap (eqb q n) (eqb p n) (is_among qs n))
+      | inl lt ↦ rw (lt-ltb q p lt) (ap (λ (b : Bool). eqb q n || b) (has-put_once p qs n) ∙ or_swap (eqb q n) (eqb p n) (has qs n))
       | inr le ↦ rw (le-ltb q p le) (elim (cases_eq q p) [
-        | inl e ↦ rw (eq-eqb q p e, e) (or_twice (eqb p n) (is_among qs n))
+        | inl e ↦ rw (eq-eqb q p e, e) (or_twice (eqb p n) (has qs n))
         | inr ne ↦ rw (ne_eqb q p ne) refl
       ])
     ]

@@ -15,6 +15,7 @@
 //! A schedule has at most 67,108,864 bytes.
 ghost use Rattle.std.specs.Prelude.{◌≡◌, ◌≤◌, [], length, map, IfOk, Ok};
 ghost use Rattle.byte_defs.specs.Reads.{Gives, Makes, Fails};
+ghost use Rattle.byte_defs.specs.Members.{has};
 ghost use Rattle.file_defs.specs.Schedules as plain;
 ghost use Rattle.file_defs.specs.Schedules.{IsSchedule, schedule_bytes};
 ghost use Rattle.schedule_file.specs.Schedules.{listed, event, schedule, fault_of};
@@ -135,7 +136,7 @@ fn read_processes(alloc: Global, reader: &mut Reader<'_>) -> Result<Vec<Listed>,
 
 // The processes that are listed.
 fn all_listed(processes: &[Listed]) -> PidSet
-    ensures { plain.is_among result ≡ plain.is_listed (map listed processes.now) }
+    ensures { has result ≡ plain.is_listed (map listed processes.now) }
 {
     let mut all = PidSet::new();
     for listed in processes {
@@ -146,7 +147,7 @@ fn all_listed(processes: &[Listed]) -> PidSet
 
 // The processes that are correct.
 fn all_correct(processes: &[Listed]) -> PidSet
-    ensures { plain.is_among result ≡ plain.is_correct (map listed processes.now) }
+    ensures { has result ≡ plain.is_correct (map listed processes.now) }
 {
     let mut correct = PidSet::new();
     for listed in processes {
@@ -158,7 +159,7 @@ fn all_correct(processes: &[Listed]) -> PidSet
 }
 
 fn is_among(pids: &[Pid], p: Pid) -> bool
-    ensures { result ≡ plain.is_among pids.now p }
+    ensures { result ≡ has pids.now p }
 {
     pids.iter().any(|q| *q == p)
 }
@@ -169,7 +170,7 @@ fn read_member(
     before: &[Pid],
     reader: &mut Reader<'_>,
 ) -> Result<Pid, ScheduleFault>
-    ensures { Gives (λ p. (p, reader.new.rest.now)) result (plain.member_at (plain.is_among listed) before.now reader.old.rest.now) }
+    ensures { Gives (λ p. (p, reader.new.rest.now)) result (plain.member_at (has listed) before.now reader.old.rest.now) }
 {
     let member = reader.process(ScheduleFault::Roster)?;
     if !listed.contains(member) {
@@ -187,7 +188,7 @@ fn read_members(
     reader: &mut Reader<'_>,
 ) -> Result<ArrayVec<Pid, 16>, ScheduleFault>
     requires { count ≤ MEMBER_ROOM }
-    ensures { Gives (λ ms. (ms.items, reader.new.rest.now)) result (plain.members_at count (plain.is_among listed) [] reader.old.rest.now) }
+    ensures { Gives (λ ms. (ms.items, reader.new.rest.now)) result (plain.members_at count (has listed) [] reader.old.rest.now) }
 {
     let mut members = ArrayVec::new();
     'members: for _ in 0..count {
@@ -199,7 +200,7 @@ fn read_members(
 
 #[tactic(auto, unfolding(file_defs::specs::Schedules::genesis_at))]
 fn read_genesis(listed: PidSet, reader: &mut Reader<'_>) -> Result<ArrayVec<Pid, 16>, ScheduleFault>
-    ensures { Gives (λ ms. (ms.items, reader.new.rest.now)) result (plain.genesis_at (plain.is_among listed) reader.old.rest.now) }
+    ensures { Gives (λ ms. (ms.items, reader.new.rest.now)) result (plain.genesis_at (has listed) reader.old.rest.now) }
 {
     let count = reader.byte()?;
     if count == 0 {
@@ -213,7 +214,7 @@ fn read_genesis(listed: PidSet, reader: &mut Reader<'_>) -> Result<ArrayVec<Pid,
 
 #[tactic(auto, unfolding(file_defs::specs::Schedules::correct_at))]
 fn read_correct(correct: PidSet, reader: &mut Reader<'_>) -> Result<Pid, ScheduleFault>
-    ensures { Gives (λ p. (p, reader.new.rest.now)) result (plain.correct_at (plain.is_among correct) reader.old.rest.now) }
+    ensures { Gives (λ p. (p, reader.new.rest.now)) result (plain.correct_at (has correct) reader.old.rest.now) }
 {
     let p = reader.process(ScheduleFault::Field)?;
     if !correct.contains(p) {
@@ -228,7 +229,7 @@ fn read_submit(
     correct: PidSet,
     reader: &mut Reader<'_>,
 ) -> Result<ScheduleEvent, ReadError>
-    ensures { Makes fault_of (λ e. (event e, reader.new.rest.now)) result (plain.submit_at (plain.is_among correct) reader.old.rest.now) }
+    ensures { Makes fault_of (λ e. (event e, reader.new.rest.now)) result (plain.submit_at (has correct) reader.old.rest.now) }
 {
     let at = read_correct(correct, reader)?;
     let payload = reader.text(u16::MAX)?;
@@ -244,7 +245,7 @@ fn read_raw(
     correct: PidSet,
     reader: &mut Reader<'_>,
 ) -> Result<ScheduleEvent, ReadError>
-    ensures { Makes fault_of (λ e. (event e, reader.new.rest.now)) result (plain.raw_at (plain.is_among correct) reader.old.rest.now) }
+    ensures { Makes fault_of (λ e. (event e, reader.new.rest.now)) result (plain.raw_at (has correct) reader.old.rest.now) }
 {
     let to = read_correct(correct, reader)?;
     let from = reader.process(ScheduleFault::Field)?;
@@ -258,7 +259,7 @@ fn read_raw(
 
 #[tactic(auto, unfolding(file_defs::specs::Schedules::pass_at))]
 fn read_pass(correct: PidSet, reader: &mut Reader<'_>) -> Result<ScheduleEvent, ScheduleFault>
-    ensures { Gives (λ e. (event e, reader.new.rest.now)) result (plain.pass_at (plain.is_among correct) reader.old.rest.now) }
+    ensures { Gives (λ e. (event e, reader.new.rest.now)) result (plain.pass_at (has correct) reader.old.rest.now) }
 {
     let frame = reader.long()?;
     let to = read_correct(correct, reader)?;
@@ -271,7 +272,7 @@ fn read_event(
     correct: PidSet,
     reader: &mut Reader<'_>,
 ) -> Result<ScheduleEvent, ReadError>
-    ensures { Makes fault_of (λ e. (event e, reader.new.rest.now)) result (plain.event_at (plain.is_among correct) reader.old.rest.now) }
+    ensures { Makes fault_of (λ e. (event e, reader.new.rest.now)) result (plain.event_at (has correct) reader.old.rest.now) }
 {
     match reader.byte()? {
         SUBMIT => read_submit(alloc, correct, reader),
@@ -296,7 +297,7 @@ fn read_events(
     correct: PidSet,
     reader: &mut Reader<'_>,
 ) -> Result<Vec<ScheduleEvent>, ReadError>
-    ensures { Makes fault_of (λ es. map event es.items) result (plain.events_at plain.most_events (plain.is_among correct) reader.old.rest.now) }
+    ensures { Makes fault_of (λ es. map event es.items) result (plain.events_at plain.most_events (has correct) reader.old.rest.now) }
 {
     let mut events = Vec::new(alloc);
     'events: while let [tag, ..] = reader.rest {

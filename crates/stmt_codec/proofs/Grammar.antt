@@ -3,7 +3,7 @@ use Rattle.std.proofs.Common.{◌≡◌, ℕ, ◌≤◌, Bool, true, false, not,
 use Rattle.std.specs.Prelude.{if◌then◌else◌, IfOk}
 use Rattle.std.proofs.lemmas.Bool.{eqb-true}
 use Rattle.std.proofs.lemmas.List.{append-nil}
-use Rattle.byte_defs.specs.Fields.{two, text}
+use Rattle.byte_defs.specs.Fields.{two_bytes, text}
 use Rattle.byte_defs.proofs.Fields.{IsBytes, bind_ok, refuse_ok, ok_is, Takes, Takes-then, byte_takes, byte_again, short_takes, short_again}
 use Rattle.message_defs.specs.declared.FrameFault.{FrameFault}
 use Rattle.message_defs.specs.declared.FrameFault.TheVariants as faults
@@ -21,7 +21,7 @@ abbrev IsSpelled : ℕ → List ℕ → Statement → Type 0
 IsSpelled kind bytes st = IsStatement st × (IsBytes bytes → kind ∷ bytes ≡ spelling st)
 
 -- a field of two bytes, and nothing behind the last field
-short : (bytes : List ℕ) (x : ℕ × List ℕ) → IsBytes bytes → short_at bytes ≡ Ok x → Takes bytes (two x.0) x.1
+short : (bytes : List ℕ) (x : ℕ × List ℕ) → IsBytes bytes → short_at bytes ≡ Ok x → Takes bytes (two_bytes x.0) x.1
 short bytes x fits e = (short_takes faults.Statement bytes x.0 x.1 fits e).0
 
 byte : (bytes : List ℕ) (x : ℕ × List ℕ) → IsBytes bytes → byte_at bytes ≡ Ok x → Takes bytes (x.0 ∷ []) x.1
@@ -46,14 +46,14 @@ init_takes bytes st e =
       λ fits.
           let view = short bytes a.0 fits a.1 in
           let number = short a.0.1 b.0 view.rest_fits b.1 in
-          let parts : bytes ≡ (two a.0.0 ++ two b.0.0) ++ text d.0 = (Takes-then bytes (two a.0.0) a.0.1 (two b.0.0) b.0.1 view number).parts ∙ ap (λ (t : List ℕ). (two a.0.0 ++ two b.0.0) ++ t) (payload_takes b.0.1 d.0 number.rest_fits d.1) in
+          let parts : bytes ≡ (two_bytes a.0.0 ++ two_bytes b.0.0) ++ text d.0 = (Takes-then bytes (two_bytes a.0.0) a.0.1 (two_bytes b.0.0) b.0.1 view number).parts ∙ ap (λ (t : List ℕ). (two_bytes a.0.0 ++ two_bytes b.0.0) ++ t) (payload_takes b.0.1 d.0 number.rest_fits d.1) in
           ap (λ (t : List ℕ). 1 ∷ t) parts,
     )
 
-init_again : (x l : ℕ) (payload : List ℕ) → IsStatement (Init x l payload) → init_at (two x ++ two l ++ text payload) ≡ Ok (Init x l payload)
+init_again : (x l : ℕ) (payload : List ℕ) → IsStatement (Init x l payload) → init_at (two_bytes x ++ two_bytes l ++ text payload) ≡ Ok (Init x l payload)
 unfolding init_at
 init_again x l payload fits =
-    rw (short_again faults.Statement x (two l ++ text payload) (omega (arith, fits.0)), short_again faults.Statement l (text payload) (omega (arith, fits.1)), payload_again payload fits.2, is_within 1023 x fits.0, is_within 1023 l fits.1, is_within 1024 (length payload) fits.2) refl
+    rw (short_again faults.Statement x (two_bytes l ++ text payload) (omega (arith, fits.0)), short_again faults.Statement l (text payload) (omega (arith, fits.1)), payload_again payload fits.2, is_within 1023 x fits.0, is_within 1023 l fits.1, is_within 1024 (length payload) fits.2) refl
 
 echo_takes : (bytes : List ℕ) (st : Statement) → echo_at bytes ≡ Ok st → IsSpelled 2 bytes st
 unfolding echo_at
@@ -69,11 +69,11 @@ echo_takes bytes st e =
       λ fits.
           let view = short bytes a.0 fits a.1 in
           let message = message_takes a.0.1 b.0 view.rest_fits b.1 in
-          let parts : bytes ≡ (two a.0.0 ++ message_bytes b.0.0) ++ text d.0 = (Takes-then bytes (two a.0.0) a.0.1 (message_bytes b.0.0) b.0.1 view message).parts ∙ ap (λ (t : List ℕ). (two a.0.0 ++ message_bytes b.0.0) ++ t) (payload_takes b.0.1 d.0 message.rest_fits d.1) in
+          let parts : bytes ≡ (two_bytes a.0.0 ++ message_bytes b.0.0) ++ text d.0 = (Takes-then bytes (two_bytes a.0.0) a.0.1 (message_bytes b.0.0) b.0.1 view message).parts ∙ ap (λ (t : List ℕ). (two_bytes a.0.0 ++ message_bytes b.0.0) ++ t) (payload_takes b.0.1 d.0 message.rest_fits d.1) in
           ap (λ (t : List ℕ). 2 ∷ t) parts,
     )
 
-echo_again : (x : ℕ) (m : Message) (payload : List ℕ) → IsStatement (Echo x m payload) → echo_at (two x ++ message_bytes m ++ text payload) ≡ Ok (Echo x m payload)
+echo_again : (x : ℕ) (m : Message) (payload : List ℕ) → IsStatement (Echo x m payload) → echo_at (two_bytes x ++ message_bytes m ++ text payload) ≡ Ok (Echo x m payload)
 unfolding echo_at
 echo_again x m payload fits =
     rw (short_again faults.Statement x (message_bytes m ++ text payload) (omega (arith, fits.0)), message_again m (text payload) fits.1, payload_again payload fits.2, is_within 1023 x fits.0, is_message_within m fits.1, is_within 1024 (length payload) fits.2) refl
@@ -83,7 +83,7 @@ record IsPlaced (bytes : List ℕ) (x k : ℕ) (m : Message) : Type 0 where
   view : x ≤ 1023
   place : k ≤ 1023
   message : IsMessage m
-  parts : IsBytes bytes → bytes ≡ two x ++ two k ++ message_bytes m
+  parts : IsBytes bytes → bytes ≡ two_bytes x ++ two_bytes k ++ message_bytes m
 
 placed_takes : (bytes : List ℕ) (p : ℕ × ℕ × Message) → placed_at bytes ≡ Ok p → IsPlaced bytes p.0 p.1 p.2
 unfolding placed_at
@@ -105,18 +105,18 @@ placed_takes bytes p e =
           let view = short bytes a.0 fits a.1 in
           let place = short a.0.1 b.0 view.rest_fits b.1 in
           let message = message_takes b.0.1 d.0 place.rest_fits d.1 in
-          let both = Takes-then bytes (two a.0.0) a.0.1 (two b.0.0) b.0.1 view place in
-          let all = Takes-then bytes (two a.0.0 ++ two b.0.0) b.0.1 (message_bytes d.0.0) d.0.1 both message in
-          whole bytes (two a.0.0 ++ two b.0.0 ++ message_bytes d.0.0) d.0.1 all.parts (ended_ok d.0.1 t.1);
+          let both = Takes-then bytes (two_bytes a.0.0) a.0.1 (two_bytes b.0.0) b.0.1 view place in
+          let all = Takes-then bytes (two_bytes a.0.0 ++ two_bytes b.0.0) b.0.1 (message_bytes d.0.0) d.0.1 both message in
+          whole bytes (two_bytes a.0.0 ++ two_bytes b.0.0 ++ message_bytes d.0.0) d.0.1 all.parts (ended_ok d.0.1 t.1);
     })
 
-placed_before : (x k : ℕ) (m : Message) (rest : List ℕ) → rest ≡ [] → x ≤ 1023 → k ≤ 1023 → IsMessage m → placed_at (two x ++ (two k ++ (message_bytes m ++ rest))) ≡ Ok (x, k, m)
+placed_before : (x k : ℕ) (m : Message) (rest : List ℕ) → rest ≡ [] → x ≤ 1023 → k ≤ 1023 → IsMessage m → placed_at (two_bytes x ++ (two_bytes k ++ (message_bytes m ++ rest))) ≡ Ok (x, k, m)
 unfolding placed_at
 placed_before x k m rest none view place fits =
-    rw (short_again faults.Statement x (two k ++ (message_bytes m ++ rest)) (omega (arith, view)), short_again faults.Statement k (message_bytes m ++ rest) (omega (arith, place)), message_again m rest fits, none, is_within 1023 x view, is_within 1023 k place, is_message_within m fits) refl
+    rw (short_again faults.Statement x (two_bytes k ++ (message_bytes m ++ rest)) (omega (arith, view)), short_again faults.Statement k (message_bytes m ++ rest) (omega (arith, place)), message_again m rest fits, none, is_within 1023 x view, is_within 1023 k place, is_message_within m fits) refl
 
-placed_again : (x k : ℕ) (m : Message) → x ≤ 1023 → k ≤ 1023 → IsMessage m → placed_at (two x ++ two k ++ message_bytes m) ≡ Ok (x, k, m)
-placed_again x k m view place fits = ap (λ (t : List ℕ). placed_at (two x ++ (two k ++ t))) (sym (append-nil (message_bytes m))) ∙ placed_before x k m [] refl view place fits
+placed_again : (x k : ℕ) (m : Message) → x ≤ 1023 → k ≤ 1023 → IsMessage m → placed_at (two_bytes x ++ two_bytes k ++ message_bytes m) ≡ Ok (x, k, m)
+placed_again x k m view place fits = ap (λ (t : List ℕ). placed_at (two_bytes x ++ (two_bytes k ++ t))) (sym (append-nil (message_bytes m))) ∙ placed_before x k m [] refl view place fits
 
 notify_takes : (bytes : List ℕ) (st : Statement) → notify_at bytes ≡ Ok st → IsSpelled 6 bytes st
 unfolding notify_at
@@ -131,11 +131,11 @@ notify_takes bytes st e =
       λ fits.
           let view = short bytes a.0 fits a.1 in
           let update = update_takes a.0.1 b.0 view.rest_fits b.1 in
-          let both = Takes-then bytes (two a.0.0) a.0.1 (update_numbers b.0.0) b.0.1 view update in
-          ap (λ (t : List ℕ). 6 ∷ t) (whole bytes (two a.0.0 ++ update_numbers b.0.0) b.0.1 both.parts (ended_ok b.0.1 t.1)),
+          let both = Takes-then bytes (two_bytes a.0.0) a.0.1 (update_numbers b.0.0) b.0.1 view update in
+          ap (λ (t : List ℕ). 6 ∷ t) (whole bytes (two_bytes a.0.0 ++ update_numbers b.0.0) b.0.1 both.parts (ended_ok b.0.1 t.1)),
     )
 
-notify_again : (x : ℕ) (u : Update) → IsStatement (Notify x u) → notify_at (two x ++ update_numbers u) ≡ Ok (Notify x u)
+notify_again : (x : ℕ) (u : Update) → IsStatement (Notify x u) → notify_at (two_bytes x ++ update_numbers u) ≡ Ok (Notify x u)
 unfolding notify_at
 notify_again x u fits =
     let last : update_at (update_numbers u) ≡ Ok (u, []) = ap update_at (sym (append-nil (update_numbers u))) ∙ update_again u [] in
@@ -154,17 +154,17 @@ end_takes bytes st e =
       λ fits.
           let view = short bytes a.0 fits a.1 in
           let len = short a.0.1 b.0 view.rest_fits b.1 in
-          let both = Takes-then bytes (two a.0.0) a.0.1 (two b.0.0) b.0.1 view len in
-          ap (λ (t : List ℕ). 7 ∷ t) (whole bytes (two a.0.0 ++ two b.0.0) b.0.1 both.parts (ended_ok b.0.1 t.1)),
+          let both = Takes-then bytes (two_bytes a.0.0) a.0.1 (two_bytes b.0.0) b.0.1 view len in
+          ap (λ (t : List ℕ). 7 ∷ t) (whole bytes (two_bytes a.0.0 ++ two_bytes b.0.0) b.0.1 both.parts (ended_ok b.0.1 t.1)),
     )
 
-end_before : (x k : ℕ) (rest : List ℕ) → rest ≡ [] → IsStatement (End x k) → end_at (two x ++ (two k ++ rest)) ≡ Ok (End x k)
+end_before : (x k : ℕ) (rest : List ℕ) → rest ≡ [] → IsStatement (End x k) → end_at (two_bytes x ++ (two_bytes k ++ rest)) ≡ Ok (End x k)
 unfolding end_at
 end_before x k rest none fits =
-    rw (short_again faults.Statement x (two k ++ rest) (omega (arith, fits.0)), short_again faults.Statement k rest (omega (arith, fits.1)), none, is_within 1023 x fits.0, is_within 1024 k fits.1) refl
+    rw (short_again faults.Statement x (two_bytes k ++ rest) (omega (arith, fits.0)), short_again faults.Statement k rest (omega (arith, fits.1)), none, is_within 1023 x fits.0, is_within 1024 k fits.1) refl
 
-end_again : (x k : ℕ) → IsStatement (End x k) → end_at (two x ++ two k) ≡ Ok (End x k)
-end_again x k fits = ap (λ (t : List ℕ). end_at (two x ++ t)) (sym (append-nil (two k))) ∙ end_before x k [] refl fits
+end_again : (x k : ℕ) → IsStatement (End x k) → end_at (two_bytes x ++ two_bytes k) ≡ Ok (End x k)
+end_again x k fits = ap (λ (t : List ℕ). end_at (two_bytes x ++ t)) (sym (append-nil (two_bytes k))) ∙ end_before x k [] refl fits
 
 last_takes : (bytes : List ℕ) (st : Statement) → last_at bytes ≡ Ok st → IsSpelled 8 bytes st
 unfolding last_at
@@ -182,12 +182,12 @@ last_takes bytes st e =
           let view = short bytes a.0 fits a.1 in
           let rank = byte a.0.1 b.0 view.rest_fits b.1 in
           let report = report_takes b.0.1 d.0 rank.rest_fits d.1 in
-          let both = Takes-then bytes (two a.0.0) a.0.1 (b.0.0 ∷ []) b.0.1 view rank in
-          let all = Takes-then bytes (two a.0.0 ++ b.0.0 ∷ []) b.0.1 (ready_bytes d.0.0) d.0.1 both report in
-          ap (λ (t : List ℕ). 8 ∷ t) (whole bytes (two a.0.0 ++ b.0.0 ∷ ready_bytes d.0.0) d.0.1 all.parts (ended_ok d.0.1 t.1)),
+          let both = Takes-then bytes (two_bytes a.0.0) a.0.1 (b.0.0 ∷ []) b.0.1 view rank in
+          let all = Takes-then bytes (two_bytes a.0.0 ++ b.0.0 ∷ []) b.0.1 (ready_bytes d.0.0) d.0.1 both report in
+          ap (λ (t : List ℕ). 8 ∷ t) (whole bytes (two_bytes a.0.0 ++ b.0.0 ∷ ready_bytes d.0.0) d.0.1 all.parts (ended_ok d.0.1 t.1)),
     )
 
-last_again : (x r : ℕ) (ready : Option (ℕ × Value)) → IsStatement (Last x r ready) → last_at (two x ++ r ∷ ready_bytes ready) ≡ Ok (Last x r ready)
+last_again : (x r : ℕ) (ready : Option (ℕ × Value)) → IsStatement (Last x r ready) → last_at (two_bytes x ++ r ∷ ready_bytes ready) ≡ Ok (Last x r ready)
 unfolding last_at
 last_again x r ready fits =
     let last : report_at (ready_bytes ready) ≡ Ok (ready, []) = ap report_at (sym (append-nil (ready_bytes ready))) ∙ report_again r ready [] fits.2 in
@@ -198,7 +198,7 @@ record IsValued (bytes : List ℕ) (x r : ℕ) (v : Value) : Type 0 where
   view : x ≤ 1023
   rank : r ≤ 15
   value : IsValue v
-  parts : IsBytes bytes → bytes ≡ two x ++ r ∷ value_bytes v
+  parts : IsBytes bytes → bytes ≡ two_bytes x ++ r ∷ value_bytes v
 
 valued_takes : (bytes : List ℕ) (p : ℕ × ℕ × Value) → valued_at bytes ≡ Ok p → IsValued bytes p.0 p.1 p.2
 unfolding valued_at
@@ -220,12 +220,12 @@ valued_takes bytes p e =
           let view = short bytes a.0 fits a.1 in
           let rank = byte a.0.1 b.0 view.rest_fits b.1 in
           let value = value_takes b.0.1 d.0 rank.rest_fits d.1 in
-          let both = Takes-then bytes (two a.0.0) a.0.1 (b.0.0 ∷ []) b.0.1 view rank in
-          let all = Takes-then bytes (two a.0.0 ++ b.0.0 ∷ []) b.0.1 (value_bytes d.0.0) d.0.1 both value in
-          whole bytes (two a.0.0 ++ b.0.0 ∷ value_bytes d.0.0) d.0.1 all.parts (ended_ok d.0.1 t.1);
+          let both = Takes-then bytes (two_bytes a.0.0) a.0.1 (b.0.0 ∷ []) b.0.1 view rank in
+          let all = Takes-then bytes (two_bytes a.0.0 ++ b.0.0 ∷ []) b.0.1 (value_bytes d.0.0) d.0.1 both value in
+          whole bytes (two_bytes a.0.0 ++ b.0.0 ∷ value_bytes d.0.0) d.0.1 all.parts (ended_ok d.0.1 t.1);
     })
 
-valued_again : (x r : ℕ) (v : Value) → x ≤ 1023 → r ≤ 15 → IsValue v → valued_at (two x ++ r ∷ value_bytes v) ≡ Ok (x, r, v)
+valued_again : (x r : ℕ) (v : Value) → x ≤ 1023 → r ≤ 15 → IsValue v → valued_at (two_bytes x ++ r ∷ value_bytes v) ≡ Ok (x, r, v)
 unfolding valued_at
 valued_again x r v view rank fits =
     let last : value_at (value_bytes v) ≡ Ok (v, []) = ap value_at (sym (append-nil (value_bytes v))) ∙ value_again v [] fits in

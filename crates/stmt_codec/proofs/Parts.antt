@@ -3,7 +3,7 @@ use Rattle.std.proofs.Common.{◌≡◌, ℕ, ◌≤◌, Bool, true, false, not,
 use Rattle.std.specs.Prelude.{if◌then◌else◌, ◌&&◌, ◌⊎◌}
 use Rattle.std.proofs.lemmas.Bool.{ltb-false, le-ltb, leb-false, lt-leb, eqb-true, eq-eqb}
 use Rattle.std.proofs.lemmas.List.{nil_from_length}
-use Rattle.byte_defs.specs.Fields.{◌>>=◌, refuse_if, two, text}
+use Rattle.byte_defs.specs.Fields.{◌>>=◌, refuse_if, two_bytes, text}
 use Rattle.byte_defs.proofs.Fields.{IsBytes, bind_ok, refuse_ok, ok_is, not_false, Takes, Takes-then, byte_takes, byte_again, short_takes, short_again}
 use Rattle.message_defs.specs.declared.FrameFault.{FrameFault}
 use Rattle.message_defs.specs.declared.FrameFault.TheVariants as faults
@@ -63,11 +63,11 @@ message_takes bytes x fits e =
     let s = byte_takes faults.Statement bytes a.0.0 a.0.1 fits a.1 in
     let l = short_takes faults.Statement a.0.1 b.0.0 b.0.1 s.0.rest_fits b.1 in
     let made : Message × List ℕ = (record { sender = a.0.0; number = b.0.0 }, b.0.1) in
-    subst (λ (y : Message × List ℕ). Takes bytes (message_bytes y.0) y.1) (ok_is made x b.2) (Takes-then bytes (a.0.0 ∷ []) a.0.1 (two b.0.0) b.0.1 s.0 l.0)
+    subst (λ (y : Message × List ℕ). Takes bytes (message_bytes y.0) y.1) (ok_is made x b.2) (Takes-then bytes (a.0.0 ∷ []) a.0.1 (two_bytes b.0.0) b.0.1 s.0 l.0)
 
 pub message_again : (m : Message) (rest : List ℕ) → IsMessage m → message_at (message_bytes m ++ rest) ≡ Ok (m, rest)
 unfolding message_at
-message_again m rest fits = rw (byte_again faults.Statement m.sender (two m.number ++ rest), short_again faults.Statement m.number rest (omega (arith, fits.1))) refl
+message_again m rest fits = rw (byte_again faults.Statement m.sender (two_bytes m.number ++ rest), short_again faults.Statement m.number rest (omega (arith, fits.1))) refl
 
 pub payload_takes : (bytes payload : List ℕ) → IsBytes bytes → payload_at bytes ≡ Ok payload → bytes ≡ text payload
 unfolding payload_at
@@ -76,7 +76,7 @@ payload_takes bytes payload fits e =
     let b = refuse_ok (not (eqb (length a.0.1) a.0.0)) faults.Statement (λ _. Ok a.0.1) payload a.2 in
     let len : length a.0.1 ≡ a.0.0 = eqb-true _ _ (not_false _ b.0) in
     let t = short_takes faults.Statement bytes a.0.0 a.0.1 fits a.1 in
-    t.0.parts ∙ ap (λ (n : ℕ). two n ++ a.0.1) (sym len) ∙ ap text (ok_is a.0.1 payload b.1)
+    t.0.parts ∙ ap (λ (n : ℕ). two_bytes n ++ a.0.1) (sym len) ∙ ap text (ok_is a.0.1 payload b.1)
 
 pub payload_again : (payload : List ℕ) → length payload ≤ 1024 → payload_at (text payload) ≡ Ok payload
 unfolding payload_at
@@ -132,12 +132,12 @@ value_takes bytes x fits e =
     let u = update_takes bytes a.0 fits a.1 in
     let c = short_takes faults.Statement a.0.1 b.0.0 b.0.1 u.rest_fits b.1 in
     let made : Value × List ℕ = (record { update = a.0.0; cut = b.0.0 }, b.0.1) in
-    subst (λ (y : Value × List ℕ). Takes bytes (value_bytes y.0) y.1) (ok_is made x b.2) (Takes-then bytes (update_numbers a.0.0) a.0.1 (two b.0.0) b.0.1 u c.0)
+    subst (λ (y : Value × List ℕ). Takes bytes (value_bytes y.0) y.1) (ok_is made x b.2) (Takes-then bytes (update_numbers a.0.0) a.0.1 (two_bytes b.0.0) b.0.1 u c.0)
 
 pub value_again : (v : Value) (rest : List ℕ) → IsValue v → value_at (value_bytes v ++ rest) ≡ Ok (v, rest)
 unfolding value_at
 value_again v rest fits =
-    ap value_at (append_assoc (update_numbers v.update) (two v.cut) rest) ∙ rw (update_again v.update (two v.cut ++ rest), short_again faults.Statement v.cut rest (omega (arith, fits.1))) refl
+    ap value_at (append_assoc (update_numbers v.update) (two_bytes v.cut) rest) ∙ rw (update_again v.update (two_bytes v.cut ++ rest), short_again faults.Statement v.cut rest (omega (arith, fits.1))) refl
 
 -- the report of a Last
 abbrev Report : Type 0

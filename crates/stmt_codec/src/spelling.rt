@@ -7,7 +7,7 @@
 //! | signer | 1 |
 //! | statement | 5 to 1,032 |
 ghost use Rattle.std.specs.Prelude.{◌≡◌, ◌+◌, ◌++◌, ◌∷◌, ◌≤◌, [], codes, length, take};
-ghost use Rattle.byte_defs.specs.Fields.{two};
+ghost use Rattle.byte_defs.specs.Fields.{two_bytes};
 ghost use Rattle.message_defs.specs.Spelling.{IsStatement, spelling, body, message_bytes, value_bytes};
 ghost use Rattle.message_defs.specs.Updates.{update_numbers};
 ghost use Rattle.message_defs.specs.Statements as plain;
@@ -73,7 +73,7 @@ fn spell_echo(view: u16, sender: Pid, number: u16, payload: &[u8], out: &mut [u8
 }
 
 fn placed_bytes(kind: u8, view: u16, place: u16, sender: Pid, number: u16) -> [u8; 8]
-    ensures { result ≡ kind ∷ (two view ++ two place ++ message_bytes (message sender number)) }
+    ensures { result ≡ kind ∷ (two_bytes view ++ two_bytes place ++ message_bytes (message sender number)) }
 {
     let [a, b] = view.to_be_bytes();
     let [c, d] = place.to_be_bytes();
@@ -98,7 +98,7 @@ fn end_bytes(view: u16, length: u16) -> [u8; 5]
 }
 
 fn ranked_bytes(kind: u8, view: u16, rank: u8, value: Value) -> [u8; 8]
-    ensures { result ≡ kind ∷ (two view ++ rank ∷ value_bytes (base.value value)) }
+    ensures { result ≡ kind ∷ (two_bytes view ++ rank ∷ value_bytes (base.value value)) }
 {
     let [a, b] = view.to_be_bytes();
     let [tag, process] = update_bytes(value.update);

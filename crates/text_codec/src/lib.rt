@@ -1,4 +1,4 @@
-//! Lines of text, read word by word and written: a line is its words with one blank between them, and ends with a line
+//! Lines of text, read word by word and written: a line is its words with one space between them, and ends with a line
 //! feed.
 #![tactic(auto)]
 

@@ -36,7 +36,7 @@ pub struct Parts<'a> {
 impl<'a> Parts<'a> {
     ghost use Rattle.text_defs.specs.Words.{words_of, parts_of};
 
-    /// The words of a line (without its line feed), cut at each blank.
+    /// The words of a line (without its line feed), cut at each space.
     pub fn words(line: &'a [u8]) -> Parts<'a>
         ensures { parts_left result ≡ words_of line.now }
     {

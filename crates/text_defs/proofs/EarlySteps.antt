@@ -8,10 +8,11 @@ use Rattle.std.specs.Fmt.{decimal}
 use Rattle.hex.specs.Hex.{encode_lower}
 use Rattle.byte_defs.proofs.Fields.{ok_is}
 use Rattle.byte_defs.specs.Equality.{same_bytes}
+use Rattle.byte_defs.specs.Members.{has}
 use Rattle.secret_defs.specs.Schemes.{Scheme}
 use Rattle.secret_defs.specs.Schemes as schemes
 use Rattle.text_defs.specs.Words.{AreBytes, begin_with}
-use Rattle.text_defs.specs.Kits.{AreKeys, KitLine, Version, SchemeIs, GroupIs, Key, Genesis, is_one_of, key_length, key_line, line_words, roster_of}
+use Rattle.text_defs.specs.Kits.{AreKeys, KitLine, Version, SchemeIs, GroupIs, Key, Genesis, key_length, key_line, line_words, roster_of}
 use Rattle.text_defs.specs.KitReading.{Draft}
 use Rattle.text_defs.proofs.Lists.{each_fails, each_weaker, each_with}
 use Rattle.text_defs.proofs.LineShapes.{IsPublicKey}
@@ -81,8 +82,8 @@ module _ (scheme : Scheme) (group : List ℕ) (keys : List (ℕ × List ℕ)) (n
       }
 
   -- those of a genesis line are of the roster
-  genesis_listed : (members : List ℕ) → list_any (λ p. not (is_one_of (roster_of keys) p)) members ≡ false → AllByRecursion (λ m. IsTrue (is_one_of (roster_of keys) m)) members
-  genesis_listed members all = each_weaker (λ m. not (is_one_of (roster_of keys) m) ≡ false) (λ m. IsTrue (is_one_of (roster_of keys) m)) (λ m no_stranger. not-false _ no_stranger) members (each_fails (λ p. not (is_one_of (roster_of keys) p)) members all)
+  genesis_listed : (members : List ℕ) → list_any (λ p. not (has (roster_of keys) p)) members ≡ false → AllByRecursion (λ m. IsTrue (has (roster_of keys) m)) members
+  genesis_listed members all = each_weaker (λ m. not (has (roster_of keys) m) ≡ false) (λ m. IsTrue (has (roster_of keys) m)) (λ m no_stranger. not-false _ no_stranger) members (each_fails (λ p. not (has (roster_of keys) p)) members all)
 
   genesis_step : (members : List ℕ) → IsTaken n (draft_of (Keyed scheme group keys)) (Genesis members) e → Next (Keyed scheme group keys) (Genesis members) e
   genesis_step [] t = absurd (omega (arith, t.ranges.some))

@@ -8,10 +8,11 @@ use Rattle.std.proofs.lemmas.Slice.Eq.{bytes_eq-Decides}
 use Rattle.byte_defs.specs.Choices.{is_some_and}
 use Rattle.byte_defs.specs.Equality.{same_bytes}
 use Rattle.hex.specs.Hex.{encode_lower}
+use Rattle.byte_defs.specs.Members.{has}
 use Rattle.secret_defs.specs.Schemes.{Scheme}
 use Rattle.secret_defs.specs.Secrets.{Secret, Plain, Lms, public_key_of, scheme_of}
 use Rattle.text_defs.specs.Words.{AreBytes, begin_with}
-use Rattle.text_defs.specs.Kits.{AreHosts, AreKeys, Host, IsHost, IsSecret, KitLine, PlainHost, LmsHost, Pair, host_lines, is_one_of, key_length, key_of, line_words, others_than, pair_line, roster_of, secret_line}
+use Rattle.text_defs.specs.Kits.{AreHosts, AreKeys, Host, IsHost, IsSecret, KitLine, PlainHost, LmsHost, Pair, host_lines, key_length, key_of, line_words, others_than, pair_line, roster_of, secret_line}
 use Rattle.text_defs.specs.KitReading.{Draft, KeyMismatch, first_of, has_genesis, host_above, host_stands, is_hosted, is_pair, last_of, listed_key, may_be_lms, may_be_plain, next_pair, next_port, lacks_port, with_host, with_pair}
 use Rattle.text_defs.proofs.Fresh.{IsFresh}
 use Rattle.text_defs.proofs.Fronts.{drop_all}
@@ -60,12 +61,12 @@ module _ (scheme : Scheme) (group : List ℕ) (keys : List (ℕ × List ℕ)) (f
       let none : drop (length ports) roster ≡ [] = ap (drop (length ports)) (sym ported) ∙ drop_all (map (λ p. p.0) ports) (length ports) (length-map ports (λ p. p.0)) in
       or_from (not (has_genesis (with_hosts hosts))) (is_some (next_port (with_hosts hosts))) (not_from_true _ (stands hosts)) (ap (λ ps. is_some (first_of ps)) none)
 
-  small : (p : ℕ) → is_one_of roster p ≡ true → p ≤ 63
+  small : (p : ℕ) → has roster p ≡ true → p ≤ 63
   small p is = one_has (λ q. q ≤ 63) roster p (roster_small (key_length scheme) 0 keys are) is
 
   -- a process of the roster is not outside
-  inside : (hosts : List Host) (p : ℕ) (more : Bool) → is_one_of roster p ≡ true → more ≡ false → (has_genesis (with_hosts hosts) && (not (is_one_of roster p) || more)) ≡ false
-  inside hosts p more is rest = and_right (has_genesis (with_hosts hosts)) (not (is_one_of roster p) || more) (or_from (not (is_one_of roster p)) more (not_from_true _ is) rest)
+  inside : (hosts : List Host) (p : ℕ) (more : Bool) → has roster p ≡ true → more ≡ false → (has_genesis (with_hosts hosts) && (not (has roster p) || more)) ≡ false
+  inside hosts p more is rest = and_right (has_genesis (with_hosts hosts)) (not (has roster p) || more) (or_from (not (has roster p)) more (not_from_true _ is) rest)
 
   -- ---- a host line
 
@@ -92,7 +93,7 @@ module _ (scheme : Scheme) (group : List ℕ) (keys : List (ℕ × List ℕ)) (f
   secret_goes : (before : List Host) (p : ℕ) (secret : Secret) → IsSecret secret → scheme_of secret ≡ scheme → key_of keys p ≡ Some (public_key_of secret) → AllByRecursion (λ h. h.process < p) before
       → is_some (next_of_last keys before) ≡ false → Goes (with_hosts before) (secret_line p secret) (with_hosts (before ++ record { process = p; secret = secret; pairs = [] } ∷ []))
   secret_goes before p (Plain key total) is same key_is below whole =
-      let listed : is_one_of roster p ≡ true = key_listed keys p key key_is in
+      let listed : has roster p ≡ true = key_listed keys p key key_is in
       let p_small : p ≤ 63 = small p listed in
       let ranges : IsLine (Some scheme) (PlainHost p total) = (p_small, subst (λ s. may_be_plain (Some s) ≡ true) same refl, is.1) in
       let d : Draft = with_hosts before in
@@ -111,7 +112,7 @@ module _ (scheme : Scheme) (group : List ℕ) (keys : List (ℕ × List ℕ)) (f
   secret_goes before p (Lms code kind id seed) is same key_is below whole =
       let secret : Secret = Lms code kind id seed in
       let line : KitLine = LmsHost p code kind id seed in
-      let listed : is_one_of roster p ≡ true = key_listed keys p (public_key_of secret) key_is in
+      let listed : has roster p ≡ true = key_listed keys p (public_key_of secret) key_is in
       let p_small : p ≤ 63 = small p listed in
       let ranges : IsLine (Some scheme) line = record { number = p_small; scheme_may = subst (λ s. may_be_lms (Some s) ≡ true) same refl; least = is.0; most = is.1; id_is = is.2; seed_is = is.3 } in
       let d : Draft = with_hosts before in
@@ -134,7 +135,7 @@ module _ (scheme : Scheme) (group : List ℕ) (keys : List (ℕ × List ℕ)) (f
   -- a host whose pair lines up to these stand, and the process of the next one
   record IsNext (before : List Host) (h : Host) (done : List (ℕ × List ℕ)) (q : ℕ) (rest : List ℕ) : Type 0 where
     below : AllByRecursion (λ g. g.process < h.process) before
-    own : is_one_of roster h.process ≡ true
+    own : has roster h.process ≡ true
     whole : roster_of done ++ q ∷ rest ≡ others_than h.process roster
 
   module _ (before : List Host) (h : Host) (done : List (ℕ × List ℕ)) (q : ℕ) (rest : List ℕ) (key : List ℕ) (is : IsNext before h done q rest) where
@@ -145,8 +146,8 @@ module _ (scheme : Scheme) (group : List ℕ) (keys : List (ℕ × List ℕ)) (f
     own_small = small h.process is.own
 
     -- the other one is of the roster, and another process
-    other_is : (is_one_of roster q ≡ true) × (not (q == h.process) ≡ true)
-    other_is = one_of_filter (λ r. not (r == h.process)) roster q (subst (λ ps. is_one_of ps q ≡ true) is.whole (one_behind (roster_of done) q rest))
+    other_is : (has roster q ≡ true) × (not (q == h.process) ≡ true)
+    other_is = one_of_filter (λ r. not (r == h.process)) roster q (subst (λ ps. has ps q ≡ true) is.whole (one_behind (roster_of done) q rest))
 
     other_small : q ≤ 63
     other_small = small q other_is.0
@@ -205,7 +206,7 @@ module _ (scheme : Scheme) (group : List ℕ) (keys : List (ℕ × List ℕ)) (f
           taken = λ n. record {
             ranges = ranges;
             new = pair_fresh;
-            inside = inside so_far h.process (not (is_one_of roster q) || false) is.own (or_from (not (is_one_of roster q)) false (not_from_true _ other_is.0) refl);
+            inside = inside so_far h.process (not (has roster q) || false) is.own (or_from (not (has roster q)) false (not_from_true _ other_is.0) refl);
             in_time = and_left (not (is_hosted d h.process)) (host_above d h.process) (not_from_true _ hosted);
             due = or_from (lacks_port d) (not (is_some_and (next_pair d) (is_pair h.process q))) (no_port so_far) (not_from_true _ meant);
             of_roster = refl;
@@ -213,7 +214,7 @@ module _ (scheme : Scheme) (group : List ℕ) (keys : List (ℕ × List ℕ)) (f
           };
         }
 
-  pairs_run : (before : List Host) (h : Host) (done todo : List (ℕ × List ℕ)) → AllByRecursion (λ g. g.process < h.process) before → is_one_of roster h.process ≡ true
+  pairs_run : (before : List Host) (h : Host) (done todo : List (ℕ × List ℕ)) → AllByRecursion (λ g. g.process < h.process) before → has roster h.process ≡ true
       → roster_of (done ++ todo) ≡ others_than h.process roster → AllByRecursion (λ p. AreBytes 32 p.1) todo
       → Run (with_hosts (before ++ up_to h done ∷ [])) (map (pair_line h.process) todo) (with_hosts (before ++ up_to h (done ++ todo) ∷ []))
   pairs_run before h done [] below own whole bytes = ap (λ ps. with_hosts (before ++ up_to h ps ∷ [])) (sym (append-nil done))

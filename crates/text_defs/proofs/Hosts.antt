@@ -2,9 +2,10 @@
 use Rattle.std.proofs.Common.{◌≡◌, ℕ, ◌+◌, ◌<◌, ◌≤◌, ◌==◌, ◌||◌, Bool, true, false, List, [], ◌∷◌, ◌++◌, length, drop, flat_map, Option, Some, None, is_some, option_map, option_and_then, cond, find, refl, sym, ap, ◌∙◌, arith, append_assoc, append-nil, length-append}
 use Rattle.std.specs.List.{AllByRecursion}
 use Rattle.std.proofs.lemmas.List.{length-map, map-append}
+use Rattle.byte_defs.specs.Members.{has}
 use Rattle.secret_defs.specs.Schemes.{Scheme}
 use Rattle.text_defs.specs.Words.{AreBytes}
-use Rattle.text_defs.specs.Kits.{AreHosts, AreKeys, Host, IsHost, KitLine, Pair, host_lines, is_one_of, key_of, others_than, pair_line, roster_of, secret_line}
+use Rattle.text_defs.specs.Kits.{AreHosts, AreKeys, Host, IsHost, KitLine, Pair, host_lines, key_of, others_than, pair_line, roster_of, secret_line}
 use Rattle.text_defs.specs.KitReading.{first_of, last_of, with_pair}
 use Rattle.text_defs.proofs.Choosing.{map_some}
 use Rattle.text_defs.proofs.Fronts.{drop_all, first_none, front_push, front_whole}
@@ -14,11 +15,11 @@ use Rattle.text_defs.proofs.Stages.{AreBegun, IsBegun}
 -- ---- keys of the roster
 
 -- a process of the roster has a key
-pub roster_key : (size least : ℕ) (keys : List (ℕ × List ℕ)) (p : ℕ) → AreKeys size least keys → is_one_of (roster_of keys) p ≡ true → (key : List ℕ) × (key_of keys p ≡ Some key) × AreBytes size key
+pub roster_key : (size least : ℕ) (keys : List (ℕ × List ℕ)) (p : ℕ) → AreKeys size least keys → has (roster_of keys) p ≡ true → (key : List ℕ) × (key_of keys p ≡ Some key) × AreBytes size key
 roster_key size least [] p are e = absurd cc
 roster_key size least (k ∷ keys) p are e = by (k.0 == p) e (roster_key size (k.0 + 1) keys p are.3)
   where
-    by : (same : Bool) → (same || is_one_of (roster_of keys) p) ≡ true → (is_one_of (roster_of keys) p ≡ true → (key : List ℕ) × (key_of keys p ≡ Some key) × AreBytes size key)
+    by : (same : Bool) → (same || has (roster_of keys) p) ≡ true → (has (roster_of keys) p ≡ true → (key : List ℕ) × (key_of keys p ≡ Some key) × AreBytes size key)
         → (key : List ℕ) × (option_map (λ r. r.1) (cond same (Some k) (find (λ r. r.0 == p) keys)) ≡ Some key) × AreBytes size key
     by true e later = (k.1, refl, are.2)
     by false e later = later e

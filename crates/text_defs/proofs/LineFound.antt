@@ -9,13 +9,14 @@ use Rattle.std.proofs.lemmas.List.{length-map}
 use Rattle.hex.specs.Hex.{encode_lower}
 use Rattle.byte_defs.specs.Choices.{first_that_holds}
 use Rattle.byte_defs.specs.Equality.{same_bytes}
+use Rattle.byte_defs.specs.Members.{has}
 use Rattle.signature_defs.specs.declared.OtsType.{OtsType}
 use Rattle.signature_defs.specs.LmOts.{ots_type_of, ots_typecode}
 use Rattle.signature_defs.proofs.OtsLaws.{typecode_of_type}
 use Rattle.secret_defs.specs.Schemes.{Scheme}
 use Rattle.secret_defs.specs.Schemes as schemes
 use Rattle.text_defs.specs.Words.{bytes_of, number_within, process_of}
-use Rattle.text_defs.specs.Kits.{KitLine, Version, SchemeIs, GroupIs, Key, Genesis, Port, PlainHost, LmsHost, Pair, is_one_of, line_words}
+use Rattle.text_defs.specs.Kits.{KitLine, Version, SchemeIs, GroupIs, Key, Genesis, Port, PlainHost, LmsHost, Pair, line_words}
 use Rattle.text_defs.specs.KitReading.{genesis_by, group_by, host_by, key_by, line_by, lms_host_by, may_be_lms, may_be_plain, members_by, pair_by, plain_host_by, port_by, public_key_by, scheme_by, version_by}
 use Rattle.text_defs.proofs.Bytes.{bytes_found}
 use Rattle.text_defs.proofs.Numbers.{number_within_found}
@@ -123,8 +124,8 @@ members_found before members [] distinct e =
     let same = some_is before members e in
     record { more = []; whole = append-nil before ∙ same; spelled = refl; numbers = tt; distinct = subst (AllPairs (λ m n. m ≢ n)) same distinct }
 members_found before members (word ∷ words) distinct e =
-    let first = then_some (λ p. if is_one_of before p then None else members_by (before ++ p ∷ []) words) (process_of word) members e in
-    let new = unless_some (is_one_of before first.0) (members_by (before ++ first.0 ∷ []) words) members first.2 in
+    let first = then_some (λ p. if has before p then None else members_by (before ++ p ∷ []) words) (process_of word) members e in
+    let new = unless_some (has before first.0) (members_by (before ++ first.0 ∷ []) words) members first.2 in
     let p = process_found word first.0 first.1 in
     let rest = members_found (before ++ first.0 ∷ []) members words (distinct_push before first.0 distinct new.0) new.1 in
     record {

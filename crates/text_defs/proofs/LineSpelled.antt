@@ -9,14 +9,16 @@ use Rattle.std.proofs.lemmas.List.{get_or_append_left, length-map}
 use Rattle.std.proofs.lemmas.List.Elements.{recursion_from_All}
 use Rattle.std.proofs.Math.Seq.{get_or-append_seam}
 use Rattle.hex.specs.Hex.{encode_lower}
+use Rattle.byte_defs.specs.Members.{has}
+use Rattle.byte_defs.specs.Choices.{and_then}
 use Rattle.signature_defs.specs.declared.OtsType.{OtsType}
 use Rattle.signature_defs.specs.LmOts.{ots_type_of, ots_typecode}
 use Rattle.secret_defs.specs.Schemes.{Scheme}
 use Rattle.secret_defs.specs.Schemes as schemes
 use Rattle.signature_defs.proofs.OtsLaws.{type_of_typecode, typecode_range}
 use Rattle.text_defs.specs.Words.{bytes_of, number_within, process_of}
-use Rattle.text_defs.specs.Kits.{KitLine, Version, SchemeIs, GroupIs, Key, Genesis, Port, PlainHost, LmsHost, Pair, is_one_of, line_words}
-use Rattle.text_defs.specs.KitReading.{and_then, genesis_by, line_by, may_be_plain, members_by, public_key_by}
+use Rattle.text_defs.specs.Kits.{KitLine, Version, SchemeIs, GroupIs, Key, Genesis, Port, PlainHost, LmsHost, Pair, line_words}
+use Rattle.text_defs.specs.KitReading.{genesis_by, line_by, may_be_plain, members_by, public_key_by}
 use Rattle.text_defs.proofs.Bytes.{bytes_spelled}
 use Rattle.text_defs.proofs.EarlySteps.{key_size, unless}
 use Rattle.text_defs.proofs.LineShapes.{IsGenesis, IsLine, IsLmsHost, IsPublicKey}
@@ -33,7 +35,7 @@ then_is o a f e = ap (option_and_then f) e
 -- ---- members
 
 -- what stands before a member differs from it
-unlike : (before : List ℕ) (m : ℕ) (more : List ℕ) → AllPairs (λ a b. a ≢ b) (before ++ m ∷ more) → is_one_of before m ≡ false
+unlike : (before : List ℕ) (m : ℕ) (more : List ℕ) → AllPairs (λ a b. a ≢ b) (before ++ m ∷ more) → has before m ≡ false
 unlike before m more distinct =
     none_passes (λ q. q == m) before (recursion_from_All (λ q. (q == m) ≡ false) before (λ k d inside. ne_eqb (get_or before k d) m (apart k d inside)))
   where
@@ -48,7 +50,7 @@ members_spelled before [] distinct small = ap (λ ms. Some ms) (sym (append-nil 
 members_spelled before (m ∷ more) distinct small =
     let whole : (before ++ m ∷ []) ++ more ≡ before ++ m ∷ more = append_assoc before (m ∷ []) more in
     let rest = members_spelled (before ++ m ∷ []) more (subst (AllPairs (λ a b. a ≢ b)) (sym whole) distinct) small.1 in
-    then_is (process_of (decimal m)) m (λ p. if is_one_of before p then None else members_by (before ++ p ∷ []) (map decimal more)) (process_spelled m small.0)
+    then_is (process_of (decimal m)) m (λ p. if has before p then None else members_by (before ++ p ∷ []) (map decimal more)) (process_spelled m small.0)
     ∙ ap (λ b. if b then None else members_by (before ++ m ∷ []) (map decimal more)) (unlike before m more distinct)
     ∙ rest ∙ ap (λ ms. Some ms) whole
 

@@ -10,7 +10,7 @@ use Rattle.hex.proofs.HexLemmas.{length-encode_with}
 use Rattle.signature_defs.specs.LmOts.{ots_typecode}
 use Rattle.secret_defs.specs.Schemes.{Scheme}
 use Rattle.secret_defs.specs.Schemes as schemes
-use Rattle.text_defs.specs.Words.{AreBytes, blank, line_feed, words_of}
+use Rattle.text_defs.specs.Words.{AreBytes, space, line_feed, words_of}
 use Rattle.text_defs.specs.Kits.{KitLine, Version, SchemeIs, GroupIs, Key, Genesis, Port, PlainHost, LmsHost, Pair, line_words}
 use Rattle.text_defs.specs.KitReading.{most_line_bytes}
 use Rattle.text_defs.proofs.LineShapes.{IsLine, IsPublicKey}
@@ -19,7 +19,7 @@ use Rattle.text_defs.proofs.Lines.{decimal_has_no, has_byte, hex_has_no, join_ha
 
 -- the text of a line, without its line feed
 abbrev pub line_of : KitLine → List ℕ
-line_of said = join_with_byte blank (line_words said)
+line_of said = join_with_byte space (line_words said)
 
 -- ---- words of a line
 
@@ -79,7 +79,7 @@ are_words o (LmsHost p code kind id seed) h = (
 )
 are_words o (Pair p q key) h = (fixed_word _ refl (lit≤ tt), (number_word p (omega (arith, h.0)), (number_word q (omega (arith, h.1)), (bytes_word 32 key h.3 (lit≤ tt), tt))))
 
--- no word has a blank or a line feed
+-- no word has a space or a line feed
 marks : (c : ℕ) (words : List (List ℕ)) → 0 < c → c < 48 → AllByRecursion IsWord words → list_any (has_byte c) words ≡ false
 marks c [] some low each = refl
 marks c (word ∷ words) some low each = or_from (has_byte c word) (list_any (has_byte c) words) (each.0.no_mark c some low) (marks c words some low each.1)
@@ -96,23 +96,23 @@ word_count o (PlainHost p total) h = omega arith
 word_count o (LmsHost p code kind id seed) h = omega arith
 word_count o (Pair p q key) h = omega arith
 
-words_joined : (words : List (List ℕ)) → 1 ≤ length words → list_any (has_byte blank) words ≡ false → words_of (join_with_byte blank words) ≡ words
+words_joined : (words : List (List ℕ)) → 1 ≤ length words → list_any (has_byte space) words ≡ false → words_of (join_with_byte space words) ≡ words
 words_joined [] some none = absurd (omega arith)
 words_joined (word ∷ words) some none = words_of_join word words none
 
 pub line_words_of : (scheme : Option Scheme) (said : KitLine) → IsLine scheme said → words_of (line_of said) ≡ line_words said
-line_words_of scheme said h = words_joined (line_words said) (word_count scheme said h).0 (marks blank (line_words said) (lit< tt) (lit< tt) (are_words scheme said h))
+line_words_of scheme said h = words_joined (line_words said) (word_count scheme said h).0 (marks space (line_words said) (lit< tt) (lit< tt) (are_words scheme said h))
 
 pub no_line_feed : (scheme : Option Scheme) (said : KitLine) → IsLine scheme said → has_byte line_feed (line_of said) ≡ false
 no_line_feed scheme said h = join_has_no line_feed (line_words said) refl (marks line_feed (line_words said) (lit< tt) (lit< tt) (are_words scheme said h))
 
 -- ---- the length of a line
 
-join_short : (words : List (List ℕ)) → AllByRecursion IsWord words → length (join_with_byte blank words) ≤ 129 * length words
+join_short : (words : List (List ℕ)) → AllByRecursion IsWord words → length (join_with_byte space words) ≤ 129 * length words
 join_short [] each = omega arith
 join_short (word ∷ []) each = omega (arith, each.0.size)
 join_short (word ∷ next ∷ words) each =
-    omega (arith, each.0.size, join_short (next ∷ words) each.1, length-append word (blank ∷ join_with_byte blank (next ∷ words)))
+    omega (arith, each.0.size, join_short (next ∷ words) each.1, length-append word (space ∷ join_with_byte space (next ∷ words)))
 
 pub line_fits : (scheme : Option Scheme) (said : KitLine) → IsLine scheme said → nat_lt most_line_bytes (length (line_of said)) ≡ false
 line_fits scheme said h = le-ltb most_line_bytes (length (line_of said)) (omega (arith, join_short (line_words said) (are_words scheme said h), word_count scheme said h))

@@ -9,7 +9,7 @@ use Rattle.std.proofs.lemmas.List.Folds.{list_any-append}
 use Rattle.std.proofs.lemmas.List.Splits.{join_with_byte-slice_split, slice_split_at, slice_split_none}
 use Rattle.std.proofs.lemmas.Str.Parse.{digit_from_value}
 use Rattle.hex.specs.Hex.{encode_lower, encode_with, lower_digits}
-use Rattle.text_defs.specs.Words.{blank, line_feed, parts_of, words_of}
+use Rattle.text_defs.specs.Words.{space, line_feed, parts_of, words_of}
 use Rattle.text_defs.proofs.Tests.{and_true, or_false}
 
 abbrev pub has_byte : ℕ → List ℕ → Bool
@@ -57,19 +57,19 @@ parts_of_join c word (next ∷ words) h =
     let none = or_false (has_byte c word) _ h in
     slice_split_at (λ d. d == c) word c (join_with_byte c (next ∷ words)) (none_is c word none.0) (is_itself c) ∙ ap (λ parts. word ∷ parts) (parts_of_join c next words none.1)
 
-pub words_of_join : (word : List ℕ) (words : List (List ℕ)) → list_any (has_byte blank) (word ∷ words) ≡ false → words_of (join_with_byte blank (word ∷ words)) ≡ word ∷ words
-words_of_join word words h = parts_of_join blank word words h
+pub words_of_join : (word : List ℕ) (words : List (List ℕ)) → list_any (has_byte space) (word ∷ words) ≡ false → words_of (join_with_byte space (word ∷ words)) ≡ word ∷ words
+words_of_join word words h = parts_of_join space word words h
 
-pub join_words_of : (line : List ℕ) → join_with_byte blank (words_of line) ≡ line
-join_words_of line = join_with_byte-slice_split blank line
+pub join_words_of : (line : List ℕ) → join_with_byte space (words_of line) ≡ line
+join_words_of line = join_with_byte-slice_split space line
 
-pub join_has_no : (c : ℕ) (words : List (List ℕ)) → (blank == c) ≡ false → list_any (has_byte c) words ≡ false → has_byte c (join_with_byte blank words) ≡ false
+pub join_has_no : (c : ℕ) (words : List (List ℕ)) → (space == c) ≡ false → list_any (has_byte c) words ≡ false → has_byte c (join_with_byte space words) ≡ false
 join_has_no c [] other h = refl
 join_has_no c (word ∷ []) other h = (or_false (has_byte c word) _ h).0
 join_has_no c (word ∷ next ∷ words) other h =
     let none = or_false (has_byte c word) _ h in
     let more = join_has_no c (next ∷ words) other none.1 in
-    list_any-append (λ d. d == c) word (blank ∷ join_with_byte blank (next ∷ words)) ∙ rw (none.0, other, more) refl
+    list_any-append (λ d. d == c) word (space ∷ join_with_byte space (next ∷ words)) ∙ rw (none.0, other, more) refl
 
 -- ---- lines
 

@@ -9,12 +9,13 @@ use Rattle.std.proofs.lemmas.Slice.Eq.{bytes_eq-Decides}
 use Rattle.byte_defs.proofs.Fields.{ok_is, refuse_ok}
 use Rattle.byte_defs.specs.Choices.{is_some_and}
 use Rattle.byte_defs.specs.Equality.{same_bytes}
+use Rattle.byte_defs.specs.Members.{has}
 use Rattle.signature_defs.specs.declared.OtsType.{OtsType}
 use Rattle.secret_defs.specs.Schemes.{Scheme}
 use Rattle.secret_defs.specs.Schemes as schemes
 use Rattle.secret_defs.specs.Secrets.{Secret, Plain, Lms, public_key_of, scheme_of}
 use Rattle.text_defs.specs.Words.{AreBytes, begin_with}
-use Rattle.text_defs.specs.Kits.{AreKeys, Host, IsSecret, KitLine, Version, SchemeIs, GroupIs, Key, Genesis, Port, PlainHost, LmsHost, Pair, host_lines, is_one_of, key_length, key_line, key_of, line_words, port_line, roster_of, secret_line}
+use Rattle.text_defs.specs.Kits.{AreKeys, Host, IsSecret, KitLine, Version, SchemeIs, GroupIs, Key, Genesis, Port, PlainHost, LmsHost, Pair, host_lines, key_length, key_line, key_of, line_words, port_line, roster_of, secret_line}
 use Rattle.text_defs.specs.KitReading.{Draft, KeyMismatch, first_of, has_genesis, host_above, host_stands, is_pair, lacks_port, listed_key, next_pair, next_port, with_host, with_pair}
 use Rattle.text_defs.proofs.EarlySteps.{other_number, unless}
 use Rattle.text_defs.proofs.Choosing.{none_some}
@@ -103,12 +104,12 @@ module _ (scheme : Scheme) (group : List ℕ) (keys : List (ℕ × List ℕ)) (f
     below : AllByRecursion (λ h. h.process < p) hosts
 
   may_host : (p : ℕ) (rest : List (List ℕ)) → AreKeys (key_length scheme) 0 keys → list_any (host_stands (codes "host" ∷ decimal p ∷ rest)) hosts ≡ false
-      → (has_genesis d && (not (is_one_of roster p) || false)) ≡ false → host_above d p ≡ false → (lacks_port d || is_some (next_pair d)) ≡ false → MayHost p
+      → (has_genesis d && (not (has roster p) || false)) ≡ false → host_above d p ≡ false → (lacks_port d || is_some (next_pair d)) ≡ false → MayHost p
   may_host p rest are new inside in_time due =
       let early = or_parts (lacks_port d) (is_some (next_pair d)) due in
       let lacks = or_parts (not (has_genesis d)) (is_some (next_port d)) early.0 in
-      let outside : (not (is_one_of roster p) || false) ≡ false = sym (ap (λ b. b && (not (is_one_of roster p) || false)) genesis_stands) ∙ inside in
-      let of_roster : is_one_of roster p ≡ true = not-false _ (or_parts (not (is_one_of roster p)) false outside).0 in
+      let outside : (not (has roster p) || false) ≡ false = sym (ap (λ b. b && (not (has roster p) || false)) genesis_stands) ∙ inside in
+      let of_roster : has roster p ≡ true = not-false _ (or_parts (not (has roster p)) false outside).0 in
       let key = roster_key (key_length scheme) 0 keys p are of_roster in
       let le = each_weaker (λ h. nat_lt p h.process ≡ false) (λ h. h.process ≤ p) (λ h. ltb-false p h.process) hosts (each_fails (λ h. nat_lt p h.process) hosts in_time) in
       record {

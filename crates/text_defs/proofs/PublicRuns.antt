@@ -8,10 +8,11 @@ use Rattle.std.proofs.lemmas.Slice.Eq.{bytes_eq-Decides}
 use Rattle.byte_defs.specs.Choices.{is_some_and}
 use Rattle.byte_defs.specs.Equality.{same_bytes}
 use Rattle.hex.specs.Hex.{encode_lower}
+use Rattle.byte_defs.specs.Members.{has}
 use Rattle.secret_defs.specs.Schemes.{Scheme}
 use Rattle.secret_defs.specs.Schemes as schemes
 use Rattle.text_defs.specs.Words.{AreBytes, begin_with, number_of}
-use Rattle.text_defs.specs.Kits.{AreKeys, Version, SchemeIs, GroupIs, Key, Genesis, Port, is_one_of, key_length, key_line, line_words, port_line, roster_of}
+use Rattle.text_defs.specs.Kits.{AreKeys, Version, SchemeIs, GroupIs, Key, Genesis, Port, key_length, key_line, line_words, port_line, roster_of}
 use Rattle.text_defs.specs.KitReading.{Draft, first_of, has_genesis, next_port}
 use Rattle.text_defs.proofs.Choosing.{some_is}
 use Rattle.text_defs.proofs.LineShapes.{IsGenesis, IsLine, IsPublicKey}
@@ -97,16 +98,16 @@ module _ (scheme : Scheme) (group : List ℕ) (keys : List (ℕ × List ℕ)) (f
   roster = roster_of keys
 
   -- the roster of a member has someone
-  some_keys : (ks : List (ℕ × List ℕ)) (m : ℕ) → is_one_of (roster_of ks) m ≡ true → (length ks == 0) ≡ false
+  some_keys : (ks : List (ℕ × List ℕ)) (m : ℕ) → has (roster_of ks) m ≡ true → (length ks == 0) ≡ false
   some_keys [] m e = absurd cc
   some_keys (k ∷ ks) m e = ne_eqb (length (k ∷ ks)) 0 (λ none. omega arith)
 
-  pub genesis_goes : length (first ∷ others) ≤ 16 → AllByRecursion (λ m. IsTrue (is_one_of roster m)) (first ∷ others) → AllPairs (λ m n. m ≢ n) (first ∷ others)
+  pub genesis_goes : length (first ∷ others) ≤ 16 → AllByRecursion (λ m. IsTrue (has roster m)) (first ∷ others) → AllPairs (λ m n. m ≢ n) (first ∷ others)
       → Goes (draft_of (Keyed scheme group keys)) (Genesis (first ∷ others)) (draft_of (Listed scheme group keys first others [] []))
   unfolding begin_with
   genesis_goes most listed distinct =
       let members : List ℕ = first ∷ others in
-      let numbers = each_weaker (λ m. IsTrue (is_one_of roster m)) (λ m. m ≤ 63) (λ m is. one_has (λ p. p ≤ 63) roster m (roster_small (key_length scheme) 0 keys are) is) members listed in
+      let numbers = each_weaker (λ m. IsTrue (has roster m)) (λ m. m ≤ 63) (λ m is. one_has (λ p. p ≤ 63) roster m (roster_small (key_length scheme) 0 keys are) is) members listed in
       let ranges : IsGenesis members = record { some = omega arith; most = most; numbers = numbers; distinct = distinct } in
       record {
         read = line_spelled scheme (Genesis members) ranges;
@@ -124,7 +125,7 @@ module _ (scheme : Scheme) (group : List ℕ) (keys : List (ℕ × List ℕ)) (f
           inside = refl;
           in_time = refl;
           due = some_keys keys first listed.0;
-          of_roster = none_passes (λ p. not (is_one_of roster p)) members (each_weaker (λ m. IsTrue (is_one_of roster m)) (λ m. not (is_one_of roster m) ≡ false) (λ m is. not_from_true _ is) members listed);
+          of_roster = none_passes (λ p. not (has roster p)) members (each_weaker (λ m. IsTrue (has roster m)) (λ m. not (has roster m) ≡ false) (λ m is. not_from_true _ is) members listed);
           taken = refl;
         };
       }
@@ -140,7 +141,7 @@ module _ (scheme : Scheme) (group : List ℕ) (keys : List (ℕ × List ℕ)) (f
   port_goes before p port rest whole rises range =
       let d : Draft = with_ports before in
       let stands : has_genesis d ≡ true = genesis_stands scheme group keys first others before [] in
-      let is : is_one_of roster p ≡ true = subst (λ ps. is_one_of ps p ≡ true) whole (one_behind (map (λ r. r.0) before) p rest) in
+      let is : has roster p ≡ true = subst (λ ps. has ps p ≡ true) whole (one_behind (map (λ r. r.0) before) p rest) in
       let small : p ≤ 63 = one_has (λ q. q ≤ 63) roster p (roster_small (key_length scheme) 0 keys are) is in
       let below = each_unmapped (λ q. q < p) (λ r. r.0) before (rises_front 0 (map (λ r. r.0) before) p rest (subst (Rises 0) (sym whole) rises)) in
       let comes : next_port d ≡ Some p =
@@ -159,7 +160,7 @@ module _ (scheme : Scheme) (group : List ℕ) (keys : List (ℕ × List ℕ)) (f
             ports = none_passes _ before (each_weaker (λ r. r.0 < p) (λ r. begin_with (codes "port" ∷ decimal r.0 ∷ []) (line_words (Port p port)) ≡ false) (λ r lt. other_words r.0 p [] (decimal port ∷ []) (omega arith) small (λ e. omega arith)) before below);
             hosts = refl;
           };
-          inside = and_right (has_genesis d) (not (is_one_of roster p) || false) (or_from (not (is_one_of roster p)) false (not_from_true _ is) refl);
+          inside = and_right (has_genesis d) (not (has roster p) || false) (or_from (not (has roster p)) false (not_from_true _ is) refl);
           in_time = refl;
           due = or_from (not (has_genesis d)) (not (is_some_and (next_port d) (λ q. q == p))) (not_from_true _ stands) (not_from_true _ (ap (λ o. is_some_and o (λ q. q == p)) comes ∙ eq-eqb p p refl));
           of_roster = refl;

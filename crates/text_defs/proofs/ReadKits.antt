@@ -6,7 +6,7 @@ use Rattle.std.proofs.lemmas.Bool.{eqb-true, or_parts}
 use Rattle.std.proofs.lemmas.List.Concat.{flat_map-append}
 use Rattle.byte_defs.proofs.Fields.{bind_ok, ok_is, refuse_ok}
 use Rattle.secret_defs.specs.Schemes.{Scheme}
-use Rattle.text_defs.specs.Words.{blank, line_feed, line_text, parts_of, words_of}
+use Rattle.text_defs.specs.Words.{space, line_feed, line_text, parts_of, words_of}
 use Rattle.text_defs.specs.Kits.{Host, IsKit, Kit, KitLine, kit_text, line_words, roster_of, text_of_lines}
 use Rattle.text_defs.specs.KitReading.{Draft, KitFault, Missing, finish, has_genesis, kit_by, kit_of, lacks_port, lines_at, next_pair, next_port, take_line}
 use Rattle.text_defs.specs.KitLaws.{ReadIsSpelled}
@@ -84,7 +84,7 @@ last_part s n rest kit h false empty e = absurd cc
 -- the spelling of one more line
 spelled_more : (stand : List KitLine) (said : KitLine) (line : List ℕ) → words_of line ≡ line_words said → text_of_lines (stand ++ said ∷ []) ≡ text_of_lines stand ++ (line ++ line_feed ∷ [])
 spelled_more stand said line words =
-    let one : line_text (line_words said) ≡ line ++ line_feed ∷ [] = ap (λ l. l ++ line_feed ∷ []) (ap (join_with_byte blank) (sym words) ∙ join_words_of line) in
+    let one : line_text (line_words said) ≡ line ++ line_feed ∷ [] = ap (λ l. l ++ line_feed ∷ []) (ap (join_with_byte space) (sym words) ∙ join_words_of line) in
     flat_map-append (λ l. line_text (line_words l)) stand (said ∷ []) ∙ ap (λ t. text_of_lines stand ++ t) (append-nil (line_text (line_words said)) ∙ one)
 
 one_more : (stand now : List KitLine) (said : KitLine) (line : List ℕ) (parts : List (List ℕ)) (kit : Kit) → now ≡ stand ++ said ∷ [] → words_of line ≡ line_words said → IsRead now parts kit → IsRead stand (line ∷ parts) kit

@@ -1,10 +1,11 @@
 -- How far a reading has come: what stands, in its ranges, and the lines that it stands for.
 use Rattle.std.proofs.Common.{◌≡◌, ◌≢◌, ℕ, ◌+◌, ◌≤◌, ◌⊎◌, true, List, [], ◌∷◌, ◌++◌, length, map, drop, flat_map, AllPairs, Some, None, IsTrue}
 use Rattle.std.specs.List.{AllByRecursion}
+use Rattle.byte_defs.specs.Members.{has}
 use Rattle.secret_defs.specs.Schemes.{Scheme}
 use Rattle.secret_defs.specs.Secrets.{scheme_of, public_key_of}
 use Rattle.text_defs.specs.Words.{AreBytes}
-use Rattle.text_defs.specs.Kits.{AreKeys, Host, IsHost, IsSecret, KitLine, Version, SchemeIs, GroupIs, Genesis, key_length, key_line, key_of, host_lines, is_one_of, others_than, port_line, roster_of}
+use Rattle.text_defs.specs.Kits.{AreKeys, Host, IsHost, IsSecret, KitLine, Version, SchemeIs, GroupIs, Genesis, key_length, key_line, key_of, host_lines, others_than, port_line, roster_of}
 use Rattle.text_defs.specs.KitReading.{Draft, nothing}
 
 pub data Stage : Type 0 where
@@ -51,7 +52,7 @@ pub record IsListed (scheme : Scheme) (group : List ℕ) (keys : List (ℕ × Li
   pub group_is : AreBytes 16 group
   pub keys_are : AreKeys (key_length scheme) 0 keys
   pub most : length genesis ≤ 16
-  pub listed : AllByRecursion (λ m. IsTrue (is_one_of (roster_of keys) m)) genesis
+  pub listed : AllByRecursion (λ m. IsTrue (has (roster_of keys) m)) genesis
   pub distinct : AllPairs (λ m n. m ≢ n) genesis
   -- the port lines of the roster's first processes stand, and no host line before the last of them
   pub front : map (λ p. p.0) ports ++ drop (length ports) (roster_of keys) ≡ roster_of keys

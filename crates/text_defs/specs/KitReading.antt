@@ -11,15 +11,16 @@ use Rattle.std.specs.Prelude.{ℕ, ◌+◌, ◌==◌, ◌&&◌, ◌||◌, not, n
 use Rattle.std.specs.Option.{is_none, unwrap_or, option_or, option_flatten, ok_or}
 use Rattle.std.specs.List.{list_any}
 use Rattle.std.specs.Fmt.{decimal}
-use Rattle.byte_defs.specs.Choices.{first_that_holds, is_some_and}
+use Rattle.byte_defs.specs.Choices.{first_that_holds, is_some_and, and_then}
 use Rattle.byte_defs.specs.Equality.{same_bytes}
 use Rattle.byte_defs.specs.Fields.{◌>>=◌, refuse_if}
+use Rattle.byte_defs.specs.Members.{has}
 use Rattle.signature_defs.specs.LmOts.{ots_type_of}
 use Rattle.secret_defs.specs.Schemes.{Scheme}
 use Rattle.secret_defs.specs.Schemes as schemes
 use Rattle.secret_defs.specs.Secrets.{Secret, Plain, Lms, public_key_of}
 use Rattle.text_defs.specs.Words.{words_of, parts_of, begin_with, number_within, process_of, bytes_of}
-use Rattle.text_defs.specs.Kits.{Kit, Host, KitLine, Version, SchemeIs, GroupIs, Key, Genesis, Port, PlainHost, LmsHost, Pair, roster_of, is_one_of, others_than, key_of}
+use Rattle.text_defs.specs.Kits.{Kit, Host, KitLine, Version, SchemeIs, GroupIs, Key, Genesis, Port, PlainHost, LmsHost, Pair, roster_of, others_than, key_of}
 
 -- ---- faults
 
@@ -32,10 +33,6 @@ pub data KitFault : Type 0 where
   KeyMismatch : (line : ℕ) (made listed : List ℕ) → KitFault
 
 -- ---- what words say, by their form alone
-
--- a step of an option, where the one before gave a value
-abbrev pub and_then : {A B : Type 0} → Option A → (A → Option B) → Option B
-and_then o f = option_and_then f o
 
 abbrev pub scheme_by : List (List ℕ) → Option KitLine
 scheme_by (word ∷ []) = first_that_holds ((same_bytes word (codes "plain"), SchemeIs schemes.Plain) ∷ (same_bytes word (codes "lms"), SchemeIs schemes.Lms) ∷ [])
@@ -74,7 +71,7 @@ key_by scheme _ = None
 -- the numbers of processes, each different from those before
 unfoldable pub members_by : List ℕ → List (List ℕ) → Option (List ℕ)
 members_by before [] = Some before
-members_by before (word ∷ words) = and_then (process_of word) (λ p. if is_one_of before p then None else members_by (before ++ p ∷ []) words)
+members_by before (word ∷ words) = and_then (process_of word) (λ p. if has before p then None else members_by (before ++ p ∷ []) words)
 
 abbrev pub genesis_by : List (List ℕ) → Option KitLine
 genesis_by words = if nat_le 1 (length words) && nat_le (length words) 16 then option_map Genesis (members_by [] words) else None
@@ -191,7 +188,7 @@ named_by _ = []
 
 -- the genesis stands, and the line names a process outside the roster
 abbrev pub is_outside : Draft → KitLine → Bool
-is_outside d line = has_genesis d && list_any (λ p. not (is_one_of (roster_of d.keys) p)) (named_by line)
+is_outside d line = has_genesis d && list_any (λ p. not (has (roster_of d.keys) p)) (named_by line)
 
 -- a host line of a process above this one stands
 abbrev pub host_above : Draft → ℕ → Bool
@@ -210,7 +207,7 @@ is_late d _ = false
 
 -- the line is a genesis line, and names a process outside the roster
 abbrev pub is_of_strangers : Draft → KitLine → Bool
-is_of_strangers d (Genesis members) = list_any (λ p. not (is_one_of (roster_of d.keys) p)) members
+is_of_strangers d (Genesis members) = list_any (λ p. not (has (roster_of d.keys) p)) members
 is_of_strangers d _ = false
 
 -- ---- Missing

@@ -14,6 +14,7 @@ use Rattle.std.specs.List.{flat_map, list_any, AllByRecursion, AllPairs}
 use Rattle.std.specs.Fmt.{decimal}
 use Rattle.hex.specs.Hex.{encode_lower}
 use Rattle.sha2.specs.Sha256.{sha256}
+use Rattle.byte_defs.specs.Members.{has}
 use Rattle.signature_defs.specs.declared.OtsType.{OtsType}
 use Rattle.signature_defs.specs.LmOts.{ots_typecode}
 use Rattle.secret_defs.specs.Schemes.{Scheme}
@@ -42,9 +43,6 @@ pub record Kit : Type 0 where
 -- the processes of a roster
 abbrev pub roster_of : List (ℕ × List ℕ) → List ℕ
 roster_of keys = map (λ k. k.0) keys
-
-abbrev pub is_one_of : List ℕ → ℕ → Bool
-is_one_of ps p = list_any (λ q. q == p) ps
 
 -- the others of a roster
 abbrev pub others_than : ℕ → List ℕ → List ℕ
@@ -150,7 +148,7 @@ pub record IsKit (kit : Kit) : Type 0 where
   pub keys : AreKeys (key_length kit.scheme) 0 kit.keys
   pub some : 1 ≤ length kit.genesis
   pub most : length kit.genesis ≤ 16
-  pub listed : AllByRecursion (λ m. IsTrue (is_one_of (roster_of kit.keys) m)) kit.genesis
+  pub listed : AllByRecursion (λ m. IsTrue (has (roster_of kit.keys) m)) kit.genesis
   pub distinct : AllPairs (λ m n. m ≢ n) kit.genesis
   pub ported : map (λ p. p.0) kit.ports ≡ roster_of kit.keys
   pub ports : AllByRecursion (λ p. (1 ≤ p.1) × (p.1 ≤ 65535)) kit.ports

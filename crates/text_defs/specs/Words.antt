@@ -1,4 +1,4 @@
--- Lines of text. A line is its words with one blank between them, and ends with a line feed. A number is a word of decimal
+-- Lines of text. A line is its words with one space between them, and ends with a line feed. A number is a word of decimal
 -- digits without sign or leading zero, and bytes are a word of lower-case hexadecimal digits.
 use Rattle.std.specs.Prelude.{◌≡◌, ℕ, ◌+◌, ◌-◌, ◌*◌, ◌==◌, ◌&&◌, nat_le, Bool, true, false, if◌then◌else◌, List, [], ◌∷◌, ◌++◌, length, Option, Some, None, option_and_then}
 use Rattle.std.specs.List.{list_any, slice_split, join_with_byte}
@@ -7,8 +7,8 @@ use Rattle.std.specs.Fmt.{decimal}
 use Rattle.hex.specs.Hex.{decode_sized, IsBytes}
 use Rattle.byte_defs.specs.Equality.{same_bytes}
 
-abbrev pub blank : ℕ
-blank = 32
+abbrev pub space : ℕ
+space = 32
 
 abbrev pub line_feed : ℕ
 line_feed = 10
@@ -17,11 +17,11 @@ line_feed = 10
 
 -- the words of a line
 abbrev pub words_of : List ℕ → List (List ℕ)
-words_of line = slice_split (λ c. c == blank) line
+words_of line = slice_split (λ c. c == space) line
 
 -- the line of these words, with its line feed
 abbrev pub line_text : List (List ℕ) → List ℕ
-line_text words = join_with_byte blank words ++ line_feed ∷ []
+line_text words = join_with_byte space words ++ line_feed ∷ []
 
 -- the words begin with these
 unfoldable pub begin_with : List (List ℕ) → List (List ℕ) → Bool

@@ -1,11 +1,10 @@
 -- What a view of the code is in the definitions.
 use Rattle.std.specs.Prelude.{ℕ, ◌≤◌, List}
-use Rattle.group_defs.specs.Views.{View}
-use Rattle.group_defs.specs.Laws.{IsView}
+use Rattle.group_defs.specs.Views.{View, IsView}
 
 abbrev pub as_view : ℕ → List ℕ → View
 as_view number members = record { number = number; members = members }
 
 -- the number is at most 1,023, and the members are 1 to 16, each once
-abbrev pub IsInTable : View → Type 0
-IsInTable v = (v.number ≤ 1023) × IsView v
+abbrev pub IsNumberedView : View → Type 0
+IsNumberedView v = (v.number ≤ 1023) × IsView v

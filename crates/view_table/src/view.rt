@@ -1,6 +1,6 @@
 ghost use Rattle.std.specs.Prelude.{◌≡◌, ◌≢◌, ◌↔◌, ◌<◌, ◌==◌, length, position, IfSome, IsSome, IsTrue, AllPairs};
 ghost use Rattle.group_defs.specs.Views as views;
-ghost use Rattle.view_table.specs.Views.{as_view, IsInTable};
+ghost use Rattle.view_table.specs.Views.{as_view, IsNumberedView};
 
 use arrayvec::ArrayVec;
 use rp_base::Pid;
@@ -19,13 +19,13 @@ pub struct View {
 
 impl Model for View {
     ghost use Rattle.group_defs.specs.Views as views;
-    ghost use Rattle.view_table.specs.Views.{as_view, IsInTable};
+    ghost use Rattle.view_table.specs.Views.{as_view, IsNumberedView};
 
     ghost Value = { views.View };
 
     ghost view = { λ v. as_view v.number v.members.items };
 
-    ghost invariant = { λ v. IsInTable (as_view v.number v.members.items) };
+    ghost invariant = { λ v. IsNumberedView (as_view v.number v.members.items) };
 }
 
 // Whether no process stands twice.
@@ -53,7 +53,7 @@ impl View {
     /// no members or more than 16, or one stands twice.
     pub fn new(number: u16, members: &[Pid]) -> Option<View>
         ensures value { IfSome result (λ v. v ≡ as_view number members.now) }
-        ensures exactly { IsSome result ↔ IsInTable (as_view number members.now) }
+        ensures exactly { IsSome result ↔ IsNumberedView (as_view number members.now) }
     {
         if number > LAST_NUMBER || members.is_empty() || !are_distinct(members) {
             return None;
@@ -65,7 +65,7 @@ impl View {
     /// The number, 0 to 1,023.
     pub fn number(&self) -> u16
         ensures value { result ≡ self.now.number }
-        ensures within { IsInTable self.now }
+        ensures within { IsNumberedView self.now }
     {
         self.number
     }
@@ -73,7 +73,7 @@ impl View {
     /// The members in rank order, 1 to 16, each once.
     pub fn members(&self) -> &[Pid]
         ensures value { result.now ≡ self.now.members }
-        ensures within { IsInTable self.now }
+        ensures within { IsNumberedView self.now }
     {
         self.members.as_slice()
     }

@@ -3,8 +3,9 @@ use Rattle.std.proofs.Common.{◌≡◌, ℕ, Bool, true, false, List, [], ◌�
 use Rattle.std.specs.Prelude.{◌&&◌, ◌||◌, ◌==◌, not, nat_le, count_by}
 use Rattle.std.specs.List.{list_any, list_all}
 use Rattle.std.proofs.lemmas.List.Folds.{list_all-map}
+use Rattle.byte_defs.specs.Members.{has}
 use Rattle.group_defs.specs.Process as defs
-use Rattle.group_defs.specs.Views.{has, faulty}
+use Rattle.group_defs.specs.Views.{faulty}
 use Rattle.group_defs.specs.Accounts.{account_of, bounded, corrupt_in}
 use Rattle.world_run.specs.Processes.{process}
 use Rattle.world_run.specs.declared.process.Process.{Process}

@@ -1,12 +1,13 @@
 use Rattle.std.proofs.Common.{◌≡◌, ◌-◌, ◌≤◌, map, length}
-use Rattle.file_defs.specs.Schedules.{is_among, events_at, most_events}
+use Rattle.byte_defs.specs.Members.{has}
+use Rattle.file_defs.specs.Schedules.{events_at, most_events}
 use Rattle.schedule_file.specs.Schedules.{event}
 use Rattle.schedule_file.proofs.Events.{from_here}
 use Rattle.schedule_file.proofs.reading.read_events.Given as goal
 
 abbrev pub invariant-events : goal.invariant-events
 invariant-events l = record {
-  so_far : from_here (map event l.events.items) (events_at (1000000 - length l.events.items) (is_among l.correct) l.reader.rest.now) ≡ events_at most_events (is_among l.correct) l.fn.reader.rest.now;
+  so_far : from_here (map event l.events.items) (events_at (1000000 - length l.events.items) (has l.correct) l.reader.rest.now) ≡ events_at most_events (has l.correct) l.fn.reader.rest.now;
   few : length l.events.items ≤ 1000000;
 }
 

@@ -1,9 +1,10 @@
 use Rattle.std.proofs.Common.{◌≡◌, ◌-◌, [], length}
-use Rattle.file_defs.specs.Schedules.{is_among, members_at}
+use Rattle.byte_defs.specs.Members.{has}
+use Rattle.file_defs.specs.Schedules.{members_at}
 use Rattle.schedule_file.proofs.reading.read_members.Given as goal
 
 abbrev pub invariant-members : goal.invariant-members
 invariant-members l = record {
-  so_far : members_at (l.count - l.counter) (is_among l.listed) l.members.items l.reader.rest.now ≡ members_at l.count (is_among l.listed) [] l.fn.reader.rest.now;
+  so_far : members_at (l.count - l.counter) (has l.listed) l.members.items l.reader.rest.now ≡ members_at l.count (has l.listed) [] l.fn.reader.rest.now;
   size : length l.members.items ≡ l.counter;
 }
