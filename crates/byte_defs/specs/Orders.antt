@@ -1,6 +1,8 @@
 -- Order by a list of numbers, the first one first: the least of a list, and a list sorted.
 use Rattle.std.specs.Prelude.{ℕ, Bool, true, false, ◌&&◌, ◌||◌, nat_lt, ◌==◌, if◌then◌else◌, List, [], ◌∷◌, Option, Some, None}
 
+-- the first list stands before the second: at the first place where they differ it has the lower number, or it is the front of the other
+-- and shorter
 abbrev pub numbers_below : List ℕ → List ℕ → Bool
 numbers_below [] [] = false
 numbers_below [] (n ∷ ns) = true
@@ -13,6 +15,7 @@ module _ {A : Type 0} (key : A → List ℕ) where
   least_from a [] = a
   least_from a (x ∷ xs) = least_from (if numbers_below (key x) (key a) then x else a) xs
 
+  -- the first of the least elements; of no elements, none
   abbrev pub least : List A → Option A
   least [] = None
   least (x ∷ xs) = Some (least_from x xs)
@@ -22,6 +25,7 @@ module _ {A : Type 0} (key : A → List ℕ) where
   put a [] = a ∷ []
   put a (x ∷ xs) = if numbers_below (key a) (key x) then a ∷ x ∷ xs else x ∷ put a xs
 
+  -- the elements by rising keys
   abbrev pub sorted : List A → List A
   sorted [] = []
   sorted (x ∷ xs) = put x (sorted xs)

@@ -18,22 +18,27 @@ pub record Order : Type 0 where
   pub keys : KeyPlan
   pub seed : List ℕ
 
+-- what the program is asked to do
 pub data Command : Type 0 where
   Replay : Command
   Keygen : (order : Order) → Command
 
 -- ---- the words
 
+-- the word of a plan: plain:T, or lms:H:W
 abbrev pub plan_word : KeyPlan → List ℕ
 plan_word (Plain total) = codes "plain:" ++ decimal total
 plan_word (Lms code kind) = codes "lms:" ++ (decimal code ++ (codes ":" ++ decimal (ots_typecode kind)))
 
+-- the words of a command
 abbrev pub command_words : Command → List (List ℕ)
 command_words Replay = codes "replay" ∷ []
 command_words (Keygen order) = codes "keygen" ∷ decimal order.members ∷ decimal order.roster ∷ plan_word order.keys ∷ encode_lower order.seed ∷ []
 
 -- ---- the ranges
 
+-- an order that can be carried out: 1 to 16 members, all of them of the roster, which has at most 64 processes; a plan that can be carried
+-- out; and a seed of 32 bytes
 pub record IsOrder (order : Order) : Type 0 where
   pub some : 1 ≤ order.members
   pub few : order.members ≤ 16
@@ -42,6 +47,7 @@ pub record IsOrder (order : Order) : Type 0 where
   pub keys : IsPlan order.keys
   pub seed : AreBytes 32 order.seed
 
+-- a Keygen has an order that can be carried out
 abbrev pub IsCommand : Command → Type 0
 IsCommand Replay = Unit {0}
 IsCommand (Keygen order) = IsOrder order

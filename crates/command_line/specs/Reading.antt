@@ -13,6 +13,7 @@ use Rattle.command_line.specs.Commands.{Order, Command, Replay, Keygen}
 abbrev pub behind : List ℕ → List ℕ → Option (List ℕ)
 behind front word = if same_bytes (take (length front) word) front then Some (drop (length front) word) else None
 
+-- the plan of plain keys, which make so many signatures
 abbrev pub plain_by : List ℕ → Option KeyPlan
 plain_by total = option_map Plain (number_within 0 (2 ^ 32 - 1) total)
 
@@ -21,14 +22,17 @@ abbrev pub lms_by : List ℕ → Option KeyPlan
 lms_by word =
     if (length word == 3) && (slice_index word 1 == 58) then and_then (number_within 5 7 (take 1 word)) (λ code. option_map (Lms code) (option_and_then ots_type_of (number_within 1 4 (drop 2 word)))) else None
 
+-- the plan that the word spells
 abbrev pub plan_of : List ℕ → Option KeyPlan
 plan_of word = option_or (and_then (behind (codes "plain:") word) plain_by) (and_then (behind (codes "lms:") word) lms_by)
 
+-- the order that the four words behind `keygen` spell
 abbrev pub order_of : List ℕ → List ℕ → List ℕ → List ℕ → Option Order
 order_of members roster keys seed =
     and_then (number_within 1 16 members) (λ n. and_then (number_within n 64 roster) (λ r. and_then (plan_of keys) (λ plan.
     option_map (λ s. record { members = n; roster = r; keys = plan; seed = s }) (bytes_of 32 seed))))
 
+-- the command that the words ask for
 abbrev pub command_of : List (List ℕ) → Option Command
 command_of (word ∷ []) = if same_bytes word (codes "replay") then Some Replay else None
 command_of (word ∷ members ∷ roster ∷ keys ∷ seed ∷ []) = if same_bytes word (codes "keygen") then option_map Keygen (order_of members roster keys seed) else None

@@ -24,24 +24,30 @@ Single f = All (λ p. All (λ q. (m : Message) (b c : List ℕ) → payload_at p
 unfoldable pub numbers_heard : List ℕ
 numbers_heard = range_with_len 0 window
 
+-- the messages that can be heard of these members, by sender in this order, and then by number
 abbrev pub messages_heard : List ℕ → List Message
 messages_heard members = flat_map (λ sender. map (λ l. record { sender = sender; number = l }) numbers_heard) members
 
+-- both hold a payload, and not the same
 abbrev pub differ : Option (List ℕ) → Option (List ℕ) → Bool
 differ (Some b) (Some c) = not (same_bytes b c)
 differ _ _ = false
 
+-- the two processes hold no different payloads of these messages
 abbrev pub agree_on : List Message → Process → Process → Bool
 agree_on messages p q = list_all (λ m. not (differ (payload_at p.pool m) (payload_at q.pool m))) messages
 
+-- as `Single`, as the report computes it
 abbrev pub single : Family → Bool
 single f = list_all (λ p. list_all (agree_on (messages_heard f.setting.genesis.members) p) (ends f)) (ends f)
 
 -- ---- the lines
 
+-- the line feed that ends a line
 abbrev pub end_line : List ℕ
 end_line = codes "\n"
 
+-- a payload in hexadecimal, or `-` where it has no bytes
 abbrev pub payload_word : List ℕ → List ℕ
 payload_word [] = codes "-"
 payload_word (b ∷ bytes) = encode_lower (b ∷ bytes)
@@ -50,6 +56,7 @@ payload_word (b ∷ bytes) = encode_lower (b ∷ bytes)
 abbrev pub refused_line : ℕ × ℕ × Bool → List ℕ
 refused_line r = codes "refused " ++ (decimal r.0 ++ (codes " " ++ (decimal r.1 ++ ((if r.2 then codes " submit" else codes " kind") ++ end_line))))
 
+-- the process that holds, and the message
 abbrev pub held_words : ℕ → Message → List ℕ
 held_words p m = codes "held " ++ (decimal p ++ (codes " " ++ (decimal m.sender ++ (codes " " ++ decimal m.number))))
 
@@ -65,9 +72,11 @@ process_line p = codes "process " ++ (decimal p.me ++ (codes " " ++ (decimal (le
 abbrev pub process_lines : List Message → Process → List ℕ
 process_lines messages p = process_line p ++ flat_map (held_line p) messages
 
+-- a question, answered by yes or no
 abbrev pub answer_line : List ℕ → Bool → List ℕ
 answer_line word holds = word ++ ((if holds then codes " yes" else codes " no") ++ end_line)
 
+-- the lines of the report
 abbrev pub report : World → Family → List ℕ
 report w f =
     codes "rampart report 0\n"
@@ -80,9 +89,11 @@ report w f =
 
 -- ---- of the bytes
 
+-- the report of a schedule; none where its world stops
 abbrev pub report_of_schedule : Schedule → Option (List ℕ)
 report_of_schedule sch = option_map (λ w. report w (family_of sch w)) (world_of sch)
 
+-- the report of what was read, where that is a schedule
 abbrev pub if_read : Result Schedule ScheduleFault → Option (List ℕ)
 if_read (Ok sch) = report_of_schedule sch
 if_read (Err fault) = None

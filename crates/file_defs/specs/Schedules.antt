@@ -17,6 +17,7 @@ use Rattle.byte_defs.specs.Members.{has}
 use Rattle.file_defs.specs.declared.ScheduleFault.{ScheduleFault}
 use Rattle.file_defs.specs.declared.ScheduleFault.TheVariants as faults
 
+-- a process of the roster
 pub record Listed : Type 0 where
   pub process : ℕ
   pub corrupt : Bool
@@ -24,6 +25,7 @@ pub record Listed : Type 0 where
   -- how many signatures the key can make
   pub total : ℕ
 
+-- what happens to a process
 pub data ScheduleEvent : Type 0 where
   -- a payload is handed to a process, to be sent to the group
   Submit : (at : ℕ) (payload : List ℕ) → ScheduleEvent
@@ -32,6 +34,7 @@ pub data ScheduleEvent : Type 0 where
   -- the frame of this number is handed to a process
   Pass : (frame to : ℕ) → ScheduleEvent
 
+-- who takes part, and what happens to them
 pub record Schedule : Type 0 where
   pub group : List ℕ
   pub processes : List Listed
@@ -49,14 +52,17 @@ is_correct ls p = list_any (λ l. (l.process == p) && not l.corrupt) ls
 
 -- ---- the spelling
 
+-- process1, role1, key32, total4
 abbrev pub listed_bytes : Listed → List ℕ
 listed_bytes l = l.process ∷ (if l.corrupt then 1 else 0) ∷ (l.key ++ four_bytes l.total)
 
+-- the tag of an event, and its fields
 abbrev pub event_bytes : ScheduleEvent → List ℕ
 event_bytes (Submit at payload) = 1 ∷ at ∷ text payload
 event_bytes (Raw to from bytes) = 2 ∷ to ∷ from ∷ text bytes
 event_bytes (Pass frame to) = 3 ∷ (four_bytes frame ++ to ∷ [])
 
+-- the bytes of a schedule, as the table above has them
 abbrev pub schedule_bytes : Schedule → List ℕ
 schedule_bytes s =
     codes "RPS1" ++ (0 ∷ (s.group
@@ -71,11 +77,13 @@ abbrev pub AreListed : ℕ → List Listed → Type 0
 AreListed least [] = Unit {0}
 AreListed least (l ∷ more) = (least ≤ l.process) × (l.process ≤ 63) × (length l.key ≡ 32) × (l.total < 2 ^ 32) × AreListed (l.process + 1) more
 
+-- the event is at a correct process, and its fields are in their ranges
 abbrev pub IsEvent : List Listed → ScheduleEvent → Type 0
 IsEvent ls (Submit at payload) = IsTrue (is_correct ls at) × (length payload < 65536)
 IsEvent ls (Raw to from bytes) = IsTrue (is_correct ls to) × (from ≤ 63) × (length bytes ≤ 61440)
 IsEvent ls (Pass frame to) = (frame < 2 ^ 32) × IsTrue (is_correct ls to)
 
+-- a schedule in its ranges: what has a spelling that is read again
 pub record IsSchedule (s : Schedule) : Type 0 where
   pub group : length s.group ≡ 16
   pub some : 1 ≤ length s.processes
@@ -95,15 +103,19 @@ pub record IsSchedule (s : Schedule) : Type 0 where
 abbrev pub Step : Type 0 → Type 0
 Step A = Result (A × List ℕ) ScheduleFault
 
+-- a number of one byte
 abbrev pub byte_at : List ℕ → Step ℕ
 byte_at bytes = number_at faults.Short w8 bytes
 
+-- a number of two bytes
 abbrev pub short_at : List ℕ → Step ℕ
 short_at bytes = number_at faults.Short w16 bytes
 
+-- a number of four bytes
 abbrev pub long_at : List ℕ → Step ℕ
 long_at bytes = number_at faults.Short w32 bytes
 
+-- a length of two bytes, at most so many, and that many bytes
 unfoldable pub text_at : ℕ → List ℕ → Step (List ℕ)
 text_at most bytes = do
   len ← short_at bytes
@@ -128,6 +140,7 @@ listed_at least bytes = do
   total ← long_at key.1
   Ok (record { process = process.0; corrupt = role.0 == 1; key = key.0; total = total.0 }, total.1)
 
+-- so many processes, by rising numbers from this one on
 unfoldable pub all_listed_at : ℕ → ℕ → List ℕ → Step (List Listed)
 all_listed_at zero least bytes = Ok ([], bytes)
 all_listed_at (suc n) least bytes = do
@@ -173,12 +186,14 @@ correct_at correct bytes = do
   _ ← refuse_if (not (correct p.0)) faults.Field
   Ok (p.0, p.1)
 
+-- the fields of a Submit
 unfoldable pub submit_at : (ℕ → Bool) → List ℕ → Step ScheduleEvent
 submit_at correct bytes = do
   p ← correct_at correct bytes
   payload ← text_at 65535 p.1
   Ok (Submit p.0 payload.0, payload.1)
 
+-- the fields of a Raw
 unfoldable pub raw_at : (ℕ → Bool) → List ℕ → Step ScheduleEvent
 raw_at correct bytes = do
   to ← correct_at correct bytes
@@ -186,12 +201,14 @@ raw_at correct bytes = do
   frame ← text_at 61440 from.1
   Ok (Raw to.0 from.0 frame.0, frame.1)
 
+-- the fields of a Pass
 unfoldable pub pass_at : (ℕ → Bool) → List ℕ → Step ScheduleEvent
 pass_at correct bytes = do
   frame ← long_at bytes
   to ← correct_at correct frame.1
   Ok (Pass frame.0 to.0, to.1)
 
+-- an event, by its tag
 unfoldable pub event_at : (ℕ → Bool) → List ℕ → Step ScheduleEvent
 event_at correct bytes = do
   tag ← byte_at bytes
@@ -212,9 +229,11 @@ events_at (suc n) correct (b ∷ bytes) = do
   others ← events_at n correct first.1
   Ok (first.0 ∷ others)
 
+-- how many events a schedule has at most
 unfoldable pub most_events : ℕ
 most_events = 1000000
 
+-- how many bytes it has at most
 unfoldable pub most_bytes : ℕ
 most_bytes = 67108864
 
@@ -246,5 +265,6 @@ abbrev pub past_limit : Result Schedule ScheduleFault → Result Schedule Schedu
 past_limit (Ok s) = Err faults.TooLong
 past_limit (Err fault) = Err (fault_past_limit fault)
 
+-- the schedule that the bytes spell, or the first fault; past the limit it is too long, where no other fault stands before
 unfoldable pub schedule_of : List ℕ → Result Schedule ScheduleFault
 schedule_of bytes = if nat_lt most_bytes (length bytes) then past_limit (whole_of (take most_bytes bytes)) else whole_of bytes

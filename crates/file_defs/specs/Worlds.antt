@@ -23,6 +23,7 @@ abbrev pub echo_claims : Result (List Claim) FrameFault → Frame
 echo_claims (Ok cs) = if list_all (λ c. is_echoing c.statement) cs then Claims cs else Faulty faults.Kind
 echo_claims (Err fault) = Faulty faults.Kind
 
+-- what a frame says that was read so
 abbrev pub echo_said : Result FrameView FrameFault → Frame
 echo_said (Ok (Bundle gs)) = echo_claims (claims_of_groups in_bundle gs)
 echo_said (Ok (Proof gs)) = Faulty faults.Kind
@@ -35,9 +36,11 @@ echo_frame bytes = echo_said (frame_of bytes)
 
 -- ---- who takes part
 
+-- the kinds that this world signs
 abbrev pub echo_kinds : List Kind
 echo_kinds = Inits ∷ Echoes ∷ []
 
+-- what the processes of a schedule share
 abbrev pub setting_of : Schedule → Setting
 setting_of sch = record {
   group = sch.group;
@@ -60,12 +63,15 @@ pub record World : Type 0 where
   -- how many events there were
   pub count : ℕ
 
+-- a correct process takes part, and has taken no turn; a corrupt one does not
 abbrev pub begins : Listed → Option Player
 begins l = if l.corrupt then None else Some (record { listed = l; turns = [] })
 
+-- the world before the first event
 abbrev pub start_of : Schedule → World
 start_of sch = record { players = filter_map begins sch.processes; frames = []; refused = []; count = 0 }
 
+-- the player, as a process of the family
 abbrev pub correct_of : Player → Correct
 correct_of c = record { me = c.listed.process; turns = c.turns }
 
@@ -73,6 +79,7 @@ correct_of c = record { me = c.listed.process; turns = c.turns }
 abbrev pub process_of : Setting → Player → Process
 process_of s c = end_of s (correct_of c)
 
+-- the family of the correct processes
 abbrev pub family_of : Schedule → World → Family
 family_of sch w = record { setting = setting_of sch; correct = map correct_of w.players }
 
@@ -82,6 +89,7 @@ family_of sch w = record { setting = setting_of sch; correct = map correct_of w.
 abbrev pub turn_of : Listed → Process → group.Event → Turn
 turn_of l p e = record { event = e; allowance = l.total - length p.signed; signer = λ used body. plain_signature l.key body }
 
+-- the player, after one turn more
 abbrev pub with_turn : Turn → Player → Player
 with_turn t c = record { listed = c.listed; turns = c.turns ++ t ∷ [] }
 
@@ -89,9 +97,11 @@ with_turn t c = record { listed = c.listed; turns = c.turns ++ t ∷ [] }
 abbrev pub takes : ℕ → Turn → Player → Player
 takes p t c = if c.listed.process == p then with_turn t c else c
 
+-- the frames that are sent, in order
 abbrev pub frames_of_sends : List Sending → List (List ℕ)
 frames_of_sends sends = flat_map (λ out. frames_of out.parcel) sends
 
+-- what was refused, where it was
 abbrev pub refused_if : Option EventFault → ℕ × ℕ × Bool → List (ℕ × ℕ × Bool)
 refused_if None what = []
 refused_if (Some fault) what = what ∷ []
@@ -108,9 +118,11 @@ steps s w c e submit =
       count = w.count + 1;
     }
 
+-- the correct process of this number
 abbrev pub player_of : World → ℕ → Option Player
 player_of w p = find (λ c. c.listed.process == p) w.players
 
+-- an event is handed to a player, where there is one
 abbrev pub hands_to : Setting → World → group.Event → Bool → Option Player → World
 hands_to s w e submit None = w
 hands_to s w e submit (Some c) = steps s w c e submit
@@ -125,6 +137,7 @@ happens s w (Submit p payload) = Some (hands s w p (group.Submit payload) true)
 happens s w (Raw to from bytes) = Some (hands s w to (group.Hand from (echo_frame bytes)) false)
 happens s w (Pass k to) = option_map (λ f. hands s w to (group.Hand f.0 (echo_frame f.1)) false) (slice_get w.frames k)
 
+-- the world after these events; none where one of them cannot happen
 unfoldable pub run_events : Setting → World → List ScheduleEvent → Option World
 run_events s w [] = Some w
 run_events s w (e ∷ es) = option_and_then (λ v. run_events s v es) (happens s w e)

@@ -8,6 +8,7 @@ use Rattle.group_defs.specs.Views.{View, View-discrete, is_member, faulty, next_
 use Rattle.message_defs.specs.Updates.{Update}
 use Rattle.group_defs.specs.Process.{Delivered, Delivered-discrete, Process, views_of, deliveries_of}
 
+-- what is asked of a process: its views, what it delivered in each, what it accepted, and the updates that it perceived
 pub record Account : Type 0 where
   pub me : ℕ
   pub views : List View
@@ -16,6 +17,7 @@ pub record Account : Type 0 where
   pub accepted : List (List ℕ)
   pub perceived : List (ℕ × Update)
 
+-- the account of a process
 abbrev pub account_of : Process → Account
 account_of p = record { me = p.me; views = views_of p; delivered = deliveries_of p; accepted = p.accepted; perceived = p.perceived }
 
@@ -27,11 +29,13 @@ delivered_in a x = slice_index_or a.delivered x []
 abbrev pub HasLeft : Account → ℕ → Type 0
 HasLeft a x = x + 1 < length a.views
 
+-- the first list is the front of the second, or all of it
 abbrev pub IsPrefixOf : {A : Type 0} → List A → List A → Type 0
 IsPrefixOf {A} xs ys = (rest : List A) × (xs ++ rest ≡ ys)
 
 -- ---- the group
 
+-- the group that a family is: its views, and in each one sequence of deliveries
 pub record Group : Type 0 where
   pub views : List View
   -- of the view of this number
@@ -42,7 +46,8 @@ abbrev pub longest : {A : Type 0} → List (List A) → List A
 longest [] = []
 longest (xs ∷ more) = if nat_lt (length xs) (length (longest more)) then longest more else xs
 
--- the accounts stand by rising process number
+-- The longest views list and, of each view, the longest delivered list. The accounts stand by rising process number, and of
+-- equally long lists the first one counts.
 abbrev pub group_of : List Account → Group
 group_of accounts = record { views = longest (map (λ a. a.views) accounts); sequence = λ x. longest (map (λ a. delivered_in a x) accounts) }
 
@@ -52,18 +57,22 @@ history g = flat_map g.sequence (range_with_len 0 (length g.views))
 
 -- ---- the questions
 
--- each view has at most f members that are not correct
+-- how many members of the view are not correct
 abbrev pub corrupt_in : List ℕ → View → ℕ
 corrupt_in correct v = count_by (λ m. not (has correct m)) v.members
 
+-- each view that a correct process installed has at most f members that are not correct
 abbrev pub Bounded : List Account → List ℕ → Type 0
 Bounded accounts correct = All (λ a. All (λ v. corrupt_in correct v ≤ faulty (length v.members)) a.views) accounts
 
+-- the account's views are a prefix of the group's, what it delivered in each view is a prefix of the group's sequence, and a member that
+-- left the view delivered the whole sequence
 pub record AgreesWith (g : Group) (a : Account) : Type 0 where
   pub views : IsPrefixOf a.views g.views
   pub prefixes : (x : ℕ) → IsPrefixOf (delivered_in a x) (g.sequence x)
   pub whole : (x : ℕ) (v : View) → slice_get a.views x ≡ Some v → IsTrue (is_member v a.me) → HasLeft a x → delivered_in a x ≡ g.sequence x
 
+-- each correct process agrees with the group of them all
 abbrev pub Agree : List Account → Type 0
 Agree accounts = All (AgreesWith (group_of accounts)) accounts
 
@@ -81,6 +90,8 @@ pub record HasCause (accounts : List Account) (keyed : List ℕ) (v w : View) : 
 abbrev pub of_sender : ℕ → List Delivered → List Delivered
 of_sender sender ds = filter (λ d. d.message.sender == sender) ds
 
+-- each view has a cause in the one before; in a sequence no message stands twice, and the numbers of each sender are 0, 1, 2 and so on;
+-- and what was delivered of a correct process, over all views, is a prefix of the payloads that it accepted
 pub record Sound (accounts : List Account) (keyed : List ℕ) : Type 0 where
   pub causes : (x : ℕ) (v w : View) → slice_get (group_of accounts).views x ≡ Some v → slice_get (group_of accounts).views (x + 1) ≡ Some w → HasCause accounts keyed v w
   pub once : (x : ℕ) → AllPairs (λ d e. d.message ≢ e.message) ((group_of accounts).sequence x)
@@ -89,26 +100,32 @@ pub record Sound (accounts : List Account) (keyed : List ℕ) : Type 0 where
 
 -- ---- the same, as the report computes them
 
+-- as `Bounded`
 abbrev pub bounded : List Account → List ℕ → Bool
 bounded accounts correct = list_all (λ a. list_all (λ v. nat_le (corrupt_in correct v) (faulty (length v.members))) a.views) accounts
 
+-- the lists of views are equal
 abbrev pub same_views : List View → List View → Bool
 same_views = pointwise (λ v w. is_yes (View-discrete v w))
 
+-- the lists of deliveries are equal
 abbrev pub same_sequence : List Delivered → List Delivered → Bool
 same_sequence = pointwise (λ d e. is_yes (Delivered-discrete d e))
 
+-- as `AgreesWith`, in the view of this number
 abbrev pub agrees_in : Group → Account → ℕ → Bool
 agrees_in g a x =
     let ds = delivered_in a x in
     same_sequence ds (take (length ds) (g.sequence x))
     && (not (list_any (λ v. is_member v a.me) (take 1 (drop x a.views))) || not (nat_lt (x + 1) (length a.views)) || same_sequence ds (g.sequence x))
 
+-- as `AgreesWith`
 abbrev pub agrees_with : Group → Account → Bool
 agrees_with g a =
     same_views a.views (take (length a.views) g.views)
     && list_all (agrees_in g a) (range_with_len 0 (length a.views))
 
+-- as `Agree`
 abbrev pub agree : List Account → Bool
 agree accounts = list_all (agrees_with (group_of accounts)) accounts
 
@@ -116,27 +133,33 @@ agree accounts = list_all (agrees_with (group_of accounts)) accounts
 abbrev pub perceived_in : List Account → View → List Update
 perceived_in accounts v = flat_map (λ a. if is_member v a.me then map (λ e. e.1) (filter (λ e. e.0 == v.number) a.perceived) else []) accounts
 
+-- as `HasCause`, of a view and the one behind it
 abbrev pub has_cause : List Account → List ℕ → View × View → Bool
 has_cause accounts keyed e = list_any (λ u. is_possible keyed e.0 u && same_views (e.1 ∷ []) (next_view e.0 u ∷ [])) (perceived_in accounts e.0)
 
+-- the numbers of the sender are 0, 1, 2 and so on
 abbrev pub is_in_order : List Delivered → ℕ → Bool
 is_in_order ds sender =
     let numbers = map (λ d. d.message.number) (of_sender sender ds) in
     pointwise (λ m n. m == n) numbers (range_with_len 0 (length numbers))
 
+-- each sender of the sequence is in order, so no message stands twice
 abbrev pub is_sound_in : Group → ℕ → Bool
 is_sound_in g x = list_all (λ d. is_in_order (g.sequence x) d.message.sender) (g.sequence x)
 
+-- what was delivered of the process is a prefix of what it accepted
 abbrev pub is_accepted : Group → Account → Bool
 is_accepted g a =
     let payloads = map (λ d. d.payload) (of_sender a.me (history g)) in
     pointwise (λ b c. is_yes (bytes_discrete b c)) payloads (take (length payloads) a.accepted)
 
+-- each element with the one behind it
 abbrev pub neighbours : {A : Type 0} → List A → List (A × A)
 neighbours [] = []
 neighbours (x ∷ []) = []
 neighbours (x ∷ y ∷ more) = (x, y) ∷ neighbours (y ∷ more)
 
+-- as `Sound`
 abbrev pub sound : List Account → List ℕ → Bool
 sound accounts keyed =
     let g = group_of accounts in
@@ -146,6 +169,7 @@ sound accounts keyed =
 
 -- ---- the two ways say the same
 
+-- the test of the bound and the bound say the same, of any accounts
 abbrev pub BoundedIsTested : Type 0
 BoundedIsTested = (accounts : List Account) (correct : List ℕ) → IsTrue (bounded accounts correct) ↔ Bounded accounts correct
 
@@ -154,11 +178,14 @@ BoundedIsTested = (accounts : List Account) (correct : List ℕ) → IsTrue (bou
 abbrev pub HasListOfEachView : Account → Type 0
 HasListOfEachView a = length a.delivered ≡ length a.views
 
+-- the accounts of processes have a delivered list of each view
 abbrev pub AccountsHaveLists : Type 0
 AccountsHaveLists = (ps : List Process) → All HasListOfEachView (map account_of ps)
 
+-- of accounts with these lists the test of agreement and agreement say the same
 abbrev pub AgreeIsTested : Type 0
 AgreeIsTested = (accounts : List Account) → All HasListOfEachView accounts → IsTrue (agree accounts) ↔ Agree accounts
 
+-- and so do the test of soundness and soundness
 abbrev pub SoundIsTested : Type 0
 SoundIsTested = (accounts : List Account) (keyed : List ℕ) → All HasListOfEachView accounts → IsTrue (sound accounts keyed) ↔ Sound accounts keyed

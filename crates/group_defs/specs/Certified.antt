@@ -11,9 +11,11 @@ use Rattle.group_defs.specs.Process.{Pool, Process}
 abbrev pub claim_on : List Claim → ℕ → Slot → Option Claim
 claim_on cs signer slot = find (λ c. (c.signer == signer) && same_slot (slot_of c.statement) slot) cs
 
+-- what the signer's first claim on the slot says
 abbrev pub heard_on : Pool → ℕ → Slot → Option Statement
 heard_on h signer slot = option_map (λ c. c.statement) (claim_on h.heard signer slot)
 
+-- n: how many members the view has
 abbrev pub number_of_members : Pool → ℕ
 number_of_members h = length h.view.members
 
@@ -21,9 +23,11 @@ number_of_members h = length h.view.members
 abbrev pub says : Pool → Statement → ℕ → Bool
 says h st member = is_some_and (heard_on h member (slot_of st)) (same_statement st)
 
+-- the members whose heard claim on the slot says this
 abbrev pub backers : Pool → Statement → List ℕ
 backers h st = filter (says h st) h.view.members
 
+-- a quorum of the members back it
 abbrev pub is_certified : Pool → Statement → Bool
 is_certified h st = nat_le (quorum (number_of_members h)) (length (backers h st))
 
@@ -35,13 +39,15 @@ is_notified h u = nat_lt (faulty (number_of_members h)) (length (backers h (Noti
 abbrev pub certified_on : Pool → Slot → Option Statement
 certified_on h slot = find (is_certified h) (filter (λ st. same_slot (slot_of st) slot) (map (λ c. c.statement) h.heard))
 
--- the certified payload of a message, message of a place, value of a rank's Acks or Readies
+-- the certified payload of a message
 abbrev pub payload_at : Pool → Message → Option (List ℕ)
 payload_at h m = option_and_then payload_of (certified_on h (EchoAt h.view.number m))
 
+-- the message whose place is certified as k
 abbrev pub place_at : Pool → ℕ → Option Message
 place_at h k = option_and_then message_of (certified_on h (PlaceAt h.view.number k))
 
+-- the certified value of a slot, as of a rank's Acks or Readies
 abbrev pub value_at : Pool → Slot → Option Value
 value_at h slot = option_and_then value_of (certified_on h slot)
 
@@ -49,6 +55,7 @@ value_at h slot = option_and_then value_of (certified_on h slot)
 abbrev pub certificate : Pool → Statement → List Claim
 certificate h st = if is_certified h st then filter_map (λ m. claim_on h.heard m (slot_of st)) (take (quorum (number_of_members h)) (sorted (λ m. m ∷ []) (backers h st))) else []
 
+-- the certificate of what is certified on the slot
 abbrev pub certificate_on : Pool → Slot → List Claim
 certificate_on h slot = elim (certified_on h slot) [ None ↦ [] | Some st ↦ certificate h st ]
 
@@ -63,6 +70,7 @@ placed_from h (suc more) k = elim (place_at h k) [ None ↦ [] | Some m ↦ m �
 unfoldable pub placed : Pool → List Message
 placed h = placed_from h 1024 0
 
+-- the place of a Keep that is certified
 abbrev pub place_kept : Pool → Statement → Option ℕ
 place_kept h (Keep x k m) = if is_certified h (Keep x k m) then Some k else None
 place_kept h _ = None
@@ -77,10 +85,12 @@ named sender ms = count_by (λ m. m.sender == sender) ms
 
 -- ---- updates and ranks
 
+-- the update that a Notify tells
 abbrev pub update_said : Statement → Option Update
 update_said (Notify x u) = Some u
 update_said _ = None
 
+-- the updates that more than f members notify
 abbrev pub notified_updates : Pool → List Update
 notified_updates h = filter (is_notified h) (filter_map (λ c. update_said c.statement) h.heard)
 
@@ -90,34 +100,43 @@ removed_rank h = min (number_of_members h - 1) (length (take_while (λ m. is_not
 
 -- ---- the own statements of the view
 
+-- what the process signed in the current view
 abbrev pub own : Process → List Statement
 own p = filter (λ st. view_of st == p.pool.view.number) (map (λ c. c.statement) p.signed)
 
+-- what the process signed on this slot
 abbrev pub own_on : Process → Slot → Option Statement
 own_on p slot = option_map (λ c. c.statement) (claim_on p.signed p.me slot)
 
+-- the process has signed this slot
 abbrev pub is_signed : Process → Slot → Bool
 is_signed p slot = is_some (own_on p slot)
 
+-- the process has signed the End of the current view
 abbrev pub is_ended : Process → Bool
 is_ended p = is_signed p (EndAt p.pool.view.number)
 
+-- the message that an Order gives a place
 abbrev pub ordered_message : Statement → Option Message
 ordered_message (Order x k m) = Some m
 ordered_message _ = None
 
+-- the messages of the own Orders of the current view, in order of signing
 abbrev pub own_orders : Process → List Message
 own_orders p = filter_map ordered_message (own p)
 
+-- the rank of a Last, an Ack or a Ready
 abbrev pub rank_said : Statement → ℕ
 rank_said (Last x r ready) = r
 rank_said (Ack x r v) = r
 rank_said (Ready x r v) = r
 rank_said _ = 0
 
+-- the greatest rank of the own Last, Ack and Ready statements of the view, 0 where there is none
 abbrev pub own_rank : Process → ℕ
 own_rank p = fold (λ most st. max most (rank_said st)) 0 (own p)
 
+-- the rank and the value of a Ready
 abbrev pub readied : Statement → Option (ℕ × Value)
 readied (Ready x r v) = Some (r, v)
 readied _ = None

@@ -12,9 +12,11 @@ use Rattle.group_defs.specs.Process.{Kind, Inits, Echoes, Orders, Places, Keeps,
 use Rattle.group_defs.specs.Certified.{says, is_certified, payload_at, placed, named, notified_updates, removed_rank, is_signed, is_ended, own_orders, own_rank, own_ready}
 use Rattle.group_defs.specs.Values.{same_ready, choose, is_justified}
 
+-- how far beyond what was delivered numbers and places may go
 abbrev pub window : ℕ
 window = 32
 
+-- the process of this number has this rank in the current view
 abbrev pub is_of_rank : Process → ℕ → ℕ → Bool
 is_of_rank p m r = is_some_and (rank_of p.pool.view m) (λ rank. rank == r)
 
@@ -22,17 +24,21 @@ is_of_rank p m r = is_some_and (rank_of p.pool.view m) (λ rank. rank == r)
 abbrev pub rank_says : Process → ℕ → Statement → Bool
 rank_says p r st = is_some_and (slice_get p.pool.view.members r) (says p.pool st)
 
+-- the messages are equal
 abbrev pub same_message : Message → Message → Bool
 same_message a b = is_yes (Message-discrete a b)
 
+-- the values are equal
 abbrev pub same_value : Value → Value → Bool
 same_value v w = is_yes (Value-discrete v w)
 
+-- the update was perceived in the view of this number
 abbrev pub is_perceived : Process → ℕ × Update → Bool
 is_perceived p e = list_any (λ d. is_yes (pair_discrete ℕ_discrete (Update-discrete ℕ_discrete) d e)) p.perceived
 
 -- ---- the table: what each kind needs
 
+-- what each kind needs, beside a member in its view and a slot that is not signed
 abbrev pub is_due : Setting → Process → Statement → Bool
 is_due s p (Init x l payload) =
     nat_lt l (delivered_from p.me p.delivered + window) && nat_le l 1023
@@ -73,6 +79,7 @@ may_sign s p st =
 abbrev pub Answer : Type 0
 Answer = ℕ → Statement → Option Statement
 
+-- an Init of the signer is answered by the Echo of its message
 abbrev pub echo_of : Answer
 echo_of signer (Init x l payload) = Some (Echo x (record { sender = signer; number = l }) payload)
 echo_of signer _ = None
@@ -82,51 +89,66 @@ abbrev pub order_of : ℕ → Answer
 order_of k signer (Echo x m payload) = Some (Order x k m)
 order_of k signer _ = None
 
+-- an Order is answered by the Place of the same message
 abbrev pub place_of : Answer
 place_of signer (Order x k m) = Some (Place x k m)
 place_of signer _ = None
 
+-- an Ack is answered by the Ready of the same value
 abbrev pub ready_of : Answer
 ready_of signer (Ack x r v) = Some (Ready x r v)
 ready_of signer _ = None
 
+-- a Suggest is answered by the Ack of the same value
 abbrev pub ack_of : Answer
 ack_of signer (Suggest x r v) = Some (Ack x r v)
 ack_of signer _ = None
 
+-- what the heard claims ask for
 abbrev pub answers : Process → Answer → List Statement
 answers p answer = filter_map (λ c. answer c.signer c.statement) p.pool.heard
 
+-- the Inits of the accepted payloads that no earlier view delivered
 abbrev pub inits : Setting → Process → List Statement
 inits s p = map (λ e. Init p.pool.view.number e.0 e.1) (enumerate_from 0 (drop (earlier p) p.accepted))
 
+-- an Echo for each heard Init
 abbrev pub echoes : Setting → Process → List Statement
 echoes s p = answers p echo_of
 
+-- an Order of the next place for the message of each heard Echo
 abbrev pub orders : Setting → Process → List Statement
 orders s p = answers p (order_of (length (own_orders p)))
 
+-- a Place for each heard Order
 abbrev pub places : Setting → Process → List Statement
 places s p = answers p place_of
 
+-- a Keep of each place below the placed length
 abbrev pub keeps : Setting → Process → List Statement
 keeps s p = map (λ e. Keep p.pool.view.number e.0 e.1) (enumerate_from 0 (placed p.pool))
 
+-- a Notify for each perceived update
 abbrev pub notifies : Setting → Process → List Statement
 notifies s p = map (λ e. Notify e.0 e.1) p.perceived
 
+-- the End that says the placed length
 abbrev pub end : Setting → Process → List Statement
 end s p = End p.pool.view.number (length (placed p.pool)) ∷ []
 
+-- a Ready for each heard Ack
 abbrev pub readies : Setting → Process → List Statement
 readies s p = answers p ready_of
 
+-- the Last behind all ranks whose members are to be removed, with the own Ready of greatest rank
 abbrev pub last : Setting → Process → List Statement
 last s p = Last p.pool.view.number (removed_rank p.pool) (own_ready p) ∷ []
 
+-- the Suggest at the own rank of the value that is chosen there
 abbrev pub suggests : Setting → Process → List Statement
 suggests s p = option_to_list (option_and_then (λ r. option_map (Suggest p.pool.view.number r) (choose s p.pool r)) (rank_of p.pool.view p.me))
 
+-- an Ack for each heard Suggest
 abbrev pub acks : Setting → Process → List Statement
 acks s p = answers p ack_of
 
@@ -158,6 +180,7 @@ least_due s p kind = least (due_numbers p.pool.view) (filter (may_sign s p) (off
 
 -- ---- that is the least one
 
+-- the kind of a statement
 abbrev pub kind_of : Statement → Kind
 kind_of (Init x l payload) = Inits
 kind_of (Echo x m payload) = Echoes

@@ -10,14 +10,17 @@ use Rattle.group_defs.specs.Events.{Turn, refusal, signing, after, outcome, is_t
 use Rattle.group_defs.specs.Family.{Family, ends, claims_in, handed_to}
 use Rattle.group_defs.specs.Laws.{EachRun, Premises}
 
+-- the statement is an Init or an Echo
 abbrev pub is_echoing : Statement → Bool
 is_echoing (Init x l payload) = true
 is_echoing (Echo x m payload) = true
 is_echoing _ = false
 
+-- each of these claims says an Init or an Echo
 abbrev pub AreEchoing : List Claim → Type 0
 AreEchoing cs = All (λ c. IsTrue (is_echoing c.statement)) cs
 
+-- Inits are signed, then Echoes, and no other kind
 abbrev pub SignsEchoing : Setting → Type 0
 SignsEchoing s = s.signs ≡ Inits ∷ Echoes ∷ []
 
@@ -44,9 +47,11 @@ pub record EchoesOnly (s : Setting) (p : Process) (t : Turn) : Type 0 where
   pub signs : refusal s p t.event ≡ None → after s p t ≡ (signing s p t).now
   pub sends : refusal s p t.event ≡ None → IsFalse (is_tick t.event) → (outcome s p t).sends ≡ unless_empty (newly_signed p (signing s p t).now) Bundle (others p p.pool.view)
 
+-- so it is with each event that hands over Inits and Echoes alone
 abbrev pub EachEventEchoes : Type 0
 EachEventEchoes = (s : Setting) (p : Process) (t : Turn) → SignsEchoing s → AreEchoing (claims_in t.event) → Echoing s p → EchoesOnly s p t
 
+-- so a process stands so after each run
 abbrev pub EchoesThroughout : Type 0
 EchoesThroughout = EachRun (λ s me turns p. SignsEchoing s → AreEchoing (handed_to turns) → Echoing s p)
 

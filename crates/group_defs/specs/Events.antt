@@ -17,6 +17,7 @@ use Rattle.group_defs.specs.Signing.{Signer, Signing, sign_all}
 use Rattle.group_defs.specs.Settle.{decide, deliver, leave, settle}
 use Rattle.group_defs.specs.Sending.{Bundle, Proof, Want, Sending, bundle, answer, others, sends_to, unless_empty}
 
+-- what is handed to a process; of a frame, what its bytes say
 pub data Event : Type 0 where
   Submit : (payload : List ℕ) → Event
   Hand : (from : ℕ) (frame : Frame) → Event
@@ -33,6 +34,7 @@ pub record Turn : Type 0 where
 
 -- ---- refusals
 
+-- why an event is refused
 pub data EventFault : Type 0 where
   HaltedNow : (delivered cut : ℕ) → EventFault
   BadFrame : (fault : FrameFault) → EventFault
@@ -42,12 +44,17 @@ pub data EventFault : Type 0 where
   NoKey : EventFault
   NoNext : (fault : UpdateFault) → EventFault
 
+-- the fault of `next`, where no view follows by this update
 abbrev pub no_next : Process → Update → List (Bool × EventFault)
 no_next p u = map (λ fault. (true, NoNext fault)) (option_to_list (next_fault p.pool.view u))
 
+-- only members submit and perceive
 abbrev pub outsider : Process → Bool × EventFault
 outsider p = (not (is_member p.pool.view p.me), Outsider)
 
+-- What can refuse an event of a process that has not halted, in order. A frame: its fault. A Submit: the process is no member of its
+-- view; the payload has over 1,024 bytes; exactly 256 accepted payloads are not delivered yet. An update to be perceived: the process is
+-- no member; the roster has no key of who is to join; no view follows by it.
 abbrev pub refusals : Setting → Process → Event → List (Bool × EventFault)
 refusals s p (Hand from (Faulty fault)) = (true, BadFrame fault) ∷ []
 refusals s p (Hand from frame) = []
@@ -61,11 +68,13 @@ refusals s p (Join q) = outsider p ∷ (not (has (keyed s) q), NoKey) ∷ no_nex
 refusals s p RenewView = outsider p ∷ no_next p Renew
 refusals s p Tick = []
 
+-- the first refusal that holds; a process that has halted, beyond its cut, refuses every event
 abbrev pub refusal : Setting → Process → Event → Option EventFault
 refusal s p e = first_that_holds ((p.halted, HaltedNow (length p.delivered) (option_map_or (λ d. d.1.cut) p.decision 0)) ∷ refusals s p e)
 
 -- ---- taking in
 
+-- perceived updates are ordered by view number, then by update
 abbrev pub perceived_numbers : ℕ × Update → List ℕ
 perceived_numbers e = e.0 ∷ update_numbers e.1
 
@@ -75,6 +84,7 @@ perceives p u =
     if is_perceived p (p.pool.view.number, u) then p
     else record p { perceived = put perceived_numbers (p.pool.view.number, u) p.perceived }
 
+-- a payload is accepted, claims are heard one by one, and an update is perceived in the current view
 abbrev pub take_in : Setting → Process → Event → Process
 take_in s p (Submit payload) = record p { accepted = p.accepted ++ payload ∷ [] }
 take_in s p (Hand from (Claims claims)) = hear_all s p claims
@@ -86,18 +96,22 @@ take_in s p Tick = p
 
 -- ---- after the event
 
+-- the event is taken in, and then what is due is signed
 abbrev pub signing : Setting → Process → Turn → Signing
 signing s p t = sign_all s t.signer t.allowance (take_in s p t.event)
 
+-- the process after the event: it takes it in, signs and settles; a refused event changes nothing
 unfoldable pub after : Setting → Process → Turn → Process
 after s p t = elim (refusal s p t.event) [ None ↦ settle s (signing s p t).now | Some fault ↦ p ]
 
+-- the process after these events
 unfoldable pub run : Setting → Process → List Turn → Process
 run s p [] = p
 run s p (t ∷ ts) = run s (after s p t) ts
 
 -- ---- what the event answers
 
+-- what is told of an event
 pub data Note : Type 0 where
   Delivers : (view place : ℕ) (delivered : Delivered) → Note
   Installs : (view : View) → Note
@@ -105,6 +119,7 @@ pub data Note : Type 0 where
   Spent : Note
   Halts : (delivered cut : ℕ) → Note
 
+-- what an event answers, beside the process after it
 pub record Outcome : Type 0 where
   pub verdict : Option EventFault
   pub heard : ℕ
@@ -113,15 +128,19 @@ pub record Outcome : Type 0 where
   pub sends : List Sending
   pub notes : List Note
 
+-- the event is a Tick
 abbrev pub is_tick : Event → Bool
 is_tick Tick = true
 is_tick _ = false
 
+-- beside the Bundles: a Want of a process with a key is answered in Proofs, and a Tick asks the other members for the places that come
+-- next
 abbrev pub answers : Setting → Process → Event → List Sending
 answers s q (Hand from (Wants x k)) = if has (keyed s) from then unless_empty (answer q x k) Proof (from ∷ []) else []
 answers s q Tick = sends_to (others q q.pool.view) (Want q.pool.view.number (length q.delivered))
 answers s q _ = []
 
+-- the note, where the test holds
 abbrev pub note_if : Bool → Note → List Note
 note_if b note = if b then note ∷ [] else []
 
@@ -134,6 +153,7 @@ notes p one done q =
     ++ note_if one.spent Spent
     ++ note_if q.halted (Halts (length q.delivered) (option_map_or (λ d. d.1.cut) q.decision 0))
 
+-- the outcome of an event that is not refused: heard and signed, it settles to q
 abbrev pub answered : Setting → Process → Turn → Signing → Outcome
 answered s p t one =
     let done : Process = deliver (decide s one.now) in
@@ -147,6 +167,7 @@ answered s p t one =
       notes = notes p one done q;
     }
 
+-- what the event answers; where it is refused, its fault alone
 abbrev pub outcome : Setting → Process → Turn → Outcome
 outcome s p t = elim (refusal s p t.event) [
   | None ↦ answered s p t (signing s p t)

@@ -9,6 +9,7 @@ use Rattle.group_defs.specs.Certified.{claim_on, heard_on, says, number_of_membe
 use Rattle.group_defs.specs.Due.{window}
 use Rattle.message_defs.specs.Spelling.{body}
 
+-- what becomes of a claim: only Heard and Conflict change anything
 pub data Verdict : Type 0 where
   Old : Verdict
   Early : Verdict
@@ -19,6 +20,7 @@ pub data Verdict : Type 0 where
   Conflict : Verdict
   Heard : Verdict
 
+-- the signature is valid under the signer's roster key, on the body of the claim
 abbrev pub is_valid : Setting → Claim → Bool
 is_valid s c = is_some_and (key_of s c.signer) (λ key. s.valid key (body s.group c.signer c.statement) c.signature)
 
@@ -39,6 +41,8 @@ is_beyond p signer (Ack x r v) = nat_le (number_of_members p.pool) r
 is_beyond p signer (Ready x r v) = nat_le (number_of_members p.pool) r
 is_beyond p signer _ = false
 
+-- the first of these that holds, else Heard: the view is over, or not yet installed; the signer or the named sender is no member; the
+-- statement is too far ahead; the signer has said just this; the signature is not valid; the signer has said something else on the slot
 abbrev pub verdict : Setting → Process → Claim → Verdict
 verdict s p c = unwrap_or (first_that_holds (
     (nat_lt (view_of c.statement) p.pool.view.number, Old)
@@ -52,6 +56,7 @@ verdict s p c = unwrap_or (first_that_holds (
 
 -- ---- what it changes
 
+-- the claim stands behind those that are heard
 abbrev pub with_heard : Process → Claim → Process
 with_heard p c = record p { pool = record { view = p.pool.view; heard = p.pool.heard ++ c ∷ [] } }
 
@@ -61,14 +66,17 @@ kept_conflicts p c =
     if list_any (λ pair. pair.1.signer == c.signer) p.conflicts then p.conflicts
     else p.conflicts ++ elim (claim_on p.pool.heard c.signer (slot_of c.statement)) [ None ↦ [] | Some first ↦ (first, c) ∷ [] ]
 
+-- a heard claim is kept, and so is the first conflict of a signer
 abbrev pub with_verdict : Verdict → Process → Claim → Process
 with_verdict Heard p c = with_heard p c
 with_verdict Conflict p c = record p { conflicts = kept_conflicts p c }
 with_verdict _ p c = p
 
+-- the process after a claim has got its verdict
 abbrev pub hear : Setting → Process → Claim → Process
 hear s p c = with_verdict (verdict s p c) p c
 
+-- the claims get their verdicts one after the other
 unfoldable pub hear_all : Setting → Process → List Claim → Process
 hear_all s p [] = p
 hear_all s p (c ∷ cs) = hear_all s (hear s p c) cs

@@ -86,6 +86,7 @@ pub record DeliversIn (me : ℕ) (v : View) (ds : List Delivered) : Type 0 where
   pub outside : IsFalse (is_member v me) → ds ≡ []
   pub senders : All (λ d. IsTrue (is_member v d.message.sender)) ds
 
+-- so it is in each view that a process left, and in its current one
 abbrev pub MembersDeliver : Type 0
 MembersDeliver = EachRun (λ s me turns p. All (λ l. DeliversIn p.me l.view l.delivered) p.left × DeliversIn p.me p.pool.view p.delivered)
 
@@ -100,6 +101,7 @@ pub record IsChoice (s : Setting) (h : Pool) (r : ℕ) (v : Value) : Type 0 wher
   pub justified : IsTrue (is_justified s h r v)
   pub adopts : (r0 : ℕ) (w : Value) → IsTrue (is_second_way h r r0 w) → (r1 : ℕ) × (r0 ≤ r1) × IsTrue (is_second_way h r r1 v)
 
+-- what a deputy chooses is such a choice
 abbrev pub DeputyAdopts : Type 0
 DeputyAdopts = (s : Setting) (h : Pool) (r : ℕ) (v : Value) → choose s h r ≡ Some v → IsChoice s h r v
 
@@ -114,6 +116,8 @@ abbrev pub QuorumsMeet : Type 0
 QuorumsMeet = (members : List ℕ) (p q : ℕ → Bool) → 1 ≤ length members → quorum (length members) ≤ count_by p members → quorum (length members) ≤ count_by q members
     → faulty (length members) < count_by (λ m. p m && q m) members
 
+-- the processes stand by rising number, and begin in a view 0 of 1 to 16 members; what was handed over of them is their own word; and in
+-- no view that they installed are more than f members not correct
 pub record Premises (f : Family) : Type 0 where
   pub genesis : IsView f.setting.genesis
   pub first : f.setting.genesis.number ≡ 0
@@ -130,6 +134,7 @@ settlings_from s p (t ∷ ts) = settled (refusal s p t.event) (signing s p t).no
     settled None q = q ∷ []
     settled (Some fault) q = []
 
+-- of all turns of a correct process
 abbrev pub settlings : Family → Correct → List Process
 settlings f c = settlings_from f.setting (start f.setting c.me) c.turns
 
@@ -144,9 +149,11 @@ pub record StoodSo (f : Family) (q : Process) : Type 0 where
   pub grown : HasGrown q by
   pub heard : All (IsFrom f.setting (handed f) q.signed) q.pool.heard
 
+-- what stood so as an event settled stood so at a moment
 abbrev pub SettledStood : Type 0
 SettledStood = (f : Family) (q : Process) → SettledSo f q → StoodSo f q
 
+-- and so did each process at the end
 abbrev pub EndStood : Type 0
 EndStood = (f : Family) (p : Process) → Contains (ends f) p → StoodSo f p
 
@@ -183,6 +190,7 @@ InstalledIsOne = (f : Family) → Premises f → All (λ p. All (IsOneView f) (v
 abbrev pub CertifiedIsBacked : Type 0
 CertifiedIsBacked = (f : Family) (v : View) (q : Process) (st : Statement) → IsOneView f v → StoodSo f q → q.pool.view ≡ v → IsTrue (is_certified q.pool st) → IsBacked f v st
 
+-- of a slot at most one content is backed
 abbrev pub OneContent : Type 0
 OneContent = (f : Family) (v : View) (st other : Statement) → IsOneView f v → IsBacked f v st → IsBacked f v other → slot_of st ≡ slot_of other → st ≡ other
 
@@ -190,11 +198,12 @@ OneContent = (f : Family) (v : View) (st other : Statement) → IsOneView f v �
 abbrev pub ReadyFixesValue : Type 0
 ReadyFixesValue = (f : Family) (v : View) (r r' : ℕ) (w w' : Value) → IsOneView f v → IsBacked f v (Ready v.number r w) → IsBacked f v (Ack v.number r' w') → r ≤ r' → w' ≡ w
 
--- 6. a backed Ack's value was free at a correct member, and each kept place is below its cut
+-- 6. a backed Ack's value was free at a correct member
 abbrev pub AckedWasFree : Type 0
 AckedWasFree = (f : Family) (v : View) (r : ℕ) (w : Value) → IsOneView f v → IsBacked f v (Ack v.number r w)
     → (q : Process) × StoodSo f q × (q.pool.view ≡ v) × IsTrue (is_member v q.me) × IsTrue (is_free f.setting q.pool w)
 
+-- and each place with a backed Keep is below its cut
 abbrev pub KeptBelowCut : Type 0
 KeptBelowCut = (f : Family) (v : View) (r k : ℕ) (w : Value) (m : Message) → IsOneView f v → IsBacked f v (Keep v.number k m) → IsBacked f v (Ack v.number r w) → k < w.cut
 
@@ -202,13 +211,15 @@ KeptBelowCut = (f : Family) (v : View) (r k : ℕ) (w : Value) (m : Message) →
 abbrev pub Decides : Family → View → Process → Value → Type 0
 Decides f v q w = SettledSo f q × (q.pool.view ≡ v) × ((r : ℕ) × ((decide f.setting q).decision ≡ Some (r, w)))
 
--- 7. one value is decided, nobody delivers beyond its cut, and nobody halts
+-- 7. one value is decided
 abbrev pub OneDecision : Type 0
 OneDecision = (f : Family) (v : View) (q q' : Process) (w w' : Value) → IsOneView f v → Decides f v q w → Decides f v q' w' → w ≡ w'
 
+-- nobody delivers beyond its cut
 abbrev pub DeliversWithinCut : Type 0
 DeliversWithinCut = (f : Family) (v : View) (q q' : Process) (w : Value) → IsOneView f v → Decides f v q w → SettledSo f q' → q'.pool.view ≡ v → length (deliver (decide f.setting q')).delivered ≤ w.cut
 
+-- and nobody halts
 abbrev pub NobodyHalts : Type 0
 NobodyHalts = (f : Family) → Premises f → All (λ p. p.halted ≡ false) (ends f)
 
@@ -218,6 +229,7 @@ pub record AgreeUpTo (x : ℕ) (a b : Account) : Type 0 where
   pub prefixes : (y : ℕ) → y < x → IsPrefixOf (delivered_in a y) (delivered_in b y) ⊎ IsPrefixOf (delivered_in b y) (delivered_in a y)
   pub whole : (y : ℕ) (v : View) → y < x → slice_get a.views y ≡ Some v → IsTrue (is_member v a.me) → HasLeft a y → IsPrefixOf (delivered_in b y) (delivered_in a y)
 
+-- any two accounts of the family agree so
 abbrev pub AllAgreeUpTo : Family → ℕ → Type 0
 AllAgreeUpTo f x = All (λ a. All (AgreeUpTo x a) (accounts f)) (accounts f)
 
@@ -227,41 +239,52 @@ AgreeGoesOn = (f : Family) (x : ℕ) → Premises f → AllAgreeUpTo f x → All
 
 -- ---- the theorems
 
+-- under the premises correct processes agree: on their views, on one sequence in each view, and on all of it where they left the view as
+-- members
 abbrev pub Agreement : Type 0
 Agreement = (f : Family) → Premises f → Agree (accounts f)
 
+-- and their group is sound: each view has its cause, and each sequence is in order and is what its senders accepted
 abbrev pub CauseAndOrder : Type 0
 CauseAndOrder = (f : Family) → Premises f → Sound (accounts f) (keyed f.setting)
 
 -- ---- growth: of a schedule's first events each process has taken its first turns
 
+-- the same process, earlier: it has taken the first of its turns
 abbrev pub StandsBefore : Correct → Correct → Type 0
 StandsBefore early late = (early.me ≡ late.me) × IsPrefixOf early.turns late.turns
 
+-- the same setting and processes, at an earlier moment
 pub record IsFrontOf (early late : Family) : Type 0 where
   pub setting : early.setting ≡ late.setting
   pub fronts : AllZip StandsBefore early.correct late.correct
 
+-- views and sequences only grow, and a sequence is whole once some member has left its view
 pub record GrowsTo (early late : List Account) : Type 0 where
   pub views : IsPrefixOf (group_of early).views (group_of late).views
   pub sequences : (x : ℕ) → IsPrefixOf ((group_of early).sequence x) ((group_of late).sequence x)
   pub whole : All (λ a. (x : ℕ) (v : View) → slice_get a.views x ≡ Some v → IsTrue (is_member v a.me) → HasLeft a x → (group_of early).sequence x ≡ (group_of late).sequence x) early
 
+-- what was agreed at an earlier moment stays agreed
 abbrev pub Growth : Type 0
 Growth = (early late : Family) → IsFrontOf early late → Premises late → GrowsTo (accounts early) (accounts late)
 
 -- ---- local agreement
 
+-- a correct process never signs two statements that conflict
 abbrev pub NoConflict : Type 0
 NoConflict = EachRun (λ s me turns p. AllPairs (λ c d. ¬ Conflicts c d) p.signed)
 
+-- in views of one number no two payloads of a message are certified at correct processes
 abbrev pub OnePayload : Type 0
 OnePayload = (f : Family) (q q' : Process) (m : Message) (b b' : List ℕ) → Premises f → SettledSo f q → SettledSo f q' → q.pool.view.number ≡ q'.pool.view.number
     → payload_at q.pool m ≡ Some b → payload_at q'.pool m ≡ Some b' → b ≡ b'
 
+-- nor are two messages of one place
 abbrev pub OneMessage : Type 0
 OneMessage = (f : Family) (q q' : Process) (k : ℕ) (m m' : Message) → Premises f → SettledSo f q → SettledSo f q' → q.pool.view.number ≡ q'.pool.view.number
     → place_at q.pool k ≡ Some m → place_at q'.pool k ≡ Some m' → m ≡ m'
 
+-- in the genesis view the delivered lists of correct processes are prefixes of one sequence
 abbrev pub OneSequence : Type 0
 OneSequence = (f : Family) → Premises f → (ds : List Delivered) × All (λ a. IsPrefixOf (delivered_in a 0) ds) (accounts f)

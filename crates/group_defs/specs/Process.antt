@@ -32,9 +32,11 @@ pub record Setting : Type 0 where
   pub valid : List ℕ → List ℕ → List ℕ → Bool
   pub signs : List Kind
 
+-- the processes that the roster has a key of
 abbrev pub keyed : Setting → List ℕ
 keyed s = map (λ k. k.0) s.roster
 
+-- the process's key in the roster
 abbrev pub key_of : Setting → ℕ → Option (List ℕ)
 key_of s p = option_map (λ k. k.1) (find (λ k. k.0 == p) s.roster)
 
@@ -43,10 +45,12 @@ pub record Pool : Type 0 where
   pub view : View
   pub heard : List Claim
 
+-- what a member delivers at a place: the message that the place names, and its payload
 pub record Delivered : Type 0 where
   pub message : Message
   pub payload : List ℕ
 
+-- deliveries are equal where message and payload are
 unfoldable pub Delivered-discrete : Discrete Delivered
 Delivered-discrete d e = both (λ m b. λ i. record { message = m i; payload = b i }) (λ q. λ i. (q i).message) (λ q. λ i. (q i).payload) (Message-discrete d.message e.message) (bytes_discrete d.payload e.payload)
 
@@ -56,6 +60,7 @@ pub record Left : Type 0 where
   pub delivered : List Delivered
   pub commit : List Claim
 
+-- the data of a process. Its secret is not among them: each turn brings what signs
 pub record Process : Type 0 where
   pub me : ℕ
   pub left : List Left
@@ -72,6 +77,7 @@ pub record Process : Type 0 where
   pub perceived : List (ℕ × Update)
   pub accepted : List (List ℕ)
 
+-- a process as it starts: in the genesis view, and nothing has happened
 abbrev pub start : Setting → ℕ → Process
 start s me = record {
   me = me;
@@ -89,9 +95,11 @@ start s me = record {
 
 -- ---- as the reports see it
 
+-- the views that it installed, the current one last
 abbrev pub views_of : Process → List View
 views_of p = map (λ v. v.view) p.left ++ p.pool.view ∷ []
 
+-- what it delivered in each of these views
 abbrev pub deliveries_of : Process → List (List Delivered)
 deliveries_of p = map (λ v. v.delivered) p.left ++ p.delivered ∷ []
 

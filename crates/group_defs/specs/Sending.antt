@@ -22,10 +22,11 @@ was_delivered began (Place x k m) = nat_lt k (length began.delivered)
 was_delivered began (Keep x k m) = nat_lt k (length began.delivered)
 was_delivered began _ = false
 
--- on a Tick, all own claims of the view
+-- on a Tick, all own claims of the view but those of messages and places that were delivered
 abbrev pub repeated : Process → Process → List Claim
 repeated began p = filter (λ c. (view_of c.statement == p.pool.view.number) && not (was_delivered began c.statement)) p.signed
 
+-- the claims that were signed in this event
 abbrev pub newly_signed : Process → Process → List Claim
 newly_signed began p = drop (length began.signed) p.signed
 
@@ -43,13 +44,16 @@ is_beside cut (Ack x r v) = true
 is_beside cut (Place x k m) = k + 1 == cut
 is_beside cut _ = false
 
+-- claims are ordered by kind, slot and signer
 abbrev pub claim_numbers : Claim → List ℕ
 claim_numbers c = slot_numbers (slot_of c.statement) ++ c.signer ∷ []
 
+-- the heard claims that a Suggest takes along, by kind, slot and signer
 abbrev pub beside_suggest : Pool → Statement → List Claim
 beside_suggest h (Suggest x r v) = sorted claim_numbers (filter (λ c. is_beside v.cut c.statement) h.heard)
 beside_suggest h _ = []
 
+-- signer, statement and signature are equal
 abbrev pub same_claim : Claim → Claim → Bool
 same_claim c d = (c.signer == d.signer) && same_statement c.statement d.statement && is_yes (bytes_discrete c.signature d.signature)
 
@@ -57,11 +61,13 @@ same_claim c d = (c.signer == d.signer) && same_statement c.statement d.statemen
 abbrev pub joined : List Claim → Claim → List Claim
 joined cs c = if list_any (same_claim c) cs then cs else cs ++ c ∷ []
 
+-- the claims, and behind them what their Orders and Suggests take along, each once
 abbrev pub with_what_goes_beside : Process → Pool → List Claim → List Claim
 with_what_goes_beside began h base =
     let statements : List Statement = map (λ c. c.statement) base in
     fold joined base (flat_map (beside_order began h) statements ++ flat_map (beside_suggest h) statements)
 
+-- what goes to the other members of the view: on a Tick the own claims again, else those that were signed now, with what goes beside them
 abbrev pub bundle : Bool → Process → Process → List Claim
 bundle tick began p = with_what_goes_beside began p.pool (if tick then repeated began p else newly_signed began p)
 
@@ -74,6 +80,7 @@ place_certificates h k =
     ++ elim (place_at h k) [ None ↦ [] | Some m ↦ certificate_on h (EchoAt h.view.number m) ]
     ++ certificate_on h (KeepAt h.view.number k)
 
+-- the commit certificate of the view of this number, where the process left it
 abbrev pub commits_of : Process → ℕ → List Claim
 commits_of p x = flat_map (λ v. v.commit) (filter (λ v. v.view.number == x) p.left)
 
@@ -99,6 +106,7 @@ frames_of (Bundle claims) = map (λ gs. frames.frame_bytes (frames.Bundle gs)) (
 frames_of (Proof claims) = map (λ gs. frames.frame_bytes (frames.Proof gs)) (pack claims)
 frames_of (Want x k) = frames.frame_bytes (frames.Want x k) ∷ []
 
+-- what is packed into frames, and whom they go to
 pub record Sending : Type 0 where
   pub to : List ℕ
   pub parcel : Parcel

@@ -11,6 +11,7 @@ use Rattle.group_defs.specs.Certified.{value_at, place_at, payload_at, fixed_len
 
 -- ---- phases
 
+-- how far a process is in its view
 pub data Phase : Type 0 where
   Observing : Phase
   OpenView : Phase
@@ -18,6 +19,7 @@ pub data Phase : Type 0 where
   DecidedView : Phase
   HaltedView : Phase
 
+-- the first that holds: halted, decided, observing as one who is no member, closing behind the own End; else the view is open
 abbrev pub phase_of : Process → Phase
 phase_of p = unwrap_or (first_that_holds (
     (p.halted, HaltedView)
@@ -32,14 +34,17 @@ phase_of p = unwrap_or (first_that_holds (
 abbrev pub decided_at : Setting → Pool → ℕ → Option (ℕ × Value)
 decided_at s h r = option_and_then (λ v. if is_possible (keyed s) h.view v.update then Some (r, v) else None) (value_at h (ReadyAt h.view.number r))
 
+-- of the certified Ready values whose update is possible, the one of the least rank
 abbrev pub decided_by : Setting → Pool → Option (ℕ × Value)
 decided_by s h = first_some (decided_at s h) (range_with_len 0 (number_of_members h))
 
+-- an undecided view is decided, where some rank decides
 abbrev pub decide : Setting → Process → Process
 decide s p = record p { decision = option_or p.decision (decided_by s p.pool) }
 
 -- ---- delivering
 
+-- how many messages may be delivered in the view: the cut where it is decided, else one more than the greatest kept place, else 0
 abbrev pub limit : Process → ℕ
 limit p = option_map_or (λ d. d.1.cut) p.decision (fixed_length p.pool)
 
@@ -55,11 +60,13 @@ deliver_more (suc more) p = elim (deliverable p) [
   | Some d ↦ deliver_more more (record p { delivered = p.delivered ++ d ∷ [] })
 ]
 
+-- a member delivers up to the limit, as far as places and their messages are certified; others deliver nothing
 abbrev pub deliver : Process → Process
 deliver p = if is_member p.pool.view p.me then deliver_more (limit p - length p.delivered) p else p
 
 -- ---- leaving
 
+-- the next view is installed; of the one before it the claims, the deliveries and the commit certificate are kept
 abbrev pub install : ℕ × Value → Process → Process
 install d p = record p {
   left = p.left ++ record { view = p.pool.view; delivered = p.delivered; commit = certificate p.pool (Ready p.pool.view.number d.0 d.1) } ∷ [];
@@ -76,8 +83,10 @@ leave_by d p =
     (if length p.delivered == d.1.cut then install d p else record p { halted = nat_lt d.1.cut (length p.delivered) })
     else install d p
 
+-- a decided view is left
 abbrev pub leave : Process → Process
 leave p = elim p.decision [ None ↦ p | Some d ↦ leave_by d p ]
 
+-- the view is decided, then what may be delivered is, and then the view is left
 unfoldable pub settle : Setting → Process → Process
 settle s p = leave (deliver (decide s p))

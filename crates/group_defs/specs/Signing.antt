@@ -10,6 +10,7 @@ use Rattle.message_defs.specs.Spelling.{body}
 abbrev pub Signer : Type 0
 Signer = ℕ → List ℕ → List ℕ
 
+-- the process's claim on a statement, with the signature that is made next
 abbrev pub own_claim : Setting → Signer → Process → Statement → Claim
 own_claim s signer p st = record { signer = p.me; statement = st; signature = signer (length p.signed) (body s.group p.me st) }
 
@@ -17,6 +18,7 @@ own_claim s signer p st = record { signer = p.me; statement = st; signature = si
 abbrev pub own_heard : Process → Claim → List Claim
 own_heard p c = if is_some (heard_on p.pool p.me (slot_of c.statement)) then p.pool.heard else p.pool.heard ++ c ∷ []
 
+-- the process after signing the statement
 abbrev pub signs : Setting → Signer → Process → Statement → Process
 signs s signer p st =
     let c = own_claim s signer p st in
@@ -28,6 +30,7 @@ pub record Signing : Type 0 where
   pub left : ℕ
   pub spent : Bool
 
+-- the least due statement of this kind is signed, again and again, until none is due or no signature may be made
 unfoldable pub sign_kind : Setting → Signer → Kind → ℕ → Process → Signing
 sign_kind s signer kind zero p = record { now = p; left = zero; spent = is_some (least_due s p kind) }
 sign_kind s signer kind (suc left) p = elim (least_due s p kind) [
@@ -35,6 +38,7 @@ sign_kind s signer kind (suc left) p = elim (least_due s p kind) [
   | Some st ↦ sign_kind s signer kind left (signs s signer p st)
 ]
 
+-- kind after kind, until a signature is wanting
 unfoldable pub sign_kinds : Setting → Signer → List Kind → ℕ → Process → Signing
 sign_kinds s signer [] left p = record { now = p; left = left; spent = false }
 sign_kinds s signer (kind ∷ more) left p =

@@ -18,6 +18,7 @@ is_quorum h n = nat_le (quorum (number_of_members h)) n
 
 -- ---- free values
 
+-- the length that an End says
 abbrev pub length_said : Statement → Option ℕ
 length_said (End x k) = Some k
 length_said _ = None
@@ -26,6 +27,8 @@ length_said _ = None
 abbrev pub ends : Pool → List ℕ
 ends h = filter_map (λ m. option_and_then length_said (heard_on h m (EndAt h.view.number))) h.view.members
 
+-- the update is possible, and more than f members notify it; a quorum say Ends of at most the cut, and one of them the cut itself; and the
+-- last place below the cut is certified, unless the cut is 0
 abbrev pub is_free : Setting → Pool → Value → Bool
 is_free s h v =
     is_notified h v.update
@@ -40,6 +43,7 @@ free_value s h = least value_numbers (filter (is_free s h) (flat_map (λ u. map 
 
 -- ---- values that an earlier rank may have decided
 
+-- the Ready that a Last reports, or that it reports none
 abbrev pub ready_said : Statement → Option (Option (ℕ × Value))
 ready_said (Last x r ready) = Some ready
 ready_said _ = None
@@ -48,9 +52,11 @@ ready_said _ = None
 abbrev pub lasts : Pool → ℕ → List (Option (ℕ × Value))
 lasts h r = filter_map (λ m. option_and_then ready_said (heard_on h m (LastAt h.view.number r))) h.view.members
 
+-- both report none, or the same rank and value
 abbrev pub same_ready : Option (ℕ × Value) → Option (ℕ × Value) → Bool
 same_ready a b = is_yes (option_discrete (pair_discrete ℕ_discrete Value-discrete) a b)
 
+-- a Last that reports none, or a Ready of rank r or below
 abbrev pub is_at_most : ℕ → Option (ℕ × Value) → Bool
 is_at_most r None = true
 is_at_most r (Some ready) = nat_le ready.0 r
@@ -67,9 +73,11 @@ is_second_way h r r0 v =
     && list_any (same_ready (Some (r0, v))) (lasts h r)
     && is_certified h (Ack h.view.number r0 v)
 
+-- one of the two ways leads to the value: it is free and no earlier rank may have decided, or some earlier rank may have decided it
 abbrev pub is_justified : Setting → Pool → ℕ → Value → Bool
 is_justified s h r v = (is_free s h v && is_first_way h r) || list_any (λ r0. is_second_way h r r0 v) (range_with_len 0 r)
 
+-- the values that the Lasts at r report
 abbrev pub reported : Pool → ℕ → List Value
 reported h r = filter_map (option_map (λ ready. ready.1)) (lasts h r)
 

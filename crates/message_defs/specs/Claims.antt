@@ -15,6 +15,7 @@ in_bundle kind = true
 abbrev pub in_proof : ℕ → Bool
 in_proof kind = (kind == 2) || (kind == 4) || (kind == 5) || (kind == 11)
 
+-- the claims of a group: its statement, once for each signer; a signer above 63 is refused
 unfoldable pub claims_on : Statement → List (ℕ × List ℕ) → Result (List Claim) FrameFault
 claims_on st [] = Ok []
 claims_on st (s ∷ more) = do
@@ -22,11 +23,13 @@ claims_on st (s ∷ more) = do
   others ← claims_on st more
   Ok (record { signer = s.0; statement = st; signature = s.1 } ∷ others)
 
+-- the claims of a group, whose statement is of a kind that the frame carries
 unfoldable pub claims_of_group : (ℕ → Bool) → Group → Result (List Claim) FrameFault
 claims_of_group carries g = do
   st ← statement_in carries g.statement
   claims_on st g.signatures
 
+-- the claims of the groups in order, or the first fault
 unfoldable pub claims_of_groups : (ℕ → Bool) → List Group → Result (List Claim) FrameFault
 claims_of_groups carries [] = Ok []
 claims_of_groups carries (g ∷ gs) = do
@@ -38,6 +41,7 @@ claims_of_groups carries (g ∷ gs) = do
 abbrev pub want_claims : ℕ → ℕ → Result (List Claim) FrameFault
 want_claims x k = refuse_if (not (nat_le x 1023)) Range >>= λ _. refuse_if (not (nat_le k 1024)) Range >>= λ _. Ok []
 
+-- the claims of a frame, or the first fault of its groups or its Want
 unfoldable pub claims_of : FrameView → Result (List Claim) FrameFault
 claims_of (Bundle gs) = claims_of_groups in_bundle gs
 claims_of (Proof gs) = claims_of_groups in_proof gs
@@ -50,15 +54,18 @@ pub data Frame : Type 0 where
   Wants : (view place : ℕ) → Frame
   Faulty : (fault : FrameFault) → Frame
 
+-- what a frame says whose claims were read so
 abbrev pub said : FrameView → Result (List Claim) FrameFault → Frame
 said f (Err fault) = Faulty fault
 said (Want x k) (Ok cs) = Wants x k
 said (Bundle gs) (Ok cs) = Claims cs
 said (Proof gs) (Ok cs) = Claims cs
 
+-- what bytes say whose frame was read so
 abbrev pub said_by : Result FrameView FrameFault → Frame
 said_by (Err fault) = Faulty fault
 said_by (Ok f) = said f (claims_of f)
 
+-- what the bytes say: claims, a Want, or the first fault, which refuses them whole
 unfoldable pub frame_said : List ℕ → Frame
 frame_said bytes = said_by (frame_of bytes)

@@ -4,12 +4,14 @@ use Rattle.std.specs.Prelude.{ℕ, zero, suc, List, [], ◌∷◌, Result, Ok, n
 use Rattle.std.specs.Int.{w16}
 use Rattle.byte_defs.specs.Fields.{◌>>=◌, refuse_if, number_at, bytes_at}
 
+-- one signature, and the bytes after it
 unfoldable pub kept_at : List ℕ → Result (List ℕ × List ℕ) (Unit {0})
 kept_at bytes = do
   len ← number_at tt w16 bytes
   _ ← refuse_if (nat_lt 16384 len.0) tt
   bytes_at tt len.0 len.1
 
+-- so many signatures, and the bytes after them
 unfoldable pub all_kept_at : ℕ → List ℕ → Result (List (List ℕ) × List ℕ) (Unit {0})
 all_kept_at zero bytes = Ok ([], bytes)
 all_kept_at (suc n) bytes = do

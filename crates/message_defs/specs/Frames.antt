@@ -18,6 +18,7 @@ pub record Group : Type 0 where
   -- signer and signature
   pub signatures : List (ℕ × List ℕ)
 
+-- what a frame carries
 pub data FrameView : Type 0 where
   Bundle : (groups : List Group) → FrameView
   Proof : (groups : List Group) → FrameView
@@ -25,15 +26,19 @@ pub data FrameView : Type 0 where
 
 -- ---- the spelling
 
+-- signer1, length2 signature
 abbrev pub signature_bytes : ℕ × List ℕ → List ℕ
 signature_bytes s = s.0 ∷ text s.1
 
+-- length2 statement, number of signatures1, signatures
 abbrev pub group_bytes : Group → List ℕ
 group_bytes g = text g.statement ++ (length g.signatures ∷ flat_map signature_bytes g.signatures)
 
+-- number of groups1, groups
 abbrev pub groups_bytes : List Group → List ℕ
 groups_bytes gs = length gs ∷ flat_map group_bytes gs
 
+-- the bytes of a frame, as the table above has them
 abbrev pub frame_bytes : FrameView → List ℕ
 frame_bytes (Bundle gs) = 1 ∷ 1 ∷ groups_bytes gs
 frame_bytes (Proof gs) = 1 ∷ 2 ∷ groups_bytes gs
@@ -44,28 +49,33 @@ abbrev pub AreSignatures : ℕ → List (ℕ × List ℕ) → Type 0
 AreSignatures least [] = Unit {0}
 AreSignatures least (s ∷ more) = (least ≤ s.0) × (s.0 < 256) × (length s.1 ≤ 16384) × AreSignatures (s.0 + 1) more
 
+-- a group has 1 to 16 signatures by rising signers, and a statement whose length fits in two bytes
 pub record IsGroup (g : Group) : Type 0 where
   pub statement : length g.statement < 65536
   pub some : 0 < length g.signatures
   pub few : length g.signatures ≤ 16
   pub signatures : AreSignatures 0 g.signatures
 
+-- there are 1 to 255 groups
 pub record AreGroups (gs : List Group) : Type 0 where
   pub some : 0 < length gs
   pub few : length gs < 256
   pub each : AllByRecursion IsGroup gs
 
+-- its groups, or the fields of its Want, can be spelled
 abbrev pub HasParts : FrameView → Type 0
 HasParts (Bundle gs) = AreGroups gs
 HasParts (Proof gs) = AreGroups gs
 HasParts (Want x k) = (x < 65536) × (k < 65536)
 
+-- a frame that can be spelled: it has these parts, and at most 61,000 bytes
 pub record IsFrame (f : FrameView) : Type 0 where
   pub parts : HasParts f
   pub size : length (frame_bytes f) ≤ 61000
 
 -- ---- reading, with the first fault from the left
 
+-- one signature, of this signer or a higher one
 unfoldable pub signature_at : ℕ → List ℕ → Result ((ℕ × List ℕ) × List ℕ) FrameFault
 signature_at least bytes = do
   signer ← number_at faults.Short w8 bytes
@@ -83,6 +93,7 @@ signatures_at (suc n) least bytes = do
   others ← signatures_at n (first.0.0 + 1) first.1
   Ok (first.0 ∷ others.0, others.1)
 
+-- one group, and the bytes after it
 unfoldable pub group_at : List ℕ → Result (Group × List ℕ) FrameFault
 group_at bytes = do
   len ← number_at faults.Short w16 bytes
@@ -93,6 +104,7 @@ group_at bytes = do
   signatures ← signatures_at count.0 0 count.1
   Ok (record { statement = statement.0; signatures = signatures.0 }, signatures.1)
 
+-- so many groups
 unfoldable pub groups_at : ℕ → List ℕ → Result (List Group × List ℕ) FrameFault
 groups_at zero bytes = Ok ([], bytes)
 groups_at (suc n) bytes = do
@@ -109,6 +121,7 @@ all_groups bytes = do
   _ ← refuse_if (not (length groups.1 == 0)) faults.Trailing
   Ok groups.0
 
+-- the fields of a Want, and nothing behind them
 unfoldable pub want_at : List ℕ → Result FrameView FrameFault
 want_at bytes = do
   view ← number_at faults.Short w16 bytes
@@ -116,9 +129,11 @@ want_at bytes = do
   _ ← refuse_if (not (length place.1 == 0)) faults.Trailing
   Ok (Want view.0 place.0)
 
+-- the frame of this kind that has these groups
 abbrev pub groups_as : (List Group → FrameView) → Result (List Group) FrameFault → Result FrameView FrameFault
 groups_as kind read = read >>= λ gs. Ok (kind gs)
 
+-- the frame that all of the bytes spell, or the first fault
 unfoldable pub frame_of : List ℕ → Result FrameView FrameFault
 frame_of bytes = do
   _ ← refuse_if (nat_lt 61000 (length bytes)) faults.Length

@@ -14,9 +14,11 @@ pub record Signed : Type 0 where
   pub signer : ℕ
   pub signature : List ℕ
 
+-- the claim of these parts
 abbrev pub signed : List ℕ → ℕ → List ℕ → Signed
 signed statement signer signature = record { statement = statement; signer = signer; signature = signature }
 
+-- the claim, with its statement spelled
 abbrev pub signed_of : Claim → Signed
 signed_of c = signed (spelling c.statement) c.signer c.signature
 
@@ -26,9 +28,11 @@ joins g c =
     same_bytes g.statement c.statement && nat_lt (length g.signatures) 16
     && is_some_and (last_or None (map (λ s. s.0) g.signatures)) (λ signer. nat_lt signer c.signer)
 
+-- the group, with the signer and the signature of the claim behind those that it has
 abbrev pub with_signature : Group → Signed → Group
 with_signature g c = record g { signatures = g.signatures ++ (c.signer, c.signature) ∷ [] }
 
+-- the group of this claim alone
 abbrev pub group_of : Signed → Group
 group_of c = record { statement = c.statement; signatures = (c.signer, c.signature) ∷ [] }
 
@@ -42,6 +46,7 @@ add (g ∷ h ∷ gs) c = g ∷ add (h ∷ gs) c
 abbrev pub fits : ℕ → List Group → Bool
 fits room gs = nat_le (length gs) 255 && nat_le (length (frame_bytes (Bundle gs))) room
 
+-- the frames, where the current one has these groups so far and these claims come next
 abbrev pub pack_from : List Group → List Signed → List (List Group)
 pack_from gs [] = gs ∷ []
 pack_from gs (c ∷ cs) = if fits 61000 (add gs c) then pack_from (add gs c) cs else gs ∷ pack_from (group_of c ∷ []) cs

@@ -23,6 +23,7 @@ short_at bytes = number_at faults.Statement w16 bytes
 abbrev pub ended : List ℕ → Result (Unit {0}) FrameFault
 ended bytes = refuse_if (not (length bytes == 0)) faults.Statement
 
+-- s1 l2
 unfoldable pub message_at : List ℕ → Step Message
 message_at bytes = do
   sender ← byte_at bytes
@@ -43,6 +44,7 @@ update_by tag p =
     (if tag == 2 then Ok (Add p) else
     (if (tag == 3) && (p == 0) then Ok Renew else Err faults.Statement))
 
+-- an update, of its two bytes
 unfoldable pub update_at : List ℕ → Step Update
 update_at bytes = do
   tag ← byte_at bytes
@@ -50,6 +52,7 @@ update_at bytes = do
   update ← update_by tag.0 p.0
   Ok (update, p.1)
 
+-- an update and a cut
 unfoldable pub value_at : List ℕ → Step Value
 value_at bytes = do
   update ← update_at bytes
@@ -72,14 +75,17 @@ report_at bytes = do
 abbrev pub within : ℕ → ℕ → Result (Unit {0}) FrameFault
 within limit n = refuse_if (nat_lt limit n) faults.Range
 
+-- the sender is at most 63, the number at most 1,023
 abbrev pub message_within : Message → Result (Unit {0}) FrameFault
 message_within m = within 63 m.sender >>= λ _. within 1023 m.number
 
+-- the process is at most 63
 abbrev pub update_within : Update → Result (Unit {0}) FrameFault
 update_within (Remove p) = within 63 p
 update_within (Add p) = within 63 p
 update_within Renew = Ok tt
 
+-- the update is in range, and the cut at most 1,024
 abbrev pub value_within : Value → Result (Unit {0}) FrameFault
 value_within v = update_within v.update >>= λ _. within 1024 v.cut
 
@@ -182,9 +188,11 @@ content_at kind bytes =
 
 -- ---- a statement, all of the bytes, where the frame carries these kinds
 
+-- there are eleven kinds, 1 to 11
 abbrev pub is_kind : ℕ → Bool
 is_kind n = nat_le 1 n && nat_le n 11
 
+-- the statement that the bytes spell, in a frame that carries these kinds
 unfoldable pub statement_in : (ℕ → Bool) → List ℕ → Result Statement FrameFault
 statement_in carries bytes = do
   kind ← byte_at bytes

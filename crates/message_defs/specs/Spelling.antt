@@ -13,16 +13,20 @@ use Rattle.byte_defs.specs.Fields.{two_bytes, text}
 use Rattle.message_defs.specs.Updates.{Update, Remove, Add, Renew, Value, update_numbers}
 use Rattle.message_defs.specs.Statements.{Message, Statement, Init, Echo, Order, Place, Keep, Notify, End, Last, Suggest, Ack, Ready, Claim}
 
+-- s1 l2: the sender, and the number of its message
 abbrev pub message_bytes : Message → List ℕ
 message_bytes m = m.sender ∷ two_bytes m.number
 
+-- the update, and the cut
 abbrev pub value_bytes : Value → List ℕ
 value_bytes v = update_numbers v.update ++ two_bytes v.cut
 
+-- what a Last reports: 00 for none, or 01 with the rank and the value of a Ready
 abbrev pub ready_bytes : Option (ℕ × Value) → List ℕ
 ready_bytes None = 0 ∷ []
 ready_bytes (Some ready) = 1 ∷ ready.0 ∷ value_bytes ready.1
 
+-- the bytes of a statement, as the table above has them
 abbrev pub spelling : Statement → List ℕ
 spelling (Init x l payload) = 1 ∷ (two_bytes x ++ two_bytes l ++ text payload)
 spelling (Echo x m payload) = 2 ∷ (two_bytes x ++ message_bytes m ++ text payload)
@@ -42,17 +46,21 @@ body group signer st = codes "RPB1" ++ group ++ (signer ∷ spelling st)
 
 -- ---- the ranges: what has a spelling that is read again
 
+-- views are numbered from 0 to 1,023
 abbrev pub IsViewNumber : ℕ → Type 0
 IsViewNumber x = x ≤ 1023
 
+-- the sender is a process, 0 to 63, and its messages in a view are numbered from 0 to 1,023
 abbrev pub IsMessage : Message → Type 0
 IsMessage m = (m.sender ≤ 63) × (m.number ≤ 1023)
 
+-- the process that is removed or added is one of 0 to 63
 abbrev pub IsUpdate : Update → Type 0
 IsUpdate (Remove p) = p ≤ 63
 IsUpdate (Add p) = p ≤ 63
 IsUpdate Renew = Unit {0}
 
+-- its update is in range, and its cut is at most 1,024 places
 abbrev pub IsValue : Value → Type 0
 IsValue v = IsUpdate v.update × (v.cut ≤ 1024)
 
@@ -61,6 +69,7 @@ abbrev pub IsReport : ℕ → Option (ℕ × Value) → Type 0
 IsReport r None = Unit {0}
 IsReport r (Some ready) = (ready.0 < r) × IsValue ready.1
 
+-- each field is in its range: numbers and places to 1,023, payloads to 1,024 bytes, lengths to 1,024, ranks to 15
 abbrev pub IsStatement : Statement → Type 0
 IsStatement (Init x l payload) = IsViewNumber x × (l ≤ 1023) × (length payload ≤ 1024)
 IsStatement (Echo x m payload) = IsViewNumber x × IsMessage m × (length payload ≤ 1024)

@@ -12,6 +12,7 @@ pub record Message : Type 0 where
 unfoldable pub Message-discrete : Discrete Message
 Message-discrete a b = both (λ s n. λ i. record { sender = s i; number = n i }) (λ e. λ i. (e i).sender) (λ e. λ i. (e i).number) (ℕ_discrete a.sender b.sender) (ℕ_discrete a.number b.number)
 
+-- what a process signs of a view, in eleven kinds
 pub data Statement : Type 0 where
   Init : (view number : ℕ) (payload : List ℕ) → Statement
   Echo : (view : ℕ) (message : Message) (payload : List ℕ) → Statement
@@ -41,6 +42,7 @@ pub data Slot : Type 0 where
   ReadyAt : (view rank : ℕ) → Slot
   deriving Discrete as Slot-discrete
 
+-- the slot that a statement fills
 abbrev pub slot_of : Statement → Slot
 slot_of (Init x l payload) = InitAt x l
 slot_of (Echo x m payload) = EchoAt x m
@@ -82,6 +84,7 @@ slot_numbers (SuggestAt x r) = 9 ∷ x ∷ r ∷ []
 slot_numbers (AckAt x r) = 10 ∷ x ∷ r ∷ []
 slot_numbers (ReadyAt x r) = 11 ∷ x ∷ r ∷ []
 
+-- the number of the view that a statement belongs to
 abbrev pub view_of : Statement → ℕ
 view_of (Init x l payload) = x
 view_of (Echo x m payload) = x
@@ -97,6 +100,7 @@ view_of (Ready x r v) = x
 
 -- ---- parts that only some kinds have
 
+-- the message that an Echo, Order, Place or Keep names
 abbrev pub message_of : Statement → Option Message
 message_of (Echo x m payload) = Some m
 message_of (Order x k m) = Some m
@@ -104,11 +108,13 @@ message_of (Place x k m) = Some m
 message_of (Keep x k m) = Some m
 message_of _ = None
 
+-- the payload of an Init or an Echo
 abbrev pub payload_of : Statement → Option (List ℕ)
 payload_of (Init x l payload) = Some payload
 payload_of (Echo x m payload) = Some payload
 payload_of _ = None
 
+-- the value of a Suggest, an Ack or a Ready
 abbrev pub value_of : Statement → Option Value
 value_of (Suggest x r v) = Some v
 value_of (Ack x r v) = Some v
@@ -117,14 +123,17 @@ value_of _ = None
 
 -- ---- equality
 
+-- the slots are equal
 abbrev pub same_slot : Slot → Slot → Bool
 same_slot a b = is_yes (Slot-discrete ℕ_discrete Message-discrete (Update-discrete ℕ_discrete) a b)
 
+-- the statements are equal, in kind and in all fields
 abbrev pub same_statement : Statement → Statement → Bool
 same_statement a b = is_yes (Statement-discrete ℕ_discrete bytes_discrete Message-discrete (Update-discrete ℕ_discrete) (option_discrete (pair_discrete ℕ_discrete Value-discrete)) Value-discrete a b)
 
 -- ---- claims
 
+-- who says it, what is said, and the signature on the body of both
 pub record Claim : Type 0 where
   pub signer : ℕ
   pub statement : Statement

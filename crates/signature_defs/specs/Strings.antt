@@ -1,16 +1,17 @@
 -- Byte strings as RFC 8554 writes them (section 3.1). A string is a list of bytes, and its || is ++.
 use Rattle.std.specs.Prelude.{ℕ, zero, suc, ◌+◌, ◌-◌, ◌*◌, ◌/◌, ◌%◌, ◌^◌, List, [], ◌∷◌, ◌++◌, take, drop, slice_index}
-use Rattle.std.specs.Int.{w16, w32, to_be_bytes, from_be_bytes}
+use Rattle.std.specs.Int.{w32, from_be_bytes}
+use Rattle.byte_defs.specs.Fields.{two_bytes, four_bytes}
 
 -- u8str, u16str, u32str: a number in network byte order (3.1)
 abbrev pub u8str : ℕ → List ℕ
 u8str n = n ∷ []
 
 abbrev pub u16str : ℕ → List ℕ
-u16str n = to_be_bytes w16 n
+u16str n = two_bytes n
 
 abbrev pub u32str : ℕ → List ℕ
-u32str n = to_be_bytes w32 n
+u32str n = four_bytes n
 
 -- the n bytes from a place on
 abbrev pub part : ℕ → ℕ → List ℕ → List ℕ

@@ -13,9 +13,11 @@ use Rattle.text_defs.specs.Kits.{Kit, Host, others_than}
 abbrev pub derive : List ℕ → ℕ → ℕ → ℕ → List ℕ
 derive seed label a b = sha256 (codes "RPK1" ++ (label ∷ a ∷ b ∷ seed))
 
+-- the group id that the seed gives
 abbrev pub derived_group : List ℕ → List ℕ
 derived_group seed = take 16 (derive seed 0 0 0)
 
+-- the secret of process p that the seed gives, as planned
 abbrev pub derived_secret : KeyPlan → List ℕ → ℕ → Secret
 derived_secret (plans.Plain total) seed p = Plain (derive seed 4 p 0) total
 derived_secret (plans.Lms code kind) seed p = Lms code kind (take 16 (derive seed 1 p 0)) (derive seed 2 p 0)
@@ -29,6 +31,7 @@ abbrev pub IsPlan : KeyPlan → Type 0
 IsPlan (plans.Plain total) = total < 2 ^ 32
 IsPlan (plans.Lms code kind) = (5 ≤ code) × (code ≤ 7)
 
+-- the signature scheme of a plan
 abbrev pub planned_scheme : KeyPlan → Scheme
 planned_scheme (plans.Plain total) = schemes.Plain
 planned_scheme (plans.Lms code kind) = schemes.Lms
@@ -37,6 +40,7 @@ planned_scheme (plans.Lms code kind) = schemes.Lms
 abbrev pub first_numbers : ℕ → List ℕ
 first_numbers n = range_with_len 0 n
 
+-- process p as a host: its secret, and the keys that it shares with the others
 abbrev pub made_host : KeyPlan → List ℕ → ℕ → ℕ → Host
 made_host plan seed roster p = record {
   process = p;

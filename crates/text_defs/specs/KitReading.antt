@@ -34,14 +34,17 @@ pub data KitFault : Type 0 where
 
 -- ---- what words say, by their form alone
 
+-- what the words behind `scheme` say
 abbrev pub scheme_by : List (List ℕ) → Option KitLine
 scheme_by (word ∷ []) = first_that_holds ((same_bytes word (codes "plain"), SchemeIs schemes.Plain) ∷ (same_bytes word (codes "lms"), SchemeIs schemes.Lms) ∷ [])
 scheme_by _ = None
 
+-- what the words behind `rampart` say
 abbrev pub version_by : List (List ℕ) → Option KitLine
 version_by (kit ∷ one ∷ []) = if same_bytes kit (codes "kit") && same_bytes one (codes "1") then Some Version else None
 version_by _ = None
 
+-- what the words behind `group` say
 abbrev pub group_by : List (List ℕ) → Option KitLine
 group_by (group ∷ []) = option_map GroupIs (bytes_of 16 group)
 group_by _ = None
@@ -52,9 +55,11 @@ may_be None plain lms = true
 may_be (Some schemes.Plain) plain lms = plain
 may_be (Some schemes.Lms) plain lms = lms
 
+-- a plain key or host may stand here
 abbrev pub may_be_plain : Option Scheme → Bool
 may_be_plain scheme = may_be scheme true false
 
+-- one of LMS may stand here
 abbrev pub may_be_lms : Option Scheme → Bool
 may_be_lms scheme = may_be scheme false true
 
@@ -64,6 +69,7 @@ public_key_by scheme word = option_or
     (if may_be_plain scheme then bytes_of 32 word else None)
     (if may_be_lms scheme then bytes_of 56 word else None)
 
+-- what the words behind `key` say
 abbrev pub key_by : Option Scheme → List (List ℕ) → Option KitLine
 key_by scheme (process ∷ key ∷ []) = and_then (process_of process) (λ p. option_map (Key p) (public_key_by scheme key))
 key_by scheme _ = None
@@ -73,29 +79,35 @@ unfoldable pub members_by : List ℕ → List (List ℕ) → Option (List ℕ)
 members_by before [] = Some before
 members_by before (word ∷ words) = and_then (process_of word) (λ p. if has before p then None else members_by (before ++ p ∷ []) words)
 
+-- what the words behind `genesis` say: 1 to 16 different processes
 abbrev pub genesis_by : List (List ℕ) → Option KitLine
 genesis_by words = if nat_le 1 (length words) && nat_le (length words) 16 then option_map Genesis (members_by [] words) else None
 
+-- what the words behind `port` say
 abbrev pub port_by : List (List ℕ) → Option KitLine
 port_by (process ∷ port ∷ []) = and_then (process_of process) (λ p. option_map (Port p) (number_within 1 65535 port))
 port_by _ = None
 
+-- what the words behind `host P plain` say
 abbrev pub plain_host_by : ℕ → List (List ℕ) → Option KitLine
 plain_host_by p (total ∷ []) = option_map (PlainHost p) (number_within 0 (2 ^ 32 - 1) total)
 plain_host_by p _ = None
 
+-- what the words behind `host P lms` say
 abbrev pub lms_host_by : ℕ → List (List ℕ) → Option KitLine
 lms_host_by p (code ∷ kind ∷ id ∷ seed ∷ []) =
     and_then (number_within 5 7 code) (λ h. and_then (option_and_then ots_type_of (number_within 1 4 kind)) (λ w.
     and_then (bytes_of 16 id) (λ i. option_map (LmsHost p h w i) (bytes_of 32 seed))))
 lms_host_by p _ = None
 
+-- what the words behind `host` say
 abbrev pub host_by : Option Scheme → List (List ℕ) → Option KitLine
 host_by scheme (process ∷ word ∷ more) = and_then (process_of process) (λ p. option_flatten (first_that_holds (
     (same_bytes word (codes "plain") && may_be_plain scheme, plain_host_by p more)
     ∷ (same_bytes word (codes "lms") && may_be_lms scheme, lms_host_by p more) ∷ [])))
 host_by scheme _ = None
 
+-- what the words behind `pair` say
 abbrev pub pair_by : List (List ℕ) → Option KitLine
 pair_by (process ∷ other ∷ key ∷ []) = and_then (process_of process) (λ p. and_then (process_of other) (λ q.
     if p == q then None else option_map (Pair p q) (bytes_of 32 key)))
@@ -116,6 +128,7 @@ line_by scheme (word ∷ words) = option_flatten (first_that_holds (
 
 -- ---- what stands of a kit
 
+-- what stands of a kit while its lines are read
 pub record Draft : Type 0 where
   pub version : Bool
   pub scheme : Option Scheme
@@ -127,16 +140,20 @@ pub record Draft : Type 0 where
   -- the pair lines of the last one may be on their way
   pub hosts : List Host
 
+-- before the first line
 abbrev pub nothing : Draft
 nothing = record { version = false; scheme = None; group = None; keys = []; genesis = []; ports = []; hosts = [] }
 
+-- the genesis line stands
 abbrev pub has_genesis : Draft → Bool
 has_genesis d = not (length d.genesis == 0)
 
+-- the first element, where there is one
 abbrev pub first_of : {A : Type 0} → List A → Option A
 first_of [] = None
 first_of (x ∷ xs) = Some x
 
+-- the last element, where there is one
 abbrev pub last_of : {A : Type 0} → List A → Option A
 last_of [] = None
 last_of (x ∷ []) = Some x
@@ -160,6 +177,7 @@ next_pair d = option_and_then (λ h. option_map (λ q. (h.process, q)) (next_oth
 
 -- ---- Repeated
 
+-- the words begin as the line of this host does, or one of its pair lines
 abbrev pub host_stands : List (List ℕ) → Host → Bool
 host_stands words h =
     begin_with (codes "host" ∷ decimal h.process ∷ []) words
@@ -194,6 +212,7 @@ is_outside d line = has_genesis d && list_any (λ p. not (has (roster_of d.keys)
 abbrev pub host_above : Draft → ℕ → Bool
 host_above d p = list_any (λ h. nat_lt p h.process) d.hosts
 
+-- the host line of the process stands
 abbrev pub is_hosted : Draft → ℕ → Bool
 is_hosted d p = list_any (λ h. h.process == p) d.hosts
 
@@ -212,6 +231,7 @@ is_of_strangers d _ = false
 
 -- ---- Missing
 
+-- the pair is of these two processes
 abbrev pub is_pair : ℕ → ℕ → ℕ × ℕ → Bool
 is_pair p q pair = (pair.0 == p) && (pair.1 == q)
 
@@ -229,6 +249,7 @@ is_early d (Pair process other key) = lacks_port d || not (is_some_and (next_pai
 
 -- ---- KeyMismatch
 
+-- the public key of the process's key line
 abbrev pub listed_key : Draft → ℕ → List ℕ
 listed_key d p = unwrap_or (key_of d.keys p) []
 
@@ -238,11 +259,13 @@ matching n d p secret = refuse_if (not (same_bytes (public_key_of secret) (liste
 
 -- ---- a line that is taken
 
+-- the pair, behind those of the last host
 abbrev pub with_pair : ℕ × List ℕ → List Host → List Host
 with_pair pair [] = []
 with_pair pair (h ∷ []) = record h { pairs = h.pairs ++ pair ∷ [] } ∷ []
 with_pair pair (h ∷ g ∷ hosts) = h ∷ with_pair pair (g ∷ hosts)
 
+-- the draft with this host behind the others
 abbrev pub with_host : Draft → ℕ → Secret → Draft
 with_host d process secret = record d { hosts = d.hosts ++ record { process = process; secret = secret; pairs = [] } ∷ [] }
 
@@ -260,6 +283,7 @@ with_line n d (LmsHost process code kind id seed) = do
   Ok (with_host d process (Lms code kind id seed))
 with_line n d (Pair process other key) = Ok (record d { hosts = with_pair (other, key) d.hosts })
 
+-- how many bytes a line has at most
 abbrev pub most_line_bytes : ℕ
 most_line_bytes = 70000
 

@@ -29,6 +29,7 @@ pub record Host : Type 0 where
   -- the keys that it shares with the other processes, by their rising numbers
   pub pairs : List (ℕ × List ℕ)
 
+-- what the processes of a group start with
 pub record Kit : Type 0 where
   pub scheme : Scheme
   pub group : List ℕ
@@ -66,10 +67,12 @@ pub data KitLine : Type 0 where
   LmsHost : (process code : ℕ) (kind : OtsType) (id seed : List ℕ) → KitLine
   Pair : (process other : ℕ) (key : List ℕ) → KitLine
 
+-- the word of a signature scheme
 abbrev pub scheme_word : Scheme → List ℕ
 scheme_word schemes.Plain = codes "plain"
 scheme_word schemes.Lms = codes "lms"
 
+-- the words of a line, as the table above has them
 abbrev pub line_words : KitLine → List (List ℕ)
 line_words Version = codes "rampart" ∷ codes "kit" ∷ codes "1" ∷ []
 line_words (SchemeIs scheme) = codes "scheme" ∷ scheme_word scheme ∷ []
@@ -81,33 +84,42 @@ line_words (PlainHost process total) = codes "host" ∷ decimal process ∷ code
 line_words (LmsHost process code kind id seed) = codes "host" ∷ decimal process ∷ codes "lms" ∷ decimal code ∷ decimal (ots_typecode kind) ∷ encode_lower id ∷ encode_lower seed ∷ []
 line_words (Pair process other key) = codes "pair" ∷ decimal process ∷ decimal other ∷ encode_lower key ∷ []
 
+-- the line of a process and its public key
 abbrev pub key_line : ℕ × List ℕ → KitLine
 key_line k = Key k.0 k.1
 
+-- the line of a process and its port
 abbrev pub port_line : ℕ × ℕ → KitLine
 port_line p = Port p.0 p.1
 
+-- the line of a host and its secret. A plain one has the total alone, since its key is the public key
 abbrev pub secret_line : ℕ → Secret → KitLine
 secret_line process (Plain key total) = PlainHost process total
 secret_line process (Lms code kind id seed) = LmsHost process code kind id seed
 
+-- the line of a host, another process and the key that they share
 abbrev pub pair_line : ℕ → ℕ × List ℕ → KitLine
 pair_line process pair = Pair process pair.0 pair.1
 
+-- the line of a host, and behind it those of its pairs
 abbrev pub host_lines : Host → List KitLine
 host_lines h = secret_line h.process h.secret ∷ map (pair_line h.process) h.pairs
 
+-- the lines that all may know
 abbrev pub public_lines : Kit → List KitLine
 public_lines kit = Version ∷ SchemeIs kit.scheme ∷ GroupIs kit.group ∷ (map key_line kit.keys ++ Genesis kit.genesis ∷ map port_line kit.ports)
 
+-- the lines of a kit, the secret ones last
 abbrev pub kit_lines : Kit → List KitLine
 kit_lines kit = public_lines kit ++ flat_map host_lines kit.hosts
 
+-- the text of these lines
 abbrev pub text_of_lines : List KitLine → List ℕ
 text_of_lines lines = flat_map (λ line. line_text (line_words line)) lines
 
 -- ---- the spelling
 
+-- the text of a kit
 abbrev pub kit_text : Kit → List ℕ
 kit_text kit = text_of_lines (kit_lines kit)
 
@@ -127,10 +139,14 @@ abbrev pub AreKeys : ℕ → ℕ → List (ℕ × List ℕ) → Type 0
 AreKeys size least [] = Unit {0}
 AreKeys size least (k ∷ keys) = (least ≤ k.0) × (k.0 ≤ 63) × AreBytes size k.1 × AreKeys size (k.0 + 1) keys
 
+-- a plain secret has a key of 32 bytes and a total below 2^32, and one of LMS a tree of typecode 5 to 7, an identifier of 16 bytes and a
+-- seed of 32 bytes
 abbrev pub IsSecret : Secret → Type 0
 IsSecret (Plain key total) = AreBytes 32 key × (total < 2 ^ 32)
 IsSecret (Lms code kind id seed) = (5 ≤ code) × (code ≤ 7) × AreBytes 16 id × AreBytes 32 seed
 
+-- the secret of a host is in its ranges and of the kit's scheme, its public key is the host's in the roster, and the host shares a key of
+-- 32 bytes with each other process of the roster, by rising numbers
 pub record IsHost (scheme : Scheme) (keys : List (ℕ × List ℕ)) (h : Host) : Type 0 where
   pub secret : IsSecret h.secret
   pub scheme_is : scheme_of h.secret ≡ scheme
@@ -143,6 +159,7 @@ abbrev pub AreHosts : Scheme → List (ℕ × List ℕ) → ℕ → List Host �
 AreHosts scheme keys least [] = Unit {0}
 AreHosts scheme keys least (h ∷ hosts) = (least ≤ h.process) × IsHost scheme keys h × AreHosts scheme keys (h.process + 1) hosts
 
+-- a kit in its ranges: what has a spelling that is read again
 pub record IsKit (kit : Kit) : Type 0 where
   pub group : AreBytes 16 kit.group
   pub keys : AreKeys (key_length kit.scheme) 0 kit.keys

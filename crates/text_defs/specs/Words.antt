@@ -7,9 +7,11 @@ use Rattle.std.specs.Fmt.{decimal}
 use Rattle.hex.specs.Hex.{decode_sized, IsBytes}
 use Rattle.byte_defs.specs.Equality.{same_bytes}
 
+-- the byte that stands between two words
 abbrev pub space : ℕ
 space = 32
 
+-- the byte that ends a line
 abbrev pub line_feed : ℕ
 line_feed = 10
 
@@ -62,6 +64,7 @@ process_of word = number_within 0 63 word
 abbrev pub AreBytes : ℕ → List ℕ → Type 0
 AreBytes n xs = (length xs ≡ n) × IsBytes xs
 
+-- the byte is a letter from A to Z
 abbrev pub is_upper_case : ℕ → Bool
 is_upper_case c = nat_le 65 c && nat_le c 90
 

@@ -2,6 +2,7 @@
 use Rattle.std.specs.Prelude.{ℕ, ◌≤◌, List}
 use Rattle.group_defs.specs.Views.{View, IsView}
 
+-- the view of this number and these members
 abbrev pub as_view : ℕ → List ℕ → View
 as_view number members = record { number = number; members = members }
 
