@@ -2,6 +2,7 @@
 use Rattle.std.specs.Prelude.{ℕ, zero, suc, ◌+◌, ◌-◌, Bool, ◌&&◌, nat_lt, nat_le, ◌==◌, min, max, if◌then◌else◌, List, [], ◌∷◌, length, map, filter, find, filter_map, count_by, fold, take, take_while, Option, Some, None, is_some, option_map, option_and_then}
 use Rattle.byte_defs.specs.Choices.{is_some_and}
 use Rattle.byte_defs.specs.Orders.{sorted}
+use Rattle.message_defs.specs.Limits.{most_places}
 use Rattle.message_defs.specs.Updates.{Update, Remove, Value}
 use Rattle.group_defs.specs.Views.{faulty, quorum}
 use Rattle.message_defs.specs.Statements.{Message, Statement, Order, Keep, Notify, Last, Ack, Ready, Slot, EchoAt, PlaceAt, EndAt, Claim, slot_of, view_of, message_of, payload_of, value_of, same_slot, same_statement}
@@ -68,7 +69,7 @@ placed_from h (suc more) k = elim (place_at h k) [ None ↦ [] | Some m ↦ m �
 
 -- the messages of the places 0, 1, 2 and so on; its length is the placed length
 unfoldable pub placed : Pool → List Message
-placed h = placed_from h 1024 0
+placed h = placed_from h most_places 0
 
 -- the place of a Keep that is certified
 abbrev pub place_kept : Pool → Statement → Option ℕ

@@ -5,6 +5,7 @@ use native.Mathlib.Decide.{ℕ_discrete}
 use Rattle.byte_defs.specs.Choices.{is_some_and}
 use Rattle.byte_defs.specs.Orders.{least, numbers_below}
 use Rattle.byte_defs.specs.Equality.{is_yes, bytes_discrete, pair_discrete}
+use Rattle.message_defs.specs.Limits.{last_number}
 use Rattle.group_defs.specs.Views.{View, is_member, rank_of, is_possible}
 use Rattle.message_defs.specs.Updates.{Update, Update-discrete, Value, Value-discrete}
 use Rattle.message_defs.specs.Statements.{Message, Message-discrete, Statement, Init, Echo, Order, Place, Keep, Notify, End, Last, Suggest, Ack, Ready, slot_of, slot_numbers, view_of}
@@ -41,13 +42,13 @@ is_perceived p e = list_any (λ d. is_yes (pair_discrete ℕ_discrete (Update-di
 -- what each kind needs, beside a member in its view and a slot that is not signed
 abbrev pub is_due : Setting → Process → Statement → Bool
 is_due s p (Init x l payload) =
-    nat_lt l (delivered_from p.me p.delivered + window) && nat_le l 1023
+    nat_lt l (delivered_from p.me p.delivered + window) && nat_le l last_number
     && is_some_and (slice_get p.accepted (earlier p + l)) (λ accepted. is_yes (bytes_discrete payload accepted))
 is_due s p (Echo x m payload) =
     says p.pool (Init x m.number payload) m.sender && not (is_ended p)
 is_due s p (Order x k m) =
     is_of_rank p p.me 0 && not (is_ended p)
-    && (k == length (own_orders p)) && nat_lt k (length p.delivered + window) && nat_le k 1023
+    && (k == length (own_orders p)) && nat_lt k (length p.delivered + window) && nat_le k last_number
     && (m.number == named m.sender (own_orders p)) && is_some (payload_at p.pool m)
 is_due s p (Place x k m) =
     rank_says p 0 (Order x k m) && not (is_ended p)

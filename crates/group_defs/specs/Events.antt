@@ -5,6 +5,7 @@ use Rattle.std.specs.Option.{option_map_or}
 use Rattle.byte_defs.specs.Choices.{first_that_holds}
 use Rattle.byte_defs.specs.Orders.{put}
 use Rattle.byte_defs.specs.Members.{has}
+use Rattle.message_defs.specs.Limits.{most_payload_bytes}
 use Rattle.group_defs.specs.Views.{View, UpdateFault, is_member, next_fault}
 use Rattle.message_defs.specs.Updates.{Update, Remove, Add, Renew, update_numbers}
 use Rattle.message_defs.specs.Statements.{Claim}
@@ -60,7 +61,7 @@ refusals s p (Hand from (Faulty fault)) = (true, BadFrame fault) ∷ []
 refusals s p (Hand from frame) = []
 refusals s p (Submit payload) =
     outsider p
-    ∷ (nat_lt 1024 (length payload), TooLong)
+    ∷ (nat_lt most_payload_bytes (length payload), TooLong)
     ∷ (length p.accepted - (earlier p + delivered_from p.me p.delivered) == 256, Backlog)
     ∷ []
 refusals s p (Suspect q) = outsider p ∷ no_next p (Remove q)

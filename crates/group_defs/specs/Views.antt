@@ -4,6 +4,7 @@ use native.Mathlib.Decide.{ℕ_discrete}
 use Rattle.byte_defs.specs.Choices.{first_that_holds}
 use Rattle.byte_defs.specs.Equality.{both, bytes_discrete}
 use Rattle.byte_defs.specs.Members.{has}
+use Rattle.message_defs.specs.Limits.{last_number, most_members}
 use Rattle.message_defs.specs.Updates.{Update, Remove, Add, Renew}
 
 -- one composition of the group
@@ -19,7 +20,7 @@ View-discrete v w = both (λ x m. λ i. record { number = x i; members = m i }) 
 -- a view has 1 to 16 members, each once
 pub record IsView (v : View) : Type 0 where
   pub some : 1 ≤ length v.members
-  pub few : length v.members ≤ 16
+  pub few : length v.members ≤ most_members
   pub distinct : AllPairs (λ m n. m ≢ n) v.members
 
 -- f: how many of n members may be corrupt
@@ -51,12 +52,12 @@ pub data UpdateFault : Type 0 where
 -- the faults that the members give: to remove a process that is no member, or the only one; to add one that is a member, or a seventeenth
 abbrev pub update_faults : View → Update → List (Bool × UpdateFault)
 update_faults v (Remove p) = (not (is_member v p), NotMember) ∷ (length v.members == 1, LastMember) ∷ []
-update_faults v (Add p) = (is_member v p, AlreadyMember) ∷ (length v.members == 16, GroupFull) ∷ []
+update_faults v (Add p) = (is_member v p, AlreadyMember) ∷ (length v.members == most_members, GroupFull) ∷ []
 update_faults v Renew = []
 
 -- the first fault: the view's number is the last one, 1,023; then those that the members give
 abbrev pub next_fault : View → Update → Option UpdateFault
-next_fault v u = first_that_holds ((v.number == 1023, ViewsSpent) ∷ update_faults v u)
+next_fault v u = first_that_holds ((v.number == last_number, ViewsSpent) ∷ update_faults v u)
 
 -- Remove closes the list up, Add appends the process last, Renew keeps the list
 abbrev pub members_after : List ℕ → Update → List ℕ

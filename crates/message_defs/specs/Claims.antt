@@ -1,6 +1,7 @@
 -- The claims of bytes.
 use Rattle.std.specs.Prelude.{ℕ, Bool, true, ◌||◌, not, nat_lt, nat_le, ◌==◌, List, [], ◌∷◌, ◌++◌, Result, Ok, Err}
 use Rattle.byte_defs.specs.Fields.{◌>>=◌, refuse_if}
+use Rattle.message_defs.specs.Limits.{last_process, last_number, most_places}
 use Rattle.message_defs.specs.declared.FrameFault.{FrameFault}
 use Rattle.message_defs.specs.declared.FrameFault.TheVariants.{Range}
 use Rattle.message_defs.specs.Statements.{Statement, Claim}
@@ -19,7 +20,7 @@ in_proof kind = (kind == 2) || (kind == 4) || (kind == 5) || (kind == 11)
 unfoldable pub claims_on : Statement → List (ℕ × List ℕ) → Result (List Claim) FrameFault
 claims_on st [] = Ok []
 claims_on st (s ∷ more) = do
-  _ ← refuse_if (nat_lt 63 s.0) Range
+  _ ← refuse_if (nat_lt last_process s.0) Range
   others ← claims_on st more
   Ok (record { signer = s.0; statement = st; signature = s.1 } ∷ others)
 
@@ -39,7 +40,7 @@ claims_of_groups carries (g ∷ gs) = do
 
 -- of a Want: none, where its fields are in range
 abbrev pub want_claims : ℕ → ℕ → Result (List Claim) FrameFault
-want_claims x k = refuse_if (not (nat_le x 1023)) Range >>= λ _. refuse_if (not (nat_le k 1024)) Range >>= λ _. Ok []
+want_claims x k = refuse_if (not (nat_le x last_number)) Range >>= λ _. refuse_if (not (nat_le k most_places)) Range >>= λ _. Ok []
 
 -- the claims of a frame, or the first fault of its groups or its Want
 unfoldable pub claims_of : FrameView → Result (List Claim) FrameFault

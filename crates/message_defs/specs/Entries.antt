@@ -3,12 +3,13 @@
 use Rattle.std.specs.Prelude.{ℕ, zero, suc, List, [], ◌∷◌, Result, Ok, nat_lt}
 use Rattle.std.specs.Int.{w16}
 use Rattle.byte_defs.specs.Fields.{◌>>=◌, refuse_if, number_at, bytes_at}
+use Rattle.message_defs.specs.Limits.{most_signature_bytes}
 
 -- one signature, and the bytes after it
 unfoldable pub kept_at : List ℕ → Result (List ℕ × List ℕ) (Unit {0})
 kept_at bytes = do
   len ← number_at tt w16 bytes
-  _ ← refuse_if (nat_lt 16384 len.0) tt
+  _ ← refuse_if (nat_lt most_signature_bytes len.0) tt
   bytes_at tt len.0 len.1
 
 -- so many signatures, and the bytes after them

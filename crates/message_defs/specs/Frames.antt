@@ -9,6 +9,7 @@ use Rattle.std.specs.Prelude.{◌≡◌, ℕ, zero, suc, ◌+◌, ◌<◌, ◌�
 use Rattle.std.specs.List.{flat_map, AllByRecursion}
 use Rattle.std.specs.Int.{w8, w16}
 use Rattle.byte_defs.specs.Fields.{◌>>=◌, refuse_if, number_at, bytes_at, two_bytes, text}
+use Rattle.message_defs.specs.Limits.{most_members, most_signature_bytes, most_frame_bytes}
 use Rattle.message_defs.specs.declared.FrameFault.{FrameFault}
 use Rattle.message_defs.specs.declared.FrameFault.TheVariants as faults
 
@@ -47,13 +48,13 @@ frame_bytes (Want x k) = 1 ∷ 3 ∷ (two_bytes x ++ two_bytes k)
 -- the signers rise from this number on, and each signature has its length
 abbrev pub AreSignatures : ℕ → List (ℕ × List ℕ) → Type 0
 AreSignatures least [] = Unit {0}
-AreSignatures least (s ∷ more) = (least ≤ s.0) × (s.0 < 256) × (length s.1 ≤ 16384) × AreSignatures (s.0 + 1) more
+AreSignatures least (s ∷ more) = (least ≤ s.0) × (s.0 < 256) × (length s.1 ≤ most_signature_bytes) × AreSignatures (s.0 + 1) more
 
 -- a group has 1 to 16 signatures by rising signers, and a statement whose length fits in two bytes
 pub record IsGroup (g : Group) : Type 0 where
   pub statement : length g.statement < 65536
   pub some : 0 < length g.signatures
-  pub few : length g.signatures ≤ 16
+  pub few : length g.signatures ≤ most_members
   pub signatures : AreSignatures 0 g.signatures
 
 -- there are 1 to 255 groups
@@ -71,7 +72,7 @@ HasParts (Want x k) = (x < 65536) × (k < 65536)
 -- a frame that can be spelled: it has these parts, and at most 61,000 bytes
 pub record IsFrame (f : FrameView) : Type 0 where
   pub parts : HasParts f
-  pub size : length (frame_bytes f) ≤ 61000
+  pub size : length (frame_bytes f) ≤ most_frame_bytes
 
 -- ---- reading, with the first fault from the left
 
@@ -81,7 +82,7 @@ signature_at least bytes = do
   signer ← number_at faults.Short w8 bytes
   _ ← refuse_if (nat_lt signer.0 least) faults.Unordered
   len ← number_at faults.Short w16 signer.1
-  _ ← refuse_if (nat_lt 16384 len.0) faults.Length
+  _ ← refuse_if (nat_lt most_signature_bytes len.0) faults.Length
   signature ← bytes_at faults.Length len.0 len.1
   Ok ((signer.0, signature.0), signature.1)
 
@@ -100,7 +101,7 @@ group_at bytes = do
   statement ← bytes_at faults.Length len.0 len.1
   count ← number_at faults.Short w8 statement.1
   _ ← refuse_if (count.0 == 0) faults.Count
-  _ ← refuse_if (nat_lt 16 count.0) faults.Count
+  _ ← refuse_if (nat_lt most_members count.0) faults.Count
   signatures ← signatures_at count.0 0 count.1
   Ok (record { statement = statement.0; signatures = signatures.0 }, signatures.1)
 
@@ -136,7 +137,7 @@ groups_as kind read = read >>= λ gs. Ok (kind gs)
 -- the frame that all of the bytes spell, or the first fault
 unfoldable pub frame_of : List ℕ → Result FrameView FrameFault
 frame_of bytes = do
-  _ ← refuse_if (nat_lt 61000 (length bytes)) faults.Length
+  _ ← refuse_if (nat_lt most_frame_bytes (length bytes)) faults.Length
   version ← number_at faults.Short w8 bytes
   _ ← refuse_if (not (version.0 == 1)) faults.Version
   kind ← number_at faults.Short w8 version.1

@@ -1,3 +1,4 @@
+pub mod Limits
 pub mod Updates
 pub mod Statements
 pub mod Spelling

@@ -4,6 +4,7 @@ use Rattle.std.specs.Prelude.{ℕ, Bool, ◌&&◌, nat_lt, nat_le, List, [], ◌
 use Rattle.std.specs.List.{last_or}
 use Rattle.byte_defs.specs.Choices.{is_some_and}
 use Rattle.byte_defs.specs.Equality.{same_bytes}
+use Rattle.message_defs.specs.Limits.{most_members, most_frame_bytes}
 use Rattle.message_defs.specs.Statements.{Claim}
 use Rattle.message_defs.specs.Spelling.{spelling}
 use Rattle.message_defs.specs.Frames.{Group, FrameView, Bundle, frame_bytes}
@@ -25,7 +26,7 @@ signed_of c = signed (spelling c.statement) c.signer c.signature
 -- the claim joins the group: statement equal, signer above the last one, room for one more
 abbrev pub joins : Group → Signed → Bool
 joins g c =
-    same_bytes g.statement c.statement && nat_lt (length g.signatures) 16
+    same_bytes g.statement c.statement && nat_lt (length g.signatures) most_members
     && is_some_and (last_or None (map (λ s. s.0) g.signatures)) (λ signer. nat_lt signer c.signer)
 
 -- the group, with the signer and the signature of the claim behind those that it has
@@ -49,7 +50,7 @@ fits room gs = nat_le (length gs) 255 && nat_le (length (frame_bytes (Bundle gs)
 -- the frames, where the current one has these groups so far and these claims come next
 abbrev pub pack_from : List Group → List Signed → List (List Group)
 pack_from gs [] = gs ∷ []
-pack_from gs (c ∷ cs) = if fits 61000 (add gs c) then pack_from (add gs c) cs else gs ∷ pack_from (group_of c ∷ []) cs
+pack_from gs (c ∷ cs) = if fits most_frame_bytes (add gs c) then pack_from (add gs c) cs else gs ∷ pack_from (group_of c ∷ []) cs
 
 -- the frames of a list of claims, each a list of groups; of none, none
 abbrev pub pack : List Claim → List (List Group)

@@ -2,6 +2,7 @@
 use Rattle.std.specs.Prelude.{◌≡◌, ℕ, Bool, true, ◌&&◌, ◌||◌, not, nat_lt, nat_le, ◌==◌, List, [], ◌∷◌, length, if◌then◌else◌, Option, Some, None, Result, Ok, Err}
 use Rattle.std.specs.Int.{w8, w16}
 use Rattle.byte_defs.specs.Fields.{◌>>=◌, refuse_if, number_at}
+use Rattle.message_defs.specs.Limits.{last_process, last_number, most_places, last_rank, most_payload_bytes}
 use Rattle.message_defs.specs.declared.FrameFault.{FrameFault}
 use Rattle.message_defs.specs.declared.FrameFault.TheVariants as faults
 use Rattle.message_defs.specs.Updates.{Update, Remove, Add, Renew, Value}
@@ -77,17 +78,17 @@ within limit n = refuse_if (nat_lt limit n) faults.Range
 
 -- the sender is at most 63, the number at most 1,023
 abbrev pub message_within : Message → Result (Unit {0}) FrameFault
-message_within m = within 63 m.sender >>= λ _. within 1023 m.number
+message_within m = within last_process m.sender >>= λ _. within last_number m.number
 
 -- the process is at most 63
 abbrev pub update_within : Update → Result (Unit {0}) FrameFault
-update_within (Remove p) = within 63 p
-update_within (Add p) = within 63 p
+update_within (Remove p) = within last_process p
+update_within (Add p) = within last_process p
 update_within Renew = Ok tt
 
 -- the update is in range, and the cut at most 1,024
 abbrev pub value_within : Value → Result (Unit {0}) FrameFault
-value_within v = update_within v.update >>= λ _. within 1024 v.cut
+value_within v = update_within v.update >>= λ _. within most_places v.cut
 
 -- the rank of the Ready is below the Last's own
 abbrev pub report_within : ℕ → Option (ℕ × Value) → Result (Unit {0}) FrameFault
@@ -101,9 +102,9 @@ init_at bytes = do
   view ← short_at bytes
   number ← short_at view.1
   payload ← payload_at number.1
-  _ ← within 1023 view.0
-  _ ← within 1023 number.0
-  _ ← within 1024 (length payload)
+  _ ← within last_number view.0
+  _ ← within last_number number.0
+  _ ← within most_payload_bytes (length payload)
   Ok (Init view.0 number.0 payload)
 
 unfoldable pub echo_at : List ℕ → Result Statement FrameFault
@@ -111,9 +112,9 @@ echo_at bytes = do
   view ← short_at bytes
   message ← message_at view.1
   payload ← payload_at message.1
-  _ ← within 1023 view.0
+  _ ← within last_number view.0
   _ ← message_within message.0
-  _ ← within 1024 (length payload)
+  _ ← within most_payload_bytes (length payload)
   Ok (Echo view.0 message.0 payload)
 
 -- the view, the place and the message
@@ -123,8 +124,8 @@ placed_at bytes = do
   place ← short_at view.1
   message ← message_at place.1
   _ ← ended message.1
-  _ ← within 1023 view.0
-  _ ← within 1023 place.0
+  _ ← within last_number view.0
+  _ ← within last_number place.0
   _ ← message_within message.0
   Ok (view.0, place.0, message.0)
 
@@ -137,7 +138,7 @@ notify_at bytes = do
   view ← short_at bytes
   update ← update_at view.1
   _ ← ended update.1
-  _ ← within 1023 view.0
+  _ ← within last_number view.0
   _ ← update_within update.0
   Ok (Notify view.0 update.0)
 
@@ -146,8 +147,8 @@ end_at bytes = do
   view ← short_at bytes
   len ← short_at view.1
   _ ← ended len.1
-  _ ← within 1023 view.0
-  _ ← within 1024 len.0
+  _ ← within last_number view.0
+  _ ← within most_places len.0
   Ok (End view.0 len.0)
 
 unfoldable pub last_at : List ℕ → Result Statement FrameFault
@@ -156,8 +157,8 @@ last_at bytes = do
   rank ← byte_at view.1
   report ← report_at rank.1
   _ ← ended report.1
-  _ ← within 1023 view.0
-  _ ← within 15 rank.0
+  _ ← within last_number view.0
+  _ ← within last_rank rank.0
   _ ← report_within rank.0 report.0
   Ok (Last view.0 rank.0 report.0)
 
@@ -168,8 +169,8 @@ valued_at bytes = do
   rank ← byte_at view.1
   value ← value_at rank.1
   _ ← ended value.1
-  _ ← within 1023 view.0
-  _ ← within 15 rank.0
+  _ ← within last_number view.0
+  _ ← within last_rank rank.0
   _ ← value_within value.0
   Ok (view.0, rank.0, value.0)
 

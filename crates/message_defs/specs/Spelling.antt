@@ -10,6 +10,7 @@
 -- An update is 01 p, 02 p or 03 00. A value is its update and its cut of two bytes.
 use Rattle.std.specs.Prelude.{ℕ, ◌<◌, ◌≤◌, List, [], ◌∷◌, ◌++◌, length, Option, Some, None, codes}
 use Rattle.byte_defs.specs.Fields.{two_bytes, text}
+use Rattle.message_defs.specs.Limits.{last_process, last_number, most_places, last_rank, most_payload_bytes, most_signature_bytes}
 use Rattle.message_defs.specs.Updates.{Update, Remove, Add, Renew, Value, update_numbers}
 use Rattle.message_defs.specs.Statements.{Message, Statement, Init, Echo, Order, Place, Keep, Notify, End, Last, Suggest, Ack, Ready, Claim}
 
@@ -48,21 +49,21 @@ body group signer st = codes "RPB1" ++ group ++ (signer ∷ spelling st)
 
 -- views are numbered from 0 to 1,023
 abbrev pub IsViewNumber : ℕ → Type 0
-IsViewNumber x = x ≤ 1023
+IsViewNumber x = x ≤ last_number
 
 -- the sender is a process, 0 to 63, and its messages in a view are numbered from 0 to 1,023
 abbrev pub IsMessage : Message → Type 0
-IsMessage m = (m.sender ≤ 63) × (m.number ≤ 1023)
+IsMessage m = (m.sender ≤ last_process) × (m.number ≤ last_number)
 
 -- the process that is removed or added is one of 0 to 63
 abbrev pub IsUpdate : Update → Type 0
-IsUpdate (Remove p) = p ≤ 63
-IsUpdate (Add p) = p ≤ 63
+IsUpdate (Remove p) = p ≤ last_process
+IsUpdate (Add p) = p ≤ last_process
 IsUpdate Renew = Unit {0}
 
 -- its update is in range, and its cut is at most 1,024 places
 abbrev pub IsValue : Value → Type 0
-IsValue v = IsUpdate v.update × (v.cut ≤ 1024)
+IsValue v = IsUpdate v.update × (v.cut ≤ most_places)
 
 -- a Last of rank r reports a Ready of a lower rank
 abbrev pub IsReport : ℕ → Option (ℕ × Value) → Type 0
@@ -71,18 +72,18 @@ IsReport r (Some ready) = (ready.0 < r) × IsValue ready.1
 
 -- each field is in its range: numbers and places to 1,023, payloads to 1,024 bytes, lengths to 1,024, ranks to 15
 abbrev pub IsStatement : Statement → Type 0
-IsStatement (Init x l payload) = IsViewNumber x × (l ≤ 1023) × (length payload ≤ 1024)
-IsStatement (Echo x m payload) = IsViewNumber x × IsMessage m × (length payload ≤ 1024)
-IsStatement (Order x k m) = IsViewNumber x × (k ≤ 1023) × IsMessage m
-IsStatement (Place x k m) = IsViewNumber x × (k ≤ 1023) × IsMessage m
-IsStatement (Keep x k m) = IsViewNumber x × (k ≤ 1023) × IsMessage m
+IsStatement (Init x l payload) = IsViewNumber x × (l ≤ last_number) × (length payload ≤ most_payload_bytes)
+IsStatement (Echo x m payload) = IsViewNumber x × IsMessage m × (length payload ≤ most_payload_bytes)
+IsStatement (Order x k m) = IsViewNumber x × (k ≤ last_number) × IsMessage m
+IsStatement (Place x k m) = IsViewNumber x × (k ≤ last_number) × IsMessage m
+IsStatement (Keep x k m) = IsViewNumber x × (k ≤ last_number) × IsMessage m
 IsStatement (Notify x u) = IsViewNumber x × IsUpdate u
-IsStatement (End x k) = IsViewNumber x × (k ≤ 1024)
-IsStatement (Last x r ready) = IsViewNumber x × (r ≤ 15) × IsReport r ready
-IsStatement (Suggest x r v) = IsViewNumber x × (r ≤ 15) × IsValue v
-IsStatement (Ack x r v) = IsViewNumber x × (r ≤ 15) × IsValue v
-IsStatement (Ready x r v) = IsViewNumber x × (r ≤ 15) × IsValue v
+IsStatement (End x k) = IsViewNumber x × (k ≤ most_places)
+IsStatement (Last x r ready) = IsViewNumber x × (r ≤ last_rank) × IsReport r ready
+IsStatement (Suggest x r v) = IsViewNumber x × (r ≤ last_rank) × IsValue v
+IsStatement (Ack x r v) = IsViewNumber x × (r ≤ last_rank) × IsValue v
+IsStatement (Ready x r v) = IsViewNumber x × (r ≤ last_rank) × IsValue v
 
 -- what a frame can carry
 abbrev pub IsClaim : Claim → Type 0
-IsClaim c = (c.signer ≤ 63) × IsStatement c.statement × (length c.signature ≤ 16384)
+IsClaim c = (c.signer ≤ last_process) × IsStatement c.statement × (length c.signature ≤ most_signature_bytes)
