@@ -1,5 +1,5 @@
 -- Choosing: the first test that holds, the first answer that there is.
-use Rattle.std.specs.Prelude.{Bool, true, false, if◌then◌else◌, List, [], ◌∷◌, Option, Some, None, option_and_then}
+use Rattle.std.specs.Prelude.{Bool, false, if◌then◌else◌, List, [], ◌∷◌, Option, Some, None, option_and_then}
 
 -- the value beside the first test that holds
 abbrev pub first_that_holds : {A : Type 0} → List (Bool × A) → Option A

@@ -1,5 +1,5 @@
 -- What a reader of the code answers, beside what reading on lists answers. A view says what a value of the code is.
-use Rattle.std.specs.Prelude.{◌≡◌, List, ℕ, Option, IfSome, Result, Ok, Err}
+use Rattle.std.specs.Prelude.{◌≡◌, Option, IfSome, Result, Ok, Err}
 use Rattle.byte_defs.specs.Fields.{◌>>=◌}
 
 -- what was returned, seen by the view, is what reading gives

@@ -8,11 +8,11 @@
 --     03 Pass     frame4 to1
 -- Bytes are a schedule exactly where they are at most 67,108,864, with 1 to 64 processes and 1 to 16 different members of
 -- the roster, at most 1,000,000 events, each at a correct process, and nothing behind the last event.
-use Rattle.std.specs.Prelude.{◌≡◌, ◌≢◌, ℕ, zero, suc, ◌+◌, ◌<◌, ◌≤◌, ◌^◌, Bool, true, false, ◌&&◌, ◌||◌, not, nat_lt, nat_le, ◌==◌, IsTrue, List, [], ◌∷◌, ◌++◌, length, take, map, AllPairs, Result, Ok, Err, codes, if◌then◌else◌}
+use Rattle.std.specs.Prelude.{◌≡◌, ◌≢◌, ℕ, zero, suc, ◌+◌, ◌<◌, ◌≤◌, ◌^◌, Bool, ◌&&◌, not, nat_lt, nat_le, ◌==◌, IsTrue, List, [], ◌∷◌, ◌++◌, length, take, AllPairs, Result, Ok, Err, codes, if◌then◌else◌}
 use Rattle.std.specs.List.{list_any, flat_map, AllByRecursion}
 use Rattle.std.specs.Int.{w8, w16, w32}
 use Rattle.byte_defs.specs.Equality.{same_bytes}
-use Rattle.byte_defs.specs.Fields.{◌>>=◌, refuse_if, number_at, bytes_at, two_bytes, four_bytes, text}
+use Rattle.byte_defs.specs.Fields.{◌>>=◌, refuse_if, number_at, bytes_at, four_bytes, text}
 use Rattle.byte_defs.specs.Members.{has}
 use Rattle.file_defs.specs.declared.ScheduleFault.{ScheduleFault}
 use Rattle.file_defs.specs.declared.ScheduleFault.TheVariants as faults

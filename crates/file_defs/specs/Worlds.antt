@@ -1,6 +1,6 @@
 -- The world of a schedule: the family of its correct processes, and the frames that they sent.
 -- This world goes through the kinds Init and Echo alone, in the genesis view, which stays.
-use Rattle.std.specs.Prelude.{ℕ, ◌+◌, ◌-◌, Bool, true, false, ◌&&◌, not, ◌==◌, if◌then◌else◌, List, [], ◌∷◌, ◌++◌, length, map, find, Option, None, Some, slice_get, option_map, option_and_then, Result, Ok, Err}
+use Rattle.std.specs.Prelude.{ℕ, ◌+◌, ◌-◌, Bool, true, false, ◌==◌, if◌then◌else◌, List, [], ◌∷◌, ◌++◌, length, map, find, Option, None, Some, slice_get, option_map, option_and_then, Result, Ok, Err}
 use Rattle.std.specs.List.{list_all, filter_map, flat_map}
 use Rattle.signature_defs.specs.Plain.{plain_signature, plain_valid}
 use Rattle.message_defs.specs.declared.FrameFault.{FrameFault}

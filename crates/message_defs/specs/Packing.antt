@@ -7,7 +7,7 @@ use Rattle.byte_defs.specs.Equality.{same_bytes}
 use Rattle.message_defs.specs.Limits.{most_members, most_frame_bytes}
 use Rattle.message_defs.specs.Statements.{Claim}
 use Rattle.message_defs.specs.Spelling.{spelling}
-use Rattle.message_defs.specs.Frames.{Group, FrameView, Bundle, frame_bytes}
+use Rattle.message_defs.specs.Frames.{Group, Bundle, frame_bytes}
 
 -- a claim as it stands in a frame
 pub record Signed : Type 0 where

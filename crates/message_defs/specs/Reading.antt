@@ -1,5 +1,5 @@
 -- Reading a statement, with the first fault: its kind, whether the frame carries it, its grammar, its ranges.
-use Rattle.std.specs.Prelude.{◌≡◌, ℕ, Bool, true, ◌&&◌, ◌||◌, not, nat_lt, nat_le, ◌==◌, List, [], ◌∷◌, length, if◌then◌else◌, Option, Some, None, Result, Ok, Err}
+use Rattle.std.specs.Prelude.{ℕ, Bool, true, ◌&&◌, not, nat_lt, nat_le, ◌==◌, List, length, if◌then◌else◌, Option, Some, None, Result, Ok, Err}
 use Rattle.std.specs.Int.{w8, w16}
 use Rattle.byte_defs.specs.Fields.{◌>>=◌, refuse_if, number_at}
 use Rattle.message_defs.specs.Limits.{last_process, last_number, most_places, last_rank, most_payload_bytes}

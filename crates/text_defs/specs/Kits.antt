@@ -9,8 +9,8 @@
 --   host P plain TOTAL | host P lms H W I SEED      the typecodes, 16 bytes and 32 bytes in hexadecimal
 --   pair P Q HEX                     32 bytes, for each other process Q of the roster by rising number
 -- The key of a process is its host's public key.
-use Rattle.std.specs.Prelude.{◌≡◌, ◌≢◌, ℕ, ◌+◌, ◌<◌, ◌≤◌, ◌^◌, ◌==◌, not, Bool, List, [], ◌∷◌, ◌++◌, length, map, filter, find, Option, Some, option_map, codes, IsTrue}
-use Rattle.std.specs.List.{flat_map, list_any, AllByRecursion, AllPairs}
+use Rattle.std.specs.Prelude.{◌≡◌, ◌≢◌, ℕ, ◌+◌, ◌<◌, ◌≤◌, ◌^◌, ◌==◌, not, List, [], ◌∷◌, ◌++◌, length, map, filter, find, Option, Some, option_map, codes, IsTrue}
+use Rattle.std.specs.List.{flat_map, AllByRecursion, AllPairs}
 use Rattle.std.specs.Fmt.{decimal}
 use Rattle.hex.specs.Hex.{encode_lower}
 use Rattle.sha2.specs.Sha256.{sha256}
