@@ -1,5 +1,6 @@
 -- What a view of the code is in the definitions.
 use Rattle.std.specs.Prelude.{ℕ, ◌≤◌, List}
+use Rattle.message_defs.specs.Spelling.{IsViewNumber}
 use Rattle.group_defs.specs.Views.{View, IsView}
 
 -- the view of this number and these members
@@ -8,4 +9,4 @@ as_view number members = record { number = number; members = members }
 
 -- the number is at most 1,023, and the members are 1 to 16, each once
 abbrev pub IsNumberedView : View → Type 0
-IsNumberedView v = (v.number ≤ 1023) × IsView v
+IsNumberedView v = IsViewNumber v.number × IsView v
