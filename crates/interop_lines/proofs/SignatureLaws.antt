@@ -1,13 +1,12 @@
 -- Questions on signatures, by the words of a line.
-use Rattle.std.proofs.Common.{◌≡◌, ◌⊎◌, inl, inr, ℕ, ◌^◌, ◌<◌, ◌≤◌, List, [], ◌∷◌, length, get_or, map, true, nat_eq, Bor, Option, Some, Ok, Err, refl, sym, ap, ◌∙◌, subst, arith}
-use Rattle.std.specs.Prelude.{codes, if◌then◌else◌}
+use Rattle.std.proofs.Common.{◌≡◌, ◌⊎◌, inl, inr, ℕ, ◌^◌, ◌<◌, ◌≤◌, List, [], ◌∷◌, length, get_or, map, true, nat_eq, Bor, Option, Some, Result, Ok, Err, refl, sym, ap, ◌∙◌, subst, arith}
+use Rattle.std.specs.Prelude.{codes, IfOk, if◌then◌else◌}
 use Rattle.std.specs.Option.{ok_or}
 use Rattle.std.proofs.lemmas.Slice.Eq.{bytes_eq-Decides}
 use lib.Pointwise.{pointwise}
 use Rattle.std.specs.Fmt.{decimal}
 use Rattle.std.proofs.lemmas.Fmt.{decimal_injective}
 use Rattle.signature_defs.specs.declared.OtsType.{OtsType}
-use Rattle.signature_defs.specs.declared.OtsType.TheVariants.{W1, W2, W4, W8}
 use Rattle.signature_defs.specs.LmOts.{ots_type_of, ots_typecode}
 use Rattle.signature_defs.specs.Lms.{lms_height_of, lms_valid}
 use Rattle.rp_base.specs.Signer.{KeyKeeps}
@@ -16,7 +15,8 @@ use Rattle.lms_tree.specs.Key.{IsMadeFrom, length_of, public_of, signature_of}
 use Rattle.interop_lines.specs.declared.line_fault.LineFault.{LineFault}
 use Rattle.interop_lines.specs.Views.{IsReady}
 use Rattle.interop_lines.specs.Fields.{Spells, bytes_word}
-use Rattle.interop_lines.proofs.FieldLaws.{spelled_once}
+use Rattle.signature_defs.proofs.OtsLaws.{type_of_typecode, typecode_range}
+use Rattle.interop_lines.proofs.FieldLaws.{digits_once, spelled_once}
 use Rattle.interop_lines.specs.Signatures.{Answers, AskedBy, IsQuestion, IsSigning, Question, Sign, Signing, Verify, answer_to, signed, signing_words, spelled}
 
 -- ---- verify
@@ -93,11 +93,9 @@ ready s made now fits from known kept used total =
 
 -- ---- words
 
-pub typecode_is : (h w i seed q body : List ℕ) (s : Signing) (n : ℕ) → AskedBy h w i seed q body s → n < 2 ^ 32 → h ≡ decimal n → s.typecode ≡ n
-typecode_is h w i seed q body s n asked small is =
-    let word : h ≡ decimal s.typecode = cc (asked.words) in
-    let low = asked.fits.built.1 in
-    decimal_injective s.typecode n (omega arith) (omega arith) (sym word ∙ is)
+pub leaf_read : (r : Result ℕ LineFault) (word : List ℕ) (most leaves : ℕ) → most < leaves → IfOk r (λ n. (word ≡ decimal n) × (0 ≤ n) × (n ≤ most)) → IfOk r (λ n. (n < leaves) × (word ≡ decimal n))
+leaf_read (Ok n) word most leaves fit read = (omega (arith, read.2, fit), read.0)
+leaf_read (Err e) word most leaves fit read = tt
 
 pub leaf_word : (h w i seed q body : List ℕ) (s : Signing) → AskedBy h w i seed q body s → q ≡ decimal s.leaf
 leaf_word h w i seed q body s asked = cc (asked.words)
@@ -105,22 +103,16 @@ leaf_word h w i seed q body s asked = cc (asked.words)
 pub height_is : (s : Signing) (n height : ℕ) → IsSigning s → s.typecode ≡ n → lms_height_of n ≡ Some height → s.height ≡ height
 height_is s n height fits is known = cc (fits.height, is, known)
 
-pub ots_again : (ots : OtsType) (n : ℕ) → n < 2 ^ 32 → decimal n ≡ decimal (ots_typecode ots) → ots_type_of n ≡ Some ots
-ots_again ots n small e =
-    let is : n ≡ ots_typecode ots = decimal_injective n (ots_typecode ots) (omega arith) (small_code ots) e in
-    rw is (again ots)
-  where
-    small_code : (ots : OtsType) → ots_typecode ots < 2 ^ 64
-    small_code W1 = omega arith
-    small_code W2 = omega arith
-    small_code W4 = omega arith
-    small_code W8 = omega arith
+pub typecode_is : (h w i seed q body : List ℕ) (s : Signing) (n : ℕ) → AskedBy h w i seed q body s → n ≤ 7 → h ≡ decimal n → s.typecode ≡ n
+typecode_is h w i seed q body s n asked small is =
+    let word : h ≡ decimal s.typecode = cc (asked.words) in
+    let low = asked.fits.built.1 in
+    decimal_injective s.typecode n (omega arith) (omega arith) (sym word ∙ is)
 
-    again : (ots : OtsType) → ots_type_of (ots_typecode ots) ≡ Some ots
-    again W1 = refl
-    again W2 = refl
-    again W4 = refl
-    again W8 = refl
+pub ots_again : (ots : OtsType) (n : ℕ) → n ≤ 4 → decimal n ≡ decimal (ots_typecode ots) → ots_type_of n ≡ Some ots
+ots_again ots n small e =
+    let is = decimal_injective n (ots_typecode ots) (omega arith) (omega (arith, typecode_range ots)) e in
+    rw is (type_of_typecode ots)
 
 pub found_is_ok : (o : Option OtsType) (ots : OtsType) (e : LineFault) → o ≡ Some ots → ok_or o e ≡ Err e → ⊥
 found_is_ok o ots e found err = absurd-ok (sym (ap (λ (x : Option OtsType). ok_or x e) found) ∙ err)
@@ -162,23 +154,16 @@ leaf_is_small s fits =
 
 same_ots : (a b : OtsType) → decimal (ots_typecode a) ≡ decimal (ots_typecode b) → a ≡ b
 same_ots a b e =
-    let one = ots_again a (ots_typecode b) (small b) (sym e) in
-    let two = ots_again b (ots_typecode b) (small b) refl in
-    cc (one, two)
-  where
-    small : (ots : OtsType) → ots_typecode ots < 2 ^ 32
-    small W1 = omega arith
-    small W2 = omega arith
-    small W4 = omega arith
-    small W8 = omega arith
+    let one = ots_again a (ots_typecode b) (typecode_range b).1 (sym e) in
+    cc (one, type_of_typecode b)
 
 same_signing : (s t : Signing) → IsSigning s → IsSigning t → signing_words s ≡ signing_words t → s ≡ t
 same_signing s t fs ft is =
     let typecode = decimal_injective s.typecode t.typecode (omega (arith, fs.built.1)) (omega (arith, ft.built.1)) cc in
     let ots = same_ots s.ots t.ots cc in
     let leaf = decimal_injective s.leaf t.leaf (leaf_is_small s fs) (leaf_is_small t ft) cc in
-    let id = spelled_once (bytes_word s.id) s.id t.id (fs.id.0, refl) (ft.id.0, cc) in
-    let seed = spelled_once (bytes_word s.seed) s.seed t.seed (fs.seed.0, refl) (ft.seed.0, cc) in
+    let id = digits_once s.id t.id fs.id.1 ft.id.1 cc in
+    let seed = digits_once s.seed t.seed fs.seed.1 ft.seed.1 cc in
     let body = spelled_once (bytes_word s.body) s.body t.body (fs.body, refl) (ft.body, cc) in
     let height : s.height ≡ t.height = cc (fs.height, ft.height, typecode) in
     λ i. record { typecode = typecode i; height = height i; ots = ots i; id = id i; seed = seed i; leaf = leaf i; body = body i }

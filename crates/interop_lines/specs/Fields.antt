@@ -1,11 +1,6 @@
--- The words of a line, and how they spell bytes.
-use Rattle.std.specs.Prelude.{◌≡◌, ℕ, ◌==◌, List, [], ◌∷◌, codes}
-use Rattle.std.specs.List.{slice_split}
+-- How words spell bytes.
+use Rattle.std.specs.Prelude.{◌≡◌, ℕ, List, [], ◌∷◌, codes}
 use Rattle.hex.specs.Hex.{IsBytes, encode_lower}
-
--- the words of a line: what stands between its spaces
-abbrev pub words : List ℕ → List (List ℕ)
-words line = slice_split (λ b. b == 32) line
 
 -- bytes in lower-case hexadecimal, or a dash where there are none
 abbrev pub bytes_word : List ℕ → List ℕ

@@ -1,10 +1,11 @@
 -- Questions on signatures: how they are spelled, and what is answered.
-use Rattle.std.specs.Prelude.{◌≡◌, ℕ, ◌^◌, ◌<◌, ◌≤◌, if◌then◌else◌, List, [], ◌∷◌, ◌++◌, length, Some, codes}
+use Rattle.std.specs.Prelude.{◌≡◌, ℕ, ◌^◌, ◌<◌, ◌≤◌, if◌then◌else◌, List, [], ◌∷◌, ◌++◌, Some, codes}
 use Rattle.std.specs.Fmt.{decimal}
 use Rattle.hex.specs.Hex.{IsBytes, encode_lower}
 use Rattle.signature_defs.specs.declared.OtsType.{OtsType}
 use Rattle.signature_defs.specs.LmOts.{ots_typecode}
 use Rattle.signature_defs.specs.Lms.{lms_height_of, lms_public_key, lms_signature, lms_valid}
+use Rattle.text_defs.specs.Words.{AreBytes}
 use Rattle.interop_lines.specs.Fields.{bytes_word}
 
 -- A tree by its typecode, the height that this is of, the one-time parameter set, I and SEED; the leaf that signs, and what
@@ -22,8 +23,8 @@ pub record Signing : Type 0 where
 pub record IsSigning (s : Signing) : Type 0 where
   pub built : (5 ≤ s.typecode) × (s.typecode ≤ 7)
   pub height : lms_height_of s.typecode ≡ Some s.height
-  pub id : IsBytes s.id × (length s.id ≡ 16)
-  pub seed : IsBytes s.seed × (length s.seed ≡ 32)
+  pub id : AreBytes 16 s.id
+  pub seed : AreBytes 32 s.seed
   pub leaf : s.leaf < 2 ^ s.height
   pub body : IsBytes s.body
 
@@ -40,7 +41,7 @@ IsQuestion (Sign s) = IsSigning s
 -- H W I SEED Q BODY
 abbrev pub signing_words : Signing → List (List ℕ)
 signing_words s =
-    decimal s.typecode ∷ decimal (ots_typecode s.ots) ∷ bytes_word s.id ∷ bytes_word s.seed ∷ decimal s.leaf ∷ bytes_word s.body ∷ []
+    decimal s.typecode ∷ decimal (ots_typecode s.ots) ∷ encode_lower s.id ∷ encode_lower s.seed ∷ decimal s.leaf ∷ bytes_word s.body ∷ []
 
 -- `verify lms KEY BODY SIG` and `lms H W I SEED Q BODY`
 abbrev pub spelled : Question → List (List ℕ)

@@ -9,13 +9,15 @@ ghost use Rattle.stmt_codec.specs.Left.{claims_left};
 ghost use Rattle.interop_lines.specs.Fields.{bytes_word};
 ghost use Rattle.interop_lines.specs.Frames.{Answers, claim_words, fault_word, frame_answer, said, statement_answer};
 
-use crate::fields::{read_bytes, spell_bytes};
+use crate::fields::{push_bytes, read_bytes};
 use crate::line_fault::LineFault;
 use frame_codec::{FrameFault, FrameView, split_frame};
-use std::alloc::{AllocError, Global};
+use rp_base::NoMemory;
+use std::alloc::Global;
 use stmt_codec::{
     Claim, Claims, STATEMENT_BYTES, Statement, claims_of, read_statement, spell_into,
 };
+use text_codec::push_number;
 
 fn word_of(fault: FrameFault) -> &'static [u8]
     ensures { result.now ≡ fault_word fault }
@@ -34,78 +36,66 @@ fn word_of(fault: FrameFault) -> &'static [u8]
     }
 }
 
-fn push_number(alloc: Global, out: &mut Vec<u8>, n: u16) -> Result<(), AllocError>
-    ensures { OnOk result (out.new.items ≡ out.old.items ++ decimal n) }
-{
-    out.extend_from_slice(n.to_string(alloc)?.as_bytes())
-}
-
-fn push_bytes(alloc: Global, out: &mut Vec<u8>, bytes: &[u8]) -> Result<(), AllocError>
-    ensures { OnOk result (out.new.items ≡ out.old.items ++ bytes_word bytes.now) }
-{
-    out.extend_from_slice(spell_bytes(alloc, bytes)?.as_bytes())
-}
-
 // The statement, spelled from its value.
-fn push_statement(alloc: Global, out: &mut Vec<u8>, st: &Statement<'_>) -> Result<(), AllocError>
+fn push_statement(out: &mut Vec<u8>, st: &Statement<'_>) -> Result<(), NoMemory>
     requires { IsStatement (stmt st.now) }
     ensures { OnOk result (out.new.items ≡ out.old.items ++ bytes_word (spelling (stmt st.now))) }
 {
     let mut spelled = [0u8; STATEMENT_BYTES];
     let len = spell_into(st, &mut spelled);
-    push_bytes(alloc, out, &spelled[..len])
+    push_bytes(out, &spelled[..len])
 }
 
-fn push_claim(alloc: Global, out: &mut Vec<u8>, one: &Claim<'_>) -> Result<(), AllocError>
+fn push_claim(out: &mut Vec<u8>, one: &Claim<'_>) -> Result<(), NoMemory>
     requires { IsClaim (claim one.now) }
     ensures { OnOk result (out.new.items ≡ out.old.items ++ claim_words (claim one.now)) }
 {
     out.extend_from_slice(b" ")?;
-    push_number(alloc, out, u16::from(one.signer.get()))?;
+    push_number(out, one.signer.get().into())?;
     out.extend_from_slice(b" ")?;
-    push_statement(alloc, out, &one.statement)?;
+    push_statement(out, &one.statement)?;
     out.extend_from_slice(b" ")?;
-    push_bytes(alloc, out, one.signature)
+    push_bytes(out, one.signature)
 }
 
-fn push_claims(alloc: Global, out: &mut Vec<u8>, claims: Claims<'_>) -> Result<(), AllocError>
+fn push_claims(out: &mut Vec<u8>, claims: Claims<'_>) -> Result<(), NoMemory>
     requires { AllByRecursion IsClaim (claims_left claims) }
     ensures { OnOk result (out.new.items ≡ out.old.items ++ flat_map claim_words (claims_left claims.entry)) }
 {
     let mut left = claims;
     'claims: while let Some(one) = left.next() {
-        push_claim(alloc, out, &one)?;
+        push_claim(out, &one)?;
     }
     Ok(())
 }
 
 // The word, and the claims.
-fn with_claims(alloc: Global, word: &[u8], claims: Claims<'_>) -> Result<Vec<u8>, AllocError>
+fn with_claims(alloc: Global, word: &[u8], claims: Claims<'_>) -> Result<Vec<u8>, NoMemory>
     requires { AllByRecursion IsClaim (claims_left claims) }
     ensures { IfOk result (λ told. told.items ≡ word.now ++ flat_map claim_words (claims_left claims.entry)) }
 {
     let mut told = word.to_vec(alloc)?;
-    push_claims(alloc, &mut told, claims)?;
+    push_claims(&mut told, claims)?;
     Ok(told)
 }
 
-fn want_words(alloc: Global, view: u16, place: u16) -> Result<Vec<u8>, AllocError>
+fn want_words(alloc: Global, view: u16, place: u16) -> Result<Vec<u8>, NoMemory>
     ensures { IfOk result (λ told. told.items ≡ codes "want " ++ (decimal view ++ (codes " " ++ decimal place))) }
 {
     let mut told = b"want ".to_vec(alloc)?;
-    push_number(alloc, &mut told, view)?;
+    push_number(&mut told, view.into())?;
     told.extend_from_slice(b" ")?;
-    push_number(alloc, &mut told, place)?;
+    push_number(&mut told, place.into())?;
     Ok(told)
 }
 
 // What a frame says whose groups can be read.
-fn frame_words(alloc: Global, frame: &FrameView<'_>) -> Result<Vec<u8>, AllocError>
+fn frame_words(alloc: Global, frame: &FrameView<'_>) -> Result<Vec<u8>, NoMemory>
     ensures { IfOk result (λ told. told.items ≡ said (frame_view frame.now) (claims.claims_of (frame_view frame.now))) }
 {
     let claims = match claims_of(frame) {
         Ok(claims) => claims,
-        Err(fault) => return word_of(fault).to_vec(alloc),
+        Err(fault) => return Ok(word_of(fault).to_vec(alloc)?),
     };
     match *frame {
         FrameView::Bundle(_) => with_claims(alloc, b"bundle", claims),
@@ -116,32 +106,32 @@ fn frame_words(alloc: Global, frame: &FrameView<'_>) -> Result<Vec<u8>, AllocErr
 
 /// What the bytes say as a frame: the word of their first fault (docs/FORMATS.md, «Frames»), or `bundle` or `proof` and
 /// for each claim ` SIGNER STATEMENT SIGNATURE`, or `want VIEW PLACE`.
-fn answer_frame(alloc: Global, bytes: &[u8]) -> Result<Vec<u8>, AllocError>
+fn answer_frame(alloc: Global, bytes: &[u8]) -> Result<Vec<u8>, NoMemory>
     ensures { IfOk result (λ told. told.items ≡ frame_answer bytes.now) }
 {
     match split_frame(bytes) {
         Ok(frame) => frame_words(alloc, &frame),
-        Err(fault) => word_of(fault).to_vec(alloc),
+        Err(fault) => Ok(word_of(fault).to_vec(alloc)?),
     }
 }
 
-fn ok_words(alloc: Global, st: &Statement<'_>) -> Result<Vec<u8>, AllocError>
+fn ok_words(alloc: Global, st: &Statement<'_>) -> Result<Vec<u8>, NoMemory>
     requires { IsStatement (stmt st.now) }
     ensures { IfOk result (λ told. told.items ≡ codes "ok " ++ bytes_word (spelling (stmt st.now))) }
 {
     let mut told = b"ok ".to_vec(alloc)?;
-    push_statement(alloc, &mut told, st)?;
+    push_statement(&mut told, st)?;
     Ok(told)
 }
 
 /// What the bytes say as a statement: the word of their fault (docs/FORMATS.md, «Statements»), or `ok` and the statement
 /// spelled from what was read.
-fn answer_statement(alloc: Global, bytes: &[u8]) -> Result<Vec<u8>, AllocError>
+fn answer_statement(alloc: Global, bytes: &[u8]) -> Result<Vec<u8>, NoMemory>
     ensures { IfOk result (λ told. told.items ≡ statement_answer bytes.now) }
 {
     match read_statement(bytes) {
         Ok(st) => ok_words(alloc, &st),
-        Err(fault) => word_of(fault).to_vec(alloc),
+        Err(fault) => Ok(word_of(fault).to_vec(alloc)?),
     }
 }
 

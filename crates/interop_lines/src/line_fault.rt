@@ -21,3 +21,11 @@ impl From<AllocError> for LineFault {
         LineFault::NoMemory
     }
 }
+
+impl From<NoMemory> for LineFault {
+    ghost from_gives = { λ _ e. e ≡ faults.NoMemory };
+
+    fn from(_: NoMemory) -> LineFault {
+        LineFault::NoMemory
+    }
+}

@@ -11,8 +11,9 @@ use crate::fields::{read_array, read_bytes, read_number};
 use crate::line_fault::LineFault;
 use lms_ots::ots_type_of;
 use lms_tree::{KeyFault, LmsKey, OtsType, lms_height_of, lms_verify};
-use rp_base::{Signer, Spent, Tally};
+use rp_base::{NoMemory, Signer, Spent, Tally};
 use std::alloc::{AllocError, Global};
+use text_codec::push_hex;
 
 /// A tree, the leaf that signs, and what is signed.
 #[derive(Debug, Drop)]
@@ -26,39 +27,22 @@ pub(crate) struct Signing {
     body: Vec<u8>,
 }
 
-/// The height of a typecode whose tree is built, 5 to 7.
-fn built_height(typecode: u32) -> Result<usize, LineFault>
-    ensures read { IfOk result (λ height. lms_height_of typecode ≡ Some height) }
-    ensures built { IfOk result (λ height. (5 ≤ typecode) × (typecode ≤ 7) × (height ≤ 15)) }
-    ensures none { IsErrOf result LineFault.NoQuestion → 5 ≤ typecode → 7 < typecode }
-{
-    match lms_height_of(typecode) {
-        Some(height) if height <= 15 => Ok(height),
-        _ => Err(LineFault::NoQuestion),
-    }
-}
-
 /// The one-time parameter set whose typecode the word spells.
-fn read_ots(alloc: Global, word: &[u8]) -> Result<OtsType, LineFault>
+fn read_ots(word: &[u8]) -> Result<OtsType, LineFault>
     ensures read { IfOk result (λ ots. word.now ≡ decimal (ots_typecode ots)) }
     ensures none { IsErrOf result LineFault.NoQuestion → (ots : OtsType) → word.now ≢ decimal (ots_typecode ots) }
 {
-    let typecode = read_number(alloc, word)?;
+    let typecode = read_number(word, 1, 4)?;
     ots_type_of(typecode).ok_or(LineFault::NoQuestion)
 }
 
 /// The leaf of a tree of this height whose number the word spells.
-fn read_leaf(alloc: Global, word: &[u8], height: usize) -> Result<u32, LineFault>
+fn read_leaf(word: &[u8], height: usize) -> Result<u32, LineFault>
     requires { height ≤ 15 }
     ensures read { IfOk result (λ leaf. (leaf < 2 ^ height) × (word.now ≡ decimal leaf)) }
     ensures none { IsErrOf result LineFault.NoQuestion → (leaf : ℕ) → leaf < 2 ^ height → word.now ≢ decimal leaf }
 {
-    let leaf = read_number(alloc, word)?;
-    if leaf < 1 << height {
-        Ok(leaf)
-    } else {
-        Err(LineFault::NoQuestion)
-    }
+    read_number(word, 0, (1 << height) - 1)
 }
 
 fn read_signing(
@@ -74,15 +58,17 @@ fn read_signing(
     ensures none { IsErrOf result LineFault.NoQuestion
         → (asked : Asked) → ¬ AskedBy typecode.now ots.now id.now seed.now leaf.now body.now asked }
 {
-    let typecode = read_number(alloc, typecode)?;
-    let height = built_height(typecode)?;
+    let typecode = read_number(typecode, 5, 7)?;
+    let Some(height) = lms_height_of(typecode) else {
+        unreachable!();
+    };
     Ok(Signing {
         typecode,
         height,
-        ots: read_ots(alloc, ots)?,
-        id: read_array(alloc, id)?,
-        seed: read_array(alloc, seed)?,
-        leaf: read_leaf(alloc, leaf, height)?,
+        ots: read_ots(ots)?,
+        id: read_array(id)?,
+        seed: read_array(seed)?,
+        leaf: read_leaf(leaf, height)?,
         body: read_bytes(alloc, body)?,
     })
 }
@@ -119,16 +105,16 @@ fn next_signature(alloc: Global, key: &mut LmsKey, body: &[u8]) -> Result<Vec<u8
 }
 
 /// The tree's public key, and the leaf's signature on the body.
-fn make_and_sign(alloc: Global, asked: &Signing) -> Result<Vec<u8>, AllocError>
+fn make_and_sign(alloc: Global, asked: &Signing) -> Result<Vec<u8>, NoMemory>
     requires { IsSigning (signing asked.now) }
     ensures { IfOk result (λ told. told.items ≡ signed (signing asked.now)) }
 {
     let mut key = key_at(alloc, asked)?;
     let sig = next_signature(alloc, &mut key, &asked.body)?;
     let mut told = Vec::new(alloc);
-    told.extend_from_slice(hex::encode(alloc, key.public())?.as_bytes())?;
-    told.extend_from_slice(b" ")?;
-    told.extend_from_slice(hex::encode(alloc, &sig)?.as_bytes())?;
+    push_hex(&mut told, key.public())?;
+    told.push(b' ')?;
+    push_hex(&mut told, &sig)?;
     Ok(told)
 }
 

@@ -1,24 +1,20 @@
-use Rattle.std.proofs.Common.{◌≡◌, sym, ap, ◌∙◌}
-use Rattle.std.proofs.lemmas.Result.{err_from_is_err_and}
-use Rattle.std.proofs.lemmas.Slice.Eq.{bytes_eq-Decides}
-use Rattle.hex.proofs.HexLemmas.{decode_of-ok}
-use Rattle.interop_lines.specs.Fields.{bytes_word}
-use Rattle.interop_lines.proofs.FieldLaws.{decoded, differs}
+use Rattle.std.proofs.Common.{◌≡◌, nat_eq, false, [], ◌∷◌, sym, ◌∙◌}
+use Rattle.std.proofs.lemmas.Bool.{eqb-true, eqb-false}
+use lib.Pointwise.{pointwise}
+use Rattle.interop_lines.proofs.FieldLaws.{bytes_read, decoded, not_empty, not_upper}
 use Rattle.interop_lines.proofs.fields.read_bytes.Goals as goal
+use Rattle.interop_lines.proofs.fields.read_bytes.Goals.{then-is_empty-via-then-is_empty, then-is_empty-via-else-is_empty+then-has_upper_case}
 
-pub returns-then-eq-2-clause-read : goal.returns-then-eq-2-clause-read
-returns-then-eq-2-clause-read c =
-    let read = decode_of-ok c.args.word.now c.in_ok-bytes.bytes.items c.in_ok-bytes.ensures.read in
-    let same = (bytes_eq-Decides c.as_bytes.result.now c.args.word.now).0 (sym c.if-eq-2.ensures) in
-    (read.3, sym same ∙ c.as_bytes.ensures.value ∙ c.in_ok-spell_bytes.ensures ∙ ap bytes_word c.deref.ensures.value)
+pub returns-then-is_empty-clause-none : goal.returns-then-is_empty-clause-none
+returns-then-is_empty-clause-none c = λ e bytes s.
+    let other : pointwise nat_eq c.args.word.now (45 ∷ []) ≡ false = sym (rw c.as_slice.ensures at c.if-eq.ensures) in
+    elim c.then-is_empty.branch [
+      | then-is_empty-via-then-is_empty w ↦ not_empty c.args.word.now bytes other s (eqb-true _ _ (sym c.is_empty.ensures ∙ w.if-is_empty.true))
+      | then-is_empty-via-else-is_empty+then-has_upper_case w ↦ not_upper c.args.word.now bytes other s (sym w.has_upper_case.ensures ∙ w.if-has_upper_case.true)
+    ]
 
-pub returns-in_err-bytes-clause-none : goal.returns-in_err-bytes-clause-none
-returns-in_err-bytes-clause-none c = λ e bytes s.
-    let p = err_from_is_err_and c.from_residual.result c.from_residual.ensures.1 in
-    c.in_err-bytes.ensures.none (cc (p.1, p.2, e)) bytes (decoded c.args.word.now bytes (sym (rw c.as_slice.ensures at c.if-eq.ensures)) s)
+pub returns-clause-read : goal.returns-clause-read
+returns-clause-read c = bytes_read c.args.word.now c.decode.result (eqb-false _ _ (sym c.is_empty.ensures ∙ c.if-is_empty.false)) (sym c.has_upper_case.ensures ∙ c.if-has_upper_case.false) c.decode.ensures.read
 
-pub returns-else-eq-2-clause-none : goal.returns-else-eq-2-clause-none
-returns-else-eq-2-clause-none c = λ e bytes s.
-    let read = decoded c.args.word.now bytes (sym (rw c.as_slice.ensures at c.if-eq.ensures)) s in
-    let same : bytes ≡ c.in_ok-bytes.bytes.items = cc (read, c.in_ok-bytes.ensures.read) in
-    differs c.as_bytes.result.now c.args.word.now (c.as_bytes.ensures.value ∙ c.in_ok-spell_bytes.ensures ∙ ap bytes_word (c.deref.ensures.value ∙ sym same) ∙ sym s.1) c.if-eq-2.ensures
+pub returns-clause-none : goal.returns-clause-none
+returns-clause-none c = λ e bytes s. c.decode.ensures.none e bytes (decoded c.args.word.now bytes (sym (rw c.as_slice.ensures at c.if-eq.ensures)) s)

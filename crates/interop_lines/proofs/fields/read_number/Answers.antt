@@ -1,24 +1,9 @@
-use Rattle.std.proofs.Common.{◌≡◌, ◌<◌, ◌^◌, sym, ap, ◌∙◌, arith}
-use Rattle.std.proofs.lemmas.Fmt.{IsAscii-decimal, parse-decimal}
-use Rattle.std.proofs.lemmas.Str.{IsUtf8-from_ascii}
-use Rattle.std.specs.Fmt.{decimal}
-use Rattle.interop_lines.proofs.FieldLaws.{differs}
+use Rattle.std.proofs.Common.{sym, ◌∙◌, arith}
+use Rattle.interop_lines.proofs.FieldLaws.{number_none, number_read}
 use Rattle.interop_lines.proofs.fields.read_number.Goals as goal
 
-pub returns-in_default-clause-none : goal.returns-in_default-clause-none
-returns-in_default-clause-none c = λ e n fit is.
-    let wide : n < 2 ^ 64 = omega arith in
-    c.in_default.ensures.cases.0 (rw is (IsUtf8-from_ascii _ (IsAscii-decimal n wide)))
+pub returns-clause-read : goal.returns-clause-read
+returns-clause-read c = rw c.ok_or.ensures.value (number_read c.args.least c.args.most c.args.word.now c.number.result c.number.ensures.value)
 
-pub returns-in_default-parse-clause-none : goal.returns-in_default-parse-clause-none
-returns-in_default-parse-clause-none c = λ e n fit is.
-    let wide : n < 2 ^ 64 = omega arith in
-    let read = parse-decimal 32 n c.in-Ok.text.now c.parse.result fit wide (c.in-Ok.ensures.cases.0 ∙ is) c.parse.ensures.value.0 in
-    absurd (c.in_default-parse.not-Ok n read)
-
-pub returns-else-eq-clause-none : goal.returns-else-eq-clause-none
-returns-else-eq-clause-none c = λ e n fit is.
-    let wide : n < 2 ^ 64 = omega arith in
-    let read = parse-decimal 32 n c.in-Ok.text.now c.parse.result fit wide (c.in-Ok.ensures.cases.0 ∙ is) c.parse.ensures.value.0 in
-    let same : n ≡ c.in-Ok-parse.number = cc (read, c.in-Ok-parse.is) in
-    differs c.as_bytes.result.now c.args.word.now (c.as_bytes.ensures.value ∙ c.in_ok-to_string.ensures.ok ∙ ap decimal (sym same) ∙ sym is) c.if-eq.ensures
+pub returns-clause-none : goal.returns-clause-none
+returns-clause-none c = λ e. number_none c.args.least c.args.most c.args.word.now c.number.result c.number.ensures.value (omega arith) (sym c.ok_or.ensures.value ∙ e)

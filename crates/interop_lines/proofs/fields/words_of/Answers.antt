@@ -1,7 +1,7 @@
-use Rattle.std.proofs.Common.{rules, tests}
-use Rattle.std.proofs.lemmas.Iterator.Consumers.{map_from_collect}
-use Rattle.std.proofs.lemmas.Iterator.Splits.{YieldsList-from_slice_split}
+use Rattle.text_codec.specs.Views.{part_view, parts_left}
+use Rattle.text_defs.specs.Words.{words_of}
+use Rattle.std.proofs.lemmas.Iterator.Consumers.{YieldsList-from_first, map_from_collect}
 use Rattle.interop_lines.proofs.fields.words_of.Goals as goal
 
 pub returns : goal.returns
-returns c = map_from_collect _ c.collect.ensures.ran (YieldsList-from_slice_split _ _ c.args.line.now c.split.ensures.rest c.split.ensures.done c.split.ensures.closure (λ x r q k. search (rules, tests)))
+returns c = map_from_collect _ c.collect.ensures.ran (YieldsList-from_first part_view parts_left (words_of c.args.line.now) c.words.ensures)
