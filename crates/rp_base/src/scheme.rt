@@ -2,6 +2,7 @@ ghost use Rattle.std.specs.Prelude.{◌≡◌, ◌<◌, ◌≤◌, ◌+◌, ◌+
 ghost use Rattle.signature_defs.specs.Plain.{plain_signature, plain_valid};
 
 use sha2::{Digest, Sha256};
+use std::fmt;
 
 /// The signer has made as many signatures as it can. Nothing has changed.
 #[derive(Clone, Copy, Debug, PartialEq, Eq)]
@@ -115,8 +116,8 @@ impl Scheme for PlainScheme {
     }
 }
 
-/// A signer of plain signatures.
-#[derive(Debug, Drop)]
+/// A signer of plain signatures. Its `Debug` does not show the key.
+#[derive(Drop)]
 pub struct PlainSigner {
     key: [u8; 32],
     total: u32,
@@ -138,6 +139,15 @@ impl PlainSigner {
             total,
             used: 0,
         }
+    }
+}
+
+impl fmt::Debug for PlainSigner {
+    fn fmt<W: fmt::Write>(&self, f: &mut fmt::Formatter<W>) -> fmt::Result {
+        f.debug_struct("PlainSigner")
+            .field("total", &self.total)
+            .field("used", &self.used)
+            .finish_non_exhaustive()
     }
 }
 

@@ -71,6 +71,15 @@ fn plain_signatures_are_digests_and_run_out(rt: HostRuntime) {
 }
 
 #[test]
+fn plain_keys_are_not_printed(rt: HostRuntime) -> Result<(), Fail> {
+    let mut signer = PlainSigner::new([93; 32], 2);
+    signer.skip_to(1);
+    let printed = format!(in rt.alloc(); "{signer:?}")?;
+    assert_eq!(rt; printed.as_str(), "PlainSigner { total: 2, used: 1, .. }");
+    Ok(())
+}
+
+#[test]
 fn devices_go_on_after_a_call_that_fails(rt: HostRuntime) -> Result<(), Fail> {
     let alloc = rt.alloc();
     let mut source = MemSource::new(
