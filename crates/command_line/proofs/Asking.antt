@@ -1,5 +1,5 @@
 -- A command is read of the words that spell it, and of no others.
-use Rattle.std.proofs.Common.{◌≡◌, ℕ, true, List, [], ◌∷◌, codes, Option, Some, None, IfSome, option_map, refl, sym, ap, subst, ◌∙◌, arith}
+use Rattle.std.proofs.Common.{◌≡◌, ℕ, List, [], ◌∷◌, codes, Option, Some, None, IfSome, option_map, refl, sym, ap, subst, ◌∙◌, arith}
 use Rattle.std.specs.Fmt.{decimal}
 use Rattle.hex.specs.Hex.{encode_lower}
 use Rattle.byte_defs.specs.Equality.{same_bytes}
@@ -9,21 +9,21 @@ use Rattle.text_defs.proofs.Bytes.{bytes_found, bytes_spelled}
 use Rattle.text_defs.proofs.Choosing.{if_some, map_some, some_is, then_some}
 use Rattle.text_defs.proofs.Numbers.{number_within_found, number_within_spelled}
 use Rattle.text_defs.proofs.Tests.{word_is}
-use Rattle.command_line.specs.Commands.{Asks, Command, Replay, Keygen, IsOrder, Order, plan_word}
+use Rattle.command_line.specs.Commands.{Asks, Command, Replay, Keygen, IsOrder, KitOrder, plan_word}
 use Rattle.command_line.specs.Laws.{CommandIsSpelled}
 use Rattle.command_line.specs.Reading.{command_of, order_of, plan_of}
 use Rattle.command_line.proofs.Plans.{plan_found, plan_spelled}
 
 -- ---- orders
 
-abbrev order_words : Order → List (List ℕ)
+abbrev order_words : KitOrder → List (List ℕ)
 order_words order = decimal order.members ∷ decimal order.roster ∷ plan_word order.keys ∷ encode_lower order.seed ∷ []
 
 -- an order whose seed is not read yet
-abbrev with_seed : ℕ → ℕ → KeyPlan → List ℕ → Order
+abbrev with_seed : ℕ → ℕ → KeyPlan → List ℕ → KitOrder
 with_seed n r plan s = record { members = n; roster = r; keys = plan; seed = s }
 
-order_found : (members roster keys seed : List ℕ) (order : Order) → order_of members roster keys seed ≡ Some order → (members ∷ roster ∷ keys ∷ seed ∷ [] ≡ order_words order) × IsOrder order
+order_found : (members roster keys seed : List ℕ) (order : KitOrder) → order_of members roster keys seed ≡ Some order → (members ∷ roster ∷ keys ∷ seed ∷ [] ≡ order_words order) × IsOrder order
 order_found members roster keys seed order e =
     let n = then_some _ (number_within 1 16 members) order e in
     let r = then_some _ (number_within n.0 64 roster) order n.2 in
@@ -36,7 +36,7 @@ order_found members roster keys seed order e =
     subst (λ o. (members ∷ roster ∷ keys ∷ seed ∷ [] ≡ order_words o) × IsOrder o) s.2
     ((λ i. n_is.0 i ∷ r_is.0 i ∷ k_is.0 i ∷ s_is.0 i ∷ []), record { some = n_is.1; few = n_is.2; within = r_is.1; most = r_is.2; keys = k_is.1; seed = s_is.1 })
 
-order_spelled : (order : Order) → IsOrder order → order_of (decimal order.members) (decimal order.roster) (plan_word order.keys) (encode_lower order.seed) ≡ Some order
+order_spelled : (order : KitOrder) → IsOrder order → order_of (decimal order.members) (decimal order.roster) (plan_word order.keys) (encode_lower order.seed) ≡ Some order
 order_spelled order fits =
     let members = number_within_spelled 1 16 order.members fits.some fits.few (omega (arith, fits.few)) in
     let roster = number_within_spelled order.members 64 order.roster fits.within fits.most (omega (arith, fits.most)) in

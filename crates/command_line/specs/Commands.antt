@@ -12,7 +12,7 @@ use Rattle.text_defs.specs.Words.{AreBytes}
 use Rattle.text_defs.specs.KitMaking.{IsPlan}
 
 -- what a new kit is to be like
-pub record Order : Type 0 where
+pub record KitOrder : Type 0 where
   pub members : ℕ
   pub roster : ℕ
   pub keys : KeyPlan
@@ -21,7 +21,7 @@ pub record Order : Type 0 where
 -- what the program is asked to do
 pub data Command : Type 0 where
   Replay : Command
-  Keygen : (order : Order) → Command
+  Keygen : (order : KitOrder) → Command
 
 -- ---- the words
 
@@ -39,7 +39,7 @@ command_words (Keygen order) = codes "keygen" ∷ decimal order.members ∷ deci
 
 -- an order that can be carried out: 1 to 16 members, all of them of the roster, which has at most 64 processes; a plan that can be carried
 -- out; and a seed of 32 bytes
-pub record IsOrder (order : Order) : Type 0 where
+pub record IsOrder (order : KitOrder) : Type 0 where
   pub some : 1 ≤ order.members
   pub few : order.members ≤ 16
   pub within : order.members ≤ order.roster

@@ -7,7 +7,7 @@ use Rattle.signature_defs.specs.LmOts.{ots_type_of}
 use Rattle.text_defs.specs.declared.KeyPlan.{KeyPlan}
 use Rattle.text_defs.specs.declared.KeyPlan.TheVariants.{Plain, Lms}
 use Rattle.text_defs.specs.Words.{number_within, bytes_of}
-use Rattle.command_line.specs.Commands.{Order, Command, Replay, Keygen}
+use Rattle.command_line.specs.Commands.{KitOrder, Command, Replay, Keygen}
 
 -- what stands behind this front
 abbrev pub behind : List ℕ → List ℕ → Option (List ℕ)
@@ -27,7 +27,7 @@ abbrev pub plan_of : List ℕ → Option KeyPlan
 plan_of word = option_or (and_then (behind (codes "plain:") word) plain_by) (and_then (behind (codes "lms:") word) lms_by)
 
 -- the order that the four words behind `keygen` spell
-abbrev pub order_of : List ℕ → List ℕ → List ℕ → List ℕ → Option Order
+abbrev pub order_of : List ℕ → List ℕ → List ℕ → List ℕ → Option KitOrder
 order_of members roster keys seed =
     and_then (number_within 1 16 members) (λ n. and_then (number_within n 64 roster) (λ r. and_then (plan_of keys) (λ plan.
     option_map (λ s. record { members = n; roster = r; keys = plan; seed = s }) (bytes_of 32 seed))))

@@ -2,9 +2,9 @@
 use Rattle.command_line.specs.Commands as plain
 use Rattle.command_line.specs.declared.commands.Command.{Command}
 use Rattle.command_line.specs.declared.commands.Command.TheVariants.{Replay, Keygen}
-use Rattle.command_line.specs.declared.orders.Order.{Order}
+use Rattle.command_line.specs.declared.orders.KitOrder.{KitOrder}
 
-abbrev pub order : Order → plain.Order
+abbrev pub order : KitOrder → plain.KitOrder
 order o = record { members = o.members; roster = o.roster; keys = o.keys; seed = o.seed }
 
 abbrev pub command : Command → plain.Command

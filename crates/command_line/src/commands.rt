@@ -4,16 +4,16 @@ ghost use Rattle.command_line.specs.Commands as plain;
 ghost use Rattle.command_line.specs.Reading.{command_of};
 ghost use Rattle.command_line.specs.Views as views;
 
-use crate::orders::{Order, read_order};
+use crate::orders::{KitOrder, read_order};
 
-/// What the program is to do.
+/// What the program is to do. Its `Debug` does not show the seed of an order.
 #[derive(Clone, Copy, Debug, PartialEq, Eq)]
 pub enum Command {
     /// Read a schedule, and write its report.
     Replay,
 
     /// Write a new kit.
-    Keygen(Order),
+    Keygen(KitOrder),
 }
 
 fn of_one_word(word: &[u8]) -> Option<Command>
@@ -59,7 +59,7 @@ fn of_words(words: &[String]) -> Option<Command>
 }
 
 /// The command that the words ask for; None exactly where they ask for none. The words are those behind the program's
-/// name: `replay`, or `keygen N R KEYS SEED` with the ranges of [`Order`].
+/// name: `replay`, or `keygen N R KEYS SEED` with the ranges of [`KitOrder`].
 pub fn read_command(words: &[String]) -> Option<Command>
     // The words are those of the command that is read, and it is in its ranges.
     ensures found { IfSome result (λ c. Asks (map string_bytes words.now) (views.command c)) }

@@ -7,7 +7,7 @@ mod commands;
 mod orders;
 
 pub use commands::{Command, read_command};
-pub use orders::Order;
+pub use orders::KitOrder;
 
 /// The command that is read of words is the one whose words they are, in its ranges, and no other words give it.
 pub fn command_is_spelled()

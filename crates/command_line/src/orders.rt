@@ -4,22 +4,35 @@ ghost use Rattle.text_defs.specs.Words.{number_within};
 ghost use Rattle.command_line.specs.Reading.{plain_by, lms_by, plan_of, order_of};
 ghost use Rattle.command_line.specs.Views as views;
 
+use lms_ots::ots_type_of;
+use std::fmt;
 use text_codec::{bytes, number};
 use text_defs::{KeyPlan, OtsType};
 
-/// What a new kit is to be like.
-#[derive(Clone, Copy, Debug, PartialEq, Eq)]
-pub struct Order {
+/// What a new kit is to be like. Its `Debug` does not show the seed.
+#[derive(Clone, Copy, PartialEq, Eq)]
+pub struct KitOrder {
     /// How many of the processes are members of the first view, 1 to 16.
     pub members: u8,
 
     /// How many processes there are, from the members to 64.
     pub roster: u8,
 
+    /// Which keys each process gets: a plain one for so many signatures, or a tree whose height has the typecode 5, 6 or 7.
     pub keys: KeyPlan,
 
-    /// All keys come from it.
+    /// The 32 bytes that all keys come from.
     pub seed: [u8; 32],
+}
+
+impl fmt::Debug for KitOrder {
+    fn fmt<W: fmt::Write>(&self, f: &mut fmt::Formatter<W>) -> fmt::Result {
+        f.debug_struct("KitOrder")
+            .field("members", &self.members)
+            .field("roster", &self.roster)
+            .field("keys", &self.keys)
+            .finish_non_exhaustive()
+    }
 }
 
 fn plain(total: &[u8]) -> Option<KeyPlan>
@@ -31,13 +44,7 @@ fn plain(total: &[u8]) -> Option<KeyPlan>
 fn parameter_set(word: &[u8]) -> Option<OtsType>
     ensures { result ≡ option_and_then ots_type_of (number_within 1 4 word.now) }
 {
-    match number(word, 1, 4)? {
-        1 => Some(OtsType::W1),
-        2 => Some(OtsType::W2),
-        3 => Some(OtsType::W4),
-        4 => Some(OtsType::W8),
-        _ => None,
-    }
+    ots_type_of(number(word, 1, 4)?)
 }
 
 fn lms(typecodes: &[u8]) -> Option<KeyPlan>
@@ -62,14 +69,14 @@ fn plan(word: &[u8]) -> Option<KeyPlan>
 }
 
 /// The order of these words; None exactly where one of them is no such number, plan or seed.
-pub fn read_order(members: &[u8], roster: &[u8], keys: &[u8], seed: &[u8]) -> Option<Order>
+pub fn read_order(members: &[u8], roster: &[u8], keys: &[u8], seed: &[u8]) -> Option<KitOrder>
     ensures { option_map views.order result ≡ order_of members.now roster.now keys.now seed.now }
 {
     let members = number(members, 1, 16)?;
     let roster = number(roster, members, 64)?;
     let keys = plan(keys)?;
     let seed = bytes(seed)?;
-    Some(Order {
+    Some(KitOrder {
         members: members as u8,
         roster: roster as u8,
         keys,

@@ -1,4 +1,4 @@
-use crate::{Command, Order, read_command};
+use crate::{Command, KitOrder, read_command};
 use std::alloc::Global;
 use std::test::Fail;
 use text_defs::{KeyPlan, OtsType};
@@ -33,7 +33,7 @@ fn the_words_of_a_command_ask_for_it(rt: HostRuntime) -> Result<(), Fail> {
         ("4 7 lms:5:1", 4, 7, KeyPlan::Lms(5, OtsType::W1)),
         ("4 7 lms:7:4", 4, 7, KeyPlan::Lms(7, OtsType::W8)),
     ] {
-        let asked = Command::Keygen(Order {
+        let asked = Command::Keygen(KitOrder {
             members,
             roster,
             keys,
@@ -79,5 +79,16 @@ fn other_words_ask_for_nothing(rt: HostRuntime) -> Result<(), Fail> {
     ] {
         assert_eq!(rt; read(rt.alloc(), line)?, None, "{line}");
     }
+    Ok(())
+}
+
+#[test]
+fn seeds_are_not_printed(rt: HostRuntime) -> Result<(), Fail> {
+    let asked = keygen(rt.alloc(), "4 7 lms:5:1")?;
+    let printed = format!(in rt.alloc(); "{asked:?}")?;
+    assert_eq!(rt;
+        printed.as_str(),
+        "Some(Keygen(KitOrder { members: 4, roster: 7, keys: Lms(5, W1), .. }))"
+    );
     Ok(())
 }

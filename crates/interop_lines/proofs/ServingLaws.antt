@@ -4,7 +4,7 @@ use Rattle.std.specs.Prelude.{IsErrOf}
 use Rattle.std.proofs.KnownBytes.{Appends-nil, Appends-trans, Appends-kept, Consumes-nil, Consumes-trans}
 use Rattle.std.proofs.lemmas.List.{append-nil}
 use Rattle.std.specs.Io.KnownBytes.{Appends, Consumes, IsAtEnd, Keeps}
-use Rattle.rp_streams.specs.Streams.{AppendsFront, Says}
+use Rattle.rp_streams.specs.Streams.{AppendsPrefix, Says}
 use Rattle.interop_lines.specs.declared.stops.Stop.{Stop}
 use Rattle.interop_lines.specs.declared.stops.Stop.TheVariants.{NoMemory, Read, Write, Line}
 use Rattle.interop_lines.specs.Stops.{line_of, status_of}
@@ -43,7 +43,7 @@ served_one_more n ahead line rest told before now old mid new s fits is answers 
 }
 
 pub in_part : (n : ℕ) (ahead line told : List ℕ) (before now old mid new : Option (List ℕ)) → HasServed n ahead before now old mid
-    → Answers line told → AppendsFront mid new (ended told) → ServedInPart before now old new
+    → Answers line told → AppendsPrefix mid new (ended told) → ServedInPart before now old new
 in_part n ahead line told before now old mid new s answers wrote = (mid, (n, ahead, s), (line, told, answers, wrote))
 
 -- no line was taken

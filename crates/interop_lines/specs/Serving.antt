@@ -2,7 +2,7 @@
 use Rattle.std.specs.Prelude.{◌≡◌, ◌⊎◌, ℕ, suc, ◌<◌, ◌≤◌, ◌==◌, false, List, [], ◌++◌, length, Option, codes}
 use Rattle.std.specs.List.{list_any}
 use Rattle.std.specs.Io.KnownBytes.{Appends, Consumes, IsAtEnd}
-use Rattle.rp_streams.specs.Streams.{AppendsFront, Says}
+use Rattle.rp_streams.specs.Streams.{AppendsPrefix, Says}
 use Rattle.interop_lines.specs.Stops.{line_of}
 use Rattle.interop_lines.specs.declared.stops.Stop.{Stop}
 use Rattle.interop_lines.specs.declared.stops.Stop.TheVariants.{Line}
@@ -54,7 +54,7 @@ SomeServed before now old new = (n : ℕ) × (ahead : List ℕ) × HasServed n a
 abbrev pub ServedInPart : Option (List ℕ) → Option (List ℕ) → Option (List ℕ) → Option (List ℕ) → Type 0
 ServedInPart before now old new =
     (mid : Option (List ℕ)) × SomeServed before now old mid
-    × ((line told : List ℕ) × Answers line told × AppendsFront mid new (ended told))
+    × ((line told : List ℕ) × Answers line told × AppendsPrefix mid new (ended told))
 
 -- some lines were served, and then why the run stops was written: by the counts of the sink's faults before and now
 abbrev pub ServedAndSays : Stop → Option (List ℕ) → Option (List ℕ) → Option (List ℕ) → Option (List ℕ) → ℕ → ℕ → Type 0

@@ -1,7 +1,7 @@
 ghost use Rattle.std.specs.Prelude.{◌≡◌, ◌≢◌, ◌⊎◌, ℕ, suc, List, IfErr, IsErrOf, OnErr, OnOk};
 ghost use Rattle.std.specs.Io.KnownBytes.{Appends, Keeps};
 ghost use Rattle.rp_base.specs.Causes.{Rose};
-ghost use Rattle.rp_streams.specs.Streams.{AppendsFront, Says};
+ghost use Rattle.rp_streams.specs.Streams.{AppendsPrefix, Says};
 ghost use Rattle.interop_lines.specs.Lines.{Answers};
 ghost use Rattle.interop_lines.specs.Stops.{line_of, status_of};
 ghost use Rattle.interop_lines.specs.Serving.{AllServed, HasNoQuestion, HasServed, Refused, ServedAndSays, ServedInPart, SomeServed, ended};
@@ -21,7 +21,7 @@ fn answer_line<K: Sink>(alloc: Global, line: &[u8], number: u64, output: &mut K)
     ensures steady { OnOk result (K.faults output.new ≡ K.faults output.old) }
     ensures refused { (n : ℕ) → IsErrOf result (Stop.Line n) → (n ≡ number) × ((told : List ℕ) → ¬ Answers line.now told) }
     ensures part { IsErrOf result Stop.Write
-        → (told : List ℕ) × Answers line.now told × AppendsFront (K.written output.old) (K.written output.new) (ended told) }
+        → (told : List ℕ) × Answers line.now told × AppendsPrefix (K.written output.old) (K.written output.new) (ended told) }
     ensures failed { IsErrOf result Stop.Write → Rose (K.faults output.old) (K.faults output.new) }
     ensures untouched { IfErr result (λ stop. (stop ≡ Stop.Write) ⊎ (output.new ≡ output.old)) }
     ensures no_read { ¬ IsErrOf result Stop.Read }

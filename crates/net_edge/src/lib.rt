@@ -1,4 +1,4 @@
-//! The trusted edge: the system's streams as the traits of the outside.
+//! The edge: what std's readers and writers say of themselves is trusted; that it is passed on is proved.
 #![tactic(auto)]
 
 mod streams;

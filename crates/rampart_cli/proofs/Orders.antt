@@ -1,8 +1,8 @@
 -- Which command was read.
 use Rattle.std.proofs.Common.{◌≡◌, Option, None, Some}
-use Rattle.command_line.specs.Commands.{Order, Command, Keygen}
+use Rattle.command_line.specs.Commands.{KitOrder, Command, Keygen}
 
-pub same_order : (a b : Order) → (let read : Option Command = Some (Keygen a) in read) ≡ Some (Keygen b) → a ≡ b
+pub same_order : (a b : KitOrder) → (let read : Option Command = Some (Keygen a) in read) ≡ Some (Keygen b) → a ≡ b
 same_order a b e = cc
 
 pub no_command : (c : Command) → (let read : Option Command = None in read) ≡ Some c → ⊥

@@ -11,7 +11,7 @@ use Rattle.file_defs.specs.Schedules.{Schedule, IsSchedule, schedule_bytes, sche
 use Rattle.file_defs.specs.Worlds.{World, world_of, family_of}
 use Rattle.file_defs.specs.Reports.{report, report_of, if_read}
 use Rattle.schedule_file.proofs.Grammar.{schedule_takes, schedule_again}
-use Rattle.rp_streams.specs.Streams.{AppendsFront}
+use Rattle.rp_streams.specs.Streams.{AppendsPrefix}
 use Rattle.rampart_cli.specs.Top.{Runs, HasNoRun, Replayed, Refused, Reported, ReportedInPart, report_of_run}
 use Rattle.rampart_cli.proofs.Single.{single_payloads}
 
@@ -69,8 +69,8 @@ module _ (bytes told : List ℕ) (fit : IsBytes bytes) (is : report_of bytes ≡
   pub run_written : Appends old new told → (run : Runs bytes) × Appends old new (report_of_run run)
   run_written wrote = let t = tells bytes told fit is in (t.run, subst (Appends old new) t.told-is wrote)
 
-  pub run_written_in_part : AppendsFront old new told → (run : Runs bytes) × AppendsFront old new (report_of_run run)
-  run_written_in_part wrote = let t = tells bytes told fit is in (t.run, subst (AppendsFront old new) t.told-is wrote)
+  pub run_written_in_part : AppendsPrefix old new told → (run : Runs bytes) × AppendsPrefix old new (report_of_run run)
+  run_written_in_part wrote = let t = tells bytes told fit is in (t.run, subst (AppendsPrefix old new) t.told-is wrote)
 
 -- ---- what was read
 
@@ -82,7 +82,7 @@ module _ (before now : Option (List ℕ)) (input : List ℕ) (taken : Consumes b
   unfolding replayed
   reported old new r = record { replayed = replayed r.0; written = r.1; single = single_payloads r.0.schedule r.0.world r.0.fits r.0.ran }
 
-  pub reported_in_part : (old new : Option (List ℕ)) → (run : Runs input) × AppendsFront old new (report_of_run run) → ReportedInPart before now old new
+  pub reported_in_part : (old new : Option (List ℕ)) → (run : Runs input) × AppendsPrefix old new (report_of_run run) → ReportedInPart before now old new
   unfolding replayed
   reported_in_part old new r = record { replayed = replayed r.0; written = r.1 }
 

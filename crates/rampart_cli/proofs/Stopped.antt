@@ -8,7 +8,7 @@ use Rattle.rp_base.specs.Causes.{Rose}
 use Rattle.rampart_cli.specs.declared.stops.Stop.{Stop}
 use Rattle.rampart_cli.specs.declared.stops.Stop.TheVariants.{NoMemory, Words, Read, Write, Input}
 use Rattle.rampart_cli.specs.Statuses.{status_of, line_of}
-use Rattle.rp_streams.specs.Streams.{AppendsFront, Says}
+use Rattle.rp_streams.specs.Streams.{AppendsPrefix, Says}
 use Rattle.rampart_cli.specs.Top.{ReportedInPart}
 
 pub at_write : (stop : Stop) → status_of stop ≡ 4 → stop ≡ Write
@@ -55,15 +55,15 @@ says_nothing a b c bytes before now wrote (inr said) = rw (← append-nil bytes)
     take-nothing zero = refl
     take-nothing (suc n) = refl
 
--- a front that was written stays, since nothing is said of a failed write
-pub front_stays : (stop : Stop) (old mid new : Option (List ℕ)) (bytes : List ℕ) (f f' : ℕ) → stop ≡ Write → AppendsFront old mid bytes → Says (line_of stop) mid new f f' → AppendsFront old new bytes
-front_stays stop old mid new bytes f f' is part said =
+-- a prefix that was written stays, since nothing is said of a failed write
+pub prefix_stays : (stop : Stop) (old mid new : Option (List ℕ)) (bytes : List ℕ) (f f' : ℕ) → stop ≡ Write → AppendsPrefix old mid bytes → Says (line_of stop) mid new f f' → AppendsPrefix old new bytes
+prefix_stays stop old mid new bytes f f' is part said =
     let silent : Says [] mid new f f' = subst (λ (s : Stop). Says (line_of s) mid new f f') is said in
     (part.0, part.1, says_nothing old mid new _ f f' part.2 silent)
 
 pub part_stays : (stop : Stop) (before now old mid new : Option (List ℕ)) (f f' : ℕ) → stop ≡ Write → ReportedInPart before now old mid → Says (line_of stop) mid new f f' → ReportedInPart before now old new
 part_stays stop before now old mid new f f' is part said =
-    record { replayed = part.replayed; written = front_stays stop old mid new _ f f' is part.written said }
+    record { replayed = part.replayed; written = prefix_stays stop old mid new _ f f' is part.written said }
 
 pub rose_still : (line : List ℕ) (a b : Option (List ℕ)) (before mid now : ℕ) → Rose before mid → Says line a b mid now → Rose before now
 rose_still line a b before mid now rose (inl said) = rw said.1 rose

@@ -10,8 +10,8 @@ use Rattle.file_defs.specs.Reports.{Single, report, report_of}
 use Rattle.text_defs.specs.Kits.{kit_text}
 use Rattle.text_defs.specs.KitMaking.{made_kit}
 use Rattle.command_line.specs.Commands as commands
-use Rattle.command_line.specs.Commands.{Order, Command}
-use Rattle.rp_streams.specs.Streams.{AppendsFront}
+use Rattle.command_line.specs.Commands.{KitOrder, Command}
+use Rattle.rp_streams.specs.Streams.{AppendsPrefix}
 
 -- ---- the words
 
@@ -71,13 +71,13 @@ pub record Reported (before now old new : Option (List ℕ)) : Type 0 where
   pub written : Appends old new (report_of_run replayed.run)
   pub single : let f : Family = family replayed.run in Honest f → Bounded (accounts f) (numbers f) → Single f
 
--- a front of that report was written and nothing else
+-- a prefix of that report was written and nothing else
 pub record ReportedInPart (before now old new : Option (List ℕ)) : Type 0 where
   pub replayed : Replayed before now
-  pub written : AppendsFront old new (report_of_run replayed.run)
+  pub written : AppendsPrefix old new (report_of_run replayed.run)
 
 -- ---- kits
 
 -- The text of the kit that is ordered, and the line that ends it.
-abbrev pub kit_of_order : Order → List ℕ
+abbrev pub kit_of_order : KitOrder → List ℕ
 kit_of_order order = kit_text (made_kit order.members order.roster order.keys order.seed) ++ codes "go\n"

@@ -3,18 +3,18 @@ ghost use Rattle.std.specs.Io.KnownBytes.{Appends};
 ghost use Rattle.rp_base.specs.Causes.{Rose};
 ghost use Rattle.command_line.specs.Commands.{IsOrder};
 ghost use Rattle.command_line.specs.Views.{order};
-ghost use Rattle.rp_streams.specs.Streams.{AppendsFront};
+ghost use Rattle.rp_streams.specs.Streams.{AppendsPrefix};
 ghost use Rattle.rampart_cli.specs.Top.{kit_of_order};
 
 use crate::stops::Stop;
-use command_line::Order;
+use command_line::KitOrder;
 use kit_file::{make_kit, write_kit};
 use rp_base::{NoMemory, Sink};
 use rp_streams::write_all;
 use std::alloc::Global;
 
 /// The text of the kit that is ordered, with the line that ends it.
-fn kit_bytes(alloc: Global, ordered: &Order) -> Result<Vec<u8>, NoMemory>
+fn kit_bytes(alloc: Global, ordered: &KitOrder) -> Result<Vec<u8>, NoMemory>
     requires { IsOrder (order ordered.now) }
     ensures { IfOk result (λ bytes. bytes.items ≡ kit_of_order (order ordered.now)) }
 {
@@ -32,19 +32,16 @@ fn kit_bytes(alloc: Global, ordered: &Order) -> Result<Vec<u8>, NoMemory>
 }
 
 /// Makes the kit that is ordered, and writes it with the line that ends it. Nothing is written before all of it is made.
-pub fn keygen<K: Sink>(alloc: Global, ordered: &Order, output: &mut K) -> Result<(), Stop>
+pub fn keygen<K: Sink>(alloc: Global, ordered: &KitOrder, output: &mut K) -> Result<(), Stop>
     requires { IsOrder (order ordered.now) }
     ensures done { OnOk result (Appends (K.written output.old) (K.written output.new) (kit_of_order (order ordered.now))) }
     ensures steady { OnOk result (K.faults output.new ≡ K.faults output.old) }
     ensures write { IsErrOf result Stop.Write
-        → AppendsFront (K.written output.old) (K.written output.new) (kit_of_order (order ordered.now)) }
+        → AppendsPrefix (K.written output.old) (K.written output.new) (kit_of_order (order ordered.now)) }
     ensures write_failed { IsErrOf result Stop.Write → Rose (K.faults output.old) (K.faults output.new) }
     ensures untouched { IfErr result (λ stop. (stop ≡ Stop.Write) ⊎ (output.new ≡ output.old)) }
     ensures only { IfErr result (λ stop. (stop ≡ Stop.NoMemory) ⊎ (stop ≡ Stop.Write)) }
 {
     let bytes = kit_bytes(alloc, ordered)?;
-    match write_all(output, &bytes) {
-        Ok(()) => Ok(()),
-        Err(_) => Err(Stop::Write),
-    }
+    write_all(output, &bytes).or(Err(Stop::Write))
 }

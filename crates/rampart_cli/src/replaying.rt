@@ -1,7 +1,7 @@
 ghost use Rattle.std.specs.Prelude.{◌≡◌, ◌⊎◌, OnOk, IfErr, IsErrOf};
 ghost use Rattle.std.specs.Io.KnownBytes.{Appends};
 ghost use Rattle.rp_base.specs.Causes.{Rose};
-ghost use Rattle.rp_streams.specs.Streams.{AppendsFront};
+ghost use Rattle.rp_streams.specs.Streams.{AppendsPrefix};
 ghost use Rattle.rampart_cli.specs.Top.{Runs, HasNoRun, report_of_run, Reported, ReportedInPart, Refused};
 
 use crate::stops::Stop;
@@ -17,7 +17,7 @@ fn report_bytes<K: Sink>(alloc: Global, bytes: &[u8], output: &mut K) -> Result<
         × Appends (K.written output.old) (K.written output.new) (report_of_run run)) }
     ensures steady { OnOk result (K.faults output.new ≡ K.faults output.old) }
     ensures write { IsErrOf result Stop.Write → (run : Runs bytes.now)
-        × AppendsFront (K.written output.old) (K.written output.new) (report_of_run run) }
+        × AppendsPrefix (K.written output.old) (K.written output.new) (report_of_run run) }
     ensures write_failed { IsErrOf result Stop.Write → Rose (K.faults output.old) (K.faults output.new) }
     ensures refused { IsErrOf result Stop.Input → HasNoRun bytes.now }
     ensures untouched { IfErr result (λ stop. (stop ≡ Stop.Write) ⊎ (output.new ≡ output.old)) }
@@ -26,10 +26,7 @@ fn report_bytes<K: Sink>(alloc: Global, bytes: &[u8], output: &mut K) -> Result<
     let Some(report) = replay(alloc, bytes)? else {
         return Err(Stop::Input);
     };
-    match write_all(output, &report) {
-        Ok(()) => Ok(()),
-        Err(_) => Err(Stop::Write),
-    }
+    write_all(output, &report).or(Err(Stop::Write))
 }
 
 /// Reads a schedule to its end, runs it, and writes its report.

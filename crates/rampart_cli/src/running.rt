@@ -6,13 +6,13 @@ ghost use Rattle.file_defs.specs.Reports.{report_of};
 ghost use Rattle.command_line.specs.Commands.{IsOrder};
 ghost use Rattle.command_line.specs.Views.{order};
 ghost use Rattle.rampart_cli.specs.Statuses.{status_of, line_of};
-ghost use Rattle.rp_streams.specs.Streams.{AppendsFront, Says};
+ghost use Rattle.rp_streams.specs.Streams.{AppendsPrefix, Says};
 ghost use Rattle.rampart_cli.specs.Top.{Reported, ReportedInPart, Refused, kit_of_order};
 
 use crate::keygen::keygen;
 use crate::replaying::replay_input;
 use crate::stops::Stop;
-use command_line::Order;
+use command_line::KitOrder;
 use rp_base::{Sink, Source};
 use rp_streams::write_all;
 use std::alloc::Global;
@@ -60,7 +60,7 @@ pub fn run_replay<S: Source, K: Sink>(alloc: Global, input: &mut S, output: &mut
 }
 
 /// The command `keygen`. `rampart` says what each status means.
-pub fn run_keygen<K: Sink>(alloc: Global, ordered: &Order, output: &mut K) -> u8
+pub fn run_keygen<K: Sink>(alloc: Global, ordered: &KitOrder, output: &mut K) -> u8
     requires { IsOrder (order ordered.now) }
     ensures made { result ≡ 0
         → Appends (K.written output.old) (K.written output.new) (kit_of_order (order ordered.now)) }
@@ -68,7 +68,7 @@ pub fn run_keygen<K: Sink>(alloc: Global, ordered: &Order, output: &mut K) -> u8
     ensures silent { result ≡ 1 → Keeps (K.written output.old) (K.written output.new) }
     ensures write { result ≡ 4 → Rose (K.faults output.old) (K.faults output.new) }
     ensures part { result ≡ 4
-        → AppendsFront (K.written output.old) (K.written output.new) (kit_of_order (order ordered.now)) }
+        → AppendsPrefix (K.written output.old) (K.written output.new) (kit_of_order (order ordered.now)) }
     ensures makes { ¬ Rose (K.faults output.old) (K.faults output.new) → (result ≡ 0) ⊎ (result ≡ 1) }
     ensures only { (result ≡ 0) ⊎ (result ≡ 1) ⊎ (result ≡ 4) }
 {

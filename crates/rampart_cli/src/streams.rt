@@ -4,10 +4,8 @@ ghost use Rattle.rp_base.specs.Causes.{Rose};
 ghost use Rattle.rampart_cli.specs.declared.streams.ReadFault.TheVariants as faults;
 
 use rp_base::{Failed, Source};
+use schedule_file::SCHEDULE_ROOM;
 use std::alloc::{AllocError, Global};
-
-/// The most bytes that an input may have.
-const LIMIT: usize = 67108864;
 
 /// How many bytes are asked of a source at a time.
 const PIECE: usize = 16384;
@@ -38,16 +36,16 @@ impl From<AllocError> for ReadFault {
     }
 }
 
-/// All that is left of an input, or its first bytes where it is longer than an input may be.
+/// All that is left of an input, or its first bytes where it is longer than a schedule may be.
 pub fn read_all<S: Source>(alloc: Global, input: &mut S) -> Result<Vec<u8>, ReadFault>
     ensures bytes { IfOk result (λ all. Consumes (S.left input.old) (S.left input.new) all.items) }
-    ensures end { IfOk result (λ all. length all.items ≤ LIMIT → IsAtEnd (S.left input.new)) }
+    ensures end { IfOk result (λ all. length all.items ≤ SCHEDULE_ROOM → IsAtEnd (S.left input.new)) }
     ensures failed { IsErrOf result ReadFault.Failed → Rose (S.faults input.old) (S.faults input.new) }
     ensures steady { OnOk result (S.faults input.new ≡ S.faults input.old) }
 {
     let mut all = Vec::new(alloc);
     let mut piece = [0u8; PIECE];
-    'pieces: while all.len() <= LIMIT {
+    'pieces: while all.len() <= SCHEDULE_ROOM {
         let n = input.read(&mut piece)?;
         if n == 0 {
             return Ok(all);

@@ -114,7 +114,7 @@ impl<K: Sink> Sink for Narrow<K> {
 
 /// The third call fails.
 #[test]
-fn a_write_that_fails_leaves_a_front(rt: HostRuntime) -> Result<(), Fail> {
+fn a_write_that_fails_leaves_a_prefix(rt: HostRuntime) -> Result<(), Fail> {
     let alloc = rt.alloc();
     let mut source = MemSource::new(ONE_MEMBER.to_vec(alloc)?, Vec::new(alloc));
     let mut output = Narrow {

@@ -2,8 +2,8 @@ ghost use Rattle.std.specs.Prelude.{◌≡◌, ◌≢◌, ◌↔◌, ◌⊎◌, 
 ghost use Rattle.std.specs.Io.KnownBytes.{Appends, Keeps};
 ghost use Rattle.rp_base.specs.Causes.{Rose};
 ghost use Rattle.file_defs.specs.Reports.{report_of};
-ghost use Rattle.command_line.specs.Commands.{Order, Replay, Keygen};
-ghost use Rattle.rp_streams.specs.Streams.{AppendsFront, Says};
+ghost use Rattle.command_line.specs.Commands.{KitOrder, Replay, Keygen};
+ghost use Rattle.rp_streams.specs.Streams.{AppendsPrefix, Says};
 ghost use Rattle.rampart_cli.specs.Top.{Asks, AskAny, Reported, ReportedInPart, Refused, kit_of_order};
 
 use crate::running::{run_keygen, run_replay, tell};
@@ -26,7 +26,7 @@ pub fn rampart<S: Source, K: Sink, D: Disk, L: Link>(
         → Reported (S.left input.old) (S.left input.new) (K.written output.old) (K.written output.new) }
 
     // keygen, 0: the text of the kit that the words order was written with the line that ends it, and nothing else.
-    ensures made { (order : Order) → Asks words.now (Keygen order) → result ≡ 0
+    ensures made { (order : KitOrder) → Asks words.now (Keygen order) → result ≡ 0
         → Appends (K.written output.old) (K.written output.new) (kit_of_order order) }
 
     // 0: nothing failed.
@@ -48,12 +48,12 @@ pub fn rampart<S: Source, K: Sink, D: Disk, L: Link>(
     ensures read_line { result ≡ 3 → Says (codes "stop 3 read\n")
         (K.written output.old) (K.written output.new) (K.faults output.old) (K.faults output.new) }
 
-    // 4: only where the sink failed; a front of the report or of the kit's text was written and nothing else.
+    // 4: only where the sink failed; a prefix of the report or of the kit's text was written and nothing else.
     ensures write { result ≡ 4 → Rose (K.faults output.old) (K.faults output.new) }
     ensures part { Asks words.now Replay → result ≡ 4
         → ReportedInPart (S.left input.old) (S.left input.new) (K.written output.old) (K.written output.new) }
-    ensures part_of_kit { (order : Order) → Asks words.now (Keygen order) → result ≡ 4
-        → AppendsFront (K.written output.old) (K.written output.new) (kit_of_order order) }
+    ensures part_of_kit { (order : KitOrder) → Asks words.now (Keygen order) → result ≡ 4
+        → AppendsPrefix (K.written output.old) (K.written output.new) (kit_of_order order) }
 
     // 4, 7: no read failed.
     ensures whole { (result ≡ 4) ⊎ (result ≡ 7) → S.faults input.new ≡ S.faults input.old }
@@ -73,10 +73,10 @@ pub fn rampart<S: Source, K: Sink, D: Disk, L: Link>(
         → (result ≡ 7) ⊎ (result ≡ 1) }
 
     // keygen: 0 where memory is left and nothing failed. It reads nothing, and no status but 0, 1 and 4 comes.
-    ensures makes { (order : Order) → Asks words.now (Keygen order)
+    ensures makes { (order : KitOrder) → Asks words.now (Keygen order)
         → ¬ Rose (K.faults output.old) (K.faults output.new) → (result ≡ 0) ⊎ (result ≡ 1) }
-    ensures reads_nothing { (order : Order) → Asks words.now (Keygen order) → input.new ≡ input.old }
-    ensures only_made { (order : Order) → Asks words.now (Keygen order) → (result ≡ 0) ⊎ (result ≡ 1) ⊎ (result ≡ 4) }
+    ensures reads_nothing { (order : KitOrder) → Asks words.now (Keygen order) → input.new ≡ input.old }
+    ensures only_made { (order : KitOrder) → Asks words.now (Keygen order) → (result ≡ 0) ⊎ (result ≡ 1) ⊎ (result ≡ 4) }
 
     // No other status comes, and neither disk nor link is touched.
     ensures only { (result ≡ 0) ⊎ (result ≡ 1) ⊎ (result ≡ 2)

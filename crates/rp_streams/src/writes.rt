@@ -1,14 +1,17 @@
 ghost use Rattle.std.specs.Prelude.{◌≡◌, OnOk, OnErr};
 ghost use Rattle.std.specs.Io.KnownBytes.{Appends};
 ghost use Rattle.rp_base.specs.Causes.{Rose};
-ghost use Rattle.rp_streams.specs.Streams.{AppendsFront};
+ghost use Rattle.rp_streams.specs.Streams.{AppendsPrefix};
 
 use rp_base::{Failed, Sink};
 
 /// Writes all the bytes.
+///
+/// # Errors
+/// [`Failed`] only where the sink's count of faults rose; a prefix of the bytes was written then.
 pub fn write_all<K: Sink>(output: &mut K, bytes: &[u8]) -> Result<(), Failed>
     ensures bytes { OnOk result (Appends (K.written output.old) (K.written output.new) bytes.now) }
-    ensures part { OnErr result (AppendsFront (K.written output.old) (K.written output.new) bytes.now) }
+    ensures part { OnErr result (AppendsPrefix (K.written output.old) (K.written output.new) bytes.now) }
     ensures failed { OnErr result (Rose (K.faults output.old) (K.faults output.new)) }
     ensures steady { OnOk result (K.faults output.new ≡ K.faults output.old) }
 {

@@ -6,5 +6,5 @@ mod reading;
 mod schedule;
 
 pub use file_defs::ScheduleFault;
-pub use reading::read_schedule;
+pub use reading::{SCHEDULE_ROOM, read_schedule};
 pub use schedule::{Listed, ReadError, Schedule, ScheduleEvent};

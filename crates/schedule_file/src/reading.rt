@@ -28,7 +28,7 @@ use rp_base::{GroupId, Pid, PidSet};
 use std::alloc::Global;
 
 /// The most bytes of a schedule.
-const SCHEDULE_ROOM: usize = 67_108_864;
+pub const SCHEDULE_ROOM: usize = 67_108_864;
 
 /// The most events of a schedule.
 const EVENT_ROOM: usize = 1_000_000;

@@ -1,7 +1,7 @@
 use lms_tree::LmsKey;
 use rp_base::{PlainSigner, Signer, Spent, Tally};
 
-/// A signer of a group's scheme.
+/// A signer of a group's scheme. Its `Debug` shows no key.
 #[derive(Debug, Drop)]
 pub enum AnySigner {
     /// It signs up to the total that it was made with.

@@ -16,9 +16,12 @@ use std::fmt;
 /// What a signer is made from. Its `Debug` shows neither key nor seed.
 #[derive(Clone, Copy, PartialEq, Eq)]
 pub enum Secret {
-    /// Key and public key are the same, and sign so many bodies.
+    /// One key of 32 bytes, private and public at once, for `total` bodies.
     Plain {
+        /// What signs, and what signatures are checked against.
         key: [u8; 32],
+
+        /// How many bodies it can sign.
         total: u32,
     },
 
@@ -26,6 +29,8 @@ pub enum Secret {
     Lms {
         /// The typecode of the tree's height: a signer is made of 5, 6 and 7 (RFC 8554, section 5.1).
         height: u32,
+
+        /// The parameter set of the one-time keys (RFC 8554, section 4.1).
         ots: OtsType,
 
         /// I, which each hash begins with.
@@ -49,8 +54,11 @@ impl Secret {
     ghost use Rattle.sig_scheme.specs.Signers.{IsSignerOf};
 
     /// The secret's signer, which has signed nothing. That of an LMS secret takes the memory of all nodes of its tree,
-    /// and the time of all one-time public keys; that of a plain one takes no memory, and is never refused. `TooTall`
-    /// comes exactly where the secret is an LMS one and its typecode is not 5, 6 or 7.
+    /// and the time of all one-time public keys; that of a plain one takes no memory, and is never refused.
+    ///
+    /// # Errors
+    /// [`KeyFault::TooTall`] exactly where the secret is an LMS one and its typecode is not 5, 6 or 7;
+    /// [`KeyFault::NoMemory`] only where the secret is an LMS one, and there was no memory for the nodes.
     pub fn signer(&self, alloc: Global) -> Result<AnySigner, KeyFault>
         ensures made { IfOk result (IsSignerOf (secret self.now)) }
         ensures tall { IsErrOf result faults.TooTall ↔ IsTooTall (secret self.now) }
@@ -67,8 +75,10 @@ impl Secret {
         }
     }
 
-    /// The secret's public key. For an LMS secret it makes the tree, as `signer` does, and lets it go again. `TooTall`
-    /// comes exactly where the secret is an LMS one and its typecode is not 5, 6 or 7.
+    /// The secret's public key. For an LMS secret it makes the tree, as `signer` does, and lets it go again.
+    ///
+    /// # Errors
+    /// As for [`Secret::signer`].
     pub fn public_key(&self, alloc: Global) -> Result<PublicKey, KeyFault>
         ensures made { IfOk result (IsKeyOf (secret self.now)) }
         ensures tall { IsErrOf result faults.TooTall ↔ IsTooTall (secret self.now) }

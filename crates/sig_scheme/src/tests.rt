@@ -136,3 +136,15 @@ fn keys_and_seeds_are_not_printed(rt: HostRuntime) -> Result<(), Fail> {
     );
     Ok(())
 }
+
+#[test]
+fn signers_are_printed_without_their_keys(rt: HostRuntime) -> Result<(), Fail> {
+    let plain = PLAIN.signer(rt.alloc())?;
+    let lms = LMS.signer(rt.alloc())?;
+    let printed = format!(in rt.alloc(); "{plain:?} {lms:?}")?;
+    assert_eq!(rt;
+        printed.as_str(),
+        "Plain(PlainSigner { total: 2, used: 0, .. }) Lms(LmsKey { .. })"
+    );
+    Ok(())
+}

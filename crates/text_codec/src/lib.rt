@@ -8,7 +8,7 @@ mod parts;
 
 pub use hexadecimal::{bytes, push_hex};
 pub use numbers::{number, process, push_number};
-pub use parts::{Parts, cut};
+pub use parts::Parts;
 
 #[cfg(test)]
 mod tests;

@@ -11,9 +11,8 @@ fn place(text: &[u8], at: u8) -> Option<usize>
     text.iter().position(|c| *c == at)
 }
 
-/// What stands before the first such byte, and what stands behind it; None exactly where there is none, and then all
-/// stands before it.
-pub fn cut(text: &[u8], at: u8) -> (&[u8], Option<&[u8]>)
+// The bytes before the first `at` and those behind it; all of them and None where there is none.
+fn cut(text: &[u8], at: u8) -> (&[u8], Option<&[u8]>)
     ensures split { slice_split (λ c. c == at) text.now ≡ result.0.now ∷ option_map_or (λ rest. slice_split (λ c. c == at) rest.now) result.1 [] }
     ensures shorter { IfSome result.1 (λ rest. length rest.now < length text.now) }
 {

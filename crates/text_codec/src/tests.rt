@@ -1,12 +1,13 @@
-use crate::{Parts, bytes, cut, number, process, push_hex, push_number};
+use crate::{Parts, bytes, number, process, push_hex, push_number};
 use rp_base::NoMemory;
 
 #[test]
 fn a_text_is_cut_into_lines_and_words(rt: HostRuntime) {
-    assert_eq!(rt;
-        cut(b"a b c", b' '),
-        (b"a".as_slice(), Some(b"b c".as_slice()))
-    );
+    let mut parts = Parts::words(b"a b c");
+    assert_eq!(rt; parts.next(), Some(b"a".as_slice()));
+    assert_eq!(rt; parts.next(), Some(b"b".as_slice()));
+    assert_eq!(rt; parts.next(), Some(b"c".as_slice()));
+    assert_eq!(rt; parts.next(), None);
     let mut lines = Parts::lines(b"key 3  00ff\n");
     let line = lines.next().unwrap_or(b"");
     let mut words = Parts::words(line);

@@ -1,20 +1,20 @@
 use Rattle.std.proofs.Common.{subst}
 use Rattle.std.specs.Io.KnownBytes.{Appends}
-use Rattle.command_line.specs.Commands.{Order, Keygen}
-use Rattle.rp_streams.specs.Streams.{AppendsFront}
+use Rattle.command_line.specs.Commands.{KitOrder, Keygen}
+use Rattle.rp_streams.specs.Streams.{AppendsPrefix}
 use Rattle.rampart_cli.specs.Top.{kit_of_order}
 use Rattle.rampart_cli.proofs.Orders.{same_order, no_command}
 use Rattle.rampart_cli.proofs.top.rampart.Goals as goal
 
 pub returns-in-Some-Keygen-clause-made : goal.returns-in-Some-Keygen-clause-made
 returns-in-Some-Keygen-clause-made g c = λ order asks zero.
-    subst (λ (o : Order). Appends (g.K.Sink.written c.args.output.now) (g.K.Sink.written c.run_keygen.new.output) (kit_of_order o))
+    subst (λ (o : KitOrder). Appends (g.K.Sink.written c.args.output.now) (g.K.Sink.written c.run_keygen.new.output) (kit_of_order o))
     (same_order _ order (rw c.in-Some-Keygen.field-0-is at c.in-Some-Keygen.ensures.only (Keygen order) asks))
     (c.run_keygen.ensures.made zero)
 
 pub returns-in-Some-Keygen-clause-part_of_kit : goal.returns-in-Some-Keygen-clause-part_of_kit
 returns-in-Some-Keygen-clause-part_of_kit g c = λ order asks four.
-    subst (λ (o : Order). AppendsFront (g.K.Sink.written c.args.output.now) (g.K.Sink.written c.run_keygen.new.output) (kit_of_order o))
+    subst (λ (o : KitOrder). AppendsPrefix (g.K.Sink.written c.args.output.now) (g.K.Sink.written c.run_keygen.new.output) (kit_of_order o))
     (same_order _ order (rw c.in-Some-Keygen.field-0-is at c.in-Some-Keygen.ensures.only (Keygen order) asks))
     (c.run_keygen.ensures.part four)
 
