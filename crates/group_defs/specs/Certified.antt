@@ -44,7 +44,7 @@ certified_on h slot = find (is_certified h) (filter (λ st. same_slot (slot_of s
 abbrev pub payload_at : Pool → Message → Option (List ℕ)
 payload_at h m = option_and_then payload_of (certified_on h (EchoAt h.view.number m))
 
--- the message whose place is certified as k
+-- the message of place k, where that is certified
 abbrev pub place_at : Pool → ℕ → Option Message
 place_at h k = option_and_then message_of (certified_on h (PlaceAt h.view.number k))
 
