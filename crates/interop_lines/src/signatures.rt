@@ -16,7 +16,7 @@ use std::alloc::{AllocError, Global};
 use text_codec::push_hex;
 
 /// A tree, the leaf that signs, and what is signed.
-#[derive(Debug, Drop)]
+#[derive(Drop)]
 pub(crate) struct Signing {
     typecode: u32,
     height: usize,
