@@ -43,5 +43,8 @@ pub fn keygen<K: Sink>(alloc: Global, ordered: &KitOrder, output: &mut K) -> Res
     ensures only { IfErr result (λ stop. (stop ≡ Stop.NoMemory) ⊎ (stop ≡ Stop.Write)) }
 {
     let bytes = kit_bytes(alloc, ordered)?;
-    write_all(output, &bytes).or(Err(Stop::Write))
+    match write_all(output, &bytes) {
+        Ok(()) => Ok(()),
+        Err(_) => Err(Stop::Write),
+    }
 }

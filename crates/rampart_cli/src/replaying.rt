@@ -26,7 +26,10 @@ fn report_bytes<K: Sink>(alloc: Global, bytes: &[u8], output: &mut K) -> Result<
     let Some(report) = replay(alloc, bytes)? else {
         return Err(Stop::Input);
     };
-    write_all(output, &report).or(Err(Stop::Write))
+    match write_all(output, &report) {
+        Ok(()) => Ok(()),
+        Err(_) => Err(Stop::Write),
+    }
 }
 
 /// Reads a schedule to its end, runs it, and writes its report.
