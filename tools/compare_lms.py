@@ -28,7 +28,7 @@ SEED = bytes(range(32, 64))
 BODY = b"one message"
 OTS_TYPES = (1, 2, 3, 4)
 HEIGHTS = {5: 5, 6: 10, 7: 15}
-LIMIT = 140_000
+LIMIT = 1_000_000
 
 
 def u32(n):

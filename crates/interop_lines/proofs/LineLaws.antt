@@ -76,7 +76,7 @@ found_nowhere : (bytes : List ℕ) → (let none : Option ℕ = None in none) �
 found_nowhere bytes none = rw (← same_place bytes) (no_place (position_or_len feed bytes) (length bytes) _ refl none)
 
 -- a line of at most so many bytes is taken
-pub taken : (bytes line after : List ℕ) (at : ℕ) → Some at ≡ position feed bytes → at ≤ 140000 → line ≡ take at (take (at + 1) bytes) → after ≡ drop (at + 1) bytes
+pub taken : (bytes line after : List ℕ) (at : ℕ) → Some at ≡ position feed bytes → at ≤ 1000000 → line ≡ take at (take (at + 1) bytes) → after ≡ drop (at + 1) bytes
     → IsLine line × (bytes ≡ ended line ++ after)
 taken bytes line after at found short is rest =
     let place = found_at bytes at found in
@@ -84,11 +84,11 @@ taken bytes line after at found short is rest =
     let front : line ≡ take (first_feed bytes) bytes = is ∙ ap (λ n. take n (take (at + 1) bytes)) place.1 ∙ take-take (first_feed bytes) (at + 1) bytes (omega (arith, place.1)) in
     let next : at + 1 ≡ suc (first_feed bytes) = omega (arith, place.1) in
     let tail : after ≡ drop (suc (first_feed bytes)) bytes = rest ∙ ap (λ n. drop n bytes) next in
-    let long : length line ≤ 140000 = rw front (omega (arith, length-take (first_feed bytes) bytes, place.1)) in
+    let long : length line ≤ 1000000 = rw front (omega (arith, length-take (first_feed bytes) bytes, place.1)) in
     (record { no_feed = rw front cut.no_feed; short = long }, rw (front, tail) cut.parts)
 
 -- where the first line feed stands too far behind, there is no line
-pub too_long : (bytes : List ℕ) (at : ℕ) → Some at ≡ position feed bytes → 140000 < at → HasNoLine bytes
+pub too_long : (bytes : List ℕ) (at : ℕ) → Some at ≡ position feed bytes → 1000000 < at → HasNoLine bytes
 too_long bytes at found far line more is fits =
     let place = found_at bytes at found in
     let here : first_feed bytes ≡ length line = ap first_feed is ∙ feed_behind line more fits.no_feed in
@@ -104,7 +104,7 @@ no_feed bytes none line more is fits =
 -- ---- where a run stops
 
 -- a line feed behind no line stands behind more bytes than a line may have
-pub far_behind : (bytes : List ℕ) → list_any feed bytes ≡ true → HasNoLine bytes → 140000 < length bytes
+pub far_behind : (bytes : List ℕ) → list_any feed bytes ≡ true → HasNoLine bytes → 1000000 < length bytes
 far_behind bytes some none =
     let low = feed_within bytes some in
     let cut = cut_there bytes low in
@@ -112,4 +112,4 @@ far_behind bytes some none =
     (λ far. omega (arith, far, low))
     (λ short. absurd (none (take (first_feed bytes) bytes) (drop (suc (first_feed bytes)) bytes) cut.parts
     (record { no_feed = cut.no_feed; short = omega (arith, short, length-take (first_feed bytes) bytes) })))
-    (cases_lt 140000 (first_feed bytes))
+    (cases_lt 1000000 (first_feed bytes))

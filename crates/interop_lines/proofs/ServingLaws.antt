@@ -47,7 +47,7 @@ pub in_part : (n : ℕ) (ahead line told : List ℕ) (before now old mid new : O
 in_part n ahead line told before now old mid new s answers wrote = (mid, (n, ahead, s), (line, told, answers, wrote))
 
 -- no line was taken
-pub no_line : (ahead : List ℕ) (now : Option (List ℕ)) → 0 < length ahead → HasNoLine ahead → HasFeed ahead ⊎ ((140000 < length ahead) ⊎ IsAtEnd now) → HasNoQuestion ahead now
+pub no_line : (ahead : List ℕ) (now : Option (List ℕ)) → 0 < length ahead → HasNoLine ahead → HasFeed ahead ⊎ ((1000000 < length ahead) ⊎ IsAtEnd now) → HasNoQuestion ahead now
 no_line ahead now some none (inl feed) = inr (none, some, inl (far_behind ahead feed none))
 no_line ahead now some none (inr (inl long)) = inr (none, some, inl long)
 no_line ahead now some none (inr (inr end)) = inr (none, some, inr end)

@@ -1,5 +1,6 @@
 pub mod Fields
 pub mod Frames
+pub mod Kits
 pub mod Signatures
 pub mod Lines
 pub mod Views

@@ -11,7 +11,7 @@ use Rattle.interop_lines.specs.Lines.{Answers}
 -- no line feed stands in a line, and it isn't too long
 pub record IsLine (line : List ℕ) : Type 0 where
   pub no_feed : list_any (λ b. b == 10) line ≡ false
-  pub short : length line ≤ 140000
+  pub short : length line ≤ 1000000
 
 -- with its line feed
 abbrev pub ended : List ℕ → List ℕ
@@ -40,7 +40,7 @@ HasNoLine bytes = (line more : List ℕ) → bytes ≡ ended line ++ more → ¬
 abbrev pub HasNoQuestion : List ℕ → Option (List ℕ) → Type 0
 HasNoQuestion bytes now =
     ((line more : List ℕ) × (bytes ≡ ended line ++ more) × IsLine line × ((told : List ℕ) → ¬ Answers line told))
-    ⊎ (HasNoLine bytes × (0 < length bytes) × ((140000 < length bytes) ⊎ IsAtEnd now))
+    ⊎ (HasNoLine bytes × (0 < length bytes) × ((1000000 < length bytes) ⊎ IsAtEnd now))
 
 -- all lines were served
 abbrev pub AllServed : Option (List ℕ) → Option (List ℕ) → Option (List ℕ) → Option (List ℕ) → Type 0

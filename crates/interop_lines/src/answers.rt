@@ -3,6 +3,7 @@ ghost use Rattle.interop_lines.specs.Lines.{Answers};
 
 use crate::fields::words_of;
 use crate::frames::answer_frames;
+use crate::kits::answer_kits;
 use crate::line_fault::LineFault;
 use crate::signatures::answer_signatures;
 use std::alloc::Global;
@@ -15,6 +16,7 @@ use std::alloc::Global;
 /// | `lms H W I SEED Q BODY` | `KEY SIG`: the public key of the tree of typecode H (5 to 7) and one-time typecode W (1 to 4), and its signature on the body with leaf Q (RFC 8554, sections 5.3 and 5.4) |
 /// | `frame HEX` | what the bytes say as a frame: the word of their first fault (docs/FORMATS.md, «Frames»), or `bundle` or `proof` and for each claim ` SIGNER STATEMENT SIGNATURE`, or `want VIEW PLACE` |
 /// | `statement HEX` | what the bytes say as a statement: the word of their fault (docs/FORMATS.md, «Statements»), or `ok STATEMENT`, spelled from what was read |
+/// | `kit HEX` | what the bytes say as a kit: `kit HEX`, the kit spelled again from what was read; or its fault (docs/FORMATS.md, «Kits»): `line N`, `repeated N`, `missing N`, or `mismatch N MADE LISTED` with the public key that the secret makes and the one of the key line. N counts lines from 1 |
 ///
 /// Words stand between single spaces. Bytes are in lower-case hexadecimal, or `-` where there are none; I has 16 bytes and
 /// SEED 32. Numbers are decimal, without sign or leading zero. `NoQuestion` comes exactly where the line is none of these.
@@ -24,7 +26,10 @@ pub fn answer(alloc: Global, line: &[u8]) -> Result<Vec<u8>, LineFault>
 {
     let words = words_of(alloc, line)?;
     match answer_signatures(alloc, &words) {
-        Err(LineFault::NoQuestion) => answer_frames(alloc, &words),
+        Err(LineFault::NoQuestion) => match answer_frames(alloc, &words) {
+            Err(LineFault::NoQuestion) => answer_kits(alloc, &words),
+            answered => answered,
+        },
         answered => answered,
     }
 }

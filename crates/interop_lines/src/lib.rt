@@ -6,6 +6,7 @@ ghost use Rattle.interop_lines.specs.Lines.{OneAnswer};
 mod answers;
 mod fields;
 mod frames;
+mod kits;
 mod line_fault;
 mod line_reader;
 mod serving;

@@ -11,7 +11,7 @@ use std::alloc::AllocError;
 use std::mem;
 
 /// The most bytes that a line may have before its line feed.
-const LIMIT: usize = 140_000;
+const LIMIT: usize = 1_000_000;
 
 /// How many bytes are asked of a source at a time.
 const PIECE: usize = 16_384;
@@ -20,7 +20,7 @@ const PIECE: usize = 16_384;
 pub(crate) fn read_on<S: Source>(input: &mut S, ahead: &mut Vec<u8>) -> Result<(), Stop>
     ensures read { OnOk result (ReadOn (S.left input.old) (S.left input.new) ahead.old.items ahead.new.items) }
     ensures taken { OnErr result ((more : List ℕ) × Consumes (S.left input.old) (S.left input.new) more) }
-    ensures enough { OnOk result (HasFeed ahead.new.items ⊎ (140000 < length ahead.new.items) ⊎ IsAtEnd (S.left input.new)) }
+    ensures enough { OnOk result (HasFeed ahead.new.items ⊎ (1000000 < length ahead.new.items) ⊎ IsAtEnd (S.left input.new)) }
     ensures steady { OnOk result (S.faults input.new ≡ S.faults input.old) }
     ensures failed { IsErrOf result Stop.Read → Rose (S.faults input.old) (S.faults input.new) }
     ensures only { IfErr result (λ stop. (stop ≡ Stop.Read) ⊎ (stop ≡ Stop.NoMemory)) }

@@ -11,4 +11,4 @@ invariant-pieces g l = record {
 
 -- what the limit leaves
 abbrev pub decreases-pieces : goal.decreases-pieces
-decreases-pieces g l = 140001 - vec_len l.ahead
+decreases-pieces g l = 1000001 - vec_len l.ahead
