@@ -1,7 +1,6 @@
 //! The report of a world (docs/FORMATS.md, «The report»).
 ghost use Rattle.std.specs.Prelude.{◌≡◌, ◌<◌, ◌≤◌, ◌++◌, List, ℕ, length, map, codes, IfOk, OnOk, if◌then◌else◌};
 ghost use Rattle.std.specs.List.{flat_map};
-ghost use Rattle.std.specs.Fmt.{decimal};
 ghost use Rattle.file_defs.specs.Reports as plain;
 ghost use Rattle.world_run.specs.Processes.{setting, process};
 ghost use Rattle.world_run.specs.Worlds.{refused as refusal};
@@ -9,24 +8,12 @@ ghost use Rattle.world_run.specs.Worlds.{refused as refusal};
 use crate::process::Process;
 use crate::setting::Setting;
 use crate::world::{Refused, World};
-use rp_base::Pid;
-use std::alloc::{AllocError, Global};
+use rp_base::{NoMemory, Pid};
+use std::alloc::Global;
+use text_codec::{push_hex, push_number};
 
 /// No process hears a message of this number or a higher one, since nothing is delivered.
 pub(crate) const NUMBERS: u16 = 32;
-
-// A number in decimal.
-fn push_number(alloc: Global, out: &mut Vec<u8>, n: u32) -> Result<(), AllocError>
-    ensures { OnOk result (out.new.items ≡ out.old.items ++ decimal n) }
-{
-    out.extend_from_slice(n.to_string(alloc)?.as_bytes())
-}
-
-fn push_count(alloc: Global, out: &mut Vec<u8>, n: usize) -> Result<(), AllocError>
-    ensures { OnOk result (out.new.items ≡ out.old.items ++ decimal n) }
-{
-    out.extend_from_slice(n.to_string(alloc)?.as_bytes())
-}
 
 // What was refused.
 fn refused_word(submit: bool) -> &'static [u8]
@@ -35,142 +22,121 @@ fn refused_word(submit: bool) -> &'static [u8]
     if submit { b" submit" } else { b" kind" }
 }
 
-fn push_refused(alloc: Global, out: &mut Vec<u8>, r: &Refused) -> Result<(), AllocError>
+fn push_refused(out: &mut Vec<u8>, r: &Refused) -> Result<(), NoMemory>
     ensures { OnOk result (out.new.items ≡ out.old.items ++ plain.refused_line (refusal r.now)) }
 {
     out.extend_from_slice(b"refused ")?;
-    push_number(alloc, out, r.event)?;
+    push_number(out, r.event.into())?;
     out.extend_from_slice(b" ")?;
-    push_number(alloc, out, u32::from(r.process.get()))?;
+    push_number(out, r.process.get().into())?;
     out.extend_from_slice(refused_word(r.submit))?;
-    out.extend_from_slice(b"\n")
+    out.push(b'\n')?;
+    Ok(())
 }
 
-fn push_all_refused(alloc: Global, out: &mut Vec<u8>, refused: &[Refused]) -> Result<(), AllocError>
+fn push_all_refused(out: &mut Vec<u8>, refused: &[Refused]) -> Result<(), NoMemory>
     ensures { OnOk result (out.new.items ≡ out.old.items ++ flat_map plain.refused_line (map refusal refused.now)) }
 {
     for r in refused {
-        push_refused(alloc, out, r)?;
+        push_refused(out, r)?;
     }
     Ok(())
 }
 
 // A payload in hexadecimal, or a dash where it is empty.
-fn push_payload(alloc: Global, out: &mut Vec<u8>, bytes: &[u8]) -> Result<(), AllocError>
+fn push_payload(out: &mut Vec<u8>, bytes: &[u8]) -> Result<(), NoMemory>
     ensures { OnOk result (out.new.items ≡ out.old.items ++ plain.payload_word bytes.now) }
 {
     if bytes.is_empty() {
-        out.extend_from_slice(b"-")
-    } else {
-        out.extend_from_slice(hex::encode(alloc, bytes)?.as_bytes())
+        out.push(b'-')?;
+        return Ok(());
     }
+    push_hex(out, bytes)
 }
 
 // The words of a held message before its payload.
-fn push_held_words(
-    alloc: Global,
-    out: &mut Vec<u8>,
-    p: Pid,
-    sender: Pid,
-    number: u16,
-) -> Result<(), AllocError>
+fn push_held_words(out: &mut Vec<u8>, p: Pid, sender: Pid, number: u16) -> Result<(), NoMemory>
     ensures { OnOk result (out.new.items ≡ out.old.items ++ plain.held_words p (record { sender = sender; number = number })) }
 {
     out.extend_from_slice(b"held ")?;
-    push_number(alloc, out, u32::from(p.get()))?;
+    push_number(out, p.get().into())?;
     out.extend_from_slice(b" ")?;
-    push_number(alloc, out, u32::from(sender.get()))?;
+    push_number(out, sender.get().into())?;
     out.extend_from_slice(b" ")?;
-    push_number(alloc, out, u32::from(number))
+    push_number(out, number.into())
 }
 
 // A message, where the process holds it.
 fn push_held(
-    alloc: Global,
     out: &mut Vec<u8>,
     s: &Setting,
     p: &Process,
     sender: Pid,
     number: u16,
-) -> Result<(), AllocError>
+) -> Result<(), NoMemory>
     ensures { OnOk result (out.new.items ≡ out.old.items ++ plain.held_line (process (setting s.now) p.now) (record { sender = sender; number = number })) }
 {
     let Some(payload) = p.held(s, sender, number) else {
         return Ok(());
     };
-    push_held_words(alloc, out, p.me, sender, number)?;
+    push_held_words(out, p.me, sender, number)?;
     out.extend_from_slice(b" ")?;
-    push_payload(alloc, out, payload)?;
-    out.extend_from_slice(b"\n")
+    push_payload(out, payload)?;
+    out.push(b'\n')?;
+    Ok(())
 }
 
 // The messages of one sender that the process holds.
-fn push_held_of(
-    alloc: Global,
-    out: &mut Vec<u8>,
-    s: &Setting,
-    p: &Process,
-    sender: Pid,
-) -> Result<(), AllocError>
+fn push_held_of(out: &mut Vec<u8>, s: &Setting, p: &Process, sender: Pid) -> Result<(), NoMemory>
     ensures { OnOk result (out.new.items ≡ out.old.items ++ flat_map (plain.held_line (process (setting s.now) p.now)) (map (λ l. record { sender = sender; number = l }) plain.numbers_heard)) }
 {
     for number in 0..NUMBERS {
-        push_held(alloc, out, s, p, sender, number)?;
+        push_held(out, s, p, sender, number)?;
     }
     Ok(())
 }
 
 // The messages of these senders that the process holds.
 fn push_all_held(
-    alloc: Global,
     out: &mut Vec<u8>,
     s: &Setting,
     p: &Process,
     senders: &[Pid],
-) -> Result<(), AllocError>
+) -> Result<(), NoMemory>
     ensures { OnOk result (out.new.items ≡ out.old.items ++ flat_map (λ sender. flat_map (plain.held_line (process (setting s.now) p.now)) (map (λ l. record { sender = sender; number = l }) plain.numbers_heard)) senders.now) }
 {
     for sender in senders {
-        push_held_of(alloc, out, s, p, *sender)?;
+        push_held_of(out, s, p, *sender)?;
     }
     Ok(())
 }
 
 // A process, and how many statements it signed.
-fn push_process_line(alloc: Global, out: &mut Vec<u8>, p: &Process) -> Result<(), AllocError>
+fn push_process_line(out: &mut Vec<u8>, p: &Process) -> Result<(), NoMemory>
     ensures { (s : _) → OnOk result (out.new.items ≡ out.old.items ++ plain.process_line (process s p.now)) }
 {
     out.extend_from_slice(b"process ")?;
-    push_number(alloc, out, u32::from(p.me.get()))?;
+    push_number(out, p.me.get().into())?;
     out.extend_from_slice(b" ")?;
-    push_count(alloc, out, p.signed.len())?;
-    out.extend_from_slice(b"\n")
-}
-
-// A process, and what it holds.
-fn push_process(
-    alloc: Global,
-    out: &mut Vec<u8>,
-    s: &Setting,
-    p: &Process,
-) -> Result<(), AllocError>
-    ensures { OnOk result (out.new.items ≡ out.old.items ++ plain.process_lines (plain.messages_heard s.now.genesis.items) (process (setting s.now) p.now)) }
-{
-    push_process_line(alloc, out, p)?;
-    push_all_held(alloc, out, s, p, s.genesis.as_slice())?;
+    push_number(out, p.signed.len() as u64)?;
+    out.push(b'\n')?;
     Ok(())
 }
 
-fn push_processes(
-    alloc: Global,
-    out: &mut Vec<u8>,
-    s: &Setting,
-    processes: &[Process],
-) -> Result<(), AllocError>
+// A process, and what it holds.
+fn push_process(out: &mut Vec<u8>, s: &Setting, p: &Process) -> Result<(), NoMemory>
+    ensures { OnOk result (out.new.items ≡ out.old.items ++ plain.process_lines (plain.messages_heard s.now.genesis.items) (process (setting s.now) p.now)) }
+{
+    push_process_line(out, p)?;
+    push_all_held(out, s, p, s.genesis.as_slice())?;
+    Ok(())
+}
+
+fn push_processes(out: &mut Vec<u8>, s: &Setting, processes: &[Process]) -> Result<(), NoMemory>
     ensures { OnOk result (out.new.items ≡ out.old.items ++ flat_map (plain.process_lines (plain.messages_heard s.now.genesis.items)) (map (process (setting s.now)) processes.now)) }
 {
     for p in processes {
-        push_process(alloc, out, s, p)?;
+        push_process(out, s, p)?;
     }
     Ok(())
 }
@@ -179,15 +145,15 @@ impl World {
     ghost use Rattle.world_run.specs.Worlds.{lines_of};
 
     /// The report of the world as it stands, but for its answers: how many events there were, what was refused, and what each correct process signed and holds (docs/FORMATS.md, «The report»).
-    pub fn lines(&self, alloc: Global) -> Result<Vec<u8>, AllocError>
+    pub fn lines(&self, alloc: Global) -> Result<Vec<u8>, NoMemory>
         ensures { IfOk result (λ out. out.items ≡ lines_of self.now) }
     {
         let mut out = Vec::new(alloc);
         out.extend_from_slice(b"rampart report 0\nevents ")?;
-        push_number(alloc, &mut out, self.count)?;
+        push_number(&mut out, self.count.into())?;
         out.extend_from_slice(b"\n")?;
-        push_all_refused(alloc, &mut out, &self.refused)?;
-        push_processes(alloc, &mut out, &self.setting, &self.processes)?;
+        push_all_refused(&mut out, &self.refused)?;
+        push_processes(&mut out, &self.setting, &self.processes)?;
         Ok(out)
     }
 }
