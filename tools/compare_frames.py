@@ -10,22 +10,15 @@ from NUMBER or made of drawn ones by small changes. Ours are the answers of the 
 printed, and at the end how often each answer came. The status is 1 where anything differs.
 """
 
-import collections
-import pathlib
 import random
-import subprocess
 import sys
 
+from interop import build, compare, word
 from schedules import BUNDLE, PROOF, WANT, frame_of_groups, u8, u16
 
-CRATE = pathlib.Path(__file__).resolve().parent.parent / "crates" / "interop"
 REMOVE, ADD, RENEW = 1, 2, 3
 INIT, ECHO, ORDER, PLACE, KEEP, NOTIFY, END, LAST, SUGGEST, ACK, READY = range(1, 12)
 IN_PROOF = [ECHO, PLACE, KEEP, READY]
-
-
-def hexadecimal(data):
-    return data.hex() or "-"
 
 
 # ---- the other implementation
@@ -40,13 +33,13 @@ def their_frame(frames, statements, data):
         return "want %d %d" % (head[1], head[2])
     words = ["bundle" if head[0] == BUNDLE else "proof"]
     for claim in claims:
-        words += [str(claim.signer), hexadecimal(statements.spell(claim.statement)), hexadecimal(claim.signature)]
+        words += [str(claim.signer), word(statements.spell(claim.statement)), word(claim.signature)]
     return " ".join(words)
 
 
 def their_statement(statements, data):
     try:
-        return "ok " + hexadecimal(statements.spell(statements.read_statement(data)))
+        return "ok " + word(statements.spell(statements.read_statement(data)))
     except statements.FrameFault as fault:
         return fault.word
 
@@ -219,11 +212,8 @@ def fixed():
 # ---- beside each other
 
 
-def our_answers(questions):
-    subprocess.run(["rt", "run"], cwd=CRATE, stdin=subprocess.DEVNULL, stdout=subprocess.DEVNULL, check=True)
-    lines = "".join("%s %s\n" % (verb, hexadecimal(data)) for verb, data in questions)
-    done = subprocess.run([str(CRATE / "out" / "interop")], input=lines.encode(), stdout=subprocess.PIPE, check=False)
-    return done.stdout.decode().split("\n")[:-1]
+def kind(line, told):
+    return line.split(" ")[0] + " " + told.split(" ")[0]
 
 
 def main(number, count, folder):
@@ -233,21 +223,12 @@ def main(number, count, folder):
     drawing = Drawing(number)
     questions = list(fixed())
     questions += [drawing.question() for _ in range(count - len(questions))]
-    ours = our_answers(questions)
-    if len(ours) != len(questions):
-        print("%d answers to %d questions" % (len(ours), len(questions)))
-        return 1
-    seen = collections.Counter()
-    different = 0
-    for (verb, data), mine in zip(questions, ours):
-        theirs = their_frame(frames, statements, data) if verb == "frame" else their_statement(statements, data)
-        seen[verb + " " + theirs.split(" ")[0]] += 1
-        if mine != theirs:
-            different += 1
-            print("%s %s: %r, not %r" % (verb, hexadecimal(data)[:200], mine[:80], theirs[:80]))
-    print("%d questions, %d different" % (len(questions), different))
-    print(", ".join("%s %d" % item for item in sorted(seen.items())))
-    return 1 if different else 0
+    asked = []
+    for verb, data in questions:
+        told = their_frame(frames, statements, data) if verb == "frame" else their_statement(statements, data)
+        asked.append(("%s %s" % (verb, word(data)), told))
+    build()
+    return 1 if compare(asked, kind) else 0
 
 
 if __name__ == "__main__":

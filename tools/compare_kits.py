@@ -14,14 +14,12 @@ the next, and cuts), and others that are drawn from NUMBER, most of them damaged
 `interop`. Each difference is printed, and at the end how often each answer came. The status is 1 where anything differs.
 """
 
-import collections
 import functools
-import pathlib
 import random
-import subprocess
 import sys
 
-CRATE = pathlib.Path(__file__).resolve().parent.parent / "crates" / "interop"
+from interop import build, compare, word
+
 SECRETS = [("lms", 5, 1 + n % 4, bytes([n]) * 16, bytes([n, 255 - n]) * 16) for n in range(12)]
 PLACES = (0, 1, 2, 3, 7, 62, 63)
 
@@ -226,11 +224,8 @@ def fixed(theirs):
 # ---- beside each other
 
 
-def our_answers(texts):
-    subprocess.run(["rt", "run"], cwd=CRATE, stdin=subprocess.DEVNULL, stdout=subprocess.DEVNULL, check=True)
-    lines = "".join("kit %s\n" % (text.hex() or "-") for text in texts)
-    done = subprocess.run([str(CRATE / "out" / "interop")], input=lines.encode(), stdout=subprocess.PIPE, check=False)
-    return done.stdout.decode().split("\n")[:-1]
+def kind(_line, told):
+    return told.split(" ")[0]
 
 
 def main(number, count, folder):
@@ -238,21 +233,8 @@ def main(number, count, folder):
     drawing = Drawing(number, theirs)
     texts = list(fixed(theirs))
     texts += [drawing.text() for _ in range(count - len(texts))]
-    ours = our_answers(texts)
-    if len(ours) != len(texts):
-        print("%d answers to %d texts" % (len(ours), len(texts)))
-        return 1
-    seen = collections.Counter()
-    different = 0
-    for text, mine in zip(texts, ours):
-        other = theirs.answer(text)
-        seen[other.split(" ")[0]] += 1
-        if mine != other:
-            different += 1
-            print("%s: %r, not %r" % (text.hex()[:2000], mine[:200], other[:200]))
-    print("%d texts, %d different" % (len(texts), different))
-    print(", ".join("%s %d" % item for item in sorted(seen.items())))
-    return 1 if different else 0
+    build()
+    return 1 if compare([("kit " + word(text), theirs.answer(text)) for text in texts], kind) else 0
 
 
 if __name__ == "__main__":

@@ -18,11 +18,11 @@ bodies and signatures. Each difference is printed; the status is 1 where anythin
 import importlib
 import pathlib
 import pickle
-import subprocess
 import sys
 import tempfile
 
-CRATE = pathlib.Path(__file__).resolve().parent.parent / "crates" / "interop"
+from interop import build, compare, run, word
+
 ID = bytes(range(16))
 SEED = bytes(range(32, 64))
 BODY = b"one message"
@@ -33,10 +33,6 @@ LIMIT = 1_000_000
 
 def u32(n):
     return n.to_bytes(4, "big")
-
-
-def word(data):
-    return data.hex() or "-"
 
 
 # ---- what is asked, each line with the answer that the other implementation gives
@@ -148,35 +144,12 @@ def no_questions():
 
 # ---- running it
 
-def run(data):
-    done = subprocess.run([str(CRATE / "out" / "interop")], input=data, stdout=subprocess.PIPE, check=False)
-    return done.returncode, done.stdout.decode()
-
-
-def build():
-    subprocess.run(["rt", "run"], cwd=CRATE, stdin=subprocess.DEVNULL, stdout=subprocess.DEVNULL, check=True)
-
-
-def compare_answers(lines):
-    status, out = run("".join(line + "\n" for line, _ in lines).encode())
-    answers = out.split("\n")[:-1]
-    different = 0 if status == 0 and len(answers) == len(lines) else 1
-    if different:
-        print("status %d, %d answers to %d lines" % (status, len(answers), len(lines)))
-    for (line, told), answer in zip(lines, answers):
-        if answer != told:
-            different += 1
-            print("%.120s\n  %.80s, not %.80s" % (line, answer, told))
-    print("%d lines, %d different" % (len(lines), different))
-    return different
-
-
 def compare_stops():
     first, told = "verify lms - - -\n", "false\n"
     texts = [first + line + "\n" for line in no_questions()] + [first + "verify lms - - -"]
     different = 0
     for text in texts:
-        answer = run(text.encode())
+        answer = run(text)
         if answer != (7, told + "stop 7 line 2\n"):
             different += 1
             print("%.120r: %r" % (text, answer))
@@ -188,7 +161,7 @@ def main(folder):
     sys.path.insert(0, folder)
     other = importlib.import_module("signatures")
     build()
-    return 1 if compare_answers(list(all_lines(other))) + compare_stops() else 0
+    return 1 if compare(list(all_lines(other))) + compare_stops() else 0
 
 
 if __name__ == "__main__":
