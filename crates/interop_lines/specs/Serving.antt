@@ -50,7 +50,7 @@ AllServed before now old new = (n : ℕ) × HasServed n [] before now old new ×
 abbrev pub SomeServed : Option (List ℕ) → Option (List ℕ) → Option (List ℕ) → Option (List ℕ) → Type 0
 SomeServed before now old new = (n : ℕ) × (ahead : List ℕ) × HasServed n ahead before now old new
 
--- after some lines a front of the next one's answer was written
+-- after some lines a prefix of the next one's answer was written
 abbrev pub ServedInPart : Option (List ℕ) → Option (List ℕ) → Option (List ℕ) → Option (List ℕ) → Type 0
 ServedInPart before now old new =
     (mid : Option (List ℕ)) × SomeServed before now old mid

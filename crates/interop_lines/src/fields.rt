@@ -12,7 +12,7 @@ use rp_base::NoMemory;
 use std::alloc::{AllocError, Global};
 use text_codec::{Parts, bytes, number, push_hex};
 
-/// The words of a line: what stands between its blanks.
+/// The words of a line: what stands between its spaces.
 pub(crate) fn words_of(alloc: Global, line: &[u8]) -> Result<Vec<&[u8]>, AllocError>
     ensures { IfOk result (λ found. map (λ word. word.now) found.items ≡ plain.words_of line.now) }
 {

@@ -93,7 +93,7 @@ fn tell<K: Sink>(alloc: Global, output: &mut K, stop: Stop) -> u8
 /// | 0 | the answer to the last line | each line to the input's end was answered |
 /// | 1 | the answer to a line | no memory is left, or 2^64 - 2 lines were answered |
 /// | 3 | `stop 3 read` | only where a read failed |
-/// | 4 | a front of an answer | only where a write failed |
+/// | 4 | a prefix of an answer | only where a write failed |
 /// | 7 | `stop 7 line N` | line N, counted from 1, is no question, or has no line feed or more than 1,000,000 bytes before it |
 pub fn interop<S: Source, K: Sink>(alloc: Global, input: &mut S, output: &mut K) -> u8
     // 0: the input was read to its end, and each line was answered.
