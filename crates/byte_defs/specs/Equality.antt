@@ -21,6 +21,13 @@ bytes_discrete [] (y ∷ ys) = no (λ e. cc)
 bytes_discrete (x ∷ xs) [] = no (λ e. cc)
 bytes_discrete (x ∷ xs) (y ∷ ys) = both (λ p q. λ i. p i ∷ q i) (λ e. cc) (λ e. cc) (ℕ_discrete x y) (bytes_discrete xs ys)
 
+-- lists, element by element
+unfoldable pub list_discrete : {A : Type 0} → Discrete A → Discrete (List A)
+list_discrete d [] [] = yes refl
+list_discrete d [] (y ∷ ys) = no (λ e. cc)
+list_discrete d (x ∷ xs) [] = no (λ e. cc)
+list_discrete d (x ∷ xs) (y ∷ ys) = both (λ p q. λ i. p i ∷ q i) (λ e. cc) (λ e. cc) (d x y) (list_discrete d xs ys)
+
 -- options: both none, or both some with equal values
 unfoldable pub option_discrete : {A : Type 0} → Discrete A → Discrete (Option A)
 option_discrete d None None = yes refl

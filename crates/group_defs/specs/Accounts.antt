@@ -1,12 +1,14 @@
 -- What the questions of a family read of its processes, and the questions.
-use Rattle.std.specs.Prelude.{◌≡◌, ◌≢◌, ℕ, ◌+◌, ◌<◌, ◌≤◌, Bool, ◌&&◌, ◌||◌, not, nat_lt, nat_le, ◌==◌, List, [], ◌∷◌, ◌++◌, length, map, take, drop, filter, flat_map, count_by, if◌then◌else◌, IsTrue, ◌↔◌, All, AllPairs, Contains, Some, slice_get, slice_index_or}
+use Rattle.std.specs.Prelude.{◌≡◌, ◌≢◌, ℕ, ◌+◌, min, ◌<◌, ◌≤◌, Bool, ◌&&◌, ◌||◌, not, nat_lt, nat_le, ◌==◌, List, [], ◌∷◌, ◌++◌, length, map, take, drop, filter, flat_map, count_by, if◌then◌else◌, IsTrue, ◌↔◌, All, AllPairs, Contains, Some, slice_get, slice_index_or}
 use Rattle.std.specs.List.{list_any, list_all, range_with_len}
 use lib.Pointwise.{pointwise}
 use Rattle.byte_defs.specs.Equality.{is_yes, bytes_discrete}
 use Rattle.byte_defs.specs.Members.{has}
 use Rattle.group_defs.specs.Views.{View, View-discrete, is_member, faulty, next_view, is_possible}
+use Rattle.message_defs.specs.Limits.{most_messages}
 use Rattle.message_defs.specs.Updates.{Update}
-use Rattle.group_defs.specs.Process.{Delivered, Delivered-discrete, Process, views_of, deliveries_of}
+use Rattle.message_defs.specs.Statements.{Batch, Batch-discrete}
+use Rattle.group_defs.specs.Process.{Letter, Letter-discrete, Delivered, Delivered-discrete, Process, views_of, deliveries_of, without_places, places_in}
 
 -- what is asked of a process: its views, what it delivered in each, what it accepted, and the updates that it perceived
 pub record Account : Type 0 where
@@ -25,6 +27,10 @@ account_of p = record { me = p.me; views = views_of p; delivered = deliveries_of
 abbrev pub delivered_in : Account → ℕ → List Delivered
 delivered_in a x = slice_index_or a.delivered x []
 
+-- the messages of that, without their places
+abbrev pub messages_in : Account → ℕ → List Letter
+messages_in a x = without_places (delivered_in a x)
+
 -- it left the view of this number
 abbrev pub HasLeft : Account → ℕ → Type 0
 HasLeft a x = x + 1 < length a.views
@@ -35,24 +41,24 @@ IsPrefixOf {A} xs ys = (rest : List A) × (xs ++ rest ≡ ys)
 
 -- ---- the group
 
--- the group that a family is: its views, and in each one sequence of deliveries
+-- the group that a family is: its views, and in each one sequence of messages
 pub record Group : Type 0 where
   pub views : List View
   -- of the view of this number
-  pub sequence : ℕ → List Delivered
+  pub sequence : ℕ → List Letter
 
 -- the first of the longest
 abbrev pub longest : {A : Type 0} → List (List A) → List A
 longest [] = []
 longest (xs ∷ more) = if nat_lt (length xs) (length (longest more)) then longest more else xs
 
--- The longest views list and, of each view, the longest delivered list. The accounts stand by rising process number, and of
--- equally long lists the first one counts.
+-- The longest views list and, of each view, the messages of the longest delivered list. The accounts stand by rising process number,
+-- and of equally long lists the first one counts.
 abbrev pub group_of : List Account → Group
-group_of accounts = record { views = longest (map (λ a. a.views) accounts); sequence = λ x. longest (map (λ a. delivered_in a x) accounts) }
+group_of accounts = record { views = longest (map (λ a. a.views) accounts); sequence = λ x. longest (map (λ a. messages_in a x) accounts) }
 
 -- the sequences in order of views
-abbrev pub history : Group → List Delivered
+abbrev pub history : Group → List Letter
 history g = flat_map g.sequence (range_with_len 0 (length g.views))
 
 -- ---- the questions
@@ -65,12 +71,12 @@ corrupt_in correct v = count_by (λ m. not (has correct m)) v.members
 abbrev pub Bounded : List Account → List ℕ → Type 0
 Bounded accounts correct = All (λ a. All (λ v. corrupt_in correct v ≤ faulty (length v.members)) a.views) accounts
 
--- the account's views are a prefix of the group's, what it delivered in each view is a prefix of the group's sequence, and a member that
--- left the view delivered the whole sequence
+-- the account's views are a prefix of the group's, the messages that it delivered in each view are a prefix of the group's sequence, and
+-- a member that left the view delivered the whole sequence
 pub record AgreesWith (g : Group) (a : Account) : Type 0 where
   pub views : IsPrefixOf a.views g.views
-  pub prefixes : (x : ℕ) → IsPrefixOf (delivered_in a x) (g.sequence x)
-  pub whole : (x : ℕ) (v : View) → slice_get a.views x ≡ Some v → IsTrue (is_member v a.me) → HasLeft a x → delivered_in a x ≡ g.sequence x
+  pub prefixes : (x : ℕ) → IsPrefixOf (messages_in a x) (g.sequence x)
+  pub whole : (x : ℕ) (v : View) → slice_get a.views x ≡ Some v → IsTrue (is_member v a.me) → HasLeft a x → messages_in a x ≡ g.sequence x
 
 -- each correct process agrees with the group of them all
 abbrev pub Agree : List Account → Type 0
@@ -87,16 +93,48 @@ pub record HasCause (accounts : List Account) (keyed : List ℕ) (v w : View) : 
   pub perceived : Contains by.perceived (v.number, update)
 
 -- what the sequence has of the sender
-abbrev pub of_sender : ℕ → List Delivered → List Delivered
+abbrev pub of_sender : ℕ → List Letter → List Letter
 of_sender sender ds = filter (λ d. d.message.sender == sender) ds
 
+-- no message stands twice
+abbrev pub IsOnce : List Letter → Type 0
+IsOnce ds = AllPairs (λ d e. d.message ≢ e.message) ds
+
+-- the numbers of the sender are 0, 1, 2 and so on
+abbrev pub IsInOrder : ℕ → List Letter → Type 0
+IsInOrder sender ds = map (λ d. d.message.number) (of_sender sender ds) ≡ range_with_len 0 (length (of_sender sender ds))
+
+-- what was delivered at place k
+abbrev pub at_place : ℕ → List Delivered → List Delivered
+at_place k ds = filter (λ d. d.place == k) ds
+
+-- and its messages
+abbrev pub batch_at : ℕ → List Delivered → Batch
+batch_at k ds = map (λ d. d.message) (at_place k ds)
+
+-- the places are 0, 1, 2 and so on: the list is what was delivered at each of them, one behind the other, and at each 1 to 16 messages
+pub record StandsByPlace (ds : List Delivered) : Type 0 where
+  pub together : flat_map (λ k. at_place k ds) (range_with_len 0 (places_in ds)) ≡ ds
+  pub batches : (k : ℕ) → k < places_in ds → (1 ≤ length (at_place k ds)) × (length (at_place k ds) ≤ most_messages)
+
+-- of the places that both lists have, each has the same messages in the same order
+abbrev pub HaveSameBatches : List Delivered → List Delivered → Type 0
+HaveSameBatches ds es = (k : ℕ) → k < places_in ds → k < places_in es → batch_at k ds ≡ batch_at k es
+
+-- what each process delivered in each view stands by place, and any two delivered the same at a place
+pub record ArePlaced (accounts : List Account) : Type 0 where
+  pub by_place : All (λ a. (x : ℕ) → StandsByPlace (delivered_in a x)) accounts
+  pub same : All (λ a. All (λ b. (x : ℕ) → HaveSameBatches (delivered_in a x) (delivered_in b x)) accounts) accounts
+
 -- each view has a cause in the one before; in a sequence no message stands twice, and the numbers of each sender are 0, 1, 2 and so on;
--- and what was delivered of a correct process, over all views, is a prefix of the payloads that it accepted
+-- what was delivered of a correct process, over all views, is a prefix of the payloads that it accepted; and a place is delivered whole,
+-- with the same messages by all
 pub record Sound (accounts : List Account) (keyed : List ℕ) : Type 0 where
   pub causes : (x : ℕ) (v w : View) → slice_get (group_of accounts).views x ≡ Some v → slice_get (group_of accounts).views (x + 1) ≡ Some w → HasCause accounts keyed v w
-  pub once : (x : ℕ) → AllPairs (λ d e. d.message ≢ e.message) ((group_of accounts).sequence x)
-  pub in_order : (x sender : ℕ) → let ds = of_sender sender ((group_of accounts).sequence x) in map (λ d. d.message.number) ds ≡ range_with_len 0 (length ds)
+  pub once : (x : ℕ) → IsOnce ((group_of accounts).sequence x)
+  pub in_order : (x sender : ℕ) → IsInOrder sender ((group_of accounts).sequence x)
   pub accepted : All (λ a. IsPrefixOf (map (λ d. d.payload) (of_sender a.me (history (group_of accounts)))) a.accepted) accounts
+  pub placed : ArePlaced accounts
 
 -- ---- the same, as the report computes them
 
@@ -108,14 +146,14 @@ bounded accounts correct = list_all (λ a. list_all (λ v. nat_le (corrupt_in co
 abbrev pub same_views : List View → List View → Bool
 same_views = pointwise (λ v w. is_yes (View-discrete v w))
 
--- the lists of deliveries are equal
-abbrev pub same_sequence : List Delivered → List Delivered → Bool
-same_sequence = pointwise (λ d e. is_yes (Delivered-discrete d e))
+-- the sequences are equal
+abbrev pub same_sequence : List Letter → List Letter → Bool
+same_sequence = pointwise (λ d e. is_yes (Letter-discrete d e))
 
 -- as `AgreesWith`, in the view of this number
 abbrev pub agrees_in : Group → Account → ℕ → Bool
 agrees_in g a x =
-    let ds = delivered_in a x in
+    let ds = messages_in a x in
     same_sequence ds (take (length ds) (g.sequence x))
     && (not (list_any (λ v. is_member v a.me) (take 1 (drop x a.views))) || not (nat_lt (x + 1) (length a.views)) || same_sequence ds (g.sequence x))
 
@@ -138,7 +176,7 @@ abbrev pub has_cause : List Account → List ℕ → View × View → Bool
 has_cause accounts keyed e = list_any (λ u. is_possible keyed e.0 u && same_views (e.1 ∷ []) (next_view e.0 u ∷ [])) (perceived_in accounts e.0)
 
 -- the numbers of the sender are 0, 1, 2 and so on
-abbrev pub is_in_order : List Delivered → ℕ → Bool
+abbrev pub is_in_order : List Letter → ℕ → Bool
 is_in_order ds sender =
     let numbers = map (λ d. d.message.number) (of_sender sender ds) in
     pointwise (λ m n. m == n) numbers (range_with_len 0 (length numbers))
@@ -153,6 +191,26 @@ is_accepted g a =
     let payloads = map (λ d. d.payload) (of_sender a.me (history g)) in
     pointwise (λ b c. is_yes (bytes_discrete b c)) payloads (take (length payloads) a.accepted)
 
+-- the lists of deliveries are equal
+abbrev pub same_deliveries : List Delivered → List Delivered → Bool
+same_deliveries = pointwise (λ d e. is_yes (Delivered-discrete d e))
+
+-- as `StandsByPlace`
+abbrev pub stands_by_place : List Delivered → Bool
+stands_by_place ds =
+    same_deliveries (flat_map (λ k. at_place k ds) (range_with_len 0 (places_in ds))) ds
+    && list_all (λ k. nat_le 1 (length (at_place k ds)) && nat_le (length (at_place k ds)) most_messages) (range_with_len 0 (places_in ds))
+
+-- as `HaveSameBatches`
+abbrev pub have_same_batches : List Delivered → List Delivered → Bool
+have_same_batches ds es = list_all (λ k. is_yes (Batch-discrete (batch_at k ds) (batch_at k es))) (range_with_len 0 (min (places_in ds) (places_in es)))
+
+-- as `ArePlaced`, in the view of this number
+abbrev pub are_placed_in : List Account → ℕ → Bool
+are_placed_in accounts x =
+    list_all (λ a. stands_by_place (delivered_in a x)) accounts
+    && list_all (λ a. list_all (λ b. have_same_batches (delivered_in a x) (delivered_in b x)) accounts) accounts
+
 -- each element with the one behind it
 abbrev pub neighbours : {A : Type 0} → List A → List (A × A)
 neighbours [] = []
@@ -166,6 +224,7 @@ sound accounts keyed =
     list_all (has_cause accounts keyed) (neighbours g.views)
     && list_all (is_sound_in g) (range_with_len 0 (length g.views))
     && list_all (is_accepted g) accounts
+    && list_all (are_placed_in accounts) (range_with_len 0 (length g.views))
 
 -- ---- the two ways say the same
 

@@ -1,11 +1,11 @@
 -- What the heard claims show.
-use Rattle.std.specs.Prelude.{ℕ, zero, suc, ◌+◌, ◌-◌, Bool, ◌&&◌, nat_lt, nat_le, ◌==◌, min, max, if◌then◌else◌, List, [], ◌∷◌, length, map, filter, find, filter_map, count_by, fold, take, take_while, Option, Some, None, is_some, option_map, option_and_then}
+use Rattle.std.specs.Prelude.{ℕ, zero, suc, ◌+◌, ◌-◌, Bool, ◌&&◌, nat_lt, nat_le, ◌==◌, min, max, if◌then◌else◌, List, [], ◌∷◌, length, map, filter, find, filter_map, flat_map, count_by, fold, take, take_while, Option, Some, None, is_some, option_map, option_and_then}
 use Rattle.byte_defs.specs.Choices.{is_some_and}
 use Rattle.byte_defs.specs.Orders.{sorted}
 use Rattle.message_defs.specs.Limits.{most_places}
 use Rattle.message_defs.specs.Updates.{Update, Remove, Value}
 use Rattle.group_defs.specs.Views.{faulty, quorum}
-use Rattle.message_defs.specs.Statements.{Message, Statement, Order, Keep, Notify, Last, Ack, Ready, Slot, EchoAt, PlaceAt, EndAt, Claim, slot_of, view_of, message_of, payload_of, value_of, same_slot, same_statement}
+use Rattle.message_defs.specs.Statements.{Message, Batch, Statement, Order, Keep, Notify, Last, Ack, Ready, Slot, EchoAt, PlaceAt, EndAt, Claim, slot_of, view_of, batch_of, payload_of, value_of, same_slot, same_statement}
 use Rattle.group_defs.specs.Process.{Pool, Process}
 
 -- the signer's first claim on the slot
@@ -44,9 +44,9 @@ certified_on h slot = find (is_certified h) (filter (λ st. same_slot (slot_of s
 abbrev pub payload_at : Pool → Message → Option (List ℕ)
 payload_at h m = option_and_then payload_of (certified_on h (EchoAt h.view.number m))
 
--- the message of place k, where that is certified
-abbrev pub place_at : Pool → ℕ → Option Message
-place_at h k = option_and_then message_of (certified_on h (PlaceAt h.view.number k))
+-- the batch of place k, where that is certified
+abbrev pub place_at : Pool → ℕ → Option Batch
+place_at h k = option_and_then batch_of (certified_on h (PlaceAt h.view.number k))
 
 -- the certified value of a slot, as of a rank's Acks or Readies
 abbrev pub value_at : Pool → Slot → Option Value
@@ -62,18 +62,18 @@ certificate_on h slot = elim (certified_on h slot) [ None ↦ [] | Some st ↦ c
 
 -- ---- places
 
--- at most `more` messages, of the places from k on, up to the first that is not certified
-abbrev pub placed_from : Pool → ℕ → ℕ → List Message
+-- at most `more` batches, of the places from k on, up to the first that is not certified
+abbrev pub placed_from : Pool → ℕ → ℕ → List Batch
 placed_from h zero k = []
-placed_from h (suc more) k = elim (place_at h k) [ None ↦ [] | Some m ↦ m ∷ placed_from h more (k + 1) ]
+placed_from h (suc more) k = elim (place_at h k) [ None ↦ [] | Some b ↦ b ∷ placed_from h more (k + 1) ]
 
--- the messages of the places 0, 1, 2 and so on; its length is the placed length
-unfoldable pub placed : Pool → List Message
+-- the batches of the places 0, 1, 2 and so on; its length is the placed length
+unfoldable pub placed : Pool → List Batch
 placed h = placed_from h most_places 0
 
 -- the place of a Keep that is certified
 abbrev pub place_kept : Pool → Statement → Option ℕ
-place_kept h (Keep x k m) = if is_certified h (Keep x k m) then Some k else None
+place_kept h (Keep x k b) = if is_certified h (Keep x k b) then Some k else None
 place_kept h _ = None
 
 -- the greatest kept place + 1, or 0
@@ -83,6 +83,10 @@ fixed_length h = fold (λ most k. max most (k + 1)) 0 (filter_map (λ c. place_k
 -- how many of these messages are the sender's
 abbrev pub named : ℕ → List Message → ℕ
 named sender ms = count_by (λ m. m.sender == sender) ms
+
+-- the messages of these batches, in order
+abbrev pub messages : List Batch → List Message
+messages bs = flat_map (λ b. b) bs
 
 -- ---- updates and ranks
 
@@ -117,14 +121,14 @@ is_signed p slot = is_some (own_on p slot)
 abbrev pub is_ended : Process → Bool
 is_ended p = is_signed p (EndAt p.pool.view.number)
 
--- the message that an Order gives a place
-abbrev pub ordered_message : Statement → Option Message
-ordered_message (Order x k m) = Some m
-ordered_message _ = None
+-- the batch that an Order gives a place
+abbrev pub ordered : Statement → Option Batch
+ordered (Order x k b) = Some b
+ordered _ = None
 
--- the messages of the own Orders of the current view, in order of signing
-abbrev pub own_orders : Process → List Message
-own_orders p = filter_map ordered_message (own p)
+-- the batches of the own Orders of the current view, in order of signing
+abbrev pub own_orders : Process → List Batch
+own_orders p = filter_map ordered (own p)
 
 -- the rank of a Last, an Ack or a Ready
 abbrev pub rank_said : Statement → ℕ

@@ -1,16 +1,16 @@
 -- What is signed: the table, and the least statement of a kind that is due.
-use Rattle.std.specs.Prelude.{◌≡◌, ℕ, IsTrue, IsFalse, Contains, ◌+◌, Bool, ◌&&◌, not, nat_lt, nat_le, ◌==◌, List, [], ◌∷◌, length, map, drop, take, filter, filter_map, Option, Some, None, is_some, option_map, option_and_then, option_to_list, unwrap_or, slice_get}
-use Rattle.std.specs.List.{list_any, enumerate_from}
+use Rattle.std.specs.Prelude.{◌≡◌, ℕ, zero, suc, IsTrue, IsFalse, Contains, ◌+◌, Bool, true, ◌&&◌, not, nat_lt, nat_le, ◌==◌, List, [], ◌∷◌, ◌++◌, length, map, drop, take, filter, filter_map, if◌then◌else◌, Option, Some, None, is_some, option_map, option_and_then, option_to_list, unwrap_or, slice_get}
+use Rattle.std.specs.List.{list_any, list_all, enumerate_from}
 use native.Mathlib.Decide.{ℕ_discrete}
-use Rattle.byte_defs.specs.Choices.{is_some_and}
+use Rattle.byte_defs.specs.Choices.{first_some, is_some_and}
 use Rattle.byte_defs.specs.Orders.{least, numbers_below}
 use Rattle.byte_defs.specs.Equality.{is_yes, bytes_discrete, pair_discrete}
-use Rattle.message_defs.specs.Limits.{last_number}
+use Rattle.message_defs.specs.Limits.{last_number, most_messages}
 use Rattle.group_defs.specs.Views.{View, is_member, rank_of, is_possible}
 use Rattle.message_defs.specs.Updates.{Update, Update-discrete, Value, Value-discrete}
-use Rattle.message_defs.specs.Statements.{Message, Message-discrete, Statement, Init, Echo, Order, Place, Keep, Notify, End, Last, Suggest, Ack, Ready, slot_of, slot_numbers, view_of}
-use Rattle.group_defs.specs.Process.{Kind, Inits, Echoes, Orders, Places, Keeps, Notifies, Ends, Readies, Lasts, Suggests, Acks, Setting, Process, keyed, earlier, delivered_from}
-use Rattle.group_defs.specs.Certified.{says, is_certified, payload_at, placed, named, notified_updates, removed_rank, is_signed, is_ended, own_orders, own_rank, own_ready}
+use Rattle.message_defs.specs.Statements.{Message, Message-discrete, Batch, Batch-discrete, Statement, Init, Echo, Order, Place, Keep, Notify, End, Last, Suggest, Ack, Ready, slot_of, slot_numbers, view_of}
+use Rattle.group_defs.specs.Process.{Pool, Kind, Inits, Echoes, Orders, Places, Keeps, Notifies, Ends, Readies, Lasts, Suggests, Acks, Setting, Process, keyed, earlier, delivered_from, places_in}
+use Rattle.group_defs.specs.Certified.{says, is_certified, payload_at, placed, named, messages, notified_updates, removed_rank, is_signed, is_ended, own_orders, own_rank, own_ready}
 use Rattle.group_defs.specs.Values.{same_ready, choose, is_justified}
 
 -- how far beyond what was delivered numbers and places may go
@@ -29,6 +29,10 @@ rank_says p r st = is_some_and (slice_get p.pool.view.members r) (says p.pool st
 abbrev pub same_message : Message → Message → Bool
 same_message a b = is_yes (Message-discrete a b)
 
+-- the batches are equal
+abbrev pub same_batch : Batch → Batch → Bool
+same_batch a b = is_yes (Batch-discrete a b)
+
 -- the values are equal
 abbrev pub same_value : Value → Value → Bool
 same_value v w = is_yes (Value-discrete v w)
@@ -36,6 +40,40 @@ same_value v w = is_yes (Value-discrete v w)
 -- the update was perceived in the view of this number
 abbrev pub is_perceived : Process → ℕ × Update → Bool
 is_perceived p e = list_any (λ d. is_yes (pair_discrete ℕ_discrete (Update-discrete ℕ_discrete) d e)) p.perceived
+
+-- ---- batches
+
+-- the sender's next message behind these, where it is certified
+abbrev pub next_of : Pool → List Message → ℕ → Option Message
+next_of h before sender =
+    let m : Message = record { sender = sender; number = named sender before } in
+    if is_some (payload_at h m) then Some m else None
+
+-- of several senders the one of least rank
+abbrev pub next_message : Pool → List Message → Option Message
+next_message h before = first_some (next_of h before) h.view.members
+
+-- the next messages behind these, one after the other, at most so many
+unfoldable pub next_messages : ℕ → Pool → List Message → Batch
+next_messages zero h before = []
+next_messages (suc more) h before = elim (next_message h before) [ None ↦ [] | Some m ↦ m ∷ next_messages more h (before ++ m ∷ []) ]
+
+-- what the process orders next: it counts the messages of its own Orders and those of the batch so far
+abbrev pub next_batch : Process → Batch
+next_batch p = next_messages p.batch_limit p.pool (messages (own_orders p))
+
+-- each is its sender's next message behind these and those before it in the batch
+abbrev pub follows : List Message → Batch → Bool
+follows before [] = true
+follows before (m ∷ ms) = (m.number == named m.sender before) && follows (before ++ m ∷ []) ms
+
+-- each message is certified
+abbrev pub are_certified : Pool → Batch → Bool
+are_certified h b = list_all (λ m. is_some (payload_at h m)) b
+
+-- a batch has 1 to 16 messages
+abbrev pub is_batch : Batch → Bool
+is_batch b = nat_lt 0 (length b) && nat_le (length b) most_messages
 
 -- ---- the table: what each kind needs
 
@@ -46,15 +84,15 @@ is_due s p (Init x l payload) =
     && is_some_and (slice_get p.accepted (earlier p + l)) (λ accepted. is_yes (bytes_discrete payload accepted))
 is_due s p (Echo x m payload) =
     says p.pool (Init x m.number payload) m.sender && not (is_ended p)
-is_due s p (Order x k m) =
+is_due s p (Order x k b) =
     is_of_rank p p.me 0 && not (is_ended p)
-    && (k == length (own_orders p)) && nat_lt k (length p.delivered + window) && nat_le k last_number
-    && (m.number == named m.sender (own_orders p)) && is_some (payload_at p.pool m)
-is_due s p (Place x k m) =
-    rank_says p 0 (Order x k m) && not (is_ended p)
-    && nat_le k (length (placed p.pool)) && (m.number == named m.sender (take k (placed p.pool))) && is_some (payload_at p.pool m)
-is_due s p (Keep x k m) =
-    is_some_and (slice_get (placed p.pool) k) (same_message m) && not (is_ended p)
+    && (k == length (own_orders p)) && nat_lt k (places_in p.delivered + window) && nat_le k last_number
+    && nat_lt 0 (length b) && same_batch b (next_batch p)
+is_due s p (Place x k b) =
+    rank_says p 0 (Order x k b) && not (is_ended p)
+    && nat_le k (length (placed p.pool)) && is_batch b && follows (messages (take k (placed p.pool))) b && are_certified p.pool b
+is_due s p (Keep x k b) =
+    is_some_and (slice_get (placed p.pool) k) (same_batch b) && not (is_ended p)
 is_due s p (Notify x u) =
     is_perceived p (x, u) && is_possible (keyed s) p.pool.view u
 is_due s p (End x k) =
@@ -85,14 +123,9 @@ abbrev pub echo_of : Answer
 echo_of signer (Init x l payload) = Some (Echo x (record { sender = signer; number = l }) payload)
 echo_of signer _ = None
 
--- a certified message takes the next place
-abbrev pub order_of : ℕ → Answer
-order_of k signer (Echo x m payload) = Some (Order x k m)
-order_of k signer _ = None
-
--- an Order is answered by the Place of the same message
+-- an Order is answered by the Place of the same batch
 abbrev pub place_of : Answer
-place_of signer (Order x k m) = Some (Place x k m)
+place_of signer (Order x k b) = Some (Place x k b)
 place_of signer _ = None
 
 -- an Ack is answered by the Ready of the same value
@@ -117,9 +150,9 @@ inits s p = map (λ e. Init p.pool.view.number e.0 e.1) (enumerate_from 0 (drop 
 abbrev pub echoes : Setting → Process → List Statement
 echoes s p = answers p echo_of
 
--- an Order of the next place for the message of each heard Echo
+-- the Order of the next place
 abbrev pub orders : Setting → Process → List Statement
-orders s p = answers p (order_of (length (own_orders p)))
+orders s p = Order p.pool.view.number (length (own_orders p)) (next_batch p) ∷ []
 
 -- a Place for each heard Order
 abbrev pub places : Setting → Process → List Statement
@@ -169,10 +202,9 @@ offers Acks = acks
 
 -- ---- the least one
 
--- The order of one kind: that of slots, but senders go by rank, and an Order of one place too
+-- the order of one kind: that of slots, but senders go by rank
 abbrev pub due_numbers : View → Statement → List ℕ
 due_numbers v (Echo x m payload) = unwrap_or (rank_of v m.sender) 0 ∷ m.number ∷ []
-due_numbers v (Order x k m) = k ∷ unwrap_or (rank_of v m.sender) 0 ∷ []
 due_numbers v st = slot_numbers (slot_of st)
 
 -- the least statement of a kind that is due
@@ -185,9 +217,9 @@ least_due s p kind = least (due_numbers p.pool.view) (filter (may_sign s p) (off
 abbrev pub kind_of : Statement → Kind
 kind_of (Init x l payload) = Inits
 kind_of (Echo x m payload) = Echoes
-kind_of (Order x k m) = Orders
-kind_of (Place x k m) = Places
-kind_of (Keep x k m) = Keeps
+kind_of (Order x k b) = Orders
+kind_of (Place x k b) = Places
+kind_of (Keep x k b) = Keeps
 kind_of (Notify x u) = Notifies
 kind_of (End x k) = Ends
 kind_of (Last x r ready) = Lasts
@@ -198,6 +230,10 @@ kind_of (Ready x r v) = Readies
 -- nothing else can be due
 abbrev pub EachDueIsOffered : Type 0
 EachDueIsOffered = (s : Setting) (p : Process) (st : Statement) → IsTrue (may_sign s p st) → Contains (offers (kind_of st) s p) st
+
+-- where something of a kind is due, something is least
+abbrev pub SomeIsLeast : Type 0
+SomeIsLeast = (s : Setting) (p : Process) (st : Statement) → IsTrue (may_sign s p st) → IsTrue (is_some (least_due s p (kind_of st)))
 
 -- it is due, and none of its kind that is due stands before it
 abbrev pub LeastIsDue : Type 0

@@ -1,6 +1,5 @@
 -- One event: its refusals, and the process after it.
 use Rattle.std.specs.Prelude.{ℕ, ◌+◌, ◌-◌, Bool, true, false, not, nat_lt, ◌==◌, List, [], ◌∷◌, ◌++◌, length, map, drop, if◌then◌else◌, Option, Some, None, option_to_list, slice_index_or, ◌≡◌}
-use Rattle.std.specs.List.{enumerate_from}
 use Rattle.std.specs.Option.{option_map_or}
 use Rattle.byte_defs.specs.Choices.{first_that_holds}
 use Rattle.byte_defs.specs.Orders.{put}
@@ -11,7 +10,7 @@ use Rattle.message_defs.specs.Updates.{Update, Remove, Add, Renew, update_number
 use Rattle.message_defs.specs.Statements.{Claim}
 use Rattle.message_defs.specs.Claims.{Frame, Claims, Wants, Faulty}
 use Rattle.message_defs.specs.declared.FrameFault.{FrameFault}
-use Rattle.group_defs.specs.Process.{Setting, Delivered, Process, keyed, earlier, delivered_from}
+use Rattle.group_defs.specs.Process.{Setting, Delivered, Process, keyed, earlier, delivered_from, places_in}
 use Rattle.group_defs.specs.Hearing.{hear_all}
 use Rattle.group_defs.specs.Due.{is_perceived}
 use Rattle.group_defs.specs.Signing.{Signer, Signing, sign_all}
@@ -71,7 +70,7 @@ refusals s p Tick = []
 
 -- the first refusal that holds; a process that has halted, beyond its cut, refuses every event
 abbrev pub refusal : Setting → Process → Event → Option EventFault
-refusal s p e = first_that_holds ((p.halted, HaltedNow (length p.delivered) (option_map_or (λ d. d.1.cut) p.decision 0)) ∷ refusals s p e)
+refusal s p e = first_that_holds ((p.halted, HaltedNow (places_in p.delivered) (option_map_or (λ d. d.1.cut) p.decision 0)) ∷ refusals s p e)
 
 -- ---- taking in
 
@@ -114,7 +113,7 @@ run s p (t ∷ ts) = run s (after s p t) ts
 
 -- what is told of an event
 pub data Note : Type 0 where
-  Delivers : (view place : ℕ) (delivered : Delivered) → Note
+  Delivers : (view : ℕ) (delivered : Delivered) → Note
   Installs : (view : View) → Note
   Liar : (process : ℕ) → Note
   Spent : Note
@@ -138,7 +137,7 @@ is_tick _ = false
 -- next
 abbrev pub answers : Setting → Process → Event → List Sending
 answers s q (Hand from (Wants x k)) = if has (keyed s) from then unless_empty (answer q x k) Proof (from ∷ []) else []
-answers s q Tick = sends_to (others q q.pool.view) (Want q.pool.view.number (length q.delivered))
+answers s q Tick = sends_to (others q q.pool.view) (Want q.pool.view.number (places_in q.delivered))
 answers s q _ = []
 
 -- the note, where the test holds
@@ -148,11 +147,11 @@ note_if b note = if b then note ∷ [] else []
 -- of an event that takes p through `one`, signed, and `done`, delivered, to q
 abbrev pub notes : Process → Signing → Process → Process → List Note
 notes p one done q =
-    map (λ e. Delivers p.pool.view.number e.0 e.1) (enumerate_from (length p.delivered) (drop (length p.delivered) done.delivered))
+    map (Delivers p.pool.view.number) (drop (length p.delivered) done.delivered)
     ++ note_if (nat_lt (length p.left) (length q.left)) (Installs q.pool.view)
     ++ map (λ pair. Liar pair.1.signer) (drop (length p.conflicts) q.conflicts)
     ++ note_if one.spent Spent
-    ++ note_if q.halted (Halts (length q.delivered) (option_map_or (λ d. d.1.cut) q.decision 0))
+    ++ note_if q.halted (Halts (places_in q.delivered) (option_map_or (λ d. d.1.cut) q.decision 0))
 
 -- the outcome of an event that is not refused: heard and signed, it settles to q
 abbrev pub answered : Setting → Process → Turn → Signing → Outcome
@@ -186,3 +185,12 @@ abbrev pub Fits : Setting → Process → Event → List (List ℕ) → Bool →
 Fits s p e signatures spent =
     let o = outcome s p (journalled p e signatures) in
     (length o.signed ≡ length signatures) × (o.spent ≡ spent)
+
+-- the turn read from a journal that keeps the signatures of a live one
+abbrev pub read_again : Setting → Process → Turn → Turn
+read_again s p t = journalled p t.event (map (λ c. c.signature) (outcome s p t).signed)
+
+-- it fits, and gives the process and the outcome of the live one
+abbrev pub JournalGivesTheTurn : Type 0
+JournalGivesTheTurn = (s : Setting) (p : Process) (t : Turn) → (after s p (read_again s p t) ≡ after s p t) × (outcome s p (read_again s p t) ≡ outcome s p t)
+    × Fits s p t.event (map (λ c. c.signature) (outcome s p t).signed) (outcome s p t).spent

@@ -8,9 +8,10 @@ use Rattle.message_defs.specs.Claims.{Claims}
 use Rattle.group_defs.specs.Events.{Event, Hand, Turn, run}
 use Rattle.group_defs.specs.Accounts.{Account, account_of}
 
--- a correct process and its turns
+-- a correct process, its batch limit and its turns
 pub record Correct : Type 0 where
   pub me : ℕ
+  pub batch_limit : ℕ
   pub turns : List Turn
 
 -- correct processes of one setting
@@ -24,7 +25,7 @@ numbers f = map (λ c. c.me) f.correct
 
 -- a correct process at the end
 abbrev pub end_of : Setting → Correct → Process
-end_of s c = run s (start s c.me) c.turns
+end_of s c = run s (start s c.me c.batch_limit) c.turns
 
 -- the correct processes at the end
 abbrev pub ends : Family → List Process

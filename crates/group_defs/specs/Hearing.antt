@@ -1,10 +1,10 @@
 -- The verdict on a claim, and what hearing it changes.
-use Rattle.std.specs.Prelude.{ℕ, ◌+◌, Bool, false, ◌||◌, not, nat_lt, nat_le, ◌==◌, List, [], ◌∷◌, ◌++◌, length, if◌then◌else◌, Some, None, is_some, unwrap_or}
+use Rattle.std.specs.Prelude.{ℕ, ◌+◌, Bool, false, ◌||◌, not, nat_lt, nat_le, ◌==◌, List, [], ◌∷◌, ◌++◌, if◌then◌else◌, Some, None, is_some, unwrap_or}
 use Rattle.std.specs.List.{list_any}
 use Rattle.byte_defs.specs.Choices.{first_that_holds, is_some_and}
 use Rattle.group_defs.specs.Views.{is_member}
-use Rattle.message_defs.specs.Statements.{Statement, Init, Echo, Order, Place, Keep, Last, Suggest, Ack, Ready, Claim, slot_of, view_of, message_of}
-use Rattle.group_defs.specs.Process.{Setting, Process, key_of, delivered_from}
+use Rattle.message_defs.specs.Statements.{Statement, Init, Echo, Order, Place, Keep, Last, Suggest, Ack, Ready, Claim, slot_of, view_of, messages_of}
+use Rattle.group_defs.specs.Process.{Setting, Process, key_of, delivered_from, places_in}
 use Rattle.group_defs.specs.Certified.{claim_on, heard_on, says, number_of_members}
 use Rattle.group_defs.specs.Due.{window}
 use Rattle.message_defs.specs.Spelling.{body}
@@ -24,24 +24,24 @@ pub data Verdict : Type 0 where
 abbrev pub is_valid : Setting → Claim → Bool
 is_valid s c = is_some_and (key_of s c.signer) (λ key. s.valid key (body s.group c.signer c.statement) c.signature)
 
--- the signer, or the sender that the statement names, is not a member
+-- the signer, or a sender that the statement names, is not a member
 abbrev pub is_strange : Process → Claim → Bool
-is_strange p c = not (is_member p.pool.view c.signer) || is_some_and (message_of c.statement) (λ m. not (is_member p.pool.view m.sender))
+is_strange p c = not (is_member p.pool.view c.signer) || list_any (λ m. not (is_member p.pool.view m.sender)) (messages_of c.statement)
 
 -- the place, the number or the rank is too far ahead
 abbrev pub is_beyond : Process → ℕ → Statement → Bool
 is_beyond p signer (Init x l payload) = nat_le (delivered_from signer p.delivered + window) l
 is_beyond p signer (Echo x m payload) = nat_le (delivered_from m.sender p.delivered + window) m.number
-is_beyond p signer (Order x k m) = nat_le (length p.delivered + window) k
-is_beyond p signer (Place x k m) = nat_le (length p.delivered + window) k
-is_beyond p signer (Keep x k m) = nat_le (length p.delivered + window) k
+is_beyond p signer (Order x k b) = nat_le (places_in p.delivered + window) k
+is_beyond p signer (Place x k b) = nat_le (places_in p.delivered + window) k
+is_beyond p signer (Keep x k b) = nat_le (places_in p.delivered + window) k
 is_beyond p signer (Last x r ready) = nat_le (number_of_members p.pool) r
 is_beyond p signer (Suggest x r v) = nat_le (number_of_members p.pool) r
 is_beyond p signer (Ack x r v) = nat_le (number_of_members p.pool) r
 is_beyond p signer (Ready x r v) = nat_le (number_of_members p.pool) r
 is_beyond p signer _ = false
 
--- the first of these that holds, else Heard: the view is over, or not yet installed; the signer or the named sender is no member; the
+-- the first of these that holds, else Heard: the view is over, or not yet installed; the signer or a named sender is no member; the
 -- statement is too far ahead; the signer has said just this; the signature is not valid; the signer has said something else on the slot
 abbrev pub verdict : Setting → Process → Claim → Verdict
 verdict s p c = unwrap_or (first_that_holds (

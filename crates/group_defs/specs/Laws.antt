@@ -1,18 +1,18 @@
 -- The laws, each the contract of a public function of safety_laws.
-use Rattle.std.specs.Prelude.{◌≡◌, ◌≢◌, ◌⊎◌, ℕ, ◌+◌, ◌<◌, ◌≤◌, Bool, false, not, ◌&&◌, ◌||◌, ◌==◌, List, [], ◌∷◌, ◌++◌, length, count_by, is_some, IsTrue, IsFalse, All, AllPairs, Contains, Option, Some, None, slice_get}
+use Rattle.std.specs.Prelude.{◌≡◌, ◌≢◌, ◌⊎◌, ℕ, ◌+◌, ◌<◌, ◌≤◌, Bool, false, not, ◌&&◌, ◌||◌, ◌==◌, List, [], ◌∷◌, ◌++◌, length, count_by, is_some, IsTrue, IsFalse, All, AllPairs, Contains, Option, Some, None, Ok, slice_get}
 use Rattle.std.specs.List.{list_any, list_all, AllZip}
 use Rattle.std.specs.List.Sorted.{IsStrictlyIncreasing}
-use Rattle.group_defs.specs.Views.{View, IsView, is_member, faulty, quorum}
-use Rattle.message_defs.specs.Updates.{Value}
-use Rattle.message_defs.specs.Statements.{Message, Statement, Keep, End, Last, Ack, Ready, Claim, Conflicts, slot_of, view_of, message_of, same_statement}
-use Rattle.group_defs.specs.Process.{Setting, Pool, Delivered, Process, keyed, views_of, start}
+use Rattle.group_defs.specs.Views.{View, IsView, is_member, faulty, quorum, is_possible, next}
+use Rattle.message_defs.specs.Updates.{Update, Value}
+use Rattle.message_defs.specs.Statements.{Message, Batch, Statement, Order, Keep, End, Last, Ack, Ready, Claim, Conflicts, slot_of, view_of, messages_of, same_statement}
+use Rattle.group_defs.specs.Process.{Setting, Pool, Letter, Delivered, Process, keyed, views_of, start, places_in}
 use Rattle.group_defs.specs.Certified.{is_certified, payload_at, place_at}
 use Rattle.group_defs.specs.Values.{is_free, is_second_way, is_justified, choose}
 use Rattle.group_defs.specs.Due.{may_sign, kind_of}
 use Rattle.group_defs.specs.Hearing.{is_valid}
 use Rattle.group_defs.specs.Settle.{decide, deliver}
 use Rattle.group_defs.specs.Events.{Turn, refusal, signing, after, run}
-use Rattle.group_defs.specs.Accounts.{Account, group_of, IsPrefixOf, HasLeft, delivered_in, Bounded, Agree, Sound}
+use Rattle.group_defs.specs.Accounts.{Account, group_of, IsPrefixOf, HasLeft, messages_in, Bounded, Agree, IsOnce, IsInOrder, ArePlaced, Sound}
 use Rattle.group_defs.specs.Family.{Correct, Family, numbers, ends, accounts, handed, handed_to, statements_of, Honest}
 
 -- ---- of one signed list
@@ -23,7 +23,7 @@ SignsAt p i st = slice_get (statements_of p) i ≡ Some st
 
 -- a claim of each run
 abbrev pub EachRun : (Setting → ℕ → List Turn → Process → Type 0) → Type 0
-EachRun P = (s : Setting) (me : ℕ) (turns : List Turn) → P s me turns (run s (start s me) turns)
+EachRun P = (s : Setting) (me batch_limit : ℕ) (turns : List Turn) → P s me turns (run s (start s me batch_limit) turns)
 
 -- 1. of each slot at most one statement
 abbrev pub OnePerSlot : Type 0
@@ -31,7 +31,7 @@ OnePerSlot = EachRun (λ s me turns p. AllPairs (λ c d. slot_of c.statement ≢
 
 -- 2. a Keep stands before the End of its view, and the End says more
 abbrev pub KeepsBeforeEnd : Type 0
-KeepsBeforeEnd = EachRun (λ s me turns p. (i j x k n : ℕ) (m : Message) → SignsAt p i (Keep x k m) → SignsAt p j (End x n) → (i < j) × (k < n))
+KeepsBeforeEnd = EachRun (λ s me turns p. (i j x k n : ℕ) (b : Batch) → SignsAt p i (Keep x k b) → SignsAt p j (End x n) → (i < j) × (k < n))
 
 -- a signed Ready of rank r or above, and below r'
 abbrev pub ReportsReady : Process → ℕ → ℕ → ℕ → Option (ℕ × Value) → Type 0
@@ -71,11 +71,15 @@ EachWasDue = EachRun (λ s me turns p. (i : ℕ) (st : Statement) → SignsAt p 
 abbrev pub SignsItsKinds : Type 0
 SignsItsKinds = EachRun (λ s me turns p. All (λ c. Contains s.signs (kind_of c.statement)) p.signed)
 
+-- an own Order has at least one message, and no more than the process may order at once
+abbrev pub OrdersWithinLimit : Type 0
+OrdersWithinLimit = (s : Setting) (me batch_limit : ℕ) (turns : List Turn) (x k : ℕ) (b : Batch) → Contains (statements_of (run s (start s me batch_limit) turns)) (Order x k b) → (1 ≤ length b) × (length b ≤ batch_limit)
+
 -- a claim of the view: a member's, and of no sender outside it
 pub record IsOfView (v : View) (c : Claim) : Type 0 where
   pub number : view_of c.statement ≡ v.number
   pub signer : IsTrue (is_member v c.signer)
-  pub sender : (m : Message) → message_of c.statement ≡ Some m → IsTrue (is_member v m.sender)
+  pub senders : All (λ m. IsTrue (is_member v m.sender)) (messages_of c.statement)
 
 -- what is heard is of the current view
 abbrev pub HeardIsOfView : Type 0
@@ -89,6 +93,20 @@ pub record DeliversIn (me : ℕ) (v : View) (ds : List Delivered) : Type 0 where
 -- so it is in each view that a process left, and in its current one
 abbrev pub MembersDeliver : Type 0
 MembersDeliver = EachRun (λ s me turns p. All (λ l. DeliversIn p.me l.view l.delivered) p.left × DeliversIn p.me p.pool.view p.delivered)
+
+-- the one view follows the other by a possible update
+abbrev pub IsBehind : Setting → View → View → Type 0
+IsBehind s v w = (u : Update) × IsTrue (is_possible (keyed s) v u) × (next v u ≡ Ok w)
+
+-- the first is the genesis, each follows the one before it, and they are numbered from the genesis on
+pub record AreInARow (s : Setting) (vs : List View) : Type 0 where
+  pub first : slice_get vs 0 ≡ Some s.genesis
+  pub behind : (i : ℕ) (v w : View) → slice_get vs i ≡ Some v → slice_get vs (i + 1) ≡ Some w → IsBehind s v w
+  pub numbers : (i : ℕ) (v : View) → slice_get vs i ≡ Some v → v.number ≡ s.genesis.number + i
+
+-- so stand the views of each process
+abbrev pub ViewsInARow : Type 0
+ViewsInARow = EachRun (λ s me turns p. AreInARow s (views_of p))
 
 -- while a decision stands, the Ready that gave it is certified
 abbrev pub DecisionStands : Type 0
@@ -136,7 +154,7 @@ settlings_from s p (t ∷ ts) = settled (refusal s p t.event) (signing s p t).no
 
 -- of all turns of a correct process
 abbrev pub settlings : Family → Correct → List Process
-settlings f c = settlings_from f.setting (start f.setting c.me) c.turns
+settlings f c = settlings_from f.setting (start f.setting c.me c.batch_limit) c.turns
 
 -- some correct process stood so as an event settled
 abbrev pub SettledSo : Family → Process → Type 0
@@ -205,7 +223,7 @@ AckedWasFree = (f : Family) (v : View) (r : ℕ) (w : Value) → IsOneView f v �
 
 -- and each place with a backed Keep is below its cut
 abbrev pub KeptBelowCut : Type 0
-KeptBelowCut = (f : Family) (v : View) (r k : ℕ) (w : Value) (m : Message) → IsOneView f v → IsBacked f v (Keep v.number k m) → IsBacked f v (Ack v.number r w) → k < w.cut
+KeptBelowCut = (f : Family) (v : View) (r k : ℕ) (w : Value) (b : Batch) → IsOneView f v → IsBacked f v (Keep v.number k b) → IsBacked f v (Ack v.number r w) → k < w.cut
 
 -- where an event settles in this view: what is decided, and how far it delivers
 abbrev pub Decides : Family → View → Process → Value → Type 0
@@ -217,7 +235,7 @@ OneDecision = (f : Family) (v : View) (q q' : Process) (w w' : Value) → IsOneV
 
 -- nobody delivers beyond its cut
 abbrev pub DeliversWithinCut : Type 0
-DeliversWithinCut = (f : Family) (v : View) (q q' : Process) (w : Value) → IsOneView f v → Decides f v q w → SettledSo f q' → q'.pool.view ≡ v → length (deliver (decide f.setting q')).delivered ≤ w.cut
+DeliversWithinCut = (f : Family) (v : View) (q q' : Process) (w : Value) → IsOneView f v → Decides f v q w → SettledSo f q' → q'.pool.view ≡ v → places_in (deliver (decide f.setting q')).delivered ≤ w.cut
 
 -- and nobody halts
 abbrev pub NobodyHalts : Type 0
@@ -226,8 +244,8 @@ NobodyHalts = (f : Family) → Premises f → All (λ p. p.halted ≡ false) (en
 -- of any two accounts: the views up to x are the same, and what was delivered in those before x
 pub record AgreeUpTo (x : ℕ) (a b : Account) : Type 0 where
   pub views : (y : ℕ) (v w : View) → y ≤ x → slice_get a.views y ≡ Some v → slice_get b.views y ≡ Some w → v ≡ w
-  pub prefixes : (y : ℕ) → y < x → IsPrefixOf (delivered_in a y) (delivered_in b y) ⊎ IsPrefixOf (delivered_in b y) (delivered_in a y)
-  pub whole : (y : ℕ) (v : View) → y < x → slice_get a.views y ≡ Some v → IsTrue (is_member v a.me) → HasLeft a y → IsPrefixOf (delivered_in b y) (delivered_in a y)
+  pub prefixes : (y : ℕ) → y < x → IsPrefixOf (messages_in a y) (messages_in b y) ⊎ IsPrefixOf (messages_in b y) (messages_in a y)
+  pub whole : (y : ℕ) (v : View) → y < x → slice_get a.views y ≡ Some v → IsTrue (is_member v a.me) → HasLeft a y → IsPrefixOf (messages_in b y) (messages_in a y)
 
 -- any two accounts of the family agree so
 abbrev pub AllAgreeUpTo : Family → ℕ → Type 0
@@ -252,7 +270,7 @@ CauseAndOrder = (f : Family) → Premises f → Sound (accounts f) (keyed f.sett
 
 -- the same process, earlier: it has taken the first of its turns
 abbrev pub StandsBefore : Correct → Correct → Type 0
-StandsBefore early late = (early.me ≡ late.me) × IsPrefixOf early.turns late.turns
+StandsBefore early late = (early.me ≡ late.me) × (early.batch_limit ≡ late.batch_limit) × IsPrefixOf early.turns late.turns
 
 -- the same setting and processes, at an earlier moment
 pub record IsFrontOf (early late : Family) : Type 0 where
@@ -269,6 +287,35 @@ pub record GrowsTo (early late : List Account) : Type 0 where
 abbrev pub Growth : Type 0
 Growth = (early late : Family) → IsFrontOf early late → Premises late → GrowsTo (accounts early) (accounts late)
 
+-- The laws of a view, of what had settled at an earlier moment. The view is one view of the whole family, so what is said above of its
+-- backed statements holds; and what was certified then is backed.
+pub record LawsOfViewThen (early late : Family) (v : View) : Type 0 where
+  pub one_view : IsOneView late v
+  pub backed : (q : Process) (st : Statement) → SettledSo early q → q.pool.view ≡ v → IsTrue (is_certified q.pool st) → IsBacked late v st
+  pub one_payload : (q q' : Process) (m : Message) (b b' : List ℕ) → SettledSo early q → SettledSo early q' → q.pool.view ≡ v → q'.pool.view ≡ v
+      → payload_at q.pool m ≡ Some b → payload_at q'.pool m ≡ Some b' → b ≡ b'
+  pub one_batch : (q q' : Process) (k : ℕ) (b b' : Batch) → SettledSo early q → SettledSo early q' → q.pool.view ≡ v → q'.pool.view ≡ v
+      → place_at q.pool k ≡ Some b → place_at q'.pool k ≡ Some b' → b ≡ b'
+  pub one_decision : (q q' : Process) (w w' : Value) → Decides early v q w → Decides early v q' w' → w ≡ w'
+  pub within_cut : (q q' : Process) (w : Value) → Decides early v q w → SettledSo early q' → q'.pool.view ≡ v → places_in (deliver (decide early.setting q')).delivered ≤ w.cut
+
+-- What holds at an earlier moment under the premises at the end: what settled or stood then settled or stood in the whole family, the
+-- laws of each view that was installed then, and of the theorems all but two parts: that views have causes, and that what was delivered
+-- of a sender is what it accepted. A cause or a sender may stand behind the cut, where the first turns of its process end too early.
+pub record HoldsAtTheCut (early late : Family) : Type 0 where
+  pub settled : (q : Process) → SettledSo early q → SettledSo late q
+  pub stood : All (StoodSo late) (ends early)
+  pub laws : All (λ p. All (LawsOfViewThen early late) (views_of p)) (ends early)
+  pub nobody_halts : All (λ p. p.halted ≡ false) (ends early)
+  pub agree : Agree (accounts early)
+  pub once : (x : ℕ) → IsOnce ((group_of (accounts early)).sequence x)
+  pub in_order : (x sender : ℕ) → IsInOrder sender ((group_of (accounts early)).sequence x)
+  pub placed : ArePlaced (accounts early)
+
+-- after any part of the turns
+abbrev pub AtTheCut : Type 0
+AtTheCut = (early late : Family) → IsFrontOf early late → Premises late → HoldsAtTheCut early late
+
 -- ---- local agreement
 
 -- a correct process never signs two statements that conflict
@@ -280,11 +327,11 @@ abbrev pub OnePayload : Type 0
 OnePayload = (f : Family) (q q' : Process) (m : Message) (b b' : List ℕ) → Premises f → SettledSo f q → SettledSo f q' → q.pool.view.number ≡ q'.pool.view.number
     → payload_at q.pool m ≡ Some b → payload_at q'.pool m ≡ Some b' → b ≡ b'
 
--- nor are two messages of one place
-abbrev pub OneMessage : Type 0
-OneMessage = (f : Family) (q q' : Process) (k : ℕ) (m m' : Message) → Premises f → SettledSo f q → SettledSo f q' → q.pool.view.number ≡ q'.pool.view.number
-    → place_at q.pool k ≡ Some m → place_at q'.pool k ≡ Some m' → m ≡ m'
+-- nor are two batches of one place
+abbrev pub OneBatch : Type 0
+OneBatch = (f : Family) (q q' : Process) (k : ℕ) (b b' : Batch) → Premises f → SettledSo f q → SettledSo f q' → q.pool.view.number ≡ q'.pool.view.number
+    → place_at q.pool k ≡ Some b → place_at q'.pool k ≡ Some b' → b ≡ b'
 
--- in the genesis view the delivered lists of correct processes are prefixes of one sequence
+-- in the genesis view the messages that correct processes delivered are prefixes of one sequence
 abbrev pub OneSequence : Type 0
-OneSequence = (f : Family) → Premises f → (ds : List Delivered) × All (λ a. IsPrefixOf (delivered_in a 0) ds) (accounts f)
+OneSequence = (f : Family) → Premises f → (ds : List Letter) × All (λ a. IsPrefixOf (messages_in a 0) ds) (accounts f)

@@ -1,5 +1,6 @@
 -- The data of a process, and its start.
-use Rattle.std.specs.Prelude.{ℕ, Bool, false, ◌==◌, List, [], ◌∷◌, ◌++◌, map, find, count_by, sum, Option, None, option_map}
+use Rattle.std.specs.Prelude.{ℕ, ◌+◌, Bool, false, ◌==◌, max, List, [], ◌∷◌, ◌++◌, map, find, count_by, fold, sum, Option, None, option_map}
+use native.Mathlib.Decide.{ℕ_discrete}
 use Rattle.byte_defs.specs.Equality.{both, bytes_discrete}
 use Rattle.group_defs.specs.Views.{View}
 use Rattle.message_defs.specs.Updates.{Update, Value}
@@ -45,14 +46,36 @@ pub record Pool : Type 0 where
   pub view : View
   pub heard : List Claim
 
--- what a member delivers at a place: the message that the place names, and its payload
-pub record Delivered : Type 0 where
+-- a message with its payload
+pub record Letter : Type 0 where
   pub message : Message
   pub payload : List ℕ
 
--- deliveries are equal where message and payload are
+-- letters are equal where message and payload are
+unfoldable pub Letter-discrete : Discrete Letter
+Letter-discrete d e = both (λ m b. λ i. record { message = m i; payload = b i }) (λ q. λ i. (q i).message) (λ q. λ i. (q i).payload) (Message-discrete d.message e.message) (bytes_discrete d.payload e.payload)
+
+-- what a member delivers: a message that the batch of the place names, and its payload
+pub record Delivered : Type 0 where
+  pub place : ℕ
+  pub message : Message
+  pub payload : List ℕ
+
+-- the same without its place
+abbrev pub letter_of : Delivered → Letter
+letter_of d = record { message = d.message; payload = d.payload }
+
+-- deliveries are equal where place, message and payload are
 unfoldable pub Delivered-discrete : Discrete Delivered
-Delivered-discrete d e = both (λ m b. λ i. record { message = m i; payload = b i }) (λ q. λ i. (q i).message) (λ q. λ i. (q i).payload) (Message-discrete d.message e.message) (bytes_discrete d.payload e.payload)
+Delivered-discrete d e = both (λ k s. λ i. record { place = k i; message = (s i).message; payload = (s i).payload }) (λ q. λ i. (q i).place) (λ q. λ i. letter_of (q i)) (ℕ_discrete d.place e.place) (Letter-discrete (letter_of d) (letter_of e))
+
+-- the messages of a delivered list, in order: its entries without their places
+abbrev pub without_places : List Delivered → List Letter
+without_places ds = map letter_of ds
+
+-- how many places were delivered: one more than the greatest of them, or 0
+abbrev pub places_in : List Delivered → ℕ
+places_in ds = fold (λ most d. max most (d.place + 1)) 0 ds
 
 -- what is kept of a view that was left. `commit` is claims on the Ready content that decided it
 pub record Left : Type 0 where
@@ -63,6 +86,8 @@ pub record Left : Type 0 where
 -- the data of a process. Its secret is not among them: each turn brings what signs
 pub record Process : Type 0 where
   pub me : ℕ
+  -- an own Order has at most so many messages
+  pub batch_limit : ℕ
   pub left : List Left
   pub previous : Option Pool
   pub pool : Pool
@@ -77,10 +102,11 @@ pub record Process : Type 0 where
   pub perceived : List (ℕ × Update)
   pub accepted : List (List ℕ)
 
--- a process as it starts: in the genesis view, and nothing has happened
-abbrev pub start : Setting → ℕ → Process
-start s me = record {
+-- a process of this number and batch limit as it starts: in the genesis view, and nothing has happened
+abbrev pub start : Setting → ℕ → ℕ → Process
+start s me batch_limit = record {
   me = me;
+  batch_limit = batch_limit;
   left = [];
   previous = None;
   pool = record { view = s.genesis; heard = [] };

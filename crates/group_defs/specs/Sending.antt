@@ -4,8 +4,8 @@ use Rattle.std.specs.List.{list_any, range_with_len}
 use Rattle.byte_defs.specs.Orders.{sorted}
 use Rattle.byte_defs.specs.Equality.{is_yes, bytes_discrete}
 use Rattle.group_defs.specs.Views.{View}
-use Rattle.message_defs.specs.Statements.{Statement, Init, Echo, Order, Place, Keep, Notify, End, Last, Suggest, Ack, EchoAt, PlaceAt, KeepAt, Claim, slot_of, slot_numbers, view_of, same_statement}
-use Rattle.group_defs.specs.Process.{Pool, Process}
+use Rattle.message_defs.specs.Statements.{Batch, Statement, Init, Echo, Order, Place, Keep, Notify, End, Last, Suggest, Ack, EchoAt, PlaceAt, KeepAt, Claim, slot_of, slot_numbers, view_of, same_statement}
+use Rattle.group_defs.specs.Process.{Pool, Process, places_in}
 use Rattle.group_defs.specs.Certified.{certificate_on, place_at}
 use Rattle.group_defs.specs.Due.{same_message}
 use Rattle.message_defs.specs.Packing.{pack}
@@ -17,9 +17,9 @@ use Rattle.message_defs.specs.Frames as frames
 abbrev pub was_delivered : Process → Statement → Bool
 was_delivered began (Init x l payload) = list_any (λ d. same_message d.message (record { sender = began.me; number = l })) began.delivered
 was_delivered began (Echo x m payload) = list_any (λ d. same_message d.message m) began.delivered
-was_delivered began (Order x k m) = nat_lt k (length began.delivered)
-was_delivered began (Place x k m) = nat_lt k (length began.delivered)
-was_delivered began (Keep x k m) = nat_lt k (length began.delivered)
+was_delivered began (Order x k b) = nat_lt k (places_in began.delivered)
+was_delivered began (Place x k b) = nat_lt k (places_in began.delivered)
+was_delivered began (Keep x k b) = nat_lt k (places_in began.delivered)
 was_delivered began _ = false
 
 -- on a Tick, all own claims of the view but those of messages and places that were delivered
@@ -30,9 +30,13 @@ repeated began p = filter (λ c. (view_of c.statement == p.pool.view.number) && 
 abbrev pub newly_signed : Process → Process → List Claim
 newly_signed began p = drop (length began.signed) p.signed
 
--- the certificate of the message that an Order names
+-- the certificates of the messages of a batch, in its order
+abbrev pub message_certificates : Pool → Batch → List Claim
+message_certificates h b = flat_map (λ m. certificate_on h (EchoAt h.view.number m)) b
+
+-- those of the batch of an Order
 abbrev pub beside_order : Process → Pool → Statement → List Claim
-beside_order began h (Order x k m) = if nat_lt k (length began.delivered) then [] else certificate_on h (EchoAt x m)
+beside_order began h (Order x k b) = if nat_lt k (places_in began.delivered) then [] else message_certificates h b
 beside_order began h _ = []
 
 -- a Suggest of this cut takes it along
@@ -41,7 +45,7 @@ is_beside cut (Notify x u) = true
 is_beside cut (End x k) = true
 is_beside cut (Last x r ready) = true
 is_beside cut (Ack x r v) = true
-is_beside cut (Place x k m) = k + 1 == cut
+is_beside cut (Place x k b) = k + 1 == cut
 is_beside cut _ = false
 
 -- claims are ordered by kind, slot and signer
@@ -73,11 +77,11 @@ bundle tick began p = with_what_goes_beside began p.pool (if tick then repeated 
 
 -- ---- the answer to a Want
 
--- the certificates of a place: its own, its message's where that is named, and the Keep
+-- the certificates of a place: its own, those of its messages where they are named, and the Keep
 abbrev pub place_certificates : Pool → ℕ → List Claim
 place_certificates h k =
     certificate_on h (PlaceAt h.view.number k)
-    ++ elim (place_at h k) [ None ↦ [] | Some m ↦ certificate_on h (EchoAt h.view.number m) ]
+    ++ elim (place_at h k) [ None ↦ [] | Some b ↦ message_certificates h b ]
     ++ certificate_on h (KeepAt h.view.number k)
 
 -- the commit certificate of the view of this number, where the process left it

@@ -1,12 +1,12 @@
 -- Settling: deciding, delivering, and leaving the view.
-use Rattle.std.specs.Prelude.{ℕ, zero, suc, ◌-◌, nat_lt, ◌==◌, [], ◌∷◌, ◌++◌, length, if◌then◌else◌, Option, Some, None, is_some, not, unwrap_or, option_map, option_and_then}
+use Rattle.std.specs.Prelude.{ℕ, zero, suc, ◌-◌, nat_lt, ◌==◌, List, [], ◌∷◌, ◌++◌, if◌then◌else◌, Option, Some, None, is_some, not, unwrap_or, option_map, option_and_then}
 use Rattle.std.specs.List.{range_with_len}
 use Rattle.std.specs.Option.{option_or, option_map_or}
 use Rattle.byte_defs.specs.Choices.{first_some, first_that_holds}
 use Rattle.message_defs.specs.Updates.{Value}
 use Rattle.group_defs.specs.Views.{is_member, is_possible, next_view}
-use Rattle.message_defs.specs.Statements.{Ready, ReadyAt}
-use Rattle.group_defs.specs.Process.{Setting, Pool, Delivered, Process, keyed}
+use Rattle.message_defs.specs.Statements.{Batch, Ready, ReadyAt}
+use Rattle.group_defs.specs.Process.{Setting, Pool, Delivered, Process, keyed, places_in}
 use Rattle.group_defs.specs.Certified.{value_at, place_at, payload_at, fixed_length, certificate, number_of_members, is_ended}
 
 -- ---- phases
@@ -44,25 +44,30 @@ decide s p = record p { decision = option_or p.decision (decided_by s p.pool) }
 
 -- ---- delivering
 
--- how many messages may be delivered in the view: the cut where it is decided, else one more than the greatest kept place, else 0
+-- how many places may be delivered in the view: the cut where it is decided, else one more than the greatest kept place, else 0
 abbrev pub limit : Process → ℕ
 limit p = option_map_or (λ d. d.1.cut) p.decision (fixed_length p.pool)
 
--- the message of the next place
-abbrev pub deliverable : Process → Option Delivered
-deliverable p = option_and_then (λ m. option_map (λ payload. record { message = m; payload = payload }) (payload_at p.pool m)) (place_at p.pool (length p.delivered))
+-- what place k delivers by this batch: each message with its payload, in order, where all of them are certified
+abbrev pub delivery : Pool → ℕ → Batch → Option (List Delivered)
+delivery h k [] = Some []
+delivery h k (m ∷ ms) = option_and_then (λ payload. option_map (λ ds. record { place = k; message = m; payload = payload } ∷ ds) (delivery h k ms)) (payload_at h m)
 
--- at most so many more
+-- what the next place delivers, where it is certified and its messages are
+abbrev pub deliverable : Process → Option (List Delivered)
+deliverable p = option_and_then (delivery p.pool (places_in p.delivered)) (place_at p.pool (places_in p.delivered))
+
+-- at most so many places more, each of them whole
 unfoldable pub deliver_more : ℕ → Process → Process
 deliver_more zero p = p
 deliver_more (suc more) p = elim (deliverable p) [
   | None ↦ p
-  | Some d ↦ deliver_more more (record p { delivered = p.delivered ++ d ∷ [] })
+  | Some ds ↦ deliver_more more (record p { delivered = p.delivered ++ ds })
 ]
 
 -- a member delivers up to the limit, as far as places and their messages are certified; others deliver nothing
 abbrev pub deliver : Process → Process
-deliver p = if is_member p.pool.view p.me then deliver_more (limit p - length p.delivered) p else p
+deliver p = if is_member p.pool.view p.me then deliver_more (limit p - places_in p.delivered) p else p
 
 -- ---- leaving
 
@@ -80,7 +85,7 @@ install d p = record p {
 abbrev pub leave_by : ℕ × Value → Process → Process
 leave_by d p =
     if is_member p.pool.view p.me then
-    (if length p.delivered == d.1.cut then install d p else record p { halted = nat_lt d.1.cut (length p.delivered) })
+    (if places_in p.delivered == d.1.cut then install d p else record p { halted = nat_lt d.1.cut (places_in p.delivered) })
     else install d p
 
 -- a decided view is left

@@ -2,13 +2,13 @@
 -- on to the same view.
 use Rattle.std.proofs.Common.{◌≡◌, refl, List, [], ◌∷◌, true, Some, None}
 use native.Mathlib.Decide.{ℕ_discrete}
-use Rattle.byte_defs.specs.Equality.{bytes_discrete, option_discrete, pair_discrete}
+use Rattle.byte_defs.specs.Equality.{bytes_discrete, list_discrete, option_discrete, pair_discrete}
 use Rattle.group_defs.specs.Views.{View-discrete}
 use Rattle.message_defs.specs.Updates.{Remove, Renew, Value-discrete}
-use Rattle.message_defs.specs.Statements.{Notify, End, Last, Suggest, Ack, Ready, Message-discrete}
-use Rattle.group_defs.specs.Process.{Setting, Delivered-discrete, start, keyed}
+use Rattle.message_defs.specs.Statements.{Notify, End, Last, Suggest, Ack, Ready, Message-discrete, Batch-discrete}
+use Rattle.group_defs.specs.Process.{Setting, Letter-discrete, Delivered-discrete, start, keyed}
 use Rattle.group_defs.specs.Certified.{placed}
-use Rattle.group_defs.specs.Due.{least_due}
+use Rattle.group_defs.specs.Due.{least_due, next_messages}
 use Rattle.group_defs.specs.Hearing.{hear_all}
 use Rattle.group_defs.specs.Signing.{sign_kind, sign_kinds, sign_all}
 use Rattle.group_defs.specs.Settle.{deliver_more, settle}
@@ -61,8 +61,8 @@ answers_1 =
     ∷ (None, ([]), ([]), (Installs (record { number = 1; members = 0 ∷ 1 ∷ 2 ∷ 3 ∷ [] }) ∷ []))
     ∷ []
 
-row_1 : seen s (start s 1) turns_1 ≡ answers_1
-unfolding ℕ_discrete bytes_discrete option_discrete pair_discrete Value-discrete Message-discrete placed least_due hear_all sign_kind sign_kinds sign_all deliver_more settle after s turns_1 answers_1
+row_1 : seen s (start s 1 1) turns_1 ≡ answers_1
+unfolding ℕ_discrete bytes_discrete option_discrete pair_discrete Value-discrete Message-discrete list_discrete Batch-discrete placed next_messages least_due hear_all sign_kind sign_kinds sign_all deliver_more settle after s turns_1 answers_1
 row_1 = refl
 
 turns_2 : List Turn
@@ -107,8 +107,8 @@ answers_2 =
     ∷ (None, ([]), ([]), ([]))
     ∷ []
 
-row_2 : seen s (start s 2) turns_2 ≡ answers_2
-unfolding ℕ_discrete bytes_discrete option_discrete pair_discrete Value-discrete Message-discrete placed least_due hear_all sign_kind sign_kinds sign_all deliver_more settle after s turns_2 answers_2
+row_2 : seen s (start s 2 1) turns_2 ≡ answers_2
+unfolding ℕ_discrete bytes_discrete option_discrete pair_discrete Value-discrete Message-discrete list_discrete Batch-discrete placed next_messages least_due hear_all sign_kind sign_kinds sign_all deliver_more settle after s turns_2 answers_2
 row_2 = refl
 
 turns_3 : List Turn
@@ -149,15 +149,15 @@ answers_3 =
     ∷ (None, ((Ready 0 1 (value Renew 0)) ∷ []), (((0 ∷ 1 ∷ 2 ∷ []), (1 ∷ 1 ∷ 1 ∷ 0 ∷ 8 ∷ 11 ∷ 0 ∷ 0 ∷ 1 ∷ 3 ∷ 0 ∷ 0 ∷ 0 ∷ 1 ∷ 3 ∷ 0 ∷ 0 ∷ [])) ∷ []), (Installs (record { number = 1; members = 0 ∷ 1 ∷ 2 ∷ 3 ∷ [] }) ∷ []))
     ∷ []
 
-row_3 : seen s (start s 3) turns_3 ≡ answers_3
-unfolding ℕ_discrete bytes_discrete option_discrete pair_discrete Value-discrete Message-discrete placed least_due hear_all sign_kind sign_kinds sign_all deliver_more settle after s turns_3 answers_3
+row_3 : seen s (start s 3 1) turns_3 ≡ answers_3
+unfolding ℕ_discrete bytes_discrete option_discrete pair_discrete Value-discrete Message-discrete list_discrete Batch-discrete placed next_messages least_due hear_all sign_kind sign_kinds sign_all deliver_more settle after s turns_3 answers_3
 row_3 = refl
 
 pub f : Family
-f = record { setting = s; correct = (record { me = 1; turns = turns_1 } ∷ record { me = 2; turns = turns_2 } ∷ record { me = 3; turns = turns_3 } ∷ []) }
+f = record { setting = s; correct = (record { me = 1; batch_limit = 1; turns = turns_1 } ∷ record { me = 2; batch_limit = 1; turns = turns_2 } ∷ record { me = 3; batch_limit = 1; turns = turns_3 } ∷ []) }
 
 pub judged : honest f ∷ bounded (accounts f) (numbers f) ∷ agree (accounts f) ∷ sound (accounts f) (keyed f.setting) ∷ [] ≡ true ∷ true ∷ true ∷ true ∷ []
-unfolding ℕ_discrete bytes_discrete option_discrete pair_discrete Value-discrete Message-discrete placed least_due hear_all sign_kind sign_kinds sign_all deliver_more settle after run View-discrete Delivered-discrete f s turns_1 turns_2 turns_3
+unfolding ℕ_discrete bytes_discrete option_discrete pair_discrete Value-discrete Message-discrete list_discrete Batch-discrete placed next_messages least_due hear_all sign_kind sign_kinds sign_all deliver_more settle after run View-discrete Letter-discrete Delivered-discrete f s turns_1 turns_2 turns_3
 judged = refl
 
 well_set : is_well_set f ≡ true

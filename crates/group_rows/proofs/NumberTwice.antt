@@ -2,13 +2,13 @@
 -- rise can't be dropped.
 use Rattle.std.proofs.Common.{◌≡◌, refl, List, [], ◌∷◌, true, false}
 use native.Mathlib.Decide.{ℕ_discrete}
-use Rattle.byte_defs.specs.Equality.{bytes_discrete, option_discrete, pair_discrete}
+use Rattle.byte_defs.specs.Equality.{bytes_discrete, list_discrete, option_discrete, pair_discrete}
 use Rattle.group_defs.specs.Views.{View-discrete}
 use Rattle.message_defs.specs.Updates.{Value-discrete}
-use Rattle.message_defs.specs.Statements.{Message-discrete}
-use Rattle.group_defs.specs.Process.{Setting, Delivered-discrete, keyed}
+use Rattle.message_defs.specs.Statements.{Message-discrete, Batch-discrete}
+use Rattle.group_defs.specs.Process.{Setting, Letter-discrete, Delivered-discrete, keyed}
 use Rattle.group_defs.specs.Certified.{placed}
-use Rattle.group_defs.specs.Due.{least_due}
+use Rattle.group_defs.specs.Due.{least_due, next_messages}
 use Rattle.group_defs.specs.Hearing.{hear_all}
 use Rattle.group_defs.specs.Signing.{sign_kind, sign_kinds, sign_all}
 use Rattle.group_defs.specs.Settle.{deliver_more, settle}
@@ -29,10 +29,10 @@ turns_b : List Turn
 turns_b = turn 100000 (Submit (98 ∷ [])) ∷ []
 
 pub f : Family
-f = record { setting = s; correct = record { me = 0; turns = turns_a } ∷ record { me = 0; turns = turns_b } ∷ [] }
+f = record { setting = s; correct = record { me = 0; batch_limit = 1; turns = turns_a } ∷ record { me = 0; batch_limit = 1; turns = turns_b } ∷ [] }
 
 judged : honest f ∷ bounded (accounts f) (numbers f) ∷ agree (accounts f) ∷ sound (accounts f) (keyed f.setting) ∷ [] ≡ true ∷ true ∷ false ∷ false ∷ []
-unfolding ℕ_discrete bytes_discrete option_discrete pair_discrete Value-discrete Message-discrete placed least_due hear_all sign_kind sign_kinds sign_all deliver_more settle after run View-discrete Delivered-discrete f s turns_a turns_b
+unfolding ℕ_discrete bytes_discrete option_discrete pair_discrete Value-discrete Message-discrete list_discrete Batch-discrete placed next_messages least_due hear_all sign_kind sign_kinds sign_all deliver_more settle after run View-discrete Letter-discrete Delivered-discrete f s turns_a turns_b
 judged = refl
 
 pub is_honest : Honest f

@@ -1,16 +1,17 @@
 -- How a row shows that the premises of the laws hold of its family, or fail: by the tests that the report computes.
-use Rattle.std.proofs.Common.{◌≡◌, ℕ, zero, suc, ◌+◌, ◌<◌, List, [], ◌∷◌, length, Bool, true, false, refl, sym, subst, arith}
-use Rattle.std.specs.Prelude.{◌&&◌, ◌==◌, not, nat_lt, nat_le, slice_index}
+use Rattle.std.proofs.Common.{◌≡◌, ◌≢◌, ℕ, zero, suc, ◌+◌, ◌<◌, List, [], ◌∷◌, length, Bool, true, false, refl, sym, subst, arith}
+use Rattle.std.specs.Prelude.{◌&&◌, ◌==◌, not, nat_lt, nat_le, slice_index, AllPairs}
 use Rattle.std.specs.List.Sorted.{IsStrictlyIncreasing}
 use Rattle.std.proofs.lemmas.Bool.{eqb-true, leb-true, ltb-true}
+use Rattle.std.proofs.lemmas.List.Kept.{AllPairs-cons}
 use Rattle.byte_defs.specs.Members.{has}
 use Rattle.group_defs.specs.Views.{IsView}
+use Rattle.group_defs.proofs.FollowingViews.{has_not}
 use Rattle.group_defs.specs.Accounts.{Bounded, bounded, Agree, agree, Sound, sound}
 use Rattle.group_defs.specs.Family.{Family, ends, accounts, numbers, Honest, honest}
 use Rattle.group_defs.specs.Process.{keyed}
 use Rattle.group_defs.specs.Laws.{Premises}
-use Rattle.safety_laws.proofs.Tests.{and-first, and-second}
-use Rattle.safety_laws.proofs.Installed.{Distinct, distinct-pairs, has-mem}
+use Rattle.pool_laws.proofs.Tests.{and-first, and-second}
 use Rattle.safety_laws.proofs.Tested.{bounded_is_tested, honest_is_tested}
 use Rattle.safety_laws.proofs.AgreeTested.{accounts_have_lists, agree_is_tested}
 use Rattle.safety_laws.proofs.SoundTested.{sound_is_tested}
@@ -36,9 +37,11 @@ not-true : (b : Bool) → not b ≡ true → b ≡ false
 not-true true e = absurd cc
 not-true false e = refl
 
-distinct : (xs : List ℕ) → are_distinct xs ≡ true → Distinct xs
-distinct [] e = tt
-distinct (x ∷ xs) e = ((λ y m is. has-mem xs x (not-true (has xs x) (and-first (not (has xs x)) (are_distinct xs) e)) y m (sym is)), distinct xs (and-second (not (has xs x)) (are_distinct xs) e))
+distinct : (xs : List ℕ) → are_distinct xs ≡ true → AllPairs (λ m n. m ≢ n) xs
+distinct [] e = λ i j d lt far. absurd (omega (arith, far))
+distinct (x ∷ xs) e =
+    let others = has_not xs x (not-true (has xs x) (and-first (not (has xs x)) (are_distinct xs) e)) in
+    AllPairs-cons (λ m n. m ≢ n) x xs (λ k d lt is. others k d lt (sym is)) (distinct xs (and-second (not (has xs x)) (are_distinct xs) e))
 
 rising : (xs : List ℕ) → are_rising xs ≡ true → IsStrictlyIncreasing xs
 rising [] e k lt = absurd (omega (arith, lt))
@@ -56,7 +59,7 @@ view-is f e =
     record {
       some = leb-true 1 (length ms) (and-first (nat_le 1 (length ms)) (nat_le (length ms) 16) sizes);
       few = leb-true (length ms) 16 (and-second (nat_le 1 (length ms)) (nat_le (length ms) 16) sizes);
-      distinct = distinct-pairs ms (distinct ms (and-second (nat_le 1 (length ms) && nat_le (length ms) 16) (are_distinct ms) e));
+      distinct = distinct ms (and-second (nat_le 1 (length ms) && nat_le (length ms) 16) (are_distinct ms) e);
     }
 
 -- ---- the premises, and what is false where a test fails

@@ -12,9 +12,9 @@ use Rattle.message_defs.specs.Frames.{Group, FrameView, Bundle, Proof, Want, fra
 abbrev pub in_bundle : ℕ → Bool
 in_bundle kind = true
 
--- a Proof carries what makes certificates: Echo, Place, Keep and Ready
+-- a Proof carries what makes certificates: Echo, Place, Keep and Ready, a Place and a Keep of several messages too
 abbrev pub in_proof : ℕ → Bool
-in_proof kind = (kind == 2) || (kind == 4) || (kind == 5) || (kind == 11)
+in_proof kind = (kind == 2) || (kind == 4) || (kind == 5) || (kind == 11) || (kind == 13) || (kind == 14)
 
 -- the claims of a group: its statement, once for each signer; a signer above 63 is refused
 unfoldable pub claims_on : Statement → List (ℕ × List ℕ) → Result (List Claim) FrameFault

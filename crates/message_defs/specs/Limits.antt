@@ -13,6 +13,10 @@ last_number = 1023
 abbrev pub most_places : ℕ
 most_places = 1024
 
+-- a place holds 1 to 16 messages
+abbrev pub most_messages : ℕ
+most_messages = 16
+
 -- a view has at most 16 members, and no more than these sign one statement
 abbrev pub most_members : ℕ
 most_members = 16

@@ -1,12 +1,12 @@
 -- Reading a statement, with the first fault: its kind, whether the frame carries it, its grammar, its ranges.
-use Rattle.std.specs.Prelude.{ℕ, Bool, true, ◌&&◌, not, nat_lt, nat_le, ◌==◌, List, length, if◌then◌else◌, Option, Some, None, Result, Ok, Err}
+use Rattle.std.specs.Prelude.{ℕ, zero, suc, Bool, true, false, ◌&&◌, not, nat_lt, nat_le, ◌==◌, List, [], ◌∷◌, length, if◌then◌else◌, Option, Some, None, Result, Ok, Err}
 use Rattle.std.specs.Int.{w8, w16}
 use Rattle.byte_defs.specs.Fields.{◌>>=◌, refuse_if, number_at}
-use Rattle.message_defs.specs.Limits.{last_process, last_number, most_places, last_rank, most_payload_bytes}
+use Rattle.message_defs.specs.Limits.{last_process, last_number, most_places, most_messages, last_rank, most_payload_bytes}
 use Rattle.message_defs.specs.declared.FrameFault.{FrameFault}
 use Rattle.message_defs.specs.declared.FrameFault.TheVariants as faults
 use Rattle.message_defs.specs.Updates.{Update, Remove, Add, Renew, Value}
-use Rattle.message_defs.specs.Statements.{Message, Statement, Init, Echo, Order, Place, Keep, Notify, End, Last, Suggest, Ack, Ready}
+use Rattle.message_defs.specs.Statements.{Message, Batch, Statement, Init, Echo, Order, Place, Keep, Notify, End, Last, Suggest, Ack, Ready}
 
 -- what a step reads, and the bytes after it
 abbrev pub Step : Type 0 → Type 0
@@ -30,6 +30,23 @@ message_at bytes = do
   sender ← byte_at bytes
   number ← short_at sender.1
   Ok (record { sender = sender.0; number = number.0 }, number.1)
+
+-- so many times s1 l2
+unfoldable pub messages_at : ℕ → List ℕ → Step Batch
+messages_at zero bytes = Ok ([], bytes)
+messages_at (suc n) bytes = do
+  first ← message_at bytes
+  others ← messages_at n first.1
+  Ok (first.0 ∷ others.0, others.1)
+
+-- how many messages a place holds: one, which is not told, or several, whose count is 2 to 16
+unfoldable pub count_at : (several : Bool) → List ℕ → Step ℕ
+count_at false bytes = Ok (1, bytes)
+count_at true bytes = do
+  count ← byte_at bytes
+  _ ← refuse_if (nat_lt count.0 2) faults.Statement
+  _ ← refuse_if (nat_lt most_messages count.0) faults.Statement
+  Ok count
 
 -- the length, and that many bytes, which are all that is left
 unfoldable pub payload_at : List ℕ → Result (List ℕ) FrameFault
@@ -80,6 +97,11 @@ within limit n = refuse_if (nat_lt limit n) faults.Range
 abbrev pub message_within : Message → Result (Unit {0}) FrameFault
 message_within m = within last_process m.sender >>= λ _. within last_number m.number
 
+-- each message is in range
+abbrev pub messages_within : Batch → Result (Unit {0}) FrameFault
+messages_within [] = Ok tt
+messages_within (m ∷ ms) = message_within m >>= λ _. messages_within ms
+
 -- the process is at most 63
 abbrev pub update_within : Update → Result (Unit {0}) FrameFault
 update_within (Remove p) = within last_process p
@@ -117,21 +139,22 @@ echo_at bytes = do
   _ ← within most_payload_bytes (length payload)
   Ok (Echo view.0 message.0 payload)
 
--- the view, the place and the message
-unfoldable pub placed_at : List ℕ → Result (ℕ × ℕ × Message) FrameFault
-placed_at bytes = do
+-- the view, the place, and the one message or several
+unfoldable pub placed_at : (several : Bool) → List ℕ → Result (ℕ × ℕ × Batch) FrameFault
+placed_at several bytes = do
   view ← short_at bytes
   place ← short_at view.1
-  message ← message_at place.1
-  _ ← ended message.1
+  count ← count_at several place.1
+  batch ← messages_at count.0 count.1
+  _ ← ended batch.1
   _ ← within last_number view.0
   _ ← within last_number place.0
-  _ ← message_within message.0
-  Ok (view.0, place.0, message.0)
+  _ ← messages_within batch.0
+  Ok (view.0, place.0, batch.0)
 
 -- Order, Place or Keep
-abbrev pub place_at : (ℕ → ℕ → Message → Statement) → List ℕ → Result Statement FrameFault
-place_at kind bytes = placed_at bytes >>= λ p. Ok (kind p.0 p.1 p.2)
+abbrev pub place_at : (ℕ → ℕ → Batch → Statement) → (several : Bool) → List ℕ → Result Statement FrameFault
+place_at kind several bytes = placed_at several bytes >>= λ p. Ok (kind p.0 p.1 p.2)
 
 unfoldable pub notify_at : List ℕ → Result Statement FrameFault
 notify_at bytes = do
@@ -182,16 +205,17 @@ ranked_at kind bytes = valued_at bytes >>= λ v. Ok (kind v.0 v.1 v.2)
 unfoldable pub content_at : ℕ → List ℕ → Result Statement FrameFault
 content_at kind bytes =
     if kind == 1 then init_at bytes else (if kind == 2 then echo_at bytes else
-    (if kind == 3 then place_at Order bytes else (if kind == 4 then place_at Place bytes else (if kind == 5 then place_at Keep bytes else
+    (if kind == 3 then place_at Order false bytes else (if kind == 4 then place_at Place false bytes else (if kind == 5 then place_at Keep false bytes else
     (if kind == 6 then notify_at bytes else (if kind == 7 then end_at bytes else (if kind == 8 then last_at bytes else
     (if kind == 9 then ranked_at Suggest bytes else (if kind == 10 then ranked_at Ack bytes else (if kind == 11 then ranked_at Ready bytes else
-    Err faults.Statement))))))))))
+    (if kind == 12 then place_at Order true bytes else (if kind == 13 then place_at Place true bytes else (if kind == 14 then place_at Keep true bytes else
+    Err faults.Statement)))))))))))))
 
 -- ---- a statement, all of the bytes, where the frame carries these kinds
 
--- there are eleven kinds, 1 to 11
+-- kind bytes are 1 to 14: of eleven kinds, and three of these with several messages
 abbrev pub is_kind : ℕ → Bool
-is_kind n = nat_le 1 n && nat_le n 11
+is_kind n = nat_le 1 n && nat_le n 14
 
 -- the statement that the bytes spell, in a frame that carries these kinds
 unfoldable pub statement_in : (ℕ → Bool) → List ℕ → Result Statement FrameFault

@@ -2,21 +2,33 @@
 -- A statement is its kind byte and its content; `x2` is a field x of two bytes, the higher one first:
 --   1 Init                      x2 l2 length2 payload
 --   2 Echo                      x2 s1 l2 length2 payload
---   3 Order, 4 Place, 5 Keep    x2 k2 s1 l2
+--   3 Order, 4 Place, 5 Keep    x2 k2 s1 l2, of one message
 --   6 Notify                    x2 update2
 --   7 End                       x2 k2
 --   8 Last                      x2 r1 00, or x2 r1 01 r0 value4
 --   9 Suggest, 10 Ack, 11 Ready x2 r1 value4
+--   12 Order, 13 Place, 14 Keep x2 k2 count1 and so often s1 l2, of 2 to 16 messages
 -- An update is 01 p, 02 p or 03 00. A value is its update and its cut of two bytes.
-use Rattle.std.specs.Prelude.{ℕ, ◌<◌, ◌≤◌, List, [], ◌∷◌, ◌++◌, length, Option, Some, None, codes}
+use Rattle.std.specs.Prelude.{ℕ, ◌+◌, ◌<◌, ◌≤◌, List, [], ◌∷◌, ◌++◌, length, flat_map, Option, Some, None, codes}
+use Rattle.std.specs.List.{AllByRecursion}
 use Rattle.byte_defs.specs.Fields.{two_bytes, text}
-use Rattle.message_defs.specs.Limits.{last_process, last_number, most_places, last_rank, most_payload_bytes, most_signature_bytes}
+use Rattle.message_defs.specs.Limits.{last_process, last_number, most_places, most_messages, last_rank, most_payload_bytes, most_signature_bytes}
 use Rattle.message_defs.specs.Updates.{Update, Remove, Add, Renew, Value, update_numbers}
-use Rattle.message_defs.specs.Statements.{Message, Statement, Init, Echo, Order, Place, Keep, Notify, End, Last, Suggest, Ack, Ready, Claim}
+use Rattle.message_defs.specs.Statements.{Message, Batch, Statement, Init, Echo, Order, Place, Keep, Notify, End, Last, Suggest, Ack, Ready, Claim}
 
 -- s1 l2: the sender, and the number of its message
 abbrev pub message_bytes : Message → List ℕ
 message_bytes m = m.sender ∷ two_bytes m.number
+
+-- the kind byte of an Order, a Place or a Keep: the kind's own where the place holds one message, and nine more where it holds several
+abbrev pub place_kind : ℕ → Batch → ℕ
+place_kind kind (m ∷ []) = kind
+place_kind kind b = kind + 9
+
+-- one message as it is, several behind their number: so a batch has one spelling
+abbrev pub batch_bytes : Batch → List ℕ
+batch_bytes (m ∷ []) = message_bytes m
+batch_bytes b = length b ∷ flat_map message_bytes b
 
 -- the update, and the cut
 abbrev pub value_bytes : Value → List ℕ
@@ -31,9 +43,9 @@ ready_bytes (Some ready) = 1 ∷ ready.0 ∷ value_bytes ready.1
 abbrev pub spelling : Statement → List ℕ
 spelling (Init x l payload) = 1 ∷ (two_bytes x ++ two_bytes l ++ text payload)
 spelling (Echo x m payload) = 2 ∷ (two_bytes x ++ message_bytes m ++ text payload)
-spelling (Order x k m) = 3 ∷ (two_bytes x ++ two_bytes k ++ message_bytes m)
-spelling (Place x k m) = 4 ∷ (two_bytes x ++ two_bytes k ++ message_bytes m)
-spelling (Keep x k m) = 5 ∷ (two_bytes x ++ two_bytes k ++ message_bytes m)
+spelling (Order x k b) = place_kind 3 b ∷ (two_bytes x ++ two_bytes k ++ batch_bytes b)
+spelling (Place x k b) = place_kind 4 b ∷ (two_bytes x ++ two_bytes k ++ batch_bytes b)
+spelling (Keep x k b) = place_kind 5 b ∷ (two_bytes x ++ two_bytes k ++ batch_bytes b)
 spelling (Notify x u) = 6 ∷ (two_bytes x ++ update_numbers u)
 spelling (End x k) = 7 ∷ (two_bytes x ++ two_bytes k)
 spelling (Last x r ready) = 8 ∷ (two_bytes x ++ r ∷ ready_bytes ready)
@@ -55,6 +67,12 @@ IsViewNumber x = x ≤ last_number
 abbrev pub IsMessage : Message → Type 0
 IsMessage m = (m.sender ≤ last_process) × (m.number ≤ last_number)
 
+-- a place holds 1 to 16 messages
+pub record IsBatch (b : Batch) : Type 0 where
+  pub some : 1 ≤ length b
+  pub few : length b ≤ most_messages
+  pub each : AllByRecursion IsMessage b
+
 -- the process that is removed or added is one of 0 to 63
 abbrev pub IsUpdate : Update → Type 0
 IsUpdate (Remove p) = p ≤ last_process
@@ -74,9 +92,9 @@ IsReport r (Some ready) = (ready.0 < r) × IsValue ready.1
 abbrev pub IsStatement : Statement → Type 0
 IsStatement (Init x l payload) = IsViewNumber x × (l ≤ last_number) × (length payload ≤ most_payload_bytes)
 IsStatement (Echo x m payload) = IsViewNumber x × IsMessage m × (length payload ≤ most_payload_bytes)
-IsStatement (Order x k m) = IsViewNumber x × (k ≤ last_number) × IsMessage m
-IsStatement (Place x k m) = IsViewNumber x × (k ≤ last_number) × IsMessage m
-IsStatement (Keep x k m) = IsViewNumber x × (k ≤ last_number) × IsMessage m
+IsStatement (Order x k b) = IsViewNumber x × (k ≤ last_number) × IsBatch b
+IsStatement (Place x k b) = IsViewNumber x × (k ≤ last_number) × IsBatch b
+IsStatement (Keep x k b) = IsViewNumber x × (k ≤ last_number) × IsBatch b
 IsStatement (Notify x u) = IsViewNumber x × IsUpdate u
 IsStatement (End x k) = IsViewNumber x × (k ≤ most_places)
 IsStatement (Last x r ready) = IsViewNumber x × (r ≤ last_rank) × IsReport r ready

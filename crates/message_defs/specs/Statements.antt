@@ -1,10 +1,10 @@
 -- Statements, their slots, and claims. The body that is signed is in Spelling.
 use Rattle.std.specs.Prelude.{◌≡◌, ◌≢◌, ℕ, Bool, List, [], ◌∷◌, Option, Some, None}
 use native.Mathlib.Decide.{ℕ_discrete}
-use Rattle.byte_defs.specs.Equality.{is_yes, both, bytes_discrete, option_discrete, pair_discrete}
+use Rattle.byte_defs.specs.Equality.{is_yes, both, bytes_discrete, list_discrete, option_discrete, pair_discrete}
 use Rattle.message_defs.specs.Updates.{Update, Update-discrete, Value, Value-discrete, update_numbers}
 
--- what a place holds: the message of this number of this sender
+-- the message of this number of this sender
 pub record Message : Type 0 where
   pub sender : ℕ
   pub number : ℕ
@@ -12,13 +12,21 @@ pub record Message : Type 0 where
 unfoldable pub Message-discrete : Discrete Message
 Message-discrete a b = both (λ s n. λ i. record { sender = s i; number = n i }) (λ e. λ i. (e i).sender) (λ e. λ i. (e i).number) (ℕ_discrete a.sender b.sender) (ℕ_discrete a.number b.number)
 
+-- what a place holds: messages, in the order in which they are delivered
+abbrev pub Batch : Type 0
+Batch = List Message
+
+-- batches are equal message by message
+unfoldable pub Batch-discrete : Discrete Batch
+Batch-discrete b c = list_discrete Message-discrete b c
+
 -- what a process signs of a view, in eleven kinds
 pub data Statement : Type 0 where
   Init : (view number : ℕ) (payload : List ℕ) → Statement
   Echo : (view : ℕ) (message : Message) (payload : List ℕ) → Statement
-  Order : (view place : ℕ) (message : Message) → Statement
-  Place : (view place : ℕ) (message : Message) → Statement
-  Keep : (view place : ℕ) (message : Message) → Statement
+  Order : (view place : ℕ) (batch : Batch) → Statement
+  Place : (view place : ℕ) (batch : Batch) → Statement
+  Keep : (view place : ℕ) (batch : Batch) → Statement
   Notify : (view : ℕ) (update : Update) → Statement
   End : (view length : ℕ) → Statement
   Last : (view rank : ℕ) (ready : Option (ℕ × Value)) → Statement
@@ -46,9 +54,9 @@ pub data Slot : Type 0 where
 abbrev pub slot_of : Statement → Slot
 slot_of (Init x l payload) = InitAt x l
 slot_of (Echo x m payload) = EchoAt x m
-slot_of (Order x k m) = OrderAt x k
-slot_of (Place x k m) = PlaceAt x k
-slot_of (Keep x k m) = KeepAt x k
+slot_of (Order x k b) = OrderAt x k
+slot_of (Place x k b) = PlaceAt x k
+slot_of (Keep x k b) = KeepAt x k
 slot_of (Notify x u) = NotifyAt x u
 slot_of (End x k) = EndAt x
 slot_of (Last x r ready) = LastAt x r
@@ -56,13 +64,13 @@ slot_of (Suggest x r v) = SuggestAt x r
 slot_of (Ack x r v) = AckAt x r
 slot_of (Ready x r v) = ReadyAt x r
 
--- a statement's first byte, as bodies and slots have it
+-- the number of the kind, as slots have it: a statement's first byte, where its place holds one message
 abbrev pub kind_number : Statement → ℕ
 kind_number (Init x l payload) = 1
 kind_number (Echo x m payload) = 2
-kind_number (Order x k m) = 3
-kind_number (Place x k m) = 4
-kind_number (Keep x k m) = 5
+kind_number (Order x k b) = 3
+kind_number (Place x k b) = 4
+kind_number (Keep x k b) = 5
 kind_number (Notify x u) = 6
 kind_number (End x k) = 7
 kind_number (Last x r ready) = 8
@@ -88,9 +96,9 @@ slot_numbers (ReadyAt x r) = 11 ∷ x ∷ r ∷ []
 abbrev pub view_of : Statement → ℕ
 view_of (Init x l payload) = x
 view_of (Echo x m payload) = x
-view_of (Order x k m) = x
-view_of (Place x k m) = x
-view_of (Keep x k m) = x
+view_of (Order x k b) = x
+view_of (Place x k b) = x
+view_of (Keep x k b) = x
 view_of (Notify x u) = x
 view_of (End x k) = x
 view_of (Last x r ready) = x
@@ -100,13 +108,20 @@ view_of (Ready x r v) = x
 
 -- ---- parts that only some kinds have
 
--- the message that an Echo, Order, Place or Keep names
-abbrev pub message_of : Statement → Option Message
-message_of (Echo x m payload) = Some m
-message_of (Order x k m) = Some m
-message_of (Place x k m) = Some m
-message_of (Keep x k m) = Some m
-message_of _ = None
+-- the batch of an Order, a Place or a Keep
+abbrev pub batch_of : Statement → Option Batch
+batch_of (Order x k b) = Some b
+batch_of (Place x k b) = Some b
+batch_of (Keep x k b) = Some b
+batch_of _ = None
+
+-- the messages that a statement names: an Echo its message, an Order, a Place or a Keep those of its batch
+abbrev pub messages_of : Statement → List Message
+messages_of (Echo x m payload) = m ∷ []
+messages_of (Order x k b) = b
+messages_of (Place x k b) = b
+messages_of (Keep x k b) = b
+messages_of _ = []
 
 -- the payload of an Init or an Echo
 abbrev pub payload_of : Statement → Option (List ℕ)
@@ -129,7 +144,7 @@ same_slot a b = is_yes (Slot-discrete ℕ_discrete Message-discrete (Update-disc
 
 -- the statements are equal, in kind and in all fields
 abbrev pub same_statement : Statement → Statement → Bool
-same_statement a b = is_yes (Statement-discrete ℕ_discrete bytes_discrete Message-discrete (Update-discrete ℕ_discrete) (option_discrete (pair_discrete ℕ_discrete Value-discrete)) Value-discrete a b)
+same_statement a b = is_yes (Statement-discrete ℕ_discrete bytes_discrete Message-discrete Batch-discrete (Update-discrete ℕ_discrete) (option_discrete (pair_discrete ℕ_discrete Value-discrete)) Value-discrete a b)
 
 -- ---- claims
 

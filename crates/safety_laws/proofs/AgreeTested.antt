@@ -7,11 +7,11 @@ use Rattle.std.proofs.lemmas.List.{length-map, take-append-drop, take_at}
 use lib.Pointwise.{pointwise, pointwise_decides}
 use Rattle.byte_defs.specs.Equality.{is_yes}
 use Rattle.group_defs.specs.Views.{View, View-discrete, is_member}
-use Rattle.group_defs.specs.Process.{Delivered, Delivered-discrete, Left, Process}
-use Rattle.group_defs.specs.Accounts.{Account, account_of, Group, group_of, delivered_in, HasLeft, IsPrefixOf, HasListOfEachView, AccountsHaveLists, AgreesWith, agrees_in, agrees_with, same_views, same_sequence, AgreeIsTested}
-use Rattle.safety_laws.proofs.Members.{All-mem, each-list_all, list_all-mem, map-mem, mem-All}
-use Rattle.safety_laws.proofs.Places.{get-some, index-beyond, length-snoc, mem-range, range-mem, slice_get-length, take-one}
-use Rattle.safety_laws.proofs.Tests.{and-first, and-second, both-true, is-yes, yes-is}
+use Rattle.group_defs.specs.Process.{Letter, Letter-discrete, Delivered, Delivered-discrete, Left, Process, without_places}
+use Rattle.group_defs.specs.Accounts.{Account, account_of, Group, group_of, messages_in, HasLeft, IsPrefixOf, HasListOfEachView, AccountsHaveLists, AgreesWith, agrees_in, agrees_with, same_views, same_sequence, AgreeIsTested}
+use Rattle.pool_laws.proofs.Members.{All-mem, each-list_all, list_all-mem, map-mem, mem-All}
+use Rattle.pool_laws.proofs.Places.{get-some, index-beyond, length-snoc, mem-range, range-mem, slice_get-length, take-one}
+use Rattle.pool_laws.proofs.Tests.{and-first, and-second, both-true, is-yes, yes-is}
 
 pub accounts_have_lists : AccountsHaveLists
 accounts_have_lists ps = mem-All HasListOfEachView (map account_of ps) (λ a m. let p = map-mem account_of ps a m in subst HasListOfEachView p.2 (of-process p.0))
@@ -54,17 +54,23 @@ same_view v w = is_yes (View-discrete v w)
 pub views-decide : Decides same_view
 views-decide = discrete-decides View-discrete
 
+abbrev pub same_letter : Letter → Letter → Bool
+same_letter d e = is_yes (Letter-discrete d e)
+
+pub sequence-decides : Decides same_letter
+sequence-decides = discrete-decides Letter-discrete
+
 abbrev pub same_delivered : Delivered → Delivered → Bool
 same_delivered d e = is_yes (Delivered-discrete d e)
 
-pub sequence-decides : Decides same_delivered
-sequence-decides = discrete-decides Delivered-discrete
+pub deliveries-decide : Decides same_delivered
+deliveries-decide = discrete-decides Delivered-discrete
 
 -- ---- one account
 
 module _ (g : Group) (a : Account) (full : HasListOfEachView a) where
-  abbrev own : ℕ → List Delivered
-  own x = delivered_in a x
+  abbrev own : ℕ → List Letter
+  own x = messages_in a x
 
   -- a member that has left the view of this number
   abbrev left_as_member : ℕ → Bool
@@ -93,8 +99,8 @@ module _ (g : Group) (a : Account) (full : HasListOfEachView a) where
   agrees-there : (x : ℕ) → agrees_in g a x ≡ true → IsPrefixOf (own x) (g.sequence x) × Whole x
   unfolding Whole
   agrees-there x e = (
-    prefix-is same_delivered sequence-decides (own x) (g.sequence x) (and-first _ _ e),
-    λ v at member left. same-is same_delivered sequence-decides (own x) (g.sequence x)
+    prefix-is same_letter sequence-decides (own x) (g.sequence x) (and-first _ _ e),
+    λ v at member left. same-is same_letter sequence-decides (own x) (g.sequence x)
         (either-way (left_as_member x) (nat_lt (x + 1) (length a.views)) (same_sequence (own x) (g.sequence x)) (and-second _ _ e) (member-there x v at ∙ or-false (is_member v a.me) ∙ member) (lt-ltb (x + 1) (length a.views) left)),
   )
 
@@ -102,13 +108,13 @@ module _ (g : Group) (a : Account) (full : HasListOfEachView a) where
   unfolding Whole
   there-agrees x lt p whole =
       let v = get-some a.views x lt in
-      both-true _ _ (is-prefix same_delivered sequence-decides (own x) (g.sequence x) p)
-      (unless (left_as_member x) (nat_lt (x + 1) (length a.views)) (same_sequence (own x) (g.sequence x)) (λ member left. is-same same_delivered sequence-decides (own x) (g.sequence x)
+      both-true _ _ (is-prefix same_letter sequence-decides (own x) (g.sequence x) p)
+      (unless (left_as_member x) (nat_lt (x + 1) (length a.views)) (same_sequence (own x) (g.sequence x)) (λ member left. is-same same_letter sequence-decides (own x) (g.sequence x)
       (whole v.0 v.1 (sym (or-false (is_member v.0 a.me)) ∙ sym (member-there x v.0 v.1) ∙ member) (ltb-true (x + 1) (length a.views) left))))
 
   -- nothing is delivered beyond the views
   beyond : (x : ℕ) → length a.views ≤ x → own x ≡ []
-  beyond x le = index-beyond a.delivered x [] (let long = full in omega (arith, long, le))
+  beyond x le = ap without_places (index-beyond a.delivered x [] (let long = full in omega (arith, long, le)))
 
   within : (x : ℕ) → (x < length a.views) ⊎ (length a.views ≤ x)
   within x = go (nat_lt x (length a.views)) refl

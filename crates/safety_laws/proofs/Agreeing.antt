@@ -5,15 +5,15 @@ use Rattle.message_defs.specs.Statements.{Message, Statement, Echo, Place, slot_
 use Rattle.group_defs.specs.Process.{Process}
 use Rattle.group_defs.specs.Certified.{is_certified, payload_at}
 use Rattle.group_defs.specs.Family.{Family, ends}
-use Rattle.group_defs.specs.Laws.{Premises, StoodSo, IsOneView, OnePayload, OneMessage}
+use Rattle.group_defs.specs.Laws.{Premises, StoodSo, IsOneView, OnePayload, OneBatch}
 use Rattle.group_defs.specs.Echoing.{OnePayloadAtTheEnd}
 use Rattle.safety_laws.proofs.CertifiedIsBacked.{certified_is_backed}
 use Rattle.safety_laws.proofs.Decisions.{end_stood, settled_stood}
-use Rattle.safety_laws.proofs.Heard.{payload-certified, place-certified}
-use Rattle.safety_laws.proofs.Members.{Contains-mem}
+use Rattle.pool_laws.proofs.Heard.{payload-certified, place-certified}
+use Rattle.pool_laws.proofs.Members.{Contains-mem}
 use Rattle.safety_laws.proofs.Moments.{is-one}
 use Rattle.safety_laws.proofs.OneContent.{one_content}
-use Rattle.safety_laws.proofs.Slots.{echo-payload, place-message}
+use Rattle.pool_laws.proofs.Slots.{echo-payload, place-batch}
 use Rattle.safety_laws.proofs.ViewsAgree.{installed-one}
 use Rattle.safety_laws.proofs.ViewsOf.{moment-view}
 
@@ -37,7 +37,7 @@ one_payload f q q' m b b' premises so so' number e e' = one-payload f q q' m b b
 pub one_payload_at_the_end : OnePayloadAtTheEnd
 one_payload_at_the_end f p q m b c premises in_p in_q number e e' = one-payload f p q m b c premises (end_stood f p in_p) (end_stood f q in_q) number e e'
 
-pub one_message : OneMessage
-one_message f q q' k m m' premises so so' number e e' =
-    let same = two-stood f q q' premises (settled_stood f q so) (settled_stood f q' so') number (Place q.pool.view.number k m) (Place q'.pool.view.number k m') (place-certified q.pool k m e) (place-certified q'.pool k m' e') (ap (λ x. slot_of (Place x k m)) number) in
-    place-message q.pool.view.number k m m' (same ∙ ap (λ x. Place x k m') (sym number))
+pub one_batch : OneBatch
+one_batch f q q' k b b' premises so so' number e e' =
+    let same = two-stood f q q' premises (settled_stood f q so) (settled_stood f q' so') number (Place q.pool.view.number k b) (Place q'.pool.view.number k b') (place-certified q.pool k b e) (place-certified q'.pool k b' e') (ap (λ x. slot_of (Place x k b)) number) in
+    place-batch q.pool.view.number k b b' (same ∙ ap (λ x. Place x k b') (sym number))

@@ -19,13 +19,13 @@ use Rattle.group_defs.specs.Laws.{Premises, StoodSo, IsOneView}
 use Rattle.safety_laws.proofs.CertifiedIsBacked.{said-may_back}
 use Rattle.safety_laws.proofs.KeptBelowCut.{acked_was_free}
 use Rattle.safety_laws.proofs.MaySign.{notify-perceived, signing-member}
-use Rattle.safety_laws.proofs.Members.{All-mem, Contains-mem, Mem, list_any-mem, mem-Contains, mem-map}
+use Rattle.pool_laws.proofs.Members.{All-mem, Contains-mem, Mem, list_any-mem, mem-Contains, mem-map}
 use Rattle.safety_laws.proofs.Moments.{DueAt, due-at}
 use Rattle.safety_laws.proofs.OfGroup.{Whose, whose, nobody, its}
-use Rattle.safety_laws.proofs.Places.{slice_get-mem}
+use Rattle.pool_laws.proofs.Places.{slice_get-mem}
 use Rattle.safety_laws.proofs.Quorums.{signed-by, some-correct}
 use Rattle.safety_laws.proofs.ReadyFixesValue.{ready-ack}
-use Rattle.safety_laws.proofs.Tests.{and-first, and-four, some-is, yes-is}
+use Rattle.pool_laws.proofs.Tests.{and-first, and-four, some-is, yes-is}
 use Rattle.safety_laws.proofs.ViewsAgree.{backed, of-history, one-view}
 use Rattle.safety_laws.proofs.ViewsOf.{left-before, left-view}
 

@@ -11,13 +11,13 @@ use Rattle.group_defs.specs.Process.{Process}
 use Rattle.group_defs.specs.Certified.{says, backers, number_of_members, heard_on}
 use Rattle.group_defs.specs.Family.{Correct, Family, numbers, end_of, ends, handed, statements_of, IsOwned}
 use Rattle.group_defs.specs.Laws.{IsFrom, StoodSo, IsOneView, IsBacked, may_back, CertifiedIsBacked}
-use Rattle.safety_laws.proofs.Counting.{length-filter-le}
-use Rattle.safety_laws.proofs.Heard.{heard-says, heard_on-said}
-use Rattle.safety_laws.proofs.Members.{All-mem, Contains-mem, Mem, each-list_all, map-mem, mem-append, mem-list_any, mem-map}
+use Rattle.pool_laws.proofs.Counting.{length-filter-le}
+use Rattle.pool_laws.proofs.Heard.{heard-says, heard_on-said}
+use Rattle.pool_laws.proofs.Members.{All-mem, Contains-mem, Mem, each-list_all, map-mem, mem-append, mem-list_any, mem-map}
 use Rattle.safety_laws.proofs.OnePerSlot.{own-signers}
-use Rattle.safety_laws.proofs.Places.{Compared, ahead, behind, compared, level, mem-slice_get, slice_get-length}
+use Rattle.pool_laws.proofs.Places.{Compared, ahead, behind, compared, level, mem-slice_get, slice_get-length}
 use Rattle.safety_laws.proofs.Quorums.{in-ends, me-end_of}
-use Rattle.safety_laws.proofs.Slots.{is-same_statement}
+use Rattle.pool_laws.proofs.Slots.{is-same_statement}
 
 -- ---- each process of a family has a number of its own
 
@@ -73,7 +73,7 @@ module _ (f : Family) (v : View) (q : Process) (one : IsOneView f v) (stood : St
       let b = map-mem (end_of f.setting) f.correct stood.by (Contains-mem (ends f) stood.by stood.correct) in
       let in_by : Mem c stood.by.signed = subst (Mem c) stood.grown.signed.1 (mem-append q.signed stood.grown.signed.0 c (Contains-mem q.signed c own)) in
       let in_end : Mem c (end_of f.setting b.0).signed = subst (λ (p : Process). Mem c p.signed) (sym b.2) in_by in
-      let signer : c.signer ≡ b.0.me = own-signers f.setting b.0.me b.0.turns c in_end ∙ me-end_of f.setting b.0 in
+      let signer : c.signer ≡ b.0.me = own-signers f.setting b.0.me b.0.batch_limit b.0.turns c in_end ∙ me-end_of f.setting b.0 in
       let number : a.0.me ≡ b.0.me = sym (me-end_of f.setting a.0) ∙ ap (λ (p : Process). p.me) a.2 ∙ e ∙ signer in
       let same : a.0 ≡ b.0 = one-of-number f one.premises.rising a.0 b.0 a.1 b.1 number in
       subst (λ (p : Process). Mem c.statement (statements_of p)) (ap (end_of f.setting) (sym same) ∙ a.2) (mem-map (λ (c : Claim). c.statement) (end_of f.setting b.0).signed c in_end)

@@ -6,10 +6,10 @@ use Rattle.group_defs.specs.Process.{Setting, Process, start}
 use Rattle.group_defs.specs.Certified.{is_certified}
 use Rattle.group_defs.specs.Settle.{decided_by}
 use Rattle.group_defs.specs.Laws.{DecisionStands}
-use Rattle.safety_laws.proofs.Growing.{is_certified-stays}
+use Rattle.pool_laws.proofs.Growing.{is_certified-stays}
 use Rattle.safety_laws.proofs.Induction.{Keeps, run-keeps}
 use Rattle.safety_laws.proofs.Installed.{decided_by-is}
-use Rattle.safety_laws.proofs.Tests.{none-some, option_or-is}
+use Rattle.pool_laws.proofs.Tests.{none-some, option_or-is}
 
 abbrev Stands : Process → Type 0
 Stands p = (d : ℕ × Value) → p.decision ≡ Some d → is_certified p.pool (Ready p.pool.view.number d.0 d.1) ≡ true
@@ -22,10 +22,10 @@ keeps s from = record {
   doubts = λ p conflicts ok. ok;
   signs = λ p signer st next none ok d decided. absurd (none-some none decided);
   decides = λ p ok d e. elim (option_or-is p.decision (decided_by s p.pool) d e) [ inl before ↦ ok d before | inr by ↦ (decided_by-is s p.pool d by).1 ];
-  delivers = λ p d member room e ok. ok;
+  delivers = λ p ds member room e ok. ok;
   installs = λ p d decided whole ok d' e. absurd cc;
   halts = λ p d decided member ok. ok;
 }
 
 pub decision_stands : DecisionStands
-decision_stands s me turns = run-keeps s Stands turns (keeps s _) (start s me) (λ d e. absurd cc)
+decision_stands s me limit turns = run-keeps s Stands turns (keeps s _) (start s me limit) (λ d e. absurd cc)

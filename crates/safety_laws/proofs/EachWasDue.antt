@@ -15,10 +15,10 @@ use Rattle.group_defs.specs.Accounts.{IsPrefixOf}
 use Rattle.group_defs.specs.Family.{statements_of, handed_to}
 use Rattle.group_defs.specs.Laws.{SignsAt, HasGrown, IsFrom, WasDue, EachWasDue}
 use Rattle.std.proofs.lemmas.List.{map-append, length-map}
-use Rattle.safety_laws.proofs.Heard.{verdict-valid}
+use Rattle.pool_laws.proofs.Heard.{verdict-valid}
 use Rattle.safety_laws.proofs.Induction.{Keeps, run-keeps}
-use Rattle.safety_laws.proofs.Members.{Contains-mem, Mem, mem-Contains, mem-snoc, put-mem, snoc-mem}
-use Rattle.safety_laws.proofs.Places.{prefix-more, prefix-self, slice_get-index, slice_get-mem, slice_get-snoc}
+use Rattle.pool_laws.proofs.Members.{Contains-mem, Mem, mem-Contains, mem-snoc, put-mem, snoc-mem}
+use Rattle.pool_laws.proofs.Places.{prefix-more, prefix-self, slice_get-index, slice_get-mem, slice_get-snoc}
 
 -- ---- prefixes
 
@@ -129,7 +129,7 @@ module _ (s : Setting) (turns : List Turn) where
     doubts = λ p conflicts ok. record { heard = ok.heard; dues = λ i st at. goes-on p _ (λ old g. otherwise old p g _ refl refl refl refl refl refl) i st (ok.dues i st at) };
     signs = λ p signer st next none ok. signing-keeps p signer st next.may ok;
     decides = λ p ok. record { heard = ok.heard; dues = λ i st at. goes-on p _ (λ old g. otherwise old p g _ refl refl refl refl refl refl) i st (ok.dues i st at) };
-    delivers = λ p d member room e ok. record { heard = ok.heard; dues = λ i st at. goes-on p _ (λ old g. otherwise old p g _ refl refl refl refl refl refl) i st (ok.dues i st at) };
+    delivers = λ p ds member room e ok. record { heard = ok.heard; dues = λ i st at. goes-on p _ (λ old g. otherwise old p g _ refl refl refl refl refl refl) i st (ok.dues i st at) };
     installs = λ p d decided whole ok. record { heard = λ c m. absurd m; dues = λ i st at. goes-on p _ (λ old g. installing old p g d) i st (ok.dues i st at) };
     halts = λ p d decided member ok. record { heard = ok.heard; dues = λ i st at. goes-on p _ (λ old g. otherwise old p g _ refl refl refl refl refl refl) i st (ok.dues i st at) };
   }
@@ -139,4 +139,4 @@ module _ (s : Setting) (turns : List Turn) where
       either p c m e ok d (inr is) = inl (subst (λ c. Mem c (handed_to turns) × (is_valid s c ≡ true)) is (m, verdict-valid s p c e))
 
 pub each_was_due : EachWasDue
-each_was_due s me turns = (run-keeps s (EachDue s turns) turns (keeps s turns) (start s me) (record { heard = λ c m. absurd m; dues = λ i st at. absurd cc })).dues
+each_was_due s me limit turns = (run-keeps s (EachDue s turns) turns (keeps s turns) (start s me limit) (record { heard = λ c m. absurd m; dues = λ i st at. absurd cc })).dues

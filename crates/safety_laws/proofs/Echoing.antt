@@ -6,25 +6,25 @@ use Rattle.std.specs.Option.{option_or, option_map_or}
 use Rattle.byte_defs.specs.Choices.{first_some}
 use Rattle.message_defs.specs.Claims.{Claims, Wants, Faulty}
 use Rattle.message_defs.specs.Updates.{Value}
-use Rattle.message_defs.specs.Statements.{Statement, Init, Echo, Order, Keep, Suggest, Slot, EchoAt, PlaceAt, KeepAt, ReadyAt, Claim, slot_of, same_slot, message_of, value_of}
+use Rattle.message_defs.specs.Statements.{Statement, Init, Echo, Order, Keep, Suggest, Slot, PlaceAt, KeepAt, ReadyAt, Claim, slot_of, same_slot, batch_of, value_of}
 use Rattle.group_defs.specs.Views.{is_member, is_possible}
-use Rattle.group_defs.specs.Process.{Inits, Echoes, Setting, Pool, Left, Process, start, keyed}
+use Rattle.group_defs.specs.Process.{Inits, Echoes, Setting, Pool, Left, Process, start, keyed, places_in}
 use Rattle.group_defs.specs.Certified.{heard_on, certificate, certificate_on, certified_on, is_certified, place_at, place_kept, fixed_length, number_of_members}
 use Rattle.group_defs.specs.Due.{kind_of}
 use Rattle.group_defs.specs.Signing.{Signer, own_claim, signs}
 use Rattle.group_defs.specs.Settle.{decided_at, decided_by, decide, limit, deliver_more, deliver, leave_by, leave, settle}
-use Rattle.group_defs.specs.Sending.{Bundle, Proof, beside_order, beside_suggest, joined, with_what_goes_beside, newly_signed, bundle, place_certificates, commits_of, pools_of, answer, others, unless_empty}
+use Rattle.group_defs.specs.Sending.{Bundle, Proof, beside_order, beside_suggest, joined, with_what_goes_beside, newly_signed, bundle, message_certificates, place_certificates, commits_of, pools_of, answer, others, unless_empty}
 use Rattle.group_defs.specs.Events.{Event, Submit, Hand, Suspect, Join, RenewView, Tick, EventFault, Outcome, refusal, signing, after, is_tick, answers, answered, outcome}
 use Rattle.group_defs.specs.Family.{claims_in, handed_to}
 use Rattle.group_defs.specs.Echoing.{is_echoing, AreEchoing, SignsEchoing, Echoing, SettlesNothing, EachEventEchoes, EchoesThroughout}
 use Rattle.std.proofs.lemmas.List.{append-nil}
 use Rattle.byte_defs.specs.Members.{has}
 use Rattle.safety_laws.proofs.Induction.{AreFrom, Keeps, after-keeps, run-keeps, sign_all-keeps, take_in-keeps}
-use Rattle.safety_laws.proofs.KindsSigned.{offers-kind}
-use Rattle.safety_laws.proofs.Members.{All-mem, Mem, each-snoc, filter-mem, filter_map-mem, index-mem, map-mem, mem-drop, none-in}
+use Rattle.rule_laws.proofs.Offered.{offers-kind}
+use Rattle.pool_laws.proofs.Members.{All-mem, Mem, each-snoc, filter-mem, filter_map-mem, index-mem, map-mem, mem-drop, none-in}
 use Rattle.safety_laws.proofs.Settlings.{after-none}
-use Rattle.safety_laws.proofs.Slots.{same_slot-is}
-use Rattle.safety_laws.proofs.Tests.{none-some}
+use Rattle.pool_laws.proofs.Slots.{same_slot-is}
+use Rattle.pool_laws.proofs.Tests.{none-some}
 
 -- ---- lists without what is looked for
 
@@ -73,7 +73,7 @@ module _ (h : Pool) (are : AreEchoing h.heard) where
   no-certificate slot other = ap (λ (o : Option Statement). elim o [ None ↦ [] | Some st ↦ certificate h st ]) (none-on slot other)
 
   no-place : (k : ℕ) → place_at h k ≡ None
-  no-place k = ap (option_and_then message_of) (none-on (PlaceAt h.view.number k) (place h.view.number k))
+  no-place k = ap (option_and_then batch_of) (none-on (PlaceAt h.view.number k) (place h.view.number k))
 
   undecided-by : (s : Setting) → decided_by s h ≡ None
   undecided-by s = first_some-none (decided_at s h) (range_with_len 0 (number_of_members h)) (λ r.
@@ -90,7 +90,7 @@ module _ (h : Pool) (are : AreEchoing h.heard) where
   nothing-to-answer : (k : ℕ) → place_certificates h k ≡ []
   nothing-to-answer k =
       (λ i. no-certificate (PlaceAt h.view.number k) (place h.view.number k) i
-      ++ elim (no-place k i) [ None ↦ [] | Some m ↦ certificate_on h (EchoAt h.view.number m) ]
+      ++ elim (no-place k i) [ None ↦ [] | Some b ↦ message_certificates h b ]
       ++ no-certificate (KeepAt h.view.number k) (keep h.view.number k) i)
 
 -- ---- settling
@@ -110,9 +110,9 @@ module _ (s : Setting) (p : Process) (are : AreEchoing p.pool.heard) (undecided 
   no-more = refl
 
   delivers-nothing : deliver p ≡ p
-  delivers-nothing = go (is_member p.pool.view p.me) (let zero_more : limit p - length p.delivered ≡ 0 = (let none = no-limit in omega (arith, none)) in ap (λ n. deliver_more n p) zero_more ∙ no-more)
+  delivers-nothing = go (is_member p.pool.view p.me) (let zero_more : limit p - places_in p.delivered ≡ 0 = (let none = no-limit in omega (arith, none)) in ap (λ n. deliver_more n p) zero_more ∙ no-more)
     where
-      go : (b : Bool) → deliver_more (limit p - length p.delivered) p ≡ p → (if b then deliver_more (limit p - length p.delivered) p else p) ≡ p
+      go : (b : Bool) → deliver_more (limit p - places_in p.delivered) p ≡ p → (if b then deliver_more (limit p - places_in p.delivered) p else p) ≡ p
       go true e = e
       go false e = refl
 
@@ -143,7 +143,7 @@ keeps s from two are = record {
   doubts = λ p conflicts ok. record { view = ok.view; heard = ok.heard; signed = ok.signed; undecided = ok.undecided; delivered = ok.delivered; left = ok.left; previous = ok.previous; running = ok.running };
   signs = λ p signer st next none ok. signing-keeps p signer st (kinds-echoing st (subst (λ kind. Mem kind (Inits ∷ Echoes ∷ [])) (sym (offers-kind next.kind s p st next.offered)) (subst (Mem next.kind) two next.signed))) ok;
   decides = λ p ok. subst (Echoing s) (sym (decides-nothing s p ok.heard ok.undecided)) ok;
-  delivers = λ p d member room e ok. absurd (let none = no-limit s p ok.heard ok.undecided in omega (arith, none, room));
+  delivers = λ p ds member room e ok. absurd (let none = no-limit s p ok.heard ok.undecided in omega (arith, none, room));
   installs = λ p d decided whole ok. absurd (none-some ok.undecided decided);
   halts = λ p d decided member ok. absurd (none-some ok.undecided decided);
 }
@@ -167,7 +167,7 @@ keeps s from two are = record {
         go false = snoc-echoing p.pool.heard (own_claim s signer p st) ok.heard e
 
 pub echoes_throughout : EchoesThroughout
-echoes_throughout s me turns two are = run-keeps s (Echoing s) turns (keeps s (handed_to turns) two are) (start s me) (record { view = refl; heard = λ k d lt. absurd (omega (arith, lt)); signed = λ k d lt. absurd (omega (arith, lt)); undecided = refl; delivered = refl; left = refl; previous = refl; running = refl })
+echoes_throughout s me limit turns two are = run-keeps s (Echoing s) turns (keeps s (handed_to turns) two are) (start s me limit) (record { view = refl; heard = λ k d lt. absurd (omega (arith, lt)); signed = λ k d lt. absurd (omega (arith, lt)); undecided = refl; delivered = refl; left = refl; previous = refl; running = refl })
 
 -- ---- what is sent
 

@@ -1,31 +1,32 @@
 -- What a process has seen certified: of what it delivered, of what it decided, of the views that it left.
 use Rattle.std.proofs.Common.{◌≡◌, ◌⊎◌, inl, inr, ℕ, suc, ◌+◌, ◌<◌, ◌≤◌, List, [], ◌∷◌, ◌++◌, map, length, Option, Some, None, Bool, true, false, refl, sym, ap, ◌∙◌, subst, arith, slice_get}
-use Rattle.std.specs.Prelude.{if◌then◌else◌, nat_lt, filter_map, All, is_some, option_map}
+use Rattle.std.specs.Prelude.{if◌then◌else◌, nat_lt, filter_map, All, is_some}
 use Rattle.std.specs.Option.{option_map_or}
 use Rattle.std.proofs.lemmas.Bool.{ltb-true}
 use Rattle.byte_defs.specs.Orders.{put}
 use Rattle.group_defs.specs.Hearing.{with_heard}
 use Rattle.group_defs.specs.Views.{View, is_member, next_view, is_possible}
 use Rattle.message_defs.specs.Updates.{Value}
-use Rattle.message_defs.specs.Statements.{Message, Statement, Echo, Place, Keep, Ready, Claim, slot_of, view_of}
-use Rattle.group_defs.specs.Process.{Setting, Delivered, Left, Process, start, keyed, views_of}
-use Rattle.group_defs.specs.Certified.{heard_on, is_certified, place_at, payload_at, place_kept, fixed_length, certificate}
+use Rattle.message_defs.specs.Statements.{Batch, Statement, Echo, Place, Keep, Ready, Claim, slot_of, view_of}
+use Rattle.group_defs.specs.Process.{Setting, Delivered, Left, Process, start, keyed, views_of, places_in}
+use Rattle.group_defs.specs.Certified.{heard_on, is_certified, place_kept, fixed_length, certificate}
 use Rattle.group_defs.specs.Due.{may_sign}
 use Rattle.group_defs.specs.Signing.{Signer, own_claim, signs}
-use Rattle.group_defs.specs.Settle.{decide, decided_by, limit, deliverable, install}
+use Rattle.group_defs.specs.Settle.{decide, decided_by, limit, delivery, deliverable, install}
 use Rattle.group_defs.specs.Events.{Turn, perceived_numbers}
 use Rattle.group_defs.specs.Family.{handed_to}
 use Rattle.group_defs.specs.Laws.{HasGrown, IsFrom}
 use Rattle.safety_laws.proofs.EachWasDue as was
-use Rattle.std.proofs.lemmas.List.{length-map}
+use Rattle.std.proofs.lemmas.List.{append-nil, length-map, map-append}
 use Rattle.safety_laws.proofs.EachWasDue.{EachDue, From, accepting, grown-self, installing, otherwise, perceiving, signing}
-use Rattle.safety_laws.proofs.Heard.{fold-attained, kept-is, payload-certified, place-certified, verdict-view}
+use Rattle.pool_laws.proofs.Heard.{fold-attained, kept-is, payload-certified, place-certified, verdict-view}
+use Rattle.safety_laws.proofs.Batches.{AreAt, delivery-at, delivery-names, delivery-paid, named_at, next-place, places-one-more, spread, spread-snoc, with_place}
 use Rattle.safety_laws.proofs.Induction.{Keeps}
 use Rattle.safety_laws.proofs.Installed.{decided_by-is}
 use Rattle.safety_laws.proofs.MaySign.{signing-view}
-use Rattle.safety_laws.proofs.Members.{Mem, filter_map-mem, mem-Contains, snoc-mem}
-use Rattle.safety_laws.proofs.Places.{length-snoc, slice_get-front, slice_get-index, slice_get-last, slice_get-mem, slice_get-snoc}
-use Rattle.safety_laws.proofs.Tests.{map-some, option_or-is, then-some}
+use Rattle.pool_laws.proofs.Members.{Mem, filter_map-mem, mem-Contains, snoc-mem}
+use Rattle.pool_laws.proofs.Places.{get-append, length-snoc, slice_get-front, slice_get-index, slice_get-last, slice_get-mem, slice_get-snoc}
+use Rattle.pool_laws.proofs.Tests.{option_or-is}
 
 -- ---- growing
 
@@ -37,7 +38,7 @@ grows s from old = record {
   doubts = λ p conflicts g. otherwise old p g _ refl refl refl refl refl refl;
   signs = λ p signer st next none g. signing old p g s signer st;
   decides = λ p g. otherwise old p g _ refl refl refl refl refl refl;
-  delivers = λ p d member room e g. otherwise old p g _ refl refl refl refl refl refl;
+  delivers = λ p ds member room e g. otherwise old p g _ refl refl refl refl refl refl;
   installs = λ p d decided whole g. installing old p g d;
   halts = λ p d decided member g. otherwise old p g _ refl refl refl refl refl refl;
 }
@@ -59,14 +60,17 @@ pub record Certifies (s : Setting) (turns : List Turn) (p : Process) (v : View) 
 -- so many may be delivered: a place was kept, or it was decided
 pub data Reach (s : Setting) (turns : List Turn) (p : Process) (v : View) (n : ℕ) : Type 0 where
   none : n ≡ 0 → Reach s turns p v n
-  kept : (k : ℕ) (m : Message) → Certifies s turns p v (Keep v.number k m) → n ≤ k + 1 → Reach s turns p v n
+  kept : (k : ℕ) (b : Batch) → Certifies s turns p v (Keep v.number k b) → n ≤ k + 1 → Reach s turns p v n
   closed : (r : ℕ) (w : Value) → Certifies s turns p v (Ready v.number r w) → n ≤ w.cut → Reach s turns p v n
 
--- what was delivered in a view
+-- what was delivered in a view: the messages of these batches, which its places hold
 pub record ViewSo (s : Setting) (turns : List Turn) (p : Process) (v : View) (ds : List Delivered) : Type 0 where
-  pub places : (k : ℕ) (d : Delivered) → slice_get ds k ≡ Some d → Certifies s turns p v (Place v.number k d.message)
+  pub batches : List Batch
+  pub as_placed : map named_at ds ≡ spread 0 batches
+  pub count : places_in ds ≡ length batches
+  pub places : (k : ℕ) (b : Batch) → slice_get batches k ≡ Some b → Certifies s turns p v (Place v.number k b)
   pub payloads : (k : ℕ) (d : Delivered) → slice_get ds k ≡ Some d → Certifies s turns p v (Echo v.number d.message d.payload)
-  pub reach : Reach s turns p v (length ds)
+  pub reach : Reach s turns p v (places_in ds)
 
 -- a view that was left
 pub record LeftSo (s : Setting) (turns : List Turn) (p : Process) (i : ℕ) (l : Left) : Type 0 where
@@ -76,7 +80,7 @@ pub record LeftSo (s : Setting) (turns : List Turn) (p : Process) (i : ℕ) (l :
   pub possible : is_possible (keyed s) l.view value.update ≡ true
   pub decided : Certifies s turns p l.view (Ready l.view.number rank value)
   pub next : slice_get (views_of p) (suc i) ≡ Some (next_view l.view value.update)
-  pub whole : is_member l.view p.me ≡ true → length l.delivered ≡ value.cut
+  pub whole : is_member l.view p.me ≡ true → places_in l.delivered ≡ value.cut
   pub so : ViewSo s turns p l.view l.delivered
 
 pub record Halting (s : Setting) (turns : List Turn) (p : Process) : Type 0 where
@@ -109,11 +113,18 @@ module _ (s : Setting) (turns : List Turn) where
 
     pub reach-on : (v : View) (n : ℕ) → Reach s turns p v n → Reach s turns q v n
     reach-on v n (none e) = none e
-    reach-on v n (kept k m c le) = kept k m (certifies-on v (Keep v.number k m) c) le
+    reach-on v n (kept k b c le) = kept k b (certifies-on v (Keep v.number k b) c) le
     reach-on v n (closed r w c le) = closed r w (certifies-on v (Ready v.number r w) c) le
 
     pub view-on : (v : View) (ds : List Delivered) → ViewSo s turns p v ds → ViewSo s turns q v ds
-    view-on v ds so = record { places = λ k d at. certifies-on v _ (so.places k d at); payloads = λ k d at. certifies-on v _ (so.payloads k d at); reach = reach-on v (length ds) so.reach }
+    view-on v ds so = record {
+      batches = so.batches;
+      as_placed = so.as_placed;
+      count = so.count;
+      places = λ k b at. certifies-on v _ (so.places k b at);
+      payloads = λ k d at. certifies-on v _ (so.payloads k d at);
+      reach = reach-on v (places_in ds) so.reach;
+    }
 
     left-on : (i : ℕ) (l : Left) → LeftSo s turns p i l → LeftSo s turns q i l
     left-on i l so =
@@ -132,6 +143,10 @@ module _ (s : Setting) (turns : List Turn) where
     halting-on : Halting s turns p → Halting s turns q
     halting-on h = record { view = h.view; rank = h.rank; value = h.value; decided = certifies-on h.view _ h.decided; length = h.length; reach = reach-on h.view h.length h.reach; beyond = h.beyond }
 
+  -- nothing is delivered yet
+  nothing-yet : (p : Process) (v : View) → ViewSo s turns p v []
+  nothing-yet p v = record { batches = []; as_placed = refl; count = refl; places = λ k b at. absurd cc; payloads = λ k d at. absurd cc; reach = none refl }
+
   -- what is certified now
   now : (p : Process) → EachDue s turns p → (st : Statement) → is_certified p.pool st ≡ true → Certifies s turns p p.pool.view st
   now p due st e = record {
@@ -143,14 +158,14 @@ module _ (s : Setting) (turns : List Turn) where
   }
 
   -- the next place may be delivered
-  further : (p : Process) → History s turns p → length p.delivered < limit p → Reach s turns p p.pool.view (suc (length p.delivered))
+  further : (p : Process) → History s turns p → places_in p.delivered < limit p → Reach s turns p p.pool.view (suc (places_in p.delivered))
   further p ok room = go p.decision refl room
     where
-      go : (o : Option (ℕ × Value)) → p.decision ≡ o → length p.delivered < option_map_or (λ (d : ℕ × Value). d.1.cut) o (fixed_length p.pool) → Reach s turns p p.pool.view (suc (length p.delivered))
+      go : (o : Option (ℕ × Value)) → p.decision ≡ o → places_in p.delivered < option_map_or (λ (d : ℕ × Value). d.1.cut) o (fixed_length p.pool) → Reach s turns p p.pool.view (suc (places_in p.delivered))
       go (Some d) e lt = closed d.0 d.1 (ok.decided d e) (omega (arith, lt))
       go None e lt = by-keep (fold-attained (filter_map (λ (c : Claim). place_kept p.pool c.statement) p.pool.heard) 0)
         where
-          by-keep : (fixed_length p.pool ≡ 0) ⊎ ((k : ℕ) × Mem k (filter_map (λ (c : Claim). place_kept p.pool c.statement) p.pool.heard) × (fixed_length p.pool ≡ k + 1)) → Reach s turns p p.pool.view (suc (length p.delivered))
+          by-keep : (fixed_length p.pool ≡ 0) ⊎ ((k : ℕ) × Mem k (filter_map (λ (c : Claim). place_kept p.pool c.statement) p.pool.heard) × (fixed_length p.pool ≡ k + 1)) → Reach s turns p p.pool.view (suc (places_in p.delivered))
           by-keep (inl zero') = absurd (omega (arith, lt, zero'))
           by-keep (inr found) =
               let c = filter_map-mem (λ (c : Claim). place_kept p.pool c.statement) p.pool.heard found.0 found.1 in
@@ -181,35 +196,52 @@ module _ (s : Setting) (turns : List Turn) where
   own p signer st may ok d true m = ok.current d m
   own p signer st may ok d false m = one-more p {c = own_claim s signer p st} (signing-view s p st may) ok d (snoc-mem p.pool.heard (own_claim s signer p st) d m)
 
-  delivering : (p : Process) (d : Delivered) → deliverable p ≡ Some d → length p.delivered < limit p → History s turns p → let q : Process = record p { delivered = p.delivered ++ d ∷ [] } in ((old : Process) → HasGrown old p → HasGrown old q) → EachDue s turns q → History s turns q
-  delivering p d e room ok grow due =
-      let q : Process = record p { delivered = p.delivered ++ d ∷ [] } in
-      let m = then-some (λ m. option_map (λ payload. record { message = m; payload = payload }) (payload_at p.pool m)) (place_at p.pool (length p.delivered)) d e in
-      let b = map-some (λ payload. record { message = m.0; payload = payload }) (payload_at p.pool m.0) d m.2 in
-      let placed = now p ok.due (Place p.pool.view.number (length p.delivered) m.0) (place-certified p.pool (length p.delivered) m.0 m.1) in
-      let paid = now p ok.due (Echo p.pool.view.number m.0 b.0) (payload-certified p.pool m.0 b.0 b.1) in
+  module _ (p : Process) (k : ℕ) (level : places_in p.delivered ≡ k) (b : Batch) (ds : List Delivered) (e : delivery p.pool k b ≡ Some ds) (placed : Certifies s turns p p.pool.view (Place p.pool.view.number k b)) where
+    -- what is certified as it is delivered
+    payloads-too : History s turns p → (i : ℕ) (d : Delivered) → slice_get (p.delivered ++ ds) i ≡ Some d → Certifies s turns p p.pool.view (Echo p.pool.view.number d.message d.payload)
+    payloads-too ok i d at = elim (get-append p.delivered ds i d at) [
+      | inl before ↦ ok.so.payloads i d before
+      | inr end ↦ now p ok.due (Echo p.pool.view.number d.message d.payload) (payload-certified p.pool d.message d.payload (delivery-paid p.pool k b ds e d (slice_get-mem ds end.0 d end.2)))
+    ]
+
+    -- a place that holds none changes nothing, others come behind
+    with-place : (ok : History s turns p) → Reach s turns p p.pool.view (suc k) → ViewSo s turns p p.pool.view (p.delivered ++ ds)
+    with-place ok reach = go ds refl
+      where
+        go : (es : List Delivered) → ds ≡ es → ViewSo s turns p p.pool.view (p.delivered ++ ds)
+        go [] none' = subst (ViewSo s turns p p.pool.view) (sym (ap (λ es. p.delivered ++ es) none' ∙ append-nil p.delivered)) ok.so
+        go (d ∷ more) some =
+            let one' : places_in (p.delivered ++ ds) ≡ suc k = ap (λ es. places_in (p.delivered ++ es)) some ∙ places-one-more p.delivered more d (subst (λ n. AreAt n (d ∷ more)) (sym level) (subst (AreAt k) some (delivery-at p.pool k b ds e))) ∙ ap suc level in
+            let long : length ok.so.batches ≡ k = sym ok.so.count ∙ level in
+            record {
+              batches = ok.so.batches ++ b ∷ [];
+              as_placed = map-append named_at p.delivered ds ∙ (λ i. ok.so.as_placed i ++ (delivery-names p.pool k b ds e ∙ ap (λ n. map (with_place n) b) (sym long)) i) ∙ sym (spread-snoc ok.so.batches b);
+              count = one' ∙ ap suc (sym long) ∙ sym (length-snoc ok.so.batches b);
+              places = λ j c at. elim (slice_get-snoc ok.so.batches b j c at) [
+                | inl before ↦ ok.so.places j c before
+                | inr end ↦ subst (λ j. Certifies s turns p p.pool.view (Place p.pool.view.number j c)) (sym (end.0 ∙ long)) (subst (λ c. Certifies s turns p p.pool.view (Place p.pool.view.number k c)) end.1 placed)
+              ];
+              payloads = payloads-too ok;
+              reach = subst (Reach s turns p p.pool.view) (sym one') reach;
+            }
+
+  delivering : (p : Process) (ds : List Delivered) → deliverable p ≡ Some ds → places_in p.delivered < limit p → History s turns p → let q : Process = record p { delivered = p.delivered ++ ds } in ((old : Process) → HasGrown old p → HasGrown old q) → EachDue s turns q → History s turns q
+  delivering p ds e room ok grow due =
+      let q : Process = record p { delivered = p.delivered ++ ds } in
+      let b = next-place p ds e in
+      let placed = now p ok.due (Place p.pool.view.number (places_in p.delivered) b.0) (place-certified p.pool (places_in p.delivered) b.0 b.1) in
       record {
         due = due;
         current = ok.current;
         number = ok.number;
         possible = ok.possible;
         decided = λ d e. certifies-on p q grow p.pool.view _ (ok.decided d e);
-        so = record {
-          places = λ k d' at. certifies-on p q grow p.pool.view _ (elim (slice_get-snoc p.delivered d k d' at) [
-            | inl before ↦ ok.so.places k d' before
-            | inr end ↦ subst (λ k. Certifies s turns p p.pool.view (Place p.pool.view.number k d'.message)) (sym end.0) (subst (λ (d : Delivered). Certifies s turns p p.pool.view (Place p.pool.view.number (length p.delivered) d.message)) (b.2 ∙ end.1) placed)
-          ]);
-          payloads = λ k d' at. certifies-on p q grow p.pool.view _ (elim (slice_get-snoc p.delivered d k d' at) [
-            | inl before ↦ ok.so.payloads k d' before
-            | inr end ↦ subst (λ (d : Delivered). Certifies s turns p p.pool.view (Echo p.pool.view.number d.message d.payload)) (b.2 ∙ end.1) paid
-          ]);
-          reach = subst (Reach s turns q p.pool.view) (sym (length-snoc p.delivered d)) (reach-on p q grow p.pool.view (suc (length p.delivered)) (further p ok room));
-        };
+        so = view-on p q grow p.pool.view (p.delivered ++ ds) (with-place p (places_in p.delivered) refl b.0 ds b.2 placed ok (further p ok room));
         lefts = λ i l at. left-on p q grow i l (ok.lefts i l at);
         halts = λ e. halting-on p q grow (ok.halts e);
       }
 
-  leaving : (p : Process) (d : ℕ × Value) → p.decision ≡ Some d → (is_member p.pool.view p.me ≡ true → length p.delivered ≡ d.1.cut) → History s turns p → ((old : Process) → HasGrown old p → HasGrown old (install d p)) → EachDue s turns (install d p) → History s turns (install d p)
+  leaving : (p : Process) (d : ℕ × Value) → p.decision ≡ Some d → (is_member p.pool.view p.me ≡ true → places_in p.delivered ≡ d.1.cut) → History s turns p → ((old : Process) → HasGrown old p → HasGrown old (install d p)) → EachDue s turns (install d p) → History s turns (install d p)
   leaving p d decided whole ok grow due =
       let q : Process = install d p in
       record {
@@ -218,7 +250,7 @@ module _ (s : Setting) (turns : List Turn) where
         number = (let longer = length-snoc p.left (last p d) in let before = ok.number in omega (arith, longer, before));
         possible = λ d e. absurd cc;
         decided = λ d e. absurd cc;
-        so = record { places = λ k d at. absurd cc; payloads = λ k d at. absurd cc; reach = none refl };
+        so = nothing-yet _ _;
         lefts = λ i l at. elim (slice_get-snoc p.left (last p d) i l at) [
           | inl before ↦ left-on p q grow i l (ok.lefts i l before)
           | inr end ↦ subst (λ i. LeftSo s turns q i l) (sym end.0) (subst (LeftSo s turns q (length p.left)) end.1 (record {
@@ -235,9 +267,9 @@ module _ (s : Setting) (turns : List Turn) where
         halts = λ e. halting-on p q grow (ok.halts e);
       }
 
-  stopping : (p : Process) (d : ℕ × Value) → p.decision ≡ Some d → History s turns p → let q : Process = record p { halted = nat_lt d.1.cut (length p.delivered) } in ((old : Process) → HasGrown old p → HasGrown old q) → EachDue s turns q → History s turns q
+  stopping : (p : Process) (d : ℕ × Value) → p.decision ≡ Some d → History s turns p → let q : Process = record p { halted = nat_lt d.1.cut (places_in p.delivered) } in ((old : Process) → HasGrown old p → HasGrown old q) → EachDue s turns q → History s turns q
   stopping p d decided ok grow due =
-      let q : Process = record p { halted = nat_lt d.1.cut (length p.delivered) } in
+      let q : Process = record p { halted = nat_lt d.1.cut (places_in p.delivered) } in
       record {
         due = due;
         current = ok.current;
@@ -246,7 +278,7 @@ module _ (s : Setting) (turns : List Turn) where
         decided = λ d e. certifies-on p q grow p.pool.view _ (ok.decided d e);
         so = view-on p q grow p.pool.view p.delivered ok.so;
         lefts = λ i l at. left-on p q grow i l (ok.lefts i l at);
-        halts = λ e. record { view = p.pool.view; rank = d.0; value = d.1; decided = certifies-on p q grow p.pool.view _ (ok.decided d decided); length = length p.delivered; reach = reach-on p q grow p.pool.view (length p.delivered) ok.so.reach; beyond = ltb-true d.1.cut (length p.delivered) e };
+        halts = λ e. record { view = p.pool.view; rank = d.0; value = d.1; decided = certifies-on p q grow p.pool.view _ (ok.decided d decided); length = places_in p.delivered; reach = reach-on p q grow p.pool.view (places_in p.delivered) ok.so.reach; beyond = ltb-true d.1.cut (places_in p.delivered) e };
       }
 
   pub history-keeps : Keeps s (handed_to turns) (History s turns)
@@ -268,19 +300,19 @@ module _ (s : Setting) (turns : List Turn) where
           lefts = λ i l at. left-on p (decide s p) grow i l (ok.lefts i l at);
           halts = λ e. halting-on p (decide s p) grow (ok.halts e);
         };
-    delivers = λ p d member room e ok. delivering p d e room ok (λ old g. (grows s (handed_to turns) old).delivers p d member room e g) ((was.keeps s turns).delivers p d member room e ok.due);
+    delivers = λ p ds member room e ok. delivering p ds e room ok (λ old g. (grows s (handed_to turns) old).delivers p ds member room e g) ((was.keeps s turns).delivers p ds member room e ok.due);
     installs = λ p d decided whole ok. leaving p d decided whole ok (λ old g. (grows s (handed_to turns) old).installs p d decided whole g) ((was.keeps s turns).installs p d decided whole ok.due);
     halts = λ p d decided member ok. stopping p d decided ok (λ old g. (grows s (handed_to turns) old).halts p d decided member g) ((was.keeps s turns).halts p d decided member ok.due);
   }
 
-  pub history-start : (me : ℕ) → s.genesis.number ≡ 0 → History s turns (start s me)
-  history-start me first = record {
+  pub history-start : (me limit : ℕ) → s.genesis.number ≡ 0 → History s turns (start s me limit)
+  history-start me limit first = record {
     due = record { heard = λ c m. absurd m; dues = λ i st at. absurd cc };
     current = λ c m. absurd m;
     number = first;
     possible = λ d e. absurd cc;
     decided = λ d e. absurd cc;
-    so = record { places = λ k d at. absurd cc; payloads = λ k d at. absurd cc; reach = none refl };
+    so = nothing-yet _ _;
     lefts = λ i l at. absurd cc;
     halts = λ e. absurd cc;
   }

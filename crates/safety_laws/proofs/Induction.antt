@@ -1,36 +1,22 @@
 -- What each change of a process keeps, each run keeps.
-use Rattle.std.proofs.Common.{◌≡◌, ℕ, zero, suc, ◌+◌, ◌-◌, ◌<◌, ◌≤◌, List, [], ◌∷◌, ◌++◌, Option, None, Some, Bool, true, false, refl, sym, length, subst, arith, inl, inr}
-use Rattle.std.specs.Prelude.{if◌then◌else◌, ◌==◌, nat_lt, nat_le, filter}
+use Rattle.std.proofs.Common.{◌≡◌, ℕ, zero, suc, ◌+◌, ◌-◌, ◌<◌, ◌≤◌, List, [], ◌∷◌, ◌++◌, Option, None, Some, Bool, true, false, refl, sym, subst, arith, inl, inr}
+use Rattle.std.specs.Prelude.{if◌then◌else◌, ◌==◌, nat_lt, nat_le}
 use Rattle.std.proofs.lemmas.Bool.{leb-true, leb-false, eqb-true}
-use Rattle.byte_defs.specs.Orders.{least_from, least, numbers_below, put}
+use Rattle.byte_defs.specs.Orders.{put}
 use Rattle.message_defs.specs.Updates.{Update, Value}
 use Rattle.group_defs.specs.Views.{is_member}
 use Rattle.message_defs.specs.Statements.{Statement, Claim}
-use Rattle.group_defs.specs.Process.{Kind, Setting, Process, Delivered}
-use Rattle.group_defs.specs.Due.{least_due, may_sign, due_numbers, offers, is_perceived}
+use Rattle.group_defs.specs.Process.{Kind, Setting, Process, Delivered, places_in}
+use Rattle.group_defs.specs.Due.{least_due, may_sign, offers, is_perceived}
 use Rattle.group_defs.specs.Hearing.{Verdict, Old, Early, Stranger, OutOfWindow, Known, Unsigned, Conflict, Heard, verdict, with_heard, with_verdict, kept_conflicts, hear, hear_all}
 use Rattle.group_defs.specs.Signing.{Signer, Signing, signs, sign_kind, sign_kinds, sign_all}
 use Rattle.group_defs.specs.Settle.{decide, limit, deliverable, deliver_more, deliver, install, leave_by, leave, settle}
 use Rattle.group_defs.specs.Family.{claims_in, handed_to}
 use Rattle.message_defs.specs.Claims.{Claims, Wants, Faulty}
 use Rattle.group_defs.specs.Events.{Event, Submit, Hand, Suspect, Join, RenewView, Tick, Turn, EventFault, refusal, perceived_numbers, perceives, take_in, signing, after, run}
-use Rattle.safety_laws.proofs.Members.{Mem, filter-mem}
-use Rattle.safety_laws.proofs.Places.{length-snoc}
-
--- ---- the least statement that is due may be signed
-
-module _ {A : Type 0} (key : A → List ℕ) where
-  least_from-mem : (a : A) (xs : List A) → Mem (least_from key a xs) (a ∷ xs)
-  least_from-mem a [] = inl refl
-  least_from-mem a (x ∷ xs) = go (numbers_below (key x) (key a)) (λ b. least_from-mem b xs)
-    where
-      go : (b : Bool) → ((c : A) → Mem (least_from key c xs) (c ∷ xs)) → Mem (least_from key (if b then x else a) xs) (a ∷ x ∷ xs)
-      go true rest = inr (rest x)
-      go false rest = elim (rest a) [ inl e ↦ inl e | inr m ↦ inr (inr m) ]
-
-  pub least-mem : (xs : List A) (y : A) → least key xs ≡ Some y → Mem y xs
-  least-mem [] y e = absurd cc
-  least-mem (x ∷ xs) y e = let is : least_from key x xs ≡ y = cc in subst (λ y. Mem y (x ∷ xs)) is (least_from-mem x xs)
+use Rattle.pool_laws.proofs.Members.{Mem, filter-mem}
+use Rattle.rule_laws.proofs.LeastIsDue.{least_due-passes}
+use Rattle.safety_laws.proofs.Batches.{next-at, places-at-most}
 
 -- a kind that the setting signs gives it next
 pub record IsNext (s : Setting) (p : Process) (st : Statement) : Type 0 where
@@ -38,13 +24,6 @@ pub record IsNext (s : Setting) (p : Process) (st : Statement) : Type 0 where
   pub signed : Mem kind s.signs
   pub offered : Mem st (offers kind s p)
   pub may : may_sign s p st ≡ true
-
-least_due-passes : (s : Setting) (p : Process) (kind : Kind) (st : Statement) → least_due s p kind ≡ Some st → Mem st (filter (may_sign s p) (offers kind s p))
-unfolding least_due
-least_due-passes s p kind st e = least-mem (due_numbers p.pool.view) (filter (may_sign s p) (offers kind s p)) st e
-
-pub least_due-may : (s : Setting) (p : Process) (kind : Kind) (st : Statement) → least_due s p kind ≡ Some st → may_sign s p st ≡ true
-least_due-may s p kind st e = (filter-mem (may_sign s p) (offers kind s p) st (least_due-passes s p kind st e)).1
 
 is-next : (s : Setting) (p : Process) (kind : Kind) (st : Statement) → Mem kind s.signs → least_due s p kind ≡ Some st → IsNext s p st
 is-next s p kind st m e = let passes = filter-mem (may_sign s p) (offers kind s p) st (least_due-passes s p kind st e) in record { kind = kind; signed = m; offered = passes.0; may = passes.1 }
@@ -59,9 +38,9 @@ pub record Keeps (s : Setting) (from : List Claim) (P : Process → Type 0) : Ty
   pub doubts : (p : Process) (conflicts : List (Claim × Claim)) → P p → P (record p { conflicts = conflicts })
   pub signs : (p : Process) (signer : Signer) (st : Statement) → IsNext s p st → p.decision ≡ None → P p → P (signs s signer p st)
   pub decides : (p : Process) → P p → P (decide s p)
-  pub delivers : (p : Process) (d : Delivered) → is_member p.pool.view p.me ≡ true → length p.delivered < limit p → deliverable p ≡ Some d → P p → P (record p { delivered = p.delivered ++ d ∷ [] })
-  pub installs : (p : Process) (d : ℕ × Value) → p.decision ≡ Some d → (is_member p.pool.view p.me ≡ true → length p.delivered ≡ d.1.cut) → P p → P (install d p)
-  pub halts : (p : Process) (d : ℕ × Value) → p.decision ≡ Some d → is_member p.pool.view p.me ≡ true → P p → P (record p { halted = nat_lt d.1.cut (length p.delivered) })
+  pub delivers : (p : Process) (ds : List Delivered) → is_member p.pool.view p.me ≡ true → places_in p.delivered < limit p → deliverable p ≡ Some ds → P p → P (record p { delivered = p.delivered ++ ds })
+  pub installs : (p : Process) (d : ℕ × Value) → p.decision ≡ Some d → (is_member p.pool.view p.me ≡ true → places_in p.delivered ≡ d.1.cut) → P p → P (install d p)
+  pub halts : (p : Process) (d : ℕ × Value) → p.decision ≡ Some d → is_member p.pool.view p.me ≡ true → P p → P (record p { halted = nat_lt d.1.cut (places_in p.delivered) })
 
 module _ (s : Setting) (from : List Claim) (P : Process → Type 0) (k : Keeps s from P) where
   unfoldable pub AreFrom : List Claim → Type 0
@@ -116,17 +95,17 @@ module _ (s : Setting) (from : List Claim) (P : Process → Type 0) (k : Keeps s
       go None e = (sign_kinds-keeps signer s.signs (λ kind m. m) left p (ok, e)).0
       go (Some d) e = ok
 
-  deliver_more-keeps : (more : ℕ) (p : Process) → is_member p.pool.view p.me ≡ true → length p.delivered + more ≤ limit p → P p → P (deliver_more more p)
+  deliver_more-keeps : (more : ℕ) (p : Process) → is_member p.pool.view p.me ≡ true → places_in p.delivered + more ≤ limit p → P p → P (deliver_more more p)
   unfolding deliver_more
   deliver_more-keeps zero p member room ok = ok
   deliver_more-keeps (suc more) p member room ok =
-      go (deliverable p) refl (λ d e. deliver_more-keeps more (record p { delivered = p.delivered ++ d ∷ [] }) member
-      (let longer = length-snoc p.delivered d in omega (arith, longer, room)) (k.delivers p d member (omega (arith, room)) e ok))
+      go (deliverable p) refl (λ ds e. deliver_more-keeps more (record p { delivered = p.delivered ++ ds }) member
+      (let further = places-at-most p.delivered ds (next-at p ds e) in omega (arith, further, room)) (k.delivers p ds member (omega (arith, room)) e ok))
     where
-      go : (o : Option Delivered) → deliverable p ≡ o → ((d : Delivered) → deliverable p ≡ Some d → P (deliver_more more (record p { delivered = p.delivered ++ d ∷ [] })))
-          → P (elim o [ None ↦ p | Some d ↦ deliver_more more (record p { delivered = p.delivered ++ d ∷ [] }) ])
+      go : (o : Option (List Delivered)) → deliverable p ≡ o → ((ds : List Delivered) → deliverable p ≡ Some ds → P (deliver_more more (record p { delivered = p.delivered ++ ds })))
+          → P (elim o [ None ↦ p | Some ds ↦ deliver_more more (record p { delivered = p.delivered ++ ds }) ])
       go None e more' = ok
-      go (Some d) e more' = more' d e
+      go (Some ds) e more' = more' ds e
 
   either : {A : Type 0} (Q : A → Type 0) (b : Bool) (x y : A) → (b ≡ true → Q x) → (b ≡ false → Q y) → Q (if b then x else y)
   either Q true x y one other = one refl
@@ -137,17 +116,17 @@ module _ (s : Setting) (from : List Claim) (P : Process → Type 0) (k : Keeps s
   nothing-more p ok = ok
 
   pub deliver-keeps : (p : Process) → P p → P (deliver p)
-  deliver-keeps p ok = go (nat_le (length p.delivered) (limit p)) refl
+  deliver-keeps p ok = go (nat_le (places_in p.delivered) (limit p)) refl
     where
       -- beyond the limit there is no more to deliver
-      go : (b : Bool) → nat_le (length p.delivered) (limit p) ≡ b → P (deliver p)
-      go true e = either P (is_member p.pool.view p.me) _ p (λ member. deliver_more-keeps _ p member (let le = leb-true (length p.delivered) (limit p) e in omega (arith, le)) ok) (λ not'. ok)
-      go false e = either P (is_member p.pool.view p.me) _ p (λ member. let none : limit p - length p.delivered ≡ 0 = (let gt = leb-false (length p.delivered) (limit p) e in omega (arith, gt)) in subst (λ n. P (deliver_more n p)) (sym none) (nothing-more p ok)) (λ not'. ok)
+      go : (b : Bool) → nat_le (places_in p.delivered) (limit p) ≡ b → P (deliver p)
+      go true e = either P (is_member p.pool.view p.me) _ p (λ member. deliver_more-keeps _ p member (let le = leb-true (places_in p.delivered) (limit p) e in omega (arith, le)) ok) (λ not'. ok)
+      go false e = either P (is_member p.pool.view p.me) _ p (λ member. let none : limit p - places_in p.delivered ≡ 0 = (let gt = leb-false (places_in p.delivered) (limit p) e in omega (arith, gt)) in subst (λ n. P (deliver_more n p)) (sym none) (nothing-more p ok)) (λ not'. ok)
 
   leave_by-keeps : (d : ℕ × Value) (p : Process) → p.decision ≡ Some d → P p → P (leave_by d p)
   leave_by-keeps d p e ok =
       either P (is_member p.pool.view p.me) _ (install d p)
-      (λ member. either P (length p.delivered == d.1.cut) (install d p) _ (λ whole. k.installs p d e (λ m. eqb-true (length p.delivered) d.1.cut whole) ok) (λ other. k.halts p d e member ok))
+      (λ member. either P (places_in p.delivered == d.1.cut) (install d p) _ (λ whole. k.installs p d e (λ m. eqb-true (places_in p.delivered) d.1.cut whole) ok) (λ other. k.halts p d e member ok))
       (λ outside. k.installs p d e (λ m. absurd cc) ok)
 
   pub leave-keeps : (p : Process) → P p → P (leave p)

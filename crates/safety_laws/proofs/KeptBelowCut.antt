@@ -7,22 +7,23 @@ use Rattle.std.proofs.lemmas.List.Sums.{length-filter}
 use Rattle.byte_defs.specs.Choices.{is_some_and}
 use Rattle.group_defs.specs.Views.{View, quorum, is_member, is_possible}
 use Rattle.message_defs.specs.Updates.{Value}
-use Rattle.message_defs.specs.Statements.{Statement, Keep, End, Ack, EndAt, Slot, Message}
+use Rattle.message_defs.specs.Statements.{Statement, Keep, End, Ack, EndAt, Slot, Batch}
 use Rattle.group_defs.specs.Process.{Setting, Pool, Process, keyed}
 use Rattle.group_defs.specs.Certified.{heard_on, is_certified, is_notified, place_at}
 use Rattle.group_defs.specs.Values.{length_said, ends, is_quorum, is_free, is_first_way, is_second_way}
 use Rattle.group_defs.specs.Family.{Family, end_of, statements_of, Correct}
 use Rattle.group_defs.specs.Laws.{StoodSo, IsOneView, IsBacked, AckedWasFree, KeptBelowCut}
 use Rattle.safety_laws.proofs.CertifiedIsBacked.{certified_is_backed, heard-word}
-use Rattle.safety_laws.proofs.Counting.{length-filter_map}
+use Rattle.pool_laws.proofs.Counting.{length-filter_map}
 use Rattle.safety_laws.proofs.KeepsBeforeEnd.{keeps_before_end}
-use Rattle.safety_laws.proofs.MaySign.{ack-justified, second-parts, signing-member}
-use Rattle.safety_laws.proofs.Members.{Mem, list_any-mem}
+use Rattle.rule_laws.proofs.Choosing.{second-parts}
+use Rattle.safety_laws.proofs.MaySign.{ack-justified, signing-member}
+use Rattle.pool_laws.proofs.Members.{Mem, list_any-mem}
 use Rattle.safety_laws.proofs.Moments.{backed-due}
-use Rattle.safety_laws.proofs.Places.{mem-slice_get}
+use Rattle.pool_laws.proofs.Places.{mem-slice_get}
 use Rattle.safety_laws.proofs.Quorums.{backer-in}
-use Rattle.safety_laws.proofs.Slots.{end-is}
-use Rattle.safety_laws.proofs.Tests.{and-first, and-four, or-cases, some-and, then-some}
+use Rattle.pool_laws.proofs.Slots.{end-is}
+use Rattle.pool_laws.proofs.Tests.{and-first, and-four, or-cases, some-and, then-some}
 
 abbrev WasFree : Family → View → Value → Type 0
 WasFree f v w = (q : Process) × StoodSo f q × (q.pool.view ≡ v) × (is_member v q.me ≡ true) × (is_free f.setting q.pool w ≡ true)
@@ -73,22 +74,22 @@ module _ (f : Family) (v : View) (one : IsOneView f v) (q : Process) (stood : St
       let is : Mem (End q.pool.view.number said.0) sts = subst (λ st. Mem st sts) (end-is statement.0 q.pool.view.number said.0 statement.2 word.1) word.0 in
       (said.0, subst (λ (u : View). Mem (End u.number said.0) sts) at is, leb-true said.0 cut said.2)
 
-  kept-before : (cut k : ℕ) (msg : Message) → Mem (Keep v.number k msg) (statements_of (end_of f.setting c)) → end_within q.pool cut c.me ≡ true → k < cut
-  kept-before cut k msg keep e =
+  kept-before : (cut k : ℕ) (b : Batch) → Mem (Keep v.number k b) (statements_of (end_of f.setting c)) → end_within q.pool cut c.me ≡ true → k < cut
+  kept-before cut k b keep e =
       let end = end-signed cut e in
       let sts : List Statement = statements_of (end_of f.setting c) in
-      let i = mem-slice_get sts (Keep v.number k msg) keep in
+      let i = mem-slice_get sts (Keep v.number k b) keep in
       let j = mem-slice_get sts (End v.number end.0) end.1 in
-      let before = (keeps_before_end f.setting c.me c.turns i.0 j.0 v.number k end.0 msg i.1 j.1).1 in
+      let before = (keeps_before_end f.setting c.me c.batch_limit c.turns i.0 j.0 v.number k end.0 b i.1 j.1).1 in
       let within = end.2 in
       omega (arith, before, within)
 
 -- a member of both quorums has said so
 pub kept_below_cut : KeptBelowCut
-kept_below_cut f v r k w m one keep ack = go (acked_was_free f v r w one ack)
+kept_below_cut f v r k w b one keep ack = go (acked_was_free f v r w one ack)
   where
     go : WasFree f v w → k < w.cut
     go (q, stood, at, member, free) =
         let enough = subst (λ (u : View). quorum (length u.members) ≤ length (filter (end_within q.pool w.cut) u.members)) at (free-quorum f.setting q.pool w free) in
-        let c = backer-in f v (Keep v.number k m) one keep (end_within q.pool w.cut) enough in
-        kept-before f v one q stood at c.0 c.1 w.cut k m c.3 c.2
+        let c = backer-in f v (Keep v.number k b) one keep (end_within q.pool w.cut) enough in
+        kept-before f v one q stood at c.0 c.1 w.cut k b c.3 c.2

@@ -1,18 +1,17 @@
 -- What a statement that may be signed has met.
-use Rattle.std.proofs.Common.{◌≡◌, ℕ, Some, true, Option, length, ◌<◌, ◌≤◌}
-use Rattle.std.specs.Prelude.{not, ◌==◌, nat_lt, nat_le, count_by, ◌&&◌}
-use Rattle.std.specs.List.{list_any}
+use Rattle.std.proofs.Common.{◌≡◌, ℕ, true, Option, length, ◌<◌, ◌≤◌}
+use Rattle.std.specs.Prelude.{not, ◌==◌, nat_lt, nat_le, ◌&&◌}
 use Rattle.std.proofs.lemmas.Bool.{eqb-true, ltb-true, leb-true}
 use Rattle.message_defs.specs.Updates.{Value, Value-discrete, Update}
 use Rattle.message_defs.specs.Statements.{Statement, Ack, Ready, slot_of, view_of, End, Last, Notify}
 use Rattle.group_defs.specs.Views.{is_member, is_possible}
-use Rattle.group_defs.specs.Process.{Setting, Pool, Process, keyed}
+use Rattle.group_defs.specs.Process.{Setting, Process, keyed}
 use Rattle.group_defs.specs.Certified.{is_certified, is_signed, own_rank, placed, notified_updates, own_ready, removed_rank}
-use Rattle.group_defs.specs.Values.{same_ready, lasts, is_at_most, is_quorum, is_second_way, is_justified}
+use Rattle.group_defs.specs.Values.{same_ready, is_justified}
 use Rattle.group_defs.specs.Due.{may_sign, is_due, is_perceived}
 use Rattle.byte_defs.specs.Equality.{option_discrete, pair_discrete}
 use native.Mathlib.Decide.{ℕ_discrete}
-use Rattle.safety_laws.proofs.Tests.{and-first, and-four, and-second, yes-is}
+use Rattle.pool_laws.proofs.Tests.{and-first, and-four, and-second, yes-is}
 
 pub signing-member : (s : Setting) (q : Process) (st : Statement) → may_sign s q st ≡ true → is_member q.pool.view q.me ≡ true
 signing-member s q st may = (and-four (is_member q.pool.view q.me) (view_of st == q.pool.view.number) (not (is_signed q (slot_of st))) (is_due s q st) may).0
@@ -28,10 +27,6 @@ ready-certified s q x r w may = and-first (is_certified q.pool (Ack x r w)) (nat
 
 pub ack-justified : (s : Setting) (q : Process) (x r : ℕ) (w : Value) → may_sign s q (Ack x r w) ≡ true → is_justified s q.pool r w ≡ true
 ack-justified s q x r w may = and-second _ (is_justified s q.pool r w) (and-second _ (is_due s q (Ack x r w)) may)
-
-pub second-parts : (h : Pool) (r r0 : ℕ) (w : Value) → is_second_way h r r0 w ≡ true
-    → (nat_lt r0 r ≡ true) × (is_quorum h (count_by (is_at_most r0) (lasts h r)) ≡ true) × (list_any (same_ready (Some (r0, w))) (lasts h r) ≡ true) × (is_certified h (Ack h.view.number r0 w) ≡ true)
-second-parts h r r0 w e = and-four (nat_lt r0 r) (is_quorum h (count_by (is_at_most r0) (lasts h r))) (list_any (same_ready (Some (r0, w))) (lasts h r)) (is_certified h (Ack h.view.number r0 w)) e
 
 -- ---- what a kind needs
 

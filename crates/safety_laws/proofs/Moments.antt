@@ -9,8 +9,8 @@ use Rattle.group_defs.specs.Family.{Correct, Family, end_of, ends, handed, hande
 use Rattle.group_defs.specs.Laws.{IsFrom, StoodSo, IsOneView, IsBacked}
 use Rattle.safety_laws.proofs.EachWasDue.{each_was_due}
 use Rattle.safety_laws.proofs.MaySign.{signing-view}
-use Rattle.safety_laws.proofs.Members.{All-mem, Contains-mem, Mem, mem-Contains, mem-flat_map}
-use Rattle.safety_laws.proofs.Places.{mem-slice_get}
+use Rattle.pool_laws.proofs.Members.{All-mem, Contains-mem, Mem, mem-Contains, mem-flat_map}
+use Rattle.pool_laws.proofs.Places.{mem-slice_get}
 use Rattle.safety_laws.proofs.Quorums.{backer, in-ends}
 use Rattle.safety_laws.proofs.ViewsOf.{moment-view}
 
@@ -31,7 +31,7 @@ pub due-at : (f : Family) (v : View) → IsOneView f v → (c : Correct) → Mem
 due-at f v one c m st signed number =
     let p : Process = end_of f.setting c in
     let at = mem-slice_get (statements_of p) st signed in
-    let was = each_was_due f.setting c.me c.turns at.0 st at.1 in
+    let was = each_was_due f.setting c.me c.batch_limit c.turns at.0 st at.1 in
     let q : Process = was.moment in (
       q,
       record { by = p; correct = mem-Contains (ends f) p (in-ends f c m); grown = was.grown; heard = λ k d lt. wider f c m q.signed _ (was.heard k d lt) },

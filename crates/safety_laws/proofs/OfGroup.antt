@@ -3,8 +3,8 @@ use Rattle.std.proofs.Common.{◌≡◌, inl, ◌≤◌, List, [], ◌∷◌, ma
 use Rattle.std.specs.Prelude.{All, slice_index_or}
 use Rattle.group_defs.specs.Accounts.{Account, account_of, longest}
 use Rattle.group_defs.specs.Family.{Correct, Family, end_of, ends, accounts}
-use Rattle.safety_laws.proofs.Members.{Mem, index-mem, map-mem, mem-map}
-use Rattle.safety_laws.proofs.Places.{longest-mem, longest-most}
+use Rattle.pool_laws.proofs.Members.{Mem, index-mem, map-mem, mem-map}
+use Rattle.pool_laws.proofs.Places.{longest-mem, longest-most}
 use Rattle.safety_laws.proofs.Quorums.{in-ends}
 
 pub account-of : (f : Family) (a : Account) → Mem a (accounts f) → (c : Correct) × Mem c f.correct × (account_of (end_of f.setting c) ≡ a)

@@ -4,11 +4,11 @@ use Rattle.message_defs.specs.Statements.{Statement, Claim, slot_of}
 use Rattle.group_defs.specs.Process.{Setting}
 use Rattle.group_defs.specs.Family.{Correct, end_of, statements_of}
 use Rattle.group_defs.specs.Laws.{may_back, OneContent}
-use Rattle.safety_laws.proofs.Members.{Mem, map-mem}
+use Rattle.pool_laws.proofs.Members.{Mem, map-mem}
 use Rattle.safety_laws.proofs.OnePerSlot.{one_per_slot}
-use Rattle.safety_laws.proofs.Places.{Compared, Pairs, ahead, all-pairs, behind, compared, level, mem-slice_get}
+use Rattle.pool_laws.proofs.Places.{Compared, Pairs, ahead, all-pairs, behind, compared, level, mem-slice_get}
 use Rattle.safety_laws.proofs.Quorums.{enough-of, meeting, signed-by}
-use Rattle.safety_laws.proofs.Tests.{some-same}
+use Rattle.pool_laws.proofs.Tests.{some-same}
 
 -- one signed list has one claim of a slot
 one-claim : (cs : List Claim) → Pairs (λ c d. slot_of c.statement ≢ slot_of d.statement) cs → (a b : Claim) → Mem a cs → Mem b cs → slot_of a.statement ≡ slot_of b.statement → a ≡ b
@@ -28,7 +28,7 @@ one-of-slot s c st other m n same =
     let a = map-mem (λ (c : Claim). c.statement) cs st m in
     let b = map-mem (λ (c : Claim). c.statement) cs other n in
     let slots : slot_of a.0.statement ≡ slot_of b.0.statement = ap slot_of a.2 ∙ same ∙ sym (ap slot_of b.2) in
-    sym a.2 ∙ ap (λ (c : Claim). c.statement) (one-claim cs (all-pairs (λ c d. slot_of c.statement ≢ slot_of d.statement) cs (one_per_slot s c.me c.turns)) a.0 b.0 a.1 b.1 slots) ∙ b.2
+    sym a.2 ∙ ap (λ (c : Claim). c.statement) (one-claim cs (all-pairs (λ c d. slot_of c.statement ≢ slot_of d.statement) cs (one_per_slot s c.me c.batch_limit c.turns)) a.0 b.0 a.1 b.1 slots) ∙ b.2
 
 pub one_content : OneContent
 one_content f v st other one backed backed' same =

@@ -9,9 +9,9 @@ use Rattle.group_defs.specs.Events.{Turn, run}
 use Rattle.group_defs.specs.Laws.{OnePerSlot}
 use Rattle.safety_laws.proofs.Induction.{Keeps, run-keeps}
 use Rattle.safety_laws.proofs.KeepsBeforeEnd.{is_signed-mem}
-use Rattle.safety_laws.proofs.Members.{Mem, each-snoc, mem-map}
-use Rattle.safety_laws.proofs.Places.{Pairs, pairs-all, pairs-snoc}
-use Rattle.safety_laws.proofs.Tests.{and-first, and-second, not-both}
+use Rattle.pool_laws.proofs.Members.{Mem, each-snoc, mem-map}
+use Rattle.pool_laws.proofs.Places.{Pairs, pairs-all, pairs-snoc}
+use Rattle.pool_laws.proofs.Tests.{and-first, and-second, not-both}
 
 abbrev Differ : Claim → Claim → Type 0
 Differ c d = slot_of c.statement ≢ slot_of d.statement
@@ -34,16 +34,16 @@ keeps s from = record {
     signers = each-snoc (λ (c : Claim). c.signer ≡ p.me) p.signed (own_claim s signer p st) ok.signers refl;
   };
   decides = λ p ok. record { pairs = ok.pairs; signers = ok.signers };
-  delivers = λ p d member room e ok. record { pairs = ok.pairs; signers = ok.signers };
+  delivers = λ p ds member room e ok. record { pairs = ok.pairs; signers = ok.signers };
   installs = λ p d decided whole ok. record { pairs = ok.pairs; signers = ok.signers };
   halts = λ p d decided member ok. record { pairs = ok.pairs; signers = ok.signers };
 }
 
-signs-once : (s : Setting) (me : ℕ) (turns : List Turn) → SignsOnce (run s (start s me) turns)
-signs-once s me turns = run-keeps s SignsOnce turns (keeps s _) (start s me) (record { pairs = λ i j a b lt at. absurd cc; signers = λ c m. absurd m })
+signs-once : (s : Setting) (me limit : ℕ) (turns : List Turn) → SignsOnce (run s (start s me limit) turns)
+signs-once s me limit turns = run-keeps s SignsOnce turns (keeps s _) (start s me limit) (record { pairs = λ i j a b lt at. absurd cc; signers = λ c m. absurd m })
 
 pub one_per_slot : OnePerSlot
-one_per_slot s me turns = pairs-all Differ (run s (start s me) turns).signed (signs-once s me turns).pairs
+one_per_slot s me limit turns = pairs-all Differ (run s (start s me limit) turns).signed (signs-once s me limit turns).pairs
 
-pub own-signers : (s : Setting) (me : ℕ) (turns : List Turn) → (c : Claim) → Mem c (run s (start s me) turns).signed → c.signer ≡ (run s (start s me) turns).me
-own-signers s me turns = (signs-once s me turns).signers
+pub own-signers : (s : Setting) (me limit : ℕ) (turns : List Turn) → (c : Claim) → Mem c (run s (start s me limit) turns).signed → c.signer ≡ (run s (start s me limit) turns).me
+own-signers s me limit turns = (signs-once s me limit turns).signers

@@ -11,11 +11,11 @@ use Rattle.group_defs.specs.Process.{Setting, Process, start, views_of}
 use Rattle.group_defs.specs.Accounts.{Account, account_of, corrupt_in}
 use Rattle.group_defs.specs.Family.{Correct, Family, numbers, end_of, ends, accounts, statements_of}
 use Rattle.group_defs.specs.Laws.{IsOneView, IsBacked, may_back, QuorumsMeet}
-use Rattle.safety_laws.proofs.Counting.{both-count, one-more}
+use Rattle.pool_laws.proofs.Counting.{both-count, one-more}
 use Rattle.safety_laws.proofs.Induction.{Keeps, run-keeps}
-use Rattle.safety_laws.proofs.Members.{All-mem, Contains-mem, Mem, list_all-mem, list_any-mem, map-mem, mem-map}
-use Rattle.safety_laws.proofs.Slots.{same_statement-is}
-use Rattle.safety_laws.proofs.Tests.{and-first, and-second, not-false}
+use Rattle.pool_laws.proofs.Members.{All-mem, Contains-mem, Mem, list_all-mem, list_any-mem, map-mem, mem-map}
+use Rattle.pool_laws.proofs.Slots.{same_statement-is}
+use Rattle.pool_laws.proofs.Tests.{and-first, and-second, not-false}
 
 -- ---- the numbers
 
@@ -41,13 +41,13 @@ stays s from me = record {
   doubts = λ p conflicts ok. ok;
   signs = λ p signer st next none ok. ok;
   decides = λ p ok. ok;
-  delivers = λ p d member room e ok. ok;
+  delivers = λ p ds member room e ok. ok;
   installs = λ p d decided whole ok. ok;
   halts = λ p d decided member ok. ok;
 }
 
 pub me-end_of : (s : Setting) (c : Correct) → (end_of s c).me ≡ c.me
-me-end_of s c = run-keeps s (λ p. p.me ≡ c.me) c.turns (stays s _ c.me) (start s c.me) refl
+me-end_of s c = run-keeps s (λ p. p.me ≡ c.me) c.turns (stays s _ c.me) (start s c.me c.batch_limit) refl
 
 -- ---- correct members
 

@@ -12,13 +12,13 @@ use Rattle.group_defs.specs.Events.{Turn, run}
 use Rattle.group_defs.specs.Family.{statements_of}
 use Rattle.group_defs.specs.Laws.{ReportsReady, ReadyBeforeLast}
 use Rattle.std.proofs.lemmas.List.{map-append}
-use Rattle.safety_laws.proofs.Counting.{fold-max}
+use Rattle.pool_laws.proofs.Counting.{fold-max}
 use Rattle.safety_laws.proofs.Induction.{Keeps, run-keeps}
 use Rattle.safety_laws.proofs.MaySign.{last-rank, ready-rank}
-use Rattle.safety_laws.proofs.Members.{Mem, filter-mem, filter_map-mem, mem-Contains, mem-filter, mem-filter_map, mem-snoc, snoc-mem}
-use Rattle.safety_laws.proofs.Places.{Compared, Pairs, ahead, behind, compared, level, pairs-snoc, slice_get-mem}
-use Rattle.safety_laws.proofs.Slots.{readied-is}
-use Rattle.safety_laws.proofs.Tests.{and-first, and-second}
+use Rattle.pool_laws.proofs.Members.{Mem, filter-mem, filter_map-mem, mem-Contains, mem-filter, mem-filter_map, mem-snoc, snoc-mem}
+use Rattle.pool_laws.proofs.Places.{Compared, Pairs, ahead, behind, compared, level, pairs-snoc, slice_get-mem}
+use Rattle.pool_laws.proofs.Slots.{readied-is}
+use Rattle.pool_laws.proofs.Tests.{and-first, and-second}
 
 -- ---- the own Ready of greatest rank
 
@@ -132,24 +132,24 @@ keeps s from = record {
   doubts = λ p conflicts ok. ok;
   signs = λ p signer st next none ok. signing-keeps s p signer st next.may ok;
   decides = λ p ok. ok;
-  delivers = λ p d member room e ok. ok;
+  delivers = λ p ds member room e ok. ok;
   installs = λ p d decided whole ok. ok;
   halts = λ p d decided member ok. ok;
 }
 
-in_order : (s : Setting) (me : ℕ) (turns : List Turn) → InOrder (statements_of (run s (start s me) turns))
-in_order s me turns = run-keeps s (λ p. InOrder (statements_of p)) turns (keeps s _) (start s me) (record { pairs = λ i j a b lt at. absurd cc; reports = λ x r' best m. absurd m })
+in_order : (s : Setting) (me limit : ℕ) (turns : List Turn) → InOrder (statements_of (run s (start s me limit) turns))
+in_order s me limit turns = run-keeps s (λ p. InOrder (statements_of p)) turns (keeps s _) (start s me limit) (record { pairs = λ i j a b lt at. absurd cc; reports = λ x r' best m. absurd m })
 
 pub ready_before_last : ReadyBeforeLast
-ready_before_last s me turns i j x r r' v ready at_ready at_last lt = go (compared i j)
+ready_before_last s me limit turns i j x r r' v ready at_ready at_last lt = go (compared i j)
   where
     sts : List Statement
-    sts = statements_of (run s (start s me) turns)
+    sts = statements_of (run s (start s me limit) turns)
 
     order : InOrder sts
-    order = in_order s me turns
+    order = in_order s me limit turns
 
-    reports : (best : ℕ × Value) × (ready ≡ Some best) × (r ≤ best.0) × (best.0 < r') → ReportsReady (run s (start s me) turns) x r r' ready
+    reports : (best : ℕ × Value) × (ready ≡ Some best) × (r ≤ best.0) × (best.0 < r') → ReportsReady (run s (start s me limit) turns) x r r' ready
     reports found = (
       found.0.0,
       found.0.1,
@@ -159,7 +159,7 @@ ready_before_last s me turns i j x r r' v ready at_ready at_last lt = go (compar
       mem-Contains sts (Ready x found.0.0 found.0.1) (order.reports x r' found.0 (subst (λ o. Mem (Last x r' o) sts) found.1 (slice_get-mem sts j (Last x r' ready) at_last))),
     )
 
-    go : Compared i j → (i < j) × ReportsReady (run s (start s me) turns) x r r' ready
+    go : Compared i j → (i < j) × ReportsReady (run s (start s me limit) turns) x r r' ready
     go (ahead first) = (first, reports (order.pairs i j (Ready x r v) (Last x r' ready) first at_ready at_last refl))
     go (level e) = absurd (let is : Some (Ready x r v) ≡ Some (Last x r' ready) = sym at_ready ∙ ap (slice_get sts) e ∙ at_last in cc)
     go (behind last) = absurd (let le = order.pairs j i (Last x r' ready) (Ready x r v) last at_last at_ready refl in omega (arith, le, lt))

@@ -14,16 +14,17 @@ use Rattle.group_defs.specs.Values.{ready_said, lasts, is_at_most, is_quorum, is
 use Rattle.group_defs.specs.Family.{Family, end_of, statements_of, Correct}
 use Rattle.group_defs.specs.Laws.{StoodSo, IsOneView, IsBacked, ReadyFixesValue}
 use Rattle.safety_laws.proofs.CertifiedIsBacked.{certified_is_backed, heard-word}
-use Rattle.safety_laws.proofs.Counting.{length-filter_map}
-use Rattle.safety_laws.proofs.MaySign.{ack-justified, ready-certified, second-parts}
-use Rattle.safety_laws.proofs.Members.{Mem, list_any-mem}
+use Rattle.pool_laws.proofs.Counting.{length-filter_map}
+use Rattle.rule_laws.proofs.Choosing.{second-parts}
+use Rattle.safety_laws.proofs.MaySign.{ack-justified, ready-certified}
+use Rattle.pool_laws.proofs.Members.{Mem, list_any-mem}
 use Rattle.safety_laws.proofs.Moments.{backed-due}
 use Rattle.safety_laws.proofs.OneContent.{one_content}
-use Rattle.safety_laws.proofs.Places.{mem-slice_get}
+use Rattle.pool_laws.proofs.Places.{mem-slice_get}
 use Rattle.safety_laws.proofs.Quorums.{backer-in}
 use Rattle.safety_laws.proofs.ReadyBeforeLast.{ready_before_last}
-use Rattle.safety_laws.proofs.Slots.{last-is}
-use Rattle.safety_laws.proofs.Tests.{and-second, or-cases, some-and, then-some}
+use Rattle.pool_laws.proofs.Slots.{last-is}
+use Rattle.pool_laws.proofs.Tests.{and-second, or-cases, some-and, then-some}
 
 -- ---- who said what in a Last
 
@@ -58,7 +59,7 @@ module _ (f : Family) (v : View) (one : IsOneView f v) (q : Process) (stood : St
       let sts : List Statement = statements_of (end_of f.setting c) in
       let i = mem-slice_get sts (Ready v.number r w) ready in
       let j = mem-slice_get sts (Last v.number r' last.0) last.1 in
-      let report = (ready_before_last f.setting c.me c.turns i.0 j.0 v.number r r' w last.0 i.1 j.1 lt).1 in
+      let report = (ready_before_last f.setting c.me c.batch_limit c.turns i.0 j.0 v.number r r' w last.0 i.1 j.1 lt).1 in
       (report.0, report.1, subst (λ o. t o ≡ true) report.2 last.2, report.3)
 
   -- so of a quorum of Lasts one does

@@ -7,12 +7,12 @@ use Rattle.group_defs.specs.Events.{Turn, EventFault, refusal, signing, after, r
 use Rattle.group_defs.specs.Family.{claims_in, handed_to}
 use Rattle.group_defs.specs.Laws.{settlings_from}
 use Rattle.safety_laws.proofs.Induction.{AreFrom, Keeps, after-keeps, back, deliver-keeps, front, leave-keeps, sign_all-keeps, take_in-keeps, turns-keep}
-use Rattle.safety_laws.proofs.Members.{Mem}
+use Rattle.pool_laws.proofs.Members.{Mem}
 
-settles-none : (s : Setting) (p : Process) (t : Turn) (ts : List Turn) → refusal s p t.event ≡ None → settlings_from s p (t ∷ ts) ≡ (signing s p t).now ∷ settlings_from s (after s p t) ts
+pub settles-none : (s : Setting) (p : Process) (t : Turn) (ts : List Turn) → refusal s p t.event ≡ None → settlings_from s p (t ∷ ts) ≡ (signing s p t).now ∷ settlings_from s (after s p t) ts
 settles-none s p t ts e = cc
 
-settles-some : (s : Setting) (p : Process) (t : Turn) (ts : List Turn) (fault : EventFault) → refusal s p t.event ≡ Some fault → settlings_from s p (t ∷ ts) ≡ settlings_from s (after s p t) ts
+pub settles-some : (s : Setting) (p : Process) (t : Turn) (ts : List Turn) (fault : EventFault) → refusal s p t.event ≡ Some fault → settlings_from s p (t ∷ ts) ≡ settlings_from s (after s p t) ts
 settles-some s p t ts fault e = cc
 
 pub after-none : (s : Setting) (p : Process) (t : Turn) → refusal s p t.event ≡ None → after s p t ≡ settle s (signing s p t).now

@@ -9,9 +9,9 @@ use Rattle.group_defs.specs.Process.{Process}
 use Rattle.group_defs.specs.Hearing.{is_valid}
 use Rattle.group_defs.specs.Accounts.{Account, corrupt_in, BoundedIsTested}
 use Rattle.group_defs.specs.Family.{Family, ends, handed, statements_of, IsOwned, HonestIsTested}
-use Rattle.safety_laws.proofs.Members.{Contains-mem, Mem, all-tested, list_any-mem, mem-Contains, mem-list_any, tested-all}
-use Rattle.safety_laws.proofs.Slots.{is-same_statement, same_statement-is}
-use Rattle.safety_laws.proofs.Tests.{implied, implies}
+use Rattle.pool_laws.proofs.Members.{Contains-mem, Mem, all-tested, list_any-mem, mem-Contains, mem-list_any, tested-all}
+use Rattle.pool_laws.proofs.Slots.{is-same_statement, same_statement-is}
+use Rattle.pool_laws.proofs.Tests.{implied, implies}
 
 pub bounded_is_tested : BoundedIsTested
 bounded_is_tested accounts correct = (

@@ -15,12 +15,12 @@ use Rattle.safety_laws.proofs.History.{Certifies, History, Reach, closed, grows,
 use Rattle.safety_laws.proofs.Induction.{run-keeps}
 use Rattle.safety_laws.proofs.Installed.{installed_is_view}
 use Rattle.safety_laws.proofs.KeptBelowCut.{kept_below_cut}
-use Rattle.safety_laws.proofs.Members.{All-mem, Mem, index-mem, map-mem, mem-All, mem-Contains}
+use Rattle.pool_laws.proofs.Members.{All-mem, Mem, index-mem, map-mem, mem-All, mem-Contains}
 use Rattle.safety_laws.proofs.Moments.{wider}
-use Rattle.safety_laws.proofs.Places.{Compared, ahead, behind, compared, get-map, level, mem-slice_get, slice_get-index, slice_get-mem, slice_get-snoc}
+use Rattle.pool_laws.proofs.Places.{Compared, ahead, behind, compared, get-map, level, mem-slice_get, slice_get-index, slice_get-mem, slice_get-snoc}
 use Rattle.safety_laws.proofs.Quorums.{in-ends}
 use Rattle.safety_laws.proofs.ReadyFixesValue.{ready-ack, ready_fixes_value}
-use Rattle.safety_laws.proofs.Tests.{some-is}
+use Rattle.pool_laws.proofs.Tests.{some-is}
 use Rattle.safety_laws.proofs.ViewsOf.{left-before, left-view, moment-view}
 
 -- ---- in one view
@@ -51,7 +51,7 @@ module _ (f : Family) (v : View) (one : IsOneView f v) where
 -- ---- at the end
 
 pub of-history : (f : Family) → Premises f → (c : Correct) → History f.setting c.turns (end_of f.setting c)
-of-history f premises c = run-keeps f.setting (History f.setting c.turns) c.turns (history-keeps f.setting c.turns) (start f.setting c.me) (history-start f.setting c.turns c.me premises.first)
+of-history f premises c = run-keeps f.setting (History f.setting c.turns) c.turns (history-keeps f.setting c.turns) (start f.setting c.me c.batch_limit) (history-start f.setting c.turns c.me c.batch_limit premises.first)
 
 pub seen-view : (f : Family) (c : Correct) (v : View) (st : Statement) → Certifies f.setting c.turns (end_of f.setting c) v st → Mem v (views_of (end_of f.setting c))
 seen-view f c v st seen = subst (λ v. Mem v (views_of (end_of f.setting c))) seen.at (moment-view seen.moment (end_of f.setting c) seen.grown)
@@ -89,7 +89,7 @@ one-view-at f premises x agree c m v at = record {
 
 genesis-first : (f : Family) (c : Correct) → slice_get (views_of (end_of f.setting c)) 0 ≡ Some f.setting.genesis
 genesis-first f c =
-    let grown = run-keeps f.setting (HasGrown (start f.setting c.me)) c.turns (grows f.setting (handed_to c.turns) (start f.setting c.me)) (start f.setting c.me) (grown-self (start f.setting c.me)) in
+    let grown = run-keeps f.setting (HasGrown (start f.setting c.me c.batch_limit)) c.turns (grows f.setting (handed_to c.turns) (start f.setting c.me c.batch_limit)) (start f.setting c.me c.batch_limit) (grown-self (start f.setting c.me c.batch_limit)) in
     subst (λ vs. slice_get vs 0 ≡ Some f.setting.genesis) grown.views.1 refl
 
 pub views-agree : (f : Family) → Premises f → (x : ℕ) → AgreeAt f x

@@ -5,8 +5,8 @@ use Rattle.std.proofs.lemmas.List.{length-map}
 use Rattle.group_defs.specs.Views.{View}
 use Rattle.group_defs.specs.Process.{Left, Process, views_of, deliveries_of}
 use Rattle.group_defs.specs.Laws.{HasGrown}
-use Rattle.safety_laws.proofs.Members.{Mem, mem-append, mem-behind}
-use Rattle.safety_laws.proofs.Places.{get-some, index-beyond, index-is, length-snoc, map-get, slice_get-front, slice_get-last, slice_get-length}
+use Rattle.pool_laws.proofs.Members.{Mem, mem-append, mem-behind}
+use Rattle.pool_laws.proofs.Places.{get-some, index-beyond, index-is, length-snoc, map-get, slice_get-front, slice_get-last, slice_get-length}
 
 pub current-view : (p : Process) → Mem p.pool.view (views_of p)
 current-view p = mem-behind (map (λ (l : Left). l.view) p.left) (p.pool.view ∷ []) p.pool.view (inl refl)

@@ -1,5 +1,0 @@
-use Rattle.safety_laws.proofs.Choosing.{deputy_adopts}
-use Rattle.safety_laws.proofs.deputy_adopts.Goals as goal
-
-pub returns : goal.returns
-returns c = deputy_adopts

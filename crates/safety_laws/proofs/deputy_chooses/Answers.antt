@@ -1,5 +1,0 @@
-use Rattle.safety_laws.proofs.Choosing.{deputy_chooses}
-use Rattle.safety_laws.proofs.deputy_chooses.Goals as goal
-
-pub returns : goal.returns
-returns c = deputy_chooses

@@ -1,5 +1,0 @@
-use Rattle.safety_laws.proofs.Offered.{each_due_is_offered}
-use Rattle.safety_laws.proofs.each_due_is_offered.Goals as goal
-
-pub returns : goal.returns
-returns c = each_due_is_offered

@@ -1,5 +1,0 @@
-use Rattle.safety_laws.proofs.LeastIsDue.{least_is_due}
-use Rattle.safety_laws.proofs.least_is_due.Goals as goal
-
-pub returns : goal.returns
-returns c = least_is_due
