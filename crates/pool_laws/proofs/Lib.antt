@@ -1,0 +1,11 @@
+pub mod Tests
+pub mod Members
+pub mod Places
+pub mod Counting
+pub mod Slots
+pub mod Heard
+pub mod Growing
+pub mod Grown
+pub mod Fixed
+pub mod Ranks
+pub mod Sorting
