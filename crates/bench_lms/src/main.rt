@@ -3,6 +3,7 @@
 #![tactic(auto)]
 
 use anyhow::{Result, anyhow};
+use lms_hss::{HssKey, hss_verify};
 use lms_tree::{LmsKey, OtsType, lms_verify};
 use rp_base::Signer;
 use sha2::{Digest, Sha256};
@@ -38,8 +39,16 @@ fn make(alloc: Global, height: u32, ots: OtsType) -> Result<LmsKey> {
     }
 }
 
-// Signs the message with the next leaf, and tells whether the signature is valid.
-fn sign(key: &mut LmsKey, out: &mut [u8]) -> Result<()> {
+// A key of two levels of height 5 with W8: 1,024 signatures.
+fn make_levels(alloc: Global) -> Result<HssKey> {
+    match HssKey::make(alloc, 2, 5, OtsType::W8, ID, SEED) {
+        Ok(key) => Ok(key),
+        Err(_) => Err(anyhow!("no key")),
+    }
+}
+
+// Signs the message with the next leaf.
+fn sign<G: Signer>(key: &mut G, out: &mut [u8]) -> Result<()> {
     if key.sig_len() > out.len() {
         return Err(anyhow!("no room"));
     }
@@ -60,6 +69,12 @@ fn once(rt: &(impl Print + AllocGlobal)) -> Result<()> {
     let length = sig.len();
     let valid = lms_verify(key.public(), MESSAGE, &sig);
     println!(rt; "{length} bytes, {valid}")?;
+    let mut key = make_levels(rt.alloc())?;
+    let mut sig = vec![in rt.alloc(); 0u8; key.sig_len()]?;
+    sign(&mut key, &mut sig)?;
+    let length = sig.len();
+    let valid = hss_verify(key.public(), MESSAGE, &sig);
+    println!(rt; "two levels: {length} bytes, {valid}")?;
     Ok(())
 }
 
@@ -90,6 +105,36 @@ fn times_of(
     Ok(())
 }
 
+// A tree of height 5 with W8 takes 279,198 blocks, and a signature 4,260 on average: a key of two levels two trees and one
+// signature to make, and where a lower tree ends one tree and two signatures.
+fn times_of_levels(rt: &(impl Print + AllocGlobal + CpuClock), block: f64) -> Result<()> {
+    let start = seconds(rt)?;
+    let mut key = make_levels(rt.alloc())?;
+    let made = seconds(rt)? - start;
+    let mut sig = vec![in rt.alloc(); 0u8; key.sig_len()]?;
+    let mut within = 0.0;
+    let mut at_ends = 0.0;
+    for number in 0..1024u32 {
+        let start = seconds(rt)?;
+        sign(&mut key, &mut sig)?;
+        let taken = seconds(rt)? - start;
+        if number > 0 && number % 32 == 0 {
+            at_ends += taken;
+        } else {
+            within += taken;
+        }
+    }
+    let make_ratio = made / block / 562_656.0;
+    let within_ratio = within / 993.0 / block / 4_260.0;
+    let end_ratio = at_ends / 31.0 / block / 287_718.0;
+    let mean = (within + at_ends) / 1024.0 * 1e6;
+    println!(rt; "make 2 levels H5 W8: {make_ratio:.3}")?;
+    println!(rt; "sign 2 levels H5 W8: {within_ratio:.3}")?;
+    println!(rt; "sign where a tree ends: {end_ratio:.3}")?;
+    println!(rt; "mean of 1024 signatures: {mean:.0} us")?;
+    Ok(())
+}
+
 // A tree of height 10 with W4 takes 1,135,614 blocks: 1,024 leaves of 67 chains with 16 each, 34 of a public key and one of
 // the leaf, and 1,023 inner nodes of 2.
 fn times(rt: &(impl Print + AllocGlobal + CpuClock)) -> Result<()> {
@@ -106,7 +151,7 @@ fn times(rt: &(impl Print + AllocGlobal + CpuClock)) -> Result<()> {
     println!(rt; "make H10 W4: {ratio:.3}")?;
     times_of(rt, OtsType::W4, 567.0, 556.0, block)?;
     times_of(rt, OtsType::W8, 4260.0, 4478.0, block)?;
-    Ok(())
+    times_of_levels(rt, block)
 }
 
 fn main(rt: HostRuntime) -> Result<()> {

@@ -11,8 +11,6 @@ mod digits;
 mod fields;
 mod kinds;
 mod signatures;
-#[cfg(test)]
-mod tests;
 
 pub use fields::u32_at;
 pub use kinds::{ots_signature_length, ots_type_of, ots_typecode};

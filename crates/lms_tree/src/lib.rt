@@ -5,17 +5,17 @@ ghost use Rattle.std.specs.Prelude.{◌≡◌};
 ghost use Rattle.signature_defs.specs.Laws.{SignatureIsValid};
 ghost use Rattle.signature_defs.specs.Lms.{lms_signature_length};
 
+mod fill;
 mod heights;
 mod key;
 mod nodes;
-#[cfg(test)]
-mod tests;
 mod tree;
 mod verify;
 
 pub use heights::lms_height_of;
-pub use key::{KeyFault, LmsKey};
+pub use key::LmsKey;
 pub use lms_ots::OtsType;
+pub use tree::{KeyFault, LmsTree};
 pub use verify::{LmsScheme, lms_verify};
 
 /// What any leaf of a tree signs is valid under the tree's public key (RFC 8554, section 5.4).

@@ -4,3 +4,4 @@ pub mod ChainLaws
 pub mod OtsLaws
 pub mod TreeLaws
 pub mod LmsLaws
+pub mod HssLaws

@@ -18,7 +18,7 @@ use Rattle.signature_defs.proofs.PartLaws.{part_behind, part_front, part_strings
 use Rattle.signature_defs.proofs.OtsLaws.{candidate_is_key, length-ots_signature, type_of_typecode, typecode_small}
 use Rattle.signature_defs.proofs.TreeLaws.{climbs, leaf_node, length-node}
 
-some_and : {A : Type 0} (o : Option A) (a : A) (test : A → Bool) → o ≡ Some a → test a ≡ true → is_some_and o test ≡ true
+pub some_and : {A : Type 0} (o : Option A) (a : A) (test : A → Bool) → o ≡ Some a → test a ≡ true → is_some_and o test ≡ true
 some_and o a test e t = ap (λ p. is_some_and p test) e ∙ t
 
 bytes_match : (xs ys : List ℕ) → xs ≡ ys → same_bytes xs ys ≡ true
@@ -62,10 +62,10 @@ module _ (kind : OtsType) (code h : ℕ) (id seed : List ℕ) (size : length id 
       let root = length-node kind h id seed h 1 in
       length-append (u32str code ++ u32str (ots_typecode kind) ++ id) (node kind h id seed h 1) ∙ omega (arith, root, size)
 
-  type_is : u32_at 4 (lms_public_key code kind h id seed) ≡ ots_typecode kind
+  pub type_is : u32_at 4 (lms_public_key code kind h id seed) ≡ ots_typecode kind
   type_is = from_be_bytes-to_be_bytes_4 (ots_typecode kind) (typecode_small kind)
 
-  code_is : code < 2 ^ 32 → u32_at 0 (lms_public_key code kind h id seed) ≡ code
+  pub code_is : code < 2 ^ 32 → u32_at 0 (lms_public_key code kind h id seed) ≡ code
   code_is small = from_be_bytes-to_be_bytes_4 code small
 
 -- ---- the signature's fields
@@ -83,7 +83,7 @@ module _ (kind : OtsType) (code h : ℕ) (id seed : List ℕ) (q : ℕ) (message
   front_length : length (u32str q ++ signed) ≡ 4 + ots_signature_length kind
   front_length = omega (arith, length-append (u32str q) signed, length-ots_signature kind id q seed message)
 
-  sig_length : length sig ≡ lms_signature_length kind h
+  pub sig_length : length sig ≡ lms_signature_length kind h
   sig_length =
       let path = length-strings (path_node kind h id seed q) h 32 (λ i. length-node kind h id seed i _) in
       omega (arith, length-append (u32str q ++ signed ++ u32str code) nodes, length-append (u32str q ++ signed) (u32str code), front_length, path)

@@ -1,0 +1,4 @@
+pub mod Refusals
+pub mod Plans
+pub mod Trees
+pub mod Key

@@ -1,0 +1,5 @@
+//! One-time signatures beside another program's.
+#![tactic(auto)]
+
+#[cfg(test)]
+mod tests;
