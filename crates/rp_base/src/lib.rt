@@ -32,6 +32,3 @@ pub use roster::Roster;
 pub use scheme::{Count, PlainScheme, PlainSigner, Scheme, Signer, Spent, Tally};
 pub use streams::{Sink, Source};
 pub use updates::{Update, UpdateFault, Value};
-
-#[cfg(test)]
-mod tests;

@@ -1,6 +1,6 @@
 ghost use Rattle.std.specs.Prelude.{◌≡◌, ◌<◌};
 
-use super::*;
+use rp_base::*;
 use std::test::Fail;
 
 fn pid(n: u8) -> Pid
