@@ -15,6 +15,3 @@ pub use layout::{BUNDLE, FRAME_BYTES, PROOF, SIGNATURE_BYTES};
 pub use message_defs::FrameFault;
 pub use reading::split_frame;
 pub use writer::{FrameWriter, write_want};
-
-#[cfg(test)]
-mod tests;

@@ -15,7 +15,7 @@ use Rattle.message_defs.specs.Reading.{statement_in}
 use Rattle.message_defs.specs.Claims.{claims_on, claims_of_group, claims_of_groups}
 use Rattle.frame_codec.specs.Views.{items_of}
 use Rattle.stmt_codec.specs.Cursor.{both, given}
-use Rattle.stmt_codec.proofs.Grammar.{statement_takes}
+use Rattle.statements.proofs.Grammar.{statement_takes}
 
 -- ---- the signatures of a frame are short
 

@@ -9,7 +9,7 @@ use Rattle.message_defs.specs.Frames.{Group}
 use Rattle.message_defs.specs.Statements.{Statement, Claim}
 use Rattle.message_defs.specs.Reading.{statement_in}
 use Rattle.message_defs.specs.Claims.{claims_on, claims_of_group, claims_of_groups}
-use Rattle.stmt_codec.specs.Cursor.{both, with_first, given}
+use Rattle.stmt_codec.specs.Cursor.{both, with_first}
 
 abbrev pub Claims : Type 0
 Claims = Result (List Claim) FrameFault

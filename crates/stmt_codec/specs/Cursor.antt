@@ -8,8 +8,8 @@ use Rattle.message_defs.specs.Claims.{claims_of_group, claims_of_groups}
 use Rattle.frame_codec.specs.declared.groups.Group.{Group}
 use Rattle.frame_codec.specs.declared.groups.Groups.{Groups}
 use Rattle.frame_codec.specs.Views.{group_view, groups_left}
-use Rattle.stmt_codec.specs.declared.reading.Carrier.{Carrier}
-use Rattle.stmt_codec.specs.Views.{carried}
+use Rattle.statements.specs.declared.reading.Carrier.{Carrier}
+use Rattle.statements.specs.Views.{carried}
 
 -- of what is left of a group
 abbrev pub of_group : Carrier → Group → Result (List Claim) FrameFault

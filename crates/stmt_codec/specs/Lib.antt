@@ -1,5 +1,4 @@
 pub mod Views
-pub mod Raw
 pub mod Looks
 pub mod Cursor
 pub mod Left

@@ -3,7 +3,7 @@
 //! | Frame | Carries |
 //! |---|---|
 //! | Bundle | every kind |
-//! | Proof | Echo, Place, Keep, Ready |
+//! | Proof | Echo, Place, Keep, Ready; a Place or a Keep of several messages too |
 //! | Want | no claims |
 ghost use Rattle.std.specs.Prelude.{◌≡◌, [], IfOk};
 ghost use Rattle.std.specs.List.{AllByRecursion};
@@ -11,15 +11,14 @@ ghost use Rattle.byte_defs.specs.Reads.{Gives};
 ghost use Rattle.message_defs.specs.Spelling.{IsClaim};
 ghost use Rattle.message_defs.specs.Claims as plain;
 ghost use Rattle.frame_codec.specs.Views as frames;
-ghost use Rattle.stmt_codec.specs.Views.{carried};
+ghost use Rattle.statements.specs.Views.{carried};
 ghost use Rattle.stmt_codec.specs.Looks.{looked};
 ghost use Rattle.stmt_codec.specs.Left.{claims_left};
 
 use crate::cursor::Claims;
-use crate::limits::{LAST_NUMBER, MOST_PLACES};
-use crate::reading::{Carrier, read_carried};
 use frame_codec::{FrameView, Group, Groups, Signatures};
 use message_defs::FrameFault;
+use statements::{Carrier, LAST_NUMBER, MOST_PLACES, read_carried};
 
 fn check_signers(signatures: Signatures<'_>) -> Result<(), FrameFault>
     ensures { (st : _) → Gives (λ u. u) result (looked (plain.claims_on st (frames.signatures_left signatures.entry))) }

@@ -2,13 +2,12 @@
 ghost use Rattle.std.specs.Prelude.{◌≡◌, [], IsOk, MatchOption, Ok};
 ghost use Rattle.std.specs.Iterator.{YieldsFirstBy};
 ghost use Rattle.frame_codec.specs.Views as frames;
-ghost use Rattle.stmt_codec.specs.Views.{claim};
+ghost use Rattle.statements.specs.Views.{claim};
 ghost use Rattle.stmt_codec.specs.Cursor.{all_left, groups_of, of_begun, of_group, with_first};
 
-use crate::reading::{Carrier, read_carried};
-use crate::statement::Claim;
 use frame_codec::{Group, Groups};
 use rp_base::Pid;
+use statements::{Carrier, Claim, read_carried};
 
 /// The claims that are left in a frame, by group and signer. They borrow the frame's bytes: a statement is read when its
 /// claim is lent. That all can be read was found before the first one.
@@ -65,7 +64,7 @@ fn next_group<'a>(groups: &mut Option<Groups<'a>>) -> Option<Group<'a>>
 
 impl<'a> Iterator for Claims<'a> {
     ghost use Rattle.std.specs.Iterator.{YieldsFirstBy, item_count};
-    ghost use Rattle.stmt_codec.specs.Views.{claim};
+    ghost use Rattle.statements.specs.Views.{claim};
     ghost use Rattle.stmt_codec.specs.Left.{claims_left};
 
     type Item = Claim<'a>;

@@ -72,6 +72,15 @@ pub struct Sending {
     pub frame: Payload,
 }
 
+/// A message that was delivered, with its place and its payload.
+#[derive(Debug, Drop)]
+pub struct Delivered {
+    pub place: u16,
+    pub sender: Pid,
+    pub number: u16,
+    pub payload: Payload,
+}
+
 /// What an event brought about that the process's user is told.
 #[derive(Debug, Drop)]
 pub enum Note {

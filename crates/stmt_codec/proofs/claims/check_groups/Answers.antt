@@ -1,6 +1,6 @@
 use Rattle.std.proofs.Common.{◌∙◌}
 use Rattle.std.proofs.lemmas.Result.{err_from_is_err_and}
-use Rattle.stmt_codec.specs.Views.{carried}
+use Rattle.statements.specs.Views.{carried}
 use Rattle.stmt_codec.proofs.Looking.{group_passes, group_refused, no_group_left}
 use Rattle.stmt_codec.proofs.claims.check_groups.Goals as goal
 

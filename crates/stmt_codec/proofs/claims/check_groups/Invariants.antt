@@ -2,7 +2,7 @@ use Rattle.std.proofs.Common.{◌≡◌, length}
 use Rattle.frame_codec.specs.Views as frames
 use Rattle.message_defs.specs.Claims.{claims_of_groups}
 use Rattle.stmt_codec.specs.Looks.{looked}
-use Rattle.stmt_codec.specs.Views.{carried}
+use Rattle.statements.specs.Views.{carried}
 use Rattle.stmt_codec.proofs.claims.check_groups.Given as goal
 
 abbrev pub invariant-groups : goal.invariant-groups

@@ -1,6 +1,6 @@
 use Rattle.std.proofs.Common.{refl}
 use Rattle.frame_codec.specs.Views.{groups_left}
-use Rattle.stmt_codec.specs.Views.{carried}
+use Rattle.statements.specs.Views.{carried}
 use Rattle.stmt_codec.proofs.Fits.{are_given, groups_have_short}
 use Rattle.stmt_codec.proofs.claims.claims_in.Goals as goal
 

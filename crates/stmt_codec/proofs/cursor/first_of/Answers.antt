@@ -1,5 +1,5 @@
 use Rattle.std.proofs.Common.{◌≡◌, ◌≤◌, false, true, arith}
-use Rattle.stmt_codec.specs.Views.{carried}
+use Rattle.statements.specs.Views.{carried}
 use Rattle.stmt_codec.proofs.Lending.{no_fault, signer_stands, no_claim_left, same_claims, group_lends}
 use Rattle.stmt_codec.proofs.cursor.first_of.Goals as goal
 

@@ -2,7 +2,7 @@ use Rattle.std.proofs.Common.{ap, ◌∙◌, subst}
 use Rattle.std.specs.Prelude.{IsOk}
 use Rattle.frame_codec.specs.Views.{group_view}
 use Rattle.stmt_codec.specs.Cursor.{groups_of, of_begun, given}
-use Rattle.stmt_codec.specs.Views.{carried}
+use Rattle.statements.specs.Views.{carried}
 use Rattle.stmt_codec.proofs.Lending.{next_begins, nothing_waits, Claims}
 use Rattle.stmt_codec.proofs.cursor.ClaimsIterator.next.Goals as goal
 

@@ -1,0 +1,5 @@
+//! Frames that are cut, written and read again.
+#![tactic(auto)]
+
+#[cfg(test)]
+mod tests;

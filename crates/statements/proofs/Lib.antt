@@ -1,0 +1,7 @@
+mod Batching
+mod Messages
+mod Places
+mod Spelled
+pub mod Parts
+pub mod Grammar
+pub mod Bodies
