@@ -1,1 +1,2 @@
 mod Distinct
+mod Following

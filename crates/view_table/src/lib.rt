@@ -1,11 +1,9 @@
-//! Views of a group: who its members are and in which rank, and how many of them may be corrupt or make a quorum.
+//! Views of a group: who the members are and in which rank, which view follows by an update, and how many members may be
+//! corrupt or make a quorum (docs/PROTOCOL.md, «Views»).
 #![tactic(auto)]
 
 mod sizes;
 mod view;
 
 pub use sizes::{faulty, quorum};
-pub use view::View;
-
-#[cfg(test)]
-mod tests;
+pub use view::{View, next};

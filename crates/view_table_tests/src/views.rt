@@ -1,6 +1,6 @@
-use crate::*;
 use rp_base::Pid;
 use std::process::Abort;
+use view_table::{View, faulty, quorum};
 
 fn pid(rt: &impl Abort, n: u8) -> Pid {
     Pid::new(n).expect(rt, "a process number")
@@ -18,6 +18,9 @@ fn a_view_and_its_ranks(rt: HostRuntime) {
     assert!(rt; view.rank_of(members[0]) == Some(0));
     assert!(rt; view.rank_of(members[2]) == Some(2));
     assert!(rt; view.rank_of(pid(&rt, 1)).is_none());
+    assert!(rt; view.is_member(members[1]) && !view.is_member(pid(&rt, 1)));
+    let copy = view.clone().expect(&rt, "a copy takes no memory");
+    assert!(rt; copy.number() == 1023 && copy.members() == members.as_slice());
 }
 
 #[test]
