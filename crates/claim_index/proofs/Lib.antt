@@ -1,0 +1,4 @@
+pub mod Keyed
+pub mod Found
+pub mod Adding
+pub mod Signers

@@ -1,0 +1,302 @@
+ghost use Rattle.std.specs.Prelude.{◌≡◌, ◌+◌, ◌-◌, ◌≤◌, [], ◌++◌, ◌↔◌, length, slice_get, slice_range, None, IsTrue, IsOk, IfOk, OnOk, OnErr, IfSome, option_and_then, sum_by};
+ghost use Rattle.std.specs.Option.{option_map, option_copied};
+ghost use Rattle.std.specs.Map.{lookup};
+ghost use Rattle.std.specs.Str.{bytes_eq};
+ghost use Rattle.std.specs.Vec.{vec_len, vec_capacity};
+ghost use Rattle.message_defs.specs.Spelling.{IsStatement, IsClaim, spelling};
+ghost use Rattle.message_defs.specs.Statements as plain;
+ghost use Rattle.message_defs.specs.Reading.{statement_of};
+ghost use Rattle.group_defs.specs.Certified as defs;
+ghost use Rattle.stmt_codec.specs.Views.{stmt, slot, claim, claim as claim_of};
+ghost use Rattle.byte_defs.specs.Orders.{sorted};
+ghost use Rattle.claim_index.specs.Keys.{same_key};
+ghost use Rattle.claim_index.specs.Kept.{by_number, past, middle, spelled, claim_with, claim_bytes, statement_bytes, empty_pool, with_heard, AreKept};
+
+use crate::key::{Key, slot_key_at, slot_key_of};
+use indexmap::IndexMap;
+use rp_base::{NoMemory, Pid, PidSet};
+use std::alloc::Global;
+use std::marker::Model;
+use stmt_codec::{Claim, STATEMENT_BYTES, Slot, Statement, read_statement, spell_into};
+use view_table::{View, quorum};
+
+/// Where the bytes of a claim stand: its statement's from `start` on, and its signature's behind them.
+#[derive(Clone, Copy, Debug)]
+pub(crate) struct Kept {
+    start: usize,
+    said: u16,
+    signed: u16,
+}
+
+/// The heard claims of a view, in order of hearing, and of each signer and slot one at most that is found. Contracts see
+/// them as the definitions' pool, with the room that is left.
+#[derive(Drop)]
+pub struct ClaimIndex {
+    view: View,
+    bytes: Vec<u8>,
+    kept: IndexMap<Key, Kept>,
+}
+
+impl Model for ClaimIndex {
+    ghost use Rattle.std.specs.Prelude.{◌-◌, length};
+    ghost use Rattle.std.specs.Vec.{vec_capacity};
+    ghost use Rattle.indexmap.specs.IndexMap.{spare};
+    ghost use Rattle.claim_index.specs.Kept.{Holding, pool_of, IsIndex};
+
+    ghost Value = { Holding };
+
+    ghost view = { λ p. record { pool = pool_of p.view p.bytes.items p.kept.entries; claims_left = spare p.kept; bytes_left = vec_capacity p.bytes - length p.bytes.items } };
+
+    ghost invariant = { λ p. IsIndex p.bytes.items p.kept.entries };
+}
+
+// The entry under this key.
+fn find(kept: &IndexMap<Key, Kept>, key: &Key) -> Option<Kept>
+    ensures { result ≡ lookup (same_key key.now) kept.now.entries }
+{
+    kept.get(key).copied()
+}
+
+// The claim whose bytes stand there.
+fn lent(bytes: &[u8], signer: Pid, kept: Kept) -> Claim<'_>
+    requires within { past kept ≤ length bytes.now }
+    requires readable { IsOk (statement_of (statement_bytes bytes.now kept)) }
+    ensures value { claim result ≡ claim_with bytes.now signer kept }
+    ensures range { IsStatement (stmt result.statement) }
+{
+    let middle = kept.start + kept.said as usize;
+    let Ok(statement) = read_statement(&bytes[kept.start..middle]) else {
+        unreachable!()
+    };
+    Claim {
+        signer,
+        statement,
+        signature: &bytes[middle..middle + kept.signed as usize],
+    }
+}
+
+// The claim under this key of the signer.
+fn claim_under<'a>(
+    bytes: &'a [u8],
+    kept: &IndexMap<Key, Kept>,
+    signer: Pid,
+    key: Key,
+) -> Option<Claim<'a>>
+    requires { AreKept bytes.now kept.now.entries }
+    ensures value { option_map claim result ≡ option_map (claim_with bytes.now signer) (lookup (same_key key) kept.now.entries) }
+    ensures range { IfSome result (λ c. IsStatement (stmt c.statement)) }
+{
+    match find(kept, &key) {
+        Some(kept) => Some(lent(bytes, signer, kept)),
+        None => None,
+    }
+}
+
+// Puts the claim's bytes behind those that stand there, and answers where they stand.
+fn store(bytes: &mut Vec<u8>, claim: &Claim<'_>) -> Kept
+    requires range { IsStatement (stmt claim.now.statement) }
+    requires short { length claim.now.signature.now ≤ 16384 }
+    requires room { vec_len bytes.old + (length (spelling (stmt claim.now.statement)) + length claim.now.signature.now) ≤ vec_capacity bytes.old }
+    ensures items { bytes.new.items ≡ bytes.old.items ++ (spelling (stmt claim.now.statement) ++ claim.now.signature.now) }
+    ensures capacity { vec_capacity bytes.old ≤ vec_capacity bytes.new }
+    ensures start { result.start ≡ length bytes.old.items }
+    ensures said { result.said ≡ length (spelling (stmt claim.now.statement)) }
+    ensures signed { result.signed ≡ length claim.now.signature.now }
+{
+    let mut spelled = [0; STATEMENT_BYTES];
+    let said = spell_into(&claim.statement, &mut spelled);
+    let start = bytes.len();
+    let Ok(()) = bytes.extend_from_slice(&spelled[..said]) else {
+        unreachable!()
+    };
+    let Ok(()) = bytes.extend_from_slice(claim.signature) else {
+        unreachable!()
+    };
+    Kept {
+        start,
+        said: said as u16,
+        signed: claim.signature.len() as u16,
+    }
+}
+
+// Whether the bytes of the claim's statement are these.
+fn is_said(bytes: &[u8], kept: Kept, spelled: &[u8]) -> bool
+    requires { past kept ≤ length bytes.now }
+    ensures { result ≡ bytes_eq (statement_bytes bytes.now kept) spelled.now }
+{
+    let middle = kept.start + kept.said as usize;
+    &bytes[kept.start..middle] == spelled
+}
+
+impl ClaimIndex {
+    /// Nothing is heard of the view yet.
+    pub fn new(alloc: Global, view: View) -> ClaimIndex
+        ensures { result.pool ≡ empty_pool view }
+    {
+        ClaimIndex {
+            view,
+            bytes: Vec::new(alloc),
+            kept: IndexMap::new(alloc),
+        }
+    }
+
+    /// Forgets what is heard, and turns to this view. The room stays, and grows by what the forgotten claims took.
+    pub fn turn_to(&mut self, view: View)
+        ensures pool { self.new.pool ≡ empty_pool view }
+        ensures claims { self.old.claims_left ≤ self.new.claims_left }
+        ensures bytes { self.old.bytes_left ≤ self.new.bytes_left }
+    {
+        self.bytes.clear();
+        self.kept.clear();
+        self.view = view;
+    }
+
+    /// Makes room to hear so many claims more, with so many bytes in all, without memory.
+    pub fn reserve(&mut self, claims: usize, bytes: usize) -> Result<(), NoMemory>
+        ensures same { self.new.pool ≡ self.old.pool }
+        ensures room { OnOk result ((claims ≤ self.new.claims_left) × (bytes ≤ self.new.bytes_left)) }
+        ensures kept { (self.old.claims_left ≤ self.new.claims_left) × (self.old.bytes_left ≤ self.new.bytes_left) }
+    {
+        self.kept.reserve(claims)?;
+        self.bytes.reserve(bytes)?;
+        Ok(())
+    }
+
+    /// How many claims are heard, and how many bytes their statements and signatures have.
+    pub fn size(&self) -> (usize, usize)
+        ensures claims { result.0 ≡ length self.now.pool.heard }
+        ensures bytes { result.1 ≡ sum_by claim_bytes self.now.pool.heard }
+    {
+        (self.kept.len(), self.bytes.len())
+    }
+
+    /// The view.
+    pub fn view(&self) -> &View
+        ensures { result.now ≡ self.now.pool.view }
+    {
+        &self.view
+    }
+
+    /// The heard claim at this place in order of hearing; None exactly where the place is not below their number.
+    pub fn claim_at(&self, place: usize) -> Option<Claim<'_>>
+        ensures { option_map claim result ≡ slice_get self.now.pool.heard place }
+    {
+        match self.kept.get_index(place) {
+            Some((key, kept)) => Some(lent(&self.bytes, key.signer(), *kept)),
+            None => None,
+        }
+    }
+
+    /// The signer's heard claim of that kind and slot, with its signature; None exactly where there is none, or the kind
+    /// has no such slots.
+    pub fn heard_claim(&self, signer: Pid, kind: u8, about: &Slot) -> Option<Claim<'_>>
+        ensures value { option_map claim result ≡ option_and_then (defs.claim_on self.now.pool.heard signer) (slot kind about.now) }
+        ensures range { IfSome result (λ c. IsStatement (stmt c.statement)) }
+    {
+        let key = Key::new(signer, slot_key_at(kind, about)?);
+        claim_under(&self.bytes, &self.kept, signer, key)
+    }
+
+    /// The signer's heard claim on the statement's slot.
+    pub fn claim_on(&self, signer: Pid, statement: &Statement<'_>) -> Option<Claim<'_>>
+        ensures { option_map claim result ≡ defs.claim_on self.now.pool.heard signer (plain.slot_of (stmt statement.now)) }
+    {
+        let key = Key::new(signer, slot_key_of(statement));
+        claim_under(&self.bytes, &self.kept, signer, key)
+    }
+
+    /// Whether the member's heard claim on the statement's slot has the statement's bytes, which are handed in.
+    pub fn says(&self, member: Pid, statement: &Statement<'_>, spelled: &[u8]) -> bool
+        requires range { IsStatement (stmt statement.now) }
+        requires spelled { spelled.now ≡ spelling (stmt statement.now) }
+        ensures { result ≡ defs.says self.now.pool (stmt statement.now) member }
+    {
+        match find(&self.kept, &Key::new(member, slot_key_of(statement))) {
+            Some(kept) => is_said(&self.bytes, kept, spelled),
+            None => false,
+        }
+    }
+
+    /// Whether the signer's heard claim on the statement's slot says the same; None where there is none.
+    pub fn repeats(&self, signer: Pid, statement: &Statement<'_>) -> Option<bool>
+        requires { IsStatement (stmt statement.now) }
+        ensures { result ≡ option_map (plain.same_statement (stmt statement.now)) (defs.heard_on self.now.pool signer (plain.slot_of (stmt statement.now))) }
+    {
+        let mut spelled = [0; STATEMENT_BYTES];
+        let said = spell_into(statement, &mut spelled);
+        match find(&self.kept, &Key::new(signer, slot_key_of(statement))) {
+            Some(kept) => Some(is_said(&self.bytes, kept, &spelled[..said])),
+            None => None,
+        }
+    }
+
+    // How many members say this; the statement's bytes are handed in.
+    fn count_spelled(&self, statement: &Statement<'_>, spelled: &[u8]) -> usize
+        requires range { IsStatement (stmt statement.now) }
+        requires spelled { spelled.now ≡ spelling (stmt statement.now) }
+        ensures { result ≡ length (defs.backers self.now.pool (stmt statement.now)) }
+    {
+        self.view
+            .members()
+            .iter()
+            .filter(|m| self.says(**m, statement, spelled))
+            .count()
+    }
+
+    /// How many members say this.
+    pub fn count(&self, statement: &Statement<'_>) -> usize
+        requires { IsStatement (stmt statement.now) }
+        ensures { result ≡ length (defs.backers self.now.pool (stmt statement.now)) }
+    {
+        let mut spelled = [0; STATEMENT_BYTES];
+        let said = spell_into(statement, &mut spelled);
+        self.count_spelled(statement, &spelled[..said])
+    }
+
+    /// Whether a quorum of the members says this.
+    pub fn is_certified(&self, statement: &Statement<'_>) -> bool
+        requires { IsStatement (stmt statement.now) }
+        ensures value { result ≡ defs.is_certified self.now.pool (stmt statement.now) }
+        ensures some { 1 ≤ defs.number_of_members self.now.pool }
+    {
+        quorum(self.view.members().len()) <= self.count(statement)
+    }
+
+    /// The members that say this.
+    pub fn backers(&self, statement: &Statement<'_>) -> PidSet
+        requires { IsStatement (stmt statement.now) }
+        ensures { result ≡ sorted by_number (defs.backers self.now.pool (stmt statement.now)) }
+    {
+        let mut spelled = [0; STATEMENT_BYTES];
+        let said = spell_into(statement, &mut spelled);
+        let members = self.view.members();
+        let mut backers = PidSet::new();
+        let mut left = members.len();
+        'members: while left > 0 {
+            left -= 1;
+            let member = members[left];
+            if self.says(member, statement, &spelled[..said]) {
+                backers.insert(member);
+            }
+        }
+        backers
+    }
+
+    /// Hears a claim whose signer has none on the slot.
+    pub fn add(&mut self, claim: &Claim<'_>)
+        requires range { IsStatement (stmt claim.now.statement) }
+        requires short { length claim.now.signature.now ≤ 16384 }
+        requires fresh { defs.claim_on self.old.pool.heard claim.now.signer (plain.slot_of (stmt claim.now.statement)) ≡ None }
+        requires claims { 1 ≤ self.old.claims_left }
+        requires bytes { claim_bytes (claim_of claim.now) ≤ self.old.bytes_left }
+        ensures heard { self.new.pool ≡ with_heard self.old.pool (claim_of claim.now) }
+        ensures claims_left { self.old.claims_left ≤ self.new.claims_left + 1 }
+        ensures bytes_left { self.old.bytes_left ≤ self.new.bytes_left + claim_bytes (claim_of claim.now) }
+    {
+        let key = Key::new(claim.signer, slot_key_of(&claim.statement));
+        let kept = store(&mut self.bytes, claim);
+        let Ok(_) = self.kept.insert(key, kept) else {
+            unreachable!()
+        };
+    }
+}

@@ -1,0 +1,9 @@
+//! The heard claims of a view, each found by its signer and slot. The bytes of all claims stand one behind the other in one
+//! vector, and a map in order of hearing says where those of each stand; contents are compared by their bytes.
+#![tactic(auto)]
+
+mod index;
+mod key;
+
+pub use index::ClaimIndex;
+pub use key::{Key, SlotKey, slot_key_at, slot_key_of};

@@ -1,0 +1,4 @@
+pub mod Noting
+pub mod Judged
+pub mod Few
+pub mod PlacedLength

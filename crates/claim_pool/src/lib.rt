@@ -1,0 +1,17 @@
+//! What is heard of a view: each claim gets its verdict, and each question about those that are heard is answered at once
+//! (docs/PROTOCOL.md, «Hearing»).
+#![tactic(auto)]
+
+mod certificate;
+mod checked;
+mod hearing;
+mod places;
+mod pool;
+mod quorums;
+mod verdict;
+
+pub use certificate::{Ack, CertKind, Certificate, Commit, Keep, Message, Place};
+pub use checked::{Checked, check};
+pub use own_place::Own;
+pub use pool::Pool;
+pub use verdict::Verdict;

@@ -1,0 +1,256 @@
+ghost use Rattle.std.specs.Prelude.{◌≡◌, ◌+◌, ◌≤◌, ◌↔◌, None, IsTrue, length, slice_get, unwrap_or, OnOk, IfOk, IfSome, option_and_then, sum_by};
+ghost use Rattle.byte_defs.specs.Choices.{first_that_holds};
+ghost use Rattle.std.specs.Option.{option_map};
+ghost use Rattle.message_defs.specs.Spelling.{IsStatement, IsClaim};
+ghost use Rattle.message_defs.specs.Statements as plain;
+ghost use Rattle.group_defs.specs.Process as defs;
+ghost use Rattle.group_defs.specs.Certified as certified;
+ghost use Rattle.group_defs.specs.Hearing as hearing;
+ghost use Rattle.stmt_codec.specs.Views.{stmt, slot as slot_at, claim, claim as claim_of};
+ghost use Rattle.byte_defs.specs.Orders.{sorted};
+ghost use Rattle.rp_base.specs.Views.{update as update_of};
+ghost use Rattle.group_defs.specs.Views.{quorum};
+ghost use Rattle.claim_pool.specs.Certificates.{content_of, signers_of};
+ghost use Rattle.claim_index.specs.Kept.{by_number, claim_bytes, empty_pool, with_heard};
+ghost use Rattle.claim_pool.specs.Settings.{as_setting};
+ghost use Rattle.own_place.specs.Owns.{HasDelivered};
+ghost use Rattle.claim_pool.specs.Verdicts.{verdict, after, late_tests};
+
+use crate::certificate::{CertKind, Certificate};
+use crate::checked::is_signed;
+use crate::hearing::turned_away;
+use crate::places::Places;
+use crate::verdict::Verdict;
+use claim_index::ClaimIndex;
+use own_place::Own;
+use rp_base::{GroupId, NoMemory, Pid, Roster, Scheme, Update};
+use std::alloc::Global;
+use std::marker::{Model, PhantomData};
+use stmt_codec::{Claim, Slot, Statement};
+use view_table::{View, faulty};
+
+/// The heard claims of a view, in order of hearing. Contracts see them as the definitions' pool, with the room that is left:
+/// how many claims more, with how many bytes of statements and signatures in all, are heard without memory.
+#[derive(Drop)]
+pub struct Pool {
+    heard: Places,
+}
+
+impl Model for Pool {
+    ghost use Rattle.claim_index.specs.Kept.{Holding};
+
+    ghost Value = { Holding };
+
+    ghost view = { λ p. p.heard };
+}
+
+// The verdict on a claim of the view, in its window. The signature is looked at last of all.
+fn heard_verdict<V: Scheme>(
+    claims: &ClaimIndex,
+    scheme: &V,
+    roster: &Roster,
+    group: &GroupId,
+    claim: &Claim<'_>,
+) -> Verdict
+    requires { IsStatement (stmt claim.now.statement) }
+    ensures value { verdict result ≡ unwrap_or (first_that_holds (late_tests (as_setting (V.valid scheme.now) group.now roster.now) claims.now.pool (claim_of claim.now))) hearing.Heard }
+    ensures fresh { verdict result ≡ hearing.Heard → certified.claim_on claims.now.pool.heard claim.now.signer (plain.slot_of (stmt claim.now.statement)) ≡ None }
+{
+    match claims.repeats(claim.signer, &claim.statement) {
+        Some(true) => Verdict::Known,
+        Some(false) => {
+            if is_signed(scheme, roster, group, claim) {
+                Verdict::Conflict
+            } else {
+                Verdict::Unsigned
+            }
+        }
+        None => {
+            if is_signed(scheme, roster, group, claim) {
+                Verdict::Heard
+            } else {
+                Verdict::Unsigned
+            }
+        }
+    }
+}
+
+impl Pool {
+    /// Nothing is heard of the view yet.
+    pub fn new(alloc: Global, view: View) -> Result<Pool, NoMemory>
+        ensures { IfOk result (λ p. p.pool ≡ empty_pool view) }
+    {
+        Ok(Pool {
+            heard: Places::new(alloc, view),
+        })
+    }
+
+    /// Forgets what is heard, and turns to this view. The room stays.
+    pub fn turn_to(&mut self, view: View)
+        ensures pool { self.new.pool ≡ empty_pool view }
+        ensures claims { self.old.claims_left ≤ self.new.claims_left }
+        ensures bytes { self.old.bytes_left ≤ self.new.bytes_left }
+    {
+        self.heard.turn_to(view);
+    }
+
+    /// How many claims are heard, and how many bytes their statements and signatures have in all.
+    pub fn size(&self) -> (usize, usize)
+        ensures claims { result.0 ≡ length self.now.pool.heard }
+        ensures bytes { result.1 ≡ sum_by claim_bytes self.now.pool.heard }
+    {
+        self.heard.quorums().claims().size()
+    }
+
+    /// Makes room to hear so many claims more, with so many bytes of statements and signatures in all. Without memory, what
+    /// is heard is as before.
+    pub fn reserve(&mut self, claims: usize, bytes: usize) -> Result<(), NoMemory>
+        ensures same { self.new.pool ≡ self.old.pool }
+        ensures room { OnOk result ((claims ≤ self.new.claims_left) × (bytes ≤ self.new.bytes_left)) }
+        ensures kept { (self.old.claims_left ≤ self.new.claims_left) × (self.old.bytes_left ≤ self.new.bytes_left) }
+    {
+        self.heard.reserve(claims, bytes)
+    }
+
+    /// The view.
+    pub fn view(&self) -> &View
+        ensures { result.now ≡ self.now.pool.view }
+    {
+        self.heard.quorums().claims().view()
+    }
+
+    /// The claim's verdict. Where it is Heard, the claim stands behind those that are heard, and else nothing changes. It
+    /// takes no memory: one claim, with its bytes, must be reserved. `own` has an entry for each member.
+    pub fn take<V: Scheme>(
+        &mut self,
+        scheme: &V,
+        roster: &Roster,
+        group: &GroupId,
+        own: &Own,
+        claim: &Claim<'_>,
+    ) -> Verdict
+        requires range { IsClaim (claim_of claim.now) }
+        requires own { length own.now.counts.items ≡ certified.number_of_members self.old.pool }
+        requires claims { 1 ≤ self.old.claims_left }
+        requires bytes { claim_bytes (claim_of claim.now) ≤ self.old.bytes_left }
+
+        // The first that holds in the table, for a process that has delivered so much and holds this pool.
+        ensures first { (p : defs.Process) → HasDelivered own.now p → p.pool ≡ self.old.pool → verdict result ≡ hearing.verdict (as_setting (V.valid scheme.now) group.now roster.now) p (claim_of claim.now) }
+        ensures heard { self.new.pool ≡ after (verdict result) self.old.pool (claim_of claim.now) }
+        ensures claims_left { self.old.claims_left ≤ self.new.claims_left + 1 }
+        ensures bytes_left { self.old.bytes_left ≤ self.new.bytes_left + claim_bytes (claim_of claim.now) }
+    {
+        let verdict = self.verdict_on(scheme, roster, group, own, claim);
+        if let Verdict::Heard = verdict {
+            self.heard.add(claim);
+        }
+        verdict
+    }
+
+    // The verdict, before anything changes.
+    fn verdict_on<V: Scheme>(
+        &self,
+        scheme: &V,
+        roster: &Roster,
+        group: &GroupId,
+        own: &Own,
+        claim: &Claim<'_>,
+    ) -> Verdict
+        requires range { IsStatement (stmt claim.now.statement) }
+        requires own { length own.now.counts.items ≡ certified.number_of_members self.now.pool }
+        ensures first { (p : defs.Process) → HasDelivered own.now p → p.pool ≡ self.now.pool → verdict result ≡ hearing.verdict (as_setting (V.valid scheme.now) group.now roster.now) p (claim_of claim.now) }
+        ensures fresh { verdict result ≡ hearing.Heard → certified.claim_on self.now.pool.heard claim.now.signer (plain.slot_of (stmt claim.now.statement)) ≡ None }
+    {
+        let claims = self.heard.quorums().claims();
+        match turned_away(claims.view(), own, claim) {
+            Some(verdict) => verdict,
+            None => heard_verdict(claims, scheme, roster, group, claim),
+        }
+    }
+
+    /// The signer's heard claim of that kind and slot, with its signature; None exactly where there is none, or the kind
+    /// has no such slots.
+    pub fn heard_claim(&self, signer: Pid, kind: u8, slot: Slot) -> Option<Claim<'_>>
+        ensures { option_map claim result ≡ option_and_then (certified.claim_on self.now.pool.heard signer) (slot_at kind slot) }
+    {
+        self.heard
+            .quorums()
+            .claims()
+            .heard_claim(signer, kind, &slot)
+    }
+
+    /// The heard claim at this place in order of hearing; None exactly where the place is not below their number.
+    pub fn claim_at(&self, place: usize) -> Option<Claim<'_>>
+        ensures { option_map claim result ≡ slice_get self.now.pool.heard place }
+    {
+        self.heard.quorums().claims().claim_at(place)
+    }
+
+    /// What the signer's heard claim of that kind and slot says; None exactly where there is none, or the kind has no such
+    /// slots.
+    pub fn first(&self, signer: Pid, kind: u8, slot: Slot) -> Option<Statement<'_>>
+        ensures { option_map stmt result ≡ option_and_then (certified.heard_on self.now.pool signer) (slot_at kind slot) }
+    {
+        match self.heard_claim(signer, kind, slot) {
+            Some(claim) => Some(claim.statement),
+            None => None,
+        }
+    }
+
+    /// The certificate of that kind and slot; None exactly where nothing is certified there, or the kind has no such slots.
+    pub fn certificate<K: CertKind>(&self, slot: Slot) -> Option<Certificate<'_, K>>
+        ensures content { option_map content_of result ≡ option_and_then (certified.certified_on self.now.pool) (slot_at K.kind slot) }
+        ensures signers { IfSome result (λ c. signers_of c ≡ sorted by_number (certified.backers self.now.pool (content_of c))) }
+        ensures enough { IfSome result (λ c. quorum (certified.number_of_members self.now.pool) ≤ length (signers_of c)) }
+    {
+        let quorums = self.heard.quorums();
+        match quorums.certified(K::number(), &slot) {
+            Some(content) => {
+                let signers = quorums.claims().backers(&content);
+                Some(Certificate {
+                    content,
+                    signers,
+                    kind: PhantomData,
+                })
+            }
+            None => None,
+        }
+    }
+
+    /// How many members' heard claims on the statement's slot say the same: 0 to 16.
+    pub fn count(&self, statement: &Statement<'_>) -> u8
+        requires { IsStatement (stmt statement.now) }
+        ensures { result ≡ length (certified.backers self.now.pool (stmt statement.now)) }
+    {
+        let claims = self.heard.quorums().claims();
+        let _members = claims.view().members();
+        claims.count(statement) as u8
+    }
+
+    /// Whether more than f members' heard claims notify the update.
+    pub fn is_notified(&self, update: Update) -> bool
+        ensures { result ≡ certified.is_notified self.now.pool (update_of update) }
+    {
+        let view = self.view();
+        let number = view.number();
+        let backers = self.count(&Statement::Notify {
+            view: number,
+            update,
+        });
+        faulty(view.members().len()) < backers as usize
+    }
+
+    /// The placed length: how many places are certified from the first on, 0 to 1,024.
+    pub fn placed_len(&self) -> u16
+        ensures { result ≡ length (certified.placed self.now.pool) }
+    {
+        self.heard.placed()
+    }
+
+    /// The fixed length: the greatest kept place + 1, or 0 where none is kept.
+    pub fn fixed_len(&self) -> u16
+        ensures { result ≡ certified.fixed_length self.now.pool }
+    {
+        self.heard.fixed()
+    }
+}

@@ -1,0 +1,8 @@
+//! A process's own place in its view: what it has signed there, and how far it has delivered (docs/PROTOCOL.md, «What is signed»).
+#![tactic(auto)]
+
+mod own;
+mod signed;
+
+pub use own::Own;
+pub use signed::SignedSlots;

@@ -1,0 +1,10 @@
+//! What the rules ask of a pool beside its own calls: what members say of the view's end and of ranks, and what is certified
+//! of a rank, a place and a message (docs/PROTOCOL.md, «Hearing»).
+#![tactic(auto)]
+
+mod certified;
+mod parts;
+mod said;
+
+pub use certified::{certified_ack, certified_batch, certified_ready};
+pub use said::{end_of, last_of, ordered_batch, suggestion};
