@@ -1,0 +1,12 @@
+//! How far a process is in its view, with a type for each phase: what a phase does not have, a process in it cannot do
+//! (docs/PROTOCOL.md, «Settling»).
+#![tactic(auto)]
+
+mod deciding;
+mod phases;
+mod settling;
+
+pub use phases::{
+    ClosingView, DecidedView, Decision, HaltedView, Observing, OpenView, Phase, PhaseWord,
+};
+pub use settling::Settled;
