@@ -1,3 +1,4 @@
 pub mod Processes
-pub mod Grammar
-pub mod Events
+pub mod EventLoop
+pub mod Spelled
+pub mod Texts

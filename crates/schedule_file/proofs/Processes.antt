@@ -1,14 +1,17 @@
 -- Reading processes and members one after the other, and the sets of them, as loops do.
 use Rattle.std.proofs.Common.{◌≡◌, ℕ, suc, ◌+◌, ◌-◌, ◌<◌, ◌≤◌, Bool, true, false, eqb, List, [], ◌∷◌, ◌++◌, length, get_or, take, map, Ok, Err, refl, sym, ap, ◌∙◌, append_assoc, arith, inl, inr}
-use Rattle.std.specs.Prelude.{◌||◌, ◌&&◌}
+use Rattle.std.specs.Prelude.{◌||◌, ◌&&◌, not}
 use Rattle.std.specs.List.{list_any}
 use Rattle.std.proofs.lemmas.Bool.{cases_lt, cases_eq, lt-ltb, le-ltb, eq-eqb, ne_eqb}
 use Rattle.std.proofs.lemmas.List.{append-nil, map_more}
-use Rattle.file_defs.specs.declared.ScheduleFault.{ScheduleFault}
+use Rattle.replay_defs.specs.declared.FaultKind.TheVariants as faults
+use Rattle.replay_defs.specs.declared.Found.{Found}
+use Rattle.replay_defs.specs.declared.Scheme.{Scheme}
 use Rattle.byte_defs.specs.Fields.{◌>>=◌}
 use Rattle.byte_defs.specs.Members.{has}
 use Rattle.rp_base.specs.Pids.{put_once}
-use Rattle.file_defs.specs.Schedules.{Listed, Step, listed_at, all_listed_at, member_at, members_at}
+use Rattle.replay_defs.specs.Schedules.{Listed}
+use Rattle.replay_defs.specs.Reading.{Step, process_that, listed_at, all_listed_at, members_at}
 
 -- ---- processes
 
@@ -25,37 +28,37 @@ regroup : (before : List Listed) (l : Listed) (read : Step (List Listed)) → fr
 regroup before l (Ok more) = ap (λ (ls : List Listed). Ok (ls, more.1)) (sym (append_assoc before (l ∷ []) more.0))
 regroup before l (Err e) = refl
 
-pub one_more : (count i least : ℕ) (bytes : List ℕ) (l : Listed) (after : List ℕ) (before : List Listed) (all : Step (List Listed)) → i < count → listed_at least bytes ≡ Ok (l, after)
-    → from_here before (all_listed_at (count - i) least bytes) ≡ all → from_here (before ++ l ∷ []) (all_listed_at (count - (i + 1)) (l.process + 1) after) ≡ all
+pub one_more : (count i : ℕ) (scheme : Scheme) (least : ℕ) (bytes : List ℕ) (l : Listed) (after : List ℕ) (before : List Listed) (all : Step (List Listed)) → i < count → listed_at scheme least bytes ≡ Ok (l, after)
+    → from_here before (all_listed_at (count - i) scheme least bytes) ≡ all → from_here (before ++ l ∷ []) (all_listed_at (count - (i + 1)) scheme (l.process + 1) after) ≡ all
 unfolding all_listed_at
-one_more count i least bytes l after before all lt e so_far =
+one_more count i scheme least bytes l after before all lt e so_far =
     let k : count - i ≡ suc (count - (i + 1)) = omega arith in
-    sym (regroup before l (all_listed_at (count - (i + 1)) (l.process + 1) after)) ∙ sym (rw (k, e) refl) ∙ so_far
+    sym (regroup before l (all_listed_at (count - (i + 1)) scheme (l.process + 1) after)) ∙ sym (rw (k, e) refl) ∙ so_far
 
-pub fails : (count i least : ℕ) (bytes : List ℕ) (f : ScheduleFault) (before : List Listed) (all : Step (List Listed)) → i < count → listed_at least bytes ≡ Err f
-    → from_here before (all_listed_at (count - i) least bytes) ≡ all → all ≡ Err f
+pub fails : (count i : ℕ) (scheme : Scheme) (least : ℕ) (bytes : List ℕ) (f : Found) (before : List Listed) (all : Step (List Listed)) → i < count → listed_at scheme least bytes ≡ Err f
+    → from_here before (all_listed_at (count - i) scheme least bytes) ≡ all → all ≡ Err f
 unfolding all_listed_at
-fails count i least bytes f before all lt e so_far =
+fails count i scheme least bytes f before all lt e so_far =
     let k : count - i ≡ suc (count - (i + 1)) = omega arith in
     sym so_far ∙ rw (k, e) refl
 
-pub is_done : (count i least : ℕ) (bytes : List ℕ) (before : List Listed) (all : Step (List Listed)) → count ≤ i
-    → from_here before (all_listed_at (count - i) least bytes) ≡ all → all ≡ Ok (before, bytes)
+pub is_done : (count i : ℕ) (scheme : Scheme) (least : ℕ) (bytes : List ℕ) (before : List Listed) (all : Step (List Listed)) → count ≤ i
+    → from_here before (all_listed_at (count - i) scheme least bytes) ≡ all → all ≡ Ok (before, bytes)
 unfolding all_listed_at
-is_done count i least bytes before all le so_far =
+is_done count i scheme least bytes before all le so_far =
     let k : count - i ≡ 0 = omega arith in
     sym so_far ∙ rw k (ap (λ (ls : List Listed). Ok (ls, bytes)) (append-nil before))
 
 -- ---- members
 
-pub one_member : (count i : ℕ) (listed : ℕ → Bool) (before : List ℕ) (bytes : List ℕ) (m : ℕ) (after : List ℕ) (all : Step (List ℕ)) → i < count → member_at listed before bytes ≡ Ok (m, after)
+pub one_member : (count i : ℕ) (listed : ℕ → Bool) (before : List ℕ) (bytes : List ℕ) (m : ℕ) (after : List ℕ) (all : Step (List ℕ)) → i < count → process_that (λ m. listed m && not (has before m)) faults.Roster bytes ≡ Ok (m, after)
     → members_at (count - i) listed before bytes ≡ all → members_at (count - (i + 1)) listed (before ++ m ∷ []) after ≡ all
 unfolding members_at
 one_member count i listed before bytes m after all lt e so_far =
     let k : count - i ≡ suc (count - (i + 1)) = omega arith in
     sym (rw (k, e) refl) ∙ so_far
 
-pub no_member : (count i : ℕ) (listed : ℕ → Bool) (before bytes : List ℕ) (f : ScheduleFault) (all : Step (List ℕ)) → i < count → member_at listed before bytes ≡ Err f
+pub no_member : (count i : ℕ) (listed : ℕ → Bool) (before bytes : List ℕ) (f : Found) (all : Step (List ℕ)) → i < count → process_that (λ m. listed m && not (has before m)) faults.Roster bytes ≡ Err f
     → members_at (count - i) listed before bytes ≡ all → all ≡ Err f
 unfolding members_at
 no_member count i listed before bytes f all lt e so_far =

@@ -1,1 +1,4 @@
-pub mod Schedules
+pub mod Faults
+pub mod Views
+pub mod Heads
+pub mod Seen

@@ -1,42 +1,82 @@
-//! Schedules: who takes part, and what happens.
-ghost use Rattle.std.specs.Prelude.{◌≡◌};
-ghost use Rattle.schedule_file.specs.declared.schedule.ReadError.TheVariants as errors;
-
+//! Schedules: who takes part, and what happens. Contracts see them as the plain ones of `replay_defs`.
 use arrayvec::ArrayVec;
-use file_defs::ScheduleFault;
-use rp_base::{GroupId, Pid};
-use std::alloc::{AllocError, AllocFailed};
+use replay_defs::Scheme;
+use rp_base::{GroupId, Pid, PidSet};
+use signature_defs::OtsType;
 
-/// A process that takes part. It signs by the plain scheme.
+/// What a process signs with.
 #[derive(Clone, Copy, Debug)]
+pub enum Key {
+    /// A plain key, private and public at once.
+    Plain {
+        key: [u8; 32],
+
+        /// How many signatures it makes.
+        total: u32,
+    },
+
+    /// One LMS tree.
+    Lms {
+        /// The typecode of the tree's height, 5 to 7 (RFC 8554, section 5.1).
+        height: u8,
+
+        /// The parameter set of the one-time keys (RFC 8554, section 4.1).
+        ots: OtsType,
+        id: [u8; 16],
+        seed: [u8; 32],
+    },
+
+    /// LMS trees in levels, all of one height and one-time type (RFC 8554, section 6).
+    Hss {
+        /// 1 to 3.
+        levels: u8,
+
+        /// The typecode of the trees' height, 5 to 7, and in three levels 5 or 6.
+        height: u8,
+
+        /// In two or three levels not `W1`, whose signatures would be too long.
+        ots: OtsType,
+
+        /// I and SEED are those of the top tree.
+        id: [u8; 16],
+        seed: [u8; 32],
+    },
+}
+
+/// A plain key that makes no signature, which stands in the unused room of lists of a fixed size.
+impl Default for Key {
+    ghost use Rattle.std.specs.Prelude.{◌≡◌, replicate};
+    ghost use Rattle.schedule_file.specs.declared.schedule.Key.TheVariants.{Plain};
+
+    ghost is_default = { λ k. k ≡ Plain (replicate 32 0) 0 };
+
+    fn default() -> Key {
+        Key::Plain {
+            key: [0; 32],
+            total: 0,
+        }
+    }
+}
+
+/// A process that takes part.
+#[derive(Clone, Copy, Debug, Default)]
 pub struct Listed {
     pub process: Pid,
 
-    /// Its frames are handed over as raw bytes, and it does nothing of its own.
+    /// Its frames are handed over as raw bytes or as lies, and it does nothing of its own.
     pub corrupt: bool,
 
-    pub key: [u8; 32],
-
-    /// How many signatures the key can make.
-    pub total: u32,
+    /// Of the schedule's scheme.
+    pub key: Key,
 }
 
-/// What happens, in one step.
+/// Who takes part in a run.
 #[derive(Debug, Drop)]
-pub enum ScheduleEvent {
-    /// A payload of any length is handed to a process, to be sent to the group.
-    Submit { at: Pid, payload: Vec<u8> },
+pub struct Header {
+    pub scheme: Scheme,
 
-    /// Bytes, at most 61,440, are handed to a process as a frame from another.
-    Raw { to: Pid, from: Pid, bytes: Vec<u8> },
-
-    /// A frame that was sent is handed to a process. Frames are numbered from 0 as they are sent.
-    Pass { frame: u32, to: Pid },
-}
-
-/// Who takes part in a run, and what happens in it. docs/FORMATS.md says how it is spelled.
-#[derive(Debug, Drop)]
-pub struct Schedule {
+    /// An Order of a correct process has at most so many messages, 1 to 16.
+    pub batch: u8,
     pub group: GroupId,
 
     /// By rising numbers, 1 to 64.
@@ -44,41 +84,71 @@ pub struct Schedule {
 
     /// The members of the first view, by rank, 1 to 16 and each of them listed.
     pub genesis: ArrayVec<Pid, 16>,
+}
 
-    /// At most 1,000,000, each at a correct process.
+/// What happens to a correct process, or between processes.
+#[derive(Debug, Drop)]
+pub enum ScheduleEvent {
+    /// A payload of at most 65,535 bytes is handed to a process, to be sent to the group.
+    Submit {
+        at: Pid,
+        payload: Vec<u8>,
+    },
+
+    /// Bytes, at most 61,440, are handed to a process as a frame from another.
+    Raw {
+        to: Pid,
+        from: Pid,
+        bytes: Vec<u8>,
+    },
+
+    /// A frame that was sent is handed to a process. Frames are numbered from 0 as they are sent.
+    Pass {
+        frame: u32,
+        to: Pid,
+    },
+
+    /// So many deliveries are made, the oldest first, to these processes, and are lost to the others.
+    Drain {
+        count: u32,
+        to: PidSet,
+    },
+
+    /// A corrupt process signs a statement, by its bytes, and sends it to these processes.
+    Lie {
+        signer: Pid,
+        to: PidSet,
+        statement: Vec<u8>,
+    },
+
+    /// A process is told to have another removed.
+    Suspect {
+        at: Pid,
+        of: Pid,
+    },
+
+    /// A process is told to have another added.
+    Join {
+        at: Pid,
+        of: Pid,
+    },
+
+    /// A process is told to have a next view with the same members.
+    Renew {
+        at: Pid,
+    },
+
+    /// Time passes for a process.
+    Tick {
+        at: Pid,
+    },
+}
+
+/// Who takes part in a run, and what happens in it. docs/FORMATS.md says how it is spelled.
+#[derive(Debug, Drop)]
+pub struct Schedule {
+    pub header: Header,
+
+    /// At most 1,000,000 steps: a Drain takes as many as it counts, every other event one.
     pub events: Vec<ScheduleEvent>,
-}
-
-/// Why no schedule was read.
-#[derive(Clone, Copy, Debug, PartialEq, Eq)]
-pub enum ReadError {
-    /// Memory ran out.
-    NoMemory,
-
-    /// The bytes are no schedule.
-    Fault(ScheduleFault),
-}
-
-impl From<ScheduleFault> for ReadError {
-    ghost from_gives = { λ f e. e ≡ errors.Fault f };
-
-    fn from(fault: ScheduleFault) -> ReadError {
-        ReadError::Fault(fault)
-    }
-}
-
-impl From<AllocError> for ReadError {
-    ghost from_gives = { λ _ e. e ≡ errors.NoMemory };
-
-    fn from(_: AllocError) -> ReadError {
-        ReadError::NoMemory
-    }
-}
-
-impl<T: Drop> From<AllocFailed<T>> for ReadError {
-    ghost from_gives = { λ _ e. e ≡ errors.NoMemory };
-
-    fn from(_: AllocFailed<T>) -> ReadError {
-        ReadError::NoMemory
-    }
 }

@@ -1,15 +1,13 @@
-use Rattle.std.proofs.Common.{◌≡◌, ◌-◌, ◌≤◌, map, length}
-use Rattle.byte_defs.specs.Members.{has}
-use Rattle.file_defs.specs.Schedules.{events_at, most_events}
-use Rattle.schedule_file.specs.Schedules.{event}
-use Rattle.schedule_file.proofs.Events.{from_here}
+use Rattle.std.proofs.Common.{◌≡◌, map, length}
+use Rattle.replay_defs.specs.Schedules.{most_steps}
+use Rattle.replay_defs.specs.Reading.{events_at}
+use Rattle.schedule_file.specs.Seen.{roles}
+use Rattle.schedule_file.specs.Views.{event}
+use Rattle.schedule_laws.proofs.Turns.{behind_events, all_from}
 use Rattle.schedule_file.proofs.reading.read_events.Given as goal
 
 abbrev pub invariant-events : goal.invariant-events
-invariant-events l = record {
-  so_far : from_here (map event l.events.items) (events_at (1000000 - length l.events.items) (has l.correct) l.reader.rest.now) ≡ events_at most_events (has l.correct) l.fn.reader.rest.now;
-  few : length l.events.items ≤ 1000000;
-}
+invariant-events l = behind_events (map event l.events.items) (all_from (roles l.of) l.left l.reader.rest.now) ≡ events_at (roles l.of) (length l.fn.reader.rest.now) most_steps l.fn.reader.rest.now
 
 abbrev pub decreases-events : goal.decreases-events
-decreases-events l = 1000000 - length l.events.items
+decreases-events l = length l.reader.rest.now

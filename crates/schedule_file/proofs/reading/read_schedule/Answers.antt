@@ -1,5 +1,5 @@
 use Rattle.std.proofs.Common.{arith}
-use Rattle.schedule_file.proofs.Grammar.{is_found, is_spelled, is_read}
+use Rattle.schedule_file.proofs.Spelled.{is_found, is_spelled, is_read}
 use Rattle.schedule_file.proofs.reading.read_schedule.Goals as goal
 
 pub returns-clause-found : goal.returns-clause-found

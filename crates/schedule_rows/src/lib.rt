@@ -1,0 +1,2 @@
+//! Rows of schedules, computed through the definitions.
+#![tactic(auto)]
