@@ -1,0 +1,5 @@
+//! Tests of `file_disk`.
+#![tactic(auto)]
+
+#[cfg(test)]
+mod tests;

@@ -1,0 +1,22 @@
+/// A change of a disk.
+#[derive(Debug, Drop)]
+pub enum Change {
+    /// This piece was written at that place; it may be torn.
+    Wrote { at: u64, piece: Vec<u8> },
+
+    /// All that was written is kept.
+    Synced,
+}
+
+/// What a crash leaves of the writes since the last sync.
+#[derive(Clone, Copy, Debug, PartialEq, Eq)]
+pub enum Left {
+    /// Nothing of them.
+    Nothing,
+
+    /// All of them.
+    All,
+
+    /// Bytes of this value where they wrote, and none between.
+    Each(u8),
+}

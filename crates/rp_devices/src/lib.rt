@@ -1,0 +1,13 @@
+//! A disk and a link in memory, whose calls fail where they are told to.
+#![tactic(auto)]
+
+mod bytes;
+mod calls;
+mod change;
+mod images;
+mod mem_disk;
+mod mem_link;
+
+pub use change::{Change, Left};
+pub use mem_disk::MemDisk;
+pub use mem_link::{Datagram, MemLink};

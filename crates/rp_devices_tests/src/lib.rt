@@ -1,0 +1,5 @@
+//! Tests of `rp_devices`.
+#![tactic(auto)]
+
+#[cfg(test)]
+mod tests;

@@ -1,0 +1,5 @@
+//! Tests of `udp_link`.
+#![tactic(auto)]
+
+#[cfg(test)]
+mod tests;
