@@ -1,0 +1,3 @@
+pub mod Crashing
+pub mod Entering
+pub mod Recording

@@ -1,0 +1,74 @@
+-- What a crash leaves of a journal.
+use Rattle.std.specs.Prelude.{◌≡◌, ◌≢◌, ◌⊎◌, ℕ, ◌+◌, List, [], ◌∷◌, ◌++◌, length, take, drop}
+use Rattle.std.specs.List.{AllByRecursion}
+use Rattle.rp_base.specs.Disks.{Torn}
+use Rattle.journal_defs.specs.Entries.{Entry, IsEntry}
+use Rattle.journal_defs.specs.Journals.{ReadsAs, open_gate, closed_gate, behind_gate, up_to_gate}
+
+-- a whole entry and the next gate, closed, stand behind the closed gate: it may be opened
+pub record IsStaged (e : Entry) (behind : List ℕ) : Type 0 where
+  pub more : List ℕ
+  pub parts : behind ≡ behind_gate e ++ closed_gate ∷ more
+  pub entry : IsEntry e
+
+-- The bytes are a well formed image that reads as these entries: the closed gate is as it is written, or the entry behind it
+-- is whole. So a crash while that gate is opened or closed again leaves these entries, or one more.
+pub record IsImageOf (head bytes : List ℕ) (es : List Entry) : Type 0 where
+  pub gate : ℕ
+  pub behind : List ℕ
+  pub parts : bytes ≡ up_to_gate head es ++ gate ∷ behind
+  pub closed : gate ≢ open_gate
+  pub safe : (gate ≡ closed_gate) ⊎ ((e : Entry) × IsStaged e behind)
+  pub each : AllByRecursion IsEntry es
+
+-- the image reads as these entries, or as them and one more
+abbrev pub IsWithOrWithout : List ℕ → List Entry → Entry → List ℕ → Type 0
+IsWithOrWithout head es e bytes = IsImageOf head bytes es ⊎ IsImageOf head bytes (es ++ e ∷ [])
+
+-- ---- the moments of an append
+
+-- At rest, and until the sync behind the write of the entry: the gate is closed as it is written, and anything stands behind it.
+pub record IsAtRest (head : List ℕ) (es : List Entry) (bytes : List ℕ) : Type 0 where
+  pub behind : List ℕ
+  pub parts : bytes ≡ up_to_gate head es ++ closed_gate ∷ behind
+
+-- From that sync on: the entry and the next gate stand, and the gate before them is any byte.
+pub record IsOpening (head : List ℕ) (es : List Entry) (e : Entry) (more bytes : List ℕ) : Type 0 where
+  pub gate : ℕ
+  pub parts : bytes ≡ up_to_gate head es ++ gate ∷ (behind_gate e ++ closed_gate ∷ more)
+
+-- what an append writes behind the gate
+abbrev pub staged : Entry → List ℕ
+staged e = behind_gate e ++ closed_gate ∷ []
+
+-- ---- the laws
+
+-- a write behind the closed gate leaves the journal at rest, wherever it is torn
+abbrev pub TornBehindTheGate : Type 0
+TornBehindTheGate = (head : List ℕ) (es : List Entry) (n : ℕ) (old new : List ℕ) → IsAtRest head es old → Torn (length (up_to_gate head es) + 1) n old new → IsAtRest head es new
+
+-- once it is made, the entry stands behind the gate
+abbrev pub WrittenBehindTheGate : Type 0
+WrittenBehindTheGate = (head : List ℕ) (es : List Entry) (e : Entry) (old new : List ℕ) → IsAtRest head es old
+    → new ≡ take (length (up_to_gate head es) + 1) old ++ staged e ++ drop (length (up_to_gate head es) + 1 + length (staged e)) old
+    → (more : List ℕ) × (new ≡ up_to_gate head es ++ closed_gate ∷ (behind_gate e ++ closed_gate ∷ more))
+
+-- a write of the gate changes the gate alone
+abbrev pub TornGate : Type 0
+TornGate = (head : List ℕ) (es : List Entry) (e : Entry) (more old new : List ℕ) → IsOpening head es e more old → Torn (length (up_to_gate head es)) 1 old new → IsOpening head es e more new
+
+-- at rest it reads as its entries, well formed
+abbrev pub AtRestIsImage : Type 0
+AtRestIsImage = (head : List ℕ) (es : List Entry) (bytes : List ℕ) → AllByRecursion IsEntry es → IsAtRest head es bytes → IsImageOf head bytes es
+
+-- while the gate is opened it reads as its entries or as one more, well formed
+abbrev pub OpeningIsImage : Type 0
+OpeningIsImage = (head : List ℕ) (es : List Entry) (e : Entry) (more bytes : List ℕ) → AllByRecursion IsEntry es → IsEntry e → IsOpening head es e more bytes → IsWithOrWithout head es e bytes
+
+-- the journal is at rest again with the entry, once the gate reads 1
+abbrev pub OpenedIsAtRest : Type 0
+OpenedIsAtRest = (head : List ℕ) (es : List Entry) (e : Entry) (more : List ℕ) → IsAtRest head (es ++ e ∷ []) (up_to_gate head es ++ open_gate ∷ (behind_gate e ++ closed_gate ∷ more))
+
+-- a well formed image reads as its entries
+abbrev pub ImageReads : Type 0
+ImageReads = (head bytes : List ℕ) (es : List Entry) → IsImageOf head bytes es → ReadsAs head bytes es

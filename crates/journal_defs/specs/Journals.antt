@@ -1,0 +1,94 @@
+-- The bytes of a journal: a header, and records of which each stands behind a gate.
+use Rattle.std.specs.Prelude.{◌≡◌, ◌≢◌, ℕ, ◌≤◌, nat_lt, List, ◌∷◌, ◌++◌, length, codes, Ok}
+use Rattle.std.specs.List.{flat_map, AllByRecursion}
+use Rattle.std.specs.Int.{w32, w64, to_be_bytes}
+use Rattle.byte_defs.specs.Fields.{◌>>=◌, refuse_if, number_at, bytes_at, four_bytes}
+use Rattle.rp_base.specs.Pids.{mask_of}
+use Rattle.journal_defs.specs.Entries.{Entry, IsEntry, AreBytes, Reading, entry_bytes, entry_of}
+
+-- an older journal goes on as it began: its processes order one message at a place, others up to 16
+pub data Version : Type 0 where
+  One : Version
+  Two : Version
+
+abbrev pub magic : Version → List ℕ
+magic One = codes "RPJ1"
+magic Two = codes "RPJ2"
+
+abbrev pub batch_limit : Version → ℕ
+batch_limit One = 1
+batch_limit Two = 16
+
+-- whose journal it is: the group, the processes that it hosts, rising, and the digest of their kit
+pub record Header : Type 0 where
+  pub group : List ℕ
+  pub hosted : List ℕ
+  pub digest : List ℕ
+
+abbrev pub header_bytes : Version → Header → List ℕ
+header_bytes v h = magic v ++ h.group ++ to_be_bytes w64 (mask_of h.hosted) ++ h.digest
+
+-- ---- records
+
+-- a gate that reads 1 is open; each other is closed
+abbrev pub open_gate : ℕ
+open_gate = 1
+
+-- as a closed gate is written
+abbrev pub closed_gate : ℕ
+closed_gate = 0
+
+-- what stands behind a gate: the entry's length, and the entry
+unfoldable pub behind_gate : Entry → List ℕ
+behind_gate e = four_bytes (length (entry_bytes e)) ++ entry_bytes e
+
+abbrev pub record_bytes : Entry → List ℕ
+record_bytes e = open_gate ∷ behind_gate e
+
+-- the bytes of a journal with these entries, up to its closed gate
+abbrev pub up_to_gate : List ℕ → List Entry → List ℕ
+up_to_gate head es = head ++ flat_map record_bytes es
+
+-- The bytes are a journal with this header that reads as these entries: their records stand behind the header, and then a
+-- closed gate. What stands behind that gate is not read.
+pub record ReadsAs (head bytes : List ℕ) (es : List Entry) : Type 0 where
+  pub gate : ℕ
+  pub unread : List ℕ
+  pub parts : bytes ≡ up_to_gate head es ++ gate ∷ unread
+  pub closed : gate ≢ open_gate
+  pub each : AllByRecursion IsEntry es
+
+-- At this place the reading ends with a fault: records stand before it, and there an open gate behind which no whole
+-- entry and next gate stand.
+pub record BreaksAt (head bytes : List ℕ) (place : ℕ) : Type 0 where
+  pub entries : List Entry
+  pub behind : List ℕ
+  pub parts : bytes ≡ up_to_gate head entries ++ open_gate ∷ behind
+  pub where_it_is : place ≡ length (up_to_gate head entries)
+  pub each : AllByRecursion IsEntry entries
+  pub no_entry : (e : Entry) (gate : ℕ) (more : List ℕ) → IsEntry e → behind ≡ behind_gate e ++ gate ∷ more → ⊥
+
+-- ---- how a record is read behind an open gate
+
+-- the entry, and the bytes from the next gate on
+unfoldable pub record_at : List ℕ → Reading (Entry × List ℕ)
+record_at bytes = do
+  len ← number_at tt w32 bytes
+  entry ← bytes_at tt len.0 len.1
+  _ ← refuse_if (nat_lt (length entry.1) 1) tt
+  e ← entry_of entry.0
+  Ok (e, entry.1)
+
+-- ---- the laws
+
+-- what is read behind an open gate is spelled so, and a byte stands behind it
+abbrev pub RecordIsSpelled : Type 0
+RecordIsSpelled = (bytes rest : List ℕ) (e : Entry) → AreBytes bytes → record_at bytes ≡ Ok (e, rest) → (bytes ≡ behind_gate e ++ rest) × (1 ≤ length rest) × IsEntry e
+
+-- what is spelled behind a gate is read as the entry, if a byte stands behind it
+abbrev pub RecordIsRead : Type 0
+RecordIsRead = (e : Entry) (rest : List ℕ) → IsEntry e → 1 ≤ length rest → record_at (behind_gate e ++ rest) ≡ Ok (e, rest)
+
+-- bytes read as one list of entries at most
+abbrev pub OneReading : Type 0
+OneReading = (head bytes : List ℕ) (es fs : List Entry) → ReadsAs head bytes es → ReadsAs head bytes fs → es ≡ fs

@@ -1,0 +1,66 @@
+//! Journals on plain bytes: how they are spelled and read, and what a crash leaves of them.
+#![tactic(auto)]
+
+ghost use Rattle.journal_defs.specs.Entries.{EntryIsSpelled, EntryIsRead};
+ghost use Rattle.journal_defs.specs.Journals.{RecordIsSpelled, RecordIsRead, OneReading};
+ghost use Rattle.journal_defs.specs.Crashes.{TornBehindTheGate, WrittenBehindTheGate, TornGate, AtRestIsImage, OpeningIsImage, OpenedIsAtRest, ImageReads};
+
+/// A write behind the closed gate leaves the entries, wherever it is torn.
+pub fn torn_behind_the_gate()
+    ensures { TornBehindTheGate }
+{}
+
+/// A write behind the closed gate that was made leaves the entry whole behind it.
+pub fn written_behind_the_gate()
+    ensures { WrittenBehindTheGate }
+{}
+
+/// A write of the gate changes the gate alone.
+pub fn torn_gate()
+    ensures { TornGate }
+{}
+
+/// A journal at rest is well formed, and reads as its entries.
+pub fn at_rest_is_image()
+    ensures { AtRestIsImage }
+{}
+
+/// While the gate is opened, the journal is well formed, and reads as its entries or as one more.
+pub fn opening_is_image()
+    ensures { OpeningIsImage }
+{}
+
+/// With the gate open the journal is at rest, and has the entry.
+pub fn opened_is_at_rest()
+    ensures { OpenedIsAtRest }
+{}
+
+/// A well formed image reads as its entries.
+pub fn image_reads()
+    ensures { ImageReads }
+{}
+
+/// Bytes that are read as an entry are its spelling, and it is in its ranges.
+pub fn entry_is_spelled()
+    ensures { EntryIsSpelled }
+{}
+
+/// The spelling of an entry in its ranges is read as it.
+pub fn entry_is_read()
+    ensures { EntryIsRead }
+{}
+
+/// What is read behind an open gate is spelled so.
+pub fn record_is_spelled()
+    ensures { RecordIsSpelled }
+{}
+
+/// What is spelled behind a gate is read as the entry.
+pub fn record_is_read()
+    ensures { RecordIsRead }
+{}
+
+/// Bytes read as one list of entries at most.
+pub fn one_reading()
+    ensures { OneReading }
+{}
