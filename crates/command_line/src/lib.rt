@@ -13,6 +13,3 @@ pub use orders::KitOrder;
 pub fn command_is_spelled()
     ensures { CommandIsSpelled }
 {}
-
-#[cfg(test)]
-mod tests;

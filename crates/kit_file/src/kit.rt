@@ -37,7 +37,10 @@ impl Kit {
     ghost use Rattle.text_defs.specs.Kits.{IsKit, kit_digest, roster_of};
 
     /// The kit of these parts; its digest takes the memory of the public lines, which are let go again.
-    pub(crate) fn new(alloc: Global, parts: Parts) -> Result<Kit, NoMemory>
+    ///
+    /// # Errors
+    /// [`NoMemory`] where that memory is refused.
+    pub fn new(alloc: Global, parts: Parts) -> Result<Kit, NoMemory>
         requires { IsKit parts }
         ensures { IfOk result (λ kit. kit ≡ parts) }
     {

@@ -1,22 +1,12 @@
-//! Kits: what the processes of a group start with, read from text, written as text, and made from a seed. docs/FORMATS.md says how
-//! they are spelled.
+//! A kit: what the processes of a group start with, and how it is written as text. docs/FORMATS.md says how it is spelled.
 #![tactic(auto)]
 
-mod draft;
 mod kit;
-mod lines;
-mod making;
 mod parts;
-mod reading;
-mod taking;
-#[cfg(test)]
-mod tests;
+mod public_keys;
 mod writing;
 
 pub use kit::Kit;
-pub use making::make_kit;
-pub use reading::{KitFault, read_kit};
-pub use rp_base::Roster;
-pub use sig_scheme::{AnyScheme, Secret};
-pub use text_defs::KeyPlan;
+pub use parts::{Host, Parts};
+pub use public_keys::public_key_of;
 pub use writing::write_kit;

@@ -1,9 +1,9 @@
 -- Public keys, and the secrets that have one here.
 use Rattle.std.specs.Prelude.{◌≡◌, ℕ, List}
-use Rattle.secret_defs.specs.Schemes as schemes
-use Rattle.secret_defs.specs.Schemes.{Scheme}
-use Rattle.secret_defs.specs.Secrets as secrets
-use Rattle.secret_defs.specs.Secrets.{Secret, scheme_of, public_key_of}
+use Rattle.signature_defs.specs.Schemes as schemes
+use Rattle.signature_defs.specs.Schemes.{Scheme}
+use Rattle.signature_defs.specs.Secrets as secrets
+use Rattle.signature_defs.specs.Secrets.{Secret, scheme_of, public_key_of}
 use Rattle.lms_tree.specs.Tree as trees
 use Rattle.sig_scheme.specs.declared.public_key.PublicKey.{PublicKey}
 use Rattle.sig_scheme.specs.declared.public_key.PublicKey.TheVariants.{Plain, Lms}

@@ -2,9 +2,9 @@
 use Rattle.std.specs.Prelude.{◌≡◌, ℕ, ◌^◌, List, Bool}
 use Rattle.signature_defs.specs.Plain.{plain_signature, plain_valid}
 use Rattle.signature_defs.specs.Lms.{lms_valid}
-use Rattle.secret_defs.specs.Schemes.{is_valid}
-use Rattle.secret_defs.specs.Secrets as secrets
-use Rattle.secret_defs.specs.Secrets.{Secret, scheme_of, total_of, public_key_of, signature_length_of}
+use Rattle.signature_defs.specs.Schemes.{is_valid}
+use Rattle.signature_defs.specs.Secrets as secrets
+use Rattle.signature_defs.specs.Secrets.{Secret, scheme_of, total_of, public_key_of, signature_length_of}
 use Rattle.rp_base.specs.Signer as plain
 use Rattle.rp_base.specs.Signer.{KeyKeeps, key_of, plain_keeps}
 use Rattle.lms_tree.specs.Key as lms
@@ -20,7 +20,7 @@ used (Lms k) = k.used
 -- how many it can make in all: a tree one with each leaf
 abbrev pub total : AnySigner → ℕ
 total (Plain s) = plain.total_of s
-total (Lms k) = 2 ^ k.height
+total (Lms k) = 2 ^ k.tree.height
 
 abbrev pub public : AnySigner → List ℕ
 public (Plain s) = key_of s

@@ -5,8 +5,6 @@ mod any_scheme;
 mod any_signer;
 mod public_key;
 mod secret;
-#[cfg(test)]
-mod tests;
 
 pub use any_scheme::AnyScheme;
 pub use any_signer::AnySigner;

@@ -1,8 +1,8 @@
 ghost use Rattle.std.specs.Prelude.{◌≡◌, ◌↔◌, IfOk, OnErr, IsErrOf};
-ghost use Rattle.secret_defs.specs.Secrets.{scheme_of};
-ghost use Rattle.secret_defs.specs.Schemes as schemes;
+ghost use Rattle.signature_defs.specs.Secrets.{scheme_of};
+ghost use Rattle.signature_defs.specs.Schemes as schemes;
 ghost use Rattle.lms_tree.specs.Key.{public_of};
-ghost use Rattle.lms_tree.specs.declared.key.KeyFault.TheVariants as faults;
+ghost use Rattle.lms_tree.specs.declared.tree.KeyFault.TheVariants as faults;
 ghost use Rattle.sig_scheme.specs.Views.{secret};
 ghost use Rattle.sig_scheme.specs.Keys.{IsKeyOf, IsTooTall};
 

@@ -1,10 +1,22 @@
 //! Bytes as two lower-case hexadecimal digits each, the high four bits first.
-ghost use Rattle.std.specs.Prelude.{◌≡◌, ◌<◌, ◌+◌, ◌*◌, ◌++◌, length, OnOk, OnErr, vec_capacity, vec_len};
+ghost use Rattle.std.specs.Prelude.{◌≡◌, ◌≢◌, ◌<◌, ◌+◌, ◌*◌, ◌++◌, ℕ, List, length, IfOk, IsErrOf, Ok, OnOk, OnErr, vec_capacity, vec_len};
 ghost use Rattle.std.specs.List.{list_any};
-ghost use Rattle.hex.specs.Hex.{encode_lower};
-ghost use Rattle.text_defs.specs.Words.{is_upper_case, bytes_of};
+ghost use Rattle.hex.specs.Hex.{decode_of, encode_lower};
+ghost use Rattle.text_defs.specs.Words.{is_upper_case, bytes_of, bytes_word, Spells};
 
+use hex::FromHexError;
 use rp_base::NoMemory;
+use std::alloc::Global;
+
+/// Why a word gives no bytes.
+#[derive(Clone, Copy, Debug, PartialEq, Eq)]
+pub enum WordFault {
+    /// The word spells none: its writer is to blame.
+    NoBytes,
+
+    /// Memory ran out, which is nobody's fault.
+    NoMemory,
+}
 
 fn has_upper_case(word: &[u8]) -> bool
     ensures { result ≡ list_any is_upper_case word.now }
@@ -41,4 +53,48 @@ pub fn push_hex(out: &mut Vec<u8>, bytes: &[u8]) -> Result<(), NoMemory>
         unreachable!();
     };
     Ok(())
+}
+
+// The bytes that hexadecimal digits of either case spell.
+fn decode(alloc: Global, word: &[u8]) -> Result<Vec<u8>, WordFault>
+    ensures read { IfOk result (λ found. decode_of word.now ≡ Ok found.items) }
+    ensures none { IsErrOf result WordFault.NoBytes → (found : List ℕ) → decode_of word.now ≢ Ok found }
+{
+    match hex::decode(alloc, word) {
+        Ok(found) => Ok(found),
+        Err(FromHexError::OutOfMemory) => Err(WordFault::NoMemory),
+        Err(_) => Err(WordFault::NoBytes),
+    }
+}
+
+/// The bytes that the word spells, of any number: two lower-case hexadecimal digits for each, or `-` where there are none.
+///
+/// # Errors
+/// [`WordFault::NoBytes`] exactly where memory lasts and the word spells none; [`WordFault::NoMemory`] where the room for
+/// them is refused.
+pub fn byte_list(alloc: Global, word: &[u8]) -> Result<Vec<u8>, WordFault>
+    ensures read { IfOk result (λ found. Spells word.now found.items) }
+    ensures none { IsErrOf result WordFault.NoBytes → (found : List ℕ) → ¬ Spells word.now found }
+{
+    if word == b"-".as_slice() {
+        return Ok(Vec::new(alloc));
+    }
+    if word.is_empty() || has_upper_case(word) {
+        return Err(WordFault::NoBytes);
+    }
+    decode(alloc, word)
+}
+
+/// Appends bytes of any number as the word that [`byte_list`] reads.
+///
+/// # Errors
+/// [`NoMemory`] only where the room that there was is too small.
+pub fn push_byte_list(out: &mut Vec<u8>, bytes: &[u8]) -> Result<(), NoMemory>
+    ensures { OnOk result (out.new.items ≡ out.old.items ++ bytes_word bytes.now) }
+{
+    if bytes.is_empty() {
+        out.push(b'-')?;
+        return Ok(());
+    }
+    push_hex(out, bytes)
 }

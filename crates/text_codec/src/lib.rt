@@ -6,9 +6,6 @@ mod hexadecimal;
 mod numbers;
 mod parts;
 
-pub use hexadecimal::{bytes, push_hex};
+pub use hexadecimal::{WordFault, byte_list, bytes, push_byte_list, push_hex};
 pub use numbers::{number, process, push_number};
 pub use parts::Parts;
-
-#[cfg(test)]
-mod tests;

@@ -9,8 +9,8 @@ use Rattle.hex.specs.Hex.{encode_lower}
 use Rattle.byte_defs.proofs.Fields.{ok_is}
 use Rattle.byte_defs.specs.Equality.{same_bytes}
 use Rattle.byte_defs.specs.Members.{has}
-use Rattle.secret_defs.specs.Schemes.{Scheme}
-use Rattle.secret_defs.specs.Schemes as schemes
+use Rattle.signature_defs.specs.Schemes.{Scheme}
+use Rattle.signature_defs.specs.Schemes as schemes
 use Rattle.text_defs.specs.Words.{AreBytes, begin_with}
 use Rattle.text_defs.specs.Kits.{AreKeys, KitLine, Version, SchemeIs, GroupIs, Key, Genesis, key_length, key_line, line_words, roster_of}
 use Rattle.text_defs.specs.KitReading.{Draft}

@@ -12,8 +12,8 @@ use Rattle.byte_defs.specs.Equality.{same_bytes}
 use Rattle.byte_defs.specs.Members.{has}
 use Rattle.signature_defs.specs.LmOts.{ots_type_of, ots_typecode}
 use Rattle.signature_defs.proofs.OtsLaws.{typecode_of_type}
-use Rattle.secret_defs.specs.Schemes.{Scheme}
-use Rattle.secret_defs.specs.Schemes as schemes
+use Rattle.signature_defs.specs.Schemes.{Scheme}
+use Rattle.signature_defs.specs.Schemes as schemes
 use Rattle.text_defs.specs.Words.{bytes_of, number_within, process_of}
 use Rattle.text_defs.specs.Kits.{KitLine, Version, SchemeIs, GroupIs, Key, Genesis, Port, PlainHost, LmsHost, Pair, line_words}
 use Rattle.text_defs.specs.KitReading.{genesis_by, group_by, host_by, key_by, line_by, lms_host_by, may_be_lms, may_be_plain, members_by, pair_by, plain_host_by, port_by, public_key_by, scheme_by, version_by}

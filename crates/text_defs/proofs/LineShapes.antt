@@ -1,7 +1,7 @@
 -- The ranges of what a line says, by its form alone.
 use Rattle.std.proofs.Common.{◌≡◌, ◌≢◌, ℕ, ◌^◌, ◌<◌, ◌≤◌, true, ◌⊎◌, List, length, AllPairs, Option}
 use Rattle.std.specs.List.{AllByRecursion}
-use Rattle.secret_defs.specs.Schemes.{Scheme}
+use Rattle.signature_defs.specs.Schemes.{Scheme}
 use Rattle.text_defs.specs.Words.{AreBytes}
 use Rattle.text_defs.specs.Kits.{KitLine, Version, SchemeIs, GroupIs, Key, Genesis, Port, PlainHost, LmsHost, Pair, line_words}
 use Rattle.text_defs.specs.KitReading.{may_be_plain, may_be_lms}

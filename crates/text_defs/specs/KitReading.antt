@@ -16,9 +16,9 @@ use Rattle.byte_defs.specs.Equality.{same_bytes}
 use Rattle.byte_defs.specs.Fields.{◌>>=◌, refuse_if}
 use Rattle.byte_defs.specs.Members.{has}
 use Rattle.signature_defs.specs.LmOts.{ots_type_of}
-use Rattle.secret_defs.specs.Schemes.{Scheme}
-use Rattle.secret_defs.specs.Schemes as schemes
-use Rattle.secret_defs.specs.Secrets.{Secret, Plain, Lms, public_key_of}
+use Rattle.signature_defs.specs.Schemes.{Scheme}
+use Rattle.signature_defs.specs.Schemes as schemes
+use Rattle.signature_defs.specs.Secrets.{Secret, Plain, Lms, public_key_of}
 use Rattle.text_defs.specs.Words.{words_of, parts_of, begin_with, number_within, process_of, bytes_of}
 use Rattle.text_defs.specs.Kits.{Kit, Host, KitLine, Version, SchemeIs, GroupIs, Key, Genesis, Port, PlainHost, LmsHost, Pair, roster_of, others_than, key_of}
 

@@ -1,10 +1,10 @@
 -- Lines of text. A line is its words with one space between them, and ends with a line feed. A number is a word of decimal
 -- digits without sign or leading zero, and bytes are a word of lower-case hexadecimal digits.
-use Rattle.std.specs.Prelude.{◌≡◌, ℕ, ◌+◌, ◌-◌, ◌*◌, ◌==◌, ◌&&◌, nat_le, Bool, true, false, if◌then◌else◌, List, [], ◌∷◌, ◌++◌, length, Option, Some, None, option_and_then}
+use Rattle.std.specs.Prelude.{◌≡◌, ℕ, codes, ◌+◌, ◌-◌, ◌*◌, ◌==◌, ◌&&◌, nat_le, Bool, true, false, if◌then◌else◌, List, [], ◌∷◌, ◌++◌, length, Option, Some, None, option_and_then}
 use Rattle.std.specs.List.{list_any, slice_split, join_with_byte}
 use Rattle.std.specs.Result.{result_ok}
 use Rattle.std.specs.Fmt.{decimal}
-use Rattle.hex.specs.Hex.{decode_sized, IsBytes}
+use Rattle.hex.specs.Hex.{decode_sized, encode_lower, IsBytes}
 use Rattle.byte_defs.specs.Equality.{same_bytes}
 
 -- the byte that stands between two words
@@ -71,3 +71,12 @@ is_upper_case c = nat_le 65 c && nat_le c 90
 -- so many bytes, spelled so
 unfoldable pub bytes_of : ℕ → List ℕ → Option (List ℕ)
 bytes_of n word = if list_any is_upper_case word then None else result_ok (decode_sized word n)
+
+-- bytes in lower-case hexadecimal, or a dash where there are none
+abbrev pub bytes_word : List ℕ → List ℕ
+bytes_word [] = codes "-"
+bytes_word (b ∷ bytes) = encode_lower (b ∷ bytes)
+
+-- the word is the spelling of these bytes
+abbrev pub Spells : List ℕ → List ℕ → Type 0
+Spells word bytes = IsBytes bytes × (word ≡ bytes_word bytes)

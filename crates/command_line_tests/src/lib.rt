@@ -1,0 +1,5 @@
+//! Commands as words.
+#![tactic(auto)]
+
+#[cfg(test)]
+mod tests;

@@ -1,0 +1,94 @@
+use command_line::{Command, KitOrder, read_command};
+use std::alloc::Global;
+use std::test::Fail;
+use text_defs::{KeyPlan, OtsType};
+
+const SEED: &str = "000102030405060708090a0b0c0d0e0f101112131415161718191a1b1c1d1eff";
+
+const SEED_BYTES: [u8; 32] = [
+    0, 1, 2, 3, 4, 5, 6, 7, 8, 9, 10, 11, 12, 13, 14, 15, 16, 17, 18, 19, 20, 21, 22, 23, 24, 25,
+    26, 27, 28, 29, 30, 255,
+];
+
+/// The command that the words of this line ask for.
+fn read(alloc: Global, line: &str) -> Result<Option<Command>, Fail> {
+    let mut words = Vec::new(alloc);
+    for word in line.split(' ') {
+        words.push(String::from_str(alloc, word)?)?;
+    }
+    Ok(read_command(&words))
+}
+
+/// The same of a new kit's words, all but the first and the seed.
+fn keygen(alloc: Global, order: &str) -> Result<Option<Command>, Fail> {
+    read(alloc, &format!(in alloc; "keygen {order} {SEED}")?)
+}
+
+#[test]
+fn the_words_of_a_command_ask_for_it(rt: HostRuntime) -> Result<(), Fail> {
+    assert_eq!(rt; read(rt.alloc(), "replay")?, Some(Command::Replay));
+    for (order, members, roster, keys) in [
+        ("1 1 plain:0", 1, 1, KeyPlan::Plain(0)),
+        ("16 64 plain:4294967295", 16, 64, KeyPlan::Plain(u32::MAX)),
+        ("4 7 lms:5:1", 4, 7, KeyPlan::Lms(5, OtsType::W1)),
+        ("4 7 lms:7:4", 4, 7, KeyPlan::Lms(7, OtsType::W8)),
+    ] {
+        let asked = Command::Keygen(KitOrder {
+            members,
+            roster,
+            keys,
+            seed: SEED_BYTES,
+        });
+        assert_eq!(rt; keygen(rt.alloc(), order)?, Some(asked), "{order}");
+    }
+    Ok(())
+}
+
+#[test]
+fn an_order_out_of_its_ranges_is_none(rt: HostRuntime) -> Result<(), Fail> {
+    for order in [
+        "0 1 plain:9",
+        "17 17 plain:9",
+        "5 4 plain:9",
+        "4 65 plain:9",
+        "04 4 plain:9",
+        "4 4 plain:9 plain:9",
+        "4 4 plain:4294967296",
+        "4 4 plain",
+        "4 4 lms:8:1",
+        "4 4 lms:5:5",
+        "4 4 lms:5:4:",
+        "4 4 lms:5;4",
+    ] {
+        assert_eq!(rt; keygen(rt.alloc(), order)?, None, "{order}");
+    }
+    Ok(())
+}
+
+#[test]
+fn other_words_ask_for_nothing(rt: HostRuntime) -> Result<(), Fail> {
+    for line in [
+        "",
+        "replays",
+        "replay short",
+        "keygen",
+        "keygen 4 4 plain:9",
+        "keygen 4 4 plain:9 000102030405060708090a0b0c0d0e0f101112131415161718191a1b1c1d1ef",
+        "keygen 4 4 plain:9 000102030405060708090A0B0C0D0E0F101112131415161718191A1B1C1D1EFF",
+        "replay 4 4 plain:9 000102030405060708090a0b0c0d0e0f101112131415161718191a1b1c1d1eff",
+    ] {
+        assert_eq!(rt; read(rt.alloc(), line)?, None, "{line}");
+    }
+    Ok(())
+}
+
+#[test]
+fn seeds_are_not_printed(rt: HostRuntime) -> Result<(), Fail> {
+    let asked = keygen(rt.alloc(), "4 7 lms:5:1")?;
+    let printed = format!(in rt.alloc(); "{asked:?}")?;
+    assert_eq!(rt;
+        printed.as_str(),
+        "Some(Keygen(KitOrder { members: 4, roster: 7, keys: Lms(5, W1), .. }))"
+    );
+    Ok(())
+}

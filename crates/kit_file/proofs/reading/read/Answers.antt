@@ -1,5 +1,0 @@
-use Rattle.text_defs.proofs.ReadKits.{read_is_spelled}
-use Rattle.kit_file.proofs.reading.read.Goals as goal
-
-pub new-requires : goal.new-requires
-new-requires c = (read_is_spelled c.args.text.now c.in_ok-parts.parts c.in_ok-parts.ensures).1

@@ -1,0 +1,122 @@
+use kit_file::Kit;
+use kit_reading::{KitFault, read_kit};
+use rp_base::Pid;
+use sig_scheme::{AnyScheme, Secret};
+use std::alloc::{AllocError, Global};
+use std::test::Fail;
+
+// Texts are those of another program, in Python.
+
+const PLAIN: &[u8] = b"rampart kit 1
+scheme plain
+group 8303ca4d81d97afed6931bd5391d7eb0
+key 0 3427359e9e727deb642976176fede3de0e5cb7af24fca3d2ddec8c3c5663fe09
+key 1 7e9344677ed099c935bbbc976be09051ea5cce1f353d88a9a04617026201d83f
+genesis 0
+port 0 47000
+port 1 47001
+host 1 plain 7
+pair 1 0 5855ee5121fe557457f8e9e9fd737e34751991ec45348663fd50cfeca1ea1b21
+";
+
+const TREE: &[u8] = b"rampart kit 1
+scheme lms
+group 8303ca4d81d97afed6931bd5391d7eb0
+key 0 0000000500000004b966e4bbf7b7b3988d0ef56ca47ddcd2ad45c71816576d9852913006b485df0f88ea641eea0ab05223e49b1eec7bf90b
+genesis 0
+port 0 47000
+host 0 lms 5 4 b966e4bbf7b7b3988d0ef56ca47ddcd2 f4b2494c729deaf404ac48765e64f122dbff4d62830f144842df61d68e5bf443
+";
+
+// The lines of a kit of two processes with LMS keys.
+
+const HEAD: &[u8] = b"rampart kit 1\nscheme lms\n";
+
+const GROUP: &[u8] = b"group 8303ca4d81d97afed6931bd5391d7eb0\n";
+
+const KEY_0: &[u8] =
+    b"key 0 0000000500000004b966e4bbf7b7b3988d0ef56ca47ddcd2ad45c71816576d9852913006b485df0f88ea641eea0ab05223e49b1eec7bf90b\n";
+
+// Its last digit is another one.
+const OTHER_KEY_0: &[u8] =
+    b"key 0 0000000500000004b966e4bbf7b7b3988d0ef56ca47ddcd2ad45c71816576d9852913006b485df0f88ea641eea0ab05223e49b1eec7bf90c\n";
+
+const REST: &[u8] =
+    b"key 1 0000000500000004950b75560cb41eb8aafe3e0eb09fbead32b137b4948e46b9c0e7a9052836d4a2b328e6d98481f515c571f83790a6ee22
+genesis 0
+port 0 47000
+port 1 47001
+host 0 lms 5 4 b966e4bbf7b7b3988d0ef56ca47ddcd2 f4b2494c729deaf404ac48765e64f122dbff4d62830f144842df61d68e5bf443
+pair 0 1 5855ee5121fe557457f8e9e9fd737e34751991ec45348663fd50cfeca1ea1b21
+host 1 lms 5 4 950b75560cb41eb8aafe3e0eb09fbead 687ba9e543a9ccbd332ee9e7027feecbfd9c4536ffe64490d8fcd67b739b0a6c
+pair 1 0 5855ee5121fe557457f8e9e9fd737e34751991ec45348663fd50cfeca1ea1b21
+";
+
+fn joined(alloc: Global, parts: &[&[u8]]) -> Result<Vec<u8>, AllocError> {
+    let mut text = Vec::new(alloc);
+    for part in parts {
+        text.extend_from_slice(part)?;
+    }
+    Ok(text)
+}
+
+#[test]
+fn a_plain_kit_is_read(rt: HostRuntime) -> Result<(), Fail> {
+    let kit = read_kit(rt.alloc(), PLAIN)?;
+    let member = Pid::default();
+    assert_eq!(rt; kit.scheme(), AnyScheme::Plain);
+    assert_eq!(rt; kit.group().bytes()[0], 0x83);
+    assert_eq!(rt; kit.genesis(), [member].as_slice());
+    assert_eq!(rt; kit.port(member), Some(47_000));
+    assert_eq!(rt; kit.hosted().mask(), 2);
+    assert!(rt; kit.secret(member).is_none());
+    assert!(rt; kit.pair(member, member).is_none());
+    let host = Pid::new(1).unwrap_or(member);
+    assert_eq!(rt; kit.pair(host, member).map(|key| key[0]), Some(0x58));
+    Ok(())
+}
+
+fn has_seed(kit: &Kit, p: Pid) -> bool {
+    match kit.secret(p) {
+        Some(Secret::Lms { seed, .. }) => seed[31] == 0x43,
+        _ => false,
+    }
+}
+
+#[test]
+fn a_kit_of_a_tree_is_read(rt: HostRuntime) -> Result<(), Fail> {
+    let kit = read_kit(rt.alloc(), TREE)?;
+    assert!(rt; has_seed(&kit, Pid::default()));
+    Ok(())
+}
+
+#[test]
+fn a_key_of_another_secret_is_told(rt: HostRuntime) -> Result<(), Fail> {
+    let text = joined(rt.alloc(), &[HEAD, GROUP, OTHER_KEY_0, REST])?;
+    let told = match read_kit(rt.alloc(), &text) {
+        Err(KitFault::KeyMismatch { line, made, listed }) => (line, made[55], listed[55]),
+        _ => (0, 0, 0),
+    };
+    assert_eq!(rt; told, (9, 0x0b, 0x0c));
+    Ok(())
+}
+
+#[test]
+fn a_line_left_out_is_missing(rt: HostRuntime) -> Result<(), Fail> {
+    let text = joined(rt.alloc(), &[HEAD, KEY_0, REST])?;
+    assert_eq!(rt;
+        read_kit(rt.alloc(), &text).err(),
+        Some(KitFault::Missing { line: 3 })
+    );
+    Ok(())
+}
+
+#[test]
+fn a_line_that_stands_twice_is_repeated(rt: HostRuntime) -> Result<(), Fail> {
+    let text = joined(rt.alloc(), &[HEAD, GROUP, KEY_0, KEY_0, REST])?;
+    assert_eq!(rt;
+        read_kit(rt.alloc(), &text).err(),
+        Some(KitFault::Repeated { line: 5 })
+    );
+    Ok(())
+}

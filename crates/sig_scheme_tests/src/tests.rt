@@ -1,0 +1,150 @@
+use rp_base::{Scheme, Signer, Tally};
+use sha2::{Digest, Sha256};
+use sig_scheme::{AnyScheme, KeyFault, OtsType, PublicKey, Secret};
+use std::alloc::Global;
+use std::test::Fail;
+
+const PLAIN: Secret = Secret::Plain {
+    key: [7; 32],
+    total: 2,
+};
+
+const LMS: Secret = Secret::Lms {
+    height: 5,
+    ots: OtsType::W1,
+    id: [0, 1, 2, 3, 4, 5, 6, 7, 8, 9, 10, 11, 12, 13, 14, 15],
+    seed: [
+        32, 33, 34, 35, 36, 37, 38, 39, 40, 41, 42, 43, 44, 45, 46, 47, 48, 49, 50, 51, 52, 53, 54,
+        55, 56, 57, 58, 59, 60, 61, 62, 63,
+    ],
+};
+
+const BODY: &[u8] = b"one message";
+
+// The number that the hash of these bytes begins with.
+fn mark(bytes: &[u8]) -> u64 {
+    let hash = Sha256::digest(bytes);
+    u64::from_be_bytes([
+        hash[0], hash[1], hash[2], hash[3], hash[4], hash[5], hash[6], hash[7],
+    ])
+}
+
+// The signer's next signature on the body.
+fn sign<G: Signer>(alloc: Global, signer: &mut G) -> Result<Vec<u8>, Fail> {
+    let mut sig = vec![in alloc; 0u8; signer.sig_len()]?;
+    signer.sign(BODY, &mut sig)?;
+    Ok(sig)
+}
+
+fn is_spent<G: Signer>(alloc: Global, signer: &mut G) -> Result<bool, Fail> {
+    let mut sig = vec![in alloc; 0u8; signer.sig_len()]?;
+    Ok(signer.sign(BODY, &mut sig).is_err())
+}
+
+fn skip_to_last<T: Tally>(signer: &mut T) {
+    if signer.used() < signer.total() {
+        signer.skip_to(signer.total() - 1);
+    }
+}
+
+fn is_valid<V: Scheme>(scheme: &V, key: &[u8], sig: &[u8]) -> bool {
+    scheme.verify(key, BODY, sig)
+}
+
+// Hashes are those of another program, in Python, for the same secrets and body.
+#[test]
+fn signers_sign_as_the_other_program_does(rt: HostRuntime) -> Result<(), Fail> {
+    for (secret, total, public, first, last) in [
+        (
+            PLAIN,
+            2,
+            0x4bb06f8e4e3a7715,
+            0x821331f475ab72a5,
+            0x821331f475ab72a5,
+        ),
+        (
+            LMS,
+            32,
+            0x002750d937bb00c9,
+            0x4fc95fd6bb561b94,
+            0xc478571942480669,
+        ),
+    ] {
+        let mut signer = secret.signer(rt.alloc())?;
+        assert_eq!(rt; mark(&sign(rt.alloc(), &mut signer)?), first, "{secret:?}");
+        skip_to_last(&mut signer);
+        assert_eq!(rt; mark(&sign(rt.alloc(), &mut signer)?), last, "{secret:?}");
+        assert_eq!(rt; mark(signer.public()), public, "{secret:?}");
+        assert!(rt; signer.used() == total && signer.total() == total);
+        assert!(rt; is_spent(rt.alloc(), &mut signer)?);
+    }
+    Ok(())
+}
+
+#[test]
+fn a_signature_is_valid_by_its_own_scheme_alone(rt: HostRuntime) -> Result<(), Fail> {
+    for (secret, own, other) in [
+        (PLAIN, AnyScheme::Plain, AnyScheme::Lms),
+        (LMS, AnyScheme::Lms, AnyScheme::Plain),
+    ] {
+        let mut signer = secret.signer(rt.alloc())?;
+        let sig = sign(rt.alloc(), &mut signer)?;
+        assert!(rt; is_valid(&own, signer.public(), &sig));
+        assert!(rt; !is_valid(&other, signer.public(), &sig));
+    }
+    Ok(())
+}
+
+#[test]
+fn public_keys_are_those_of_the_signers(rt: HostRuntime) -> Result<(), Fail> {
+    let plain = PLAIN.public_key(rt.alloc())?;
+    let lms = LMS.public_key(rt.alloc())?;
+    assert!(rt; plain == PublicKey::Plain([7; 32]) && plain.as_bytes() == [7; 32].as_slice());
+    assert!(rt; lms != plain && lms.as_bytes().len() == 56);
+    assert!(rt; mark(lms.as_bytes()) == 0x002750d937bb00c9);
+    Ok(())
+}
+
+#[test]
+fn only_trees_of_three_heights_have_signers(rt: HostRuntime) {
+    for height in [0, 4, 8, 9, u32::MAX] {
+        let secret = Secret::Lms {
+            height,
+            ots: OtsType::W1,
+            id: [0; 16],
+            seed: [0; 32],
+        };
+        assert!(rt;
+            matches!(secret.signer(rt.alloc()), Err(KeyFault::TooTall)),
+            "{height}"
+        );
+        assert!(rt;
+            matches!(secret.public_key(rt.alloc()), Err(KeyFault::TooTall)),
+            "{height}"
+        );
+    }
+}
+
+#[test]
+fn keys_and_seeds_are_not_printed(rt: HostRuntime) -> Result<(), Fail> {
+    let plain = format!(in rt.alloc(); "{PLAIN:?}")?;
+    let lms = format!(in rt.alloc(); "{LMS:?}")?;
+    assert_eq!(rt; plain.as_str(), "Plain { total: 2, .. }");
+    assert_eq!(rt;
+        lms.as_str(),
+        "Lms { height: 5, ots: W1, id: [0, 1, 2, 3, 4, 5, 6, 7, 8, 9, 10, 11, 12, 13, 14, 15], .. }"
+    );
+    Ok(())
+}
+
+#[test]
+fn signers_are_printed_without_their_keys(rt: HostRuntime) -> Result<(), Fail> {
+    let plain = PLAIN.signer(rt.alloc())?;
+    let lms = LMS.signer(rt.alloc())?;
+    let printed = format!(in rt.alloc(); "{plain:?} {lms:?}")?;
+    assert_eq!(rt;
+        printed.as_str(),
+        "Plain(PlainSigner { total: 2, used: 0, .. }) Lms(LmsKey { .. })"
+    );
+    Ok(())
+}
