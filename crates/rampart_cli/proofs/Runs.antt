@@ -6,11 +6,11 @@ use Rattle.std.proofs.lemmas.Bool.{cases_lt, lt-ltb}
 use Rattle.std.proofs.lemmas.List.{append-nil}
 use Rattle.std.specs.Io.KnownBytes.{Appends, Consumes, IsAtEnd}
 use Rattle.byte_defs.proofs.Fields.{IsBytes}
-use Rattle.file_defs.specs.declared.ScheduleFault.{ScheduleFault}
-use Rattle.file_defs.specs.Schedules.{Schedule, IsSchedule, schedule_bytes, schedule_of, whole_of, past_limit, most_bytes}
-use Rattle.file_defs.specs.Worlds.{World, world_of, family_of}
-use Rattle.file_defs.specs.Reports.{report, report_of, if_read}
-use Rattle.schedule_file.proofs.Grammar.{schedule_takes, schedule_again}
+use Rattle.echo_defs.specs.declared.ScheduleFault.{ScheduleFault}
+use Rattle.echo_defs.specs.Schedules.{Schedule, IsSchedule, schedule_bytes, schedule_of, whole_of, past_limit, most_bytes}
+use Rattle.echo_defs.specs.Worlds.{World, world_of, family_of}
+use Rattle.echo_defs.specs.Reports.{report, report_of, if_read}
+use Rattle.echo_file.proofs.Grammar.{schedule_takes, schedule_again}
 use Rattle.rp_streams.specs.Streams.{AppendsPrefix}
 use Rattle.rampart_cli.specs.Top.{Runs, HasNoRun, Replayed, Refused, Reported, ReportedInPart, report_of_run}
 use Rattle.rampart_cli.proofs.Single.{single_payloads}

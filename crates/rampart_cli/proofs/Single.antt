@@ -24,9 +24,9 @@ use Rattle.group_defs.specs.Family.{Correct, Family, accounts, numbers, ends, en
 use Rattle.group_defs.specs.Laws.{Premises}
 use Rattle.safety_laws.proofs.Agreeing.{one_payload_at_the_end}
 use Rattle.safety_laws.proofs.Echoing.{echoes_throughout}
-use Rattle.file_defs.specs.Schedules.{Listed, Schedule, ScheduleEvent, Submit, Raw, Pass, AreListed, IsSchedule}
-use Rattle.file_defs.specs.Worlds.{Player, World, echo_kinds, setting_of, begins, start_of, correct_of, process_of, turn_of, with_turn, takes, steps, player_of, hands, happens, run_events, world_of, family_of, echo_frame, echo_said, echo_claims}
-use Rattle.file_defs.specs.Reports.{Single}
+use Rattle.echo_defs.specs.Schedules.{Listed, Schedule, ScheduleEvent, Submit, Raw, Pass, AreListed, IsSchedule}
+use Rattle.echo_defs.specs.Worlds.{Player, World, echo_kinds, setting_of, begins, start_of, correct_of, process_of, turn_of, with_turn, takes, steps, player_of, hands, happens, run_events, world_of, family_of, echo_frame, echo_said, echo_claims}
+use Rattle.echo_defs.specs.Reports.{Single}
 
 -- ---- what is handed over is of Init and Echo alone
 
@@ -186,7 +186,7 @@ stands : (s : Setting) (cs : List Player) → s.signs ≡ echo_kinds → AllEcho
 unfolding AllEcho
 stands s [] two all = λ k d lt. absurd (omega (arith, lt))
 stands s (c ∷ cs) two all =
-    let here = echoes_throughout s c.listed.process c.turns two (are-echoing (handed_to c.turns) all.0) in
+    let here = echoes_throughout s c.listed.process 1 c.turns two (are-echoing (handed_to c.turns) all.0) in
     All-cons (λ (p : Process). p.pool.view ≡ s.genesis) (process_of s c) (map (end_of s) (map correct_of cs)) here.view (stands s cs two all.1)
 
 premises : (sch : Schedule) (w : World) → IsSchedule sch → players w.players ≡ players (start_of sch).players

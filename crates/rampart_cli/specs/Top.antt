@@ -4,9 +4,9 @@ use Rattle.std.specs.Io.KnownBytes.{Appends, Consumes, IsAtEnd}
 use Rattle.std.specs.declared.alloc.Global.{Global}
 use Rattle.group_defs.specs.Accounts.{Bounded}
 use Rattle.group_defs.specs.Family.{Family, accounts, numbers, Honest}
-use Rattle.file_defs.specs.Schedules.{Schedule, IsSchedule, schedule_bytes, schedule_of, most_bytes}
-use Rattle.file_defs.specs.Worlds.{World, world_of, family_of}
-use Rattle.file_defs.specs.Reports.{Single, report, report_of}
+use Rattle.echo_defs.specs.Schedules.{Schedule, IsSchedule, schedule_bytes, schedule_of, most_bytes}
+use Rattle.echo_defs.specs.Worlds.{World, world_of, family_of}
+use Rattle.echo_defs.specs.Reports.{Single, report, report_of}
 use Rattle.text_defs.specs.Kits.{kit_text}
 use Rattle.text_defs.specs.KitMaking.{made_kit}
 use Rattle.command_line.specs.Commands as commands

@@ -8,7 +8,8 @@ ghost use Rattle.rampart_cli.specs.Top.{kit_of_order};
 
 use crate::stops::Stop;
 use command_line::KitOrder;
-use kit_file::{make_kit, write_kit};
+use kit_file::write_kit;
+use kit_making::make_kit;
 use rp_base::{NoMemory, Sink};
 use rp_streams::write_all;
 use std::alloc::Global;

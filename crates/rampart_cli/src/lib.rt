@@ -6,8 +6,6 @@ mod replaying;
 mod running;
 mod stops;
 mod streams;
-#[cfg(test)]
-mod tests;
 mod top;
 
 pub use top::rampart;

@@ -2,7 +2,7 @@
 ghost use Rattle.std.specs.Prelude.{◌≡◌, ◌⊎◌, codes, IsSome, IfSome, IsSomeAnd};
 ghost use Rattle.std.specs.Io.KnownBytes.{Appends, Keeps};
 ghost use Rattle.rp_base.specs.Causes.{Rose};
-ghost use Rattle.file_defs.specs.Reports.{report_of};
+ghost use Rattle.echo_defs.specs.Reports.{report_of};
 ghost use Rattle.command_line.specs.Commands.{IsOrder};
 ghost use Rattle.command_line.specs.Views.{order};
 ghost use Rattle.rampart_cli.specs.Statuses.{status_of, line_of};

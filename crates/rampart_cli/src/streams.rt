@@ -3,8 +3,8 @@ ghost use Rattle.std.specs.Io.KnownBytes.{Consumes, IsAtEnd};
 ghost use Rattle.rp_base.specs.Causes.{Rose};
 ghost use Rattle.rampart_cli.specs.declared.streams.ReadFault.TheVariants as faults;
 
+use echo_file::SCHEDULE_ROOM;
 use rp_base::{Failed, Source};
-use schedule_file::SCHEDULE_ROOM;
 use std::alloc::{AllocError, Global};
 
 /// How many bytes are asked of a source at a time.

@@ -1,7 +1,7 @@
 ghost use Rattle.std.specs.Prelude.{◌≡◌, ◌≢◌, ◌↔◌, ◌⊎◌, codes, IsSome, IfSome, IsSomeAnd};
 ghost use Rattle.std.specs.Io.KnownBytes.{Appends, Keeps};
 ghost use Rattle.rp_base.specs.Causes.{Rose};
-ghost use Rattle.file_defs.specs.Reports.{report_of};
+ghost use Rattle.echo_defs.specs.Reports.{report_of};
 ghost use Rattle.command_line.specs.Commands.{KitOrder, Replay, Keygen};
 ghost use Rattle.rp_streams.specs.Streams.{AppendsPrefix, Says};
 ghost use Rattle.rampart_cli.specs.Top.{Asks, AskAny, Reported, ReportedInPart, Refused, kit_of_order};

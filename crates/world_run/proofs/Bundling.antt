@@ -12,7 +12,7 @@ use Rattle.group_defs.specs.Views.{View}
 use Rattle.group_defs.specs.Process.{Process}
 use Rattle.group_defs.specs.Sending as sending
 use Rattle.group_defs.specs.Sending.{others, unless_empty}
-use Rattle.file_defs.specs.Worlds.{frames_of_sends}
+use Rattle.echo_defs.specs.Worlds.{frames_of_sends}
 use Rattle.world_run.specs.declared.slot.Slot.{Slot}
 use Rattle.world_run.specs.declared.slot.Slot.TheVariants as slots
 use Rattle.world_run.specs.Slots.{said_in}

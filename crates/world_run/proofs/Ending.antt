@@ -6,10 +6,10 @@ use Rattle.std.specs.Fmt.{decimal}
 use Rattle.group_defs.specs.Process as defs
 use Rattle.group_defs.specs.Accounts.{account_of, bounded}
 use Rattle.group_defs.specs.Family.{ends, accounts, numbers, honest}
-use Rattle.file_defs.specs.Schedules.{Schedule}
-use Rattle.file_defs.specs.Worlds as plain
-use Rattle.file_defs.specs.Worlds.{family_of, setting_of}
-use Rattle.file_defs.specs.Reports.{agree_on, messages_heard, report, end_line, refused_line, process_lines, answer_line}
+use Rattle.echo_defs.specs.Schedules.{Schedule}
+use Rattle.echo_defs.specs.Worlds as plain
+use Rattle.echo_defs.specs.Worlds.{family_of, setting_of}
+use Rattle.echo_defs.specs.Reports.{agree_on, messages_heard, report, end_line, refused_line, process_lines, answer_line}
 use Rattle.world_run.specs.Processes.{setting, process}
 use Rattle.world_run.specs.Worlds.{refused, Shows, lines_of}
 use Rattle.world_run.specs.declared.process.Process.{Process}
@@ -45,7 +45,7 @@ joined l m n o x y z =
 pub reported : (sch : Schedule) (w : World) (v : plain.World) (h b s : Bool) (lines one two out : List ℕ) → Shows (setting_of sch) w v
     → lines ≡ lines_of w → h ≡ honest (family_of sch v)
     → b ≡ bounded (map (λ p. account_of (process (setting w.setting) p)) w.processes.items) (map (λ p. p.me) w.processes.items)
-    → s ≡ list_all (λ p. list_all (agree_on (messages_heard w.setting.genesis.items) p) (map (process (setting w.setting)) w.processes.items)) (map (process (setting w.setting)) w.processes.items)
+    → s ≡ list_all (λ p. list_all (agree_on (messages_heard w.setting.genesis.members) p) (map (process (setting w.setting)) w.processes.items)) (map (process (setting w.setting)) w.processes.items)
     → one ≡ lines ++ answer_line (codes "honest") h → two ≡ one ++ answer_line (codes "bounded") b → out ≡ two ++ answer_line (codes "single") s
     → report v (family_of sch v) ≡ out
 reported sch w v h b s lines one two out shows written is_honest is_bounded is_single first second third =

@@ -10,8 +10,8 @@ use Rattle.group_defs.specs.Process.{Setting}
 use Rattle.group_defs.specs.Events as group
 use Rattle.group_defs.specs.Events.{Turn}
 use Rattle.group_defs.specs.Family.{claims_in, handed_to}
-use Rattle.file_defs.specs.Schedules.{ScheduleEvent, Submit, Raw, Pass}
-use Rattle.file_defs.specs.Worlds.{Player, World, process_of, with_turn, takes, turn_of, echo_frame, steps, player_of, hands_to, hands, happens, run_events}
+use Rattle.echo_defs.specs.Schedules.{ScheduleEvent, Submit, Raw, Pass}
+use Rattle.echo_defs.specs.Worlds.{Player, World, process_of, with_turn, takes, turn_of, echo_frame, steps, player_of, hands_to, hands, happens, run_events}
 use Rattle.world_run.specs.Players.{AreRising}
 use Rattle.world_run.specs.Handed.{claims_of_frame, claims_of_event}
 use Rattle.world_run.proofs.Playing.{takes-none, takes-rising, unequal, rising-at}

@@ -6,7 +6,7 @@ use Rattle.message_defs.specs.declared.FrameFault.TheVariants.{Kind}
 use Rattle.message_defs.specs.Statements.{Claim}
 use Rattle.message_defs.specs.Frames.{Group, FrameView, Bundle, Proof, Want, frame_of}
 use Rattle.message_defs.specs.Claims.{Claims, Faulty, in_bundle, claims_of_groups, claims_of}
-use Rattle.file_defs.specs.Worlds.{echo_claims, echo_said, echo_frame}
+use Rattle.echo_defs.specs.Worlds.{echo_claims, echo_said, echo_frame}
 use Rattle.world_run.specs.Handed.{bundle_groups, are_echoing}
 
 pub no_bundle : (bytes : List ℕ) → None ≡ bundle_groups (frame_of bytes) → Faulty Kind ≡ echo_frame bytes

@@ -7,7 +7,7 @@ use Rattle.std.proofs.lemmas.List.FromFn.{length-range_with_len, get_or-range_wi
 use Rattle.std.proofs.lemmas.Grind.{flat_map-append}
 use Rattle.message_defs.specs.Statements.{Message}
 use Rattle.group_defs.specs.Process.{Process}
-use Rattle.file_defs.specs.Reports.{numbers_heard, messages_heard, held_line, process_line, process_lines}
+use Rattle.echo_defs.specs.Reports.{numbers_heard, messages_heard, held_line, process_line, process_lines}
 
 -- the line of one more
 snoc-line : {A X : Type 0} (f : A → List ℕ) (g : X → A) (xs : List X) (x : X) → flat_map f (map g (xs ++ x ∷ [])) ≡ flat_map f (map g xs) ++ f (g x)

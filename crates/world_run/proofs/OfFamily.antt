@@ -4,10 +4,10 @@ use Rattle.std.specs.List.{list_all}
 use Rattle.group_defs.specs.Process as defs
 use Rattle.group_defs.specs.Accounts.{Account, account_of, bounded}
 use Rattle.group_defs.specs.Family.{end_of, ends, accounts, numbers}
-use Rattle.file_defs.specs.Schedules.{Listed, Schedule}
-use Rattle.file_defs.specs.Worlds as plain
-use Rattle.file_defs.specs.Worlds.{correct_of, setting_of, family_of}
-use Rattle.file_defs.specs.Reports.{messages_heard, agree_on, single}
+use Rattle.echo_defs.specs.Schedules.{Listed, Schedule}
+use Rattle.echo_defs.specs.Worlds as plain
+use Rattle.echo_defs.specs.Worlds.{correct_of, setting_of, family_of}
+use Rattle.echo_defs.specs.Reports.{messages_heard, agree_on, single}
 use Rattle.world_run.specs.Processes.{setting, process}
 use Rattle.world_run.specs.Worlds.{standing_of, Shows}
 use Rattle.world_run.specs.declared.world.World.{World}
@@ -47,7 +47,7 @@ bounded-of_family sch w v answer shows e =
 
 -- whether it holds one payload of each message
 pub single-of_family : (sch : Schedule) (w : World) (v : plain.World) (answer : Bool) → Shows (setting_of sch) w v
-    → answer ≡ list_all (λ p. list_all (agree_on (messages_heard w.setting.genesis.items) p) (map (process (setting w.setting)) w.processes.items)) (map (process (setting w.setting)) w.processes.items)
+    → answer ≡ list_all (λ p. list_all (agree_on (messages_heard w.setting.genesis.members) p) (map (process (setting w.setting)) w.processes.items)) (map (process (setting w.setting)) w.processes.items)
     → answer ≡ single (family_of sch v)
 single-of_family sch w v answer shows e =
     e

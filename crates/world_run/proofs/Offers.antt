@@ -16,7 +16,7 @@ use Rattle.group_defs.specs.Process.{Kind, Inits, Echoes}
 use Rattle.group_defs.specs.Certified.{claim_on, says, is_signed, is_ended}
 use Rattle.group_defs.specs.Due.{may_sign, is_due, least_due, due_numbers, offers}
 use Rattle.group_defs.specs.Due as due
-use Rattle.safety_laws.proofs.Tests.{is-yes}
+use Rattle.pool_laws.proofs.Tests.{is-yes}
 use Rattle.world_run.specs.declared.slot.Slot.{Slot}
 use Rattle.world_run.specs.declared.slot.Slot.TheVariants as slots
 use Rattle.world_run.specs.declared.claims.KeptClaim.{KeptClaim}

@@ -10,11 +10,11 @@ use Rattle.group_defs.specs.Process as defs
 use Rattle.group_defs.specs.Hearing.{is_valid}
 use Rattle.group_defs.specs.Events.{Hand}
 use Rattle.group_defs.specs.Family.{statements_of, claims_in, end_of, ends, honest}
-use Rattle.file_defs.specs.Schedules.{Listed, ScheduleEvent, Raw, Schedule, IsSchedule}
-use Rattle.file_defs.specs.Worlds as plain
-use Rattle.file_defs.specs.Worlds.{Player, echo_frame, correct_of, process_of, setting_of, world_of, family_of}
-use Rattle.schedule_file.specs.Schedules.{event}
-use Rattle.schedule_file.specs.declared.schedule.ScheduleEvent as code
+use Rattle.echo_defs.specs.Schedules.{Listed, ScheduleEvent, Raw, Schedule, IsSchedule}
+use Rattle.echo_defs.specs.Worlds as plain
+use Rattle.echo_defs.specs.Worlds.{Player, echo_frame, correct_of, process_of, setting_of, world_of, family_of}
+use Rattle.echo_file.specs.Schedules.{event}
+use Rattle.echo_file.specs.declared.schedule.ScheduleEvent as code
 use Rattle.world_run.specs.Handed.{is_word_of, is_owned, claims_of_frame, claims_of_event}
 use Rattle.world_run.specs.Processes.{kept, all_kept, process, setting}
 use Rattle.world_run.specs.Worlds.{sent, standing_of, Shows, IsRun, owned_in}

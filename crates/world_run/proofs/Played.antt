@@ -4,8 +4,8 @@ use Rattle.std.specs.Prelude.{if◌then◌else◌, ◌==◌, ◌&&◌, ◌||◌,
 use Rattle.std.specs.List.{list_all, filter_map, cons_option, AllByRecursion}
 use Rattle.message_defs.specs.Statements.{Claim}
 use Rattle.group_defs.specs.Family.{handed_to, handed}
-use Rattle.file_defs.specs.Schedules.{Listed, is_correct, IsEvent, IsSchedule, Schedule, ScheduleEvent, Submit, Raw, Pass}
-use Rattle.file_defs.specs.Worlds.{Player, World, begins, correct_of, family_of, setting_of, start_of, world_of}
+use Rattle.echo_defs.specs.Schedules.{Listed, is_correct, IsEvent, IsSchedule, Schedule, ScheduleEvent, Submit, Raw, Pass}
+use Rattle.echo_defs.specs.Worlds.{Player, World, begins, correct_of, family_of, setting_of, start_of, world_of}
 use Rattle.world_run.specs.Handed.{claims_of_event}
 use Rattle.world_run.proofs.Handed.{IsPlayed, handed_over, Ran, run-goes}
 use Rattle.world_run.proofs.Running.{starts-rising}

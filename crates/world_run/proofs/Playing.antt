@@ -8,9 +8,9 @@ use Rattle.std.proofs.lemmas.Option.{slice_get_past}
 use Rattle.std.proofs.lemmas.Bool.{eqb-true, eq-eqb, ltb-true, ltb-false}
 use Rattle.group_defs.specs.Process.{Setting, Process, start}
 use Rattle.group_defs.specs.Events.{Turn, after, run}
-use Rattle.file_defs.specs.Schedules.{Listed}
+use Rattle.echo_defs.specs.Schedules.{Listed}
 use Rattle.world_run.specs.Players.{AreRising}
-use Rattle.file_defs.specs.Worlds.{Player, process_of, with_turn, takes}
+use Rattle.echo_defs.specs.Worlds.{Player, process_of, with_turn, takes}
 
 -- a turn more at the end
 pub run-snoc : (s : Setting) (p : Process) (ts : List Turn) (t : Turn) → run s p (ts ++ t ∷ []) ≡ after s (run s p ts) t
@@ -19,7 +19,7 @@ run-snoc s p [] t = refl
 run-snoc s p (u ∷ ts) t = run-snoc s (after s p u) ts t
 
 pub process_of-with_turn : (s : Setting) (c : Player) (t : Turn) → process_of s (with_turn t c) ≡ after s (process_of s c) t
-process_of-with_turn s c t = run-snoc s (start s c.listed.process) c.turns t
+process_of-with_turn s c t = run-snoc s (start s c.listed.process 1) c.turns t
 
 not-true : (b : Bool) → (b ≡ true → ⊥) → b ≡ false
 not-true true h = absurd (h refl)

@@ -6,13 +6,13 @@ use Rattle.group_defs.specs.Process as defs
 use Rattle.group_defs.specs.Events as group
 use Rattle.std.specs.Prelude.{if◌then◌else◌}
 use Rattle.std.specs.List.{filter_map, cons_option}
-use Rattle.file_defs.specs.Schedules.{Listed, AreListed, ScheduleEvent, Submit, Raw, Pass, Schedule}
-use Rattle.file_defs.specs.Worlds as plain
-use Rattle.file_defs.specs.Worlds.{Player, happens, hands, hands_to, player_of, steps, run_events, setting_of, world_of, process_of, turn_of, echo_frame}
+use Rattle.echo_defs.specs.Schedules.{Listed, AreListed, ScheduleEvent, Submit, Raw, Pass, Schedule}
+use Rattle.echo_defs.specs.Worlds as plain
+use Rattle.echo_defs.specs.Worlds.{Player, happens, hands, hands_to, player_of, steps, run_events, setting_of, world_of, process_of, turn_of, echo_frame}
 use Rattle.world_run.specs.Players.{AreRising}
-use Rattle.schedule_file.specs.Schedules.{event}
+use Rattle.echo_file.specs.Schedules.{event}
 use Rattle.world_run.specs.Worlds.{Shows, Happens, IsEarly, IsRun, Unless}
-use Rattle.schedule_file.specs.declared.schedule.ScheduleEvent as code
+use Rattle.echo_file.specs.declared.schedule.ScheduleEvent as code
 use Rattle.world_run.specs.declared.world.WorldFault.{WorldFault}
 use Rattle.world_run.specs.declared.world.WorldFault.TheVariants.{NoMemory, NoSuchFrame}
 use Rattle.world_run.specs.declared.world.World.{World}

@@ -6,9 +6,9 @@ use Rattle.std.proofs.lemmas.Option.{slice_get-map, slice_get-get_or}
 use Rattle.group_defs.specs.Process as defs
 use Rattle.group_defs.specs.Events as group
 use Rattle.group_defs.specs.Events.{EventFault}
-use Rattle.file_defs.specs.Schedules.{Listed, Pass}
-use Rattle.file_defs.specs.Worlds as plain
-use Rattle.file_defs.specs.Worlds.{Player, echo_frame, process_of, turn_of, frames_of_sends, refused_if, player_of, hands_to, hands, steps}
+use Rattle.echo_defs.specs.Schedules.{Listed, Pass}
+use Rattle.echo_defs.specs.Worlds as plain
+use Rattle.echo_defs.specs.Worlds.{Player, echo_frame, process_of, turn_of, frames_of_sends, refused_if, player_of, hands_to, hands, steps}
 use Rattle.world_run.specs.Players.{AreRising}
 use Rattle.world_run.specs.Processes.{setting, process}
 use Rattle.world_run.specs.Worlds.{sent, refused, standing_of, StepsAt, Stepped, Shows, GoesOn, Happens}

@@ -5,7 +5,7 @@ use Rattle.std.specs.List.{list_all, flat_map, range_with_len}
 use Rattle.std.proofs.lemmas.List.Concat.{flat_map-cons}
 use Rattle.std.proofs.lemmas.List.Folds.{list_all-map, list_all-append}
 use Rattle.message_defs.specs.Statements.{Message}
-use Rattle.file_defs.specs.Reports.{numbers_heard, messages_heard}
+use Rattle.echo_defs.specs.Reports.{numbers_heard, messages_heard}
 
 all-flat_map : {A X : Type 0} (t : A → Bool) (h : X → List A) (xs : List X) → list_all (λ x. list_all t (h x)) xs ≡ list_all t (flat_map h xs)
 all-flat_map t h [] = refl

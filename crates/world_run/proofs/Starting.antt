@@ -5,16 +5,16 @@ use Rattle.std.proofs.lemmas.List.{map-append, append-nil, take_more}
 use Rattle.std.proofs.lemmas.List.Elements.{filter_map-append}
 use Rattle.group_defs.specs.Process as defs
 use Rattle.group_defs.specs.Events.{run}
-use Rattle.file_defs.specs.Schedules as plain
+use Rattle.echo_defs.specs.Schedules as plain
 use Rattle.signature_defs.specs.Plain.{plain_valid}
-use Rattle.file_defs.specs.Worlds.{begins, process_of, echo_kinds, setting_of, start_of}
-use Rattle.schedule_file.specs.Schedules.{listed, schedule}
+use Rattle.echo_defs.specs.Worlds.{begins, process_of, echo_kinds, setting_of, start_of}
+use Rattle.echo_file.specs.Schedules.{listed, schedule}
 use Rattle.world_run.specs.Processes as code
 use Rattle.world_run.specs.Processes.{process}
 use Rattle.world_run.specs.Worlds.{sent, refused as refused_of, standing_of, standings_of, starting, Shows}
-use Rattle.schedule_file.specs.declared.schedule.Schedule.{Schedule}
+use Rattle.echo_file.specs.declared.schedule.Schedule.{Schedule}
 use Rattle.world_run.specs.declared.world.World.{World}
-use Rattle.schedule_file.specs.declared.schedule.Listed.{Listed}
+use Rattle.echo_file.specs.declared.schedule.Listed.{Listed}
 use Rattle.world_run.specs.declared.process.Process.{Process}
 
 -- one more that is listed
@@ -32,7 +32,7 @@ one-more s xs i x lt at =
 corrupt-starts : (s : defs.Setting) (x : Listed) → x.corrupt ≡ true → starting s (listed x ∷ []) ≡ []
 corrupt-starts s x e = rw e refl
 
-correct-starts : (s : defs.Setting) (x : Listed) (q : Process) → x.corrupt ≡ false → process s q ≡ defs.start s x.process → q.key ≡ x.key → q.total ≡ x.total → starting s (listed x ∷ []) ≡ standing_of s q ∷ []
+correct-starts : (s : defs.Setting) (x : Listed) (q : Process) → x.corrupt ≡ false → process s q ≡ defs.start s x.process 1 → q.key ≡ x.key → q.total ≡ x.total → starting s (listed x ∷ []) ≡ standing_of s q ∷ []
 unfolding run
 correct-starts s x q e start key total =
     let me : q.me ≡ x.process = ap (λ (p : defs.Process). p.me) start in
@@ -46,7 +46,7 @@ passes-corrupt s xs i x old lt at corrupt before =
     before ∙ sym (one-more s xs i x lt at ∙ ap (λ (ys : List (plain.Listed × defs.Process)). starting s (map listed (take i xs)) ++ ys) (corrupt-starts s x corrupt) ∙ append-nil (starting s (map listed (take i xs))))
 
 pub starts-correct : (s : defs.Setting) (xs : List Listed) (i : ℕ) (x : Listed) (old new : List Process) (q : Process) → i < length xs → x ≡ get_or xs i x → x.corrupt ≡ false
-    → new ≡ old ++ q ∷ [] → process s q ≡ defs.start s x.process → q.key ≡ x.key → q.total ≡ x.total
+    → new ≡ old ++ q ∷ [] → process s q ≡ defs.start s x.process 1 → q.key ≡ x.key → q.total ≡ x.total
     → standings_of s old ≡ starting s (map listed (take i xs)) → standings_of s new ≡ starting s (map listed (take (i + 1) xs))
 starts-correct s xs i x old new q lt at correct pushed start key total before =
     ap (standings_of s) pushed
@@ -62,7 +62,7 @@ map-map {A} {B} {C} f g (x ∷ xs) = ap (λ (ys : List C). g (f x) ∷ ys) (map-
 -- the world before the first event
 pub begins-so : (what : Schedule) (w : World) → w.setting.group ≡ what.group
     → w.setting.roster.items ≡ map (λ l. (l.process, l.key)) what.processes.items
-    → w.setting.genesis.items ≡ what.genesis.items
+    → w.setting.genesis.members ≡ what.genesis.items
     → ((s : defs.Setting) → standings_of s w.processes.items ≡ starting s (map listed what.processes.items))
     → w.frames.items ≡ [] → w.refused.items ≡ [] → w.count ≡ 0
     → Shows (setting_of (schedule what)) w (start_of (schedule what))

@@ -13,7 +13,7 @@ use Rattle.group_defs.specs.Sending.{Bundle, newly_signed, others, unless_empty}
 use Rattle.group_defs.specs.Family.{claims_in}
 use Rattle.group_defs.specs.Echoing.{is_echoing, AreEchoing, Echoing, EchoesOnly}
 use Rattle.group_defs.specs.Events.{Event, Submit, Hand, EventFault, Outcome, is_tick, refusal, take_in, signing, after, answered, outcome}
-use Rattle.file_defs.specs.Worlds.{frames_of_sends}
+use Rattle.echo_defs.specs.Worlds.{frames_of_sends}
 use Rattle.safety_laws.proofs.Echoing.{each_event_echoes}
 use Rattle.world_run.specs.declared.slot.Slot.{Slot}
 use Rattle.world_run.specs.declared.slot.Slot.TheVariants as slots

@@ -5,8 +5,8 @@ use Rattle.std.proofs.lemmas.List.{map-set}
 use Rattle.std.proofs.lemmas.Option.{slice_get-get_or}
 use Rattle.group_defs.specs.Process as defs
 use Rattle.group_defs.specs.Events as group
-use Rattle.file_defs.specs.Worlds.{frames_of_sends}
-use Rattle.file_defs.specs.Schedules.{Listed}
+use Rattle.echo_defs.specs.Worlds.{frames_of_sends}
+use Rattle.echo_defs.specs.Schedules.{Listed}
 use Rattle.safety_laws.proofs.Induction.{AreFrom, after-keeps}
 use Rattle.group_defs.specs.Family.{claims_in}
 use Rattle.rp_base.specs.declared.memory.NoMemory.{NoMemory}

@@ -11,8 +11,8 @@ use Rattle.group_defs.specs.Process.{Setting, Process}
 use Rattle.group_defs.specs.Hearing.{is_valid}
 use Rattle.group_defs.specs.Events.{Hand}
 use Rattle.group_defs.specs.Family.{claims_in, statements_of}
-use Rattle.file_defs.specs.Schedules.{ScheduleEvent, Submit, Raw, Pass}
-use Rattle.file_defs.specs.Worlds.{echo_frame}
+use Rattle.echo_defs.specs.Schedules.{ScheduleEvent, Submit, Raw, Pass}
+use Rattle.echo_defs.specs.Worlds.{echo_frame}
 
 -- the groups, where the frame is a Bundle
 abbrev pub bundle_groups : Result FrameView FrameFault → Option (List Group)

@@ -1,6 +1,6 @@
 -- The order of players.
 use Rattle.std.specs.Prelude.{ℕ, ◌+◌, ◌≤◌, List, [], ◌∷◌}
-use Rattle.file_defs.specs.Worlds.{Player}
+use Rattle.echo_defs.specs.Worlds.{Player}
 
 -- the players stand by rising numbers, from this one on
 abbrev pub AreRising : ℕ → List Player → Type 0

@@ -5,8 +5,8 @@ use Rattle.signature_defs.specs.Plain.{plain_signature, plain_valid}
 use Rattle.group_defs.specs.Process as defs
 use Rattle.group_defs.specs.Signing.{Signer}
 use Rattle.group_defs.specs.Events as group
-use Rattle.file_defs.specs.Schedules.{Listed}
-use Rattle.file_defs.specs.Worlds.{echo_kinds, turn_of}
+use Rattle.echo_defs.specs.Schedules.{Listed}
+use Rattle.echo_defs.specs.Worlds.{echo_kinds, turn_of}
 use Rattle.world_run.specs.Slots.{number_of, said_in}
 use Rattle.world_run.specs.declared.claims.KeptClaim.{KeptClaim}
 use Rattle.world_run.specs.declared.claims.LentClaim.{LentClaim}
@@ -43,7 +43,7 @@ abbrev pub setting : Setting → defs.Setting
 setting s = record {
   group = s.group;
   roster = s.roster.items;
-  genesis = record { number = 0; members = s.genesis.items };
+  genesis = record { number = 0; members = s.genesis.members };
   valid = plain_valid;
   signs = echo_kinds;
 }
@@ -51,6 +51,7 @@ setting s = record {
 abbrev pub process : defs.Setting → Process → defs.Process
 process s p = record {
   me = p.me;
+  batch_limit = 1;
   left = [];
   previous = None;
   pool = record { view = s.genesis; heard = all_kept p.heard.items };

@@ -4,10 +4,10 @@ use Rattle.std.specs.List.{filter_map, flat_map}
 use Rattle.std.specs.Fmt.{decimal}
 use Rattle.group_defs.specs.Process as defs
 use Rattle.group_defs.specs.Events as group
-use Rattle.file_defs.specs.Schedules.{Listed, ScheduleEvent, Schedule}
-use Rattle.file_defs.specs.Worlds as plain
-use Rattle.file_defs.specs.Worlds.{frames_of_sends}
-use Rattle.file_defs.specs.Reports.{end_line, messages_heard, process_lines, refused_line}
+use Rattle.echo_defs.specs.Schedules.{Listed, ScheduleEvent, Schedule}
+use Rattle.echo_defs.specs.Worlds as plain
+use Rattle.echo_defs.specs.Worlds.{frames_of_sends}
+use Rattle.echo_defs.specs.Reports.{end_line, messages_heard, process_lines, refused_line}
 use Rattle.message_defs.specs.Statements.{Claim}
 use Rattle.world_run.specs.Players.{AreRising}
 use Rattle.world_run.specs.Handed.{is_owned}
@@ -95,4 +95,4 @@ lines_of w =
     codes "rampart report 0\n"
     ++ ((codes "events " ++ (decimal w.count ++ end_line))
     ++ (flat_map refused_line (map refused w.refused.items)
-    ++ flat_map (process_lines (messages_heard w.setting.genesis.items)) (map (process (setting w.setting)) w.processes.items)))
+    ++ flat_map (process_lines (messages_heard w.setting.genesis.members)) (map (process (setting w.setting)) w.processes.items)))

@@ -23,8 +23,8 @@ pub const WINDOW: u16 = 32;
 fn comes_before(s: &Setting, init: &KeptClaim, other: &KeptClaim) -> bool
     ensures { result ≡ numbers_below (due_numbers (setting s.now).genesis (echo_of init.now)) (due_numbers (setting s.now).genesis (echo_of other.now)) }
 {
-    let rank = s.rank_of(init.signer).unwrap_or(0);
-    let other_rank = s.rank_of(other.signer).unwrap_or(0);
+    let rank = s.genesis.rank_of(init.signer).unwrap_or(0);
+    let other_rank = s.genesis.rank_of(other.signer).unwrap_or(0);
     rank < other_rank || (rank == other_rank && init.slot.number() < other.slot.number())
 }
 
@@ -52,7 +52,7 @@ impl Process {
         ensures accepted { IfSome result (λ l. l < length self.now.accepted.items) }
         ensures in_window { IfSome result (λ l. l < 32) }
     {
-        if !s.is_member(self.me) {
+        if !s.genesis.is_member(self.me) {
             return None;
         }
         for number in 0..WINDOW {
@@ -110,7 +110,7 @@ impl Process {
     pub fn echo_due(&self, s: &Setting) -> Option<&KeptClaim>
         ensures { option_map echo_of (option_copied result) ≡ least_due (setting s.now) (process (setting s.now) self.now) Echoes }
     {
-        if !s.is_member(self.me) {
+        if !s.genesis.is_member(self.me) {
             return None;
         }
         let mut least = None;

@@ -5,7 +5,7 @@ ghost use Rattle.std.specs.List.{list_all, AllByRecursion};
 ghost use Rattle.message_defs.specs.Spelling.{IsClaim};
 ghost use Rattle.message_defs.specs.Frames.{frame_of};
 ghost use Rattle.group_defs.specs.Echoing.{is_echoing};
-ghost use Rattle.file_defs.specs.Worlds.{echo_frame};
+ghost use Rattle.echo_defs.specs.Worlds.{echo_frame};
 ghost use Rattle.frame_codec.specs.Views as codec;
 ghost use Rattle.stmt_codec.specs.Views as stmts;
 ghost use Rattle.stmt_codec.specs.Left.{claims_left};

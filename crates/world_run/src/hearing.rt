@@ -66,12 +66,12 @@ impl Process {
     fn is_strange(&self, s: &Setting, claim: &LentClaim<'_>) -> bool
         ensures { result ≡ plain.is_strange (process (setting s.now) self.now) (lent claim.now) }
     {
-        if !s.is_member(claim.signer) {
+        if !s.genesis.is_member(claim.signer) {
             return true;
         }
         match claim.slot {
             Slot::Init { .. } => false,
-            Slot::Echo { sender, .. } => !s.is_member(sender),
+            Slot::Echo { sender, .. } => !s.genesis.is_member(sender),
         }
     }
 

@@ -3,7 +3,6 @@ ghost use Rattle.std.specs.Prelude.{◌≡◌, ◌&&◌, count_by, find, option_
 ghost use Rattle.std.specs.Option.{option_map};
 ghost use Rattle.message_defs.specs.Statements.{slot_of, same_slot};
 ghost use Rattle.group_defs.specs.Certified as plain;
-ghost use Rattle.group_defs.specs.Views as views;
 ghost use Rattle.world_run.specs.Slots.{slot_in, said_in};
 ghost use Rattle.world_run.specs.Processes.{setting, process, kept};
 
@@ -13,20 +12,7 @@ use crate::process::Process;
 use crate::setting::Setting;
 use crate::slot::Slot;
 use rp_base::Pid;
-
-// How many of n members may be corrupt.
-pub(crate) fn faulty(n: usize) -> usize
-    ensures { result ≡ views.faulty n }
-{
-    n.saturating_sub(1) / 3
-}
-
-// How many of n members make a quorum.
-fn quorum(n: usize) -> usize
-    ensures { result ≡ views.quorum n }
-{
-    n - faulty(n)
-}
+use view_table::quorum;
 
 impl Process {
     // Whether the member's claim on the slot says this.
@@ -51,7 +37,8 @@ impl Process {
     fn is_certified(&self, s: &Setting, slot: Slot, payload: &[u8]) -> bool
         ensures { result ≡ plain.is_certified (process (setting s.now) self.now).pool (said_in 0 slot payload.now) }
     {
-        quorum(s.genesis.len()) <= self.backers(s, s.genesis.as_slice(), slot, payload)
+        let members = s.genesis.members();
+        quorum(members.len()) <= self.backers(s, members, slot, payload)
     }
 
     // The first claim on the slot that a quorum backs.

@@ -11,7 +11,7 @@ use crate::frames::{claims_in_frame, to_lent};
 use crate::hearing::is_valid;
 use crate::process::Process;
 use crate::world::World;
-use schedule_file::{Schedule, ScheduleEvent};
+use echo_file::{Schedule, ScheduleEvent};
 use stmt_codec::Claims;
 
 // Whether both say the same.
@@ -50,9 +50,9 @@ impl World {
     ghost use Rattle.message_defs.specs.Spelling.{IsClaim};
     ghost use Rattle.group_defs.specs.Events as group;
     ghost use Rattle.group_defs.specs.Family.{claims_in, honest};
-    ghost use Rattle.file_defs.specs.Schedules as schedules;
-    ghost use Rattle.file_defs.specs.Worlds as plain;
-    ghost use Rattle.schedule_file.specs.Schedules as views;
+    ghost use Rattle.echo_defs.specs.Schedules as schedules;
+    ghost use Rattle.echo_defs.specs.Worlds as plain;
+    ghost use Rattle.echo_file.specs.Schedules as views;
     ghost use Rattle.stmt_codec.specs.Left.{claims_left};
     ghost use Rattle.world_run.specs.Handed.{are_echoing, claims_of_frame, claims_of_event};
     ghost use Rattle.world_run.specs.Processes.{lent};

@@ -25,6 +25,3 @@ pub use process::{Outcome, Process};
 pub use replaying::replay;
 pub use setting::Setting;
 pub use world::{Refused, Sent, World, WorldFault};
-
-#[cfg(test)]
-mod tests;

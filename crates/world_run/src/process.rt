@@ -67,12 +67,12 @@ impl Process {
     ghost use Rattle.group_defs.specs.Signing.{sign_all};
     ghost use Rattle.group_defs.specs.Sending.{Bundle, newly_signed, others, unless_empty};
     ghost use Rattle.group_defs.specs.Events as group;
-    ghost use Rattle.file_defs.specs.Worlds.{echo_frame, frames_of_sends};
+    ghost use Rattle.echo_defs.specs.Worlds.{echo_frame, frames_of_sends};
     ghost use Rattle.world_run.specs.Processes.{setting, process, signer, allowance, turn_at};
 
     /// A process that has done nothing yet.
     pub fn new(alloc: Global, me: Pid, key: [u8; 32], total: u32) -> Process
-        ensures start { (s : _) → process s result ≡ start s me }
+        ensures start { (s : _) → process s result ≡ start s me 1 }
         ensures key { result.key ≡ key }
         ensures total { result.total ≡ total }
     {
@@ -145,7 +145,9 @@ impl Process {
     fn refuses(&self, s: &Setting, payload: &[u8]) -> bool
         ensures { result ≡ is_some (group.refusal (setting s.now) (process (setting s.now) self.now) (group.Submit payload.now)) }
     {
-        !s.is_member(self.me) || payload.len() > CONTENT_ROOM || self.accepted.len() == MOST_WAITING
+        !s.genesis.is_member(self.me)
+            || payload.len() > CONTENT_ROOM
+            || self.accepted.len() == MOST_WAITING
     }
 
     // Keeps a payload behind those that were taken.

@@ -4,15 +4,15 @@ ghost use Rattle.std.specs.List.{list_any, list_all};
 ghost use Rattle.std.specs.Option.{option_map};
 ghost use Rattle.group_defs.specs.Accounts.{account_of, bounded};
 ghost use Rattle.group_defs.specs.Certified.{payload_at};
-ghost use Rattle.file_defs.specs.Reports as plain;
+ghost use Rattle.echo_defs.specs.Reports as plain;
 ghost use Rattle.world_run.specs.Processes.{setting, process};
 
-use crate::holding::faulty;
 use crate::process::Process;
 use crate::report::NUMBERS;
 use crate::setting::Setting;
 use crate::world::World;
 use rp_base::Pid;
+use view_table::faulty;
 
 // Whether some process of these has the number.
 fn has_number(processes: &[Process], number: Pid) -> bool
@@ -65,21 +65,21 @@ fn agree_on_senders(s: &Setting, p: &Process, q: &Process, senders: &[Pid]) -> b
 
 // Whether two processes hold the same payload of each message that both hold.
 fn agree(s: &Setting, p: &Process, q: &Process) -> bool
-    ensures { result ≡ plain.agree_on (plain.messages_heard s.now.genesis.items) (process (setting s.now) p.now) (process (setting s.now) q.now) }
+    ensures { result ≡ plain.agree_on (plain.messages_heard s.now.genesis.members) (process (setting s.now) p.now) (process (setting s.now) q.now) }
 {
-    agree_on_senders(s, p, q, s.genesis.as_slice())
+    agree_on_senders(s, p, q, s.genesis.members())
 }
 
 // Whether a process agrees with each of these.
 fn agrees_with(s: &Setting, p: &Process, processes: &[Process]) -> bool
-    ensures { result ≡ list_all (λ q. plain.agree_on (plain.messages_heard s.now.genesis.items) (process (setting s.now) p.now) (process (setting s.now) q)) processes.now }
+    ensures { result ≡ list_all (λ q. plain.agree_on (plain.messages_heard s.now.genesis.members) (process (setting s.now) p.now) (process (setting s.now) q)) processes.now }
 {
     processes.iter().all(|q| agree(s, p, q))
 }
 
 // Whether each of these agrees with each.
 fn all_agree(s: &Setting, processes: &[Process]) -> bool
-    ensures { result ≡ list_all (λ p. list_all (λ q. plain.agree_on (plain.messages_heard s.now.genesis.items) (process (setting s.now) p) (process (setting s.now) q)) processes.now) processes.now }
+    ensures { result ≡ list_all (λ p. list_all (λ q. plain.agree_on (plain.messages_heard s.now.genesis.members) (process (setting s.now) p) (process (setting s.now) q)) processes.now) processes.now }
 {
     processes.iter().all(|p| agrees_with(s, p, processes))
 }
@@ -90,14 +90,14 @@ impl World {
     pub(crate) fn is_bounded(&self) -> bool
         ensures { result ≡ bounded (map (λ p. account_of (process (setting self.now.setting) p)) self.now.processes.items) (map (λ p. p.me) self.now.processes.items) }
     {
-        let members = self.setting.genesis.as_slice();
+        let members = self.setting.genesis.members();
         self.processes.is_empty()
             || corrupt_among(&self.processes, members) <= faulty(members.len())
     }
 
     /// Whether no two correct processes hold different payloads of one message.
     pub(crate) fn is_single(&self) -> bool
-        ensures { result ≡ list_all (λ p. list_all (plain.agree_on (plain.messages_heard self.now.setting.genesis.items) p) (map (process (setting self.now.setting)) self.now.processes.items)) (map (process (setting self.now.setting)) self.now.processes.items) }
+        ensures { result ≡ list_all (λ p. list_all (plain.agree_on (plain.messages_heard self.now.setting.genesis.members) p) (map (process (setting self.now.setting)) self.now.processes.items)) (map (process (setting self.now.setting)) self.now.processes.items) }
     {
         all_agree(&self.setting, &self.processes)
     }

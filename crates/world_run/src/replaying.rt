@@ -1,15 +1,15 @@
 //! A replay: a schedule's bytes to its report.
 ghost use Rattle.std.specs.Prelude.{◌≡◌, ◌++◌, IfOk, OnOk, Some, None, codes, if◌then◌else◌};
 ghost use Rattle.std.specs.Option.{option_map};
-ghost use Rattle.file_defs.specs.Reports as plain;
-ghost use Rattle.file_defs.specs.Reports.{report_of};
-ghost use Rattle.file_defs.specs.Schedules as schedules;
-ghost use Rattle.schedule_file.specs.Schedules as views;
+ghost use Rattle.echo_defs.specs.Reports as plain;
+ghost use Rattle.echo_defs.specs.Reports.{report_of};
+ghost use Rattle.echo_defs.specs.Schedules as schedules;
+ghost use Rattle.echo_file.specs.Schedules as views;
 ghost use Rattle.world_run.specs.Worlds.{IsRun};
 
 use crate::world::{World, WorldFault};
+use echo_file::{ReadError, Schedule, read_schedule};
 use rp_base::NoMemory;
-use schedule_file::{ReadError, Schedule, read_schedule};
 use std::alloc::{AllocError, Global};
 
 // A line that answers a question.
@@ -47,7 +47,7 @@ fn report_if_run(alloc: Global, what: &Schedule) -> Result<Option<Vec<u8>>, NoMe
 }
 
 /// The report of the schedule that these bytes spell (docs/FORMATS.md, «The report»). None exactly where they spell none, or hand on a frame that is not sent yet.
-#[tactic(auto, unfolding(file_defs::specs::Reports::report_of))]
+#[tactic(auto, unfolding(echo_defs::specs::Reports::report_of))]
 pub fn replay(alloc: Global, bytes: &[u8]) -> Result<Option<Vec<u8>>, NoMemory>
     ensures { IfOk result (λ r. option_map (λ v. v.items) r ≡ report_of bytes.now) }
 {

@@ -1,7 +1,7 @@
 //! The report of a world (docs/FORMATS.md, «The report»).
 ghost use Rattle.std.specs.Prelude.{◌≡◌, ◌<◌, ◌≤◌, ◌++◌, List, ℕ, length, map, codes, IfOk, OnOk, if◌then◌else◌};
 ghost use Rattle.std.specs.List.{flat_map};
-ghost use Rattle.file_defs.specs.Reports as plain;
+ghost use Rattle.echo_defs.specs.Reports as plain;
 ghost use Rattle.world_run.specs.Processes.{setting, process};
 ghost use Rattle.world_run.specs.Worlds.{refused as refusal};
 
@@ -10,7 +10,7 @@ use crate::setting::Setting;
 use crate::world::{Refused, World};
 use rp_base::{NoMemory, Pid};
 use std::alloc::Global;
-use text_codec::{push_hex, push_number};
+use text_codec::{push_byte_list, push_number};
 
 /// No process hears a message of this number or a higher one, since nothing is delivered.
 pub(crate) const NUMBERS: u16 = 32;
@@ -43,17 +43,6 @@ fn push_all_refused(out: &mut Vec<u8>, refused: &[Refused]) -> Result<(), NoMemo
     Ok(())
 }
 
-// A payload in hexadecimal, or a dash where it is empty.
-fn push_payload(out: &mut Vec<u8>, bytes: &[u8]) -> Result<(), NoMemory>
-    ensures { OnOk result (out.new.items ≡ out.old.items ++ plain.payload_word bytes.now) }
-{
-    if bytes.is_empty() {
-        out.push(b'-')?;
-        return Ok(());
-    }
-    push_hex(out, bytes)
-}
-
 // The words of a held message before its payload.
 fn push_held_words(out: &mut Vec<u8>, p: Pid, sender: Pid, number: u16) -> Result<(), NoMemory>
     ensures { OnOk result (out.new.items ≡ out.old.items ++ plain.held_words p (record { sender = sender; number = number })) }
@@ -81,7 +70,7 @@ fn push_held(
     };
     push_held_words(out, p.me, sender, number)?;
     out.extend_from_slice(b" ")?;
-    push_payload(out, payload)?;
+    push_byte_list(out, payload)?;
     out.push(b'\n')?;
     Ok(())
 }
@@ -125,15 +114,15 @@ fn push_process_line(out: &mut Vec<u8>, p: &Process) -> Result<(), NoMemory>
 
 // A process, and what it holds.
 fn push_process(out: &mut Vec<u8>, s: &Setting, p: &Process) -> Result<(), NoMemory>
-    ensures { OnOk result (out.new.items ≡ out.old.items ++ plain.process_lines (plain.messages_heard s.now.genesis.items) (process (setting s.now) p.now)) }
+    ensures { OnOk result (out.new.items ≡ out.old.items ++ plain.process_lines (plain.messages_heard s.now.genesis.members) (process (setting s.now) p.now)) }
 {
     push_process_line(out, p)?;
-    push_all_held(out, s, p, s.genesis.as_slice())?;
+    push_all_held(out, s, p, s.genesis.members())?;
     Ok(())
 }
 
 fn push_processes(out: &mut Vec<u8>, s: &Setting, processes: &[Process]) -> Result<(), NoMemory>
-    ensures { OnOk result (out.new.items ≡ out.old.items ++ flat_map (plain.process_lines (plain.messages_heard s.now.genesis.items)) (map (process (setting s.now)) processes.now)) }
+    ensures { OnOk result (out.new.items ≡ out.old.items ++ flat_map (plain.process_lines (plain.messages_heard s.now.genesis.members)) (map (process (setting s.now)) processes.now)) }
 {
     for p in processes {
         push_process(out, s, p)?;

@@ -4,7 +4,7 @@ ghost use Rattle.std.specs.Prelude.{◌≡◌, ◌≢◌, ◌++◌, ◌∷◌, [
 ghost use Rattle.std.specs.List.{list_any};
 ghost use Rattle.message_defs.specs.Packing.{Signed, signed_of, group_of, add, fits, pack, pack_from};
 ghost use Rattle.group_defs.specs.Sending as plain;
-ghost use Rattle.file_defs.specs.Worlds.{frames_of_sends};
+ghost use Rattle.echo_defs.specs.Worlds.{frames_of_sends};
 ghost use Rattle.world_run.specs.Bundles.{bundle_bytes, begun, packed, IsBegun};
 ghost use Rattle.world_run.specs.Processes.{setting, process, kept, all_kept};
 
@@ -96,7 +96,7 @@ impl Process {
     fn has_peers(&self, s: &Setting) -> bool
         ensures { result ≡ list_any (λ m. not (m == self.now.me)) (setting s.now).genesis.members }
     {
-        s.genesis.iter().any(|m| *m != self.me)
+        s.genesis.members().iter().any(|m| *m != self.me)
     }
 
     /// The frames to the other members of what it signed from this place of its list on; none to nobody.

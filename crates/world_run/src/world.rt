@@ -1,19 +1,21 @@
 //! The world of a schedule: its correct processes, each a real one, and the frames that they sent.
 ghost use Rattle.std.specs.Prelude.{◌≡◌, ◌<◌, ◌≤◌, ◌+◌, ◌-◌, ◌^◌, ◌++◌, [], ◌∷◌, ◌==◌, length, map, position, IfOk, IfErr, OnOk, None, true, false, if◌then◌else◌};
 ghost use Rattle.group_defs.specs.Events as group;
-ghost use Rattle.file_defs.specs.Worlds.{echo_frame};
+ghost use Rattle.echo_defs.specs.Worlds.{echo_frame};
 ghost use Rattle.world_run.specs.Processes.{setting};
 ghost use Rattle.world_run.specs.declared.world.WorldFault.TheVariants as faults;
-ghost use Rattle.schedule_file.specs.Schedules.{listed as listing};
+ghost use Rattle.echo_defs.specs.Schedules as schedules;
+ghost use Rattle.echo_file.specs.Schedules.{listed as listing};
+ghost use Rattle.echo_file.specs.Schedules as views;
 ghost use Rattle.world_run.specs.Worlds.{sent, refused, standings_of, starting, StepsAt};
 
 use crate::process::{Outcome, Process};
 use crate::setting::Setting;
-use arrayvec::ArrayVec;
+use echo_file::{Listed, Schedule, ScheduleEvent};
 use rp_base::{NoMemory, Pid};
-use schedule_file::{Listed, Schedule, ScheduleEvent};
 use std::alloc::{AllocError, Global};
 use stmt_codec::Payload;
+use view_table::View;
 
 /// A frame that a correct process sent. Frames are numbered from 0 in order of sending.
 #[derive(Debug, Drop)]
@@ -113,16 +115,12 @@ fn send(frames: &mut Vec<Sent>, sender: Pid, made: Vec<Payload>) -> Result<(), N
     Ok(())
 }
 
-/// The same members in the same order.
-fn copy_of(members: &[Pid]) -> ArrayVec<Pid, 16>
-    requires { length members.now ≤ 16 }
-    ensures { result.items ≡ members.now }
+/// The view in which the schedule begins.
+fn genesis_of(what: &Schedule) -> View
+    requires { schedules.IsSchedule (views.schedule what.now) }
+    ensures { result.members ≡ what.now.genesis.items }
 {
-    let mut copy = ArrayVec::new();
-    for m in members {
-        copy.push(*m);
-    }
-    copy
+    View::new(0, what.genesis.as_slice()).unwrap()
 }
 
 /// The processes with their keys.
@@ -146,19 +144,18 @@ fn starts(alloc: Global, processes: &[Listed]) -> Result<Vec<Process>, NoMemory>
 }
 
 impl World {
-    ghost use Rattle.file_defs.specs.Worlds as plain;
-    ghost use Rattle.file_defs.specs.Schedules as schedules;
-    ghost use Rattle.schedule_file.specs.Schedules.{event};
-    ghost use Rattle.schedule_file.specs.Schedules as views;
+    ghost use Rattle.echo_defs.specs.Worlds as plain;
+    ghost use Rattle.echo_file.specs.Schedules.{event};
     ghost use Rattle.world_run.specs.Worlds.{GoesOn, Happens, IsEarly, Unless, Shows, IsRun};
 
     /// The world before the first event.
     fn start(alloc: Global, what: &Schedule) -> Result<World, NoMemory>
+        requires { schedules.IsSchedule (views.schedule what.now) }
         ensures shows { IfOk result (λ w. Shows (plain.setting_of (views.schedule what.now)) w (plain.start_of (views.schedule what.now))) }
         ensures count { IfOk result (λ w. w.count ≡ 0) }
     {
         let roster = roster_of(alloc, &what.processes)?;
-        let genesis = copy_of(what.genesis.as_slice());
+        let genesis = genesis_of(what);
         let processes = starts(alloc, &what.processes)?;
         Ok(World {
             setting: Setting {

@@ -1,5 +1,5 @@
 use Rattle.std.proofs.Common.{sym, ◌∙◌, inr}
-use Rattle.file_defs.specs.Reports.{report_of}
+use Rattle.echo_defs.specs.Reports.{report_of}
 use Rattle.rampart_cli.proofs.Runs.{told_none, replayed_told}
 use Rattle.rampart_cli.proofs.Stopped.{at_write, at_input, only_memory, memory_or_input, either_status, stopped_so, part_stays, rose_still, some_and_none}
 use Rattle.rampart_cli.proofs.running.run_replay.Goals as goal

@@ -1,7 +1,7 @@
 use Rattle.std.proofs.Common.{◌∙◌}
 use Rattle.std.specs.Prelude.{not}
 use Rattle.group_defs.specs.Certified.{payload_at}
-use Rattle.file_defs.specs.Reports.{differ}
+use Rattle.echo_defs.specs.Reports.{differ}
 use Rattle.world_run.specs.Processes.{setting, process}
 use Rattle.world_run.proofs.Singling.{all-of_messages}
 use Rattle.world_run.proofs.questions.agree.Goals as goal
@@ -10,4 +10,4 @@ pub returns : goal.returns
 returns c =
     c.agree_on_senders.ensures
     ∙ all-of_messages (λ m. not (differ (payload_at (process (setting c.args.s.now) c.args.p.now).pool m) (payload_at (process (setting c.args.s.now) c.args.q.now).pool m)))
-    c.as_slice.result.now c.args.s.now.genesis.items c.as_slice.ensures.value
+    c.members.result.now c.args.s.now.genesis.members c.members.ensures.value

@@ -4,7 +4,7 @@ use Rattle.std.specs.Prelude.{not}
 use Rattle.std.proofs.lemmas.Iterator.{YieldsList-from_range}
 use Rattle.std.proofs.lemmas.Iterator.Search.{all_from_yields_List}
 use Rattle.group_defs.specs.Certified.{payload_at}
-use Rattle.file_defs.specs.Reports.{differ}
+use Rattle.echo_defs.specs.Reports.{differ}
 use Rattle.world_run.specs.Processes.{setting, process}
 use Rattle.world_run.proofs.Singling.{all-of_sender}
 use Rattle.world_run.proofs.questions.agree_on_sender.Goals as goal

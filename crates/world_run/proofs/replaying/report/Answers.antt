@@ -1,8 +1,8 @@
 use Rattle.std.proofs.Common.{Some, ap, ◌∙◌}
 use Rattle.std.specs.Option.{option_map}
-use Rattle.file_defs.specs.Reports as plain
-use Rattle.file_defs.specs.Worlds.{family_of}
-use Rattle.schedule_file.specs.Schedules as views
+use Rattle.echo_defs.specs.Reports as plain
+use Rattle.echo_defs.specs.Worlds.{family_of}
+use Rattle.echo_file.specs.Schedules as views
 use Rattle.world_run.proofs.Ending.{reported}
 use Rattle.world_run.proofs.replaying.report.Goals as goal
 

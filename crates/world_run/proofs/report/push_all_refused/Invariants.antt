@@ -1,6 +1,6 @@
 use Rattle.std.proofs.Common.{◌≡◌, ◌++◌, map, take}
 use Rattle.std.specs.List.{flat_map}
-use Rattle.file_defs.specs.Reports.{refused_line}
+use Rattle.echo_defs.specs.Reports.{refused_line}
 use Rattle.world_run.specs.Worlds.{refused as refusal}
 use Rattle.world_run.proofs.report.push_all_refused.Given as goal
 

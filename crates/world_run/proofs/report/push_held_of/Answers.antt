@@ -1,4 +1,4 @@
-use Rattle.file_defs.specs.Reports.{held_line}
+use Rattle.echo_defs.specs.Reports.{held_line}
 use Rattle.world_run.specs.Processes.{setting, process}
 use Rattle.world_run.proofs.Lines.{next-number, last-number}
 use Rattle.world_run.proofs.report.push_held_of.Goals as goal

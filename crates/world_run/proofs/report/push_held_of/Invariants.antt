@@ -1,6 +1,6 @@
 use Rattle.std.proofs.Common.{◌≡◌, ◌++◌, map, take}
 use Rattle.std.specs.List.{flat_map}
-use Rattle.file_defs.specs.Reports.{held_line, numbers_heard}
+use Rattle.echo_defs.specs.Reports.{held_line, numbers_heard}
 use Rattle.world_run.specs.Processes.{setting, process}
 use Rattle.world_run.proofs.report.push_held_of.Given as goal
 

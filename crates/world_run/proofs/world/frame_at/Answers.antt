@@ -1,5 +1,5 @@
 use Rattle.group_defs.specs.Events as group
-use Rattle.file_defs.specs.Worlds.{echo_frame}
+use Rattle.echo_defs.specs.Worlds.{echo_frame}
 use Rattle.world_run.specs.Processes.{setting}
 use Rattle.world_run.proofs.SteppingAt.{stepped-if_ok}
 use Rattle.world_run.proofs.world.frame_at.Goals as goal

@@ -1,6 +1,6 @@
 use Rattle.std.proofs.Common.{◌≡◌, map, take}
 use Rattle.group_defs.specs.Process.{Setting}
-use Rattle.schedule_file.specs.Schedules.{listed}
+use Rattle.echo_file.specs.Schedules.{listed}
 use Rattle.world_run.specs.Worlds.{standings_of, starting}
 use Rattle.world_run.proofs.world.starts.Given as goal
 

@@ -3,7 +3,7 @@ use Rattle.std.proofs.lemmas.List.{length-map}
 use Rattle.std.proofs.lemmas.Grind.{common_steps}
 use Rattle.std.proofs.lemmas.Result.{IfOk-weaker}
 use Rattle.group_defs.specs.Sending.{Bundle, others, unless_empty}
-use Rattle.file_defs.specs.Worlds.{frames_of_sends}
+use Rattle.echo_defs.specs.Worlds.{frames_of_sends}
 use Rattle.world_run.specs.Processes.{setting, process, all_kept}
 use Rattle.world_run.proofs.process.Process.sign_and_send.Goals as goal
 

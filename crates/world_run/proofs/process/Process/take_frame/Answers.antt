@@ -1,4 +1,4 @@
-use Rattle.file_defs.specs.Worlds.{echo_frame}
+use Rattle.echo_defs.specs.Worlds.{echo_frame}
 use Rattle.group_defs.specs.Events.{Hand}
 use Rattle.stmt_codec.specs.Left.{claims_left}
 use Rattle.world_run.proofs.Stepping.{always, refused_stays, no_frame, frame_after, frame_sent}

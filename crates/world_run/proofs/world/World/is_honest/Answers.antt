@@ -1,5 +1,5 @@
 use Rattle.std.proofs.Common.{refl}
-use Rattle.schedule_file.specs.Schedules.{schedule}
+use Rattle.echo_file.specs.Schedules.{schedule}
 use Rattle.world_run.proofs.OwnWords.{honest-so}
 use Rattle.world_run.proofs.world.World.is_honest.Goals as goal
 

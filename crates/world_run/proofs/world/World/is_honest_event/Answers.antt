@@ -1,5 +1,5 @@
 use Rattle.std.proofs.Common.{ap, map}
-use Rattle.schedule_file.specs.Schedules.{event}
+use Rattle.echo_file.specs.Schedules.{event}
 use Rattle.world_run.specs.Worlds.{sent}
 use Rattle.world_run.proofs.OwnWords.{raw-so}
 use Rattle.world_run.proofs.world.World.is_honest_event.Goals as goal

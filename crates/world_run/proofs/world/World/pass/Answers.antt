@@ -1,7 +1,7 @@
 use Rattle.std.proofs.Common.{false}
 use Rattle.world_run.specs.Processes.{setting}
 use Rattle.group_defs.specs.Events as group
-use Rattle.file_defs.specs.Worlds.{echo_frame}
+use Rattle.echo_defs.specs.Worlds.{echo_frame}
 use Rattle.world_run.proofs.Showing.{nobody, somebody, passed, looked_up, same-bytes, done}
 use Rattle.world_run.proofs.world.World.pass.Goals as goal
 

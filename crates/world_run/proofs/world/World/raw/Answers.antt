@@ -1,6 +1,6 @@
 use Rattle.std.proofs.Common.{false}
 use Rattle.group_defs.specs.Events as group
-use Rattle.file_defs.specs.Worlds.{echo_frame}
+use Rattle.echo_defs.specs.Worlds.{echo_frame}
 use Rattle.world_run.proofs.Showing.{nobody, somebody}
 use Rattle.world_run.proofs.world.World.raw.Goals as goal
 

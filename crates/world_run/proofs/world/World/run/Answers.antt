@@ -1,7 +1,7 @@
 use Rattle.std.proofs.Common.{◌≡◌, None, refl, map, arith, drop, sym, subst, ◌+◌}
 use Rattle.std.proofs.lemmas.Result.{err_from_is_err_and}
-use Rattle.file_defs.specs.Worlds.{world_of}
-use Rattle.schedule_file.specs.Schedules.{event, schedule}
+use Rattle.echo_defs.specs.Worlds.{world_of}
+use Rattle.echo_file.specs.Schedules.{event, schedule}
 use Rattle.world_run.specs.Worlds.{IsEarly, Unless}
 use Rattle.world_run.specs.declared.world.WorldFault.{WorldFault}
 use Rattle.world_run.proofs.Running.{Midway, begun, starts-rising, one-more, too-early, at-end, next-event, nothing-left, unless-map}

@@ -1,5 +1,5 @@
 use Rattle.std.proofs.Common.{◌≤◌, map, drop}
-use Rattle.schedule_file.specs.Schedules.{event, schedule}
+use Rattle.echo_file.specs.Schedules.{event, schedule}
 use Rattle.world_run.proofs.Running.{Midway}
 use Rattle.world_run.proofs.world.World.run.Given as goal
 

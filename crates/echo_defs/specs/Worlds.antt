@@ -14,7 +14,7 @@ use Rattle.group_defs.specs.Sending.{Sending, frames_of}
 use Rattle.group_defs.specs.Events as group
 use Rattle.group_defs.specs.Events.{Turn, EventFault, refusal, outcome}
 use Rattle.group_defs.specs.Family.{Correct, Family, end_of}
-use Rattle.file_defs.specs.Schedules.{Listed, ScheduleEvent, Submit, Raw, Pass, Schedule}
+use Rattle.echo_defs.specs.Schedules.{Listed, ScheduleEvent, Submit, Raw, Pass, Schedule}
 
 -- ---- the frames of this world
 
@@ -71,9 +71,9 @@ begins l = if l.corrupt then None else Some (record { listed = l; turns = [] })
 abbrev pub start_of : Schedule → World
 start_of sch = record { players = filter_map begins sch.processes; frames = []; refused = []; count = 0 }
 
--- the player, as a process of the family
+-- the player, as a process of the family, which orders one message at once
 abbrev pub correct_of : Player → Correct
-correct_of c = record { me = c.listed.process; turns = c.turns }
+correct_of c = record { me = c.listed.process; batch_limit = 1; turns = c.turns }
 
 -- the player as a process, after its turns
 abbrev pub process_of : Setting → Player → Process

@@ -1,4 +1,4 @@
-//! What the program reads and writes on plain data: schedules, the world of a schedule, and its report.
+//! What the program reads and writes on plain data: the schedules of a small world of Init and Echo, that world, and its report.
 #![tactic(auto)]
 
 /// Why bytes are no schedule: the first fault from left to right.

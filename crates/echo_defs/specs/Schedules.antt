@@ -14,8 +14,8 @@ use Rattle.std.specs.Int.{w8, w16, w32}
 use Rattle.byte_defs.specs.Equality.{same_bytes}
 use Rattle.byte_defs.specs.Fields.{◌>>=◌, refuse_if, number_at, bytes_at, four_bytes, text}
 use Rattle.byte_defs.specs.Members.{has}
-use Rattle.file_defs.specs.declared.ScheduleFault.{ScheduleFault}
-use Rattle.file_defs.specs.declared.ScheduleFault.TheVariants as faults
+use Rattle.echo_defs.specs.declared.ScheduleFault.{ScheduleFault}
+use Rattle.echo_defs.specs.declared.ScheduleFault.TheVariants as faults
 
 -- a process of the roster
 pub record Listed : Type 0 where

@@ -1,4 +1,4 @@
-use crate::rampart;
+use rampart_cli::rampart;
 use rp_base::{Failed, MemSink, MemSource, NoDisk, NoLink, Sink};
 use std::alloc::{AllocError, Global};
 use std::test::Fail;

@@ -2,7 +2,7 @@
 use Rattle.std.specs.Prelude.{◌≡◌, ℕ, Bool, false, not, if◌then◌else◌, List, [], ◌∷◌, ◌++◌, length, map, Option, Some, None, option_map, codes, All, Result, Ok, Err}
 use Rattle.std.specs.List.{flat_map, list_all, range_with_len}
 use Rattle.std.specs.Fmt.{decimal}
-use Rattle.hex.specs.Hex.{encode_lower}
+use Rattle.text_defs.specs.Words.{bytes_word}
 use Rattle.byte_defs.specs.Equality.{same_bytes}
 use Rattle.message_defs.specs.Statements.{Message}
 use Rattle.group_defs.specs.Process.{Process}
@@ -10,9 +10,9 @@ use Rattle.group_defs.specs.Certified.{payload_at}
 use Rattle.group_defs.specs.Due.{window}
 use Rattle.group_defs.specs.Accounts.{bounded}
 use Rattle.group_defs.specs.Family.{Family, ends, accounts, numbers, honest}
-use Rattle.file_defs.specs.declared.ScheduleFault.{ScheduleFault}
-use Rattle.file_defs.specs.Schedules.{Schedule, schedule_of}
-use Rattle.file_defs.specs.Worlds.{World, world_of, family_of}
+use Rattle.echo_defs.specs.declared.ScheduleFault.{ScheduleFault}
+use Rattle.echo_defs.specs.Schedules.{Schedule, schedule_of}
+use Rattle.echo_defs.specs.Worlds.{World, world_of, family_of}
 
 -- ---- one payload for each message
 
@@ -47,11 +47,6 @@ single f = list_all (λ p. list_all (agree_on (messages_heard f.setting.genesis.
 abbrev pub end_line : List ℕ
 end_line = codes "\n"
 
--- a payload in hexadecimal, or `-` where it has no bytes
-abbrev pub payload_word : List ℕ → List ℕ
-payload_word [] = codes "-"
-payload_word (b ∷ bytes) = encode_lower (b ∷ bytes)
-
 -- the event, the process, and what it was
 abbrev pub refused_line : ℕ × ℕ × Bool → List ℕ
 refused_line r = codes "refused " ++ (decimal r.0 ++ (codes " " ++ (decimal r.1 ++ ((if r.2 then codes " submit" else codes " kind") ++ end_line))))
@@ -62,7 +57,7 @@ held_words p m = codes "held " ++ (decimal p ++ (codes " " ++ (decimal m.sender 
 
 -- a message that the process holds
 abbrev pub held_line : Process → Message → List ℕ
-held_line p m = elim (payload_at p.pool m) [ None ↦ [] | Some payload ↦ held_words p.me m ++ (codes " " ++ (payload_word payload ++ end_line)) ]
+held_line p m = elim (payload_at p.pool m) [ None ↦ [] | Some payload ↦ held_words p.me m ++ (codes " " ++ (bytes_word payload ++ end_line)) ]
 
 -- the process, and how many statements it signed
 abbrev pub process_line : Process → List ℕ
