@@ -1,11 +1,11 @@
 ghost use Rattle.std.specs.Prelude.{ℕ, List, IfOk, IsErrOf};
 ghost use Rattle.interop_lines.specs.Lines.{Answers};
 
-use crate::fields::words_of;
-use crate::frames::answer_frames;
-use crate::kits::answer_kits;
-use crate::line_fault::LineFault;
-use crate::signatures::answer_signatures;
+use interop_frames::answer_frames;
+use interop_kits::answer_kits;
+use interop_levels::answer_levels;
+use interop_signatures::answer_signatures;
+use interop_words::{LineFault, words_of};
 use std::alloc::Global;
 
 /// The answer to a line, which is given without its line feed.
@@ -14,6 +14,8 @@ use std::alloc::Global;
 /// |---|---|
 /// | `verify lms KEY BODY SIG` | `true` or `false`: whether this is an LMS signature under the key on the body (RFC 8554, section 5.4.2) |
 /// | `lms H W I SEED Q BODY` | `KEY SIG`: the public key of the tree of typecode H (5 to 7) and one-time typecode W (1 to 4), and its signature on the body with leaf Q (RFC 8554, sections 5.3 and 5.4) |
+/// | `verify hss KEY BODY SIG` | `true` or `false`: whether this is an HSS signature under the key on the body (RFC 8554, section 6.3) |
+/// | `hss L H W I SEED C BODY` | `KEY SIG`: the public key of L levels (1 to 3) of trees of typecode H (5 to 7) and one-time typecode W (1 to 4), and its signature number C on the body (docs/FORMATS.md, «Trees in levels») |
 /// | `frame HEX` | what the bytes say as a frame: the word of their first fault (docs/FORMATS.md, «Frames»), or `bundle` or `proof` and for each claim ` SIGNER STATEMENT SIGNATURE`, or `want VIEW PLACE` |
 /// | `statement HEX` | what the bytes say as a statement: the word of their fault (docs/FORMATS.md, «Statements»), or `ok STATEMENT`, spelled from what was read |
 /// | `kit HEX` | what the bytes say as a kit: `kit HEX`, the kit spelled again from what was read; or its fault (docs/FORMATS.md, «Kits»): `line N`, `repeated N`, `missing N`, or `mismatch N MADE LISTED` with the public key that the secret makes and the one of the key line. N counts lines from 1 |
@@ -26,8 +28,11 @@ pub fn answer(alloc: Global, line: &[u8]) -> Result<Vec<u8>, LineFault>
 {
     let words = words_of(alloc, line)?;
     match answer_signatures(alloc, &words) {
-        Err(LineFault::NoQuestion) => match answer_frames(alloc, &words) {
-            Err(LineFault::NoQuestion) => answer_kits(alloc, &words),
+        Err(LineFault::NoQuestion) => match answer_levels(alloc, &words) {
+            Err(LineFault::NoQuestion) => match answer_frames(alloc, &words) {
+                Err(LineFault::NoQuestion) => answer_kits(alloc, &words),
+                answered => answered,
+            },
             answered => answered,
         },
         answered => answered,

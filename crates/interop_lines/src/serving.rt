@@ -7,9 +7,9 @@ ghost use Rattle.interop_lines.specs.Stops.{line_of, status_of};
 ghost use Rattle.interop_lines.specs.Serving.{AllServed, HasNoQuestion, HasServed, Refused, ServedAndSays, ServedInPart, SomeServed, ended};
 
 use crate::answers::answer;
-use crate::line_fault::LineFault;
 use crate::line_reader::{read_on, take_line};
 use crate::stops::Stop;
+use interop_words::LineFault;
 use rp_base::{Sink, Source};
 use rp_streams::write_all;
 use std::alloc::Global;

@@ -1,5 +1,5 @@
 use Rattle.std.proofs.Common.{Err, ap}
-use Rattle.interop_lines.specs.declared.line_fault.LineFault.{LineFault}
+use Rattle.interop_words.specs.declared.line_fault.LineFault.{LineFault}
 use Rattle.interop_lines.proofs.serving.answer_line.Goals as goal
 
 pub returns-in-Err-NoQuestion-clause-refused : goal.returns-in-Err-NoQuestion-clause-refused

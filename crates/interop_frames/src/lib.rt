@@ -1,0 +1,6 @@
+//! Questions on frames and statements: what bytes say.
+#![tactic(auto)]
+
+mod frames;
+
+pub use frames::answer_frames;

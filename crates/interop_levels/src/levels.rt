@@ -1,0 +1,198 @@
+ghost use Rattle.std.specs.Prelude.{◌≡◌, ◌<◌, ℕ, List, [], ◌∷◌, map, IfOk, IsErrOf, codes};
+ghost use Rattle.lms_hss.specs.Key.{public_of, signature_of, total_of};
+ghost use Rattle.interop_levels.specs.Levels.{Answers, AskedBy, IsMade, Signing as Asked, signed};
+ghost use Rattle.interop_levels.specs.Views.{IsReady, signing};
+
+use interop_signatures::{read_ots, verdict};
+use interop_words::{LineFault, read_array, read_bytes, read_number};
+use lms_hss::{HssKey, KeyFault, OtsType, hss_verify};
+use rp_base::{NoMemory, Signer, Spent, Tally};
+use std::alloc::{AllocError, Global};
+use text_codec::push_hex;
+
+/// A key of trees in levels, the number of a signature, and what is signed.
+#[derive(Drop)]
+pub(crate) struct Signing {
+    levels: u32,
+    typecode: u32,
+    ots: OtsType,
+    id: [u8; 16],
+    seed: [u8; 32],
+    number: u32,
+    body: Vec<u8>,
+}
+
+fn read_signing(
+    alloc: Global,
+    levels: &[u8],
+    typecode: &[u8],
+    ots: &[u8],
+    id: &[u8],
+    seed: &[u8],
+    number: &[u8],
+    body: &[u8],
+) -> Result<Signing, LineFault>
+    ensures read { IfOk result (λ asked.
+        AskedBy levels.now typecode.now ots.now id.now seed.now number.now body.now (signing asked)) }
+    ensures none { IsErrOf result LineFault.NoQuestion
+        → (asked : Asked) → ¬ AskedBy levels.now typecode.now ots.now id.now seed.now number.now body.now asked }
+{
+    Ok(Signing {
+        levels: read_number(levels, 1, 3)?,
+        typecode: read_number(typecode, 5, 7)?,
+        ots: read_ots(ots)?,
+        id: read_array(id)?,
+        seed: read_array(seed)?,
+        number: read_number(number, 0, u32::MAX)?,
+        body: read_bytes(alloc, body)?,
+    })
+}
+
+/// The asked key, whose next signature is that of the asked number. `NoQuestion` comes exactly where no such key is made,
+/// or it has no signature of that number.
+fn key_at(alloc: Global, asked: &Signing) -> Result<HssKey, LineFault>
+    ensures ready { IfOk result (IsReady (signing asked.now)) }
+    ensures none { IsErrOf result LineFault.NoQuestion → ¬ IsMade (signing asked.now) }
+{
+    let mut key = match HssKey::make(
+        alloc,
+        asked.levels,
+        asked.typecode,
+        asked.ots,
+        asked.id,
+        asked.seed,
+    ) {
+        Ok(key) => key,
+        Err(KeyFault::NoMemory) => return Err(LineFault::NoMemory),
+        Err(_) => return Err(LineFault::NoQuestion),
+    };
+    if asked.number >= key.total() {
+        return Err(LineFault::NoQuestion);
+    }
+    key.skip_to(asked.number);
+    Ok(key)
+}
+
+/// The next signature of a key that is not spent.
+fn next_signature(alloc: Global, key: &mut HssKey, body: &[u8]) -> Result<Vec<u8>, AllocError>
+    requires { key.old.used < total_of key.old }
+    ensures made { IfOk result (λ sig. sig.items ≡ signature_of key.old key.old.used body.now) }
+    ensures key { public_of key.new ≡ public_of key.old }
+{
+    let mut sig = vec![in alloc; 0u8; key.sig_len()]?;
+    match key.sign(body, &mut sig) {
+        Ok(length) => {
+            sig.truncate(length);
+            Ok(sig)
+        }
+        Err(Spent) => unreachable!(),
+    }
+}
+
+/// The public key, and the next signature on the asked body.
+fn tell(alloc: Global, key: &mut HssKey, asked: &Signing) -> Result<Vec<u8>, NoMemory>
+    requires { IsReady (signing asked.now) key.old }
+    ensures { IfOk result (λ told. told.items ≡ signed (signing asked.now)) }
+{
+    let sig = next_signature(alloc, key, &asked.body)?;
+    let mut told = Vec::new(alloc);
+    push_hex(&mut told, key.public())?;
+    told.push(b' ')?;
+    push_hex(&mut told, &sig)?;
+    Ok(told)
+}
+
+fn make_and_sign(alloc: Global, asked: &Signing) -> Result<Vec<u8>, LineFault>
+    ensures made { IfOk result (λ told. IsMade (signing asked.now) × (told.items ≡ signed (signing asked.now))) }
+    ensures none { IsErrOf result LineFault.NoQuestion → ¬ IsMade (signing asked.now) }
+{
+    let mut key = key_at(alloc, asked)?;
+    Ok(tell(alloc, &mut key, asked)?)
+}
+
+fn answer_verify(
+    alloc: Global,
+    scheme: &[u8],
+    key: &[u8],
+    body: &[u8],
+    sig: &[u8],
+) -> Result<Vec<u8>, LineFault>
+    ensures answers { IfOk result (λ told.
+        Answers (codes "verify" ∷ scheme.now ∷ key.now ∷ body.now ∷ sig.now ∷ []) told.items) }
+    ensures no_question { IsErrOf result LineFault.NoQuestion
+        → (told : List ℕ) → ¬ Answers (codes "verify" ∷ scheme.now ∷ key.now ∷ body.now ∷ sig.now ∷ []) told }
+{
+    if scheme != b"hss".as_slice() {
+        return Err(LineFault::NoQuestion);
+    }
+    let key = read_bytes(alloc, key)?;
+    let body = read_bytes(alloc, body)?;
+    let sig = read_bytes(alloc, sig)?;
+    let valid = hss_verify(&key, &body, &sig);
+    Ok(verdict(valid).to_vec(alloc)?)
+}
+
+fn answer_sign(
+    alloc: Global,
+    levels: &[u8],
+    typecode: &[u8],
+    ots: &[u8],
+    id: &[u8],
+    seed: &[u8],
+    number: &[u8],
+    body: &[u8],
+) -> Result<Vec<u8>, LineFault>
+    ensures answers { IfOk result (λ told. Answers
+        (codes "hss" ∷ levels.now ∷ typecode.now ∷ ots.now ∷ id.now ∷ seed.now ∷ number.now ∷ body.now ∷ []) told.items) }
+    ensures no_question { IsErrOf result LineFault.NoQuestion → (told : List ℕ) → ¬ Answers
+        (codes "hss" ∷ levels.now ∷ typecode.now ∷ ots.now ∷ id.now ∷ seed.now ∷ number.now ∷ body.now ∷ []) told }
+{
+    let asked = read_signing(alloc, levels, typecode, ots, id, seed, number, body)?;
+    make_and_sign(alloc, &asked)
+}
+
+/// The answer to a question that begins with `verify`, by the words behind it.
+fn verify(alloc: Global, words: &[&[u8]]) -> Result<Vec<u8>, LineFault>
+    ensures answers { IfOk result (λ told. Answers (codes "verify" ∷ map (λ word. word.now) words.now) told.items) }
+    ensures no_question { IsErrOf result LineFault.NoQuestion
+        → (told : List ℕ) → ¬ Answers (codes "verify" ∷ map (λ word. word.now) words.now) told }
+{
+    if words.len() == 4 {
+        answer_verify(alloc, words[0], words[1], words[2], words[3])
+    } else {
+        Err(LineFault::NoQuestion)
+    }
+}
+
+/// The answer to a question that begins with `hss`, by the words behind it.
+fn sign(alloc: Global, words: &[&[u8]]) -> Result<Vec<u8>, LineFault>
+    ensures answers { IfOk result (λ told. Answers (codes "hss" ∷ map (λ word. word.now) words.now) told.items) }
+    ensures no_question { IsErrOf result LineFault.NoQuestion
+        → (told : List ℕ) → ¬ Answers (codes "hss" ∷ map (λ word. word.now) words.now) told }
+{
+    if words.len() == 7 {
+        answer_sign(
+            alloc, words[0], words[1], words[2], words[3], words[4], words[5], words[6],
+        )
+    } else {
+        Err(LineFault::NoQuestion)
+    }
+}
+
+/// The answer to a question on signatures of trees in levels, by the words of a line.
+pub fn answer_levels(alloc: Global, words: &[&[u8]]) -> Result<Vec<u8>, LineFault>
+    ensures answers { IfOk result (λ told. Answers (map (λ word. word.now) words.now) told.items) }
+    ensures no_question { IsErrOf result LineFault.NoQuestion
+        → (told : List ℕ) → ¬ Answers (map (λ word. word.now) words.now) told }
+{
+    let Some((verb, words)) = words.split_first() else {
+        return Err(LineFault::NoQuestion);
+    };
+    if *verb == b"verify".as_slice() {
+        verify(alloc, words)
+    } else if *verb == b"hss".as_slice() {
+        sign(alloc, words)
+    } else {
+        Err(LineFault::NoQuestion)
+    }
+}

@@ -1,5 +1,0 @@
-use Rattle.interop_lines.proofs.KitLaws.{fault_told}
-use Rattle.interop_lines.proofs.kits.answer_kit.Goals as goal
-
-pub returns-in-Err : goal.returns-in-Err
-returns-in-Err c = fault_told _ _ c.fault_words.result c.in-Err.ensures.exact c.fault_words.ensures

@@ -1,0 +1,5 @@
+//! Lines that are answered, and runs that stop.
+#![tactic(auto)]
+
+#[cfg(test)]
+mod tests;

@@ -1,0 +1,110 @@
+use interop_lines::interop;
+use rp_base::{MemSink, MemSource, NoMemory};
+use std::alloc::{AllocError, Global};
+use std::test::Fail;
+use text_codec::push_hex;
+
+/// The status, and what was written, where these calls of the source and the sink fail.
+fn run(
+    alloc: Global,
+    input: &[u8],
+    reads: &[u64],
+    writes: &[u64],
+) -> Result<(u8, MemSink), AllocError> {
+    let mut source = MemSource::new(input.to_vec(alloc)?, reads.to_vec(alloc)?);
+    let mut sink = MemSink::new(alloc, writes.to_vec(alloc)?);
+    let status = interop(alloc, &mut source, &mut sink);
+    Ok((status, sink))
+}
+
+#[test]
+fn each_line_is_answered_until_one_is_no_question(rt: HostRuntime) -> Result<(), Fail> {
+    for (input, output, ends) in [
+        (b"".as_slice(), b"".as_slice(), 0),
+        (b"verify lms - 00 ff\n", b"false\n", 0),
+        (b"verify lms - 00 ff\n\n", b"false\nstop 7 line 2\n", 7),
+        (b"verify lms - 00 fF\n", b"stop 7 line 1\n", 7),
+        (b"verify lms - - -", b"stop 7 line 1\n", 7),
+    ] {
+        let (status, sink) = run(rt.alloc(), input, &[], &[])?;
+        assert_eq!(rt; sink.bytes(), output);
+        assert_eq!(rt; status, ends);
+    }
+    Ok(())
+}
+
+/// The first read gives the whole input, and the second one fails.
+#[test]
+fn a_read_that_fails_is_no_end(rt: HostRuntime) -> Result<(), Fail> {
+    let (status, sink) = run(rt.alloc(), b"verify lms - - -\n", &[1], &[])?;
+    assert_eq!(rt; sink.bytes(), b"false\nstop 3 read\n".as_slice());
+    assert_eq!(rt; status, 3);
+    Ok(())
+}
+
+#[test]
+fn a_write_that_fails_stops(rt: HostRuntime) -> Result<(), Fail> {
+    let (status, sink) = run(rt.alloc(), b"verify lms - - -\n", &[], &[0])?;
+    assert_eq!(rt; sink.bytes(), b"".as_slice());
+    assert_eq!(rt; status, 4);
+    Ok(())
+}
+
+// What another program, in Python, makes for one process with a plain key for 7 signatures and the seed 00 01 02 .. 1f.
+const KIT: &[u8] = b"rampart kit 1
+scheme plain
+group 8303ca4d81d97afed6931bd5391d7eb0
+key 0 3427359e9e727deb642976176fede3de0e5cb7af24fca3d2ddec8c3c5663fe09
+genesis 0
+port 0 47000
+host 0 plain 7
+";
+
+// The last digit of the key is not the one that the secret makes.
+const OF_ANOTHER_KEY: &[u8] = b"rampart kit 1
+scheme lms
+group 00000000000000000000000000000000
+key 0 0000000500000004000102030405060708090a0b0c0d0e0ff7d19985ac511431ccfb6634ef73b23ca9d9d4c7fac81d6a428ca5ab3454f83a
+genesis 0
+port 0 1
+host 0 lms 5 4 000102030405060708090a0b0c0d0e0f 202122232425262728292a2b2c2d2e2f303132333435363738393a3b3c3d3e3f
+";
+
+// The line that asks what the text says as a kit.
+fn kit_line(alloc: Global, text: &[u8]) -> Result<Vec<u8>, NoMemory> {
+    let mut line = b"kit ".to_vec(alloc)?;
+    push_hex(&mut line, text)?;
+    line.push(b'\n')?;
+    Ok(line)
+}
+
+// A kit is its own answer.
+#[test]
+fn a_kit_is_spelled_again(rt: HostRuntime) -> Result<(), Fail> {
+    let line = kit_line(rt.alloc(), KIT)?;
+    let (status, sink) = run(rt.alloc(), &line, &[], &[])?;
+    assert_eq!(rt; sink.bytes(), line.as_slice());
+    assert_eq!(rt; status, 0);
+    Ok(())
+}
+
+// Faults are those that the other program tells.
+#[test]
+fn faults_of_kits_are_told(rt: HostRuntime) -> Result<(), Fail> {
+    for (text, told) in [
+        (b"\n".as_slice(), b"line 1\n".as_slice()),
+        (b"rampart kit 1\nscheme plain", b"line 2\n"),
+        (b"rampart kit 1\nscheme plain\n", b"missing 3\n"),
+        (b"rampart kit 1\nrampart kit 1\n", b"repeated 2\n"),
+        (
+            OF_ANOTHER_KEY,
+            b"mismatch 7 0000000500000004000102030405060708090a0b0c0d0e0ff7d19985ac511431ccfb6634ef73b23ca9d9d4c7fac81d6a428ca5ab3454f83b 0000000500000004000102030405060708090a0b0c0d0e0ff7d19985ac511431ccfb6634ef73b23ca9d9d4c7fac81d6a428ca5ab3454f83a\n",
+        ),
+    ] {
+        let line = kit_line(rt.alloc(), text)?;
+        let (status, sink) = run(rt.alloc(), &line, &[], &[])?;
+        assert_eq!(rt; sink.bytes(), told);
+        assert_eq!(rt; status, 0);
+    }
+    Ok(())
+}

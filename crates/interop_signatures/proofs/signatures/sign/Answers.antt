@@ -1,0 +1,15 @@
+use Rattle.std.proofs.Common.{ℕ, sym, List, ◌∷◌, subst, Bor, IfOk}
+use Rattle.std.specs.Prelude.{codes}
+use Rattle.interop_signatures.specs.Signatures.{Answers}
+use Rattle.interop_signatures.proofs.SignatureLaws.{six}
+use Rattle.interop_signatures.proofs.signatures.sign.Goals as goal
+
+pub returns-then-words-eq6-clause-answers : goal.returns-then-words-eq6-clause-answers
+returns-then-words-eq6-clause-answers c =
+    let words = six (λ (w : Bor (List ℕ)). w.now) c.args.words.now _ c.if-words-eq6.true in
+    subst (λ (ws : List (List ℕ)). IfOk c.answer_sign.result (λ told. Answers (codes "lms" ∷ ws) told.items)) (sym words) c.answer_sign.ensures.answers
+
+pub returns-then-words-eq6-clause-no_question : goal.returns-then-words-eq6-clause-no_question
+returns-then-words-eq6-clause-no_question c = λ e told a.
+    let words = six (λ (w : Bor (List ℕ)). w.now) c.args.words.now _ c.if-words-eq6.true in
+    c.answer_sign.ensures.no_question e told (subst (λ (ws : List (List ℕ)). Answers (codes "lms" ∷ ws) told) words a)
