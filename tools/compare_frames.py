@@ -4,9 +4,10 @@
     python3 tools/compare_frames.py NUMBER COUNT FOLDER
 
 FOLDER has the other implementation, in Python: frames.py with `read_frame`, statements.py with `read_statement` and
-`spell`, whose faults have the words of docs/FORMATS.md. COUNT frames and statements are handed to both: the fixed ones
-(one of each kind with every cut and every bit turned, hostile ones, and those at a limit), and others that are drawn
-from NUMBER or made of drawn ones by small changes. Ours are the answers of the program `interop`. Each difference is
+`spell`, whose faults have the words of docs/FORMATS.md, and which read the kinds 12 to 14 where they are told
+`batches=True`. COUNT frames and statements are handed to both: the fixed ones (one of each kind with every cut and every
+bit turned, batches of each count from 0 to 18, hostile ones, and those at a limit), and others that are drawn from
+NUMBER or made of drawn ones by small changes. Ours are the answers of the program `interop`. Each difference is
 printed, and at the end how often each answer came. The status is 1 where anything differs.
 """
 
@@ -17,8 +18,9 @@ from interop import build, compare, word
 from schedules import BUNDLE, PROOF, WANT, frame_of_groups, u8, u16
 
 REMOVE, ADD, RENEW = 1, 2, 3
-INIT, ECHO, ORDER, PLACE, KEEP, NOTIFY, END, LAST, SUGGEST, ACK, READY = range(1, 12)
-IN_PROOF = [ECHO, PLACE, KEEP, READY]
+# the last three of several messages
+INIT, ECHO, ORDER, PLACE, KEEP, NOTIFY, END, LAST, SUGGEST, ACK, READY, ORDERS, PLACES, KEEPS = KINDS = range(1, 15)
+IN_PROOF = [ECHO, PLACE, KEEP, READY, PLACES, KEEPS]
 
 
 # ---- the other implementation
@@ -26,7 +28,7 @@ IN_PROOF = [ECHO, PLACE, KEEP, READY]
 
 def their_frame(frames, statements, data):
     try:
-        head, claims = frames.read_frame(data)
+        head, claims = frames.read_frame(data, batches=True)
     except statements.FrameFault as fault:
         return fault.word
     if head[0] == WANT:
@@ -39,7 +41,7 @@ def their_frame(frames, statements, data):
 
 def their_statement(statements, data):
     try:
-        return "ok " + word(statements.spell(statements.read_statement(data)))
+        return "ok " + word(statements.spell(statements.read_statement(data, batches=True)))
     except statements.FrameFault as fault:
         return fault.word
 
@@ -76,6 +78,16 @@ class Drawing:
         told = size + self.draw.choice([1, -1]) if self.draw.random() < 0.01 else size
         return u16(max(told, 0)) + self.draw.randbytes(size)
 
+    def message(self):
+        return u8(self.number(63, 255)) + u16(self.number(1023, 65535))
+
+    def batch(self):
+        count = self.draw.choice([2, 2, 3, 15, 16, self.draw.randint(2, 16)])
+        if self.draw.random() < 0.05:
+            count = self.draw.choice([0, 1, 17, 18])
+        told = count + self.draw.choice([1, -1, 2]) if self.draw.random() < 0.03 else count
+        return u8(max(told, 0)) + b"".join(self.message() for _ in range(count))
+
     def report(self, rank):
         if self.draw.random() < 0.4:
             return u8(0)
@@ -88,9 +100,11 @@ class Drawing:
         if kind == INIT:
             return out + u16(self.number(1023, 65535)) + self.payload()
         if kind == ECHO:
-            return out + u8(self.number(63, 255)) + u16(self.number(1023, 65535)) + self.payload()
+            return out + self.message() + self.payload()
         if kind in (ORDER, PLACE, KEEP):
-            return out + u16(self.number(1023, 65535)) + u8(self.number(63, 255)) + u16(self.number(1023, 65535))
+            return out + u16(self.number(1023, 65535)) + self.message()
+        if kind in (ORDERS, PLACES, KEEPS):
+            return out + u16(self.number(1023, 65535)) + self.batch()
         if kind == NOTIFY:
             return out + self.update()
         if kind == END:
@@ -108,7 +122,7 @@ class Drawing:
         return [(p, self.draw.randbytes(self.draw.choice([0, 1, 2, 32]))) for p in signers]
 
     def group(self, kind):
-        kinds = IN_PROOF if kind == PROOF and self.draw.random() < 0.97 else range(1, 12)
+        kinds = IN_PROOF if kind == PROOF and self.draw.random() < 0.97 else KINDS
         return self.statement(self.draw.choice(list(kinds))), self.signatures()
 
     def frame(self):
@@ -137,11 +151,17 @@ class Drawing:
         return bytes(out)
 
     def question(self):
-        verb, data = ("statement", self.statement(self.draw.randint(1, 11))) if self.draw.random() < 0.4 else ("frame", self.frame())
+        verb, data = ("frame", self.frame()) if self.draw.random() < 0.6 else ("statement", self.statement(self.draw.choice(KINDS)))
         return verb, self.changed(data) if self.draw.random() < 0.4 else data
 
 
 # ---- what is fixed
+
+
+def placed(kind, count):
+    """An Order, a Place or a Keep of so many messages, the first and the last process's in turn."""
+    return u8(kind) + u16(1) + u16(2) + u8(count) + b"".join(u8(63 * (at % 2)) + u16(at) for at in range(count))
+
 
 STATEMENTS = [
     u8(INIT) + u16(0) + u16(0) + u16(2) + b"hi",
@@ -156,6 +176,9 @@ STATEMENTS = [
     u8(SUGGEST) + u16(9) + u8(15) + u8(REMOVE) + u8(7) + u16(1024),
     u8(ACK) + u16(9) + u8(0) + u8(RENEW) + u8(0) + u16(0),
     u8(READY) + u16(1023) + u8(1) + u8(ADD) + u8(0) + u16(5),
+    placed(ORDERS, 2),
+    placed(PLACES, 3),
+    placed(KEEPS, 16),
 ]
 
 FRAMES = [
@@ -198,7 +221,16 @@ def each_way(data):
         yield bytes(turned)
 
 
+def of_each_count():
+    for kind in (ORDERS, PLACES, KEEPS):
+        for count in range(19):
+            statement = placed(kind, count)
+            yield "statement", statement
+            yield from (("frame", frame_of_groups([(statement, [(7, b"\x01")])], carrier)) for carrier in (BUNDLE, PROOF))
+
+
 def fixed():
+    yield from of_each_count()
     for statement in STATEMENTS:
         yield from (("statement", data) for data in each_way(statement))
         for kind in (BUNDLE, PROOF):

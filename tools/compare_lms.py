@@ -126,7 +126,7 @@ def no_questions():
     of = "lms %s %s %s %s %s %s"
     names, seed = ID.hex(), SEED.hex()
     yield from ("", " ", "verify", "verify lms", "verify lms - -", "verify lms - - - -", "verify lms  - -", "verify lms - - ")
-    yield from ("verify hss - - -", "Verify lms - - -", "verify lms - - - ", " verify lms - - -", "verify lms 0 - -")
+    yield from ("verify xmss - - -", "Verify lms - - -", "verify lms - - - ", " verify lms - - -", "verify lms 0 - -")
     yield from ("verify lms 0A - -", "verify lms 0g - -", "verify lms -- - -", "verify lms - - -\r", "frames -", "lms")
     for height in ("4", "8", "05", "+5", "5.", "", "-"):
         yield of % (height, 4, names, seed, 0, "-")

@@ -1,0 +1,269 @@
+#!/usr/bin/env python3
+"""Draws the pictures of docs/pictures, each a self-contained SVG that is readable on white and on dark.
+
+    python3 tools/pictures.py            writes them all
+    python3 tools/pictures.py crates     writes this one
+
+`crates` is drawn from crates.txt, so draw it again when a crate comes or goes. The others are drawn from the text below.
+"""
+import html
+import pathlib
+import sys
+
+TOP = pathlib.Path(__file__).resolve().parent.parent
+FOLDER = TOP / "docs" / "pictures"
+
+STYLE = """
+svg { background: #ffffff; }
+text { font: 13px 'DejaVu Sans', Verdana, sans-serif; fill: #1f2328; }
+.small { font-size: 11px; fill: #59636e; }
+.mono { font: 12px 'DejaVu Sans Mono', Menlo, monospace; }
+.title { font-weight: bold; }
+.box { fill: #eef4fb; stroke: #4a78a8; stroke-width: 1.2; }
+.quorum { fill: #eaf6ec; stroke: #3f8a55; stroke-width: 1.2; }
+.end { fill: #fdf3e3; stroke: #b07a1e; stroke-width: 1.2; }
+.stop { fill: #fbecec; stroke: #b04a4a; stroke-width: 1.2; }
+.plain { fill: none; stroke: #8c959f; stroke-width: 1; }
+.line { fill: none; stroke: #59636e; stroke-width: 1.3; }
+.thin { fill: none; stroke: #8c959f; stroke-width: 0.9; }
+.dash { fill: none; stroke: #59636e; stroke-width: 1.3; stroke-dasharray: 5 4; }
+.head { fill: #59636e; stroke: none; }
+@media (prefers-color-scheme: dark) {
+svg { background: #0d1117; }
+text { fill: #e6edf3; }
+.small { fill: #9198a1; }
+.box { fill: #14273d; stroke: #6ea3d8; }
+.quorum { fill: #12301c; stroke: #63b27c; }
+.end { fill: #38290f; stroke: #d6a04a; }
+.stop { fill: #3b1818; stroke: #d87373; }
+.line, .dash { stroke: #9198a1; }
+.thin { stroke: #6e7681; }
+.head { fill: #9198a1; }
+}
+"""
+
+
+class Picture:
+    """Boxes, arrows and words at places of a page, in pixels from the upper left."""
+
+    def __init__(self, width, height, about):
+        self.width, self.height, self.about, self.parts = width, height, about, []
+
+    def text(self, x, y, words, kind="", anchor="middle"):
+        self.parts.append(f'<text x="{x}" y="{y}" class="{kind}" text-anchor="{anchor}">{html.escape(words)}</text>')
+
+    def box(self, x, y, width, height, lines, kind="box"):
+        """A box whose first line is its name, the others small."""
+        self.parts.append(f'<rect x="{x}" y="{y}" width="{width}" height="{height}" rx="5" class="{kind}"/>')
+        top = y + height / 2 - 8 * (len(lines) - 1) + 4
+        for i, words in enumerate(lines):
+            self.text(x + width / 2, top + 16 * i, words, "title" if i == 0 else "small")
+
+    def arrow(self, points, words=None, at=None, kind="line", anchor="middle"):
+        """An arrow along the points, with words at a place of their own."""
+        path = "M" + " L".join(f"{x} {y}" for x, y in points)
+        self.parts.append(f'<path d="{path}" class="{kind}" marker-end="url(#head)"/>')
+        if words:
+            for i, line in enumerate(words.split("\n")):
+                self.text(at[0], at[1] + 13 * i, line, "small", anchor)
+
+    def line(self, points, kind="thin"):
+        self.parts.append('<path d="M' + " L".join(f"{x} {y}" for x, y in points) + f'" class="{kind}"/>')
+
+    def write(self, name):
+        marker = '<marker id="head" viewBox="0 0 10 10" refX="9" refY="5" markerWidth="7" markerHeight="7" orient="auto-start-reverse"><path d="M0 0 L10 5 L0 10 z" class="head"/></marker>'
+        FOLDER.mkdir(parents=True, exist_ok=True)
+        (FOLDER / f"{name}.svg").write_text(
+            f'<svg xmlns="http://www.w3.org/2000/svg" viewBox="0 0 {self.width} {self.height}" width="{self.width}" height="{self.height}" role="img">'
+            f"<title>{html.escape(self.about)}</title><style>{STYLE}</style><defs>{marker}</defs>" + "\n".join(self.parts) + "</svg>\n"
+        )
+
+
+def view():
+    """The life of a view: messages get places, then the view ends, with the deputy's branch below."""
+    p = Picture(1060, 560, "The life of a view, from Init to the next view")
+    wide, high, gap = 144, 62, 32
+    xs = [20 + i * (wide + gap) for i in range(6)]
+
+    p.text(20, 26, "While the view is open", "title", "start")
+    steps = [
+        ("Init", "the sender", "box"),
+        ("Echo", "every member", "quorum"),
+        ("Order", "the manager", "box"),
+        ("Place", "every member", "quorum"),
+        ("Keep", "every member", "quorum"),
+        ("deliver", "place by place", "box"),
+    ]
+    for x, (name, who, kind) in zip(xs, steps):
+        p.box(x, 44, wide, high, [name, who], kind)
+    for a, b in zip(xs, xs[1:]):
+        p.arrow([(a + wide, 75), (b, 75)])
+    for i, words in [(1, "Q Echoes of one payload:\nthe message is certified"), (3, "Q Places of one batch:\nthe place is certified"), (4, "Q Keeps: the place\nis kept")]:
+        for j, line in enumerate(words.split("\n")):
+            p.text(xs[i] + wide / 2, 124 + 14 * j, line, "small")
+
+    p.text(20, 190, "Once f + 1 members notify one update u", "title", "start")
+    y = 208
+    ending = [
+        ("Notify", "who was asked", "end"),
+        ("End", "says the placed length", "quorum"),
+        ("Suggest", "the manager, rank 0", "box"),
+        ("Ack", "(u, K) is justified", "quorum"),
+        ("Ready", "of a certified Ack", "quorum"),
+        ("decide (u, K)", "first certified Ready", "box"),
+    ]
+    for x, (name, who, kind) in zip(xs, ending):
+        p.box(x, y, wide, high, [name, who], kind)
+    for a, b in zip(xs, xs[1:]):
+        p.arrow([(a + wide, y + 31), (b, y + 31)])
+    for i, words in [(0, "f + 1 of them: one\nis correct"), (1, "Q Ends of at most K, one of K:\nthe value (u, K) is free"), (4, "Q: the commit certificate")]:
+        for j, line in enumerate(words.split("\n")):
+            p.text(xs[i] + wide / 2, y + high + 18 + 14 * j, line, "small")
+
+    p.box(xs[5], 318, wide, 54, ["deliver up to K", "never more"], "box")
+    p.arrow([(xs[5] + wide / 2, y + high), (xs[5] + wide / 2, 318)])
+    p.box(xs[5], 402, wide, 54, ["next view", "number x + 1"], "end")
+    p.arrow([(xs[5] + wide / 2, 372), (xs[5] + wide / 2, 402)])
+
+    p.text(20, 340, "Where the manager, and each deputy before rank r, is to be removed", "title", "start")
+    y = 402
+    p.box(xs[0], y, wide, high, ["Notify", "removals below rank r"], "end")
+    p.box(xs[1], y, wide, high, ["Last at r", "own Ready, or none"], "quorum")
+    p.box(xs[2], y, wide, high, ["Suggest at r", "the deputy of rank r"], "box")
+    p.arrow([(xs[0] + wide, y + 31), (xs[1], y + 31)])
+    p.arrow([(xs[1] + wide, y + 31), (xs[2], y + 31)])
+    p.arrow([(xs[2] + wide, y + 31), (xs[3] + wide / 2, y + 31), (xs[3] + wide / 2, 270)], "Ack and Ready at rank r", (xs[3] + wide / 2, y + 48))
+    for i, words in [(0, "f + 1 of each"), (1, "Q Lasts at r")]:
+        p.text(xs[i] + wide / 2, y + high + 18, words, "small")
+    p.text(20, 512, "What the deputy suggests: some Last of a rank r0 < r reports a Ready of (u, K), Q Lasts report nothing of a greater rank, and Ack (r0, (u, K)) is certified: this value.", "small", "start")
+    p.text(20, 528, "Else, where Q Lasts at r report nothing at all: a free value. Members acknowledge neither without checking the same, so no deputy is trusted.", "small", "start")
+    p.text(20, 548, "Green: a quorum, Q = n - f, makes a certificate of it. n members, of whom at most f = (n - 1) / 3, rounded down, lie.", "small", "start")
+    p.write("view")
+
+
+def phases():
+    """The phases of one process in one view."""
+    p = Picture(890, 330, "The phases of a process in a view")
+    p.box(10, 60, 190, 62, ["Observing", "no member of the view"], "box")
+    p.box(10, 200, 190, 62, ["OpenView", "echoes, orders, places, keeps"], "quorum")
+    p.box(310, 200, 150, 62, ["ClosingView", "the own End is signed"], "end")
+    p.box(510, 130, 150, 62, ["DecidedView", "update u and cut K"], "box")
+    p.box(740, 40, 130, 62, ["next view", "Open or Observing"], "quorum")
+    p.box(740, 220, 130, 62, ["HaltedView", "for good"], "stop")
+    p.arrow([(200, 231), (310, 231)], "close: f + 1\nnotify an update", (254, 208))
+    p.arrow([(200, 91), (510, 146)], "decide: a Ready is certified,\nits update possible", (330, 80), anchor="start")
+    p.arrow([(460, 222), (510, 184)], "decide", (502, 218))
+    p.arrow([(105, 200), (105, 162), (510, 162)], "decide", (300, 156))
+    p.arrow([(660, 146), (740, 80)], "K places delivered,\nor no member", (668, 76))
+    p.arrow([(660, 178), (740, 240)], "more than K\ndelivered", (672, 228))
+    p.arrow([(565, 192), (565, 250), (605, 250), (605, 192)], "fewer than K: it waits, and signs nothing", (585, 268))
+    p.text(30, 312, "Where at most f of the n members of each view lie, no process comes to HaltedView: a law, not a hope.", "small", "start")
+    p.write("phases")
+
+
+def read_crates():
+    """The crates of crates.txt, each with those below it."""
+    crates = {}
+    for line in (TOP / "crates.txt").read_text().splitlines():
+        line = line.split("#")[0].strip()
+        if line:
+            name, _, below = line.partition(":")
+            crates[name.split()[0]] = below.split()
+    return {name: [b for b in below if b in crates] for name, below in crates.items()}
+
+
+def reduced(crates):
+    """Without the edges that others imply."""
+    reach = {}
+
+    def below(name):
+        if name not in reach:
+            reach[name] = set(crates[name]).union(*[below(b) for b in crates[name]])
+        return reach[name]
+
+    for name in crates:
+        below(name)
+    return {name: [b for b in bs if not any(b in reach[c] for c in bs if c != b)] for name, bs in crates.items()}
+
+
+def crates_picture():
+    """The crates in layers: each stands above those that it uses; edges that others imply are left out."""
+    crates = {name: below for name, below in read_crates().items() if not name.endswith("_tests")}
+    edges = reduced(crates)
+    depth = {}
+
+    def level(name):
+        if name not in depth:
+            depth[name] = 1 + max((level(b) for b in edges[name]), default=-1)
+        return depth[name]
+
+    for name in crates:
+        level(name)
+    layers = [[n for n in crates if depth[n] == d] for d in range(max(depth.values()) + 1)]
+    place = {}
+    for layer in layers:
+        layer.sort(key=lambda n: (sum(place[b] for b in edges[n]) / len(edges[n]) if edges[n] else 0, n))
+        for i, name in enumerate(layer):
+            place[name] = (i + 0.5) / len(layer)
+    wide, high, across = 112, 30, max(len(layer) for layer in layers)
+    width, height = max(across * (wide + 14) + 40, 700), len(layers) * 78 + 50
+    p = Picture(width, height, "The crates and what stands on what")
+    at = {}
+    for d, layer in enumerate(layers):
+        for i, name in enumerate(layer):
+            at[name] = (width * (i + 0.5) / len(layer), height - 60 - 78 * d)
+    for name, below in edges.items():
+        for b in below:
+            (x, y), (u, v) = at[name], at[b]
+            p.line([(x, y + high), (u, v)])
+    for name, (x, y) in at.items():
+        kind = "quorum" if name.endswith("_defs") else "end" if name.endswith(("_laws", "_rows")) else "box"
+        p.parts.append(f'<rect x="{x - wide / 2}" y="{y}" width="{wide}" height="{high}" rx="5" class="{kind}"/>')
+        p.text(x, y + 19, name)
+    p.text(20, height - 10, "Green: definitions. Yellow: laws and rows about them. Blue: code. A crate uses those that its lines lead down to. Crates of tests are left out.", "small", "start")
+    p.write("crates")
+
+
+SCHEDULE = [
+    ("52505331", "magic, the letters RPS1"),
+    ("00", "scheme: plain signatures"),
+    ("00000000000000000000000000000000", "the group's name"),
+    ("01", "one process:"),
+    ("00 00", "  number 0, correct"),
+    ("00000000 .. 00000000", "  its key, 32 bytes"),
+    ("000186a0", "  signs 100,000 statements"),
+    ("01", "a first view of one member:"),
+    ("00", "  process 0"),
+    ("01 00 0002 6869", "Submit at 0: two bytes, hi"),
+]
+
+
+def schedule():
+    """A small schedule, byte by byte, beside its report."""
+    report = (TOP / "docs" / "pictures" / "one_member.report").read_text().splitlines()
+    p = Picture(860, 300, "A schedule of one event, byte by byte, and its report")
+    p.text(20, 28, "the schedule's bytes", "title", "start")
+    p.text(585, 28, "its report", "title", "start")
+    for i, (field, meaning) in enumerate(SCHEDULE):
+        y = 56 + 22 * i
+        p.text(20, y, field, "mono", "start")
+        p.text(290, y, meaning, "small", "start")
+    for i, line in enumerate(report):
+        p.text(600, 56 + 22 * i, line, "mono", "start")
+    p.parts.append('<rect x="585" y="36" width="255" height="%d" rx="5" class="plain"/>' % (22 * len(report) + 8))
+    p.arrow([(500, 120), (578, 120)], "replay", (538, 110))
+    p.write("schedule")
+
+
+PICTURES = {"view": view, "phases": phases, "crates": crates_picture, "schedule": schedule}
+
+
+def main(words):
+    for name in words or PICTURES:
+        if name not in PICTURES:
+            sys.exit(f"pictures: no picture {name}; there are: {' '.join(PICTURES)}")
+        PICTURES[name]()
+
+
+if __name__ == "__main__":
+    main(sys.argv[1:])
