@@ -39,3 +39,16 @@ def compare(asked, kind=None):
         seen = collections.Counter(kind(line, theirs) for line, theirs in asked)
         print(", ".join("%s %d" % item for item in sorted(seen.items())))
     return different
+
+
+def compare_stops(first, texts):
+    """Asks each text behind a first line whose answer is `false`, and which is no question: the program stops at line 2. Prints each
+    other answer. How many there are."""
+    different = 0
+    for text in texts:
+        answer = run(first + text)
+        if answer != (7, "false\nstop 7 line 2\n"):
+            different += 1
+            print("%.120r: %r" % (first + text, answer))
+    print("%d lines that are no question, %d different" % (len(texts), different))
+    return different

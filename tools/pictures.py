@@ -67,6 +67,11 @@ class Picture:
             for i, line in enumerate(words.split("\n")):
                 self.text(at[0], at[1] + 13 * i, line, "small", anchor)
 
+    def notes(self, x, y, words):
+        """Small lines under one another."""
+        for i, line in enumerate(words.split("\n")):
+            self.text(x, y + 14 * i, line, "small")
+
     def line(self, points, kind="thin"):
         self.parts.append('<path d="M' + " L".join(f"{x} {y}" for x, y in points) + f'" class="{kind}"/>')
 
@@ -99,8 +104,7 @@ def view():
     for a, b in zip(xs, xs[1:]):
         p.arrow([(a + wide, 75), (b, 75)])
     for i, words in [(1, "Q Echoes of one payload:\nthe message is certified"), (3, "Q Places of one batch:\nthe place is certified"), (4, "Q Keeps: the place\nis kept")]:
-        for j, line in enumerate(words.split("\n")):
-            p.text(xs[i] + wide / 2, 124 + 14 * j, line, "small")
+        p.notes(xs[i] + wide / 2, 124, words)
 
     p.text(20, 190, "Once f + 1 members notify one update u", "title", "start")
     y = 208
@@ -117,8 +121,7 @@ def view():
     for a, b in zip(xs, xs[1:]):
         p.arrow([(a + wide, y + 31), (b, y + 31)])
     for i, words in [(0, "f + 1 of them: one\nis correct"), (1, "Q Ends of at most K, one of K:\nthe value (u, K) is free"), (4, "Q: the commit certificate")]:
-        for j, line in enumerate(words.split("\n")):
-            p.text(xs[i] + wide / 2, y + high + 18 + 14 * j, line, "small")
+        p.notes(xs[i] + wide / 2, y + high + 18, words)
 
     p.box(xs[5], 318, wide, 54, ["deliver up to K", "never more"], "box")
     p.arrow([(xs[5] + wide / 2, y + high), (xs[5] + wide / 2, 318)])
