@@ -2,8 +2,8 @@
 use Rattle.std.proofs.Common.{◌≡◌, ℕ, List, [], ◌∷◌, Option, Some, None, Result, Ok, Err, Vec, Global, option_map, refl, sym, ap, ◌∙◌}
 use Rattle.std.specs.Prelude.{codes, IfOk, IfSome}
 use Rattle.std.specs.Option.{unwrap_or}
-use Rattle.text_defs.specs.Kits.{Kit}
-use Rattle.text_defs.specs.KitReading.{KitFault, kit_of}
+use Rattle.kit_defs.specs.Kits.{Kit}
+use Rattle.kit_defs.specs.KitReading.{KitFault, kit_of}
 use Rattle.text_defs.specs.Words.{Spells, bytes_word}
 use Rattle.interop_kits.specs.Kits.{Answers, IsQuestion, OfKit, Question, answer_to, fault_words, said, spelled}
 use Rattle.text_codec.proofs.Spelled.{spelled_once}

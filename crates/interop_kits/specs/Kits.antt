@@ -2,8 +2,8 @@
 use Rattle.std.specs.Prelude.{◌≡◌, ℕ, List, [], ◌∷◌, ◌++◌, codes, Result, Ok, Err}
 use Rattle.std.specs.Fmt.{decimal}
 use Rattle.hex.specs.Hex.{IsBytes, encode_lower}
-use Rattle.text_defs.specs.Kits.{Kit, kit_text}
-use Rattle.text_defs.specs.KitReading.{KitFault, Line, Repeated, Missing, KeyMismatch, kit_of}
+use Rattle.kit_defs.specs.Kits.{Kit, kit_text}
+use Rattle.kit_defs.specs.KitReading.{KitFault, Line, Repeated, Missing, KeyMismatch, kit_of}
 use Rattle.text_defs.specs.Words.{bytes_word}
 
 -- what is wrong, and the number of the line, counted from 1; with a key that does not match, the public key that the

@@ -1,8 +1,8 @@
 ghost use Rattle.std.specs.Prelude.{◌≡◌, ◌++◌, ℕ, List, [], ◌∷◌, map, codes, IfOk, IsErrOf, Some, option_map};
 ghost use Rattle.std.specs.Fmt.{decimal};
 ghost use Rattle.hex.specs.Hex.{encode_lower};
-ghost use Rattle.text_defs.specs.Kits.{kit_text};
-ghost use Rattle.text_defs.specs.KitReading.{kit_of};
+ghost use Rattle.kit_defs.specs.Kits.{kit_text};
+ghost use Rattle.kit_defs.specs.KitReading.{kit_of};
 ghost use Rattle.kit_reading.specs.Faults.{fault_of};
 ghost use Rattle.interop_kits.specs.Kits as plain;
 ghost use Rattle.interop_kits.specs.Kits.{Answers, said};
@@ -44,7 +44,9 @@ fn fault_words(alloc: Global, fault: KitFault) -> Result<Vec<u8>, NoMemory>
         KitFault::Line { line } => at_line(alloc, b"line ", line),
         KitFault::Repeated { line } => at_line(alloc, b"repeated ", line),
         KitFault::Missing { line } => at_line(alloc, b"missing ", line),
-        KitFault::KeyMismatch { line, made, listed } => mismatch(alloc, line, &made, &listed),
+        KitFault::KeyMismatch { line, made, listed } => {
+            mismatch(alloc, line, made.as_bytes(), listed.as_bytes())
+        }
         KitFault::NoMemory => Err(NoMemory),
     }
 }

@@ -5,7 +5,7 @@ use Rattle.std.proofs.lemmas.List.Elements.{All-map}
 use Rattle.std.specs.Prelude.{map, All}
 use Rattle.rp_base.specs.Pids.{put_once}
 use Rattle.rp_base.proofs.Members.{put_last}
-use Rattle.text_defs.specs.Kits as plain
+use Rattle.kit_defs.specs.Kits as plain
 use Rattle.kit_file.specs.declared.parts.Host.{Host}
 use Rattle.kit_file.specs.Views.{host, hosts, AreRising}
 

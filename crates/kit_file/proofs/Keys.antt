@@ -3,7 +3,7 @@ use Rattle.std.proofs.Common.{◌≡◌, ℕ, suc, ◌+◌, ◌-◌, ◌<◌, �
 use Rattle.std.proofs.lemmas.List.{flat_map_more, get_or-append_right, map-append}
 use Rattle.rp_base.specs.Rosters.{IsRising}
 use Rattle.text_defs.specs.Words.{line_text}
-use Rattle.text_defs.specs.Kits.{Key, key_line, key_of, line_words, roster_of, text_of_lines}
+use Rattle.kit_defs.specs.Kits.{Key, key_line, key_of, line_words, roster_of, text_of_lines}
 
 -- the lines of some keys stand behind a text, and these processes are left
 pub record Stand (keys : List (ℕ × List ℕ)) (start out : List ℕ) (left : List ℕ) : Type 0 where

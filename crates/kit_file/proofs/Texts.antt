@@ -4,7 +4,7 @@ use Rattle.std.specs.List.{flat_map, join_with_byte}
 use Rattle.std.proofs.lemmas.List.{flat_map_more, map-append, take_more}
 use Rattle.std.proofs.lemmas.List.Concat.{flat_map-append}
 use Rattle.text_defs.specs.Words.{line_text}
-use Rattle.text_defs.specs.Kits.{Kit, KitLine, Version, SchemeIs, GroupIs, Genesis, key_line, line_words, port_line, public_lines, text_of_lines}
+use Rattle.kit_defs.specs.Kits.{Kit, KitLine, Version, SchemeIs, GroupIs, Genesis, key_line, line_words, port_line, public_lines, text_of_lines, version_of}
 
 map_more : {X Y : Type 0} (f : X → Y) (xs : List X) (i : ℕ) (d : X) → i < length xs → map f (take (i + 1) xs) ≡ map f (take i xs) ++ f (get_or xs i d) ∷ []
 map_more f xs i d within = ap (map f) (take_more xs i d within) ∙ map-append f (take i xs) (get_or xs i d ∷ [])
@@ -31,14 +31,14 @@ pub lines_behind : (out : List ℕ) (ls ms : List KitLine) → (out ++ text_of_l
 lines_behind out ls ms = append_assoc out (text_of_lines ls) (text_of_lines ms) ∙ ap (λ t. out ++ t) (sym (flat_map-append (λ line. line_text (line_words line)) ls ms))
 
 -- the public lines, in four steps
-pub public_text : (kit : Kit) (out a b c d : List ℕ) → a ≡ out ++ text_of_lines (Version ∷ SchemeIs kit.scheme ∷ GroupIs kit.group ∷ []) → b ≡ a ++ text_of_lines (map key_line kit.keys)
+pub public_text : (kit : Kit) (out a b c d : List ℕ) → a ≡ out ++ text_of_lines (Version (version_of kit.scheme) ∷ SchemeIs kit.scheme ∷ GroupIs kit.group ∷ []) → b ≡ a ++ text_of_lines (map key_line kit.keys)
     → c ≡ b ++ line_text (line_words (Genesis kit.genesis)) → d ≡ c ++ text_of_lines (map port_line kit.ports) → d ≡ out ++ text_of_lines (public_lines kit)
 public_text kit out a b c d head keys genesis ports =
-    let heads : List KitLine = Version ∷ SchemeIs kit.scheme ∷ GroupIs kit.group ∷ [] in
+    let heads : List KitLine = Version (version_of kit.scheme) ∷ SchemeIs kit.scheme ∷ GroupIs kit.group ∷ [] in
     let listed : List KitLine = map key_line kit.keys in
     let member : List KitLine = Genesis kit.genesis ∷ [] in
     let two : b ≡ out ++ text_of_lines (heads ++ listed) = keys ∙ ap (λ t. t ++ text_of_lines listed) head ∙ lines_behind out heads listed in
     let one : line_text (line_words (Genesis kit.genesis)) ≡ text_of_lines member = sym (append-nil (line_text (line_words (Genesis kit.genesis)))) in
     let three : c ≡ out ++ text_of_lines ((heads ++ listed) ++ member) = genesis ∙ ap (λ t. b ++ t) one ∙ ap (λ t. t ++ text_of_lines member) two ∙ lines_behind out (heads ++ listed) member in
     ports ∙ ap (λ t. t ++ text_of_lines (map port_line kit.ports)) three ∙ lines_behind out ((heads ++ listed) ++ member) (map port_line kit.ports)
-    ∙ ap (λ ls. out ++ text_of_lines (Version ∷ SchemeIs kit.scheme ∷ GroupIs kit.group ∷ ls)) (append_assoc listed member (map port_line kit.ports))
+    ∙ ap (λ ls. out ++ text_of_lines (Version (version_of kit.scheme) ∷ SchemeIs kit.scheme ∷ GroupIs kit.group ∷ ls)) (append_assoc listed member (map port_line kit.ports))

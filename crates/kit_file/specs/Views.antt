@@ -1,7 +1,7 @@
 -- Kits of the code, as plain data.
 use Rattle.std.specs.Prelude.{◌<◌, ℕ, List, map}
 use Rattle.std.specs.List.{AllPairs}
-use Rattle.text_defs.specs.Kits as plain
+use Rattle.kit_defs.specs.Kits as plain
 use Rattle.sig_scheme.specs.declared.any_scheme.AnyScheme.{AnyScheme}
 use Rattle.sig_scheme.specs.Views as views
 use Rattle.kit_file.specs.declared.parts.Host.{Host}

@@ -1,7 +1,7 @@
 ghost use Rattle.std.specs.Prelude.{◌≡◌, ◌==◌, map, find, option_map, option_and_then};
 ghost use Rattle.std.specs.Option.{option_copied};
 ghost use Rattle.sig_scheme.specs.Views.{scheme, secret};
-ghost use Rattle.text_defs.specs.Kits.{key_of};
+ghost use Rattle.kit_defs.specs.Kits.{key_of};
 
 use crate::parts::Parts;
 use crate::writing::push_public;
@@ -22,7 +22,7 @@ pub struct Kit {
 
 impl Model for Kit {
     ghost use Rattle.std.specs.Prelude.{◌≡◌};
-    ghost use Rattle.text_defs.specs.Kits as plain;
+    ghost use Rattle.kit_defs.specs.Kits as plain;
 
     ghost Value = { plain.Kit };
 
@@ -34,7 +34,7 @@ impl Model for Kit {
 impl Kit {
     ghost use Rattle.std.specs.Prelude.{◌↔◌, ◌≢◌, IsSome, IsTrue, IfOk};
     ghost use Rattle.byte_defs.specs.Members.{has};
-    ghost use Rattle.text_defs.specs.Kits.{IsKit, kit_digest, roster_of};
+    ghost use Rattle.kit_defs.specs.Kits.{IsKit, kit_digest, roster_of};
 
     /// The kit of these parts; its digest takes the memory of the public lines, which are let go again.
     ///

@@ -31,7 +31,7 @@ pub struct Parts {
 }
 
 impl Model for Parts {
-    ghost use Rattle.text_defs.specs.Kits as plain;
+    ghost use Rattle.kit_defs.specs.Kits as plain;
     ghost use Rattle.kit_file.specs.Views as views;
 
     ghost Value = { plain.Kit };

@@ -3,9 +3,10 @@ ghost use Rattle.std.specs.Prelude.{◌≡◌, ◌++◌, ◌∷◌, [], codes, m
 ghost use Rattle.std.specs.List.{flat_map, join_with_byte};
 ghost use Rattle.std.specs.Fmt.{decimal};
 ghost use Rattle.hex.specs.Hex.{encode_lower};
+ghost use Rattle.signature_defs.specs.LmOts.{ots_typecode};
 ghost use Rattle.sig_scheme.specs.Views.{scheme, secret};
 ghost use Rattle.text_defs.specs.Words.{space, line_feed, line_text};
-ghost use Rattle.text_defs.specs.Kits.{line_words, text_of_lines, public_lines, host_lines, key_line, port_line, pair_line, secret_line, kit_text, Version, SchemeIs, GroupIs, Genesis, Key, Port, PlainHost, LmsHost, Pair};
+ghost use Rattle.kit_defs.specs.Kits.{line_words, text_of_lines, public_lines, host_lines, key_line, port_line, pair_line, secret_line, kit_text, version_of, Version, SchemeIs, GroupIs, Genesis, Key, Port, PlainHost, LmsHost, HssHost, Pair};
 ghost use Rattle.kit_file.specs.Views.{host, hosts};
 
 use crate::kit::Kit;
@@ -43,12 +44,12 @@ pub(crate) fn push_public(out: &mut Vec<u8>, parts: &Parts) -> Result<(), NoMemo
 
 // The lines before the first key.
 fn push_head(out: &mut Vec<u8>, of: AnyScheme, group: GroupId) -> Result<(), NoMemory>
-    ensures { OnOk result (out.new.items ≡ out.old.items ++ text_of_lines (Version ∷ SchemeIs (scheme of) ∷ GroupIs group ∷ [])) }
+    ensures { OnOk result (out.new.items ≡ out.old.items ++ text_of_lines (Version (version_of (scheme of)) ∷ SchemeIs (scheme of) ∷ GroupIs group ∷ [])) }
 {
-    out.extend_from_slice(b"rampart kit 1\n")?;
     out.extend_from_slice(match of {
-        AnyScheme::Plain => b"scheme plain\n",
-        AnyScheme::Lms => b"scheme lms\n",
+        AnyScheme::Plain => b"rampart kit 1\nscheme plain\n",
+        AnyScheme::Lms => b"rampart kit 1\nscheme lms\n",
+        AnyScheme::Hss => b"rampart kit 2\nscheme hss\n",
     })?;
     out.extend_from_slice(b"group")?;
     push_bytes_word(out, group.bytes())?;
@@ -126,6 +127,13 @@ fn push_secret(out: &mut Vec<u8>, process: Pid, of: Secret) -> Result<(), NoMemo
             id,
             seed,
         } => push_lms(out, process, height, ots, &id, &seed),
+        Secret::Hss {
+            levels,
+            height,
+            ots,
+            id,
+            seed,
+        } => push_hss(out, process, levels, height, ots, &id, &seed),
     }
 }
 
@@ -148,6 +156,36 @@ fn push_lms(
     ensures { OnOk result (out.new.items ≡ out.old.items ++ line_text (line_words (LmsHost process height ots id.now seed.now))) }
 {
     push_host(out, process, b"lms")?;
+    push_tree(out, height, ots, id, seed)
+}
+
+fn push_hss(
+    out: &mut Vec<u8>,
+    process: Pid,
+    levels: u32,
+    height: u32,
+    ots: OtsType,
+    id: &[u8; 16],
+    seed: &[u8; 32],
+) -> Result<(), NoMemory>
+    ensures { OnOk result (out.new.items ≡ out.old.items ++ line_text (line_words (HssHost process levels height ots id.now seed.now))) }
+{
+    push_host(out, process, b"hss")?;
+    push_number_word(out, levels.into())?;
+    push_tree(out, height, ots, id, seed)
+}
+
+// The words with which the line of a tree's host ends: the typecodes, I and SEED.
+fn push_tree(
+    out: &mut Vec<u8>,
+    height: u32,
+    ots: OtsType,
+    id: &[u8; 16],
+    seed: &[u8; 32],
+) -> Result<(), NoMemory>
+    ensures { OnOk result (out.new.items
+        ≡ out.old.items ++ space ∷ line_text (decimal height ∷ decimal (ots_typecode ots) ∷ encode_lower id.now ∷ encode_lower seed.now ∷ [])) }
+{
     push_number_word(out, height.into())?;
     push_number_word(out, ots_typecode(ots).into())?;
     push_bytes_word(out, id)?;

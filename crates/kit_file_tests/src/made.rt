@@ -56,6 +56,18 @@ fn a_kit_of_trees_is_written_as_the_other_program_does(rt: HostRuntime) -> Resul
     Ok(())
 }
 
+// Hashes are those of the other program, for one member of two processes with keys of two levels of typecodes 5 and 4.
+#[test]
+fn a_kit_of_levels_is_written_as_the_other_program_does(rt: HostRuntime) -> Result<(), Fail> {
+    let kit = make_kit(rt.alloc(), 1, 2, KeyPlan::Hss(2, 5, OtsType::W8), &SEED)?;
+    let mut text = Vec::new(rt.alloc());
+    write_kit(&kit, &mut text)?;
+    assert_eq!(rt; text.iter().filter(|c| **c == b'\n').count(), 12);
+    assert_eq!(rt; mark(&text), 0xff3e67e8b8b84c92);
+    assert_eq!(rt; number(&kit.digest()), 0x060f2d8c88d3ac76);
+    Ok(())
+}
+
 #[test]
 fn a_kit_is_shown_without_its_secrets(rt: HostRuntime) -> Result<(), Fail> {
     let kit = make_kit(rt.alloc(), 1, 2, KeyPlan::Plain(7), &SEED)?;

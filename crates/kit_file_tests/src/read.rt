@@ -1,7 +1,7 @@
 use kit_file::Kit;
 use kit_reading::{KitFault, read_kit};
 use rp_base::Pid;
-use sig_scheme::{AnyScheme, Secret};
+use sig_scheme::{AnyScheme, PublicKey, Secret};
 use std::alloc::{AllocError, Global};
 use std::test::Fail;
 
@@ -28,6 +28,15 @@ port 0 47000
 host 0 lms 5 4 b966e4bbf7b7b3988d0ef56ca47ddcd2 f4b2494c729deaf404ac48765e64f122dbff4d62830f144842df61d68e5bf443
 ";
 
+const LEVELS: &[u8] = b"rampart kit 2
+scheme hss
+group 8303ca4d81d97afed6931bd5391d7eb0
+key 0 000000020000000500000004b966e4bbf7b7b3988d0ef56ca47ddcd2ad45c71816576d9852913006b485df0f88ea641eea0ab05223e49b1eec7bf90b
+genesis 0
+port 0 47000
+host 0 hss 2 5 4 b966e4bbf7b7b3988d0ef56ca47ddcd2 f4b2494c729deaf404ac48765e64f122dbff4d62830f144842df61d68e5bf443
+";
+
 // The lines of a kit of two processes with LMS keys.
 
 const HEAD: &[u8] = b"rampart kit 1\nscheme lms\n";
@@ -49,6 +58,28 @@ port 1 47001
 host 0 lms 5 4 b966e4bbf7b7b3988d0ef56ca47ddcd2 f4b2494c729deaf404ac48765e64f122dbff4d62830f144842df61d68e5bf443
 pair 0 1 5855ee5121fe557457f8e9e9fd737e34751991ec45348663fd50cfeca1ea1b21
 host 1 lms 5 4 950b75560cb41eb8aafe3e0eb09fbead 687ba9e543a9ccbd332ee9e7027feecbfd9c4536ffe64490d8fcd67b739b0a6c
+pair 1 0 5855ee5121fe557457f8e9e9fd737e34751991ec45348663fd50cfeca1ea1b21
+";
+
+// The same of a kit with HSS keys.
+
+const LEVELS_HEAD: &[u8] = b"rampart kit 2\nscheme hss\n";
+
+const LEVELS_KEY_0: &[u8] =
+    b"key 0 000000020000000500000004b966e4bbf7b7b3988d0ef56ca47ddcd2ad45c71816576d9852913006b485df0f88ea641eea0ab05223e49b1eec7bf90b\n";
+
+// Its last digit is another one.
+const LEVELS_OTHER_KEY_0: &[u8] =
+    b"key 0 000000020000000500000004b966e4bbf7b7b3988d0ef56ca47ddcd2ad45c71816576d9852913006b485df0f88ea641eea0ab05223e49b1eec7bf90c\n";
+
+const LEVELS_REST: &[u8] =
+    b"key 1 000000020000000500000004950b75560cb41eb8aafe3e0eb09fbead32b137b4948e46b9c0e7a9052836d4a2b328e6d98481f515c571f83790a6ee22
+genesis 0
+port 0 47000
+port 1 47001
+host 0 hss 2 5 4 b966e4bbf7b7b3988d0ef56ca47ddcd2 f4b2494c729deaf404ac48765e64f122dbff4d62830f144842df61d68e5bf443
+pair 0 1 5855ee5121fe557457f8e9e9fd737e34751991ec45348663fd50cfeca1ea1b21
+host 1 hss 2 5 4 950b75560cb41eb8aafe3e0eb09fbead 687ba9e543a9ccbd332ee9e7027feecbfd9c4536ffe64490d8fcd67b739b0a6c
 pair 1 0 5855ee5121fe557457f8e9e9fd737e34751991ec45348663fd50cfeca1ea1b21
 ";
 
@@ -78,7 +109,7 @@ fn a_plain_kit_is_read(rt: HostRuntime) -> Result<(), Fail> {
 
 fn has_seed(kit: &Kit, p: Pid) -> bool {
     match kit.secret(p) {
-        Some(Secret::Lms { seed, .. }) => seed[31] == 0x43,
+        Some(Secret::Lms { seed, .. }) | Some(Secret::Hss { seed, .. }) => seed[31] == 0x43,
         _ => false,
     }
 }
@@ -91,10 +122,36 @@ fn a_kit_of_a_tree_is_read(rt: HostRuntime) -> Result<(), Fail> {
 }
 
 #[test]
+fn a_kit_of_levels_is_read_in_its_version_alone(rt: HostRuntime) -> Result<(), Fail> {
+    let kit = read_kit(rt.alloc(), LEVELS)?;
+    assert_eq!(rt; kit.scheme(), AnyScheme::Hss);
+    assert!(rt; has_seed(&kit, Pid::default()));
+    for (version, rest, line) in [
+        (b"rampart kit 1\n".as_slice(), &LEVELS[14..], 2),
+        (b"rampart kit 2\n".as_slice(), &TREE[14..], 2),
+        (b"rampart kit 3\n".as_slice(), &LEVELS[14..], 1),
+    ] {
+        let text = joined(rt.alloc(), &[version, rest])?;
+        assert_eq!(rt;
+            read_kit(rt.alloc(), &text).err(),
+            Some(KitFault::Line { line })
+        );
+    }
+    Ok(())
+}
+
+// The byte at this place, or 0 where the key is shorter.
+fn byte(key: PublicKey, at: usize) -> u8 {
+    key.as_bytes().get(at).copied().unwrap_or(0)
+}
+
+#[test]
 fn a_key_of_another_secret_is_told(rt: HostRuntime) -> Result<(), Fail> {
     let text = joined(rt.alloc(), &[HEAD, GROUP, OTHER_KEY_0, REST])?;
     let told = match read_kit(rt.alloc(), &text) {
-        Err(KitFault::KeyMismatch { line, made, listed }) => (line, made[55], listed[55]),
+        Err(KitFault::KeyMismatch { line, made, listed }) => {
+            (line, byte(made, 55), byte(listed, 55))
+        }
         _ => (0, 0, 0),
     };
     assert_eq!(rt; told, (9, 0x0b, 0x0c));
@@ -116,6 +173,35 @@ fn a_line_that_stands_twice_is_repeated(rt: HostRuntime) -> Result<(), Fail> {
     let text = joined(rt.alloc(), &[HEAD, GROUP, KEY_0, KEY_0, REST])?;
     assert_eq!(rt;
         read_kit(rt.alloc(), &text).err(),
+        Some(KitFault::Repeated { line: 5 })
+    );
+    Ok(())
+}
+
+#[test]
+fn faults_of_a_kit_of_levels_are_told(rt: HostRuntime) -> Result<(), Fail> {
+    let other = joined(
+        rt.alloc(),
+        &[LEVELS_HEAD, GROUP, LEVELS_OTHER_KEY_0, LEVELS_REST],
+    )?;
+    let told = match read_kit(rt.alloc(), &other) {
+        Err(KitFault::KeyMismatch { line, made, listed }) => {
+            (line, byte(made, 59), byte(listed, 59))
+        }
+        _ => (0, 0, 0),
+    };
+    assert_eq!(rt; told, (9, 0x0b, 0x0c));
+    let cut = joined(rt.alloc(), &[LEVELS_HEAD, LEVELS_KEY_0, LEVELS_REST])?;
+    assert_eq!(rt;
+        read_kit(rt.alloc(), &cut).err(),
+        Some(KitFault::Missing { line: 3 })
+    );
+    let twice = joined(
+        rt.alloc(),
+        &[LEVELS_HEAD, GROUP, LEVELS_KEY_0, LEVELS_KEY_0, LEVELS_REST],
+    )?;
+    assert_eq!(rt;
+        read_kit(rt.alloc(), &twice).err(),
         Some(KitFault::Repeated { line: 5 })
     );
     Ok(())

@@ -1,5 +1,5 @@
 -- What is hashed, and public keys, are bytes.
-use Rattle.std.proofs.Common.{ℕ, zero, suc, ◌<◌, List, [], ◌∷◌, ◌++◌, take, arith, lit<}
+use Rattle.std.proofs.Common.{ℕ, zero, suc, ◌+◌, ◌<◌, List, [], ◌∷◌, ◌++◌, take, ap, ◌∙◌, arith, lit<, length-append}
 use Rattle.std.specs.Prelude.{slice_index}
 use Rattle.std.proofs.lemmas.List.{length-take-le}
 use Rattle.std.specs.Int.{w32, bytes_high_first, byte_at, to_be_bytes}
@@ -70,3 +70,7 @@ tree_key_is kind code h id seed is = (
       (bytes_append (u32str code ++ u32str (ots_typecode kind)) id (bytes_append (u32str code) (u32str (ots_typecode kind)) (u32_bytes code) (u32_bytes (ots_typecode kind))) is.1)
       (node_bytes kind h id seed h 1),
 )
+
+-- and that of trees in levels 60, behind whose number the top tree's stands
+pub levels_key_is : (levels : ℕ) (top : List ℕ) → AreBytes 56 top → AreBytes 60 (u32str levels ++ top)
+levels_key_is levels top is = (length-append (u32str levels) top ∙ ap (λ n. 4 + n) is.0, bytes_append (u32str levels) top (u32_bytes levels) is.1)

@@ -3,12 +3,12 @@ use Rattle.std.proofs.Common.{◌≡◌, ◌≢◌, ℕ, ◌+◌, ◌<◌, ◌==
 use Rattle.std.proofs.lemmas.List.{map-append, map-id}
 use Rattle.std.proofs.lemmas.List.Elements.{filter-append}
 use Rattle.std.proofs.lemmas.List.FromFn.{get_or-map-range_with_len, length-map-range_with_len, map-range_with_len_more}
-use Rattle.signature_defs.specs.Secrets as secrets
+use Rattle.secret_defs.specs.Secrets as secrets
 use Rattle.sig_scheme.specs.Views.{secret}
-use Rattle.text_defs.specs.declared.KeyPlan.{KeyPlan}
-use Rattle.text_defs.specs.Kits as plain
-use Rattle.text_defs.specs.Kits.{others_than}
-use Rattle.text_defs.specs.KitMaking.{derive, derived_group, derived_pair, derived_secret, first_numbers, made_host, made_kit, planned_scheme}
+use Rattle.kit_defs.specs.declared.KeyPlan.{KeyPlan}
+use Rattle.kit_defs.specs.Kits as plain
+use Rattle.kit_defs.specs.Kits.{others_than}
+use Rattle.kit_defs.specs.KitMaking.{derive, derived_group, derived_pair, derived_secret, first_numbers, made_host, made_kit, planned_scheme}
 use Rattle.kit_file.specs.declared.parts.Host.{Host}
 use Rattle.kit_file.specs.Views.{AreRising, host, hosts}
 

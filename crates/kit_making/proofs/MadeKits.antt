@@ -1,16 +1,20 @@
 -- A kit that is made from a seed is a kit.
-use Rattle.std.proofs.Common.{◌≡◌, ◌≢◌, ℕ, zero, suc, ◌+◌, ◌<◌, ◌≤◌, ◌==◌, Bool, true, false, ◌||◌, List, [], ◌∷◌, map, find, take, Option, Some, option_map, cond, AllPairs, IsTrue, get_or, refl, sym, ap, subst, ◌∙◌, arith}
+use Rattle.std.proofs.Common.{◌≡◌, ◌≢◌, ℕ, zero, suc, ◌+◌, ◌<◌, ◌≤◌, ◌==◌, Bool, true, false, ◌||◌, List, [], ◌∷◌, map, find, take, Option, Some, None, option_map, cond, AllPairs, IsTrue, get_or, refl, sym, ap, subst, ◌∙◌, arith}
 use Rattle.std.specs.List.{AllByRecursion, list_any, range_with_len}
 use Rattle.std.proofs.lemmas.Bool.{eqb-false, eqb-true}
 use Rattle.std.proofs.lemmas.List.FromFn.{length-range_with_len, get_or-range_with_len}
 use Rattle.byte_defs.specs.Members.{has}
-use Rattle.signature_defs.specs.Secrets.{scheme_of, public_key_of, height_of}
-use Rattle.text_defs.specs.declared.KeyPlan.{KeyPlan}
-use Rattle.text_defs.specs.declared.KeyPlan.TheVariants as plans
+use Rattle.signature_defs.specs.Lms.{lms_public_key}
+use Rattle.signature_defs.specs.Secrets.{height_of}
+use Rattle.secret_defs.specs.Secrets.{scheme_of, public_key_of}
+use Rattle.sig_scheme.specs.Keys.{refusal_of}
+use Rattle.sig_scheme.proofs.Refusals.{levels_not_refused, tree_not_refused}
+use Rattle.kit_defs.specs.declared.KeyPlan.{KeyPlan}
+use Rattle.kit_defs.specs.declared.KeyPlan.TheVariants as plans
 use Rattle.text_defs.specs.Words.{AreBytes}
-use Rattle.text_defs.specs.Kits.{AreHosts, AreKeys, IsHost, IsKit, IsSecret, key_length, others_than, roster_of}
-use Rattle.text_defs.specs.KitMaking.{IsPlan, derive, derived_pair, derived_secret, first_numbers, made_host, made_kit, planned_scheme}
-use Rattle.kit_making.proofs.Bytes.{hash_is, half_is, tree_key_is}
+use Rattle.kit_defs.specs.Kits.{AreHosts, AreKeys, IsHost, IsKit, IsSecret, key_length, others_than, roster_of}
+use Rattle.kit_defs.specs.KitMaking.{IsPlan, derive, derived_pair, derived_secret, first_numbers, made_host, made_kit, planned_scheme}
+use Rattle.kit_making.proofs.Bytes.{hash_is, half_is, levels_key_is, tree_key_is}
 
 -- ---- lists over numbers
 
@@ -59,14 +63,25 @@ module _ {K : Type 0} (g : ℕ → K) (p : ℕ) where
 secret_is : (plan : KeyPlan) (seed : List ℕ) (p : ℕ) → IsPlan plan → IsSecret (derived_secret plan seed p)
 secret_is (plans.Plain total) seed p is = (hash_is _, is)
 secret_is (plans.Lms code kind) seed p is = (is.0, is.1, half_is _, hash_is _)
+secret_is (plans.Hss levels code kind) seed p is = (is, half_is _, hash_is _)
+
+-- and is refused for want of memory at most
+pub not_refused : (plan : KeyPlan) (seed : List ℕ) (p : ℕ) → IsPlan plan → refusal_of (derived_secret plan seed p) ≡ None
+not_refused (plans.Plain total) seed p is = refl
+not_refused (plans.Lms code kind) seed p is = tree_not_refused code is.0 is.1
+not_refused (plans.Hss levels code kind) seed p is = levels_not_refused levels code kind is
 
 scheme_is : (plan : KeyPlan) (seed : List ℕ) (p : ℕ) → scheme_of (derived_secret plan seed p) ≡ planned_scheme plan
 scheme_is (plans.Plain total) seed p = refl
 scheme_is (plans.Lms code kind) seed p = refl
+scheme_is (plans.Hss levels code kind) seed p = refl
 
 key_is : (plan : KeyPlan) (seed : List ℕ) (p : ℕ) → AreBytes (key_length (planned_scheme plan)) (public_key_of (derived_secret plan seed p))
 key_is (plans.Plain total) seed p = hash_is _
 key_is (plans.Lms code kind) seed p = tree_key_is kind code (height_of code) (take 16 (derive seed 1 p 0)) (derive seed 2 p 0) (half_is _)
+key_is (plans.Hss levels code kind) seed p =
+    let top : List ℕ = lms_public_key code kind (height_of code) (take 16 (derive seed 1 p 0)) (derive seed 2 p 0) in
+    levels_key_is levels top (tree_key_is kind code (height_of code) (take 16 (derive seed 1 p 0)) (derive seed 2 p 0) (half_is _))
 
 module _ (plan : KeyPlan) (seed : List ℕ) (roster : ℕ) (is : IsPlan plan) where
   abbrev public : ℕ → List ℕ

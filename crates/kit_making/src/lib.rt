@@ -3,5 +3,5 @@
 
 mod making;
 
+pub use kit_defs::KeyPlan;
 pub use making::make_kit;
-pub use text_defs::KeyPlan;

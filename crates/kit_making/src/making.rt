@@ -1,19 +1,19 @@
 //! Kits for rehearsals and tests, made from one seed.
 ghost use Rattle.std.specs.Prelude.{◌≡◌, ◌+◌, ◌≤◌, ◌<◌, map, IfOk, take};
-ghost use Rattle.signature_defs.specs.Secrets.{public_key_of};
+ghost use Rattle.secret_defs.specs.Secrets.{public_key_of};
 ghost use Rattle.sig_scheme.specs.Views.{scheme, secret};
-ghost use Rattle.text_defs.specs.Kits.{IsKit, others_than};
-ghost use Rattle.text_defs.specs.KitMaking.{derive, derived_group, derived_pair, derived_secret, first_numbers, made_host, made_kit, planned_scheme, IsPlan};
+ghost use Rattle.kit_defs.specs.Kits.{IsKit, others_than};
+ghost use Rattle.kit_defs.specs.KitMaking.{derive, derived_group, derived_pair, derived_secret, first_numbers, made_host, made_kit, planned_scheme, IsPlan};
 ghost use Rattle.kit_file.specs.Views.{host, hosts};
 ghost use Rattle.kit_making.specs.Purposes.{label};
 
 use arrayvec::ArrayVec;
+use kit_defs::KeyPlan;
 use kit_file::{Host, Kit, Parts, public_key_of};
 use rp_base::{GroupId, NoMemory, Pid, Roster};
 use sha2::{Digest, Sha256};
 use sig_scheme::{AnyScheme, Secret};
 use std::alloc::Global;
-use text_defs::KeyPlan;
 
 /// What a value is derived for. Its number is the second part of what is hashed.
 #[derive(Clone, Copy)]
@@ -30,11 +30,11 @@ const FIRST_PORT: u16 = 47_000;
 
 /// A kit for rehearsals and tests, all of whose keys are made from one seed: whoever knows the seed has them all. Its
 /// roster is the processes 0 to `roster` - 1, up to 64 of them and all hosted, and its first view the first `members` of
-/// them, 1 to 16. Process p has port 47,000 + p. LMS keys have a height's typecode of 5, 6 or 7; each tree is made once,
+/// them, 1 to 16. Process p has port 47,000 + p. Each LMS or HSS key is made once, for its public key,
 /// and let go again.
 ///
 /// # Errors
-/// [`NoMemory`] where memory for the kit or for one tree is refused.
+/// [`NoMemory`] where memory for the kit or for one key's trees is refused.
 pub fn make_kit(
     alloc: Global,
     members: u8,
@@ -67,6 +67,7 @@ fn scheme_of(keys: KeyPlan) -> AnyScheme
     match keys {
         KeyPlan::Plain(_) => AnyScheme::Plain,
         KeyPlan::Lms(..) => AnyScheme::Lms,
+        KeyPlan::Hss(..) => AnyScheme::Hss,
     }
 }
 
@@ -175,6 +176,13 @@ fn secret_of(keys: KeyPlan, seed: &[u8; 32], p: u8) -> Secret
             total,
         },
         KeyPlan::Lms(height, ots) => Secret::Lms {
+            height,
+            ots,
+            id: first_half(&derive(seed, Purpose::TreeId, p, 0)),
+            seed: derive(seed, Purpose::TreeSeed, p, 0),
+        },
+        KeyPlan::Hss(levels, height, ots) => Secret::Hss {
+            levels,
             height,
             ots,
             id: first_half(&derive(seed, Purpose::TreeId, p, 0)),

@@ -9,20 +9,24 @@ use Rattle.std.proofs.lemmas.List.Quantifiers.{all_pairs_push}
 use Rattle.byte_defs.specs.Fields.{◌>>=◌}
 use Rattle.byte_defs.proofs.Fields.{bind_ok, ok_is}
 use Rattle.byte_defs.specs.Members.{has}
-use Rattle.signature_defs.specs.Schemes.{Scheme}
-use Rattle.signature_defs.specs.Schemes as schemes
-use Rattle.signature_defs.specs.Secrets.{Secret, Plain, Lms, scheme_of}
+use Rattle.secret_defs.specs.Schemes.{Scheme}
+use Rattle.secret_defs.specs.Schemes as schemes
+use Rattle.secret_defs.specs.Secrets.{Secret, Plain, Lms, Hss, scheme_of}
+use Rattle.sig_scheme.specs.Keys.{refusal_of}
+use Rattle.sig_scheme.proofs.Refusals.{levels_not_refused, tree_not_refused}
 use Rattle.text_defs.specs.Words.{begin_with}
-use Rattle.text_defs.specs.Kits.{Host, KitLine, Version, SchemeIs, GroupIs, Key, Genesis, Port, PlainHost, LmsHost, Pair, key_length, key_of, line_words, roster_of, secret_line}
-use Rattle.text_defs.specs.KitReading.{Draft, KitFault, has_genesis, host_above, host_stands, is_early, is_late, is_outside, is_repeated, lacks_port, line_by, listed_key, matching, may_be_lms, may_be_plain, next_pair, next_port, with_host, with_line, with_pair}
-use Rattle.text_defs.proofs.Lists.{each_fails, each_push, each_weaker, each_with}
+use Rattle.kit_defs.specs.Kits.{Host, KitLine, KitVersion, Version, SchemeIs, GroupIs, Key, Genesis, Port, PlainHost, LmsHost, HssHost, Pair, key_length, key_of, line_words, roster_of, secret_line}
+use Rattle.kit_defs.specs.KitReading.{Draft, KitFault, has_genesis, host_above, host_stands, is_early, is_late, is_outside, is_repeated, lacks_port, line_by, listed_key, matching, may_be, may_of, next_pair, next_port, with_host, with_line, with_pair}
+use Rattle.kit_defs.proofs.Lists.{each_fails, each_push, each_weaker, each_with}
 use Rattle.text_defs.proofs.Choosing.{none_some, some_is}
-use Rattle.text_defs.proofs.LineShapes.{IsLine, IsPublicKey}
-use Rattle.text_defs.proofs.LineFound.{line_found}
-use Rattle.text_defs.proofs.Fresh.{IsFresh, fresh_found}
-use Rattle.text_defs.proofs.EarlySteps.{key_size, new_key, other_number}
+use Rattle.kit_defs.proofs.LineShapes.{IsLine}
+use Rattle.kit_defs.proofs.Versions.{scheme_is}
+use Rattle.kit_defs.proofs.LineFound.{line_found}
+use Rattle.kit_defs.proofs.Fresh.{IsFresh, fresh_found}
+use Rattle.kit_defs.proofs.EarlySteps.{new_key, other_number}
 use Rattle.kit_file.specs.Views.{AreRising}
-use Rattle.kit_reading.specs.Drafts.{CanAdd, IsDraft, IsNumber}
+use Rattle.kit_draft.specs.Drafts.{IsDraft, IsNumber}
+use Rattle.kit_reading.specs.Additions.{CanAdd, Fits, IsOfTrees}
 
 -- what holds of a key that stands
 abbrev IsKeyIn : Option Scheme → ℕ × List ℕ → Type 0
@@ -63,15 +67,14 @@ listed_size o (k ∷ keys) p each e = by (k.0 == p) refl (listed_size o keys p e
     by true is later = rw is each.0.1
     by false is later = rw is (later (sym (ap (λ t. t || has (roster_of keys) p) is) ∙ e))
 
-plain_size : (o : Option Scheme) (n : ℕ) → may_be_plain o ≡ true → Some n ≡ option_map key_length o → n ≡ 32
-plain_size None n may is = none_some n (sym is)
-plain_size (Some schemes.Plain) n may is = some_is n 32 is
-plain_size (Some schemes.Lms) n may is = absurd (true≢false (sym may))
+-- where a scheme is told, the kit is of no other
+told_only : (v : Option KitVersion) (s k : Scheme) → may_be v (Some s) k ≡ true → k ≡ s
+told_only None s k may = scheme_is s k may
+told_only (Some _) s k may = scheme_is s k may
 
-lms_size : (o : Option Scheme) (n : ℕ) → may_be_lms o ≡ true → Some n ≡ option_map key_length o → n ≡ 56
-lms_size None n may is = none_some n (sym is)
-lms_size (Some schemes.Plain) n may is = absurd (true≢false (sym may))
-lms_size (Some schemes.Lms) n may is = some_is n 56 is
+size_of : (v : Option KitVersion) (o : Option Scheme) (k : Scheme) (n : ℕ) → may_be v o k ≡ true → Some n ≡ option_map key_length o → n ≡ key_length k
+size_of v None k n may is = none_some n (sym is)
+size_of v (Some s) k n may is = some_is n (key_length s) is ∙ ap key_length (sym (told_only v s k may))
 
 -- ---- pairs
 
@@ -156,13 +159,14 @@ module _ (n : ℕ) (d : Draft) (ok : IsDraft d) where
       right true e = e
       right false e = e
 
-  key_can : (p : ℕ) (key : List ℕ) → IsFresh d (line_words (Key p key)) → IsLine d.scheme (Key p key) → is_late d (Key p key) ≡ false → is_early d (Key p key) ≡ false → CanAdd n d (Key p key)
+  key_can : (p : ℕ) (key : List ℕ) → IsFresh d (line_words (Key p key)) → IsLine (may_of d) (Key p key) → is_late d (Key p key) ≡ false → is_early d (Key p key) ≡ false → CanAdd n d (Key p key)
   key_can p key new ranges in_time due =
       let told = told_scheme d.scheme (ok.told_first (some_true d.group due)) in
       let late = or_parts (has_genesis d) (list_any (λ k. nat_lt p k.0) d.keys) in_time in
       let low = each_weaker (λ k. nat_lt p k.0 ≡ false) (λ k. k.0 ≤ p) (λ k. ltb-false p k.0) d.keys (each_fails (λ k. nat_lt p k.0) d.keys late.1) in
       let above = each_with (λ k. k.0 ≤ p) (λ k. k.0 ≢ p) (λ k. k.0 < p) (λ k le ne. omega arith) d.keys low (new_key d.keys p key new.keys) in
-      let size : length key ≡ key_length told.0 = (key_size told.0 key (subst (λ o. IsPublicKey o key) told.1 ranges.1)).0 in
+      let only : ranges.1.0 ≡ told.0 = told_only d.version told.0 ranges.1.0 (subst (λ o. may_be d.version o ranges.1.0 ≡ true) told.1 ranges.1.1) in
+      let size : length key ≡ key_length told.0 = ranges.1.2.0 ∙ ap key_length only in
       let of_scheme : Some (length key) ≡ option_map key_length d.scheme = ap (λ (m : ℕ). Some m) size ∙ sym (ap (option_map key_length) told.1) in
       record {
         fits = All-from_recursion (λ k. k.0 < p) d.keys above;
@@ -175,22 +179,30 @@ module _ (n : ℕ) (d : Draft) (ok : IsDraft d) where
         });
       }
 
-  plain_can : (p total : ℕ) → IsFresh d (line_words (PlainHost p total)) → IsLine d.scheme (PlainHost p total) → is_outside d (PlainHost p total) ≡ false → is_late d (PlainHost p total) ≡ false → is_early d (PlainHost p total) ≡ false → CanAdd n d (PlainHost p total)
+  plain_can : (p total : ℕ) → IsFresh d (line_words (PlainHost p total)) → IsLine (may_of d) (PlainHost p total) → is_outside d (PlainHost p total) ≡ false → is_late d (PlainHost p total) ≡ false → is_early d (PlainHost p total) ≡ false → CanAdd n d (PlainHost p total)
   plain_can p total new ranges inside in_time due = record {
-    fits = plain_size d.scheme _ ranges.1 (listed_size d.scheme d.keys p ok.keys (listed d p inside due));
+    fits = size_of d.version d.scheme schemes.Plain _ ranges.1 (listed_size d.scheme d.keys p ok.keys (listed d p inside due));
     keeps = λ e t. subst IsDraft (ok_is _ e t) (with_host_is d p (Plain (listed_key d p) total) ok ranges.0 (below p _ d in_time new.hosts));
   }
 
-  lms_can : (p code : ℕ) (kind : _) (id seed : List ℕ) → IsFresh d (line_words (LmsHost p code kind id seed)) → IsLine d.scheme (LmsHost p code kind id seed) → is_outside d (LmsHost p code kind id seed) ≡ false → is_late d (LmsHost p code kind id seed) ≡ false → is_early d (LmsHost p code kind id seed) ≡ false → CanAdd n d (LmsHost p code kind id seed)
+  lms_can : (p code : ℕ) (kind : _) (id seed : List ℕ) → IsFresh d (line_words (LmsHost p code kind id seed)) → IsLine (may_of d) (LmsHost p code kind id seed) → is_outside d (LmsHost p code kind id seed) ≡ false → is_late d (LmsHost p code kind id seed) ≡ false → is_early d (LmsHost p code kind id seed) ≡ false → CanAdd n d (LmsHost p code kind id seed)
   lms_can p code kind id seed new ranges inside in_time due = record {
-    fits = (lms_size d.scheme _ ranges.scheme_may (listed_size d.scheme d.keys p ok.keys (listed d p inside due)), ranges.least, ranges.most);
+    fits = (size_of d.version d.scheme schemes.Lms _ ranges.scheme_may (listed_size d.scheme d.keys p ok.keys (listed d p inside due)), ranges.least, ranges.most);
     keeps = λ e t.
         let bound = bind_ok (matching n d p (Lms code kind id seed)) _ e t in
         subst IsDraft (ok_is _ e bound.2) (with_host_is d p (Lms code kind id seed) ok ranges.number (below p _ d in_time new.hosts));
   }
 
-  can : (said : KitLine) → IsFresh d (line_words said) → IsLine d.scheme said → is_outside d said ≡ false → is_late d said ≡ false → is_early d said ≡ false → CanAdd n d said
-  can Version new ranges inside in_time due = record { fits = tt; keeps = λ e t. subst IsDraft (ok_is _ e t) (record { told_first = ok.told_first; keys = ok.keys; ports = ok.ports; hosts = ok.hosts; rising = ok.rising }) }
+  hss_can : (p levels code : ℕ) (kind : _) (id seed : List ℕ) → IsFresh d (line_words (HssHost p levels code kind id seed)) → IsLine (may_of d) (HssHost p levels code kind id seed) → is_outside d (HssHost p levels code kind id seed) ≡ false → is_late d (HssHost p levels code kind id seed) ≡ false → is_early d (HssHost p levels code kind id seed) ≡ false → CanAdd n d (HssHost p levels code kind id seed)
+  hss_can p levels code kind id seed new ranges inside in_time due = record {
+    fits = (size_of d.version d.scheme schemes.Hss _ ranges.scheme_may (listed_size d.scheme d.keys p ok.keys (listed d p inside due)), ranges.built);
+    keeps = λ e t.
+        let bound = bind_ok (matching n d p (Hss levels code kind id seed)) _ e t in
+        subst IsDraft (ok_is _ e bound.2) (with_host_is d p (Hss levels code kind id seed) ok ranges.number (below p _ d in_time new.hosts));
+  }
+
+  can : (said : KitLine) → IsFresh d (line_words said) → IsLine (may_of d) said → is_outside d said ≡ false → is_late d said ≡ false → is_early d said ≡ false → CanAdd n d said
+  can (Version version) new ranges inside in_time due = record { fits = tt; keeps = λ e t. subst IsDraft (ok_is _ e t) (record { told_first = ok.told_first; keys = ok.keys; ports = ok.ports; hosts = ok.hosts; rising = ok.rising }) }
   can (SchemeIs s) new ranges inside in_time due = scheme_can s new
   can (GroupIs group) new ranges inside in_time due = record { fits = tt; keeps = λ e t. subst IsDraft (ok_is _ e t) (record { told_first = λ _. some_true d.scheme due; keys = ok.keys; ports = ok.ports; hosts = ok.hosts; rising = ok.rising }) }
   can (Key p key) new ranges inside in_time due = key_can p key new ranges in_time due
@@ -198,11 +210,12 @@ module _ (n : ℕ) (d : Draft) (ok : IsDraft d) where
   can (Port p port) new ranges inside in_time due = record { fits = tt; keeps = λ e t. subst IsDraft (ok_is _ e t) (record { told_first = ok.told_first; keys = ok.keys; ports = each_push (λ r. IsNumber r.0) d.ports (p, port) ok.ports ranges.0; hosts = ok.hosts; rising = ok.rising }) }
   can (PlainHost p total) new ranges inside in_time due = plain_can p total new ranges inside in_time due
   can (LmsHost p code kind id seed) new ranges inside in_time due = lms_can p code kind id seed new ranges inside in_time due
+  can (HssHost p levels code kind id seed) new ranges inside in_time due = hss_can p levels code kind id seed new ranges inside in_time due
   can (Pair p q key) new ranges inside in_time due = record { fits = tt; keeps = λ e t. subst IsDraft (ok_is _ e t) (record { told_first = ok.told_first; keys = ok.keys; ports = ok.ports; hosts = still_numbered (q, key) d.hosts ranges.1 ok.hosts; rising = still_rising (q, key) d.hosts ok.rising }) }
 
-  pub can_add : (words : List (List ℕ)) (said : KitLine) → is_repeated d words ≡ false → line_by d.scheme words ≡ Some said → is_outside d said ≡ false → is_late d said ≡ false → is_early d said ≡ false → CanAdd n d said
+  pub can_add : (words : List (List ℕ)) (said : KitLine) → is_repeated d words ≡ false → line_by (may_of d) words ≡ Some said → is_outside d said ≡ false → is_late d said ≡ false → is_early d said ≡ false → CanAdd n d said
   can_add words said new is inside in_time due =
-      let found = line_found d.scheme words said is in
+      let found = line_found (may_of d) words said is in
       can said (fresh_found d (line_words said) (sym (ap (is_repeated d) found.0) ∙ new)) found.1 inside in_time due
 
 -- ---- the draft with the line
@@ -217,6 +230,18 @@ module _ (d v : Draft) (is : v ≡ d) where
   pub hosts_changed : (f : List Host → List Host) (hs : List Host) → hs ≡ f v.hosts → ok (record d { hosts = f d.hosts }) ≡ ok (record v { hosts = hs })
   hosts_changed f hs e = ap (λ (x : Draft). ok (record x { hosts = f x.hosts })) (sym is) ∙ ap (λ (l : List Host). ok (record v { hosts = l })) (sym e)
 
-pub lms_taken : (n : ℕ) (d : Draft) (p : ℕ) (s : Secret) (nothing : Unit {0}) → scheme_of s ≡ schemes.Lms → matching n d p s ≡ Ok nothing → with_line n d (secret_line p s) ≡ ok (with_host d p s)
-lms_taken n d p (Plain key total) nothing lms same = absurd cc
-lms_taken n d p (Lms code kind id seed) nothing lms same = ap (λ (r : Result (Unit {0}) KitFault). r >>= λ _. ok (with_host d p (Lms code kind id seed))) same
+pub tree_taken : (n : ℕ) (d : Draft) (p : ℕ) (s : Secret) (nothing : Unit {0}) → IsOfTrees s → matching n d p s ≡ Ok nothing → with_line n d (secret_line p s) ≡ ok (with_host d p s)
+tree_taken n d p (Plain key total) nothing trees same = absurd trees
+tree_taken n d p (Lms code kind id seed) nothing trees same = ap (λ (r : Result (Unit {0}) KitFault). r >>= λ _. ok (with_host d p (Lms code kind id seed))) same
+tree_taken n d p (Hss levels code kind id seed) nothing trees same = ap (λ (r : Result (Unit {0}) KitFault). r >>= λ _. ok (with_host d p (Hss levels code kind id seed))) same
+
+-- what the line of a secret of trees needs is what its public key needs
+pub fits_built : (d : Draft) (p : ℕ) (s : Secret) → IsOfTrees s → Fits d (secret_line p s) → refusal_of s ≡ None
+fits_built d p (Plain key total) trees fits = absurd trees
+fits_built d p (Lms code kind id seed) trees fits = tree_not_refused code fits.1 fits.2
+fits_built d p (Hss levels code kind id seed) trees fits = levels_not_refused levels code kind fits.1
+
+pub fits_size : (d : Draft) (p : ℕ) (s : Secret) → IsOfTrees s → Fits d (secret_line p s) → length (listed_key d p) ≡ key_length (scheme_of s)
+fits_size d p (Plain key total) trees fits = absurd trees
+fits_size d p (Lms code kind id seed) trees fits = fits.0
+fits_size d p (Hss levels code kind id seed) trees fits = fits.0

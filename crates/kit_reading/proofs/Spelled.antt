@@ -2,11 +2,11 @@
 use Rattle.std.proofs.Common.{◌≡◌, ℕ, List, Result, Ok, Err, ap, subst, ◌∙◌}
 use Rattle.std.specs.Prelude.{IfOk}
 use Rattle.byte_defs.specs.Reads.{Makes}
-use Rattle.text_defs.specs.Kits.{IsKit, Kit, kit_text}
-use Rattle.text_defs.specs.KitReading.{kit_of}
-use Rattle.text_defs.proofs.ReadKits.{read_is_spelled}
-use Rattle.text_defs.proofs.SpelledKits.{spelled_is_read}
-use Rattle.kit_reading.specs.declared.reading.KitFault.{KitFault}
+use Rattle.kit_defs.specs.Kits.{IsKit, Kit, kit_text}
+use Rattle.kit_defs.specs.KitReading.{kit_of}
+use Rattle.kit_defs.proofs.ReadKits.{read_is_spelled}
+use Rattle.kit_defs.proofs.SpelledKits.{spelled_is_read}
+use Rattle.kit_reading.specs.declared.faults.KitFault.{KitFault}
 use Rattle.kit_reading.specs.Faults.{fault_of}
 
 -- what a reader answers, beside what reading gives

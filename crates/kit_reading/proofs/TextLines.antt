@@ -5,12 +5,13 @@ use Rattle.std.proofs.lemmas.List.Sums.{count_by-le-length}
 use Rattle.std.proofs.lemmas.List.Splits.{length-slice_split}
 use Rattle.byte_defs.specs.Fields.{◌>>=◌}
 use Rattle.byte_defs.specs.Reads.{Fails, Makes}
+use Rattle.sig_scheme.specs.Keys.{key_bytes}
 use Rattle.text_defs.specs.Words.{parts_of, line_feed}
-use Rattle.text_defs.specs.Kits.{Kit}
-use Rattle.text_defs.specs.KitReading as plain
-use Rattle.text_defs.specs.KitReading.{Draft, finish, kit_of, lines_at, take_line}
-use Rattle.kit_reading.specs.declared.reading.KitFault.{KitFault}
-use Rattle.kit_reading.specs.declared.reading.KitFault.TheVariants as faults
+use Rattle.kit_defs.specs.Kits.{Kit}
+use Rattle.kit_defs.specs.KitReading as plain
+use Rattle.kit_defs.specs.KitReading.{Draft, finish, kit_of, lines_at, take_line}
+use Rattle.kit_reading.specs.declared.faults.KitFault.{KitFault}
+use Rattle.kit_reading.specs.declared.faults.KitFault.TheVariants as faults
 use Rattle.kit_reading.specs.Faults.{fault_of}
 
 abbrev pub Answer : Type 0
@@ -58,7 +59,7 @@ module _ (n : ℕ) (d : Draft) (line : List ℕ) (left more : List (List ℕ)) (
   fails going (faults.Line l) bad = failed going (plain.Line l) bad
   fails going (faults.Repeated l) bad = failed going (plain.Repeated l) bad
   fails going (faults.Missing l) bad = failed going (plain.Missing l) bad
-  fails going (faults.KeyMismatch l made listed) bad = failed going (plain.KeyMismatch l made listed) bad
+  fails going (faults.KeyMismatch l made listed) bad = failed going (plain.KeyMismatch l (key_bytes made) (key_bytes listed)) bad
 
 pub no_part : (n : ℕ) (d : Draft) (left : List (List ℕ)) (all : Answer) → left ≡ [] → lines_at n d left ≡ all → all ≡ Err (plain.Line n)
 unfolding lines_at

@@ -1,3 +1,2 @@
-pub mod LineViews
-pub mod Drafts
+pub mod Additions
 pub mod Faults

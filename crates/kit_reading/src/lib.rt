@@ -1,9 +1,9 @@
 //! Kits read from text. docs/FORMATS.md says how they are spelled.
 #![tactic(auto)]
 
-mod draft;
-mod lines;
+mod faults;
 mod reading;
 mod taking;
 
-pub use reading::{KitFault, read_kit};
+pub use faults::KitFault;
+pub use reading::read_kit;

@@ -1,21 +1,23 @@
 //! Lines that are taken, one after another.
-ghost use Rattle.std.specs.Prelude.{◌≡◌, ◌∷◌, [], ◌++◌, length, IfOk, OnOk, OnErr};
+ghost use Rattle.std.specs.Prelude.{◌≡◌, ◌∷◌, [], ◌++◌, length, None, option_map, IfOk, OnOk, OnErr};
 ghost use Rattle.byte_defs.specs.Reads.{Makes};
-ghost use Rattle.sig_scheme.specs.Keys.{IsTooTall};
+ghost use Rattle.sig_scheme.specs.Keys.{key_bytes, key_scheme, refusal_of};
 ghost use Rattle.sig_scheme.specs.Views.{secret};
-ghost use Rattle.signature_defs.specs.Schemes as schemes;
-ghost use Rattle.signature_defs.specs.Secrets.{Plain, scheme_of, public_key_of};
-ghost use Rattle.text_defs.specs.Kits as plain_kits;
-ghost use Rattle.text_defs.specs.Kits.{secret_line};
-ghost use Rattle.text_defs.specs.KitReading as plain;
-ghost use Rattle.kit_reading.specs.Faults.{fault_of};
-ghost use Rattle.kit_reading.specs.LineViews.{line};
+ghost use Rattle.secret_defs.specs.Secrets.{Plain, scheme_of};
+ghost use Rattle.text_codec.specs.Views.{parts_left};
+ghost use Rattle.kit_defs.specs.Kits as plain_kits;
+ghost use Rattle.kit_defs.specs.Kits.{key_length, secret_line};
+ghost use Rattle.kit_defs.specs.KitReading as plain;
+ghost use Rattle.kit_draft.specs.Drafts.{IsDraft};
+ghost use Rattle.kit_lines.specs.LineViews.{line};
 ghost use Rattle.kit_file.specs.Views.{hosts};
+ghost use Rattle.kit_reading.specs.Additions.{CanAdd, IsOfTrees};
+ghost use Rattle.kit_reading.specs.Faults.{fault_of};
 
-use crate::draft::Draft;
-use crate::lines::{KitLine, line_by};
-use crate::reading::KitFault;
+use crate::faults::KitFault;
+use kit_draft::Draft;
 use kit_file::{Host, public_key_of};
+use kit_lines::{KitLine, line_by};
 use rp_base::{NoMemory, Pid};
 use sig_scheme::{PublicKey, Secret};
 use std::alloc::Global;
@@ -33,15 +35,15 @@ fn array_of<const N: usize>(bytes: &[u8]) -> [u8; N]
     array
 }
 
-// The public key that an LMS secret makes.
-fn made_key(alloc: Global, of: Secret) -> Result<[u8; 56], NoMemory>
-    requires lms { scheme_of (secret of) ≡ schemes.Lms }
-    requires low { ¬ IsTooTall (secret of) }
-    ensures { IfOk result (λ made. made ≡ public_key_of (secret of)) }
+// The bytes as a public key of the scheme that another one has.
+fn like(key: PublicKey, bytes: &[u8]) -> PublicKey
+    requires { length bytes.now ≡ key_length (key_scheme key) }
+    ensures { key_bytes result ≡ bytes.now }
 {
-    match public_key_of(alloc, of)? {
-        PublicKey::Lms(key) => Ok(key),
-        PublicKey::Plain(_) => unreachable!(),
+    match key {
+        PublicKey::Plain(_) => PublicKey::Plain(array_of(bytes)),
+        PublicKey::Lms(_) => PublicKey::Lms(array_of(bytes)),
+        PublicKey::Hss(_) => PublicKey::Hss(array_of(bytes)),
     }
 }
 
@@ -69,139 +71,169 @@ fn push_pair(all: &mut Vec<Host>, other: Pid, key: [u8; 32]) -> Result<(), NoMem
     Ok(())
 }
 
-impl Draft {
-    ghost use Rattle.kit_reading.specs.Drafts.{CanAdd, IsDraft};
-
-    // The public key on the key line of a process; empty where it has none.
-    fn listed_key(&self, p: Pid) -> &[u8]
-        ensures { result.now ≡ plain.listed_key self.now p }
-    {
-        match self.roster.key(p) {
-            Some(key) => key,
-            None => &[],
-        }
+// The public key on the key line of a process; empty where it has none.
+fn listed_key(draft: &Draft, p: Pid) -> &[u8]
+    ensures { result.now ≡ plain.listed_key draft.now p }
+{
+    match draft.roster.key(p) {
+        Some(key) => key,
+        None => &[],
     }
+}
 
-    // The process is hosted behind those that stand, with its listed key.
-    fn add_plain_host(&mut self, alloc: Global, process: Pid, total: u32) -> Result<(), NoMemory>
-        requires size { length (plain.listed_key self.old process) ≡ 32 }
-        requires keeps { IsDraft (plain.with_host self.old process (Plain (plain.listed_key self.old process) total)) }
-        ensures added { OnOk result (self.new ≡ plain.with_host self.old process (Plain (plain.listed_key self.old process) total)) }
-        ensures unchanged { OnErr result (self.new ≡ self.old) }
-    {
-        let key = array_of(self.listed_key(process));
-        push_host(
-            &mut self.hosts,
-            alloc,
+// The process is hosted behind those that stand, with its listed key.
+fn add_plain_host(
+    draft: &mut Draft,
+    alloc: Global,
+    process: Pid,
+    total: u32,
+) -> Result<(), NoMemory>
+    requires size { length (plain.listed_key draft.old process) ≡ 32 }
+    requires keeps { IsDraft (plain.with_host draft.old process (Plain (plain.listed_key draft.old process) total)) }
+    ensures added { OnOk result (draft.new ≡ plain.with_host draft.old process (Plain (plain.listed_key draft.old process) total)) }
+    ensures unchanged { OnErr result (draft.new ≡ draft.old) }
+{
+    let key = array_of(listed_key(draft, process));
+    push_host(
+        &mut draft.hosts,
+        alloc,
+        process,
+        Secret::Plain { key, total },
+    )
+}
+
+// Passes where the secret makes the public key on the key line of the process.
+fn match_key(
+    draft: &Draft,
+    alloc: Global,
+    number: usize,
+    process: Pid,
+    of: Secret,
+) -> Result<(), KitFault>
+    requires built { refusal_of (secret of) ≡ None }
+    requires size { length (plain.listed_key draft.now process) ≡ key_length (scheme_of (secret of)) }
+    ensures { Makes fault_of (λ nothing. nothing) result (plain.matching number draft.now process (secret of)) }
+{
+    let made = public_key_of(alloc, of)?;
+    let bytes = listed_key(draft, process);
+    if made.as_bytes() != bytes {
+        return Err(KitFault::KeyMismatch {
+            line: number,
+            made,
+            listed: like(made, bytes),
+        });
+    }
+    Ok(())
+}
+
+// The process is hosted behind those that stand, where the secret makes its listed key.
+fn add_tree_host(
+    draft: &mut Draft,
+    alloc: Global,
+    number: usize,
+    process: Pid,
+    of: Secret,
+) -> Result<(), KitFault>
+    requires trees { IsOfTrees (secret of) }
+    requires can { CanAdd number draft.old (secret_line process (secret of)) }
+    ensures added { Makes fault_of (λ _. draft.new) result (plain.with_line number draft.old (secret_line process (secret of))) }
+    ensures unchanged { OnErr result (draft.new ≡ draft.old) }
+{
+    match_key(draft, alloc, number, process, of)?;
+    push_host(&mut draft.hosts, alloc, process, of)?;
+    Ok(())
+}
+
+// Puts a line behind those that stand, where it is the next one.
+fn add_line(draft: &mut Draft, alloc: Global, number: usize, said: KitLine) -> Result<(), KitFault>
+    requires { CanAdd number draft.old (line said) }
+    ensures added { Makes fault_of (λ _. draft.new) result (plain.with_line number draft.old (line said)) }
+    ensures unchanged { OnErr result (draft.new ≡ draft.old) }
+{
+    match said {
+        KitLine::Version(version) => draft.version = Some(version),
+        KitLine::SchemeIs(scheme) => draft.scheme = Some(scheme),
+        KitLine::GroupIs(group) => draft.group = Some(group),
+        KitLine::Key { process, key } => draft.roster.add(process, key.as_bytes())?,
+        KitLine::Genesis(members) => draft.genesis = members,
+        KitLine::Port { process, port } => draft.ports.push((process, port))?,
+        KitLine::PlainHost { process, total } => {
+            add_plain_host(draft, alloc, process, total)?;
+        }
+        KitLine::LmsHost {
             process,
-            Secret::Plain { key, total },
-        )
-    }
-
-    // Passes where the secret makes the public key on the key line of the process.
-    fn match_key(
-        &self,
-        alloc: Global,
-        number: usize,
-        process: Pid,
-        of: Secret,
-    ) -> Result<(), KitFault>
-        requires lms { scheme_of (secret of) ≡ schemes.Lms }
-        requires low { ¬ IsTooTall (secret of) }
-        requires size { length (plain.listed_key self.now process) ≡ 56 }
-        ensures { Makes fault_of (λ nothing. nothing) result (plain.matching number self.now process (secret of)) }
-    {
-        let made = made_key(alloc, of)?;
-        let listed = array_of(self.listed_key(process));
-        if made != listed {
-            return Err(KitFault::KeyMismatch {
-                line: number,
-                made,
-                listed,
-            });
-        }
-        Ok(())
-    }
-
-    // The process is hosted behind those that stand, where the secret makes its listed key.
-    fn add_lms_host(
-        &mut self,
-        alloc: Global,
-        number: usize,
-        process: Pid,
-        of: Secret,
-    ) -> Result<(), KitFault>
-        requires lms { scheme_of (secret of) ≡ schemes.Lms }
-        requires can { CanAdd number self.old (secret_line process (secret of)) }
-        ensures added { Makes fault_of (λ _. self.new) result (plain.with_line number self.old (secret_line process (secret of))) }
-        ensures unchanged { OnErr result (self.new ≡ self.old) }
-    {
-        self.match_key(alloc, number, process, of)?;
-        push_host(&mut self.hosts, alloc, process, of)?;
-        Ok(())
-    }
-
-    // Puts a line behind those that stand, where it is the next one.
-    fn add_line(&mut self, alloc: Global, number: usize, said: KitLine) -> Result<(), KitFault>
-        requires { CanAdd number self.old (line said) }
-        ensures added { Makes fault_of (λ _. self.new) result (plain.with_line number self.old (line said)) }
-        ensures unchanged { OnErr result (self.new ≡ self.old) }
-    {
-        match said {
-            KitLine::Version => self.version = true,
-            KitLine::SchemeIs(scheme) => self.scheme = Some(scheme),
-            KitLine::GroupIs(group) => self.group = Some(group),
-            KitLine::Key { process, key } => self.roster.add(process, key.as_bytes())?,
-            KitLine::Genesis(members) => self.genesis = members,
-            KitLine::Port { process, port } => self.ports.push((process, port))?,
-            KitLine::PlainHost { process, total } => {
-                self.add_plain_host(alloc, process, total)?;
-            }
-            KitLine::LmsHost {
-                process,
+            height,
+            ots,
+            id,
+            seed,
+        } => {
+            let secret = Secret::Lms {
                 height,
                 ots,
                 id,
                 seed,
-            } => {
-                let secret = Secret::Lms {
-                    height,
-                    ots,
-                    id,
-                    seed,
-                };
-                self.add_lms_host(alloc, number, process, secret)?;
-            }
-            KitLine::Pair { other, key, .. } => push_pair(&mut self.hosts, other, key)?,
+            };
+            add_tree_host(draft, alloc, number, process, secret)?;
         }
-        Ok(())
+        KitLine::HssHost {
+            process,
+            levels,
+            height,
+            ots,
+            id,
+            seed,
+        } => {
+            let secret = Secret::Hss {
+                levels,
+                height,
+                ots,
+                id,
+                seed,
+            };
+            add_tree_host(draft, alloc, number, process, secret)?;
+        }
+        KitLine::Pair { other, key, .. } => push_pair(&mut draft.hosts, other, key)?,
     }
+    Ok(())
+}
 
-    /// Takes the line of this number, without its line feed, behind those that stand, or answers its first fault.
-    #[tactic(auto, unfolding(text_defs::specs::KitReading::take_line))]
-    pub fn take_line(&mut self, alloc: Global, number: usize, text: &[u8]) -> Result<(), KitFault>
-        ensures taken { Makes fault_of (λ _. self.new) result (plain.take_line number self.old text.now) }
-        ensures unchanged { OnErr result (self.new ≡ self.old) }
-    {
-        if text.len() > MOST_LINE_BYTES {
-            return Err(KitFault::Line { line: number });
-        }
-        let words = Words::words(text);
-        if self.is_repeated(words) {
-            return Err(KitFault::Repeated { line: number });
-        }
-        let Some(said) = line_by(self.scheme, words) else {
-            return Err(KitFault::Line { line: number });
-        };
-        if self.is_outside(&said) || self.is_late(&said) {
-            return Err(KitFault::Line { line: number });
-        }
-        if self.is_early(&said) {
-            return Err(KitFault::Missing { line: number });
-        }
-        if self.is_of_strangers(&said) {
-            return Err(KitFault::Line { line: number });
-        }
-        self.add_line(alloc, number, said)
+// The line that these words are behind those that stand.
+fn said_by(draft: &Draft, words: Words<'_>) -> Option<KitLine>
+    ensures said { option_map line result ≡ plain.line_by (plain.may_of draft.now) (parts_left words.entry) }
+    ensures holds { IsDraft draft.now }
+{
+    line_by(draft.told(), words)
+}
+
+/// Takes the line of this number, without its line feed, behind those that stand, or answers its first fault.
+#[tactic(auto, unfolding(kit_defs::specs::KitReading::take_line))]
+pub fn take_line(
+    draft: &mut Draft,
+    alloc: Global,
+    number: usize,
+    text: &[u8],
+) -> Result<(), KitFault>
+    ensures taken { Makes fault_of (λ _. draft.new) result (plain.take_line number draft.old text.now) }
+    ensures unchanged { OnErr result (draft.new ≡ draft.old) }
+{
+    if text.len() > MOST_LINE_BYTES {
+        return Err(KitFault::Line { line: number });
     }
+    let words = Words::words(text);
+    if draft.is_repeated(words) {
+        return Err(KitFault::Repeated { line: number });
+    }
+    let Some(said) = said_by(draft, words) else {
+        return Err(KitFault::Line { line: number });
+    };
+    if draft.is_outside(&said) || draft.is_late(&said) {
+        return Err(KitFault::Line { line: number });
+    }
+    if draft.is_early(&said) {
+        return Err(KitFault::Missing { line: number });
+    }
+    if draft.is_of_strangers(&said) {
+        return Err(KitFault::Line { line: number });
+    }
+    add_line(draft, alloc, number, said)
 }

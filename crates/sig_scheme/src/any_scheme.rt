@@ -1,7 +1,8 @@
 ghost use Rattle.std.specs.Prelude.{◌≡◌};
-ghost use Rattle.signature_defs.specs.Schemes.{is_valid};
+ghost use Rattle.secret_defs.specs.Schemes.{is_valid};
 ghost use Rattle.sig_scheme.specs.Views.{scheme};
 
+use lms_hss::hss_verify;
 use lms_tree::lms_verify;
 use rp_base::{PlainScheme, Scheme};
 
@@ -13,6 +14,9 @@ pub enum AnyScheme {
 
     /// LMS trees with SHA-256 (RFC 8554, section 5).
     Lms,
+
+    /// LMS trees in levels (RFC 8554, section 6).
+    Hss,
 }
 
 impl Scheme for AnyScheme {
@@ -22,6 +26,7 @@ impl Scheme for AnyScheme {
         match self {
             AnyScheme::Plain => PlainScheme.verify(key, body, sig),
             AnyScheme::Lms => lms_verify(key, body, sig),
+            AnyScheme::Hss => hss_verify(key, body, sig),
         }
     }
 }

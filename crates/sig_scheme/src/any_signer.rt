@@ -1,3 +1,4 @@
+use lms_hss::HssKey;
 use lms_tree::LmsKey;
 use rp_base::{PlainSigner, Signer, Spent, Tally};
 
@@ -9,6 +10,9 @@ pub enum AnySigner {
 
     /// It signs once with each leaf of its tree.
     Lms(LmsKey),
+
+    /// It signs once with each leaf of its lowest trees, which follow one another.
+    Hss(HssKey),
 }
 
 impl Tally for AnySigner {
@@ -24,6 +28,7 @@ impl Tally for AnySigner {
         match self {
             AnySigner::Plain(signer) => signer.used(),
             AnySigner::Lms(key) => key.used(),
+            AnySigner::Hss(key) => key.used(),
         }
     }
 
@@ -31,6 +36,7 @@ impl Tally for AnySigner {
         match self {
             AnySigner::Plain(signer) => signer.total(),
             AnySigner::Lms(key) => key.total(),
+            AnySigner::Hss(key) => key.total(),
         }
     }
 
@@ -38,6 +44,7 @@ impl Tally for AnySigner {
         match self {
             AnySigner::Plain(signer) => signer.skip_to(to),
             AnySigner::Lms(key) => key.skip_to(to),
+            AnySigner::Hss(key) => key.skip_to(to),
         }
     }
 }
@@ -59,6 +66,7 @@ impl Signer for AnySigner {
         match self {
             AnySigner::Plain(signer) => signer.public(),
             AnySigner::Lms(key) => key.public(),
+            AnySigner::Hss(key) => key.public(),
         }
     }
 
@@ -66,6 +74,7 @@ impl Signer for AnySigner {
         match self {
             AnySigner::Plain(signer) => signer.sig_len(),
             AnySigner::Lms(key) => key.sig_len(),
+            AnySigner::Hss(key) => key.sig_len(),
         }
     }
 
@@ -73,6 +82,7 @@ impl Signer for AnySigner {
         match self {
             AnySigner::Plain(signer) => signer.sign(body, out),
             AnySigner::Lms(key) => key.sign(body, out),
+            AnySigner::Hss(key) => key.sign(body, out),
         }
     }
 }

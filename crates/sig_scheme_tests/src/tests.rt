@@ -1,6 +1,6 @@
 use rp_base::{Scheme, Signer, Tally};
 use sha2::{Digest, Sha256};
-use sig_scheme::{AnyScheme, KeyFault, OtsType, PublicKey, Secret};
+use sig_scheme::{AnyScheme, KeyFault, OtsType, PublicKey, Secret, levels_are_built};
 use std::alloc::Global;
 use std::test::Fail;
 
@@ -12,6 +12,17 @@ const PLAIN: Secret = Secret::Plain {
 const LMS: Secret = Secret::Lms {
     height: 5,
     ots: OtsType::W1,
+    id: [0, 1, 2, 3, 4, 5, 6, 7, 8, 9, 10, 11, 12, 13, 14, 15],
+    seed: [
+        32, 33, 34, 35, 36, 37, 38, 39, 40, 41, 42, 43, 44, 45, 46, 47, 48, 49, 50, 51, 52, 53, 54,
+        55, 56, 57, 58, 59, 60, 61, 62, 63,
+    ],
+};
+
+const HSS: Secret = Secret::Hss {
+    levels: 2,
+    height: 5,
+    ots: OtsType::W8,
     id: [0, 1, 2, 3, 4, 5, 6, 7, 8, 9, 10, 11, 12, 13, 14, 15],
     seed: [
         32, 33, 34, 35, 36, 37, 38, 39, 40, 41, 42, 43, 44, 45, 46, 47, 48, 49, 50, 51, 52, 53, 54,
@@ -69,6 +80,13 @@ fn signers_sign_as_the_other_program_does(rt: HostRuntime) -> Result<(), Fail> {
             0x4fc95fd6bb561b94,
             0xc478571942480669,
         ),
+        (
+            HSS,
+            1024,
+            0x06fae04d68ce750c,
+            0xa6d40af11b0785e0,
+            0x94683ab19414df0f,
+        ),
     ] {
         let mut signer = secret.signer(rt.alloc())?;
         assert_eq!(rt; mark(&sign(rt.alloc(), &mut signer)?), first, "{secret:?}");
@@ -83,14 +101,21 @@ fn signers_sign_as_the_other_program_does(rt: HostRuntime) -> Result<(), Fail> {
 
 #[test]
 fn a_signature_is_valid_by_its_own_scheme_alone(rt: HostRuntime) -> Result<(), Fail> {
-    for (secret, own, other) in [
-        (PLAIN, AnyScheme::Plain, AnyScheme::Lms),
-        (LMS, AnyScheme::Lms, AnyScheme::Plain),
+    let schemes = [AnyScheme::Plain, AnyScheme::Lms, AnyScheme::Hss];
+    for (secret, own) in [
+        (PLAIN, AnyScheme::Plain),
+        (LMS, AnyScheme::Lms),
+        (HSS, AnyScheme::Hss),
     ] {
         let mut signer = secret.signer(rt.alloc())?;
         let sig = sign(rt.alloc(), &mut signer)?;
-        assert!(rt; is_valid(&own, signer.public(), &sig));
-        assert!(rt; !is_valid(&other, signer.public(), &sig));
+        for scheme in schemes {
+            assert_eq!(rt;
+                is_valid(&scheme, signer.public(), &sig),
+                scheme == own,
+                "{scheme:?}"
+            );
+        }
     }
     Ok(())
 }
@@ -102,6 +127,9 @@ fn public_keys_are_those_of_the_signers(rt: HostRuntime) -> Result<(), Fail> {
     assert!(rt; plain == PublicKey::Plain([7; 32]) && plain.as_bytes() == [7; 32].as_slice());
     assert!(rt; lms != plain && lms.as_bytes().len() == 56);
     assert!(rt; mark(lms.as_bytes()) == 0x002750d937bb00c9);
+    let hss = HSS.public_key(rt.alloc())?;
+    assert!(rt; hss != lms && hss.as_bytes().len() == 60);
+    assert!(rt; mark(hss.as_bytes()) == 0x06fae04d68ce750c);
     Ok(())
 }
 
@@ -125,11 +153,58 @@ fn only_trees_of_three_heights_have_signers(rt: HostRuntime) {
     }
 }
 
+// Rows with the first reason each, or none; a key of levels that are built is not made here, as some take long.
+#[test]
+fn only_some_levels_have_signers(rt: HostRuntime) {
+    for (levels, height, ots, fault) in [
+        (0, 4, OtsType::W1, Some(KeyFault::Levels)),
+        (4, 5, OtsType::W8, Some(KeyFault::Levels)),
+        (2, 4, OtsType::W1, Some(KeyFault::TooTall)),
+        (1, 8, OtsType::W8, Some(KeyFault::TooTall)),
+        (3, 7, OtsType::W1, Some(KeyFault::TooTall)),
+        (2, 5, OtsType::W1, Some(KeyFault::TooLong)),
+        (3, 6, OtsType::W1, Some(KeyFault::TooLong)),
+        (1, 7, OtsType::W1, None),
+        (2, 7, OtsType::W2, None),
+        (3, 6, OtsType::W8, None),
+    ] {
+        assert_eq!(rt;
+            levels_are_built(levels, height, ots),
+            fault.is_none(),
+            "{levels} {height} {ots:?}"
+        );
+        let secret = Secret::Hss {
+            levels,
+            height,
+            ots,
+            id: [0; 16],
+            seed: [0; 32],
+        };
+        if fault.is_some() {
+            assert_eq!(rt;
+                secret.signer(rt.alloc()).err(),
+                fault,
+                "{levels} {height} {ots:?}"
+            );
+            assert_eq!(rt;
+                secret.public_key(rt.alloc()).err(),
+                fault,
+                "{levels} {height} {ots:?}"
+            );
+        }
+    }
+}
+
 #[test]
 fn keys_and_seeds_are_not_printed(rt: HostRuntime) -> Result<(), Fail> {
     let plain = format!(in rt.alloc(); "{PLAIN:?}")?;
     let lms = format!(in rt.alloc(); "{LMS:?}")?;
+    let hss = format!(in rt.alloc(); "{HSS:?}")?;
     assert_eq!(rt; plain.as_str(), "Plain { total: 2, .. }");
+    assert_eq!(rt;
+        hss.as_str(),
+        "Hss { levels: 2, height: 5, ots: W8, id: [0, 1, 2, 3, 4, 5, 6, 7, 8, 9, 10, 11, 12, 13, 14, 15], .. }"
+    );
     assert_eq!(rt;
         lms.as_str(),
         "Lms { height: 5, ots: W1, id: [0, 1, 2, 3, 4, 5, 6, 7, 8, 9, 10, 11, 12, 13, 14, 15], .. }"
@@ -141,10 +216,11 @@ fn keys_and_seeds_are_not_printed(rt: HostRuntime) -> Result<(), Fail> {
 fn signers_are_printed_without_their_keys(rt: HostRuntime) -> Result<(), Fail> {
     let plain = PLAIN.signer(rt.alloc())?;
     let lms = LMS.signer(rt.alloc())?;
-    let printed = format!(in rt.alloc(); "{plain:?} {lms:?}")?;
+    let hss = HSS.signer(rt.alloc())?;
+    let printed = format!(in rt.alloc(); "{plain:?} {lms:?} {hss:?}")?;
     assert_eq!(rt;
         printed.as_str(),
-        "Plain(PlainSigner { total: 2, used: 0, .. }) Lms(LmsKey { .. })"
+        "Plain(PlainSigner { total: 2, used: 0, .. }) Lms(LmsKey { .. }) Hss(HssKey { .. })"
     );
     Ok(())
 }

@@ -1,5 +1,1 @@
 pub mod Words
-pub mod Kits
-pub mod KitReading
-pub mod KitMaking
-pub mod KitLaws

@@ -1,5 +1,5 @@
 use Rattle.std.proofs.Common.{ap, ◌∙◌, List, ℕ}
-use Rattle.text_defs.specs.KitReading.{kit_of}
+use Rattle.kit_defs.specs.KitReading.{kit_of}
 use Rattle.interop_kits.specs.Kits.{said}
 use Rattle.interop_kits.proofs.KitLaws.{kit_answers}
 use Rattle.interop_kits.proofs.kits.answer_on_kit.Goals as goal

@@ -1,6 +1,6 @@
 use Rattle.std.proofs.Common.{◌≡◌, ◌++◌, take}
 use Rattle.std.specs.List.{flat_map}
-use Rattle.text_defs.specs.Kits.{host_lines, text_of_lines}
+use Rattle.kit_defs.specs.Kits.{host_lines, text_of_lines}
 use Rattle.kit_file.specs.Views.{hosts}
 use Rattle.kit_file.proofs.writing.push_hosts.Given as goal
 

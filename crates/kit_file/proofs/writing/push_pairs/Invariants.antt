@@ -1,5 +1,5 @@
 use Rattle.std.proofs.Common.{◌≡◌, ◌++◌, map, take}
-use Rattle.text_defs.specs.Kits.{pair_line, text_of_lines}
+use Rattle.kit_defs.specs.Kits.{pair_line, text_of_lines}
 use Rattle.kit_file.proofs.writing.push_pairs.Given as goal
 
 abbrev pub invariant-loop-other : goal.invariant-loop-other

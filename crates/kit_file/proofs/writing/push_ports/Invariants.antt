@@ -1,5 +1,5 @@
 use Rattle.std.proofs.Common.{◌≡◌, ◌++◌, map, take}
-use Rattle.text_defs.specs.Kits.{port_line, text_of_lines}
+use Rattle.kit_defs.specs.Kits.{port_line, text_of_lines}
 use Rattle.kit_file.proofs.writing.push_ports.Given as goal
 
 abbrev pub invariant-loop-process : goal.invariant-loop-process

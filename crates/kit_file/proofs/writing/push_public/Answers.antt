@@ -1,7 +1,7 @@
 use Rattle.std.proofs.Common.{◌++◌, map, ap, ◌∙◌}
 use Rattle.std.proofs.lemmas.Result.{on_ok_weaker}
 use Rattle.text_defs.specs.Words.{line_text}
-use Rattle.text_defs.specs.Kits.{Genesis, Kit, line_words, port_line, public_lines, text_of_lines}
+use Rattle.kit_defs.specs.Kits.{Genesis, Kit, line_words, port_line, public_lines, text_of_lines}
 use Rattle.kit_file.specs.Views.{kit}
 use Rattle.kit_file.proofs.Texts.{public_text}
 use Rattle.kit_file.proofs.writing.push_public.Goals as goal

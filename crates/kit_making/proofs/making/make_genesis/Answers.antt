@@ -1,6 +1,6 @@
 use Rattle.std.proofs.Common.{◌<◌, [], ◌∷◌, ◌++◌, ap, ◌∙◌, arith, lit<}
 use Rattle.std.proofs.lemmas.List.FromFn.{length-range_with_len}
-use Rattle.text_defs.specs.KitMaking.{first_numbers}
+use Rattle.kit_defs.specs.KitMaking.{first_numbers}
 use Rattle.kit_making.proofs.Made.{first_more}
 use Rattle.kit_making.proofs.making.make_genesis.Goals as goal
 

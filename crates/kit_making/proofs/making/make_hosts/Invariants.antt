@@ -1,5 +1,5 @@
 use Rattle.std.proofs.Common.{◌≡◌, map}
-use Rattle.text_defs.specs.KitMaking.{first_numbers, made_host}
+use Rattle.kit_defs.specs.KitMaking.{first_numbers, made_host}
 use Rattle.kit_file.specs.Views.{hosts}
 use Rattle.kit_making.proofs.making.make_hosts.Given as goal
 

@@ -1,6 +1,6 @@
 use Rattle.std.proofs.Common.{sym, subst, ◌∙◌}
 use Rattle.std.proofs.lemmas.Result.{IfOk-weaker}
-use Rattle.text_defs.specs.Kits.{IsKit}
+use Rattle.kit_defs.specs.Kits.{IsKit}
 use Rattle.kit_making.proofs.Made.{hosts_rise, kit_is}
 use Rattle.kit_making.proofs.MadeKits.{made_is_kit}
 use Rattle.kit_making.proofs.making.make_kit.Goals as goal

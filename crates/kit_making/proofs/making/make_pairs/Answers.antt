@@ -1,5 +1,5 @@
 use Rattle.std.proofs.Common.{ℕ, List, ap, ◌∙◌}
-use Rattle.text_defs.specs.KitMaking.{derived_pair}
+use Rattle.kit_defs.specs.KitMaking.{derived_pair}
 use Rattle.kit_making.proofs.Made.{own_more, pairs_more}
 use Rattle.kit_making.proofs.making.make_pairs.Goals as goal
 use Rattle.kit_making.proofs.making.make_pairs.Goals.{then-q-p+in_ok-push, else-q-p}

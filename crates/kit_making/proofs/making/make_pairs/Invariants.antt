@@ -1,6 +1,6 @@
 use Rattle.std.proofs.Common.{◌≡◌, map}
-use Rattle.text_defs.specs.Kits.{others_than}
-use Rattle.text_defs.specs.KitMaking.{first_numbers, derived_pair}
+use Rattle.kit_defs.specs.Kits.{others_than}
+use Rattle.kit_defs.specs.KitMaking.{first_numbers, derived_pair}
 use Rattle.kit_making.proofs.making.make_pairs.Given as goal
 
 abbrev pub invariant-loop-q : goal.invariant-loop-q

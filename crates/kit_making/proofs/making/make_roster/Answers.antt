@@ -1,8 +1,13 @@
-use Rattle.std.proofs.Common.{ℕ, List, refl, ap, ◌∙◌}
-use Rattle.signature_defs.specs.Secrets.{public_key_of}
-use Rattle.text_defs.specs.KitMaking.{derived_secret}
+use Rattle.std.proofs.Common.{◌≡◌, ℕ, List, None, refl, ap, subst, sym, ◌∙◌}
+use Rattle.sig_scheme.specs.Keys.{refusal_of}
+use Rattle.secret_defs.specs.Secrets.{public_key_of}
+use Rattle.kit_defs.specs.KitMaking.{derived_secret}
 use Rattle.kit_making.proofs.Made.{below_next, made_by, pair_is}
+use Rattle.kit_making.proofs.MadeKits.{not_refused}
 use Rattle.kit_making.proofs.making.make_roster.Goals as goal
+
+pub public_key_of-requires : goal.public_key_of-requires
+public_key_of-requires c = subst (λ s. refusal_of s ≡ None) (sym c.secret_of.ensures) (not_refused c.args.keys c.args.seed.now c.loop-p.p c.requires.plan)
 
 pub add-requires : goal.add-requires
 add-requires c =

@@ -1,4 +1,4 @@
-use Rattle.text_defs.proofs.ReadKits.{read_is_spelled}
+use Rattle.kit_defs.proofs.ReadKits.{read_is_spelled}
 use Rattle.kit_reading.proofs.reading.read.Goals as goal
 
 pub new-requires : goal.new-requires

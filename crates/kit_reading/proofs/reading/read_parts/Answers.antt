@@ -2,7 +2,7 @@ use Rattle.std.proofs.Common.{length, sym, ap, ◌∙◌, arith}
 use Rattle.std.proofs.lemmas.Bool.{eqb-true}
 use Rattle.std.proofs.lemmas.Result.{err_from_is_err_and}
 use Rattle.text_codec.specs.Views.{parts_left}
-use Rattle.text_defs.specs.KitReading.{kit_of}
+use Rattle.kit_defs.specs.KitReading.{kit_of}
 use Rattle.kit_reading.proofs.TextLines.{begun, no_part, is_whole, has_more, goes_on, fails, made_of_all, parts_most}
 use Rattle.kit_reading.proofs.reading.read_parts.Goals as goal
 
@@ -34,7 +34,7 @@ overflow_add-number c = omega (arith, parts_most c.args.text.now, c.lines.invari
 pub lines-preserved : goal.lines-preserved
 lines-preserved c = record {
   so_far = goes_on c.lines.number c.lines.draft c.in-Some.line.now (parts_left c.lines.lines) (parts_left c.next.new.self) (kit_of c.args.text.now) c.in-Some.ensures.steps c.lines.invariant.so_far
-      (sym c.is_done.ensures ∙ c.if-is_done.false) c.take_line.new.self c.in_ok-take_line.ensures.taken;
+      (sym c.is_done.ensures ∙ c.if-is_done.false) c.take_line.new.draft c.in_ok-take_line.ensures.taken;
   count = omega (arith, ap length c.in-Some.ensures.steps, c.lines.invariant.count);
 }
 

@@ -1,7 +1,7 @@
 use Rattle.std.proofs.Common.{◌≡◌, ◌+◌, length}
 use Rattle.text_codec.specs.Views.{parts_left}
 use Rattle.text_defs.specs.Words.{parts_of}
-use Rattle.text_defs.specs.KitReading.{kit_of, lines_at}
+use Rattle.kit_defs.specs.KitReading.{kit_of, lines_at}
 use Rattle.kit_reading.proofs.reading.read_parts.Given as goal
 
 abbrev pub invariant-lines : goal.invariant-lines

@@ -1,0 +1,4 @@
+pub mod Kits
+pub mod KitReading
+pub mod KitMaking
+pub mod KitLaws

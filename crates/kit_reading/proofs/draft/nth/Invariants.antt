@@ -1,9 +1,0 @@
-use Rattle.std.proofs.Common.{◌≡◌, drop, length}
-use Rattle.text_defs.specs.KitReading.{first_of}
-use Rattle.kit_reading.proofs.draft.nth.Given as goal
-
-abbrev pub invariant-rest : goal.invariant-rest
-invariant-rest l = first_of (drop l.left l.rest) ≡ first_of (drop l.n l.fn.set)
-
-abbrev pub decreases-rest : goal.decreases-rest
-decreases-rest l = length l.rest

@@ -1,0 +1,18 @@
+-- The scheme of a group's signatures.
+use Rattle.std.specs.Prelude.{ℕ, List, Bool}
+use Rattle.signature_defs.specs.Hss.{hss_valid}
+use Rattle.signature_defs.specs.Schemes as single
+
+pub data Scheme : Type 0 where
+  -- for rehearsals
+  Plain : Scheme
+  -- one tree
+  Lms : Scheme
+  -- trees in levels
+  Hss : Scheme
+
+-- the signature is valid by the scheme: key, body, signature
+abbrev pub is_valid : Scheme → List ℕ → List ℕ → List ℕ → Bool
+is_valid Plain = single.is_valid single.Plain
+is_valid Lms = single.is_valid single.Lms
+is_valid Hss = hss_valid
