@@ -103,17 +103,24 @@ module _ (bytes : List ℕ) (c : Claim) (k : Kept) (start : k.start ≡ length b
         keyed = ap (λ st. key_of c.signer (slot_of st)) statement;
       }
 
+  -- its entry behind the others
+  pub pushed_kept : (es : List (Key × Kept)) → AreKept bytes es → IsStatement c.statement → AreKept now (es ++ (key_of c.signer (slot_of c.statement), k) ∷ [])
+  pushed_kept es kept fits = are_kept_push now es (key_of c.signer (slot_of c.statement), k) (are_kept bytes (spelling c.statement ++ c.signature) es kept) (new_kept fits)
+
+  pub pushed_heard : (es : List (Key × Kept)) → AreKept bytes es → IsStatement c.statement → heard_in now (es ++ (key_of c.signer (slot_of c.statement), k) ∷ []) ≡ heard_in bytes es ++ c ∷ []
+  pushed_heard es kept fits =
+      map-append (claim_at now) es ((key_of c.signer (slot_of c.statement), k) ∷ [])
+      ∙ (λ i. heard_stays bytes (spelling c.statement ++ c.signature) es kept i ++ new_claim fits i ∷ [])
+
   module _ {S : Type 0} (m : IndexMap Key Kept S) (kept : AreKept bytes m.entries) (fits : IsStatement c.statement) (fresh : claim_on (heard_in bytes m.entries) c.signer (slot_of c.statement) ≡ None) where
     grown : insert_entry same_key m.entries (key_of c.signer (slot_of c.statement)) k ≡ m.entries ++ (key_of c.signer (slot_of c.statement), k) ∷ []
     grown = insert_entry-new same_key m (key_of c.signer (slot_of c.statement)) k (none-from_map (claim_with bytes c.signer) _ (lookup_is_claim bytes m.entries kept c.signer (slot_of c.statement) ∙ fresh))
 
     pub all_kept : AreKept now (insert_entry same_key m.entries (key_of c.signer (slot_of c.statement)) k)
-    all_kept = subst (AreKept now) (sym grown) (are_kept_push now m.entries (key_of c.signer (slot_of c.statement), k) (are_kept bytes (spelling c.statement ++ c.signature) m.entries kept) (new_kept fits))
+    all_kept = subst (AreKept now) (sym grown) (pushed_kept m.entries kept fits)
 
     pub all_heard : heard_in now (insert_entry same_key m.entries (key_of c.signer (slot_of c.statement)) k) ≡ heard_in bytes m.entries ++ c ∷ []
-    all_heard =
-        ap (heard_in now) grown ∙ map-append (claim_at now) m.entries ((key_of c.signer (slot_of c.statement), k) ∷ [])
-        ∙ (λ i. heard_stays bytes (spelling c.statement ++ c.signature) m.entries kept i ++ new_claim fits i ∷ [])
+    all_heard = ap (heard_in now) grown ∙ pushed_heard m.entries kept fits
 
     pub all_filled : length bytes ≡ sum_by claim_bytes (heard_in bytes m.entries) → length now ≡ sum_by claim_bytes (heard_in now (insert_entry same_key m.entries (key_of c.signer (slot_of c.statement)) k))
     all_filled filled =

@@ -2,3 +2,4 @@ pub mod Keyed
 pub mod Found
 pub mod Adding
 pub mod Signers
+pub mod Sets

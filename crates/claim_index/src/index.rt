@@ -22,7 +22,7 @@ use view_table::{View, quorum};
 
 /// Where the bytes of a claim stand: its statement's from `start` on, and its signature's behind them.
 #[derive(Clone, Copy, Debug)]
-pub(crate) struct Kept {
+pub struct Kept {
     start: usize,
     said: u16,
     signed: u16,
@@ -57,8 +57,8 @@ fn find(kept: &IndexMap<Key, Kept>, key: &Key) -> Option<Kept>
     kept.get(key).copied()
 }
 
-// The claim whose bytes stand there.
-fn lent(bytes: &[u8], signer: Pid, kept: Kept) -> Claim<'_>
+/// The signer's claim whose bytes stand there.
+pub fn lent(bytes: &[u8], signer: Pid, kept: Kept) -> Claim<'_>
     requires within { past kept ≤ length bytes.now }
     requires readable { IsOk (statement_of (statement_bytes bytes.now kept)) }
     ensures value { claim result ≡ claim_with bytes.now signer kept }
@@ -92,8 +92,9 @@ fn claim_under<'a>(
     }
 }
 
-// Puts the claim's bytes behind those that stand there, and answers where they stand.
-fn store(bytes: &mut Vec<u8>, claim: &Claim<'_>) -> Kept
+/// Puts the claim's bytes behind those that stand there, and answers where they stand. It takes no memory: room for them
+/// must be reserved.
+pub fn store(bytes: &mut Vec<u8>, claim: &Claim<'_>) -> Kept
     requires range { IsStatement (stmt claim.now.statement) }
     requires short { length claim.now.signature.now ≤ 16384 }
     requires room { vec_len bytes.old + (length (spelling (stmt claim.now.statement)) + length claim.now.signature.now) ≤ vec_capacity bytes.old }

@@ -5,5 +5,5 @@
 mod index;
 mod key;
 
-pub use index::ClaimIndex;
+pub use index::{ClaimIndex, Kept, lent, store};
 pub use key::{Key, SlotKey, slot_key_at, slot_key_of};

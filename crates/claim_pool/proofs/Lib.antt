@@ -1,4 +1,3 @@
-pub mod Noting
 pub mod Judged
 pub mod Few
-pub mod PlacedLength
+pub mod Packed

@@ -1,5 +1,5 @@
 -- The verdict on a claim, in the two parts in which it is found, and what is heard after it.
-use Rattle.std.specs.Prelude.{Bool, not, nat_lt, List, [], ◌∷◌, is_some}
+use Rattle.std.specs.Prelude.{Bool, not, nat_lt, List, [], ◌∷◌, is_some, if◌then◌else◌}
 use Rattle.message_defs.specs.Statements.{Claim, slot_of, view_of}
 use Rattle.group_defs.specs.Process.{Setting, Pool, Process}
 use Rattle.group_defs.specs.Certified.{heard_on, says}
@@ -23,6 +23,10 @@ verdict Heard = defs.Heard
 abbrev pub after : defs.Verdict → Pool → Claim → Pool
 after defs.Heard h c = with_heard h c
 after _ h c = h
+
+-- an own claim is heard at once, unless one of its signer for that slot is heard
+abbrev pub with_own : Pool → Claim → Pool
+with_own h c = if is_some (heard_on h c.signer (slot_of c.statement)) then h else with_heard h c
 
 -- the first four tests, which look at no heard claim
 abbrev pub early_tests : Process → Claim → List (Bool × defs.Verdict)

@@ -5,13 +5,12 @@
 mod certificate;
 mod checked;
 mod hearing;
-mod places;
 mod pool;
-mod quorums;
 mod verdict;
 
 pub use certificate::{Ack, CertKind, Certificate, Commit, Keep, Message, Place};
 pub use checked::{Checked, check};
 pub use own_place::Own;
 pub use pool::Pool;
+pub use pool_values::UpdateSet;
 pub use verdict::Verdict;

@@ -1,33 +1,37 @@
-ghost use Rattle.std.specs.Prelude.{◌≡◌, ◌+◌, ◌≤◌, ◌↔◌, None, IsTrue, length, slice_get, unwrap_or, OnOk, IfOk, IfSome, option_and_then, sum_by};
+ghost use Rattle.std.specs.Prelude.{◌≡◌, ◌+◌, ◌≤◌, ◌↔◌, None, IsTrue, is_some, length, map, take, ℕ, slice_get, unwrap_or, OnOk, IfOk, IfSome, option_and_then, sum_by};
+ghost use Rattle.std.specs.Bool.{OnFalse};
 ghost use Rattle.byte_defs.specs.Choices.{first_that_holds};
 ghost use Rattle.std.specs.Option.{option_map};
 ghost use Rattle.message_defs.specs.Spelling.{IsStatement, IsClaim};
+ghost use Rattle.message_defs.specs.Updates as updates;
 ghost use Rattle.message_defs.specs.Statements as plain;
 ghost use Rattle.group_defs.specs.Process as defs;
 ghost use Rattle.group_defs.specs.Certified as certified;
 ghost use Rattle.group_defs.specs.Hearing as hearing;
+ghost use Rattle.group_defs.specs.Signing.{Signer, own_claim, signs};
 ghost use Rattle.stmt_codec.specs.Views.{stmt, slot as slot_at, claim, claim as claim_of};
 ghost use Rattle.byte_defs.specs.Orders.{sorted};
 ghost use Rattle.rp_base.specs.Views.{update as update_of};
 ghost use Rattle.group_defs.specs.Views.{quorum};
 ghost use Rattle.claim_pool.specs.Certificates.{content_of, signers_of};
 ghost use Rattle.claim_index.specs.Kept.{by_number, claim_bytes, empty_pool, with_heard};
+ghost use Rattle.pool_values.specs.Updates.{has_update};
 ghost use Rattle.claim_pool.specs.Settings.{as_setting};
 ghost use Rattle.own_place.specs.Owns.{HasDelivered};
-ghost use Rattle.claim_pool.specs.Verdicts.{verdict, after, late_tests};
+ghost use Rattle.claim_pool.specs.Verdicts.{verdict, after, with_own, late_tests};
 
 use crate::certificate::{CertKind, Certificate};
 use crate::checked::is_signed;
 use crate::hearing::turned_away;
-use crate::places::Places;
 use crate::verdict::Verdict;
 use claim_index::ClaimIndex;
 use own_place::Own;
+use pool_values::{Places, UpdateSet};
 use rp_base::{GroupId, NoMemory, Pid, Roster, Scheme, Update};
 use std::alloc::Global;
 use std::marker::{Model, PhantomData};
-use stmt_codec::{Claim, Slot, Statement};
-use view_table::{View, faulty};
+use stmt_codec::{Batch, Claim, Slot, Statement};
+use view_table::View;
 
 /// The heard claims of a view, in order of hearing. Contracts see them as the definitions' pool, with the room that is left:
 /// how many claims more, with how many bytes of statements and signatures in all, are heard without memory.
@@ -75,14 +79,24 @@ fn heard_verdict<V: Scheme>(
     }
 }
 
+// Whether a claim of the signer on the claim's slot is heard.
+fn is_heard(claims: &ClaimIndex, claim: &Claim<'_>) -> bool
+    ensures value { result ≡ is_some (certified.heard_on claims.now.pool claim.now.signer (plain.slot_of (stmt claim.now.statement))) }
+    ensures fresh { OnFalse result (certified.claim_on claims.now.pool.heard claim.now.signer (plain.slot_of (stmt claim.now.statement)) ≡ None) }
+{
+    match claims.claim_on(claim.signer, &claim.statement) {
+        Some(_) => true,
+        None => false,
+    }
+}
+
 impl Pool {
     /// Nothing is heard of the view yet.
     pub fn new(alloc: Global, view: View) -> Result<Pool, NoMemory>
         ensures { IfOk result (λ p. p.pool ≡ empty_pool view) }
     {
-        Ok(Pool {
-            heard: Places::new(alloc, view),
-        })
+        let heard = Places::new(alloc, view)?;
+        Ok(Pool { heard })
     }
 
     /// Forgets what is heard, and turns to this view. The room stays.
@@ -168,10 +182,29 @@ impl Pool {
         }
     }
 
+    /// Hears a claim that the process has signed itself, unless one of its signer on that slot is heard. It takes no memory: one
+    /// claim, with its bytes, must be reserved.
+    pub fn hear_own(&mut self, claim: &Claim<'_>)
+        requires range { IsClaim (claim_of claim.now) }
+        requires claims { 1 ≤ self.old.claims_left }
+        requires bytes { claim_bytes (claim_of claim.now) ≤ self.old.bytes_left }
+        ensures heard { self.new.pool ≡ with_own self.old.pool (claim_of claim.now) }
+
+        // The pool of a process that holds this pool, after it has signed the claim's statement.
+        ensures signs { (s : defs.Setting) (signer : Signer) (p : defs.Process) → p.pool ≡ self.old.pool → own_claim s signer p (stmt claim.now.statement) ≡ claim_of claim.now → (signs s signer p (stmt claim.now.statement)).pool ≡ self.new.pool }
+        ensures claims_left { self.old.claims_left ≤ self.new.claims_left + 1 }
+        ensures bytes_left { self.old.bytes_left ≤ self.new.bytes_left + claim_bytes (claim_of claim.now) }
+    {
+        if !is_heard(self.heard.quorums().claims(), claim) {
+            self.heard.add(claim);
+        }
+    }
+
     /// The signer's heard claim of that kind and slot, with its signature; None exactly where there is none, or the kind
     /// has no such slots.
     pub fn heard_claim(&self, signer: Pid, kind: u8, slot: Slot) -> Option<Claim<'_>>
-        ensures { option_map claim result ≡ option_and_then (certified.claim_on self.now.pool.heard signer) (slot_at kind slot) }
+        ensures value { option_map claim result ≡ option_and_then (certified.claim_on self.now.pool.heard signer) (slot_at kind slot) }
+        ensures range { IfSome result (λ c. IsStatement (stmt c.statement)) }
     {
         self.heard
             .quorums()
@@ -195,6 +228,14 @@ impl Pool {
             Some(claim) => Some(claim.statement),
             None => None,
         }
+    }
+
+    /// What is certified of that kind and slot, without those who say it; None exactly where nothing is certified there, or
+    /// the kind has no such slots.
+    pub fn certified<K: CertKind>(&self, slot: Slot) -> Option<Statement<'_>>
+        ensures { option_map stmt result ≡ option_and_then (certified.certified_on self.now.pool) (slot_at K.kind slot) }
+    {
+        self.heard.quorums().certified(K::number(), &slot)
     }
 
     /// The certificate of that kind and slot; None exactly where nothing is certified there, or the kind has no such slots.
@@ -231,13 +272,14 @@ impl Pool {
     pub fn is_notified(&self, update: Update) -> bool
         ensures { result ≡ certified.is_notified self.now.pool (update_of update) }
     {
-        let view = self.view();
-        let number = view.number();
-        let backers = self.count(&Statement::Notify {
-            view: number,
-            update,
-        });
-        faulty(view.members().len()) < backers as usize
+        self.notified().contains(update)
+    }
+
+    /// The updates that more than f members' heard claims notify.
+    pub fn notified(&self) -> &UpdateSet
+        ensures { (u : updates.Update) → has_update result.now u ≡ certified.is_notified self.now.pool u }
+    {
+        self.heard.notified()
     }
 
     /// The placed length: how many places are certified from the first on, 0 to 1,024.
@@ -245,6 +287,22 @@ impl Pool {
         ensures { result ≡ length (certified.placed self.now.pool) }
     {
         self.heard.placed()
+    }
+
+    /// The batch of the place, where that and all places before it are certified; None exactly where one is not.
+    pub fn batch_at(&self, place: u16) -> Option<Batch>
+        ensures { result ≡ slice_get (certified.placed self.now.pool) place }
+    {
+        self.heard.batch(place)
+    }
+
+    /// For each member, in rank order, how many of its messages the batches of the places before this one name. The place is
+    /// at most the placed length.
+    pub fn names_before(&self, place: u16) -> &[u16]
+        requires { place ≤ length (certified.placed self.now.pool) }
+        ensures { result.now ≡ map (λ m. certified.named m (certified.messages (take place (certified.placed self.now.pool)))) self.now.pool.view.members }
+    {
+        self.heard.names_before(place)
     }
 
     /// The fixed length: the greatest kept place + 1, or 0 where none is kept.

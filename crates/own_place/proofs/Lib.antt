@@ -1,1 +1,4 @@
 mod Noted
+pub mod Next
+pub mod Batches
+pub mod Telling

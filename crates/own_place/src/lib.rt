@@ -1,6 +1,7 @@
 //! A process's own place in its view: what it has signed there, and how far it has delivered (docs/PROTOCOL.md, «What is signed»).
 #![tactic(auto)]
 
+mod noting;
 mod own;
 mod signed;
 

@@ -1,13 +1,14 @@
 //! What a quorum says.
-ghost use Rattle.std.specs.Prelude.{◌≡◌};
+ghost use Rattle.std.specs.Prelude.{◌≡◌, is_some};
 ghost use Rattle.std.specs.Option.{option_map};
 ghost use Rattle.message_defs.specs.Statements.{AckAt, ReadyAt};
 ghost use Rattle.group_defs.specs.Certified as defs;
 ghost use Rattle.rp_base.specs.Views as base;
+ghost use Rattle.stmt_codec.specs.Views.{message};
 
-use crate::parts::{batch_of, value_of};
-use claim_pool::{Ack, Commit, Place, Pool};
-use rp_base::Value;
+use crate::parts::{batch_of, payload_of, value_of};
+use claim_pool::{Ack, Commit, Message, Place, Pool};
+use rp_base::{Pid, Value};
 use stmt_codec::{Batch, Slot};
 
 /// The value of the rank's certified Ack; None exactly where none is certified.
@@ -15,8 +16,8 @@ pub fn certified_ack(pool: &Pool, rank: u8) -> Option<Value>
     ensures { option_map base.value result ≡ defs.value_at pool.now.pool (AckAt pool.now.pool.view.number rank) }
 {
     let view = pool.view().number();
-    match pool.certificate::<Ack>(Slot::Rank { view, rank }) {
-        Some(certificate) => value_of(certificate.content()),
+    match pool.certified::<Ack>(Slot::Rank { view, rank }) {
+        Some(statement) => value_of(&statement),
         None => None,
     }
 }
@@ -26,8 +27,8 @@ pub fn certified_ready(pool: &Pool, rank: u8) -> Option<Value>
     ensures { option_map base.value result ≡ defs.value_at pool.now.pool (ReadyAt pool.now.pool.view.number rank) }
 {
     let view = pool.view().number();
-    match pool.certificate::<Commit>(Slot::Rank { view, rank }) {
-        Some(certificate) => value_of(certificate.content()),
+    match pool.certified::<Commit>(Slot::Rank { view, rank }) {
+        Some(statement) => value_of(&statement),
         None => None,
     }
 }
@@ -37,8 +38,31 @@ pub fn certified_batch(pool: &Pool, place: u16) -> Option<Batch>
     ensures { result ≡ defs.place_at pool.now.pool place }
 {
     let view = pool.view().number();
-    match pool.certificate::<Place>(Slot::Place { view, place }) {
-        Some(certificate) => batch_of(certificate.content()),
+    match pool.certified::<Place>(Slot::Place { view, place }) {
+        Some(statement) => batch_of(&statement),
         None => None,
     }
+}
+
+/// The certified payload of the sender's message of this number; None exactly where none is certified.
+pub fn certified_payload(pool: &Pool, sender: Pid, number: u16) -> Option<&[u8]>
+    ensures { option_map (λ payload. payload.now) result ≡ defs.payload_at pool.now.pool (message sender number) }
+{
+    let view = pool.view().number();
+    let slot = Slot::Message {
+        view,
+        sender,
+        number,
+    };
+    match pool.certified::<Message>(slot) {
+        Some(statement) => payload_of(&statement),
+        None => None,
+    }
+}
+
+/// Whether the sender's message of this number is certified.
+pub fn is_message_certified(pool: &Pool, sender: Pid, number: u16) -> bool
+    ensures { result ≡ is_some (defs.payload_at pool.now.pool (message sender number)) }
+{
+    certified_payload(pool, sender, number).is_some()
 }

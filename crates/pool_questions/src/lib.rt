@@ -3,8 +3,12 @@
 #![tactic(auto)]
 
 mod certified;
+mod notices;
 mod parts;
 mod said;
 
-pub use certified::{certified_ack, certified_batch, certified_ready};
+pub use certified::{
+    certified_ack, certified_batch, certified_payload, certified_ready, is_message_certified,
+};
+pub use notices::{has_notified, removed_rank};
 pub use said::{end_of, last_of, ordered_batch, suggestion};

@@ -63,3 +63,13 @@ pub(crate) fn batch_of(statement: &Statement<'_>) -> Option<Batch>
         _ => None,
     }
 }
+
+// The payload of an Init or an Echo.
+pub(crate) fn payload_of<'a>(statement: &Statement<'a>) -> Option<&'a [u8]>
+    ensures { option_map (λ b. b.now) result ≡ plain.payload_of (stmt statement.now) }
+{
+    match *statement {
+        Statement::Init { payload, .. } | Statement::Echo { payload, .. } => Some(payload),
+        _ => None,
+    }
+}

@@ -1,0 +1,5 @@
+//! The own place after statements are signed.
+#![tactic(auto)]
+
+#[cfg(test)]
+mod noting;

@@ -1,0 +1,104 @@
+ghost use Rattle.std.specs.Prelude.{◌≡◌, ◌≤◌, ◌<◌, [], ◌∷◌, ◌++◌, length, take, slice_get, IfOk};
+ghost use Rattle.group_defs.specs.Certified.{messages};
+ghost use Rattle.rule_laws.specs.Placing.{counts_in};
+
+use crate::counting::count_batch;
+use rp_base::NoMemory;
+use std::alloc::Global;
+use std::marker::Model;
+use stmt_codec::Batch;
+use view_table::View;
+
+/// How many places a view has.
+const MOST_PLACES: usize = 1_024;
+
+/// The batches of the places 0, 1, 2 and so on of a view, up to 1,024, and for each place, how many messages of each member are
+/// named before it. Contracts see the view and the list of the batches.
+#[derive(Drop)]
+pub struct PlacedBatches {
+    view: View,
+    batches: Vec<Batch>,
+    names: Vec<[u16; 16]>,
+}
+
+impl Model for PlacedBatches {
+    ghost use Rattle.std.specs.Vec.{vec_capacity};
+    ghost use Rattle.placed_batches.specs.Rows.{Prefix, IsPrefix};
+
+    ghost Value = { Prefix };
+
+    ghost view = { λ p. record { view = p.view; batches = p.batches.items } };
+
+    ghost invariant = { λ p. IsPrefix p.view p.batches.items p.names.items (vec_capacity p.batches) (vec_capacity p.names) };
+}
+
+impl PlacedBatches {
+    ghost use Rattle.placed_batches.specs.Rows.{Prefix};
+
+    /// No place of the view. The memory for all of them is taken here.
+    pub fn new(alloc: Global, view: View) -> Result<PlacedBatches, NoMemory>
+        ensures { IfOk result (λ p. p ≡ record { view = view; batches = [] }) }
+    {
+        let _members = view.members();
+        let batches = Vec::with_capacity(alloc, MOST_PLACES)?;
+        let mut names = Vec::with_capacity(alloc, MOST_PLACES + 1)?;
+        names.push([0; 16])?;
+        Ok(PlacedBatches {
+            view,
+            batches,
+            names,
+        })
+    }
+
+    /// Forgets all places, and turns to this view.
+    pub fn turn_to(&mut self, view: View)
+        ensures { self.new ≡ record { view = view; batches = [] } }
+    {
+        let _members = view.members();
+        self.batches.clear();
+        self.names.clear();
+        let Ok(()) = self.names.push([0; 16]) else {
+            unreachable!()
+        };
+        self.view = view;
+    }
+
+    /// How many places there are, 0 to 1,024.
+    pub fn len(&self) -> u16
+        ensures { result ≡ length self.now.batches }
+    {
+        self.batches.len() as u16
+    }
+
+    /// The batch of the place; None exactly where there are no more places.
+    pub fn batch(&self, place: u16) -> Option<Batch>
+        ensures { result ≡ slice_get self.now.batches place }
+    {
+        self.batches.get(place as usize).copied()
+    }
+
+    /// For each member, in rank order, how many of its messages the batches of the places before this one name.
+    pub fn names_before(&self, place: u16) -> &[u16]
+        requires { place ≤ length self.now.batches }
+        ensures { result.now ≡ counts_in self.now.view (messages (take place self.now.batches)) }
+    {
+        &self.names[place as usize][..self.view.members().len()]
+    }
+
+    /// Puts the batch of the next place behind the others. It takes no memory.
+    pub fn push(&mut self, batch: Batch)
+        requires { length self.old.batches < 1024 }
+        ensures view { self.new.view ≡ self.old.view }
+        ensures batches { self.new.batches ≡ self.old.batches ++ batch ∷ [] }
+    {
+        let _few = batch.len();
+        let mut row = self.names[self.batches.len()];
+        count_batch(&self.view, &batch, &mut row);
+        let Ok(()) = self.batches.push(batch) else {
+            unreachable!()
+        };
+        let Ok(()) = self.names.push(row) else {
+            unreachable!()
+        };
+    }
+}

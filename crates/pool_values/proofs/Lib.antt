@@ -1,0 +1,3 @@
+pub mod PlacedLength
+pub mod Notified
+pub mod Inserted

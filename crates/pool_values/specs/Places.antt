@@ -1,0 +1,28 @@
+-- What is kept beside the heard claims.
+use Rattle.std.specs.Prelude.{◌≡◌, ℕ, ◌+◌, ◌≤◌, max, List, length, Option, Some, None, slice_get}
+use Rattle.message_defs.specs.Statements.{Batch}
+use Rattle.group_defs.specs.Process.{Pool}
+use Rattle.group_defs.specs.Certified.{place_at, placed, fixed_length}
+use Rattle.placed_batches.specs.Rows.{Prefix}
+use Rattle.pool_values.specs.declared.updates.UpdateSet.{UpdateSet}
+use Rattle.pool_values.specs.Updates.{AreNotified}
+
+-- the places that are certified from the first on, in the pool's view
+abbrev pub placed_in : Pool → Prefix
+placed_in h = record { view = h.view; batches = placed h }
+
+-- they are these, the places are kept so far, and these updates are notified
+pub record AreCounted (h : Pool) (prefix : Prefix) (kept_to : ℕ) (notified : UpdateSet) : Type 0 where
+  pub places : prefix ≡ placed_in h
+  pub fixed : kept_to ≡ fixed_length h
+  pub updates : AreNotified h notified
+
+-- each of these batches is certified at its place, of which there are 1,024 at most
+pub record ArePlaced (h : Pool) (batches : List Batch) : Type 0 where
+  pub each : (k : ℕ) (b : Batch) → slice_get batches k ≡ Some b → place_at h k ≡ Some b
+  pub few : length batches ≤ 1024
+
+-- the greater of what it was and the place + 1, where there is one
+abbrev pub after_one : ℕ → Option ℕ → ℕ
+after_one most None = most
+after_one most (Some k) = max most (k + 1)

@@ -1,0 +1,10 @@
+//! The heard claims of a view, with the values that are kept as they come: the places that are certified from the first on and
+//! the messages that are named before each, how far places are kept, and the updates that more than f members notify
+//! (docs/PROTOCOL.md, «Hearing»).
+#![tactic(auto)]
+
+mod places;
+mod updates;
+
+pub use places::Places;
+pub use updates::UpdateSet;

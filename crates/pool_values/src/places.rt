@@ -1,0 +1,257 @@
+ghost use Rattle.std.specs.Prelude.{◌≡◌, ◌+◌, ◌≤◌, ◌<◌, ℕ, None, length, take, slice_get, OnOk, IfOk};
+ghost use Rattle.std.specs.Option.{option_map};
+ghost use Rattle.byte_defs.specs.Choices.{is_some_and};
+ghost use Rattle.message_defs.specs.Spelling.{IsStatement};
+ghost use Rattle.message_defs.specs.Updates as updates;
+ghost use Rattle.message_defs.specs.Statements as plain;
+ghost use Rattle.group_defs.specs.Process.{Pool};
+ghost use Rattle.group_defs.specs.Certified as defs;
+ghost use Rattle.rule_laws.specs.Placing.{counts_in};
+ghost use Rattle.rp_base.specs.Views.{update as update_of};
+ghost use Rattle.stmt_codec.specs.Views.{stmt, claim as claim_of};
+ghost use Rattle.claim_index.specs.Kept.{claim_bytes, empty_pool, with_heard};
+ghost use Rattle.pool_values.specs.Updates.{has_update, AreNotified, notified_said};
+ghost use Rattle.pool_values.specs.Places.{ArePlaced, placed_in, after_one};
+
+use crate::updates::UpdateSet;
+use claim_index::ClaimIndex;
+use placed_batches::PlacedBatches;
+use rp_base::{NoMemory, Update};
+use slot_quorums::Quorums;
+use std::alloc::Global;
+use std::marker::Model;
+use stmt_codec::{Batch, Claim, Slot, Statement};
+use view_table::{View, faulty};
+
+/// How many places a view has.
+const MOST_PLACES: u16 = 1_024;
+
+/// The heard claims of a view, its places that are certified from the first on, how far they are kept, and the updates that more
+/// than f members notify.
+#[derive(Drop)]
+pub struct Places {
+    quorums: Quorums,
+    prefix: PlacedBatches,
+    fixed: u16,
+    notified: UpdateSet,
+}
+
+impl Model for Places {
+    ghost use Rattle.claim_index.specs.Kept.{Holding};
+    ghost use Rattle.pool_values.specs.Places.{AreCounted};
+
+    ghost Value = { Holding };
+
+    ghost view = { λ p. p.quorums };
+
+    ghost invariant = { λ p. AreCounted p.quorums.pool p.prefix p.fixed p.notified };
+}
+
+// The batch of an Order, a Place or a Keep.
+fn batch_of(statement: &Statement<'_>) -> Option<Batch>
+    ensures { result ≡ plain.batch_of (stmt statement.now) }
+{
+    match *statement {
+        Statement::Order { batch, .. }
+        | Statement::Place { batch, .. }
+        | Statement::Keep { batch, .. } => Some(batch),
+        _ => None,
+    }
+}
+
+// The batch that is certified of the place.
+fn batch_at(quorums: &Quorums, place: u16) -> Option<Batch>
+    ensures { result ≡ defs.place_at quorums.now.pool place }
+{
+    let view = quorums.claims().view().number();
+    match quorums.certified(4, &Slot::Place { view, place }) {
+        Some(statement) => batch_of(&statement),
+        None => None,
+    }
+}
+
+// Puts the batches of the places that are certified now behind those before.
+fn follow(quorums: &Quorums, prefix: &mut PlacedBatches)
+    requires view { prefix.old.view ≡ quorums.now.pool.view }
+    requires placed { ArePlaced quorums.now.pool prefix.old.batches }
+    ensures { prefix.new ≡ placed_in quorums.now.pool }
+{
+    'places: while prefix.len() < MOST_PLACES {
+        let Some(batch) = batch_at(quorums, prefix.len()) else {
+            return;
+        };
+        prefix.push(batch);
+    }
+}
+
+// How far the places are kept with this claim, the last that was heard.
+fn fixed_with(quorums: &Quorums, fixed: u16, statement: &Statement<'_>) -> u16
+    requires { IsStatement (stmt statement.now) }
+    ensures { result ≡ after_one fixed (defs.place_kept quorums.now.pool (stmt statement.now)) }
+{
+    match statement {
+        Statement::Keep { place, .. } if quorums.claims().is_certified(statement) => {
+            fixed.max(*place + 1)
+        }
+        _ => fixed,
+    }
+}
+
+// Whether more than f members notify the update.
+fn is_notified(claims: &ClaimIndex, update: Update) -> bool
+    ensures { result ≡ defs.is_notified claims.now.pool (update_of update) }
+{
+    let view = claims.view().number();
+    let backers = claims.count(&Statement::Notify { view, update });
+    faulty(claims.view().members().len()) < backers
+}
+
+// The update that a Notify tells.
+fn update_said(statement: &Statement<'_>) -> Option<Update>
+    ensures { option_map update_of result ≡ defs.update_said (stmt statement.now) }
+{
+    match *statement {
+        Statement::Notify { update, .. } => Some(update),
+        _ => None,
+    }
+}
+
+// Whether more than f members notify the update that the statement tells.
+fn is_told_enough(claims: &ClaimIndex, statement: &Statement<'_>) -> bool
+    ensures { result ≡ is_some_and (defs.update_said (stmt statement.now)) (defs.is_notified claims.now.pool) }
+{
+    match update_said(statement) {
+        Some(update) => is_notified(claims, update),
+        None => false,
+    }
+}
+
+// The update that the statement tells, where more than f members notify it.
+fn notified_by(claims: &ClaimIndex, statement: &Statement<'_>) -> Option<Update>
+    ensures { option_map update_of result ≡ notified_said claims.now.pool (stmt statement.now) }
+{
+    if is_told_enough(claims, statement) {
+        update_said(statement)
+    } else {
+        None
+    }
+}
+
+// Notes the update of the claim, the last that was heard, where more than f members notify it now.
+fn note_update(quorums: &Quorums, statement: &Statement<'_>, notified: &mut UpdateSet)
+    ensures { (h : Pool) (c : plain.Claim) → quorums.now.pool ≡ with_heard h c → c.statement ≡ stmt statement.now → defs.claim_on h.heard c.signer (plain.slot_of c.statement) ≡ None → AreNotified h notified.old → AreNotified quorums.now.pool notified.new }
+{
+    if let Some(update) = notified_by(quorums.claims(), statement) {
+        notified.insert(update);
+    }
+}
+
+// The same view, which takes no memory.
+fn copy_of(view: &View) -> View
+    ensures { result ≡ view.now }
+{
+    let Ok(copy) = view.clone() else {
+        unreachable!()
+    };
+    copy
+}
+
+impl Places {
+    /// Nothing is heard of the view yet.
+    pub fn new(alloc: Global, view: View) -> Result<Places, NoMemory>
+        ensures { IfOk result (λ p. p.pool ≡ empty_pool view) }
+    {
+        let prefix = PlacedBatches::new(alloc, copy_of(&view))?;
+        let quorums = Quorums::new(alloc, view);
+        let notified = UpdateSet::new();
+        Ok(Places {
+            quorums,
+            prefix,
+            fixed: 0,
+            notified,
+        })
+    }
+
+    /// Forgets what is heard, and turns to this view.
+    pub fn turn_to(&mut self, view: View)
+        ensures pool { self.new.pool ≡ empty_pool view }
+        ensures claims { self.old.claims_left ≤ self.new.claims_left }
+        ensures bytes { self.old.bytes_left ≤ self.new.bytes_left }
+    {
+        self.prefix.turn_to(copy_of(&view));
+        self.quorums.turn_to(view);
+        self.fixed = 0;
+        self.notified = UpdateSet::new();
+    }
+
+    /// Makes room for so many claims more, with so many bytes in all.
+    pub fn reserve(&mut self, claims: usize, bytes: usize) -> Result<(), NoMemory>
+        ensures same { self.new.pool ≡ self.old.pool }
+        ensures room { OnOk result ((claims ≤ self.new.claims_left) × (bytes ≤ self.new.bytes_left)) }
+        ensures kept { (self.old.claims_left ≤ self.new.claims_left) × (self.old.bytes_left ≤ self.new.bytes_left) }
+    {
+        self.quorums.reserve(claims, bytes)
+    }
+
+    /// The heard claims, and what is certified of each slot.
+    pub fn quorums(&self) -> &Quorums
+        ensures { result.now ≡ self.now }
+    {
+        &self.quorums
+    }
+
+    /// How many places are certified from the first on.
+    pub fn placed(&self) -> u16
+        ensures { result ≡ length (defs.placed self.now.pool) }
+    {
+        self.prefix.len()
+    }
+
+    /// The batch of the place, where that and all places before it are certified; None exactly where one is not.
+    pub fn batch(&self, place: u16) -> Option<Batch>
+        ensures { result ≡ slice_get (defs.placed self.now.pool) place }
+    {
+        self.prefix.batch(place)
+    }
+
+    /// For each member, in rank order, how many of its messages the batches of the places before this one name.
+    pub fn names_before(&self, place: u16) -> &[u16]
+        requires { place ≤ length (defs.placed self.now.pool) }
+        ensures { result.now ≡ counts_in self.now.pool.view (defs.messages (take place (defs.placed self.now.pool))) }
+    {
+        self.prefix.names_before(place)
+    }
+
+    /// The greatest kept place + 1, or 0.
+    pub fn fixed(&self) -> u16
+        ensures { result ≡ defs.fixed_length self.now.pool }
+    {
+        self.fixed
+    }
+
+    /// The updates that more than f members notify.
+    pub fn notified(&self) -> &UpdateSet
+        ensures { (u : updates.Update) → has_update result.now u ≡ defs.is_notified self.now.pool u }
+    {
+        &self.notified
+    }
+
+    /// Hears a claim whose signer has none on the slot.
+    pub fn add(&mut self, claim: &Claim<'_>)
+        requires range { IsStatement (stmt claim.now.statement) }
+        requires short { length claim.now.signature.now ≤ 16384 }
+        requires fresh { defs.claim_on self.old.pool.heard claim.now.signer (plain.slot_of (stmt claim.now.statement)) ≡ None }
+        requires claims { 1 ≤ self.old.claims_left }
+        requires bytes { claim_bytes (claim_of claim.now) ≤ self.old.bytes_left }
+        ensures heard { self.new.pool ≡ with_heard self.old.pool (claim_of claim.now) }
+        ensures claims_left { self.old.claims_left ≤ self.new.claims_left + 1 }
+        ensures bytes_left { self.old.bytes_left ≤ self.new.bytes_left + claim_bytes (claim_of claim.now) }
+    {
+        let _number = self.quorums.claims().view().number();
+        self.quorums.add(claim);
+        follow(&self.quorums, &mut self.prefix);
+        let fixed = fixed_with(&self.quorums, self.fixed, &claim.statement);
+        note_update(&self.quorums, &claim.statement, &mut self.notified);
+        self.fixed = fixed;
+    }
+}
