@@ -87,4 +87,15 @@ fn echoes_behind_the_end(view: OpenView) {
 
 fn main() {}' borrow-e0382
 
+for call in echo_due order_due place_due keep_due; do
+    misuse "a closing view that is asked for its $call" "use claim_pool::{Own, Pool};
+use view_phases::ClosingView;
+
+fn asks_behind_the_end(view: &ClosingView, pool: &Pool, own: &Own) {
+    let _due = view.$call(pool, own);
+}
+
+fn main() {}" unknown-method
+done
+
 exit $failed

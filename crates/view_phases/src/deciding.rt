@@ -2,9 +2,7 @@ ghost use Rattle.std.specs.Prelude.{◌≡◌, None, Some, IfOk, IfErr, IsSome};
 ghost use Rattle.std.specs.Option.{option_map};
 ghost use Rattle.std.specs.Result.{result_ok};
 ghost use Rattle.message_defs.specs.Statements.{ReadyAt};
-ghost use Rattle.rp_base.specs.Views.{update as update_of};
 ghost use Rattle.claim_pool.specs.Certificates.{content_of};
-ghost use Rattle.group_defs.specs.Views as views;
 ghost use Rattle.group_defs.specs.Process.{Setting, Process, keyed as keyed_by};
 ghost use Rattle.group_defs.specs.Certified.{readied, rank_said, certified_on};
 ghost use Rattle.group_defs.specs.Settle as defs;
@@ -13,26 +11,10 @@ ghost use Rattle.view_phases.specs.Phases.{decision_of, decides, decided, IsDeci
 
 use crate::phases::{ClosingView, DecidedView, Decision, Observing, OpenView};
 use claim_pool::{Certificate, Commit};
-use rp_base::{PidSet, Update};
+use ending_rules::is_possible;
+use rp_base::PidSet;
 use stmt_codec::Statement;
-use view_table::{View, next};
-
-// Whether a process that the update adds has a key.
-fn has_key(keyed: PidSet, update: &Update) -> bool
-    ensures { result ≡ views.has_keys keyed (update_of update.now) }
-{
-    match update {
-        Update::Add(p) => keyed.contains(*p),
-        _ => true,
-    }
-}
-
-// Whether a view follows by the update, and a process that it adds has a key.
-fn is_possible(view: &View, keyed: PidSet, update: &Update) -> bool
-    ensures { result ≡ views.is_possible keyed view.now (update_of update.now) }
-{
-    next(view, *update).is_ok() && has_key(keyed, update)
-}
+use view_table::View;
 
 // What the certified Ready decides: its rank and value, where the value's update is possible.
 fn decision(view: &View, keyed: PidSet, commit: &Certificate<'_, Commit>) -> Option<Decision>

@@ -1,0 +1,45 @@
+//! The End of a view: it is due once an update is notified by more than f members (docs/PROTOCOL.md, «What is signed»).
+ghost use Rattle.std.specs.Prelude.{◌≡◌, ◌-◌, ◌&&◌, not, nat_lt, length, is_some};
+ghost use Rattle.std.specs.Option.{option_map};
+ghost use Rattle.message_defs.specs.Statements.{End};
+ghost use Rattle.group_defs.specs.Process.{Ends, Process, places_in};
+ghost use Rattle.group_defs.specs.Certified.{notified_updates};
+ghost use Rattle.rule_laws.specs.Heard.{IsPool};
+ghost use Rattle.own_place.specs.Owns.{HasDelivered};
+ghost use Rattle.ending_rules.specs.Due.{IsLeastDue};
+
+use crate::updates::first_notified;
+use claim_pool::{Own, Pool};
+
+// Whether more than f members notify one update.
+fn is_any_notified(pool: &Pool) -> bool
+    ensures { IsPool pool.now.pool → result ≡ nat_lt 0 (length (notified_updates pool.now.pool)) }
+{
+    first_notified(pool).is_some()
+}
+
+// Whether the process is a member that has not signed its End, and an update is notified.
+fn may_end(pool: &Pool, own: &Own) -> bool
+    ensures { IsPool pool.now.pool → result ≡ (is_some own.now.position && nat_lt 0 (length (notified_updates pool.now.pool)) && not own.now.ended) }
+{
+    own.position.is_some() && is_any_notified(pool) && !own.ended
+}
+
+/// The length that the End says that is due, 0 to 1,024 places: the placed length. None exactly where no End is due: the
+/// process is no member, or has signed its End, or no update is notified by more than f members.
+pub fn end_due(pool: &Pool, own: &Own) -> Option<u16>
+    ensures { IsLeastDue pool.now.pool own.now Ends (option_map (End pool.now.pool.view.number) result) }
+{
+    if may_end(pool, own) {
+        Some(pool.placed_len())
+    } else {
+        None
+    }
+}
+
+/// How many places of the cut are not delivered: 0 where all of them are, or more.
+pub fn flush_left(own: &Own, cut: u16) -> u16
+    ensures { (p : Process) → HasDelivered own.now p → result ≡ cut - places_in p.delivered }
+{
+    cut.saturating_sub(own.delivered)
+}

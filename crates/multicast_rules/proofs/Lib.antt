@@ -1,0 +1,6 @@
+pub mod Telling
+pub mod Waits
+pub mod Certified
+pub mod Ordering
+pub mod Following
+pub mod Placing

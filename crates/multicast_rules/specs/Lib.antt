@@ -1,0 +1,4 @@
+pub mod Waiting
+pub mod Ordering
+pub mod Placing
+pub mod Delivering

@@ -1,0 +1,41 @@
+ghost use Rattle.std.specs.Prelude.{◌≡◌, ◌+◌, ◌<◌, ◌&&◌, nat_lt, length, IfSome};
+ghost use Rattle.std.specs.Option.{option_map};
+ghost use Rattle.group_defs.specs.Process.{Setting, Process, Inits};
+ghost use Rattle.group_defs.specs.Certified.{number_of_members};
+ghost use Rattle.group_defs.specs.Due.{window, least_due};
+ghost use Rattle.own_place.specs.Owns.{Tells};
+ghost use Rattle.rule_laws.specs.Messages.{own_init};
+
+use crate::deliveries::counts_of;
+use claim_pool::{Own, Pool};
+
+/// How far beyond what was delivered numbers and places may go.
+pub(crate) const WINDOW: u32 = 32;
+
+// Whether the number is in the window of so many delivered messages, and a payload was accepted for it.
+fn has_payload(number: u16, delivered: u16, earlier: u32, accepted: u32) -> bool
+    ensures { result ≡ (nat_lt number (delivered + window) && nat_lt (earlier + number) accepted) }
+{
+    (number as u32) < delivered as u32 + WINDOW
+        && earlier as u64 + (number as u64) < accepted as u64
+}
+
+/// The number whose Init is due; None exactly where none is. It says the accepted payload that stands so far behind the first
+/// `own.earlier` ones. `accepted` is how many payloads were accepted in all, and `own` has an entry for each member.
+pub fn init_due(pool: &Pool, own: &Own, accepted: u32) -> Option<u16>
+    requires { length own.now.counts.items ≡ number_of_members pool.now.pool }
+
+    // The least that is due, for a process that this is the place of, with this pool.
+    ensures least { (s : Setting) (p : Process) → Tells s p pool.now.pool own.now → length p.accepted ≡ accepted → least_due s p Inits ≡ option_map (own_init p) result }
+
+    // Its payload was accepted.
+    ensures payload { IfSome result (λ l. own.now.earlier + l < accepted) }
+{
+    own.position?;
+    let number = own.signed.first_unsigned_init(pool.view().number())?;
+    if has_payload(number, counts_of(pool, own, own.me), own.earlier, accepted) {
+        Some(number)
+    } else {
+        None
+    }
+}

@@ -1,0 +1,23 @@
+ghost use Rattle.std.specs.Prelude.{◌≡◌};
+ghost use Rattle.std.specs.Option.{option_map};
+ghost use Rattle.message_defs.specs.Statements as plain;
+ghost use Rattle.group_defs.specs.Process.{Setting, Process, Keeps};
+ghost use Rattle.group_defs.specs.Due.{least_due};
+ghost use Rattle.own_place.specs.Owns.{Tells};
+
+use claim_pool::{Own, Pool};
+use stmt_codec::Batch;
+
+/// The place whose Keep is due, with its batch; None exactly where none is.
+pub fn keep_due(pool: &Pool, own: &Own) -> Option<(u16, Batch)>
+    // The least that is due, for a process that this is the place of, with this pool.
+    ensures { (s : Setting) (p : Process) → Tells s p pool.now.pool own.now → least_due s p Keeps ≡ option_map (λ e. plain.Keep pool.now.pool.view.number e.0 e.1) result }
+{
+    own.position?;
+    if own.ended {
+        return None;
+    }
+    let place = own.signed.first_unsigned_keep(pool.view().number())?;
+    let batch = pool.batch_at(place)?;
+    Some((place, batch))
+}

@@ -1,0 +1,4 @@
+pub mod Ranking
+pub mod Justifying
+pub mod Acking
+pub mod Deciding
