@@ -33,10 +33,10 @@ none-any test (y ∷ ys) e x (inr m) = none-any test ys (neither (test y) (list_
 abbrev AreMembers : View → List Message → Type 0
 AreMembers v ms = (m : Message) → Mem m ms → is_member v m.sender ≡ true
 
-members-all : (v : View) (ms : List Message) → AreMembers v ms → All (λ m. IsTrue (is_member v m.sender)) ms
+pub members-all : (v : View) (ms : List Message) → AreMembers v ms → All (λ m. IsTrue (is_member v m.sender)) ms
 members-all v ms each = mem-All (λ m. IsTrue (is_member v m.sender)) ms each
 
-verdict-of-view : (s : Setting) (p : Process) (c : Claim) → verdict s p c ≡ Heard → IsOfView p.pool.view c
+pub verdict-of-view : (s : Setting) (p : Process) (c : Claim) → verdict s p c ≡ Heard → IsOfView p.pool.view c
 verdict-of-view s p c heard =
     let two = neither (not (is_member p.pool.view c.signer)) (list_any (λ m. not (is_member p.pool.view m.sender)) (messages_of c.statement)) (passed s p c heard).2 in
     record {
@@ -69,7 +69,7 @@ next-of-certified h before sender n e = go (is_some (payload_at h (record { send
     go true is e = subst (λ n. is_some (payload_at h n) ≡ true) (some-same _ n e) is
     go false is e = absurd cc
 
-next-certified : (more : ℕ) (h : Pool) (before : List Message) (m : Message) → Mem m (next_messages more h before) → is_some (payload_at h m) ≡ true
+pub next-certified : (more : ℕ) (h : Pool) (before : List Message) (m : Message) → Mem m (next_messages more h before) → is_some (payload_at h m) ≡ true
 unfolding next_messages
 next-certified zero h before m there = absurd there
 next-certified (suc more) h before m there = go (next_message h before) refl there (λ n. next-certified more h (before ++ n ∷ []) m)
@@ -79,7 +79,7 @@ next-certified (suc more) h before m there = go (next_message h before) refl the
     go (Some n) is (inl e) later = let from = first_some-is (next_of h before) h.view.members n is in subst (λ m. is_some (payload_at h m) ≡ true) e (next-of-certified h before from.0 n from.1)
     go (Some n) is (inr there) later = later n there
 
-named : (s : Setting) (p : Process) → ((c : Claim) → Mem c p.pool.heard → IsOfView p.pool.view c) → (st : Statement) → may_sign s p st ≡ true → AreMembers p.pool.view (messages_of st)
+pub named : (s : Setting) (p : Process) → ((c : Claim) → Mem c p.pool.heard → IsOfView p.pool.view c) → (st : Statement) → may_sign s p st ≡ true → AreMembers p.pool.view (messages_of st)
 named s p all (Echo x n b) may m (inl same) =
     let said = heard-says p.pool (Init x n.number b) n.sender (and-first (says p.pool (Init x n.number b) n.sender) (not (is_ended p)) (signing-due s p (Echo x n b) may)) in
     subst (λ (m : Message). is_member p.pool.view m.sender ≡ true) same (subst (λ a. is_member p.pool.view a ≡ true) said.2 (all said.0 said.1).signer)

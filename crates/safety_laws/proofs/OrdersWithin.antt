@@ -29,7 +29,7 @@ record Within (limit : ℕ) (p : Process) : Type 0 where
   pub same : p.batch_limit ≡ limit
   pub orders : (x k : ℕ) (b : Batch) → Mem (Order x k b) (statements_of p) → (1 ≤ length b) × (length b ≤ limit)
 
-order-within : (s : Setting) (p : Process) (x k : ℕ) (b : Batch) → may_sign s p (Order x k b) ≡ true → (1 ≤ length b) × (length b ≤ p.batch_limit)
+pub order-within : (s : Setting) (p : Process) (x k : ℕ) (b : Batch) → may_sign s p (Order x k b) ≡ true → (1 ≤ length b) × (length b ≤ p.batch_limit)
 order-within s p x k b may =
     let due = signing-due s p (Order x k b) may in
     let is : b ≡ next_batch p = yes-is (Batch-discrete b (next_batch p)) (and-second _ _ due) in

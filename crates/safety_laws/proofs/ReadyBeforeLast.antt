@@ -49,7 +49,7 @@ highest-of (c ∷ bs) (Some a) b (inl same) =
 highest-of (c ∷ bs) best b (inr m) = highest-of bs (higher best c) b m
 
 -- it is one of them, or was there before
-highest-mem : (bs : List (ℕ × Value)) (best : Option (ℕ × Value)) (of : ℕ × Value) → fold higher best bs ≡ Some of → Mem of bs ⊎ (best ≡ Some of)
+pub highest-mem : (bs : List (ℕ × Value)) (best : Option (ℕ × Value)) (of : ℕ × Value) → fold higher best bs ≡ Some of → Mem of bs ⊎ (best ≡ Some of)
 highest-mem [] best of e = inr e
 highest-mem (c ∷ bs) best of e = elim (highest-mem bs (higher best c) of e) [ inl m ↦ inl (inr m) | inr was ↦ either best was ]
   where
@@ -75,13 +75,13 @@ module _ (s : Setting) (p : Process) (st : Statement) (may : may_sign s p st ≡
   current : view_of st ≡ p.pool.view.number
   current = eqb-true _ _ (and-second _ _ (and-first _ _ (and-first _ _ may)))
 
-  own-mem : (a : Statement) → Mem a (statements_of p) → view_of a ≡ view_of st → Mem a (own p)
+  pub own-mem : (a : Statement) → Mem a (statements_of p) → view_of a ≡ view_of st → Mem a (own p)
   own-mem a m e = mem-filter (λ st. view_of st == p.pool.view.number) (statements_of p) a m (eq-eqb _ _ (e ∙ current))
 
-rank_said-own : (p : Process) (a : Statement) → Mem a (own p) → rank_said a ≤ own_rank p
+pub rank_said-own : (p : Process) (a : Statement) → Mem a (own p) → rank_said a ≤ own_rank p
 rank_said-own p a m = fold-max rank_said (own p) 0 a m
 
-own_ready-mem : (s : Setting) (p : Process) (y r' : ℕ) (best : ℕ × Value) → may_sign s p (Last y r' (Some best)) ≡ true → Mem (Ready y best.0 best.1) (statements_of p)
+pub own_ready-mem : (s : Setting) (p : Process) (y r' : ℕ) (best : ℕ × Value) → may_sign s p (Last y r' (Some best)) ≡ true → Mem (Ready y best.0 best.1) (statements_of p)
 own_ready-mem s p y r' best may = elim (highest-mem (filter_map readied (own p)) None best (sym (last-rank s p y r' (Some best) may).1)) [
   | inl m ↦ named (filter_map-mem readied (own p) best m)
   | inr was ↦ absurd cc

@@ -1,0 +1,6 @@
+//! The claims of a frame, heard one by one (docs/PROTOCOL.md, «Hearing»).
+#![tactic(auto)]
+
+mod hearing;
+
+pub use hearing::{Judge, hear_all};
