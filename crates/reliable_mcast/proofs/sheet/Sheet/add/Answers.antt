@@ -1,0 +1,14 @@
+use Rattle.std.proofs.Common.{◌≡◌, ◌≤◌, ap, sym, ◌∙◌, arith, length, subst, List, Bool, true, false}
+use Rattle.std.specs.Prelude.{if◌then◌else◌}
+use Rattle.message_defs.specs.Frames.{Group}
+use Rattle.message_defs.specs.Packing.{Signed, add}
+use Rattle.reliable_mcast.specs.Lists.{lent_claim}
+use Rattle.reliable_mcast.proofs.Packing.{some_added}
+use Rattle.reliable_mcast.proofs.sheet.Sheet.add.Goals as goal
+
+some_of_both : (b : Bool) (gs : List Group) (c : Signed) → 1 ≤ length gs → 1 ≤ length (if b then add gs c else gs)
+some_of_both true gs c some = some_added gs c
+some_of_both false gs c some = some
+
+pub invariant_of-self-clause-some : goal.invariant_of-self-clause-some
+invariant_of-self-clause-some c = subst (λ (gs : List Group). 1 ≤ length gs) (sym c.add_claim.ensures.groups) (some_of_both c.add_claim.result c.args.self.now.writer.groups (lent_claim c.args.claim.now) c.args.self.now.some)

@@ -1,0 +1,5 @@
+pub mod Lists
+pub mod Packed
+pub mod Certificates
+pub mod Archives
+pub mod Answers

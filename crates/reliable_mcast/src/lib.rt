@@ -1,0 +1,13 @@
+//! What a process sends: which claims go out, how they are packed into frames, and what is kept of the views that were left
+//! (docs/PROTOCOL.md, «What is sent»; docs/FORMATS.md, «Packing»).
+#![tactic(auto)]
+
+mod archive;
+mod certificates;
+mod frames;
+mod list;
+mod sheet;
+
+pub use archive::Archive;
+pub use frames::Frames;
+pub use sheet::FrameKind;
