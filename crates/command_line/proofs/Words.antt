@@ -3,11 +3,11 @@ use Rattle.std.proofs.Common.{◌≡◌, ◌<◌, ◌≤◌, List, [], ◌∷◌
 use Rattle.std.specs.Prelude.{String, string_bytes}
 use Rattle.command_line.specs.Reading.{command_of}
 
--- none has two to four
-pub few_words : (words : List (String Global)) → 2 ≤ length words → length words < 5 → command_of (map string_bytes words) ≡ None
+-- none has three or four
+pub few_words : (words : List (String Global)) → 3 ≤ length words → length words < 5 → command_of (map string_bytes words) ≡ None
 few_words [] some few = absurd (omega arith)
 few_words (_ ∷ []) some few = absurd (omega arith)
-few_words (_ ∷ _ ∷ []) some few = refl
+few_words (_ ∷ _ ∷ []) some few = absurd (omega arith)
 few_words (_ ∷ _ ∷ _ ∷ []) some few = refl
 few_words (_ ∷ _ ∷ _ ∷ _ ∷ []) some few = refl
 few_words (_ ∷ _ ∷ _ ∷ _ ∷ _ ∷ more) some few = absurd (omega arith)

@@ -1,15 +1,18 @@
 -- The commands of the program, and the words that ask for them.
 --   replay                    the schedule that is read gives its report
---   keygen N R KEYS SEED      a new kit: N members, 1 to 16, of R processes, N to 64; KEYS is plain:T, or lms:H:W with the
---                             typecodes of height, 5 to 7, and one-time parameter set, 1 to 4; SEED is 32 bytes in hexadecimal
-use Rattle.std.specs.Prelude.{◌≡◌, ℕ, ◌≤◌, List, [], ◌∷◌, ◌++◌, codes}
+--   gen NUMBER                the schedule that the number makes, which is below 2^32
+--   keygen N R KEYS SEED      a new kit: N members, 1 to 16, of R processes, N to 64; KEYS is plain:T, lms:H:W with the
+--                             typecodes of height, 5 to 7, and one-time parameter set, 1 to 4, or hss:L:H:W with L levels of such
+--                             trees, where they are built; SEED is 32 bytes in hexadecimal
+use Rattle.std.specs.Prelude.{◌≡◌, ℕ, ◌^◌, ◌<◌, ◌≤◌, List, [], ◌∷◌, ◌++◌, codes}
 use Rattle.std.specs.Fmt.{decimal}
 use Rattle.hex.specs.Hex.{encode_lower}
+use Rattle.signature_defs.specs.declared.OtsType.{OtsType}
 use Rattle.signature_defs.specs.LmOts.{ots_typecode}
-use Rattle.text_defs.specs.declared.KeyPlan.{KeyPlan}
-use Rattle.text_defs.specs.declared.KeyPlan.TheVariants.{Plain, Lms}
+use Rattle.kit_defs.specs.declared.KeyPlan.{KeyPlan}
+use Rattle.kit_defs.specs.declared.KeyPlan.TheVariants.{Plain, Lms, Hss}
 use Rattle.text_defs.specs.Words.{AreBytes}
-use Rattle.text_defs.specs.KitMaking.{IsPlan}
+use Rattle.kit_defs.specs.KitMaking.{IsPlan}
 
 -- what a new kit is to be like
 pub record KitOrder : Type 0 where
@@ -21,18 +24,25 @@ pub record KitOrder : Type 0 where
 -- what the program is asked to do
 pub data Command : Type 0 where
   Replay : Command
+  Gen : (number : ℕ) → Command
   Keygen : (order : KitOrder) → Command
 
 -- ---- the words
 
--- the word of a plan: plain:T, or lms:H:W
+-- the typecodes of a tree: H:W
+abbrev pub tree_word : ℕ → OtsType → List ℕ
+tree_word code kind = decimal code ++ (codes ":" ++ decimal (ots_typecode kind))
+
+-- the word of a plan: plain:T, lms:H:W, or hss:L:H:W
 abbrev pub plan_word : KeyPlan → List ℕ
 plan_word (Plain total) = codes "plain:" ++ decimal total
-plan_word (Lms code kind) = codes "lms:" ++ (decimal code ++ (codes ":" ++ decimal (ots_typecode kind)))
+plan_word (Lms code kind) = codes "lms:" ++ tree_word code kind
+plan_word (Hss levels code kind) = codes "hss:" ++ (decimal levels ++ (codes ":" ++ tree_word code kind))
 
 -- the words of a command
 abbrev pub command_words : Command → List (List ℕ)
 command_words Replay = codes "replay" ∷ []
+command_words (Gen number) = codes "gen" ∷ decimal number ∷ []
 command_words (Keygen order) = codes "keygen" ∷ decimal order.members ∷ decimal order.roster ∷ plan_word order.keys ∷ encode_lower order.seed ∷ []
 
 -- ---- the ranges
@@ -47,9 +57,10 @@ pub record IsOrder (order : KitOrder) : Type 0 where
   pub keys : IsPlan order.keys
   pub seed : AreBytes 32 order.seed
 
--- a Keygen has an order that can be carried out
+-- a Gen has a number of 32 bits, and a Keygen an order that can be carried out
 abbrev pub IsCommand : Command → Type 0
 IsCommand Replay = Unit {0}
+IsCommand (Gen number) = number < 2 ^ 32
 IsCommand (Keygen order) = IsOrder order
 
 -- the words are those of the command

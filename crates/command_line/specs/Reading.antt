@@ -1,13 +1,15 @@
 -- The command that words ask for, word by word.
-use Rattle.std.specs.Prelude.{ℕ, ◌^◌, ◌-◌, ◌==◌, ◌&&◌, if◌then◌else◌, List, [], ◌∷◌, length, take, drop, slice_index, Option, Some, None, option_map, option_and_then, codes}
+use Rattle.std.specs.Prelude.{ℕ, ◌^◌, ◌-◌, ◌==◌, ◌&&◌, Bool, if◌then◌else◌, List, [], ◌∷◌, length, take, drop, slice_index, Option, Some, None, option_map, option_and_then, codes}
 use Rattle.std.specs.Option.{option_or}
 use Rattle.byte_defs.specs.Equality.{same_bytes}
 use Rattle.byte_defs.specs.Choices.{and_then}
+use Rattle.signature_defs.specs.declared.OtsType.{OtsType}
 use Rattle.signature_defs.specs.LmOts.{ots_type_of}
-use Rattle.text_defs.specs.declared.KeyPlan.{KeyPlan}
-use Rattle.text_defs.specs.declared.KeyPlan.TheVariants.{Plain, Lms}
+use Rattle.secret_defs.specs.Secrets.{levels_are_built}
+use Rattle.kit_defs.specs.declared.KeyPlan.{KeyPlan}
+use Rattle.kit_defs.specs.declared.KeyPlan.TheVariants.{Plain, Lms, Hss}
 use Rattle.text_defs.specs.Words.{number_within, bytes_of}
-use Rattle.command_line.specs.Commands.{KitOrder, Command, Replay, Keygen}
+use Rattle.command_line.specs.Commands.{KitOrder, Command, Replay, Gen, Keygen}
 
 -- what stands behind this front
 abbrev pub behind : List ℕ → List ℕ → Option (List ℕ)
@@ -17,14 +19,30 @@ behind front word = if same_bytes (take (length front) word) front then Some (dr
 abbrev pub plain_by : List ℕ → Option KeyPlan
 plain_by total = option_map Plain (number_within 0 (2 ^ 32 - 1) total)
 
--- two digits with a colon between them
+-- a colon stands behind the first digit of so many bytes
+abbrev pub is_colon_behind : ℕ → List ℕ → Bool
+is_colon_behind n word = (length word == n) && (slice_index word 1 == 58)
+
+-- two digits with a colon between them: the typecodes of a tree
+abbrev pub tree_by : List ℕ → Option (ℕ × OtsType)
+tree_by word =
+    if is_colon_behind 3 word then and_then (number_within 5 7 (take 1 word)) (λ code. option_map (λ kind. (code, kind)) (option_and_then ots_type_of (number_within 1 4 (drop 2 word)))) else None
+
+-- the plan of one tree for each process
 abbrev pub lms_by : List ℕ → Option KeyPlan
-lms_by word =
-    if (length word == 3) && (slice_index word 1 == 58) then and_then (number_within 5 7 (take 1 word)) (λ code. option_map (Lms code) (option_and_then ots_type_of (number_within 1 4 (drop 2 word)))) else None
+lms_by word = option_map (λ tree. Lms tree.0 tree.1) (tree_by word)
+
+-- the plan of trees in levels, where they are built: a digit, and behind a colon the typecodes of a tree
+abbrev pub hss_by : List ℕ → Option KeyPlan
+hss_by word =
+    if is_colon_behind 5 word then and_then (number_within 1 3 (take 1 word)) (λ levels. and_then (tree_by (drop 2 word)) (λ tree.
+    if levels_are_built levels tree.0 tree.1 then Some (Hss levels tree.0 tree.1) else None)) else None
 
 -- the plan that the word spells
 abbrev pub plan_of : List ℕ → Option KeyPlan
-plan_of word = option_or (and_then (behind (codes "plain:") word) plain_by) (and_then (behind (codes "lms:") word) lms_by)
+plan_of word =
+    option_or (and_then (behind (codes "plain:") word) plain_by)
+    (option_or (and_then (behind (codes "lms:") word) lms_by) (and_then (behind (codes "hss:") word) hss_by))
 
 -- the order that the four words behind `keygen` spell
 abbrev pub order_of : List ℕ → List ℕ → List ℕ → List ℕ → Option KitOrder
@@ -35,5 +53,6 @@ order_of members roster keys seed =
 -- the command that the words ask for
 abbrev pub command_of : List (List ℕ) → Option Command
 command_of (word ∷ []) = if same_bytes word (codes "replay") then Some Replay else None
+command_of (word ∷ number ∷ []) = if same_bytes word (codes "gen") then option_map Gen (number_within 0 (2 ^ 32 - 1) number) else None
 command_of (word ∷ members ∷ roster ∷ keys ∷ seed ∷ []) = if same_bytes word (codes "keygen") then option_map Keygen (order_of members roster keys seed) else None
 command_of _ = None

@@ -1,7 +1,7 @@
 -- Commands of the code, as plain data.
 use Rattle.command_line.specs.Commands as plain
 use Rattle.command_line.specs.declared.commands.Command.{Command}
-use Rattle.command_line.specs.declared.commands.Command.TheVariants.{Replay, Keygen}
+use Rattle.command_line.specs.declared.commands.Command.TheVariants.{Replay, Gen, Keygen}
 use Rattle.command_line.specs.declared.orders.KitOrder.{KitOrder}
 
 abbrev pub order : KitOrder → plain.KitOrder
@@ -9,4 +9,5 @@ order o = record { members = o.members; roster = o.roster; keys = o.keys; seed =
 
 abbrev pub command : Command → plain.Command
 command Replay = plain.Replay
+command (Gen number) = plain.Gen number
 command (Keygen o) = plain.Keygen (order o)

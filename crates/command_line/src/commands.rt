@@ -5,12 +5,16 @@ ghost use Rattle.command_line.specs.Reading.{command_of};
 ghost use Rattle.command_line.specs.Views as views;
 
 use crate::orders::{KitOrder, read_order};
+use text_codec::number;
 
 /// What the program is to do. Its `Debug` does not show the seed of an order.
 #[derive(Clone, Copy, Debug, PartialEq, Eq)]
 pub enum Command {
     /// Read a schedule, and write its report.
     Replay,
+
+    /// Write the schedule that this number makes.
+    Gen(u32),
 
     /// Write a new kit.
     Keygen(KitOrder),
@@ -21,6 +25,16 @@ fn of_one_word(word: &[u8]) -> Option<Command>
 {
     if word == b"replay".as_slice() {
         Some(Command::Replay)
+    } else {
+        None
+    }
+}
+
+fn of_two_words(word: &[u8], further: &[u8]) -> Option<Command>
+    ensures { option_map views.command result ≡ command_of (word.now ∷ further.now ∷ []) }
+{
+    if word == b"gen".as_slice() {
+        Some(Command::Gen(number(further, 0, u32::MAX)?))
     } else {
         None
     }
@@ -47,6 +61,7 @@ fn of_words(words: &[String]) -> Option<Command>
 {
     match words {
         [word] => of_one_word(word.as_bytes()),
+        [word, further] => of_two_words(word.as_bytes(), further.as_bytes()),
         [word, members, roster, keys, seed] => of_five_words(
             word.as_bytes(),
             members.as_bytes(),
@@ -59,7 +74,7 @@ fn of_words(words: &[String]) -> Option<Command>
 }
 
 /// The command that the words ask for; None exactly where they ask for none. The words are those behind the program's
-/// name: `replay`, or `keygen N R KEYS SEED` with the ranges of [`KitOrder`].
+/// name: `replay`, `gen NUMBER` with a number of 32 bits, or `keygen N R KEYS SEED` with the ranges of [`KitOrder`].
 pub fn read_command(words: &[String]) -> Option<Command>
     // The words are those of the command that is read, and it is in its ranges.
     ensures found { IfSome result (λ c. Asks (map string_bytes words.now) (views.command c)) }

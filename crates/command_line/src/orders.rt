@@ -1,13 +1,14 @@
 ghost use Rattle.std.specs.Prelude.{◌≡◌, option_map, option_and_then};
 ghost use Rattle.signature_defs.specs.LmOts.{ots_type_of};
 ghost use Rattle.text_defs.specs.Words.{number_within};
-ghost use Rattle.command_line.specs.Reading.{plain_by, lms_by, plan_of, order_of};
+ghost use Rattle.command_line.specs.Reading.{plain_by, tree_by, lms_by, hss_by, plan_of, order_of};
 ghost use Rattle.command_line.specs.Views as views;
 
+use kit_defs::{KeyPlan, OtsType};
 use lms_ots::ots_type_of;
+use sig_scheme::levels_are_built;
 use std::fmt;
 use text_codec::{bytes, number};
-use text_defs::{KeyPlan, OtsType};
 
 /// What a new kit is to be like. Its `Debug` does not show the seed.
 #[derive(Clone, Copy, PartialEq, Eq)]
@@ -18,7 +19,8 @@ pub struct KitOrder {
     /// How many processes there are, from the members to 64.
     pub roster: u8,
 
-    /// Which keys each process gets: a plain one for so many signatures, or a tree whose height has the typecode 5, 6 or 7.
+    /// Which keys each process gets: a plain one for so many signatures, a tree whose height has the typecode 5, 6 or 7, or
+    /// levels of such trees that are built.
     pub keys: KeyPlan,
 
     /// The 32 bytes that all keys come from.
@@ -47,25 +49,51 @@ fn parameter_set(word: &[u8]) -> Option<OtsType>
     ots_type_of(number(word, 1, 4)?)
 }
 
-fn lms(typecodes: &[u8]) -> Option<KeyPlan>
-    ensures { result ≡ lms_by typecodes.now }
+// The typecodes of a tree: `H:W`.
+fn tree(typecodes: &[u8]) -> Option<(u32, OtsType)>
+    ensures { result ≡ tree_by typecodes.now }
 {
     if typecodes.len() != 3 || typecodes[1] != b':' {
         return None;
     }
     let height = number(&typecodes[..1], 5, 7)?;
     let set = parameter_set(&typecodes[2..])?;
+    Some((height, set))
+}
+
+fn lms(typecodes: &[u8]) -> Option<KeyPlan>
+    ensures { result ≡ lms_by typecodes.now }
+{
+    let (height, set) = tree(typecodes)?;
     Some(KeyPlan::Lms(height, set))
 }
 
-/// Which keys the word plans: `plain:T`, or `lms:H:W` by the typecodes of RFC 8554.
+fn hss(word: &[u8]) -> Option<KeyPlan>
+    ensures { result ≡ hss_by word.now }
+{
+    if word.len() != 5 || word[1] != b':' {
+        return None;
+    }
+    let levels = number(&word[..1], 1, 3)?;
+    let (height, set) = tree(&word[2..])?;
+    if levels_are_built(levels, height, set) {
+        Some(KeyPlan::Hss(levels, height, set))
+    } else {
+        None
+    }
+}
+
+/// Which keys the word plans: `plain:T`, `lms:H:W` or `hss:L:H:W` by the typecodes of RFC 8554.
 fn plan(word: &[u8]) -> Option<KeyPlan>
     ensures { result ≡ plan_of word.now }
 {
     if let Some(total) = word.strip_prefix(b"plain:") {
         return plain(total);
     }
-    lms(word.strip_prefix(b"lms:")?)
+    if let Some(typecodes) = word.strip_prefix(b"lms:") {
+        return lms(typecodes);
+    }
+    hss(word.strip_prefix(b"hss:")?)
 }
 
 /// The order of these words; None exactly where one of them is no such number, plan or seed.

@@ -1,7 +1,7 @@
 use command_line::{Command, KitOrder, read_command};
+use kit_defs::{KeyPlan, OtsType};
 use std::alloc::Global;
 use std::test::Fail;
-use text_defs::{KeyPlan, OtsType};
 
 const SEED: &str = "000102030405060708090a0b0c0d0e0f101112131415161718191a1b1c1d1eff";
 
@@ -27,11 +27,21 @@ fn keygen(alloc: Global, order: &str) -> Result<Option<Command>, Fail> {
 #[test]
 fn the_words_of_a_command_ask_for_it(rt: HostRuntime) -> Result<(), Fail> {
     assert_eq!(rt; read(rt.alloc(), "replay")?, Some(Command::Replay));
+    for (line, number) in [("gen 0", 0), ("gen 1", 1), ("gen 4294967295", u32::MAX)] {
+        assert_eq!(rt;
+            read(rt.alloc(), line)?,
+            Some(Command::Gen(number)),
+            "{line}"
+        );
+    }
     for (order, members, roster, keys) in [
         ("1 1 plain:0", 1, 1, KeyPlan::Plain(0)),
         ("16 64 plain:4294967295", 16, 64, KeyPlan::Plain(u32::MAX)),
         ("4 7 lms:5:1", 4, 7, KeyPlan::Lms(5, OtsType::W1)),
         ("4 7 lms:7:4", 4, 7, KeyPlan::Lms(7, OtsType::W8)),
+        ("4 7 hss:1:7:1", 4, 7, KeyPlan::Hss(1, 7, OtsType::W1)),
+        ("4 7 hss:2:7:4", 4, 7, KeyPlan::Hss(2, 7, OtsType::W8)),
+        ("4 7 hss:3:6:2", 4, 7, KeyPlan::Hss(3, 6, OtsType::W2)),
     ] {
         let asked = Command::Keygen(KitOrder {
             members,
@@ -59,6 +69,14 @@ fn an_order_out_of_its_ranges_is_none(rt: HostRuntime) -> Result<(), Fail> {
         "4 4 lms:5:5",
         "4 4 lms:5:4:",
         "4 4 lms:5;4",
+        "4 4 hss:0:5:4",
+        "4 4 hss:4:5:4",
+        "4 4 hss:2:8:4",
+        "4 4 hss:3:7:4",
+        "4 4 hss:2:5:1",
+        "4 4 hss:2:5",
+        "4 4 hss:2:5:4:",
+        "4 4 hss:2;5:4",
     ] {
         assert_eq!(rt; keygen(rt.alloc(), order)?, None, "{order}");
     }
@@ -71,6 +89,10 @@ fn other_words_ask_for_nothing(rt: HostRuntime) -> Result<(), Fail> {
         "",
         "replays",
         "replay short",
+        "gen",
+        "gen 01",
+        "gen 4294967296",
+        "gen 1 1",
         "keygen",
         "keygen 4 4 plain:9",
         "keygen 4 4 plain:9 000102030405060708090a0b0c0d0e0f101112131415161718191a1b1c1d1ef",

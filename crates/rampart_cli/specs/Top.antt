@@ -7,8 +7,10 @@ use Rattle.group_defs.specs.Family.{Family, accounts, numbers, Honest}
 use Rattle.echo_defs.specs.Schedules.{Schedule, IsSchedule, schedule_bytes, schedule_of, most_bytes}
 use Rattle.echo_defs.specs.Worlds.{World, world_of, family_of}
 use Rattle.echo_defs.specs.Reports.{Single, report, report_of}
-use Rattle.text_defs.specs.Kits.{kit_text}
-use Rattle.text_defs.specs.KitMaking.{made_kit}
+use Rattle.replay_defs.specs.Schedules as replay
+use Rattle.replay_defs.specs.Generator.{generated}
+use Rattle.kit_defs.specs.Kits.{kit_text}
+use Rattle.kit_defs.specs.KitMaking.{made_kit}
 use Rattle.command_line.specs.Commands as commands
 use Rattle.command_line.specs.Commands.{KitOrder, Command}
 use Rattle.rp_streams.specs.Streams.{AppendsPrefix}
@@ -75,6 +77,12 @@ pub record Reported (before now old new : Option (List ℕ)) : Type 0 where
 pub record ReportedInPart (before now old new : Option (List ℕ)) : Type 0 where
   pub replayed : Replayed before now
   pub written : AppendsPrefix old new (report_of_run replayed.run)
+
+-- ---- schedules
+
+-- the bytes of the schedule that this number makes
+abbrev pub schedule_of_number : ℕ → List ℕ
+schedule_of_number number = replay.schedule_bytes (generated number)
 
 -- ---- kits
 

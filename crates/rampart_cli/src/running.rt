@@ -7,8 +7,9 @@ ghost use Rattle.command_line.specs.Commands.{IsOrder};
 ghost use Rattle.command_line.specs.Views.{order};
 ghost use Rattle.rampart_cli.specs.Statuses.{status_of, line_of};
 ghost use Rattle.rp_streams.specs.Streams.{AppendsPrefix, Says};
-ghost use Rattle.rampart_cli.specs.Top.{Reported, ReportedInPart, Refused, kit_of_order};
+ghost use Rattle.rampart_cli.specs.Top.{Reported, ReportedInPart, Refused, kit_of_order, schedule_of_number};
 
+use crate::generating::write_generated;
 use crate::keygen::keygen;
 use crate::replaying::replay_input;
 use crate::stops::Stop;
@@ -54,6 +55,23 @@ pub fn run_replay<S: Source, K: Sink>(alloc: Global, input: &mut S, output: &mut
     ensures only { (result ≡ 0) ⊎ (result ≡ 1) ⊎ (result ≡ 3) ⊎ (result ≡ 4) ⊎ (result ≡ 7) }
 {
     match replay_input(alloc, input, output) {
+        Ok(()) => 0,
+        Err(stop) => tell(output, stop),
+    }
+}
+
+/// The command `gen`. `rampart` says what each status means.
+pub fn run_gen<K: Sink>(alloc: Global, number: u32, output: &mut K) -> u8
+    ensures made { result ≡ 0 → Appends (K.written output.old) (K.written output.new) (schedule_of_number number) }
+    ensures steady { result ≡ 0 → K.faults output.new ≡ K.faults output.old }
+    ensures silent { result ≡ 1 → Keeps (K.written output.old) (K.written output.new) }
+    ensures write { result ≡ 4 → Rose (K.faults output.old) (K.faults output.new) }
+    ensures part { result ≡ 4
+        → AppendsPrefix (K.written output.old) (K.written output.new) (schedule_of_number number) }
+    ensures makes { ¬ Rose (K.faults output.old) (K.faults output.new) → (result ≡ 0) ⊎ (result ≡ 1) }
+    ensures only { (result ≡ 0) ⊎ (result ≡ 1) ⊎ (result ≡ 4) }
+{
+    match write_generated(alloc, number, output) {
         Ok(()) => 0,
         Err(stop) => tell(output, stop),
     }

@@ -1,12 +1,12 @@
-ghost use Rattle.std.specs.Prelude.{◌≡◌, ◌≢◌, ◌↔◌, ◌⊎◌, codes, IsSome, IfSome, IsSomeAnd};
+ghost use Rattle.std.specs.Prelude.{◌≡◌, ◌≢◌, ◌↔◌, ◌⊎◌, ℕ, codes, IsSome, IfSome, IsSomeAnd};
 ghost use Rattle.std.specs.Io.KnownBytes.{Appends, Keeps};
 ghost use Rattle.rp_base.specs.Causes.{Rose};
 ghost use Rattle.echo_defs.specs.Reports.{report_of};
-ghost use Rattle.command_line.specs.Commands.{KitOrder, Replay, Keygen};
+ghost use Rattle.command_line.specs.Commands.{KitOrder, Replay, Gen, Keygen};
 ghost use Rattle.rp_streams.specs.Streams.{AppendsPrefix, Says};
-ghost use Rattle.rampart_cli.specs.Top.{Asks, AskAny, Reported, ReportedInPart, Refused, kit_of_order};
+ghost use Rattle.rampart_cli.specs.Top.{Asks, AskAny, Reported, ReportedInPart, Refused, kit_of_order, schedule_of_number};
 
-use crate::running::{run_keygen, run_replay, tell};
+use crate::running::{run_gen, run_keygen, run_replay, tell};
 use crate::stops::Stop;
 use command_line::{Command, read_command};
 use rp_base::{Disk, Link, Sink, Source};
@@ -24,6 +24,10 @@ pub fn rampart<S: Source, K: Sink, D: Disk, L: Link>(
     // replay, 0: a schedule was read to its end, and the report of its own family was written and nothing else.
     ensures done { Asks words.now Replay → result ≡ 0
         → Reported (S.left input.old) (S.left input.new) (K.written output.old) (K.written output.new) }
+
+    // gen, 0: the schedule that the number makes was written, and nothing else.
+    ensures generated { (number : ℕ) → Asks words.now (Gen number) → result ≡ 0
+        → Appends (K.written output.old) (K.written output.new) (schedule_of_number number) }
 
     // keygen, 0: the text of the kit that the words order was written with the line that ends it, and nothing else.
     ensures made { (order : KitOrder) → Asks words.now (Keygen order) → result ≡ 0
@@ -48,10 +52,12 @@ pub fn rampart<S: Source, K: Sink, D: Disk, L: Link>(
     ensures read_line { result ≡ 3 → Says (codes "stop 3 read\n")
         (K.written output.old) (K.written output.new) (K.faults output.old) (K.faults output.new) }
 
-    // 4: only where the sink failed; a prefix of the report or of the kit's text was written and nothing else.
+    // 4: only where the sink failed; a prefix of the report, of the schedule or of the kit's text was written and nothing else.
     ensures write { result ≡ 4 → Rose (K.faults output.old) (K.faults output.new) }
     ensures part { Asks words.now Replay → result ≡ 4
         → ReportedInPart (S.left input.old) (S.left input.new) (K.written output.old) (K.written output.new) }
+    ensures part_of_schedule { (number : ℕ) → Asks words.now (Gen number) → result ≡ 4
+        → AppendsPrefix (K.written output.old) (K.written output.new) (schedule_of_number number) }
     ensures part_of_kit { (order : KitOrder) → Asks words.now (Keygen order) → result ≡ 4
         → AppendsPrefix (K.written output.old) (K.written output.new) (kit_of_order order) }
 
@@ -72,6 +78,12 @@ pub fn rampart<S: Source, K: Sink, D: Disk, L: Link>(
         → ¬ Rose (S.faults input.old) (S.faults input.new)
         → (result ≡ 7) ⊎ (result ≡ 1) }
 
+    // gen: 0 where memory is left and nothing failed. It reads nothing, and no status but 0, 1 and 4 comes.
+    ensures generates { (number : ℕ) → Asks words.now (Gen number)
+        → ¬ Rose (K.faults output.old) (K.faults output.new) → (result ≡ 0) ⊎ (result ≡ 1) }
+    ensures leaves_input { (number : ℕ) → Asks words.now (Gen number) → input.new ≡ input.old }
+    ensures only_generated { (number : ℕ) → Asks words.now (Gen number) → (result ≡ 0) ⊎ (result ≡ 1) ⊎ (result ≡ 4) }
+
     // keygen: 0 where memory is left and nothing failed. It reads nothing, and no status but 0, 1 and 4 comes.
     ensures makes { (order : KitOrder) → Asks words.now (Keygen order)
         → ¬ Rose (K.faults output.old) (K.faults output.new) → (result ≡ 0) ⊎ (result ≡ 1) }
@@ -86,6 +98,7 @@ pub fn rampart<S: Source, K: Sink, D: Disk, L: Link>(
 {
     match read_command(words) {
         Some(Command::Replay) => run_replay(alloc, input, output),
+        Some(Command::Gen(number)) => run_gen(alloc, number, output),
         Some(Command::Keygen(ordered)) => run_keygen(alloc, &ordered, output),
         None => tell(output, Stop::Words),
     }

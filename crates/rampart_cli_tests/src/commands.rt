@@ -34,6 +34,24 @@ pair 1 0 5855ee5121fe557457f8e9e9fd737e34751991ec45348663fd50cfeca1ea1b21
 go
 ";
 
+const KEYGEN_OF_LEVELS: [&str; 5] = [
+    "keygen",
+    "1",
+    "1",
+    "hss:2:5:4",
+    "000102030405060708090a0b0c0d0e0f101112131415161718191a1b1c1d1e1f",
+];
+
+const KIT_OF_LEVELS: &[u8] = b"rampart kit 2
+scheme hss
+group 8303ca4d81d97afed6931bd5391d7eb0
+key 0 000000020000000500000004b966e4bbf7b7b3988d0ef56ca47ddcd2ad45c71816576d9852913006b485df0f88ea641eea0ab05223e49b1eec7bf90b
+genesis 0
+port 0 47000
+host 0 hss 2 5 4 b966e4bbf7b7b3988d0ef56ca47ddcd2 f4b2494c729deaf404ac48765e64f122dbff4d62830f144842df61d68e5bf443
+go
+";
+
 fn asked(alloc: Global, all: &[&str]) -> Result<Vec<String>, AllocError> {
     let mut words = Vec::new(alloc);
     for word in all {
@@ -138,6 +156,9 @@ fn a_kit_is_written_as_the_other_program_does(rt: HostRuntime) -> Result<(), Fai
     let alloc = rt.alloc();
     let (status, sink) = run(alloc, &asked(alloc, &KEYGEN)?, &[], &[])?;
     assert_eq!(rt; sink.bytes(), KIT);
+    assert_eq!(rt; status, 0);
+    let (status, sink) = run(alloc, &asked(alloc, &KEYGEN_OF_LEVELS)?, &[], &[])?;
+    assert_eq!(rt; sink.bytes(), KIT_OF_LEVELS);
     assert_eq!(rt; status, 0);
     let (status, sink) = run(alloc, &asked(alloc, &KEYGEN[..4])?, &[], &[])?;
     assert_eq!(rt; sink.bytes(), b"stop 2 words\n".as_slice());

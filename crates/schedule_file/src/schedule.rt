@@ -1,4 +1,8 @@
 //! Schedules: who takes part, and what happens. Contracts see them as the plain ones of `replay_defs`.
+ghost use Rattle.std.specs.Prelude.{◌≡◌};
+ghost use Rattle.replay_defs.specs.Schedules.{steps_of};
+ghost use Rattle.schedule_file.specs.Views as views;
+
 use arrayvec::ArrayVec;
 use replay_defs::Scheme;
 use rp_base::{GroupId, Pid, PidSet};
@@ -142,6 +146,18 @@ pub enum ScheduleEvent {
     Tick {
         at: Pid,
     },
+}
+
+impl ScheduleEvent {
+    /// How many steps it takes: as many as a Drain counts, else one.
+    pub fn steps(&self) -> u32
+        ensures { result ≡ steps_of (views.event self.now) }
+    {
+        match self {
+            ScheduleEvent::Drain { count, .. } => *count,
+            _ => 1,
+        }
+    }
 }
 
 /// Who takes part in a run, and what happens in it. docs/FORMATS.md says how it is spelled.

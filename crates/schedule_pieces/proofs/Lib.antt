@@ -1,0 +1,5 @@
+pub mod Spans
+pub mod Taken
+pub mod Feeding
+pub mod Giving
+pub mod AtEnd

@@ -1,0 +1,4 @@
+pub mod Fronts
+pub mod Ends
+pub mod Insides
+pub mod Readers

@@ -1,0 +1,5 @@
+//! Schedules in pieces beside those read whole.
+#![tactic(auto)]
+
+#[cfg(test)]
+mod tests;
