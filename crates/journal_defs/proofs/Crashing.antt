@@ -52,7 +52,7 @@ pub torn_gate : TornGate
 torn_gate head es e more old new opening torn =
     record { gate = get_or new (length (up_to_gate head es)) 0; parts = gate_changes (up_to_gate head es) opening.gate (behind_gate e ++ closed_gate ∷ more) old new opening.parts torn }
 
-not_open : closed_gate ≢ open_gate
+pub not_open : closed_gate ≢ open_gate
 not_open e = absurd (omega (arith, e))
 
 pub at_rest_is_image : AtRestIsImage
@@ -60,7 +60,7 @@ at_rest_is_image head es bytes each rest =
     record { gate = closed_gate; behind = rest.behind; parts = rest.parts; closed = not_open; safe = inl refl; each = each }
 
 -- one more record stands at the end
-one_more : (head : List ℕ) (es : List Entry) (e : Entry) (rest : List ℕ) → up_to_gate head es ++ open_gate ∷ (behind_gate e ++ rest) ≡ up_to_gate head (es ++ e ∷ []) ++ rest
+pub one_more : (head : List ℕ) (es : List Entry) (e : Entry) (rest : List ℕ) → up_to_gate head es ++ open_gate ∷ (behind_gate e ++ rest) ≡ up_to_gate head (es ++ e ∷ []) ++ rest
 one_more head es e rest =
     let records = flat_map record_bytes es in
     sym (ap (λ (l : List ℕ). head ++ l ++ rest) (flat_map-append record_bytes es (e ∷ []) ∙ ap (λ (l : List ℕ). records ++ l) (append-nil (record_bytes e)))

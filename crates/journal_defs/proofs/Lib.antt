@@ -1,3 +1,5 @@
 pub mod Crashing
 pub mod Entering
+pub mod Gates
 pub mod Recording
+pub mod Running

@@ -37,6 +37,22 @@ pub record IsOpening (head : List ℕ) (es : List Entry) (e : Entry) (more bytes
   pub gate : ℕ
   pub parts : bytes ≡ up_to_gate head es ++ gate ∷ (behind_gate e ++ closed_gate ∷ more)
 
+-- ---- as a run begins
+
+-- every image is at rest with these entries
+abbrev pub AllAtRest : List ℕ → List Entry → (List ℕ → Type 0) → Type 0
+AllAtRest head es images = (c : List ℕ) → images c → IsAtRest head es c
+
+-- in every image this entry is staged behind these entries; the gate before it is any byte
+abbrev pub AllOpening : List ℕ → List Entry → Entry → (List ℕ → Type 0) → Type 0
+AllOpening head es e images = (c : List ℕ) → images c → (more : List ℕ) × IsOpening head es e more c
+
+-- What a run finds, and leaves: all images at rest with these entries, or all with one more staged behind them. Of images of both
+-- kinds at once, one could have an open gate torn over what is no entry.
+pub record Stands (head : List ℕ) (es : List Entry) (images : List ℕ → Type 0) : Type 0 where
+  pub each : AllByRecursion IsEntry es
+  pub all : AllAtRest head es images ⊎ ((e : Entry) × IsEntry e × AllOpening head es e images)
+
 -- what an append writes behind the gate
 abbrev pub staged : Entry → List ℕ
 staged e = behind_gate e ++ closed_gate ∷ []
@@ -68,6 +84,10 @@ OpeningIsImage = (head : List ℕ) (es : List Entry) (e : Entry) (more bytes : L
 -- the journal is at rest again with the entry, once the gate reads 1
 abbrev pub OpenedIsAtRest : Type 0
 OpenedIsAtRest = (head : List ℕ) (es : List Entry) (e : Entry) (more : List ℕ) → IsAtRest head (es ++ e ∷ []) (up_to_gate head es ++ open_gate ∷ (behind_gate e ++ closed_gate ∷ more))
+
+-- one image that is well formed is what a run may find: so is what a crash leaves of a run
+abbrev pub OneImageStands : Type 0
+OneImageStands = (head image : List ℕ) (es : List Entry) → IsImageOf head image es → Stands head es (λ c. c ≡ image)
 
 -- a well formed image reads as its entries
 abbrev pub ImageReads : Type 0

@@ -1,20 +1,19 @@
 -- The bytes of a journal: a header, and records of which each stands behind a gate.
-use Rattle.std.specs.Prelude.{◌≡◌, ◌≢◌, ℕ, ◌≤◌, nat_lt, List, ◌∷◌, ◌++◌, length, codes, Ok}
+use Rattle.std.specs.Prelude.{◌≡◌, ◌≢◌, ℕ, ◌+◌, ◌≤◌, nat_lt, List, [], ◌∷◌, ◌++◌, length, drop, codes, Ok}
 use Rattle.std.specs.List.{flat_map, AllByRecursion}
 use Rattle.std.specs.Int.{w32, w64, to_be_bytes}
 use Rattle.byte_defs.specs.Fields.{◌>>=◌, refuse_if, number_at, bytes_at, four_bytes}
 use Rattle.rp_base.specs.Pids.{mask_of}
+use Rattle.journal_defs.specs.declared.Version.{Version}
+use Rattle.journal_defs.specs.declared.Version.TheVariants.{One, Two}
 use Rattle.journal_defs.specs.Entries.{Entry, IsEntry, AreBytes, Reading, entry_bytes, entry_of}
 
--- an older journal goes on as it began: its processes order one message at a place, others up to 16
-pub data Version : Type 0 where
-  One : Version
-  Two : Version
-
+-- the letters of each kind: an older journal goes on as it began
 abbrev pub magic : Version → List ℕ
 magic One = codes "RPJ1"
 magic Two = codes "RPJ2"
 
+-- how many messages a process orders at a place
 abbrev pub batch_limit : Version → ℕ
 batch_limit One = 1
 batch_limit Two = 16
@@ -25,8 +24,11 @@ pub record Header : Type 0 where
   pub hosted : List ℕ
   pub digest : List ℕ
 
+abbrev pub behind_magic : Header → List ℕ
+behind_magic h = h.group ++ (to_be_bytes w64 (mask_of h.hosted) ++ h.digest)
+
 abbrev pub header_bytes : Version → Header → List ℕ
-header_bytes v h = magic v ++ h.group ++ to_be_bytes w64 (mask_of h.hosted) ++ h.digest
+header_bytes v h = magic v ++ behind_magic h
 
 -- ---- records
 
@@ -68,6 +70,38 @@ pub record BreaksAt (head bytes : List ℕ) (place : ℕ) : Type 0 where
   pub each : AllByRecursion IsEntry entries
   pub no_entry : (e : Entry) (gate : ℕ) (more : List ℕ) → IsEntry e → behind ≡ behind_gate e ++ gate ∷ more → ⊥
 
+-- ---- what stands at a gate
+
+-- the gate at this place is closed
+pub record IsClosedAt (bytes : List ℕ) (place : ℕ) : Type 0 where
+  pub gate : ℕ
+  pub behind : List ℕ
+  pub parts : drop place bytes ≡ gate ∷ behind
+  pub closed : gate ≢ open_gate
+
+-- the gate at this place is open: behind it stands the entry, and behind that the next gate
+pub record HasEntryAt (bytes : List ℕ) (place : ℕ) (e : Entry) (next : ℕ) : Type 0 where
+  -- from the next gate on
+  pub more : List ℕ
+  pub parts : drop place bytes ≡ open_gate ∷ (behind_gate e ++ more)
+  pub goes_on : 1 ≤ length more
+  pub next_is : next ≡ place + length (record_bytes e)
+  pub entry : IsEntry e
+
+-- the gate at this place is open, and no whole entry and next gate stand behind it
+pub record IsBrokenAt (bytes : List ℕ) (place : ℕ) : Type 0 where
+  pub behind : List ℕ
+  pub parts : drop place bytes ≡ open_gate ∷ behind
+  pub no_entry : (e : Entry) (gate : ℕ) (more : List ℕ) → IsEntry e → behind ≡ behind_gate e ++ gate ∷ more → ⊥
+
+-- these entries stand before this place, at which the bytes go on
+pub record StandsBefore (head bytes : List ℕ) (es : List Entry) (place : ℕ) : Type 0 where
+  pub rest : List ℕ
+  pub parts : bytes ≡ up_to_gate head es ++ rest
+  pub goes_on : 1 ≤ length rest
+  pub where_it_is : place ≡ length (up_to_gate head es)
+  pub each : AllByRecursion IsEntry es
+
 -- ---- how a record is read behind an open gate
 
 -- the entry, and the bytes from the next gate on
@@ -88,6 +122,30 @@ RecordIsSpelled = (bytes rest : List ℕ) (e : Entry) → AreBytes bytes → rec
 -- what is spelled behind a gate is read as the entry, if a byte stands behind it
 abbrev pub RecordIsRead : Type 0
 RecordIsRead = (e : Entry) (rest : List ℕ) → IsEntry e → 1 ≤ length rest → record_at (behind_gate e ++ rest) ≡ Ok (e, rest)
+
+-- with the entry at a place behind them, the entries stand before the next gate
+abbrev pub EntryGoesOn : Type 0
+EntryGoesOn = (head bytes : List ℕ) (es : List Entry) (place : ℕ) (e : Entry) (next : ℕ) → StandsBefore head bytes es place → HasEntryAt bytes place e next → StandsBefore head bytes (es ++ e ∷ []) next
+
+-- where the gate behind them is closed, the bytes read as the entries
+abbrev pub ClosedGateEnds : Type 0
+ClosedGateEnds = (head bytes : List ℕ) (es : List Entry) (place : ℕ) → StandsBefore head bytes es place → IsClosedAt bytes place → ReadsAs head bytes es
+
+-- and where no entry stands behind it, the reading breaks there
+abbrev pub BrokenGateBreaks : Type 0
+BrokenGateBreaks = (head bytes : List ℕ) (es : List Entry) (place : ℕ) → StandsBefore head bytes es place → IsBrokenAt bytes place → BreaksAt head bytes place
+
+-- bytes that read as entries have each of them at its place
+abbrev pub EntryIsThere : Type 0
+EntryIsThere = (head bytes : List ℕ) (es fs : List Entry) (e : Entry) → ReadsAs head bytes (es ++ e ∷ fs) → HasEntryAt bytes (length (up_to_gate head es)) e (length (up_to_gate head (es ++ e ∷ [])))
+
+-- and a closed gate behind the last
+abbrev pub GateIsThere : Type 0
+GateIsThere = (head bytes : List ℕ) (es : List Entry) → ReadsAs head bytes es → IsClosedAt bytes (length (up_to_gate head es))
+
+-- at a place stands one entry at most
+abbrev pub OneEntry : Type 0
+OneEntry = (bytes : List ℕ) (place : ℕ) (e f : Entry) (m n : ℕ) → HasEntryAt bytes place e m → HasEntryAt bytes place f n → e ≡ f
 
 -- bytes read as one list of entries at most
 abbrev pub OneReading : Type 0

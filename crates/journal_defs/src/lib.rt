@@ -2,8 +2,19 @@
 #![tactic(auto)]
 
 ghost use Rattle.journal_defs.specs.Entries.{EntryIsSpelled, EntryIsRead};
-ghost use Rattle.journal_defs.specs.Journals.{RecordIsSpelled, RecordIsRead, OneReading};
-ghost use Rattle.journal_defs.specs.Crashes.{TornBehindTheGate, WrittenBehindTheGate, TornGate, AtRestIsImage, OpeningIsImage, OpenedIsAtRest, ImageReads};
+ghost use Rattle.journal_defs.specs.Journals.{RecordIsSpelled, RecordIsRead, OneReading, EntryGoesOn, ClosedGateEnds, BrokenGateBreaks, EntryIsThere, GateIsThere, OneEntry};
+ghost use Rattle.journal_defs.specs.Crashes.{TornBehindTheGate, WrittenBehindTheGate, TornGate, AtRestIsImage, OpeningIsImage, OpenedIsAtRest, OneImageStands, ImageReads};
+
+/// The kind of a journal, which stands in its magic. A place holds one message in a journal of the first kind, and up to 16 in
+/// one of the second.
+#[derive(Clone, Copy, Debug, PartialEq, Eq)]
+pub enum Version {
+    /// The letters `RPJ1`.
+    One,
+
+    /// The letters `RPJ2`.
+    Two,
+}
 
 /// A write behind the closed gate leaves the entries, wherever it is torn.
 pub fn torn_behind_the_gate()
@@ -35,6 +46,11 @@ pub fn opened_is_at_rest()
     ensures { OpenedIsAtRest }
 {}
 
+/// What a crash leaves of a run is what the next run may find.
+pub fn one_image_stands()
+    ensures { OneImageStands }
+{}
+
 /// A well formed image reads as its entries.
 pub fn image_reads()
     ensures { ImageReads }
@@ -58,6 +74,36 @@ pub fn record_is_spelled()
 /// What is spelled behind a gate is read as the entry.
 pub fn record_is_read()
     ensures { RecordIsRead }
+{}
+
+/// With an entry behind them, the entries stand before the next gate.
+pub fn entry_goes_on()
+    ensures { EntryGoesOn }
+{}
+
+/// A closed gate ends the reading.
+pub fn closed_gate_ends()
+    ensures { ClosedGateEnds }
+{}
+
+/// An open gate with no entry behind it breaks the reading.
+pub fn broken_gate_breaks()
+    ensures { BrokenGateBreaks }
+{}
+
+/// Each entry of the reading is at its place.
+pub fn entry_is_there()
+    ensures { EntryIsThere }
+{}
+
+/// Behind the last one is a closed gate.
+pub fn gate_is_there()
+    ensures { GateIsThere }
+{}
+
+/// At a place stands one entry at most.
+pub fn one_entry()
+    ensures { OneEntry }
 {}
 
 /// Bytes read as one list of entries at most.

@@ -1,10 +1,10 @@
 -- A journal on a disk that tells what it holds.
-use Rattle.std.specs.Prelude.{◌≡◌, ◌⊎◌, ℕ, ◌≤◌, List, length, Option, Some}
+use Rattle.std.specs.Prelude.{◌≡◌, ◌⊎◌, ℕ, ◌≤◌, List, [], ◌∷◌, ◌++◌, length, drop, Option, Some, IfSome}
 use Rattle.std.specs.List.{AllByRecursion}
-use Rattle.rp_base.specs.Disks.{Only}
+use Rattle.rp_base.specs.Disks.{Only, SameImages}
 use Rattle.journal_defs.specs.Entries.{Entry, IsEntry}
-use Rattle.journal_defs.specs.Journals.{up_to_gate}
-use Rattle.journal_defs.specs.Crashes.{IsAtRest, IsOpening}
+use Rattle.journal_defs.specs.Journals.{up_to_gate, closed_gate, ReadsAs}
+use Rattle.journal_defs.specs.Crashes.{IsAtRest, IsOpening, IsImageOf, IsWithOrWithout, AllOpening}
 
 -- the journal is at rest with these entries, its closed gate stands at this place, and every crash leaves it so
 pub record HasRest (seen : Option (List ℕ)) (may_leave : List ℕ → Type 0) (head : List ℕ) (es : List Entry) (gate : ℕ) : Type 0 where
@@ -26,9 +26,45 @@ pub record HasStaged (seen : Option (List ℕ)) (may_leave : List ℕ → Type 0
   pub each : AllByRecursion IsEntry es
   pub entry : IsEntry e
 
+-- entries stand on the disk, and behind them a closed gate, at this place
+pub record EndsAt (seen : Option (List ℕ)) (head : List ℕ) (fs : List Entry) (gate : ℕ) : Type 0 where
+  pub file : List ℕ
+  pub told : seen ≡ Some file
+  pub reads : ReadsAs head file fs
+  pub place : gate ≡ length (up_to_gate head fs)
+
+-- and it is closed as it is written
+pub record EndsClosed (seen : Option (List ℕ)) (head : List ℕ) (fs : List Entry) (gate : ℕ) : Type 0 where
+  pub ends : EndsAt seen head fs gate
+  pub written : ends.reads.gate ≡ closed_gate
+
+-- where the disk tells, it has so many bytes
+abbrev pub HasLength : Option (List ℕ) → ℕ → Type 0
+HasLength seen len = IfSome seen (λ file. len ≡ length file)
+
+-- these bytes stand from this place on
+abbrev pub BeginsAt : List ℕ → ℕ → List ℕ → Type 0
+BeginsAt file at piece = (rest : List ℕ) × (drop at file ≡ piece ++ rest)
+
+-- well formed, with these entries, or with one more that every image had staged
+abbrev pub LeavesStaged : List ℕ → List Entry → (List ℕ → Type 0) → List ℕ → Type 0
+LeavesStaged head es images c = IsImageOf head c es ⊎ ((e : Entry) × AllOpening head es e images × IsImageOf head c (es ++ e ∷ []))
+
 -- a crash at any moment since old leaves an image that has P
 pub record LeavesOnly {D : Type 0} (moment : D → ℕ) (left_since : D → ℕ → List ℕ → Type 0) (old new : D) (P : List ℕ → Type 0) : Type 0 where
   pub later : moment old ≤ moment new
   pub each : (c : List ℕ) → left_since new (moment old) c → P c
   -- for a run that began earlier
   pub before : (t : ℕ) (c : List ℕ) → t ≤ moment old → left_since new t c → left_since old t c ⊎ P c
+
+-- The disk was only read: it reads as it did, its images are those that there were, and so they were at each moment since.
+pub record OnlyReads {D : Type 0} (seen : D → Option (List ℕ)) (may_leave : D → List ℕ → Type 0) (moment : D → ℕ) (left_since : D → ℕ → List ℕ → Type 0) (old new : D) : Type 0 where
+  pub reads : seen new ≡ seen old
+  pub images : SameImages (may_leave old) (may_leave new)
+  pub moments : LeavesOnly moment left_since old new (may_leave old)
+
+-- An entry is appended in this order. Until it is staged whole, a crash leaves the entries that there were; from then on these or one
+-- more.
+abbrev pub StagesThenOpens : {D : Type 0} → (D → Option (List ℕ)) → (D → List ℕ → Type 0) → (D → ℕ) → (D → ℕ → List ℕ → Type 0) → D → D → List ℕ → List Entry → Entry → ℕ → Type 0
+StagesThenOpens {D} seen may_leave moment left_since old new head es e gate = LeavesOnly moment left_since old new (λ image. IsImageOf head image es)
+    ⊎ ((mid : D) × HasStaged (seen mid) (may_leave mid) head es e gate × LeavesOnly moment left_since old mid (λ image. IsImageOf head image es) × LeavesOnly moment left_since mid new (IsWithOrWithout head es e))

@@ -1,8 +1,8 @@
-ghost use Rattle.std.specs.Prelude.{◌≡◌, ◌+◌, ◌^◌, ◌<◌, ◌≤◌, ◌++◌, ◌∷◌, [], List, ℕ, length, OnOk, IfSome};
+ghost use Rattle.std.specs.Prelude.{◌≡◌, max, ◌+◌, ◌^◌, ◌<◌, ◌≤◌, ◌++◌, ◌∷◌, [], List, ℕ, length, OnOk, IfSome};
 ghost use Rattle.rp_base.specs.Causes.{HasCause};
 ghost use Rattle.journal_defs.specs.Entries.{Entry, IsEntry};
-ghost use Rattle.journal_defs.specs.Crashes.{IsImageOf, IsWithOrWithout, staged};
-ghost use Rattle.journal_disk.specs.Disks.{HasRest, HasStaged, LeavesOnly};
+ghost use Rattle.journal_defs.specs.Crashes.{IsImageOf, IsWithOrWithout, AllAtRest, AllOpening, Stands, staged};
+ghost use Rattle.journal_disk.specs.Disks.{HasRest, HasStaged, HasLength, LeavesOnly, StagesThenOpens};
 
 use rp_base::{Disk, Failed};
 
@@ -22,6 +22,15 @@ pub fn append<D: Disk>(disk: &mut D, gate: u64, bytes: &[u8]) -> Result<(), Fail
     // A crash at any moment leaves a well formed journal with the entry or without it.
     ensures any_moment { (head : List ℕ) (es : List Entry) (e : Entry) → HasRest (D.seen disk.old) (D.may_leave disk.old) head es gate → IsEntry e → bytes.now ≡ staged e
         → LeavesOnly D.moment D.left_since disk.old disk.new (IsWithOrWithout head es e) }
+
+    // Before the gate is written, with the old entries.
+    ensures in_order { (head : List ℕ) (es : List Entry) (e : Entry) → HasRest (D.seen disk.old) (D.may_leave disk.old) head es gate → IsEntry e → bytes.now ≡ staged e
+        → StagesThenOpens D.seen D.may_leave D.moment D.left_since disk.old disk.new head es e gate }
+
+    // What the next run may find.
+    ensures stands { (head : List ℕ) (es : List Entry) (e : Entry) → HasRest (D.seen disk.old) (D.may_leave disk.old) head es gate → IsEntry e → bytes.now ≡ staged e
+        → Stands head es (D.may_leave disk.new) }
+    ensures length { (len : ℕ) → HasLength (D.seen disk.old) len → OnOk result (HasLength (D.seen disk.new) (max len (gate + 1 + length bytes.now))) }
     ensures cause { HasCause (D.faults disk.old) (D.faults disk.new) result }
 {
     stage(disk, gate, bytes)?;
@@ -38,6 +47,8 @@ pub fn stage<D: Disk>(disk: &mut D, gate: u64, bytes: &[u8]) -> Result<(), Faile
     // A crash at any moment leaves the entries that there were.
     ensures any_moment { (head : List ℕ) (es : List Entry) → HasRest (D.seen disk.old) (D.may_leave disk.old) head es gate
         → LeavesOnly D.moment D.left_since disk.old disk.new (λ image. IsImageOf head image es) }
+    ensures rests { (head : List ℕ) (es : List Entry) → HasRest (D.seen disk.old) (D.may_leave disk.old) head es gate → AllAtRest head es (D.may_leave disk.new) }
+    ensures length { (len : ℕ) → HasLength (D.seen disk.old) len → OnOk result (HasLength (D.seen disk.new) (max len (gate + 1 + length bytes.now))) }
     ensures within { OnOk result (IfSome (D.seen disk.new) (λ file. gate ≤ length file)) }
     ensures cause { HasCause (D.faults disk.old) (D.faults disk.new) result }
 {
@@ -54,6 +65,8 @@ pub fn open_gate<D: Disk>(disk: &mut D, gate: u64) -> Result<(), Failed>
     // A crash at any moment leaves a well formed journal with the entry or without it.
     ensures any_moment { (head : List ℕ) (es : List Entry) (e : Entry) → HasStaged (D.seen disk.old) (D.may_leave disk.old) head es e gate
         → LeavesOnly D.moment D.left_since disk.old disk.new (IsWithOrWithout head es e) }
+    ensures opening { (head : List ℕ) (es : List Entry) (e : Entry) → HasStaged (D.seen disk.old) (D.may_leave disk.old) head es e gate → AllOpening head es e (D.may_leave disk.new) }
+    ensures length { (len : ℕ) → gate + 1 ≤ len → HasLength (D.seen disk.old) len → OnOk result (HasLength (D.seen disk.new) len) }
     ensures cause { HasCause (D.faults disk.old) (D.faults disk.new) result }
 {
     disk.write_at(gate, &[OPEN])?;

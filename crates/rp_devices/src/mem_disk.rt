@@ -1,4 +1,4 @@
-ghost use Rattle.std.specs.Prelude.{◌≡◌, ◌+◌, ◌≤◌, [], ◌∷◌, ◌++◌, length, Some, IfOk, OnOk, OnErr, IsErr, IsTrue, is_err};
+ghost use Rattle.std.specs.Prelude.{◌≡◌, ◌≢◌, ◌+◌, ◌≤◌, [], ◌∷◌, ◌++◌, length, Some, IfOk, OnOk, OnErr, IsErr, IsTrue, is_err};
 ghost use Rattle.rp_base.specs.Causes.{HasCause};
 ghost use Rattle.rp_base.specs.Disks.{Reads, Writes, Torn, Follows, SameImages, NoNewImage, Only, Elapses};
 ghost use Rattle.rp_devices.specs.Calls.{is_to_fail, one_more, fresh};
@@ -196,6 +196,9 @@ impl Disk for MemDisk {
         ensures time { Elapses (length (log_of self.old)) (length (log_of self.new)) (LeftSince (first_bytes self.old) (log_of self.old)) (LeftSince (first_bytes self.new) (log_of self.new)) (IsImage (held self.new)) }
         ensures cause { HasCause (disk_calls self.old).faults (disk_calls self.new).faults result }
         ensures fails { IsTrue (is_to_fail (disk_calls self.old)) → IsErr result }
+
+        // A call that is to fail changes nothing, but for the one at which the disk is stopped.
+        ensures idle { IsTrue (is_to_fail (disk_calls self.old)) → (disk_calls self.old).made ≢ (disk_calls self.old).stop → (log_of self.new ≡ log_of self.old) × (disk_bytes self.new ≡ disk_bytes self.old) }
         ensures made { (disk_calls self.new).made ≡ one_more (disk_calls self.old).made }
     {
         let stops = self.calls.made == self.calls.stop;
@@ -220,6 +223,7 @@ impl Disk for MemDisk {
         ensures time { Elapses (length (log_of self.old)) (length (log_of self.new)) (LeftSince (first_bytes self.old) (log_of self.old)) (LeftSince (first_bytes self.new) (log_of self.new)) (IsImage (held self.new)) }
         ensures cause { HasCause (disk_calls self.old).faults (disk_calls self.new).faults result }
         ensures fails { IsTrue (is_to_fail (disk_calls self.old)) → IsErr result }
+        ensures idle { IsTrue (is_to_fail (disk_calls self.old)) → log_of self.new ≡ log_of self.old }
         ensures made { (disk_calls self.new).made ≡ one_more (disk_calls self.old).made }
     {
         if self.calls.next_fails() {

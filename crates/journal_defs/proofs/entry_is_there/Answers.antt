@@ -1,0 +1,5 @@
+use Rattle.journal_defs.proofs.Gates as laws
+use Rattle.journal_defs.proofs.entry_is_there.Goals as goal
+
+pub returns : goal.returns
+returns c = laws.entry_is_there

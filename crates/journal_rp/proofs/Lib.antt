@@ -1,0 +1,2 @@
+pub mod AtDisk
+pub mod OnTold

@@ -1,0 +1,5 @@
+pub mod Answers
+pub mod Gates
+pub mod Headers
+pub mod Stages
+pub mod Turns

@@ -1,0 +1,26 @@
+//! A journal on a disk: it keeps what the processes of a node took in, turn by turn, and no crash splits a turn
+//! (docs/FORMATS.md, «Journals»).
+//!
+//! A journal is started on a disk, read entry by entry to its closed gate, finished, and then appended to. A type for each
+//! stage says which calls there are: `Journal<Reading>` is read, `Journal<Writing>` appended to. What a turn sends is lent by
+//! `Turn<Synced>` alone, which `append` alone gives.
+//!
+//! Of the disk each call needs that it is as long as the journal's last call left it, and each promise on its bytes holds where
+//! the disk tells them. After a fault no further call is made: the disk is started again.
+#![tactic(auto)]
+
+mod fault;
+mod header;
+mod journal;
+mod marking;
+mod reading;
+mod starting;
+mod turn;
+mod writing;
+
+pub use fault::JournalFault;
+pub use header::Header;
+pub use journal::{Journal, Reading, Writing};
+pub use journal_defs::Version;
+pub use journal_entries::{EntryBytes, entry_at};
+pub use turn::{Synced, Turn, Unsynced};
