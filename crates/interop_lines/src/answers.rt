@@ -4,6 +4,7 @@ ghost use Rattle.interop_lines.specs.Lines.{Answers};
 use interop_frames::answer_frames;
 use interop_kits::answer_kits;
 use interop_levels::answer_levels;
+use interop_schedules::answer_schedules;
 use interop_signatures::answer_signatures;
 use interop_words::{LineFault, words_of};
 use std::alloc::Global;
@@ -19,6 +20,7 @@ use std::alloc::Global;
 /// | `frame HEX` | what the bytes say as a frame: the word of their first fault (docs/FORMATS.md, «Frames»), or `bundle` or `proof` and for each claim ` SIGNER STATEMENT SIGNATURE`, or `want VIEW PLACE` |
 /// | `statement HEX` | what the bytes say as a statement: the word of their fault (docs/FORMATS.md, «Statements»), or `ok STATEMENT`, spelled from what was read |
 /// | `kit HEX` | what the bytes say as a kit: `kit HEX`, the kit spelled again from what was read; or its fault (docs/FORMATS.md, «Kits»): `line N`, `repeated N`, `missing N`, or `mismatch N MADE LISTED` with the public key that the secret makes and the one of the key line. N counts lines from 1 |
+/// | `schedule HEX` | what the bytes say as a schedule: `schedule HEX`, the schedule spelled again from what was read; or its fault and place (docs/FORMATS.md, «Schedules»): `WORD PLACE` |
 ///
 /// Words stand between single spaces. Bytes are in lower-case hexadecimal, or `-` where there are none; I has 16 bytes and
 /// SEED 32. Numbers are decimal, without sign or leading zero. `NoQuestion` comes exactly where the line is none of these.
@@ -30,7 +32,10 @@ pub fn answer(alloc: Global, line: &[u8]) -> Result<Vec<u8>, LineFault>
     match answer_signatures(alloc, &words) {
         Err(LineFault::NoQuestion) => match answer_levels(alloc, &words) {
             Err(LineFault::NoQuestion) => match answer_frames(alloc, &words) {
-                Err(LineFault::NoQuestion) => answer_kits(alloc, &words),
+                Err(LineFault::NoQuestion) => match answer_kits(alloc, &words) {
+                    Err(LineFault::NoQuestion) => answer_schedules(alloc, &words),
+                    answered => answered,
+                },
                 answered => answered,
             },
             answered => answered,
