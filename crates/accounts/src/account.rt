@@ -1,0 +1,22 @@
+use rp_base::{Pid, Update};
+use stmt_codec::{Delivered, Payload};
+use view_table::View;
+
+/// What a process tells of itself. The definitions' account of it, the word `account` of the specs says.
+#[derive(Debug, Drop)]
+pub struct Account {
+    /// The own number.
+    pub me: Pid,
+
+    /// The views that it installed, the current one last. They are numbered as they stand, from 0 on.
+    pub views: Vec<View>,
+
+    /// For each of these views, what it delivered there, in order.
+    pub delivered: Vec<Vec<Delivered>>,
+
+    /// The payloads that were handed in and taken, in order.
+    pub accepted: Vec<Payload>,
+
+    /// The updates that it perceived, each with the number of the view: rising, each once.
+    pub perceived: Vec<(u16, Update)>,
+}

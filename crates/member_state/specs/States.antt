@@ -1,0 +1,53 @@
+-- Which process of the definitions a state is.
+use Rattle.std.specs.Prelude.{◌≡◌, ℕ, ◌≤◌, ◌==◌, List, length, filter, Some, IsTrue}
+use Rattle.message_defs.specs.Updates.{Value}
+use Rattle.message_defs.specs.Statements.{Claim, ReadyAt, view_of}
+use Rattle.group_defs.specs.Views.{View, is_possible}
+use Rattle.group_defs.specs.Process.{Setting, Process, keyed}
+use Rattle.group_defs.specs.Certified.{value_at}
+use Rattle.group_defs.specs.Accounts.{account_of}
+use Rattle.own_place.specs.Owns.{Tells}
+use Rattle.ending_rules.specs.Perceiving.{TellsPerceived}
+use Rattle.view_phases.specs.Phases.{IsIn}
+use Rattle.reliable_mcast.specs.Archives.{Keeps}
+use Rattle.member_laws.specs.Lawful.{IsLawful}
+use Rattle.accounts.specs.Views.{account}
+use Rattle.member_state.specs.Bounds.{IsBounded}
+use Rattle.member_state.specs.declared.state.ProcessState.{ProcessState}
+
+-- what the process signed in its current view, in order of signing
+abbrev pub signed_here : Process → List Claim
+signed_here p = filter (λ c. view_of c.statement == p.pool.view.number) p.signed
+
+-- what is decided is a certified Ready's, and its update is possible
+pub record IsDecision (s : Setting) (p : Process) (d : ℕ × Value) : Type 0 where
+  pub certified : value_at p.pool (ReadyAt p.pool.view.number d.0) ≡ Some d.1
+  pub possible : IsTrue (is_possible (keyed s) p.pool.view d.1.update)
+
+-- The state is this process's, in this setting: each part of it keeps what is the process's. And so it is with every process
+-- that came to be by events: it is lawful and bounded, its view has as number how many views it left, and what it decided is certified.
+pub record IsStateOf (s : Setting) (p : Process) (st : ProcessState) : Type 0 where
+  pub lawful : IsLawful p
+  pub bounded : IsBounded p
+  pub number : p.pool.view.number ≡ length p.left
+  pub some : 1 ≤ p.batch_limit
+  pub decided : (d : ℕ × Value) → p.decision ≡ Some d → IsDecision s p d
+  pub limit : p.batch_limit ≡ st.batch_limit
+  pub place : Tells s p st.pool.pool st.own
+  pub phase : IsIn st.phase p
+  pub asked : TellsPerceived st.perceived p
+  pub said : signed_here p ≡ st.said.claims
+  pub pairs : p.conflicts ≡ st.conflicts.pairs
+  pub kept : Keeps st.archive p
+  pub account : account_of p ≡ account st.account
+
+-- some process has this state
+pub record IsReal (st : ProcessState) : Type 0 where
+  pub setting : Setting
+  pub process : Process
+  pub state : IsStateOf setting process st
+
+-- the setting has these keys and this genesis view
+pub record StartsWith (s : Setting) (keyed : List (ℕ × List ℕ)) (genesis : View) : Type 0 where
+  pub keys : s.roster ≡ keyed
+  pub genesis : s.genesis ≡ genesis

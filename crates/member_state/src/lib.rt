@@ -1,0 +1,8 @@
+//! What a process keeps, as one value (docs/ARCHITECTURE.md): which process of the definitions it is, the record `IsStateOf` of the
+//! specs says. The crates of a member's event each take it from one moment of the event to the next.
+#![tactic(auto)]
+
+mod state;
+
+pub use accounts::{Account, Delivered};
+pub use state::ProcessState;

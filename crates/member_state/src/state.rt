@@ -1,0 +1,109 @@
+ghost use Rattle.std.specs.Prelude.{◌≡◌, ◌≤◌, IfOk};
+ghost use Rattle.group_defs.specs.Process.{Setting, start};
+ghost use Rattle.member_state.specs.States.{IsStateOf, StartsWith};
+
+use accounts::Account;
+use claim_lists::{ClaimList, Conflicts};
+use claim_pool::{Own, Pool};
+use ending_rules::Perceived;
+use own_moves::no_counts;
+use own_place::SignedSlots;
+use reliable_mcast::Archive;
+use rp_base::{NoMemory, Pid, Roster};
+use std::alloc::Global;
+use view_phases::Phase;
+use view_table::View;
+
+/// What a process keeps.
+#[derive(Drop)]
+pub struct ProcessState {
+    /// The most messages of an own Order, 1 to 16.
+    pub batch_limit: u8,
+
+    /// Its own place in its current view.
+    pub own: Own,
+
+    /// What it has heard there.
+    pub pool: Pool,
+
+    /// How far it is there.
+    pub phase: Phase,
+
+    /// The updates that were asked for there.
+    pub perceived: Perceived,
+
+    /// What it has signed there, in order of signing.
+    pub said: ClaimList,
+
+    /// The first two conflicting claims of each signer, over all views.
+    pub conflicts: Conflicts,
+
+    /// What is kept of the views that it left.
+    pub archive: Archive,
+
+    /// What it tells of itself.
+    pub account: Account,
+}
+
+// The own place of a process that starts in the view.
+fn first_place(alloc: Global, roster: &Roster, genesis: &View, me: Pid) -> Own
+{
+    Own {
+        me,
+        position: genesis.rank_of(me),
+        keyed: roster.processes(),
+        signed: SignedSlots::new(alloc),
+        ended: false,
+        rank: 0,
+        ready: None,
+        ordered: 0,
+        orders: no_counts(genesis),
+        delivered: 0,
+        counts: no_counts(genesis),
+        earlier: 0,
+    }
+}
+
+// What a process that starts in the view tells of itself.
+fn first_account(alloc: Global, genesis: View, me: Pid) -> Result<Account, NoMemory> {
+    let mut views = Vec::new(alloc);
+    views.push(genesis)?;
+    let mut delivered = Vec::new(alloc);
+    delivered.push(Vec::new(alloc))?;
+    Ok(Account {
+        me,
+        views,
+        delivered,
+        accepted: Vec::new(alloc),
+        perceived: Vec::new(alloc),
+    })
+}
+
+impl ProcessState {
+    /// The process of this number as it starts, in the genesis view, which has the number 0. An own Order has at most `batch_limit`
+    /// messages, 1 to 16.
+    pub fn new(
+        alloc: Global,
+        roster: &Roster,
+        genesis: &View,
+        me: Pid,
+        batch_limit: u8,
+    ) -> Result<ProcessState, NoMemory>
+        requires number { genesis.now.number ≡ 0 }
+        requires some { 1 ≤ batch_limit }
+        requires few { batch_limit ≤ 16 }
+        ensures { IfOk result (λ st. (s : Setting) → StartsWith s roster.now genesis.now → IsStateOf s (start s me batch_limit) st) }
+    {
+        Ok(ProcessState {
+            batch_limit,
+            own: first_place(alloc, roster, genesis, me),
+            pool: Pool::new(alloc, genesis.clone())?,
+            phase: Phase::begin(genesis, me),
+            perceived: Perceived::new(),
+            said: ClaimList::new(alloc),
+            conflicts: Conflicts::new(alloc),
+            archive: Archive::new(alloc)?,
+            account: first_account(alloc, genesis.clone(), me)?,
+        })
+    }
+}
