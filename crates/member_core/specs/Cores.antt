@@ -1,0 +1,56 @@
+-- Which process of the definitions a core is, and what a step of it gives.
+use Rattle.std.specs.Prelude.{◌≡◌, ℕ, ◌-◌, List, ◌∷◌, [], length, map, Option, Some, None, option_map, find, ◌==◌, option_and_then, if◌then◌else◌}
+use Rattle.byte_defs.specs.Orders.{sorted}
+use Rattle.group_defs.specs.Views.{View}
+use Rattle.group_defs.specs.Process.{Setting, Process, all_kinds, places_in}
+use Rattle.group_defs.specs.Events.{Turn, after, outcome}
+use Rattle.stmt_codec.specs.declared.events.Event.{Event}
+use Rattle.stmt_codec.specs.declared.events.Outcome.{Outcome}
+use Rattle.member_state.specs.States.{IsStateOf}
+use Rattle.member_state.specs.Events.{event, IsOutcome}
+use Rattle.member_core.specs.declared.member.Core.{Core}
+
+-- the process's key in the roster
+abbrev pub key_in : List (ℕ × List ℕ) → ℕ → Option (List ℕ)
+key_in roster p = option_map (λ k. k.1) (find (λ k. k.0 == p) roster)
+
+-- the setting of this group, roster and genesis view, in which all kinds are signed
+pub record Shares (s : Setting) (g : List ℕ) (r : List (ℕ × List ℕ)) (v : View) : Type 0 where
+  pub group : s.group ≡ g
+  pub roster : s.roster ≡ r
+  pub genesis : s.genesis ≡ v
+  pub kinds : s.signs ≡ all_kinds
+
+-- the signer
+abbrev pub signer_of : {G : Type 0} → Core G → G
+signer_of c = c.signer
+
+-- The core is this process in this setting: its state is, and it has made as many signatures as the process has signed statements. `used`
+-- tells how many signatures a signer has made.
+pub record IsProcess {G : Type 0} (used : G → ℕ) (s : Setting) (p : Process) (c : Core G) : Type 0 where
+  pub state : IsStateOf s p c.state
+  pub signed : length p.signed ≡ used c.signer
+  pub group : s.group ≡ c.group
+  pub roster : s.roster ≡ c.roster
+  pub kinds : s.signs ≡ all_kinds
+
+-- the same, as one word
+unfoldable pub IsCore : {G : Type 0} → (G → ℕ) → Setting → Process → Core G → Type 0
+IsCore used s p c = IsProcess used s p c
+
+-- the signers with a kept conflict, rising
+abbrev pub liars_of : Process → List ℕ
+liars_of p = sorted (λ q. q ∷ []) (map (λ pair. pair.0.signer) p.conflicts)
+
+-- where it has halted, how many places it delivered, and the cut
+abbrev pub halted_at : Process → Option (ℕ × ℕ)
+halted_at p = option_and_then (λ d. if p.halted then Some (places_in p.delivered, d.1.cut) else None) p.decision
+
+-- the turn of this event: the signatures that the signer has left may be made, and it makes them
+abbrev pub turn_of : {G : Type 0} → (G → ℕ) → (G → ℕ) → (G → ℕ → List ℕ → List ℕ) → Core G → Event → Turn
+turn_of used total signature c e = record { event = event e; allowance = total c.signer - used c.signer; signer = signature c.signer }
+
+-- the new core is the process after the turn, and the outcome is that of the turn
+pub record Steps {G : Type 0} (used total : G → ℕ) (signature : G → ℕ → List ℕ → List ℕ) (s : Setting) (p : Process) (old new : Core G) (e : Event) (r : Outcome) : Type 0 where
+  pub core : IsCore used s (after s p (turn_of used total signature old e)) new
+  pub outcome : IsOutcome (outcome s p (turn_of used total signature old e)) r

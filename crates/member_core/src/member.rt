@@ -1,0 +1,117 @@
+ghost use Rattle.std.specs.Prelude.{◌≡◌, ◌≤◌, length, IfOk, IsSome, All};
+ghost use Rattle.group_defs.specs.Process.{Setting, Process, start};
+ghost use Rattle.group_defs.specs.Accounts.{account_of};
+ghost use Rattle.group_defs.specs.Settle.{phase_of};
+ghost use Rattle.accounts.specs.Views.{account};
+ghost use Rattle.view_phases.specs.Phases.{word};
+ghost use Rattle.member_core.specs.Cores.{IsCore, Shares, Steps, key_in, liars_of, halted_at, signer_of};
+
+use member_state::{Account, ProcessState};
+use reliable_mcast::Frames;
+use rp_base::{GroupId, NoMemory, Pid, PidSet, Roster, Scheme, Signer, Tally};
+use std::alloc::Global;
+use stmt_codec::{Event, Outcome};
+use view_phases::PhaseWord;
+use view_table::View;
+
+/// A process of a group, correct by construction. Which process of the definitions it is, the word `IsCore` of the specs says.
+#[derive(Drop)]
+pub struct Core<G> {
+    pub(crate) alloc: Global,
+    pub(crate) group: GroupId,
+    pub(crate) roster: Roster,
+    pub(crate) state: ProcessState,
+    pub(crate) frames: Frames,
+    pub(crate) signer: G,
+}
+
+impl<G: Tally + Drop> Core<G> {
+    /// The process of this number as it starts, in the genesis view. On `NoMemory` the signer is dropped unused. The genesis
+    /// view has the number 0, the process and all genesis members are in the roster, and the signer has signed nothing.
+    /// An own Order has at most `batch_limit` messages, 1 to 16.
+    pub fn new(
+        alloc: Global,
+        group: GroupId,
+        roster: Roster,
+        genesis: View,
+        me: Pid,
+        batch_limit: u8,
+        signer: G,
+    ) -> Result<Core<G>, NoMemory>
+        requires number { genesis.number ≡ 0 }
+        requires listed { IsSome (key_in roster me) }
+        requires members { All (λ m. IsSome (key_in roster m)) genesis.members }
+        requires some { 1 ≤ batch_limit }
+        requires few { batch_limit ≤ 16 }
+        requires unused { G.used signer ≡ 0 }
+        ensures starts { IfOk result (λ c. (s : Setting) → Shares s group roster genesis → IsCore G.used s (start s me batch_limit) c) }
+        ensures signer { IfOk result (λ c. signer_of c ≡ signer) }
+    {
+        let state = ProcessState::new(alloc, &roster, &genesis, me, batch_limit)?;
+        let frames = Frames::new(alloc)?;
+        Ok(Core {
+            alloc,
+            group,
+            roster,
+            state,
+            frames,
+            signer,
+        })
+    }
+
+    /// What the process tells of itself.
+    #[tactic(auto, unfolding(crate::specs::Cores::IsCore))]
+    pub fn account(&self) -> &Account
+        ensures { (s : Setting) (p : Process) → IsCore G.used s p self.now → account_of p ≡ account result.now }
+    {
+        &self.state.account
+    }
+
+    /// Its phase in the current view.
+    #[tactic(auto, unfolding(crate::specs::Cores::IsCore))]
+    pub fn phase(&self) -> PhaseWord
+        ensures { (s : Setting) (p : Process) → IsCore G.used s p self.now → phase_of p ≡ word result }
+    {
+        self.state.phase.word()
+    }
+
+    /// How many signatures it has made.
+    #[tactic(auto, unfolding(crate::specs::Cores::IsCore))]
+    pub fn used(&self) -> u32
+        ensures { (s : Setting) (p : Process) → IsCore G.used s p self.now → length p.signed ≡ result }
+    {
+        self.signer.used()
+    }
+
+    /// The signers of whom it keeps two claims that conflict.
+    #[tactic(auto, unfolding(crate::specs::Cores::IsCore))]
+    pub fn liars(&self) -> PidSet
+        ensures { (s : Setting) (p : Process) → IsCore G.used s p self.now → liars_of p ≡ result }
+    {
+        self.state.liars()
+    }
+
+    /// Where it has halted, how many places it has delivered, and the cut, which is below that.
+    #[tactic(auto, unfolding(crate::specs::Cores::IsCore))]
+    pub fn halted(&self) -> Option<(u16, u16)>
+        ensures { (s : Setting) (p : Process) → IsCore G.used s p self.now → halted_at p ≡ result }
+    {
+        self.state.halted()
+    }
+}
+
+impl<G: Signer> Core<G> {
+    /// One event, taken whole: the process after it and what comes of it are the definitions', with as many signatures as the
+    /// key has left. Where memory is wanting, the core is dropped: it would stand in the midst of the event.
+    pub fn step<V: Scheme>(
+        self,
+        scheme: &V,
+        event: &Event<'_>,
+    ) -> Result<(Core<G>, Outcome), NoMemory>
+        ensures steps { (s : Setting) (p : Process) → IsCore G.Tally.used s p self → s.valid ≡ V.valid scheme.now → IfOk result (λ r. Steps G.Tally.used G.Tally.total G.signature s p self r.0 event.now r.1) }
+        ensures total { IfOk result (λ r. G.Tally.total (signer_of r.0) ≡ G.Tally.total (signer_of self)) }
+        ensures secret { IfOk result (λ r. G.signature (signer_of r.0) ≡ G.signature (signer_of self)) }
+    {
+        Err(NoMemory)
+    }
+}
