@@ -1,8 +1,7 @@
 -- Which process of the definitions a core is, and what a step of it gives.
-use Rattle.std.specs.Prelude.{◌≡◌, ℕ, ◌-◌, List, ◌∷◌, [], length, map, Option, Some, None, option_map, find, ◌==◌, option_and_then, if◌then◌else◌}
-use Rattle.byte_defs.specs.Orders.{sorted}
+use Rattle.std.specs.Prelude.{◌≡◌, ℕ, ◌-◌, List, length, Option, option_map, find, ◌==◌}
 use Rattle.group_defs.specs.Views.{View}
-use Rattle.group_defs.specs.Process.{Setting, Process, all_kinds, places_in}
+use Rattle.group_defs.specs.Process.{Setting, Process, all_kinds}
 use Rattle.group_defs.specs.Events.{Turn, after, outcome}
 use Rattle.stmt_codec.specs.declared.events.Event.{Event}
 use Rattle.stmt_codec.specs.declared.events.Outcome.{Outcome}
@@ -37,14 +36,6 @@ pub record IsProcess {G : Type 0} (used : G → ℕ) (s : Setting) (p : Process)
 -- the same, as one word
 unfoldable pub IsCore : {G : Type 0} → (G → ℕ) → Setting → Process → Core G → Type 0
 IsCore used s p c = IsProcess used s p c
-
--- the signers with a kept conflict, rising
-abbrev pub liars_of : Process → List ℕ
-liars_of p = sorted (λ q. q ∷ []) (map (λ pair. pair.0.signer) p.conflicts)
-
--- where it has halted, how many places it delivered, and the cut
-abbrev pub halted_at : Process → Option (ℕ × ℕ)
-halted_at p = option_and_then (λ d. if p.halted then Some (places_in p.delivered, d.1.cut) else None) p.decision
 
 -- the turn of this event: the signatures that the signer has left may be made, and it makes them
 abbrev pub turn_of : {G : Type 0} → (G → ℕ) → (G → ℕ) → (G → ℕ → List ℕ → List ℕ) → Core G → Event → Turn

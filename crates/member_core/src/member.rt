@@ -4,7 +4,8 @@ ghost use Rattle.group_defs.specs.Accounts.{account_of};
 ghost use Rattle.group_defs.specs.Settle.{phase_of};
 ghost use Rattle.accounts.specs.Views.{account};
 ghost use Rattle.view_phases.specs.Phases.{word};
-ghost use Rattle.member_core.specs.Cores.{IsCore, Shares, Steps, key_in, liars_of, halted_at, signer_of};
+ghost use Rattle.member_state.specs.States.{liars_of, halted_at};
+ghost use Rattle.member_core.specs.Cores.{IsCore, Shares, Steps, key_in, signer_of};
 
 use member_state::{Account, ProcessState};
 use reliable_mcast::Frames;

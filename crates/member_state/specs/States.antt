@@ -1,9 +1,10 @@
 -- Which process of the definitions a state is.
-use Rattle.std.specs.Prelude.{◌≡◌, ℕ, ◌≤◌, ◌==◌, List, length, filter, Some, IsTrue}
+use Rattle.std.specs.Prelude.{◌≡◌, ◌≢◌, ℕ, ◌≤◌, ◌==◌, List, [], ◌∷◌, length, map, filter, All, AllPairs, Option, Some, None, option_and_then, if◌then◌else◌, IsTrue}
+use Rattle.byte_defs.specs.Orders.{sorted}
 use Rattle.message_defs.specs.Updates.{Value}
 use Rattle.message_defs.specs.Statements.{Claim, ReadyAt, view_of}
 use Rattle.group_defs.specs.Views.{View, is_possible}
-use Rattle.group_defs.specs.Process.{Setting, Process, keyed}
+use Rattle.group_defs.specs.Process.{Setting, Process, keyed, places_in}
 use Rattle.group_defs.specs.Certified.{value_at}
 use Rattle.group_defs.specs.Accounts.{account_of}
 use Rattle.own_place.specs.Owns.{Tells}
@@ -24,14 +25,21 @@ pub record IsDecision (s : Setting) (p : Process) (d : ℕ × Value) : Type 0 wh
   pub certified : value_at p.pool (ReadyAt p.pool.view.number d.0) ≡ Some d.1
   pub possible : IsTrue (is_possible (keyed s) p.pool.view d.1.update)
 
+-- in each pair of conflicting claims both are of one signer, and no signer has two pairs
+pub record ArePairs (pairs : List (Claim × Claim)) : Type 0 where
+  pub same : All (λ pair. pair.0.signer ≡ pair.1.signer) pairs
+  pub once : AllPairs (λ a b. a.1.signer ≢ b.1.signer) pairs
+
 -- The state is this process's, in this setting: each part of it keeps what is the process's. And so it is with every process
--- that came to be by events: it is lawful and bounded, its view has as number how many views it left, and what it decided is certified.
+-- that came to be by events: it is lawful and bounded, its view has as number how many views it left, what it decided is certified, and
+-- its conflicts are one pair of a signer.
 pub record IsStateOf (s : Setting) (p : Process) (st : ProcessState) : Type 0 where
   pub lawful : IsLawful p
   pub bounded : IsBounded p
   pub number : p.pool.view.number ≡ length p.left
   pub some : 1 ≤ p.batch_limit
   pub decided : (d : ℕ × Value) → p.decision ≡ Some d → IsDecision s p d
+  pub each : ArePairs p.conflicts
   pub limit : p.batch_limit ≡ st.batch_limit
   pub place : Tells s p st.pool.pool st.own
   pub phase : IsIn st.phase p
@@ -51,3 +59,13 @@ pub record IsReal (st : ProcessState) : Type 0 where
 pub record StartsWith (s : Setting) (keyed : List (ℕ × List ℕ)) (genesis : View) : Type 0 where
   pub keys : s.roster ≡ keyed
   pub genesis : s.genesis ≡ genesis
+
+-- ---- what is told of it
+
+-- the signers with a kept conflict, rising
+abbrev pub liars_of : Process → List ℕ
+liars_of p = sorted (λ q. q ∷ []) (map (λ pair. pair.0.signer) p.conflicts)
+
+-- where it has halted, how many places it delivered, and the cut
+abbrev pub halted_at : Process → Option (ℕ × ℕ)
+halted_at p = option_and_then (λ d. if p.halted then Some (places_in p.delivered, d.1.cut) else None) p.decision

@@ -1,6 +1,6 @@
 ghost use Rattle.std.specs.Prelude.{◌≡◌, ◌≤◌, IfOk};
-ghost use Rattle.group_defs.specs.Process.{Setting, start};
-ghost use Rattle.member_state.specs.States.{IsStateOf, StartsWith};
+ghost use Rattle.group_defs.specs.Process.{Setting, Process, start};
+ghost use Rattle.member_state.specs.States.{IsStateOf, StartsWith, liars_of, halted_at};
 
 use accounts::Account;
 use claim_lists::{ClaimList, Conflicts};
@@ -9,7 +9,7 @@ use ending_rules::Perceived;
 use own_moves::no_counts;
 use own_place::SignedSlots;
 use reliable_mcast::Archive;
-use rp_base::{NoMemory, Pid, Roster};
+use rp_base::{NoMemory, Pid, PidSet, Roster};
 use std::alloc::Global;
 use view_phases::Phase;
 use view_table::View;
@@ -105,5 +105,30 @@ impl ProcessState {
             archive: Archive::new(alloc)?,
             account: first_account(alloc, genesis.clone(), me)?,
         })
+    }
+
+    /// The signers of whom it keeps two claims that conflict.
+    pub fn liars(&self) -> PidSet
+        ensures { (s : Setting) (p : Process) → IsStateOf s p self.now → liars_of p ≡ result }
+    {
+        let mut liars = PidSet::new();
+        'pairs: for place in 0..self.conflicts.len() {
+            if let Some(heard) = self.conflicts.heard_at(place) {
+                liars.insert(heard.signer);
+            }
+        }
+        liars
+    }
+
+    /// Where it has halted, how many places it has delivered, and the cut, which is below that.
+    pub fn halted(&self) -> Option<(u16, u16)>
+        ensures { (s : Setting) (p : Process) → IsStateOf s p self.now → halted_at p ≡ result }
+    {
+        match &self.phase {
+            Phase::HaltedView(halted) => {
+                Some((halted.delivered(), halted.decision().value.cut))
+            }
+            _ => None,
+        }
     }
 }
