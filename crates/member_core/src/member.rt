@@ -101,7 +101,7 @@ impl<G: Tally + Drop> Core<G> {
     }
 }
 
-impl<G: Signer> Core<G> {
+impl<G: Signer + Drop> Core<G> {
     /// One event, taken whole: the process after it and what comes of it are the definitions', with as many signatures as the
     /// key has left. Where memory is wanting, the core is dropped: it would stand in the midst of the event.
     pub fn step<V: Scheme>(

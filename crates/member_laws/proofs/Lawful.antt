@@ -34,7 +34,7 @@ start_is_lawful s me limit few number view = record {
   pool = record { view = view; of_view = none (IsOfView s.genesis); in_range = none IsClaim };
   own = none (λ (c : Claim). c.signer ≡ me);
   past = none (λ (c : Claim). view_of c.statement ≤ s.genesis.number);
-  said = none (λ (c : Claim). IsStatement c.statement);
+  said = none IsClaim;
   short = none (λ (b : List ℕ). length b ≤ most_payload_bytes);
   batches = few;
   asked = none (λ (e : ℕ × Update). IsUpdate e.1);
@@ -72,7 +72,7 @@ signing_is_lawful s signer p st may range ok = record {
   pool = record { view = ok.pool.view; of_view = of_view here; in_range = in_range here };
   own = all-snoc (λ (c : Claim). c.signer ≡ p.me) p.signed own ok.own refl;
   past = all-snoc (λ (c : Claim). view_of c.statement ≤ p.pool.view.number) p.signed own ok.past (let e = signing-view s p st may in omega (arith, e));
-  said = all-snoc (λ (c : Claim). IsStatement c.statement) p.signed own ok.said range.1;
+  said = all-snoc IsClaim p.signed own ok.said range;
   short = ok.short;
   batches = ok.batches;
   asked = ok.asked;

@@ -19,7 +19,7 @@ pub record IsLawful (p : Process) : Type 0 where
   pub pool : IsPool p.pool
   pub own : All (λ c. c.signer ≡ p.me) p.signed
   pub past : All (λ c. view_of c.statement ≤ p.pool.view.number) p.signed
-  pub said : All (λ c. IsStatement c.statement) p.signed
+  pub said : All IsClaim p.signed
   pub short : All (λ b. length b ≤ most_payload_bytes) p.accepted
   pub batches : p.batch_limit ≤ most_messages
   pub asked : All (λ e. IsUpdate e.1) p.perceived

@@ -1,9 +1,9 @@
 -- Which process of the definitions a state is.
-use Rattle.std.specs.Prelude.{◌≡◌, ◌≢◌, ℕ, ◌≤◌, ◌==◌, List, [], ◌∷◌, length, map, filter, All, AllPairs, Option, Some, None, option_and_then, if◌then◌else◌, IsTrue}
+use Rattle.std.specs.Prelude.{◌≡◌, ◌≢◌, ℕ, ◌<◌, ◌≤◌, ◌==◌, true, List, [], ◌∷◌, length, map, filter, All, AllPairs, Option, Some, None, option_and_then, if◌then◌else◌, IsTrue}
 use Rattle.byte_defs.specs.Orders.{sorted}
 use Rattle.message_defs.specs.Updates.{Value}
 use Rattle.message_defs.specs.Statements.{Claim, ReadyAt, view_of}
-use Rattle.group_defs.specs.Views.{View, is_possible}
+use Rattle.group_defs.specs.Views.{View, is_member, is_possible}
 use Rattle.group_defs.specs.Process.{Setting, Process, keyed, places_in}
 use Rattle.group_defs.specs.Certified.{value_at}
 use Rattle.group_defs.specs.Accounts.{account_of}
@@ -31,8 +31,8 @@ pub record ArePairs (pairs : List (Claim × Claim)) : Type 0 where
   pub once : AllPairs (λ a b. a.1.signer ≢ b.1.signer) pairs
 
 -- The state is this process's, in this setting: each part of it keeps what is the process's. And so it is with every process
--- that came to be by events: it is lawful and bounded, its view has as number how many views it left, what it decided is certified, and
--- its conflicts are one pair of a signer.
+-- that came to be by events: it is lawful and bounded, its view has as number how many views it left, what it decided is certified, its
+-- conflicts are one pair of a signer, what it perceived is of views up to its own, and it has halted only as a member, beyond its cut.
 pub record IsStateOf (s : Setting) (p : Process) (st : ProcessState) : Type 0 where
   pub lawful : IsLawful p
   pub bounded : IsBounded p
@@ -40,6 +40,9 @@ pub record IsStateOf (s : Setting) (p : Process) (st : ProcessState) : Type 0 wh
   pub some : 1 ≤ p.batch_limit
   pub decided : (d : ℕ × Value) → p.decision ≡ Some d → IsDecision s p d
   pub each : ArePairs p.conflicts
+  pub asked_for : All (λ e. e.0 ≤ p.pool.view.number) p.perceived
+  pub halted_member : p.halted ≡ true → is_member p.pool.view p.me ≡ true
+  pub halted_beyond : p.halted ≡ true → (d : ℕ × Value) → p.decision ≡ Some d → d.1.cut < places_in p.delivered
   pub limit : p.batch_limit ≡ st.batch_limit
   pub place : Tells s p st.pool.pool st.own
   pub phase : IsIn st.phase p

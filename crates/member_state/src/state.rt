@@ -97,13 +97,13 @@ impl ProcessState {
         Ok(ProcessState {
             batch_limit,
             own: first_place(alloc, roster, genesis, me),
-            pool: Pool::new(alloc, genesis.clone())?,
+            pool: Pool::new(alloc, genesis.clone()?)?,
             phase: Phase::begin(genesis, me),
             perceived: Perceived::new(),
             said: ClaimList::new(alloc),
             conflicts: Conflicts::new(alloc),
             archive: Archive::new(alloc)?,
-            account: first_account(alloc, genesis.clone(), me)?,
+            account: first_account(alloc, genesis.clone()?, me)?,
         })
     }
 

@@ -1,0 +1,19 @@
+//! Laws of the parts of an event, over the definitions alone: what each part leaves as it is.
+#![tactic(auto)]
+
+ghost use Rattle.event_laws.specs.Parts.{TakingInLeaves, SigningLeaves, SettlingLeaves};
+
+/// Taking an event in signs and delivers nothing, and stays in the view.
+pub fn taking_in_leaves()
+    ensures { TakingInLeaves }
+{}
+
+/// Signing puts claims of the current view behind those that are signed, and delivers nothing.
+pub fn signing_leaves()
+    ensures { SigningLeaves }
+{}
+
+/// Settling signs nothing, and finds no conflict.
+pub fn settling_leaves()
+    ensures { SettlingLeaves }
+{}
