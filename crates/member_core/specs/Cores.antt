@@ -1,12 +1,13 @@
 -- Which process of the definitions a core is, and what a step of it gives.
-use Rattle.std.specs.Prelude.{◌≡◌, ℕ, ◌-◌, List, length, Option, option_map, find, ◌==◌}
+use Rattle.std.specs.Prelude.{◌≡◌, ℕ, ◌-◌, false, List, [], length, map, drop, Option, Some, option_map, find, ◌==◌}
+use Rattle.std.specs.Option.{option_map_or}
+use Rattle.message_defs.specs.Statements.{Claim}
 use Rattle.group_defs.specs.Views.{View}
-use Rattle.group_defs.specs.Process.{Setting, Process, all_kinds}
-use Rattle.group_defs.specs.Events.{Turn, after, outcome}
-use Rattle.stmt_codec.specs.declared.events.Event.{Event}
+use Rattle.group_defs.specs.Process.{Setting, Process, all_kinds, places_in}
+use Rattle.group_defs.specs.Events as defs
 use Rattle.stmt_codec.specs.declared.events.Outcome.{Outcome}
 use Rattle.member_state.specs.States.{IsStateOf}
-use Rattle.member_state.specs.Events.{event, IsOutcome}
+use Rattle.member_state.specs.Events.{IsOutcome}
 use Rattle.member_core.specs.declared.member.Core.{Core}
 
 -- the process's key in the roster
@@ -38,10 +39,24 @@ unfoldable pub IsCore : {G : Type 0} → (G → ℕ) → Setting → Process →
 IsCore used s p c = IsProcess used s p c
 
 -- the turn of this event: the signatures that the signer has left may be made, and it makes them
-abbrev pub turn_of : {G : Type 0} → (G → ℕ) → (G → ℕ) → (G → ℕ → List ℕ → List ℕ) → Core G → Event → Turn
-turn_of used total signature c e = record { event = event e; allowance = total c.signer - used c.signer; signer = signature c.signer }
+abbrev pub turn_of : {G : Type 0} → (G → ℕ) → (G → ℕ) → (G → ℕ → List ℕ → List ℕ) → Core G → defs.Event → defs.Turn
+turn_of used total signature c e = record { event = e; allowance = total c.signer - used c.signer; signer = signature c.signer }
 
 -- the new core is the process after the turn, and the outcome is that of the turn
-pub record Steps {G : Type 0} (used total : G → ℕ) (signature : G → ℕ → List ℕ → List ℕ) (s : Setting) (p : Process) (old new : Core G) (e : Event) (r : Outcome) : Type 0 where
-  pub core : IsCore used s (after s p (turn_of used total signature old e)) new
-  pub outcome : IsOutcome (outcome s p (turn_of used total signature old e)) r
+pub record Steps {G : Type 0} (used total : G → ℕ) (signature : G → ℕ → List ℕ → List ℕ) (s : Setting) (p : Process) (old new : Core G) (e : defs.Event) (r : Outcome) : Type 0 where
+  pub core : IsCore used s (defs.after s p (turn_of used total signature old e)) new
+  pub outcome : IsOutcome (defs.outcome s p (turn_of used total signature old e)) r
+
+-- ---- what is told last
+
+-- a process that has halted tells it
+abbrev pub halts : Process → List defs.Note
+halts q = defs.note_if q.halted (defs.Halts (places_in q.delivered) (option_map_or (λ d. d.1.cut) q.decision 0))
+
+-- the signers of the pairs that are there from this place on
+abbrev pub liars_from : ℕ → List (Claim × Claim) → List defs.Note
+liars_from place pairs = map (λ pair. defs.Liar pair.1.signer) (drop place pairs)
+
+-- what an event answers that is refused: its fault alone
+abbrev pub refusing : defs.EventFault → defs.Outcome
+refusing fault = record { verdict = Some fault; heard = 0; signed = []; spent = false; sends = []; notes = [] }

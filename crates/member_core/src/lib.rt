@@ -2,6 +2,7 @@
 #![tactic(auto)]
 
 mod member;
+mod stepping;
 
 pub use member::Core;
 pub use member_state::{Account, Delivered};

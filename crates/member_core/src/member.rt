@@ -1,17 +1,16 @@
-ghost use Rattle.std.specs.Prelude.{◌≡◌, ◌≤◌, length, IfOk, IsSome, All};
+ghost use Rattle.std.specs.Prelude.{◌≡◌, ◌≤◌, [], length, IfOk, IsSome, All};
 ghost use Rattle.group_defs.specs.Process.{Setting, Process, start};
 ghost use Rattle.group_defs.specs.Accounts.{account_of};
 ghost use Rattle.group_defs.specs.Settle.{phase_of};
 ghost use Rattle.accounts.specs.Views.{account};
 ghost use Rattle.view_phases.specs.Phases.{word};
-ghost use Rattle.member_state.specs.States.{liars_of, halted_at};
-ghost use Rattle.member_core.specs.Cores.{IsCore, Shares, Steps, key_in, signer_of};
+ghost use Rattle.member_state.specs.States.{IsReal, liars_of, halted_at};
+ghost use Rattle.member_core.specs.Cores.{IsCore, Shares, key_in, signer_of};
 
 use member_state::{Account, ProcessState};
 use reliable_mcast::Frames;
-use rp_base::{GroupId, NoMemory, Pid, PidSet, Roster, Scheme, Signer, Tally};
+use rp_base::{GroupId, NoMemory, Pid, PidSet, Roster, Tally};
 use std::alloc::Global;
-use stmt_codec::{Event, Outcome};
 use view_phases::PhaseWord;
 use view_table::View;
 
@@ -24,6 +23,8 @@ pub struct Core<G> {
     pub(crate) state: ProcessState,
     pub(crate) frames: Frames,
     pub(crate) signer: G,
+    ghost real: { IsReal state },
+    ghost idle: { (frames.frames ≡ []) × (frames.claims ≡ []) },
 }
 
 impl<G: Tally + Drop> Core<G> {
@@ -98,21 +99,5 @@ impl<G: Tally + Drop> Core<G> {
         ensures { (s : Setting) (p : Process) → IsCore G.used s p self.now → halted_at p ≡ result }
     {
         self.state.halted()
-    }
-}
-
-impl<G: Signer + Drop> Core<G> {
-    /// One event, taken whole: the process after it and what comes of it are the definitions', with as many signatures as the
-    /// key has left. Where memory is wanting, the core is dropped: it would stand in the midst of the event.
-    pub fn step<V: Scheme>(
-        self,
-        scheme: &V,
-        event: &Event<'_>,
-    ) -> Result<(Core<G>, Outcome), NoMemory>
-        ensures steps { (s : Setting) (p : Process) → IsCore G.Tally.used s p self → s.valid ≡ V.valid scheme.now → IfOk result (λ r. Steps G.Tally.used G.Tally.total G.signature s p self r.0 event.now r.1) }
-        ensures total { IfOk result (λ r. G.Tally.total (signer_of r.0) ≡ G.Tally.total (signer_of self)) }
-        ensures secret { IfOk result (λ r. G.signature (signer_of r.0) ≡ G.signature (signer_of self)) }
-    {
-        Err(NoMemory)
     }
 }

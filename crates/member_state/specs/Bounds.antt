@@ -1,5 +1,5 @@
 -- How much a process delivers, and how far what it accepted is ahead of that.
-use Rattle.std.specs.Prelude.{ℕ, ◌+◌, ◌*◌, ◌≤◌, length, All}
+use Rattle.std.specs.Prelude.{ℕ, ◌+◌, ◌*◌, ◌≤◌, List, length, All}
 use Rattle.message_defs.specs.Limits.{most_messages, most_places}
 use Rattle.group_defs.specs.Process.{Process, Left, Delivered, delivered_from, places_in, earlier}
 
