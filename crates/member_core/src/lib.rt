@@ -2,7 +2,6 @@
 #![tactic(auto)]
 
 mod member;
-mod stepping;
 
 pub use member::Core;
 pub use member_state::{Account, Delivered};
