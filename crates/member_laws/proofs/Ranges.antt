@@ -134,7 +134,7 @@ module _ (s : Setting) (p : Process) (ok : IsLawful p) where
       report (Some best) may =
           let there = own_ready-mem s p x r best may in
           let by = map-mem (λ (c : Claim). c.statement) p.signed (Ready x best.0 best.1) there in
-          let range : IsStatement (Ready x best.0 best.1) = subst IsStatement by.2 (All-mem IsClaim p.signed by.0 ok.said by.1).1.0 in
+          let range : IsStatement (Ready x best.0 best.1) = subst IsStatement by.2 (All-mem IsClaim p.signed by.0 ok.said by.1).1 in
           let above = (last-rank s p x r (Some best) may).0 in
           let most : best.0 ≤ own_rank p = rank_said-own p (Ready x best.0 best.1) (own-mem s p (Last x r (Some best)) may (Ready x best.0 best.1) there refl) in
           (omega (arith, above, most), range.2)
