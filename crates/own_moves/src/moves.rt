@@ -1,4 +1,5 @@
-ghost use Rattle.std.specs.Prelude.{◌≡◌, ◌+◌, ◌≤◌, [], length, All};
+ghost use Rattle.std.specs.Prelude.{◌≡◌, ◌+◌, ◌≤◌, List, [], ◌++◌, length, All};
+ghost use Rattle.message_defs.specs.Statements.{Message};
 ghost use Rattle.group_defs.specs.Process.{Delivered};
 ghost use Rattle.rule_laws.specs.Placing.{counts_in};
 ghost use Rattle.member_laws.specs.Telling.{Begins, OnePlaceMore};
@@ -12,10 +13,8 @@ use view_table::View;
 pub fn no_counts(view: &View) -> ArrayVec<u16, 16>
     ensures { result.items ≡ counts_in view.now [] }
 {
-    let mut counts = ArrayVec::new();
-    'members: for _ in view.members() {
-        counts.push(0);
-    }
+    let mut counts = ArrayVec::from([0; 16]);
+    counts.truncate(view.members().len());
     counts
 }
 
@@ -36,17 +35,28 @@ pub fn begin_view(own: &mut Own, view: &View, mine: u16)
     own.earlier += mine as u32;
 }
 
+// Counts the messages of the batch behind those that are counted, each at its sender's rank.
+fn count_batch(view: &View, batch: &Batch, counts: &mut [u16])
+    requires members { length counts.old ≡ length view.now.members }
+    requires room { All (λ c. c + 16 ≤ 65535) counts.old }
+    ensures { (before : List Message) → counts.old ≡ counts_in view.now before → counts.new ≡ counts_in view.now (before ++ batch.now) }
+{
+    let _members = view.members();
+    'messages: for message in batch.messages() {
+        if let Some(rank) = view.rank_of(message.0) {
+            counts[rank as usize] += 1;
+        }
+    }
+}
+
 /// Counts the batch of the next place as delivered: one place more, and of each member one more for each of its messages.
+/// `own` has an entry for each member, and each is at most 65,519.
 pub fn deliver_batch(own: &mut Own, view: &View, batch: &Batch)
     requires members { length own.old.counts.items ≡ length view.now.members }
     requires place { own.old.delivered + 1 ≤ 65535 }
     requires counts { All (λ c. c + 16 ≤ 65535) own.old.counts.items }
-    ensures { (delivered : _) → OnePlaceMore view.now batch.now delivered own.old own.new }
+    ensures { (delivered : List Delivered) → OnePlaceMore view.now batch.now delivered own.old own.new }
 {
-    'messages: for message in batch.messages() {
-        if let Some(rank) = view.rank_of(message.0) {
-            own.counts[rank as usize] += 1;
-        }
-    }
+    count_batch(view, batch, &mut own.counts);
     own.delivered += 1;
 }
