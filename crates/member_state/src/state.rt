@@ -112,8 +112,10 @@ impl ProcessState {
         ensures { (s : Setting) (p : Process) → IsStateOf s p self.now → liars_of p ≡ result }
     {
         let mut liars = PidSet::new();
-        'pairs: for place in 0..self.conflicts.len() {
-            if let Some(heard) = self.conflicts.heard_at(place) {
+        let mut left = self.conflicts.len();
+        'pairs: while left > 0 {
+            left -= 1;
+            if let Some(heard) = self.conflicts.heard_at(left) {
                 liars.insert(heard.signer);
             }
         }

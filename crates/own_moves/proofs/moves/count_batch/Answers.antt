@@ -1,4 +1,4 @@
-use Rattle.std.proofs.Common.{◌≡◌, ◌∙◌, Some, sym, ap, subst, arith, slice_get}
+use Rattle.std.proofs.Common.{◌+◌, ◌≡◌, ◌∙◌, Some, sym, ap, subst, arith, slice_get}
 use Rattle.pool_laws.proofs.Places.{slice_get-index}
 use Rattle.own_moves.proofs.Counting.{Counting, begins, one-more, stranger, whole}
 use Rattle.own_moves.proofs.moves.count_batch.Goals as goal
