@@ -59,9 +59,9 @@ pub record IsReal (st : ProcessState) : Type 0 where
   pub state : IsStateOf setting process st
 
 -- the setting has these keys and this genesis view
-pub record StartsWith (s : Setting) (keyed : List (ℕ × List ℕ)) (genesis : View) : Type 0 where
-  pub keys : s.roster ≡ keyed
-  pub genesis : s.genesis ≡ genesis
+pub record StartsWith (s : Setting) (listed : List (ℕ × List ℕ)) (first : View) : Type 0 where
+  pub keys : s.roster ≡ listed
+  pub genesis : s.genesis ≡ first
 
 -- ---- what is told of it
 

@@ -1,5 +1,9 @@
-ghost use Rattle.std.specs.Prelude.{◌≡◌, ◌≤◌, IfOk};
+ghost use Rattle.std.specs.Prelude.{◌≡◌, ◌≤◌, ℕ, IfOk};
 ghost use Rattle.group_defs.specs.Process.{Setting, Process, start};
+ghost use Rattle.group_defs.specs.Accounts.{account_of};
+ghost use Rattle.claim_index.specs.Kept.{empty_pool};
+ghost use Rattle.own_place.specs.Owns.{Tells};
+ghost use Rattle.accounts.specs.Views.{account};
 ghost use Rattle.member_state.specs.States.{IsStateOf, StartsWith, liars_of, halted_at};
 
 use accounts::Account;
@@ -47,6 +51,7 @@ pub struct ProcessState {
 
 // The own place of a process that starts in the view.
 fn first_place(alloc: Global, roster: &Roster, genesis: &View, me: Pid) -> Own
+    ensures { (s : Setting) (limit : ℕ) → StartsWith s roster.now genesis.now → Tells s (start s me limit) (empty_pool genesis.now) result }
 {
     Own {
         me,
@@ -65,7 +70,9 @@ fn first_place(alloc: Global, roster: &Roster, genesis: &View, me: Pid) -> Own
 }
 
 // What a process that starts in the view tells of itself.
-fn first_account(alloc: Global, genesis: View, me: Pid) -> Result<Account, NoMemory> {
+fn first_account(alloc: Global, genesis: View, me: Pid) -> Result<Account, NoMemory>
+    ensures { IfOk result (λ a. (s : Setting) (limit : ℕ) → s.genesis ≡ genesis → account_of (start s me limit) ≡ account a) }
+{
     let mut views = Vec::new(alloc);
     views.push(genesis)?;
     let mut delivered = Vec::new(alloc);
