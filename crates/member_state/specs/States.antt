@@ -65,9 +65,13 @@ pub record StartsWith (s : Setting) (listed : List (ℕ × List ℕ)) (first : V
 
 -- ---- what is told of it
 
+-- the signers of these pairs, rising
+abbrev pub signers_in : List (Claim × Claim) → List ℕ
+signers_in pairs = sorted (λ q. q ∷ []) (map (λ pair. pair.0.signer) pairs)
+
 -- the signers with a kept conflict, rising
 abbrev pub liars_of : Process → List ℕ
-liars_of p = sorted (λ q. q ∷ []) (map (λ pair. pair.0.signer) p.conflicts)
+liars_of p = signers_in p.conflicts
 
 -- where it has halted, how many places it delivered, and the cut
 abbrev pub halted_at : Process → Option (ℕ × ℕ)

@@ -4,7 +4,7 @@ ghost use Rattle.group_defs.specs.Accounts.{account_of};
 ghost use Rattle.claim_index.specs.Kept.{empty_pool};
 ghost use Rattle.own_place.specs.Owns.{Tells};
 ghost use Rattle.accounts.specs.Views.{account};
-ghost use Rattle.member_state.specs.States.{IsStateOf, StartsWith, liars_of, halted_at};
+ghost use Rattle.member_state.specs.States.{ArePairs, IsStateOf, StartsWith, signers_in, liars_of, halted_at};
 
 use accounts::Account;
 use claim_lists::{ClaimList, Conflicts};
@@ -86,6 +86,21 @@ fn first_account(alloc: Global, genesis: View, me: Pid) -> Result<Account, NoMem
     })
 }
 
+// The signers of these pairs.
+fn liars_in(conflicts: &Conflicts) -> PidSet
+    ensures { ArePairs conflicts.now.pairs → result ≡ signers_in conflicts.now.pairs }
+{
+    let mut liars = PidSet::new();
+    let mut left = conflicts.len();
+    'pairs: while left > 0 {
+        left -= 1;
+        if let Some(heard) = conflicts.heard_at(left) {
+            liars.insert(heard.signer);
+        }
+    }
+    liars
+}
+
 impl ProcessState {
     /// The process of this number as it starts, in the genesis view, which has the number 0. An own Order has at most `batch_limit`
     /// messages, 1 to 16.
@@ -118,15 +133,7 @@ impl ProcessState {
     pub fn liars(&self) -> PidSet
         ensures { (s : Setting) (p : Process) → IsStateOf s p self.now → liars_of p ≡ result }
     {
-        let mut liars = PidSet::new();
-        let mut left = self.conflicts.len();
-        'pairs: while left > 0 {
-            left -= 1;
-            if let Some(heard) = self.conflicts.heard_at(left) {
-                liars.insert(heard.signer);
-            }
-        }
-        liars
+        liars_in(&self.conflicts)
     }
 
     /// Where it has halted, how many places it has delivered, and the cut, which is below that.
