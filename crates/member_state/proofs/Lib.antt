@@ -1,1 +1,2 @@
 mod Liars
+mod Starting

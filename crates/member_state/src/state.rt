@@ -86,6 +86,16 @@ fn first_account(alloc: Global, genesis: View, me: Pid) -> Result<Account, NoMem
     })
 }
 
+// A copy, which takes no memory.
+fn copied(view: &View) -> View
+    ensures { result ≡ view.now }
+{
+    let Ok(copy) = view.clone() else {
+        unreachable!()
+    };
+    copy
+}
+
 // The signers of these pairs.
 fn liars_in(conflicts: &Conflicts) -> PidSet
     ensures { ArePairs conflicts.now.pairs → result ≡ signers_in conflicts.now.pairs }
@@ -116,16 +126,17 @@ impl ProcessState {
         requires few { batch_limit ≤ 16 }
         ensures { IfOk result (λ st. (s : Setting) → StartsWith s roster.now genesis.now → IsStateOf s (start s me batch_limit) st) }
     {
+        let _number = genesis.number();
         Ok(ProcessState {
             batch_limit,
             own: first_place(alloc, roster, genesis, me),
-            pool: Pool::new(alloc, genesis.clone()?)?,
+            pool: Pool::new(alloc, copied(genesis))?,
             phase: Phase::begin(genesis, me),
             perceived: Perceived::new(),
             said: ClaimList::new(alloc),
             conflicts: Conflicts::new(alloc),
             archive: Archive::new(alloc)?,
-            account: first_account(alloc, genesis.clone()?, me)?,
+            account: first_account(alloc, copied(genesis), me)?,
         })
     }
 
