@@ -72,6 +72,16 @@ class Picture:
         for i, line in enumerate(words.split("\n")):
             self.text(x, y + 14 * i, line, "small")
 
+    def row(self, xs, y, wide, high, boxes, notes):
+        """Boxes side by side at y, each with an arrow to the next; and notes under some of them, each with its box's number from 0."""
+        for x, (name, who, kind) in zip(xs, boxes):
+            self.box(x, y, wide, high, [name, who], kind)
+        middle = y + high // 2
+        for a, b in zip(xs, xs[1:]):
+            self.arrow([(a + wide, middle), (b, middle)])
+        for i, words in notes:
+            self.notes(xs[i] + wide / 2, y + high + 18, words)
+
     def line(self, points, kind="thin"):
         self.parts.append('<path d="M' + " L".join(f"{x} {y}" for x, y in points) + f'" class="{kind}"/>')
 
@@ -99,12 +109,12 @@ def view():
         ("Keep", "every member", "quorum"),
         ("deliver", "place by place", "box"),
     ]
-    for x, (name, who, kind) in zip(xs, steps):
-        p.box(x, 44, wide, high, [name, who], kind)
-    for a, b in zip(xs, xs[1:]):
-        p.arrow([(a + wide, 75), (b, 75)])
-    for i, words in [(1, "Q Echoes of one payload:\nthe message is certified"), (3, "Q Places of one batch:\nthe place is certified"), (4, "Q Keeps: the place\nis kept")]:
-        p.notes(xs[i] + wide / 2, 124, words)
+    notes = [
+        (1, "Q Echoes of one payload:\nthe message is certified"),
+        (3, "Q Places of one batch:\nthe place is certified"),
+        (4, "Q Keeps: the place\nis kept"),
+    ]
+    p.row(xs, 44, wide, high, steps, notes)
 
     p.text(20, 190, "Once f + 1 members notify one update u", "title", "start")
     y = 208
@@ -116,12 +126,12 @@ def view():
         ("Ready", "of a certified Ack", "quorum"),
         ("decide (u, K)", "first certified Ready", "box"),
     ]
-    for x, (name, who, kind) in zip(xs, ending):
-        p.box(x, y, wide, high, [name, who], kind)
-    for a, b in zip(xs, xs[1:]):
-        p.arrow([(a + wide, y + 31), (b, y + 31)])
-    for i, words in [(0, "f + 1 of them: one\nis correct"), (1, "Q Ends of at most K, one of K:\nthe value (u, K) is free"), (4, "Q: the commit certificate")]:
-        p.notes(xs[i] + wide / 2, y + high + 18, words)
+    notes = [
+        (0, "f + 1 of them: one\nis correct"),
+        (1, "Q Ends of at most K, one of K:\nthe value (u, K) is free"),
+        (4, "Q: the commit certificate"),
+    ]
+    p.row(xs, y, wide, high, ending, notes)
 
     p.box(xs[5], 318, wide, 54, ["deliver up to K", "never more"], "box")
     p.arrow([(xs[5] + wide / 2, y + high), (xs[5] + wide / 2, 318)])
