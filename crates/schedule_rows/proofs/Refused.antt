@@ -7,7 +7,7 @@ use Rattle.replay_defs.specs.Schedules.{most_bytes, most_steps}
 use Rattle.replay_defs.specs.Reading.{byte_that, process_that, text_at, ots_at, tree_at, plain_at, lms_at, hss_at, key_at, limit_at, listed_at, all_listed_at, processes_at, members_at, genesis_at, setting_at, header_at, submit_at, pass_at, drain_at, lie_at, alone_at, fields_at, steps_at, tag_at, event_at, events_at, whole_of, schedule_of}
 
 -- process 0 alone, with a plain key of 32 bytes 0 that makes 100,000 signatures
-abbrev alone : List ℕ
+abbrev pub alone : List ℕ
 alone = codes "RPS1" ++ (0 ∷ (repeat 16 (0 ∷ []) ++ (1 ∷ 0 ∷ 0 ∷ (repeat 32 (0 ∷ []) ++ (0 ∷ 1 ∷ 134 ∷ 160 ∷ 1 ∷ 0 ∷ [])))))
 
 -- process 0, and process 1, which is corrupt; their keys make no signature
