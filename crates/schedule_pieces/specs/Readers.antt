@@ -38,11 +38,11 @@ LeavesRoom r (Ok None) = length r.waiting + 65536 ≤ most_waiting
 LeavesRoom r (Ok (Some e)) = Unit {0}
 LeavesRoom r (Err e) = Unit {0}
 
--- An event that is given waits no longer; nothing else is added to the bytes that wait.
+-- An event that is given waits no longer; nothing else is added to the bytes that wait. An error leaves the header as it is.
 abbrev pub MovesOn : Reading → Reading → Result (Option ScheduleEvent) ScheduleFault → Type 0
 MovesOn r now (Ok (Some e)) = length now.waiting < length r.waiting
 MovesOn r now (Ok None) = now ≡ r
-MovesOn r now (Err e) = length now.waiting ≤ length r.waiting
+MovesOn r now (Err e) = (length now.waiting ≤ length r.waiting) × (now.header ≡ r.header)
 
 -- ---- on the way there
 

@@ -109,7 +109,7 @@ impl ScheduleReader {
         }
     }
 
-    /// The header, once it is whole.
+    /// The header, once it is whole. A fault behind it does not take it away.
     pub fn header(&self) -> Option<&Header>
         ensures { MatchOption result (self.now.header ≡ None) (λ h. self.now.header ≡ Some (views.header h.now)) }
     {
