@@ -58,16 +58,40 @@ fn after_the_second_sync_it_is_whole(rt: HostRuntime) -> Result<(), Fail> {
     Ok(())
 }
 
+// Stopped before its first sync is made, a new journal may not be begun: the disk is empty or torn.
+#[test]
+fn stopped_in_start_it_is_begun_anew_or_no_journal(rt: HostRuntime) -> Result<(), Fail> {
+    for call in 0..3 {
+        let (disk, done) = stopped(&rt, rt.alloc(), call);
+        assert!(rt; done == 0);
+        assert!(rt; entries_of(&rt, rt.alloc(), &disk, Left::Nothing) == Some(0));
+        assert!(rt; entries_of(&rt, rt.alloc(), &disk, Left::All) == Some(0));
+        let torn = entries_of(&rt, rt.alloc(), &disk, Left::Each(0xa5));
+        assert!(rt; torn == if call == 0 { Some(0) } else { None });
+    }
+    Ok(())
+}
+
+// How many entries are found where a run was stopped at this call: those of the turns that were taken in, and one more where its
+// gate was written and that is kept.
+fn expected(call: u64, left: Left) -> u64 {
+    let behind = call.saturating_sub(FIRST_TURN);
+    let taken = (behind / 4).min(u64::from(TURNS));
+    if taken < u64::from(TURNS) && behind % 4 >= 2 && left == Left::All {
+        taken + 1
+    } else {
+        taken
+    }
+}
+
 #[test]
 fn a_run_that_is_stopped_anywhere_is_read_again(rt: HostRuntime) -> Result<(), Fail> {
-    for call in 3..100u64 {
+    for call in 3..FIRST_TURN + 4 * u64::from(TURNS) + 4 {
         let (disk, done) = stopped(&rt, rt.alloc(), call);
+        assert!(rt; u64::from(done) == expected(call, Left::Nothing));
         for left in IMAGES {
             let found = entries_of(&rt, rt.alloc(), &disk, left);
-            assert!(rt; found == Some(done) || found == Some(done.saturating_add(1)));
-        }
-        if call >= FIRST_TURN + 4 * u64::from(TURNS) {
-            assert!(rt; done == TURNS);
+            assert!(rt; matches!(found, Some(count) if u64::from(count) == expected(call, left)));
         }
     }
     Ok(())
