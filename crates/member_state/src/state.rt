@@ -152,9 +152,7 @@ impl ProcessState {
         ensures { (s : Setting) (p : Process) → IsStateOf s p self.now → halted_at p ≡ result }
     {
         match &self.phase {
-            Phase::HaltedView(halted) => {
-                Some((halted.delivered(), halted.decision().value.cut))
-            }
+            Phase::HaltedView(halted) => { Some((halted.delivered(), halted.decision().value.cut)) }
             _ => None,
         }
     }
