@@ -1,7 +1,7 @@
 -- The answer of a process, by what is kept.
-use Rattle.std.proofs.Common.{◌≡◌, ℕ, suc, zero, ◌+◌, ◌<◌, ◌≤◌, List, [], ◌∷◌, ◌++◌, length, map, Option, Some, None, Bool, true, false, eqb, refl, sym, ap, ◌∙◌, subst, arith, slice_get}
+use Rattle.std.proofs.Common.{◌≡◌, ℕ, suc, zero, ◌+◌, ◌<◌, List, [], ◌∷◌, ◌++◌, length, map, Bool, true, false, refl, sym, ap, ◌∙◌, arith, append_assoc, slice_get}
 use Rattle.std.specs.Prelude.{if◌then◌else◌, ◌==◌, filter, flat_map, unwrap_or, option_to_list}
-use Rattle.std.specs.List.{range_with_len, sum_by}
+use Rattle.std.specs.List.{range_with_len}
 use Rattle.std.proofs.lemmas.Bool.{eqb-true, eqb-false}
 use Rattle.std.proofs.lemmas.List.{map-append, append-nil}
 use Rattle.message_defs.specs.Statements.{Claim}
@@ -10,13 +10,12 @@ use Rattle.group_defs.specs.Process.{Pool, Left, Process}
 use Rattle.group_defs.specs.Sending as sending
 use Rattle.group_defs.specs.Sending.{commits_of, pools_of, place_certificates, answer, frames_of}
 use Rattle.reliable_mcast.specs.declared.sheet.FrameKind.TheVariants as kinds
-use Rattle.reliable_mcast.specs.Lists.{Listing, bytes_of, extended, claims_room, bytes_room, HasRoom, KeepsRoom}
-use Rattle.reliable_mcast.specs.Packed.{Packing, frames_as, most_frames, listing_of, Fills, HasRoomFor, Spends}
+use Rattle.reliable_mcast.specs.Lists.{extended}
+use Rattle.reliable_mcast.specs.Packed.{Packing, frames_as, Fills}
 use Rattle.reliable_mcast.specs.Certificates.{all_signed}
 use Rattle.reliable_mcast.specs.Archives.{Archived, Keeps}
-use Rattle.reliable_mcast.specs.Answers.{commit_kept, pools_kept, places_kept, answer_kept}
-use Rattle.reliable_mcast.proofs.Extended.{extended-all, keeps-on}
-use Rattle.reliable_mcast.proofs.Ways.{OnWay, way-start, way-as, way-room, way-next, way-last}
+use Rattle.reliable_mcast.specs.Answers.{places_kept, answer_kept}
+use Rattle.reliable_mcast.proofs.Extended.{extended-all}
 
 -- ---- the commit certificate of a view, by the numbers of those that were left
 
@@ -64,6 +63,9 @@ answer-is a h p x k keeps same =
     ∙ (λ i. (commits-at p.left 0 x x keeps.numbers at ∙ ap (λ cs. unwrap_or (slice_get cs x) []) keeps.commits) i ++ all_signed (places_kept (filter (λ (g : Pool). g.view.number == x) (same i ∷ option_to_list (keeps.previous i))) k))
 
 -- its pools, the current one and the previous one
+abbrev pub pools_in : List Pool → ℕ → List Pool
+pools_in hs x = filter (λ (g : Pool). g.view.number == x) hs
+
 pub pools-parts : (h : Pool) (hs : List Pool) (x k : ℕ) → all_signed (places_kept (filter (λ (g : Pool). g.view.number == x) (h ∷ hs)) k) ≡ all_signed (places_kept (filter (λ (g : Pool). g.view.number == x) (h ∷ [])) k) ++ all_signed (places_kept (filter (λ (g : Pool). g.view.number == x) hs) k)
 pools-parts h hs x k = go (h.view.number == x)
   where
@@ -78,81 +80,29 @@ pools-parts h hs x k = go (h.view.number == x)
     go false = refl
 
 -- its frames
+pub bundles-are : (cs : List Claim) → frames_as kinds.Bundle (all_signed cs) ≡ frames_of (sending.Bundle cs)
+bundles-are [] = refl
+bundles-are (c ∷ cs) = refl
+
 pub proofs-are : (cs : List Claim) → frames_as kinds.Proof (all_signed cs) ≡ frames_of (sending.Proof cs)
 proofs-are [] = refl
 proofs-are (c ∷ cs) = refl
 
--- ---- room
-
-pub room-for : (f : Packing) (cs : List Signed) → f.claims ≡ [] → HasRoomFor f cs → HasRoom (listing_of f) (extended false f.claims cs)
-room-for f cs empty has =
-    let whole : extended false f.claims cs ≡ cs = ap (λ ds. extended false ds cs) empty ∙ extended-all [] cs in
-    subst (HasRoom (listing_of f)) (sym whole) (record { claims = omega (arith, has.claims); bytes = omega (arith, has.bytes) })
-
-pub frames-for : (f g : Packing) (cs : List Signed) → HasRoomFor f cs → g.claims ≡ cs → g.frames_left ≡ f.frames_left → most_frames (length g.claims) (sum_by bytes_of g.claims) ≤ g.frames_left
-frames-for f g cs has e left = subst (λ (ds : List Signed). most_frames (length ds) (sum_by bytes_of ds) ≤ g.frames_left) (sym e) (let room = has.frames in omega (arith, room, left))
-
-pub spent : (f g done : Packing) (cs : List Signed) → f.claims ≡ [] → g.claims ≡ cs → KeepsRoom (listing_of f) (listing_of g) → g.frames_left ≡ f.frames_left
-    → length g.claims + g.claims_left ≤ done.claims_left → sum_by bytes_of g.claims + g.bytes_left ≤ done.bytes_left → g.frames_left ≤ done.frames_left + most_frames (length g.claims) (sum_by bytes_of g.claims) → Spends f done cs
-spent f g done cs empty e keeps left claims bytes frames = record {
-  claims = omega (arith, keeps.claims, claims);
-  bytes = omega (arith, keeps.bytes, bytes);
-  frames = subst (λ (ds : List Signed). f.frames_left ≤ done.frames_left + most_frames (length ds) (sum_by bytes_of ds)) e (omega (arith, frames, left));
-}
-
 -- ---- the three parts of an answer, one behind the other
 
-abbrev of_view : ℕ → List Pool → List Pool
-of_view x hs = filter (λ (g : Pool). g.view.number == x) hs
+-- where nothing was in the list, the three parts are the answer
+pub parts-are : (a : Archived) (h : Pool) (x k : ℕ) (commits : List (List Signed)) (f f1 f2 f3 : Packing) → commits ≡ a.commits → f.claims ≡ [] → Fills f f1 (extended false f.claims (unwrap_or (slice_get commits x) [])) → Fills f1 f2 (extended false f1.claims (all_signed (places_kept (pools_in (h ∷ []) x) k)))
+    → Fills f2 f3 (extended false f2.claims (all_signed (places_kept (pools_in (option_to_list a.previous) x) k))) → f3.claims ≡ answer_kept a h x k
+parts-are a h x k commits f f1 f2 f3 same empty one two three =
+    let commit : List Signed = unwrap_or (slice_get commits x) [] in
+    let current : List Signed = all_signed (places_kept (pools_in (h ∷ []) x) k) in
+    let before : List Signed = all_signed (places_kept (pools_in (option_to_list a.previous) x) k) in
+    three.claims ∙ ap (λ cs. extended false cs before) (two.claims ∙ ap (λ cs. extended false cs current) (one.claims ∙ ap (λ cs. extended false cs commit) empty))
+    ∙ extended-all (extended false (extended false [] commit) current) before
+    ∙ ap (λ cs. cs ++ before) (extended-all (extended false [] commit) current ∙ ap (λ cs. cs ++ current) (extended-all [] commit))
+    ∙ append_assoc commit current before
+    ∙ (λ i. unwrap_or (slice_get (same i) x) [] ++ sym (pools-parts h (option_to_list a.previous) x k) i)
 
-module _ (a : Archived) (h : Pool) (x k : ℕ) (commits : List (List Signed)) (same : commits ≡ a.commits) (f : Packing) (empty : f.claims ≡ []) (has : HasRoomFor f (answer_kept a h x k)) where
-  abbrev commit : List Signed
-  commit = unwrap_or (slice_get commits x) []
-
-  abbrev current : List Signed
-  current = all_signed (places_kept (of_view x (h ∷ [])) k)
-
-  abbrev before : List Signed
-  before = all_signed (places_kept (of_view x (option_to_list a.previous)) k)
-
-  abbrev whole : List Signed
-  whole = extended false f.claims (answer_kept a h x k)
-
-  parts : answer_kept a h x k ≡ commit ++ (current ++ before)
-  parts = λ i. unwrap_or (slice_get (sym same i) x) [] ++ pools-parts h (option_to_list a.previous) x k i
-
-  room : HasRoom (listing_of f) whole
-  room = room-for f (answer_kept a h x k) empty has
-
-  begun : OnWay false (listing_of f) (listing_of f) whole (commit ++ (current ++ before))
-  begun = way-as false (listing_of f) (listing_of f) whole _ _ parts (way-start false (listing_of f) (answer_kept a h x k))
-
-  pub room-commit : HasRoom (listing_of f) (extended false f.claims commit)
-  room-commit = way-room false (listing_of f) (listing_of f) whole commit (current ++ before) room begun
-
-  module _ (f1 : Packing) (one : Fills f f1 (extended false f.claims commit)) where
-    first : OnWay false (listing_of f) (listing_of f1) whole (current ++ before)
-    first = way-next false (listing_of f) (listing_of f) (listing_of f1) whole commit (current ++ before) begun one.claims one.room
-
-    pub room-current : HasRoom (listing_of f1) (extended false f1.claims current)
-    room-current = way-room false (listing_of f) (listing_of f1) whole current before room first
-
-    module _ (f2 : Packing) (two : Fills f1 f2 (extended false f1.claims current)) where
-      second : OnWay false (listing_of f) (listing_of f2) whole before
-      second = way-next false (listing_of f) (listing_of f1) (listing_of f2) whole current before first two.claims two.room
-
-      pub room-before : HasRoom (listing_of f2) (extended false f2.claims before)
-      room-before = way-last false (listing_of f) (listing_of f2) whole before room second
-
-      module _ (f3 : Packing) (three : Fills f2 f3 (extended false f2.claims before)) where
-        pub filled : f3.claims ≡ answer_kept a h x k
-        filled = three.claims ∙ second.claims ∙ ap (λ cs. extended false cs (answer_kept a h x k)) empty ∙ extended-all [] (answer_kept a h x k)
-
-        pub kept : KeepsRoom (listing_of f) (listing_of f3)
-        kept = keeps-on (listing_of f) (listing_of f2) (listing_of f3) second.room three.room
-
-        pub left-same : f3.frames_left ≡ f.frames_left
-        left-same = three.frames_left ∙ two.frames_left ∙ one.frames_left
-
-        pub frames-same : f3.frames ≡ f.frames
-        frames-same = three.frames ∙ two.frames ∙ one.frames
+-- and nothing was packed
+pub frames-same : (f f1 f2 f3 : Packing) (cs ds es : List Signed) → Fills f f1 cs → Fills f1 f2 ds → Fills f2 f3 es → f3.frames ≡ f.frames
+frames-same f f1 f2 f3 cs ds es one two three = three.frames ∙ two.frames ∙ one.frames

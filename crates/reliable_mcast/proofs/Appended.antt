@@ -1,13 +1,12 @@
 -- A claim more in a list: its bytes stand behind those of the others.
-use Rattle.std.proofs.Common.{◌≡◌, ℕ, ◌+◌, ◌-◌, ◌≤◌, List, [], ◌∷◌, ◌++◌, length, map, take, drop, refl, sym, ap, ◌∙◌, subst, arith, append_assoc, length-append}
+use Rattle.std.proofs.Common.{◌≡◌, ℕ, ◌+◌, ◌-◌, ◌≤◌, List, [], ◌∷◌, ◌++◌, length, take, drop, refl, sym, ap, ◌∙◌, subst, arith, append_assoc, length-append}
 use Rattle.std.proofs.Math.Seq.{take-length}
 use Rattle.std.specs.Prelude.{slice_range}
-use Rattle.std.specs.List.{AllByRecursion, sum_by}
-use Rattle.std.proofs.lemmas.List.Sums.{sum_by_push}
+use Rattle.std.specs.List.{AllByRecursion}
 use Rattle.std.proofs.lemmas.List.{take-append-le, drop-append-le, length-drop, length-take, take_at, drop_at, map-append}
-use Rattle.message_defs.specs.Packing.{Signed, signed}
+use Rattle.message_defs.specs.Packing.{signed}
 use Rattle.reliable_mcast.specs.declared.list.Listed.{Listed}
-use Rattle.reliable_mcast.specs.Lists.{middle, past, listed_claim, listed_claims, bytes_of, IsListed, AreListed, IsListing, IsShort}
+use Rattle.reliable_mcast.specs.Lists.{middle, past, listed_claim, listed_claims, IsListed, AreListed, IsShort}
 
 -- what stands there stays
 range_stays : (bytes more : List ℕ) (i j : ℕ) → i ≤ j → j ≤ length bytes → slice_range (bytes ++ more) i j ≡ slice_range bytes i j
@@ -26,7 +25,7 @@ claims_stay : (bytes more : List ℕ) (ls : List Listed) → AreListed bytes ls 
 claims_stay bytes more [] are = refl
 claims_stay bytes more (l ∷ ls) are = λ i. claim_stays bytes more l are.0 i ∷ claims_stay bytes more ls are.1 i
 
-are_stay : (bytes more : List ℕ) (ls : List Listed) → AreListed bytes ls → AreListed (bytes ++ more) ls
+pub are_stay : (bytes more : List ℕ) (ls : List Listed) → AreListed bytes ls → AreListed (bytes ++ more) ls
 are_stay bytes more [] are = tt
 are_stay bytes more (l ∷ ls) are = (record { within = omega (arith, are.0.within, length-append bytes more); said = are.0.said; signed = are.0.signed }, are_stay bytes more ls are.1)
 
@@ -61,12 +60,9 @@ module _ (bytes statement signature : List ℕ) (l : Listed) (start : l.start �
   now-long : length now ≡ length bytes + (length statement + length signature)
   now-long = omega (arith, length-append (bytes ++ statement) signature, length-append bytes statement)
 
-  -- and it is there, and nothing else is
-  pub listing-push : (ls : List Listed) → IsListing bytes ls → l.said ≤ 1032 → l.signed ≤ 16384 → IsListing now (ls ++ l ∷ [])
-  listing-push ls is few many = record {
-    each = all-snoc (IsListed now) ls l (subst (λ b. AreListed b ls) (sym (append_assoc bytes statement signature)) (are_stay bytes (statement ++ signature) ls is.each)) (record { within = omega (arith, now-long); said = few; signed = many });
-    filled = ap (sum_by bytes_of) (claims-push ls is.each) ∙ sum_by_push bytes_of (listed_claims bytes ls) (signed statement l.signer signature) ∙ omega (arith, is.filled, now-long);
-  }
+  -- and it is there
+  pub are-push : (ls : List Listed) → AreListed bytes ls → l.said ≤ 1032 → l.signed ≤ 16384 → AreListed now (ls ++ l ∷ [])
+  are-push ls are few many = all-snoc (IsListed now) ls l (subst (λ b. AreListed b ls) (sym (append_assoc bytes statement signature)) (are_stay bytes (statement ++ signature) ls are)) (record { within = omega (arith, now-long); said = few; signed = many })
 
 -- ---- each claim is short
 

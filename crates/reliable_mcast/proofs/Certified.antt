@@ -1,33 +1,26 @@
 -- The claims of a certificate, one signer after another.
-use Rattle.std.proofs.Common.{◌≡◌, ℕ, suc, zero, ◌+◌, ◌-◌, ◌<◌, ◌≤◌, List, [], ◌∷◌, ◌++◌, length, map, take, Option, Some, None, Bool, true, false, refl, sym, ap, ◌∙◌, subst, arith, inl, inr}
-use Rattle.std.specs.Prelude.{if◌then◌else◌, filter_map, option_and_then}
-use Rattle.std.specs.List.{cons_option, AllByRecursion, sum_by}
-use Rattle.std.proofs.lemmas.List.{map-append}
+use Rattle.std.proofs.Common.{◌≡◌, ℕ, suc, ◌+◌, ◌-◌, ◌<◌, List, [], ◌∷◌, ◌++◌, take, Option, Some, None, Bool, true, false, refl, sym, ap, ◌∙◌, subst, arith, inl, inr}
+use Rattle.std.specs.Prelude.{if◌then◌else◌, option_and_then}
+use Rattle.std.specs.List.{cons_option, AllByRecursion}
 use Rattle.byte_defs.specs.Orders.{sorted}
 use Rattle.message_defs.specs.Updates.{Value}
 use Rattle.message_defs.specs.Statements.{Statement, Ready, Slot, ReadyAt, Claim, slot_of}
 use Rattle.message_defs.specs.Spelling.{IsClaim}
-use Rattle.message_defs.specs.Packing.{Signed, signed_of}
+use Rattle.message_defs.specs.Packing.{Signed}
 use Rattle.group_defs.specs.Views.{quorum}
 use Rattle.group_defs.specs.Process.{Pool}
-use Rattle.group_defs.specs.Certified.{claim_on, backers, is_certified, certified_on, certificate, certificate_on, number_of_members, value_at}
+use Rattle.group_defs.specs.Certified.{backers, is_certified, certified_on, certificate, number_of_members, value_at}
 use Rattle.pool_laws.proofs.Members.{Mem, find-is}
 use Rattle.pool_laws.proofs.Heard.{certified_on-is}
 use Rattle.pool_laws.proofs.Slots.{ready-is}
 use Rattle.pool_laws.proofs.Sorting.{by_number}
 use Rattle.pool_laws.proofs.Tests.{then-some}
-use Rattle.std.proofs.lemmas.List.{length-take, length-map}
 use Rattle.std.specs.Prelude.{IsOk}
-use Rattle.group_defs.specs.Views.{IsView}
-use Rattle.pool_laws.proofs.Sorting.{length-sorted}
 use Rattle.statements.proofs.Grammar.{spelling_again}
-use Rattle.claim_pool.proofs.Few.{few-backers}
 use Rattle.reliable_mcast.specs.Archives.{AreReadable}
-use Rattle.reliable_mcast.specs.Lists.{Listing, bytes_of, extended, HasRoom}
-use Rattle.reliable_mcast.proofs.Extended.{extended-all}
 use Rattle.reliable_mcast.specs.Certificates.{IsRanged, all_signed, certificate_of, said_on, said_by}
 
-all-mem : {A : Type 0} (P : A → Type 0) (xs : List A) (x : A) → AllByRecursion P xs → Mem x xs → P x
+pub all-mem : {A : Type 0} (P : A → Type 0) (xs : List A) (x : A) → AllByRecursion P xs → Mem x xs → P x
 all-mem P [] x all m = absurd m
 all-mem P (y ∷ xs) x all (inl e) = subst P e all.0
 all-mem P (y ∷ xs) x all (inr m) = all-mem P xs x all.1 m
@@ -92,28 +85,6 @@ certificate-ranged h st ranged = go (is_certified h st)
     go true = said_by-ranged h (Some (slot_of st)) (take (quorum (number_of_members h)) (sorted by_number (backers h st))) ranged
     go false = tt
 
-filter_map-few : {A B : Type 0} (f : A → Option B) (xs : List A) → length (filter_map f xs) ≤ length xs
-filter_map-few f [] = omega arith
-filter_map-few f (x ∷ xs) = go (f x) (filter_map-few f xs)
-  where
-    go : (o : Option _) → length (filter_map f xs) ≤ length xs → length (cons_option o (filter_map f xs)) ≤ suc (length xs)
-    go None le = omega (arith, le)
-    go (Some y) le = omega (arith, le)
-
--- a certificate has no more claims than a view has members
-pub certificate-few : (h : Pool) (st : Statement) → IsView h.view → length (certificate h st) ≤ 16
-certificate-few h st is = go (is_certified h st)
-  where
-    go : (b : Bool) → length (if b then said_by h (Some (slot_of st)) (take (quorum (number_of_members h)) (sorted by_number (backers h st))) else []) ≤ 16
-    go true =
-        let first : List ℕ = take (quorum (number_of_members h)) (sorted by_number (backers h st)) in
-        let a = filter_map-few (said_on h (Some (slot_of st))) first in
-        let b = length-take (quorum (number_of_members h)) (sorted by_number (backers h st)) in
-        let c = length-sorted by_number (backers h st) in
-        let d = few-backers h st is in
-        omega (arith, a, b, c, d)
-    go false = omega arith
-
 -- ---- read again
 
 pub readable-all : (cs : List Claim) → AllByRecursion IsClaim cs → AreReadable (all_signed cs)
@@ -127,11 +98,3 @@ all-snoc P (y ∷ xs) x all p = (all.0, all-snoc P xs x all.1 p)
 -- one commit certificate more is kept
 pub kept-more : (commits commits' : List (List Signed)) (h : Pool) (st : Statement) → IsRanged h → AllByRecursion AreReadable commits → commits' ≡ commits ++ all_signed (certificate h st) ∷ [] → AllByRecursion AreReadable commits'
 kept-more commits commits' h st ranged all e = subst (AllByRecursion AreReadable) (sym e) (all-snoc AreReadable commits (all_signed (certificate h st)) all (readable-all (certificate h st) (certificate-ranged h st ranged)))
-
--- an empty list has room for a commit certificate
-pub room-of-commit : (next : Listing) (h : Pool) (st : Statement) (ds : List Claim) → next.claims ≡ [] → IsView h.view → ds ≡ certificate h st → 16 ≤ next.claims_left → sum_by bytes_of (all_signed (certificate h st)) ≤ next.bytes_left → HasRoom next (extended false next.claims (all_signed ds))
-room-of-commit next h st ds empty is same claims bytes =
-    let whole : extended false next.claims (all_signed ds) ≡ all_signed (certificate h st) = (λ i. extended false (empty i) (all_signed (same i))) ∙ extended-all [] (all_signed (certificate h st)) in
-    let few = certificate-few h st is in
-    let count = length-map (certificate h st) signed_of in
-    subst (HasRoom next) (sym whole) (record { claims = omega (arith, few, count, claims); bytes = omega (arith, bytes) })

@@ -5,3 +5,7 @@ pub mod Extended
 pub mod Certified
 pub mod Ways
 pub mod Answering
+pub mod Listed
+pub mod Numbers
+pub mod Putting
+pub mod Joining

@@ -46,3 +46,6 @@ drop-past [] n le = drop-none n
     drop-none (suc n) = refl
 drop-past (x ∷ xs) zero le = absurd (omega (arith, le))
 drop-past (x ∷ xs) (suc n) le = drop-past xs n (omega (arith, le))
+
+pub drop-number : (xs : List ℕ) (i : ℕ) → i < length xs → drop i xs ≡ get_or xs i 0 ∷ drop (i + 1) xs
+drop-number xs i lt = drop-cons xs i 0 lt ∙ ap (λ n. get_or xs i 0 ∷ drop n xs) (sym (add-one i))

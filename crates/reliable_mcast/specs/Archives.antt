@@ -1,19 +1,15 @@
 -- What is kept of the views that were left.
-use Rattle.std.specs.Prelude.{◌≡◌, ℕ, List, [], length, Option, Some, map, IsOk}
+use Rattle.std.specs.Prelude.{◌≡◌, List, length, Option, Some, map, IsOk}
 use Rattle.std.specs.List.{AllByRecursion, range_with_len}
 use Rattle.message_defs.specs.Reading.{statement_of}
 use Rattle.message_defs.specs.Packing.{Signed}
 use Rattle.group_defs.specs.Process.{Pool, Process}
 use Rattle.reliable_mcast.specs.Certificates.{all_signed, IsRanged}
 
--- the pool of the view that was left last, the commit certificates of the views 0, 1, 2 and so on, and the room: how many views more
--- are kept without memory, and how many claims with how many bytes the next commit certificate may have
+-- the pool of the view that was left last, and the commit certificates of the views 0, 1, 2 and so on
 pub record Archived : Type 0 where
   pub previous : Option Pool
   pub commits : List (List Signed)
-  pub views_left : ℕ
-  pub claims_left : ℕ
-  pub bytes_left : ℕ
 
 -- the archive is that of this process: the pool before the current one, and the commit certificates of the views that it left
 pub record Keeps (a : Archived) (p : Process) : Type 0 where
@@ -31,8 +27,7 @@ IsReadable c = IsOk (statement_of c.statement)
 abbrev pub AreReadable : List Signed → Type 0
 AreReadable cs = AllByRecursion IsReadable cs
 
--- each claim that is kept can be read, what was heard in the previous view is in its ranges, and the next commit certificate is not begun
-pub record AreKept (previous : Option Pool) (commits : List (List Signed)) (next : List Signed) : Type 0 where
+-- each claim that is kept can be read, and what was heard in the previous view is in its ranges
+pub record AreKept (previous : Option Pool) (commits : List (List Signed)) : Type 0 where
   pub ranged : (h : Pool) → previous ≡ Some h → IsRanged h
   pub readable : AllByRecursion AreReadable commits
-  pub empty : next ≡ []

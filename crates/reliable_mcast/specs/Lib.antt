@@ -3,3 +3,5 @@ pub mod Packed
 pub mod Certificates
 pub mod Archives
 pub mod Answers
+pub mod Beside
+pub mod Entries

@@ -1,6 +1,6 @@
 -- How a list of claims is kept: their bytes one behind the other, and of each claim where its bytes stand.
-use Rattle.std.specs.Prelude.{◌≡◌, ℕ, ◌+◌, ◌≤◌, Bool, ◌&&◌, ◌==◌, List, ◌∷◌, [], ◌++◌, length, map, slice_range, fold, if◌then◌else◌}
-use Rattle.std.specs.List.{AllByRecursion, list_any, sum_by}
+use Rattle.std.specs.Prelude.{ℕ, ◌+◌, ◌≤◌, Bool, ◌&&◌, ◌==◌, List, ◌∷◌, [], ◌++◌, length, map, slice_range, fold, if◌then◌else◌}
+use Rattle.std.specs.List.{AllByRecursion, list_any}
 use Rattle.byte_defs.specs.Equality.{same_bytes}
 use Rattle.message_defs.specs.Packing.{Signed, signed}
 use Rattle.reliable_mcast.specs.declared.list.Listed.{Listed}
@@ -8,19 +8,9 @@ use Rattle.reliable_mcast.specs.declared.list.Lent.{Lent}
 
 -- ---- what contracts see
 
--- the claims; and how many more, with how many bytes of statements and signatures in all, are added without memory
-pub record Listing : Type 0 where
-  pub claims : List Signed
-  pub claims_left : ℕ
-  pub bytes_left : ℕ
-
 -- the claim that is lent
 abbrev pub lent_claim : Lent → Signed
 lent_claim c = signed c.statement.now c.signer c.signature.now
-
--- how many bytes the claim's statement and signature have
-abbrev pub bytes_of : Signed → ℕ
-bytes_of c = length c.statement + length c.signature
 
 -- a statement has at most 1,032 bytes, and a signature at most 16,384
 pub record IsShort (c : Signed) : Type 0 where
@@ -69,25 +59,3 @@ added once cs c = if once then joined cs c else cs ++ c ∷ []
 -- these claims behind the others, one by one
 abbrev pub extended : Bool → List Signed → List Signed → List Signed
 extended once cs ds = fold (added once) cs ds
-
--- how many claims the list has room for, and how many bytes, those that it has among them
-abbrev pub claims_room : Listing → ℕ
-claims_room l = length l.claims + l.claims_left
-
-abbrev pub bytes_room : Listing → ℕ
-bytes_room l = sum_by bytes_of l.claims + l.bytes_left
-
--- the list has room for these claims, those that it has among them
-pub record HasRoom (l : Listing) (cs : List Signed) : Type 0 where
-  pub claims : length cs ≤ claims_room l
-  pub bytes : sum_by bytes_of cs ≤ bytes_room l
-
--- a list that took claims has as much room in all as it had
-pub record KeepsRoom (old new : Listing) : Type 0 where
-  pub claims : claims_room old ≤ claims_room new
-  pub bytes : bytes_room old ≤ bytes_room new
-
--- each claim is there, and there are no other bytes
-pub record IsListing (bytes : List ℕ) (ls : List Listed) : Type 0 where
-  pub each : AreListed bytes ls
-  pub filled : sum_by bytes_of (listed_claims bytes ls) ≡ length bytes

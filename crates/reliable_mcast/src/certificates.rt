@@ -1,17 +1,17 @@
 //! The claims of a pool's certificates, put into a list.
-ghost use Rattle.std.specs.Prelude.{◌≡◌, ◌≤◌, ◌∷◌, [], take, false, flat_map};
+ghost use Rattle.std.specs.Prelude.{◌≡◌, ◌≤◌, ◌∷◌, [], take, false, flat_map, OnOk};
 ghost use Rattle.std.specs.List.{range_with_len};
 ghost use Rattle.message_defs.specs.Spelling.{IsClaim};
 ghost use Rattle.message_defs.specs.Packing.{signed_of};
 ghost use Rattle.group_defs.specs.Sending.{message_certificates, place_certificates};
 ghost use Rattle.stmt_codec.specs.Views.{message, slot as slot_at, claim as claim_of};
-ghost use Rattle.reliable_mcast.specs.Lists.{added, extended, HasRoom, KeepsRoom};
+ghost use Rattle.reliable_mcast.specs.Lists.{added, extended};
 ghost use Rattle.reliable_mcast.specs.Certificates.{all_signed, certificate_of, message_certificate, messages_at, said_by, IsRanged};
 
 use crate::list::{ClaimList, Lent};
 use claim_pool::{CertKind, Keep, Message, Place, Pool};
 use pool_questions::certified_batch;
-use rp_base::{Pid, PidSet};
+use rp_base::{NoMemory, Pid, PidSet};
 use stmt_codec::{Batch, Claim, STATEMENT_BYTES, Slot, spell_into};
 use view_table::quorum;
 
@@ -19,11 +19,9 @@ use view_table::quorum;
 const ANSWERED: u16 = 8;
 
 /// Puts the claim behind the others; and only where it is not among them, where each is to stand there once.
-pub(crate) fn put_claim(list: &mut ClaimList, claim: &Claim<'_>, once: bool)
-    requires range { IsClaim (claim_of claim.now) }
-    requires room { HasRoom list.old (added once list.old.claims (signed_of (claim_of claim.now))) }
-    ensures claims { list.new.claims ≡ added once list.old.claims (signed_of (claim_of claim.now)) }
-    ensures room { KeepsRoom list.old list.new }
+pub(crate) fn put_claim(list: &mut ClaimList, claim: &Claim<'_>, once: bool) -> Result<(), NoMemory>
+    requires { IsClaim (claim_of claim.now) }
+    ensures { OnOk result (list.new ≡ added once list.old (signed_of (claim_of claim.now))) }
 {
     let mut spelled = [0; STATEMENT_BYTES];
     let said = spell_into(&claim.statement, &mut spelled);
@@ -32,18 +30,24 @@ pub(crate) fn put_claim(list: &mut ClaimList, claim: &Claim<'_>, once: bool)
         statement: &spelled[..said],
         signature: claim.signature,
     };
-    list.put(&lent, once);
+    list.put(&lent, once)
 }
 
 // Puts what the member says there, where it says something.
-fn put_said(list: &mut ClaimList, pool: &Pool, member: Pid, kind: u8, about: &Slot, once: bool)
-    requires range { IsRanged pool.now.pool }
-    requires room { HasRoom list.old (extended once list.old.claims (all_signed (said_by pool.now.pool (slot_at kind about.now) (member ∷ [])))) }
-    ensures claims { list.new.claims ≡ extended once list.old.claims (all_signed (said_by pool.now.pool (slot_at kind about.now) (member ∷ []))) }
-    ensures room { KeepsRoom list.old list.new }
+fn put_said(
+    list: &mut ClaimList,
+    pool: &Pool,
+    member: Pid,
+    kind: u8,
+    about: &Slot,
+    once: bool,
+) -> Result<(), NoMemory>
+    requires { IsRanged pool.now.pool }
+    ensures { OnOk result (list.new ≡ extended once list.old (all_signed (said_by pool.now.pool (slot_at kind about.now) (member ∷ [])))) }
 {
-    if let Some(claim) = pool.heard_claim(member, kind, *about) {
-        put_claim(list, &claim, once);
+    match pool.heard_claim(member, kind, *about) {
+        Some(claim) => put_claim(list, &claim, once),
+        None => Ok(()),
     }
 }
 
@@ -56,19 +60,18 @@ fn put_first(
     kind: u8,
     about: &Slot,
     once: bool,
-)
-    requires range { IsRanged pool.now.pool }
-    requires room { HasRoom list.old (extended once list.old.claims (all_signed (said_by pool.now.pool (slot_at kind about.now) (take count members)))) }
-    ensures claims { list.new.claims ≡ extended once list.old.claims (all_signed (said_by pool.now.pool (slot_at kind about.now) (take count members))) }
-    ensures room { KeepsRoom list.old list.new }
+) -> Result<(), NoMemory>
+    requires { IsRanged pool.now.pool }
+    ensures { OnOk result (list.new ≡ extended once list.old (all_signed (said_by pool.now.pool (slot_at kind about.now) (take count members)))) }
 {
     let mut left = members;
     'members: for _done in 0..count {
         let Some(member) = left.pop_first() else {
-            return;
+            return Ok(());
         };
-        put_said(list, pool, member, kind, about, once);
+        put_said(list, pool, member, kind, about, once)?;
     }
+    Ok(())
 }
 
 /// Puts the claims of the certificate of that kind and slot, of the first Q signers by process number; none where nothing is
@@ -78,88 +81,91 @@ pub(crate) fn put_certificate<K: CertKind>(
     pool: &Pool,
     about: &Slot,
     once: bool,
-)
-    requires range { IsRanged pool.now.pool }
-    requires room { HasRoom list.old (extended once list.old.claims (all_signed (certificate_of pool.now.pool (slot_at K.kind about.now)))) }
-    ensures claims { list.new.claims ≡ extended once list.old.claims (all_signed (certificate_of pool.now.pool (slot_at K.kind about.now))) }
-    ensures room { KeepsRoom list.old list.new }
+) -> Result<(), NoMemory>
+    requires { IsRanged pool.now.pool }
+    ensures { OnOk result (list.new ≡ extended once list.old (all_signed (certificate_of pool.now.pool (slot_at K.kind about.now)))) }
 {
-    if let Some(certificate) = pool.certificate::<K>(*about) {
-        let count = quorum(pool.view().members().len());
-        put_first(
-            list,
-            pool,
-            certificate.signers(),
-            count,
-            K::number(),
-            about,
-            once,
-        );
-    }
+    let Some(certificate) = pool.certificate::<K>(*about) else {
+        return Ok(());
+    };
+    let count = quorum(pool.view().members().len());
+    put_first(
+        list,
+        pool,
+        certificate.signers(),
+        count,
+        K::number(),
+        about,
+        once,
+    )
 }
 
 // Puts the certificate of the message.
-fn put_message(list: &mut ClaimList, pool: &Pool, sender: Pid, number: u16, once: bool)
-    requires range { IsRanged pool.now.pool }
-    requires room { HasRoom list.old (extended once list.old.claims (all_signed (message_certificate pool.now.pool (message sender number)))) }
-    ensures claims { list.new.claims ≡ extended once list.old.claims (all_signed (message_certificate pool.now.pool (message sender number))) }
-    ensures room { KeepsRoom list.old list.new }
+fn put_message(
+    list: &mut ClaimList,
+    pool: &Pool,
+    sender: Pid,
+    number: u16,
+    once: bool,
+) -> Result<(), NoMemory>
+    requires { IsRanged pool.now.pool }
+    ensures { OnOk result (list.new ≡ extended once list.old (all_signed (message_certificate pool.now.pool (message sender number)))) }
 {
     let about = Slot::Message {
         view: pool.view().number(),
         sender,
         number,
     };
-    put_certificate::<Message>(list, pool, &about, once);
+    put_certificate::<Message>(list, pool, &about, once)
 }
 
 /// Puts the certificates of the batch's messages, in its order.
-pub(crate) fn put_messages(list: &mut ClaimList, pool: &Pool, batch: &Batch, once: bool)
-    requires range { IsRanged pool.now.pool }
-    requires room { HasRoom list.old (extended once list.old.claims (all_signed (message_certificates pool.now.pool batch.now))) }
-    ensures claims { list.new.claims ≡ extended once list.old.claims (all_signed (message_certificates pool.now.pool batch.now)) }
-    ensures room { KeepsRoom list.old list.new }
+pub(crate) fn put_messages(
+    list: &mut ClaimList,
+    pool: &Pool,
+    batch: &Batch,
+    once: bool,
+) -> Result<(), NoMemory>
+    requires { IsRanged pool.now.pool }
+    ensures { OnOk result (list.new ≡ extended once list.old (all_signed (message_certificates pool.now.pool batch.now))) }
 {
     'messages: for (sender, number) in batch.messages() {
-        put_message(list, pool, *sender, *number, once);
+        put_message(list, pool, *sender, *number, once)?;
     }
+    Ok(())
 }
 
 // Puts the certificates of the messages of the batch that is certified of the place, where one is.
-fn put_placed(list: &mut ClaimList, pool: &Pool, place: u16)
-    requires range { IsRanged pool.now.pool }
-    requires room { HasRoom list.old (extended false list.old.claims (all_signed (messages_at pool.now.pool place))) }
-    ensures claims { list.new.claims ≡ extended false list.old.claims (all_signed (messages_at pool.now.pool place)) }
-    ensures room { KeepsRoom list.old list.new }
+fn put_placed(list: &mut ClaimList, pool: &Pool, place: u16) -> Result<(), NoMemory>
+    requires { IsRanged pool.now.pool }
+    ensures { OnOk result (list.new ≡ extended false list.old (all_signed (messages_at pool.now.pool place))) }
 {
-    if let Some(batch) = certified_batch(pool, place) {
-        put_messages(list, pool, &batch, false);
+    match certified_batch(pool, place) {
+        Some(batch) => put_messages(list, pool, &batch, false),
+        None => Ok(()),
     }
 }
 
 // Puts the certificates of the place: its own, those of its messages, and the Keep.
-fn put_place(list: &mut ClaimList, pool: &Pool, place: u16)
-    requires range { IsRanged pool.now.pool }
-    requires room { HasRoom list.old (extended false list.old.claims (all_signed (place_certificates pool.now.pool place))) }
-    ensures claims { list.new.claims ≡ extended false list.old.claims (all_signed (place_certificates pool.now.pool place)) }
-    ensures room { KeepsRoom list.old list.new }
+fn put_place(list: &mut ClaimList, pool: &Pool, place: u16) -> Result<(), NoMemory>
+    requires { IsRanged pool.now.pool }
+    ensures { OnOk result (list.new ≡ extended false list.old (all_signed (place_certificates pool.now.pool place))) }
 {
     let view = pool.view().number();
     let about = Slot::Place { view, place };
-    put_certificate::<Place>(list, pool, &about, false);
-    put_placed(list, pool, place);
-    put_certificate::<Keep>(list, pool, &about, false);
+    put_certificate::<Place>(list, pool, &about, false)?;
+    put_placed(list, pool, place)?;
+    put_certificate::<Keep>(list, pool, &about, false)
 }
 
 /// Puts the certificates of eight places, from this one on.
-pub(crate) fn put_places(list: &mut ClaimList, pool: &Pool, place: u16)
+pub(crate) fn put_places(list: &mut ClaimList, pool: &Pool, place: u16) -> Result<(), NoMemory>
     requires range { IsRanged pool.now.pool }
     requires place { place ≤ 1024 }
-    requires room { HasRoom list.old (extended false list.old.claims (all_signed (flat_map (place_certificates pool.now.pool) (range_with_len place 8)))) }
-    ensures claims { list.new.claims ≡ extended false list.old.claims (all_signed (flat_map (place_certificates pool.now.pool) (range_with_len place 8))) }
-    ensures room { KeepsRoom list.old list.new }
+    ensures { OnOk result (list.new ≡ extended false list.old (all_signed (flat_map (place_certificates pool.now.pool) (range_with_len place 8)))) }
 {
     'places: for next in place..place + ANSWERED {
-        put_place(list, pool, next);
+        put_place(list, pool, next)?;
     }
+    Ok(())
 }

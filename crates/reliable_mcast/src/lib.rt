@@ -3,9 +3,11 @@
 #![tactic(auto)]
 
 mod archive;
+mod beside;
 mod certificates;
 mod frames;
 mod list;
+mod order;
 mod sheet;
 
 pub use archive::Archive;

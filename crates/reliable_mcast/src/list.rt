@@ -1,7 +1,7 @@
 //! Claims in a list, as they are to stand in frames. The bytes of all of them stand one behind the other in one vector.
-ghost use Rattle.std.specs.Prelude.{◌≡◌, ◌+◌, ◌≤◌, ◌<◌, ◌++◌, ◌∷◌, [], length, slice_get, Some, OnOk, sum_by, vec_len, vec_capacity};
+ghost use Rattle.std.specs.Prelude.{◌≡◌, ◌<◌, ◌++◌, ◌∷◌, [], length, slice_get, Some, OnOk};
 ghost use Rattle.std.specs.List.{AllByRecursion, list_any};
-ghost use Rattle.reliable_mcast.specs.Lists.{added, bytes_of, HasRoom, KeepsRoom, same_signed, lent_claim, listed_claim, listed_claims, IsListed, AreListed, IsShort};
+ghost use Rattle.reliable_mcast.specs.Lists.{added, same_signed, lent_claim, listed_claim, listed_claims, IsListed, AreListed, IsShort};
 
 use rp_base::{NoMemory, Pid};
 use std::alloc::Global;
@@ -29,8 +29,7 @@ pub(crate) struct Lent<'a> {
     pub signature: &'a [u8],
 }
 
-/// A list of claims. Contracts see it as that list, with the room that is left: how many claims more, with how many bytes
-/// of statements and signatures in all, are added without memory.
+/// A list of claims, which takes memory as it is filled and keeps it when it is cleared.
 #[derive(Drop)]
 pub(crate) struct ClaimList {
     bytes: Vec<u8>,
@@ -38,15 +37,15 @@ pub(crate) struct ClaimList {
 }
 
 impl Model for ClaimList {
-    ghost use Rattle.std.specs.Prelude.{◌-◌, length};
-    ghost use Rattle.std.specs.Vec.{vec_len, vec_capacity};
-    ghost use Rattle.reliable_mcast.specs.Lists.{Listing, listed_claims, IsListing};
+    ghost use Rattle.std.specs.Prelude.{List};
+    ghost use Rattle.message_defs.specs.Packing.{Signed};
+    ghost use Rattle.reliable_mcast.specs.Lists.{listed_claims, AreListed};
 
-    ghost Value = { Listing };
+    ghost Value = { List Signed };
 
-    ghost view = { λ l. record { claims = listed_claims l.bytes.items l.listed.items; claims_left = vec_capacity l.listed - vec_len l.listed; bytes_left = vec_capacity l.bytes - vec_len l.bytes } };
+    ghost view = { λ l. listed_claims l.bytes.items l.listed.items };
 
-    ghost invariant = { λ l. IsListing l.bytes.items l.listed.items };
+    ghost invariant = { λ l. AreListed l.bytes.items l.listed.items };
 }
 
 // The claim whose bytes stand there.
@@ -83,22 +82,10 @@ fn is_listed(bytes: &[u8], listed: &[Listed], claim: &Lent<'_>) -> bool
     false
 }
 
-// Bytes for which there is room.
-fn put(bytes: &mut Vec<u8>, piece: &[u8])
-    requires { vec_len bytes.old + length piece.now ≤ vec_capacity bytes.old }
-    ensures items { bytes.new.items ≡ bytes.old.items ++ piece.now }
-    ensures len { vec_len bytes.new ≡ vec_len bytes.old + length piece.now }
-    ensures capacity { vec_capacity bytes.old ≤ vec_capacity bytes.new }
-{
-    let Ok(()) = bytes.extend_from_slice(piece) else {
-        unreachable!()
-    };
-}
-
 impl ClaimList {
     /// No claims.
     pub fn new(alloc: Global) -> ClaimList
-        ensures { result.claims ≡ [] }
+        ensures { result ≡ [] }
     {
         ClaimList {
             bytes: Vec::new(alloc),
@@ -106,29 +93,18 @@ impl ClaimList {
         }
     }
 
-    /// Makes room for so many claims more, with so many bytes in all. Without memory, the list is as before.
-    pub fn reserve(&mut self, claims: usize, bytes: usize) -> Result<(), NoMemory>
-        ensures same { self.new.claims ≡ self.old.claims }
-        ensures room { OnOk result ((claims ≤ self.new.claims_left) × (bytes ≤ self.new.bytes_left)) }
-        ensures kept { (self.old.claims_left ≤ self.new.claims_left) × (self.old.bytes_left ≤ self.new.bytes_left) }
-    {
-        self.listed.reserve(claims)?;
-        self.bytes.reserve(bytes)?;
-        Ok(())
-    }
-
     /// How many claims it has.
     pub fn len(&self) -> usize
-        ensures count { result ≡ length self.now.claims }
-        ensures short { AllByRecursion IsShort self.now.claims }
+        ensures count { result ≡ length self.now }
+        ensures short { AllByRecursion IsShort self.now }
     {
         self.listed.len()
     }
 
     /// The claim at this place.
     pub fn at(&self, place: usize) -> Lent<'_>
-        requires { place < length self.now.claims }
-        ensures claim { slice_get self.now.claims place ≡ Some (lent_claim result) }
+        requires { place < length self.now }
+        ensures claim { slice_get self.now place ≡ Some (lent_claim result) }
         ensures short { IsShort (lent_claim result) }
     {
         lend(&self.bytes, self.listed[place])
@@ -136,19 +112,15 @@ impl ClaimList {
 
     /// Whether the claim stands in the list.
     pub fn contains(&self, claim: &Lent<'_>) -> bool
-        ensures { result ≡ list_any (same_signed (lent_claim claim.now)) self.now.claims }
+        ensures { result ≡ list_any (same_signed (lent_claim claim.now)) self.now }
     {
         is_listed(&self.bytes, &self.listed, claim)
     }
 
-    /// Puts the claim behind the others. It takes no memory: one claim, with its bytes, must be reserved.
-    pub fn push(&mut self, claim: &Lent<'_>)
-        requires short { IsShort (lent_claim claim.now) }
-        requires claims { 1 ≤ self.old.claims_left }
-        requires bytes { bytes_of (lent_claim claim.now) ≤ self.old.bytes_left }
-        ensures claims { self.new.claims ≡ self.old.claims ++ lent_claim claim.now ∷ [] }
-        ensures claims_left { self.old.claims_left ≤ self.new.claims_left + 1 }
-        ensures bytes_left { self.old.bytes_left ≤ self.new.bytes_left + bytes_of (lent_claim claim.now) }
+    // Puts the claim behind the others.
+    fn push(&mut self, claim: &Lent<'_>) -> Result<(), NoMemory>
+        requires { IsShort (lent_claim claim.now) }
+        ensures { OnOk result (self.new ≡ self.old ++ lent_claim claim.now ∷ []) }
     {
         let listed = Listed {
             signer: claim.signer,
@@ -156,31 +128,26 @@ impl ClaimList {
             said: claim.statement.len(),
             signed: claim.signature.len(),
         };
-        put(&mut self.bytes, claim.statement);
-        put(&mut self.bytes, claim.signature);
-        let Ok(()) = self.listed.push(listed) else {
-            unreachable!()
-        };
+        self.bytes.extend_from_slice(claim.statement)?;
+        self.bytes.extend_from_slice(claim.signature)?;
+        self.listed.push(listed)?;
+        Ok(())
     }
 
     /// Puts the claim behind the others; and only where it is not among them, where each is to stand there once.
-    pub fn put(&mut self, claim: &Lent<'_>, once: bool)
-        requires short { IsShort (lent_claim claim.now) }
-        requires room { HasRoom self.old (added once self.old.claims (lent_claim claim.now)) }
-        ensures claims { self.new.claims ≡ added once self.old.claims (lent_claim claim.now) }
-        ensures room { KeepsRoom self.old self.new }
+    pub fn put(&mut self, claim: &Lent<'_>, once: bool) -> Result<(), NoMemory>
+        requires { IsShort (lent_claim claim.now) }
+        ensures { OnOk result (self.new ≡ added once self.old (lent_claim claim.now)) }
     {
         if once && self.contains(claim) {
-            return;
+            return Ok(());
         }
-        self.push(claim);
+        self.push(claim)
     }
 
-    /// Forgets the claims. The room stays, and grows by what they took.
+    /// Forgets the claims, and keeps the memory.
     pub fn clear(&mut self)
-        ensures claims { self.new.claims ≡ [] }
-        ensures claims_left { length self.old.claims + self.old.claims_left ≤ self.new.claims_left }
-        ensures bytes_left { sum_by bytes_of self.old.claims + self.old.bytes_left ≤ self.new.bytes_left }
+        ensures { self.new ≡ [] }
     {
         self.bytes.clear();
         self.listed.clear();

@@ -1,5 +1,5 @@
-//! A frame while it is written. Its memory is taken before.
-ghost use Rattle.std.specs.Prelude.{◌≡◌, ◌≤◌, ◌∷◌, [], length, vec_len, vec_capacity, IfOk, true, if◌then◌else◌};
+//! A frame while it is written.
+ghost use Rattle.std.specs.Prelude.{◌≡◌, ◌≤◌, ◌∷◌, [], length, IfOk, true, if◌then◌else◌};
 ghost use Rattle.message_defs.specs.Frames.{Want, frame_bytes};
 ghost use Rattle.message_defs.specs.Packing.{group_of, add, fits};
 ghost use Rattle.reliable_mcast.specs.Lists.{lent_claim, IsShort};
@@ -21,28 +21,13 @@ pub enum FrameKind {
     Proof,
 }
 
-/// The memory of one frame.
-#[derive(Drop)]
-pub(crate) struct Blank {
-    writer: FrameWriter,
-    copy: Vec<u8>,
-    ghost kind: { writer.kind ≡ 1 },
-    ghost limit: { writer.room ≡ 61000 },
-    ghost empty: { length writer.groups ≡ 0 },
-    ghost uncopied: { vec_len copy ≡ 0 },
-    ghost reserved: { 61000 ≤ vec_capacity copy },
-}
-
 /// A frame that has claims, and may take more.
 #[derive(Drop)]
 pub(crate) struct Sheet {
     writer: FrameWriter,
-    copy: Vec<u8>,
     ghost kind: { writer.kind ≡ 1 },
     ghost limit: { writer.room ≡ 61000 },
     ghost some: { 1 ≤ length writer.groups },
-    ghost uncopied: { vec_len copy ≡ 0 },
-    ghost reserved: { 61000 ≤ vec_capacity copy },
 }
 
 // Adds the claim to the frame, where it has room for it. A frame without groups has.
@@ -58,37 +43,12 @@ fn add_claim(writer: &mut FrameWriter, claim: &Lent<'_>) -> bool
     writer.add(claim.statement, claim.signer.get(), claim.signature)
 }
 
-impl Blank {
-    /// The memory of one frame.
-    pub(crate) fn new(alloc: Global) -> Result<Blank, NoMemory> {
-        let writer = FrameWriter::new(alloc, BUNDLE, FRAME_BYTES)?;
-        let copy = Vec::with_capacity(alloc, FRAME_BYTES)?;
-        Ok(Blank { writer, copy })
-    }
-
-    /// A frame of this claim.
-    pub fn begin(self, claim: &Lent<'_>) -> Sheet
-        requires { IsShort (lent_claim claim.now) }
-        ensures { result.writer.groups ≡ group_of (lent_claim claim.now) ∷ [] }
-    {
-        let Blank { mut writer, copy } = self;
-        if !add_claim(&mut writer, claim) {
-            unreachable!();
-        }
-        Sheet { writer, copy }
-    }
-
-    /// A Want for this view and this place.
-    pub fn into_want(self, view: u16, place: u16) -> Payload
-        ensures { result ≡ frame_bytes (Want view place) }
-    {
-        let Blank { mut copy, .. } = self;
-        let Ok(()) = copy.extend_from_slice(&write_want(view, place)) else {
-            unreachable!()
-        };
-        copy.shrink_to_fit();
-        Payload::from_vec(copy)
-    }
+/// A Want for this view and this place.
+pub(crate) fn want_frame(alloc: Global, view: u16, place: u16) -> Result<Payload, NoMemory>
+    ensures { IfOk result (λ f. f ≡ frame_bytes (Want view place)) }
+{
+    let bytes = Vec::from_slice(alloc, &write_want(view, place))?;
+    Ok(Payload::from_vec(bytes))
 }
 
 // The number of the kind, as it stands in the frame.
@@ -102,6 +62,18 @@ fn number_of(kind: FrameKind) -> u8
 }
 
 impl Sheet {
+    /// A frame of this claim.
+    pub fn begin(alloc: Global, claim: &Lent<'_>) -> Result<Sheet, NoMemory>
+        requires { IsShort (lent_claim claim.now) }
+        ensures { IfOk result (λ s. s.writer.groups ≡ group_of (lent_claim claim.now) ∷ []) }
+    {
+        let mut writer = FrameWriter::new(alloc, BUNDLE, FRAME_BYTES)?;
+        if !add_claim(&mut writer, claim) {
+            unreachable!();
+        }
+        Ok(Sheet { writer })
+    }
+
     /// Adds the claim, where there is room for it.
     pub fn add(&mut self, claim: &Lent<'_>) -> bool
         requires { IsShort (lent_claim claim.now) }
@@ -112,15 +84,11 @@ impl Sheet {
     }
 
     /// The frame's bytes.
-    pub fn into_frame(self, kind: FrameKind) -> Payload
-        ensures { result ≡ frame_as kind self.writer.groups }
+    pub fn to_frame(&self, alloc: Global, kind: FrameKind) -> Result<Payload, NoMemory>
+        ensures { IfOk result (λ f. f ≡ frame_as kind self.now.writer.groups) }
     {
-        let Sheet { writer, mut copy } = self;
-        let Ok(()) = copy.extend_from_slice(writer.frame()) else {
-            unreachable!()
-        };
-        copy[1] = number_of(kind);
-        copy.shrink_to_fit();
-        Payload::from_vec(copy)
+        let mut bytes = Vec::from_slice(alloc, self.writer.frame())?;
+        bytes[1] = number_of(kind);
+        Ok(Payload::from_vec(bytes))
     }
 }

@@ -1,25 +1,16 @@
-use Rattle.std.proofs.Common.{◌≡◌, Option, sym, ap, ◌∙◌, subst, length, List}
-use Rattle.message_defs.specs.Statements as plain
+use Rattle.std.proofs.Common.{◌≡◌, sym, ap, ◌∙◌, subst, length, List}
+use Rattle.std.specs.Prelude.{OnOk}
 use Rattle.message_defs.specs.Packing.{Signed}
 use Rattle.group_defs.specs.Views as views
-use Rattle.group_defs.specs.Process.{Pool}
-use Rattle.claim_index.specs.Kept.{Holding}
 use Rattle.claim_pool.specs.Certificates.{content_of}
 use Rattle.stmt_codec.specs.Views.{slot}
-use Rattle.reliable_mcast.specs.Lists.{extended, HasRoom}
+use Rattle.reliable_mcast.specs.Lists.{extended}
 use Rattle.reliable_mcast.proofs.Certified.{certificate-parts}
 use Rattle.reliable_mcast.proofs.certificates.put_certificate.Goals as goal
 
-pub put_first-requires-clause-room : goal.put_first-requires-clause-room
-put_first-requires-clause-room g c =
+pub returns : goal.returns
+returns g c =
     let count = c.quorum-count.ensures.value ∙ ap (λ ms. views.quorum (length ms)) (c.members.ensures.value ∙ ap (λ (v : views.View). v.members) c.view.ensures) in
     let parts = certificate-parts c.args.pool.now.pool (slot c.number.result c.args.about.now) (slot g.K.CertKind.kind c.args.about.now) (content_of c.in-Some.certificate) c.signers.result c.quorum-count.result
     (ap (λ k. slot k c.args.about.now) c.number.ensures) (sym c.in-Some.ensures.content) (c.signers.ensures ∙ c.in-Some.ensures.signers) count in
-    subst (λ (cs : List Signed). HasRoom c.args.list.now (extended c.args.once c.args.list.now.claims cs)) parts c.requires.room
-
-pub returns-in-Some-clause-claims : goal.returns-in-Some-clause-claims
-returns-in-Some-clause-claims g c =
-    let count = c.quorum-count.ensures.value ∙ ap (λ ms. views.quorum (length ms)) (c.members.ensures.value ∙ ap (λ (v : views.View). v.members) c.view.ensures) in
-    let parts = certificate-parts c.args.pool.now.pool (slot c.number.result c.args.about.now) (slot g.K.CertKind.kind c.args.about.now) (content_of c.in-Some.certificate) c.signers.result c.quorum-count.result
-    (ap (λ k. slot k c.args.about.now) c.number.ensures) (sym c.in-Some.ensures.content) (c.signers.ensures ∙ c.in-Some.ensures.signers) count in
-    c.put_first.ensures.claims ∙ ap (extended c.args.once c.args.list.now.claims) (sym parts)
+    subst (λ (cs : List Signed). OnOk c.put_first.result (c.put_first.new.list ≡ extended c.args.once c.args.list.now cs)) (sym parts) c.put_first.ensures

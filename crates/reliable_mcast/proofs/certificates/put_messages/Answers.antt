@@ -1,25 +1,15 @@
-use Rattle.std.proofs.Common.{◌≡◌, ◌+◌, ◌++◌, drop, map, sym, ap, ◌∙◌, arith}
+use Rattle.std.proofs.Common.{◌+◌, drop, map, ap, ◌∙◌}
 use Rattle.group_defs.specs.Process.{Pool}
 use Rattle.group_defs.specs.Sending.{message_certificates}
 use Rattle.statements.specs.Batches.{message_of}
+use Rattle.reliable_mcast.specs.Lists.{extended}
 use Rattle.reliable_mcast.specs.Certificates.{all_signed, message_certificate}
 use Rattle.reliable_mcast.proofs.Walks.{drop-at, drop-past}
-use Rattle.reliable_mcast.proofs.Ways.{way-start, way-as, way-room, way-next, way-end, signed-next}
+use Rattle.reliable_mcast.proofs.Ways.{way-next, way-end, signed-next}
 use Rattle.reliable_mcast.proofs.certificates.put_messages.Goals as goal
 
 pub messages-init : goal.messages-init
-messages-init c =
-    let h : Pool = c.args.pool.now.pool in
-    way-as c.args.once c.args.list.now c.args.list.now _ _ _ (ap (λ b. all_signed (message_certificates h b)) (sym c.messages-sender-items.ensures.list)) (way-start c.args.once c.args.list.now (all_signed (message_certificates h c.args.batch.now)))
-
-pub put_message-requires-clause-room : goal.put_message-requires-clause-room
-put_message-requires-clause-room c =
-    let h : Pool = c.args.pool.now.pool in
-    let rest = drop (c.messages.sender-index + 1) c.messages-sender-items.result.now in
-    let next = ap (λ ms. all_signed (message_certificates h (map message_of ms))) (drop-at c.messages-sender-items.result.now c.messages.sender-index c.messages-item.result c.messages-test.true c.messages-item.is)
-    ∙ signed-next (message_certificate h) (message_of c.messages-item.result) (map message_of rest) in
-    way-room c.args.once c.args.list.now c.messages.list _ (all_signed (message_certificate h (message_of c.messages-item.result))) (all_signed (message_certificates h (map message_of rest))) c.requires.room
-    (way-as c.args.once c.args.list.now c.messages.list _ _ _ next c.messages.invariant)
+messages-init c = ap (λ b. extended c.args.once c.args.list.now (all_signed (message_certificates c.args.pool.now.pool b))) c.messages-sender-items.ensures.list
 
 pub messages-preserved : goal.messages-preserved
 messages-preserved c =
@@ -27,13 +17,9 @@ messages-preserved c =
     let rest = drop (c.messages.sender-index + 1) c.messages-sender-items.result.now in
     let next = ap (λ ms. all_signed (message_certificates h (map message_of ms))) (drop-at c.messages-sender-items.result.now c.messages.sender-index c.messages-item.result c.messages-test.true c.messages-item.is)
     ∙ signed-next (message_certificate h) (message_of c.messages-item.result) (map message_of rest) in
-    way-next c.args.once c.args.list.now c.messages.list c.put_message.new.list _ (all_signed (message_certificate h (message_of c.messages-item.result))) (all_signed (message_certificates h (map message_of rest)))
-    (way-as c.args.once c.args.list.now c.messages.list _ _ _ next c.messages.invariant) c.put_message.ensures.claims c.put_message.ensures.room
+    way-next c.args.once c.messages.list c.put_message.new.list _ _ (all_signed (message_certificate h (message_of c.messages-item.result))) (all_signed (message_certificates h (map message_of rest))) next c.messages.invariant c.in_ok-put_message.ensures
 
 pub returns : goal.returns
 returns c =
     let h : Pool = c.args.pool.now.pool in
-    record {
-      claims = way-end c.args.once c.args.list.now c.messages.list _ _ (ap (λ ms. all_signed (message_certificates h (map message_of ms))) (drop-past c.messages-sender-items.result.now c.messages.sender-index c.messages-test.false)) c.messages.invariant;
-      room = c.messages.invariant.room;
-    }
+    way-end c.args.once c.messages.list _ _ (ap (λ ms. all_signed (message_certificates h (map message_of ms))) (drop-past c.messages-sender-items.result.now c.messages.sender-index c.messages-test.false)) c.messages.invariant

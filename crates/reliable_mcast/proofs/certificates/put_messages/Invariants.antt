@@ -1,10 +1,9 @@
-use Rattle.std.proofs.Common.{drop, map}
+use Rattle.std.proofs.Common.{◌≡◌, drop, map}
 use Rattle.group_defs.specs.Sending.{message_certificates}
 use Rattle.statements.specs.Batches.{message_of}
 use Rattle.reliable_mcast.specs.Lists.{extended}
 use Rattle.reliable_mcast.specs.Certificates.{all_signed}
-use Rattle.reliable_mcast.proofs.Ways.{OnWay}
 use Rattle.reliable_mcast.proofs.certificates.put_messages.Given as goal
 
 abbrev pub invariant-messages : goal.invariant-messages
-invariant-messages l = OnWay l.once l.fn.list l.list (extended l.once l.fn.list.claims (all_signed (message_certificates l.pool.pool l.batch))) (all_signed (message_certificates l.pool.pool (map message_of (drop l.sender-index l.sender-items))))
+invariant-messages l = extended l.once l.list (all_signed (message_certificates l.pool.pool (map message_of (drop l.sender-index l.sender-items)))) ≡ extended l.once l.fn.list (all_signed (message_certificates l.pool.pool l.batch))

@@ -4,7 +4,7 @@ use Rattle.message_defs.specs.Packing.{Signed}
 use Rattle.group_defs.specs.Process.{Pool}
 use Rattle.group_defs.specs.Sending.{place_certificates}
 use Rattle.reliable_mcast.specs.Certificates.{all_signed}
-use Rattle.reliable_mcast.proofs.Ways.{way-as, way-room, way-next, way-end, signed-next}
+use Rattle.reliable_mcast.proofs.Ways.{way-next, way-end, signed-next}
 use Rattle.reliable_mcast.proofs.certificates.put_places.Goals as goal
 
 -- the places from this one on
@@ -14,25 +14,15 @@ left h next count = all_signed (flat_map (place_certificates h) (range_with_len 
 one-more : (h : Pool) (next count less : ℕ) → count ≡ suc less → left h next count ≡ all_signed (place_certificates h next) ++ left h (next + 1) less
 one-more h next count less e = ap (left h next) e ∙ signed-next (place_certificates h) next (range_with_len (next + 1) less)
 
-pub put_place-requires-clause-room : goal.put_place-requires-clause-room
-put_place-requires-clause-room c =
-    let h : Pool = c.args.pool.now.pool in
-    let less : ℕ = c.args.place + 8 - (c.places.next + 1) in
-    way-room false c.args.list.now c.places.list _ (all_signed (place_certificates h c.places.next)) (left h (c.places.next + 1) less) c.requires.room
-    (way-as false c.args.list.now c.places.list _ _ _ (one-more h c.places.next (c.args.place + 8 - c.places.next) less (omega arith)) c.places.invariant)
-
 pub places-preserved : goal.places-preserved
 places-preserved c =
     let h : Pool = c.args.pool.now.pool in
     let less : ℕ = c.args.place + 8 - (c.places.next + 1) in
-    way-next false c.args.list.now c.places.list c.put_place.new.list _ (all_signed (place_certificates h c.places.next)) (left h (c.places.next + 1) less)
-    (way-as false c.args.list.now c.places.list _ _ _ (one-more h c.places.next (c.args.place + 8 - c.places.next) less (omega arith)) c.places.invariant) c.put_place.ensures.claims c.put_place.ensures.room
+    way-next false c.places.list c.put_place.new.list _ _ (all_signed (place_certificates h c.places.next)) (left h (c.places.next + 1) less)
+    (one-more h c.places.next (c.args.place + 8 - c.places.next) less (omega arith)) c.places.invariant c.in_ok-put_place.ensures
 
 pub returns : goal.returns
 returns c =
     let h : Pool = c.args.pool.now.pool in
     let none : c.args.place + 8 - c.places.next ≡ 0 = omega arith in
-    record {
-      claims = way-end false c.args.list.now c.places.list _ _ (ap (left h c.places.next) none) c.places.invariant;
-      room = c.places.invariant.room;
-    }
+    way-end false c.places.list _ _ (ap (left h c.places.next) none) c.places.invariant

@@ -1,10 +1,9 @@
-use Rattle.std.proofs.Common.{◌+◌, ◌-◌, false}
+use Rattle.std.proofs.Common.{◌≡◌, ◌+◌, ◌-◌, false}
 use Rattle.std.specs.List.{flat_map, range_with_len}
 use Rattle.group_defs.specs.Sending.{place_certificates}
 use Rattle.reliable_mcast.specs.Lists.{extended}
 use Rattle.reliable_mcast.specs.Certificates.{all_signed}
-use Rattle.reliable_mcast.proofs.Ways.{OnWay}
 use Rattle.reliable_mcast.proofs.certificates.put_places.Given as goal
 
 abbrev pub invariant-places : goal.invariant-places
-invariant-places l = OnWay false l.fn.list l.list (extended false l.fn.list.claims (all_signed (flat_map (place_certificates l.pool.pool) (range_with_len l.place 8)))) (all_signed (flat_map (place_certificates l.pool.pool) (range_with_len l.next (l.place + 8 - l.next))))
+invariant-places l = extended false l.list (all_signed (flat_map (place_certificates l.pool.pool) (range_with_len l.next (l.place + 8 - l.next)))) ≡ extended false l.fn.list (all_signed (flat_map (place_certificates l.pool.pool) (range_with_len l.place 8)))

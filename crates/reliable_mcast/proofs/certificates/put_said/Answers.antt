@@ -1,29 +1,20 @@
 use Rattle.std.proofs.Common.{◌≡◌, List, [], ◌∷◌, Option, Some, sym, ap, ◌∙◌, subst}
+use Rattle.std.specs.Prelude.{OnOk}
 use Rattle.std.specs.Option.{option_map}
 use Rattle.std.specs.List.{cons_option}
 use Rattle.message_defs.specs.Statements as plain
 use Rattle.message_defs.specs.Packing.{Signed, signed_of}
 use Rattle.stmt_codec.specs.Views.{claim, slot}
-use Rattle.reliable_mcast.specs.Lists.{extended, HasRoom}
+use Rattle.reliable_mcast.specs.Lists.{extended}
 use Rattle.reliable_mcast.specs.Certificates.{all_signed, said_on, said_by}
 use Rattle.reliable_mcast.proofs.Certified.{said-ranged}
 use Rattle.reliable_mcast.proofs.certificates.put_said.Goals as goal
 
-pub put_claim-requires-clause-range : goal.put_claim-requires-clause-range
-put_claim-requires-clause-range c =
-    said-ranged c.args.pool.now.pool (slot c.args.kind c.args.about.now) c.args.member (claim c.in-Some.claim) c.requires.range (sym c.heard_claim.ensures.value ∙ ap (option_map claim) c.in-Some.is)
-
-pub put_claim-requires-clause-room : goal.put_claim-requires-clause-room
-put_claim-requires-clause-room c =
-    let said : said_on c.args.pool.now.pool (slot c.args.kind c.args.about.now) c.args.member ≡ Some (claim c.in-Some.claim) = sym c.heard_claim.ensures.value ∙ ap (option_map claim) c.in-Some.is in
-    let one : all_signed (said_by c.args.pool.now.pool (slot c.args.kind c.args.about.now) (c.args.member ∷ [])) ≡ signed_of (claim c.in-Some.claim) ∷ [] = ap (λ (o : Option plain.Claim). all_signed (cons_option o [])) said in
-    subst (λ (cs : List Signed). HasRoom c.args.list.now (extended c.args.once c.args.list.now.claims cs)) one c.requires.room
+pub put_claim-requires : goal.put_claim-requires
+put_claim-requires c = said-ranged c.args.pool.now.pool (slot c.args.kind c.args.about.now) c.args.member (claim c.in-Some.claim) c.requires (sym c.heard_claim.ensures.value ∙ ap (option_map claim) c.in-Some.is)
 
 pub returns-in-Some : goal.returns-in-Some
 returns-in-Some c =
     let said : said_on c.args.pool.now.pool (slot c.args.kind c.args.about.now) c.args.member ≡ Some (claim c.in-Some.claim) = sym c.heard_claim.ensures.value ∙ ap (option_map claim) c.in-Some.is in
     let one : all_signed (said_by c.args.pool.now.pool (slot c.args.kind c.args.about.now) (c.args.member ∷ [])) ≡ signed_of (claim c.in-Some.claim) ∷ [] = ap (λ (o : Option plain.Claim). all_signed (cons_option o [])) said in
-    record {
-      claims = c.put_claim.ensures.claims ∙ ap (extended c.args.once c.args.list.now.claims) (sym one);
-      room = c.put_claim.ensures.room;
-    }
+    subst (λ (cs : List Signed). OnOk c.put_claim.result (c.put_claim.new.list ≡ extended c.args.once c.args.list.now cs)) (sym one) c.put_claim.ensures

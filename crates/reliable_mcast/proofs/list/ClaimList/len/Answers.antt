@@ -1,8 +1,9 @@
-use Rattle.std.proofs.Common.{subst}
+use Rattle.std.proofs.Common.{subst, List}
 use Rattle.std.specs.List.{AllByRecursion}
-use Rattle.reliable_mcast.specs.Lists.{Listing, IsShort}
+use Rattle.message_defs.specs.Packing.{Signed}
+use Rattle.reliable_mcast.specs.Lists.{IsShort}
 use Rattle.reliable_mcast.proofs.Appended.{listed-short}
 use Rattle.reliable_mcast.proofs.list.ClaimList.len.Goals as goal
 
 pub returns-clause-short : goal.returns-clause-short
-returns-clause-short c = subst (λ (l : Listing). AllByRecursion IsShort l.claims) c.self.view_is (listed-short c.self.inside.bytes.items c.self.inside.listed.items c.self.invariant.each)
+returns-clause-short c = subst (λ (cs : List Signed). AllByRecursion IsShort cs) c.self.view_is (listed-short c.self.inside.bytes.items c.self.inside.listed.items c.self.invariant)

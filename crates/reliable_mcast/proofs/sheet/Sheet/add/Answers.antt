@@ -1,4 +1,4 @@
-use Rattle.std.proofs.Common.{◌≡◌, ◌≤◌, ap, sym, ◌∙◌, arith, length, subst, List, Bool, true, false}
+use Rattle.std.proofs.Common.{◌≤◌, sym, length, subst, List, Bool, true, false}
 use Rattle.std.specs.Prelude.{if◌then◌else◌}
 use Rattle.message_defs.specs.Frames.{Group}
 use Rattle.message_defs.specs.Packing.{Signed, add}
