@@ -1,0 +1,122 @@
+//! What an event that is not refused changes before anything is signed.
+ghost use Rattle.std.specs.Prelude.{◌≡◌, ◌-◌, ◌≤◌, length, map, insert, IfOk, OnOk, None};
+ghost use Rattle.std.specs.List.{AllByRecursion};
+ghost use Rattle.byte_defs.specs.Orders.{put, numbers_below};
+ghost use Rattle.message_defs.specs.Spelling.{IsClaim};
+ghost use Rattle.group_defs.specs.Process.{Setting, Process};
+ghost use Rattle.group_defs.specs.Hearing as hearing;
+ghost use Rattle.group_defs.specs.Events as defs;
+ghost use Rattle.group_defs.specs.Events.{Submit, refusal, perceives, perceived_numbers};
+ghost use Rattle.rp_base.specs.Views.{update as update_of};
+ghost use Rattle.stmt_codec.specs.Left.{claims_left};
+ghost use Rattle.ending_rules.specs.Perceiving.{asking};
+ghost use Rattle.claim_hearing.specs.Hearing.{Shares};
+ghost use Rattle.accounts.specs.Views.{account as account_of, perceived as perceived_of};
+ghost use Rattle.member_state.specs.States.{IsStateOf, IsReal};
+ghost use Rattle.member_taking.specs.Inputs.{handed, InRange, most_claims};
+
+use crate::inputs::Input;
+use accounts::Account;
+use claim_hearing::{Judge, hear_all};
+use ending_rules::perceive;
+use member_state::ProcessState;
+use rp_base::{NoMemory, Scheme, Update};
+use stmt_codec::{Claims, Payload};
+
+// Accepts the payload.
+fn accept(state: &mut ProcessState, payload: &[u8]) -> Result<(), NoMemory>
+    requires { length payload.now ≤ 1024 }
+    ensures { (s : Setting) (p : Process) → IsStateOf s p state.old → refusal s p (Submit payload.now) ≡ None → OnOk result (IsStateOf s (defs.take_in s p (Submit payload.now)) state.new) }
+{
+    let alloc = *state.account.accepted.allocator();
+    let bytes = Vec::from_slice(alloc, payload)?;
+    state.account.accepted.push(Payload::from_vec(bytes))?;
+    Ok(())
+}
+
+// Hears the claims, and tells how many of them are newly heard.
+fn hear<V: Scheme>(
+    state: &mut ProcessState,
+    judge: &Judge<'_, V>,
+    claims: Claims<'_>,
+) -> Result<u16, NoMemory>
+    requires real { IsReal state.old }
+    requires range { AllByRecursion IsClaim (claims_left claims) }
+    requires few { length (claims_left claims) ≤ most_claims }
+    ensures taken { (s : Setting) (p : Process) → Shares s (V.valid judge.now.scheme.now) judge.now.group.now judge.now.roster.now → IsStateOf s p state.old → OnOk result (IsStateOf s (hearing.hear_all s p (claims_left claims.entry)) state.new) }
+    ensures heard { (s : Setting) (p : Process) → Shares s (V.valid judge.now.scheme.now) judge.now.group.now judge.now.roster.now → IsStateOf s p state.old → IfOk result (λ n. n ≡ length (hearing.hear_all s p (claims_left claims.entry)).pool.heard - length p.pool.heard) }
+{
+    let before = state.pool.size().0;
+    hear_all(judge, &state.own, &mut state.pool, &mut state.conflicts, claims)?;
+    let newly = state.pool.size().0 - before;
+    Ok(newly as u16)
+}
+
+// Whether the one update, asked for in its view, stands before the other.
+fn stands_before(one: (u16, Update), other: (u16, Update)) -> bool
+    ensures { result ≡ numbers_below (perceived_numbers (perceived_of one)) (perceived_numbers (perceived_of other)) }
+{
+    one.0 < other.0 || (one.0 == other.0 && one.1.is_before(other.1))
+}
+
+// The place in the order where the update is put.
+fn place_among(all: &[(u16, Update)], one: (u16, Update)) -> usize
+    ensures within { result ≤ length all.now }
+    ensures place { map perceived_of (insert all.now result one) ≡ put perceived_numbers (perceived_of one) (map perceived_of all.now) }
+{
+    'updates: for place in 0..all.len() {
+        if stands_before(one, all[place]) {
+            return place;
+        }
+    }
+    all.len()
+}
+
+// Puts the update, with the number of the view, into its place among those that the process tells of.
+fn tell_perceived(account: &mut Account, one: (u16, Update)) -> Result<(), NoMemory>
+    ensures { OnOk result (account_of account.new ≡ record (account_of account.old) { perceived = put perceived_numbers (perceived_of one) (account_of account.old).perceived }) }
+{
+    let place = place_among(&account.perceived, one);
+    account.perceived.insert(place, one)?;
+    Ok(())
+}
+
+// The update is asked for in the current view.
+fn ask(state: &mut ProcessState, update: Update) -> Result<(), NoMemory>
+    ensures { (s : Setting) (p : Process) → IsStateOf s p state.old → refusal s p (asking (update_of update)) ≡ None → OnOk result (IsStateOf s (perceives p (update_of update)) state.new) }
+{
+    if state.perceived.contains(update) {
+        return Ok(());
+    }
+    let view = state.pool.view().number();
+    match perceive(&mut state.perceived, state.pool.view(), state.own.keyed, update) {
+        Ok(()) => tell_perceived(&mut state.account, (view, update)),
+        Err(_) => Ok(()),
+    }
+}
+
+/// Takes in what is handed to the process: a payload is accepted, claims are heard one by one, and an update is perceived in the
+/// current view. How many claims were newly heard. Without memory, the state is that of no process.
+pub fn take_in<V: Scheme>(
+    state: &mut ProcessState,
+    judge: &Judge<'_, V>,
+    input: Input<'_>,
+) -> Result<u16, NoMemory>
+    requires real { IsReal state.old }
+    requires range { InRange input }
+    ensures taken { (s : Setting) (p : Process) → Shares s (V.valid judge.now.scheme.now) judge.now.group.now judge.now.roster.now → IsStateOf s p state.old → refusal s p (handed input.entry) ≡ None → OnOk result (IsStateOf s (defs.take_in s p (handed input.entry)) state.new) }
+    ensures heard { (s : Setting) (p : Process) → Shares s (V.valid judge.now.scheme.now) judge.now.group.now judge.now.roster.now → IsStateOf s p state.old → refusal s p (handed input.entry) ≡ None → IfOk result (λ n. n ≡ length (defs.take_in s p (handed input.entry)).pool.heard - length p.pool.heard) }
+{
+    match input {
+        Input::Payload(payload) => {
+            accept(state, payload)?;
+            Ok(0)
+        }
+        Input::Claims { claims, .. } => hear(state, judge, claims),
+        Input::Update(update) => {
+            ask(state, update)?;
+            Ok(0)
+        }
+        Input::Want { .. } | Input::Tick => Ok(0),
+    }
+}
