@@ -52,20 +52,20 @@ fn hear<V: Scheme>(
     Ok(newly as u16)
 }
 
-// Whether the one update, asked for in its view, stands before the other.
-fn stands_before(one: (u16, Update), other: (u16, Update)) -> bool
-    ensures { result ≡ numbers_below (perceived_numbers (perceived_of one)) (perceived_numbers (perceived_of other)) }
+// Whether the update, asked for in the view of this number, stands before the other one.
+fn stands_before(view: u16, update: Update, other: &(u16, Update)) -> bool
+    ensures { result ≡ numbers_below (perceived_numbers (perceived_of (view, update))) (perceived_numbers (perceived_of other.now)) }
 {
-    one.0 < other.0 || (one.0 == other.0 && one.1.is_before(other.1))
+    view < other.0 || (view == other.0 && update.is_before(other.1))
 }
 
 // The place in the order where the update is put.
-fn place_among(all: &[(u16, Update)], one: (u16, Update)) -> usize
+fn place_among(all: &[(u16, Update)], view: u16, update: Update) -> usize
     ensures within { result ≤ length all.now }
-    ensures place { map perceived_of (insert all.now result one) ≡ put perceived_numbers (perceived_of one) (map perceived_of all.now) }
+    ensures place { map perceived_of (insert all.now result (view, update)) ≡ put perceived_numbers (perceived_of (view, update)) (map perceived_of all.now) }
 {
-    'updates: for place in 0..all.len() {
-        if stands_before(one, all[place]) {
+    'updates: for (place, other) in all.iter().enumerate() {
+        if stands_before(view, update, other) {
             return place;
         }
     }
@@ -73,11 +73,11 @@ fn place_among(all: &[(u16, Update)], one: (u16, Update)) -> usize
 }
 
 // Puts the update, with the number of the view, into its place among those that the process tells of.
-fn tell_perceived(account: &mut Account, one: (u16, Update)) -> Result<(), NoMemory>
-    ensures { OnOk result (account_of account.new ≡ record (account_of account.old) { perceived = put perceived_numbers (perceived_of one) (account_of account.old).perceived }) }
+fn tell_perceived(account: &mut Account, view: u16, update: Update) -> Result<(), NoMemory>
+    ensures { OnOk result (account_of account.new ≡ record (account_of account.old) { perceived = put perceived_numbers (perceived_of (view, update)) (account_of account.old).perceived }) }
 {
-    let place = place_among(&account.perceived, one);
-    account.perceived.insert(place, one)?;
+    let place = place_among(&account.perceived, view, update);
+    account.perceived.insert(place, (view, update))?;
     Ok(())
 }
 

@@ -1,0 +1,98 @@
+-- What the bytes of a frame say, and how many claims it has.
+use Rattle.std.proofs.Common.{◌≡◌, ℕ, suc, ◌+◌, ◌*◌, ◌≤◌, Bool, List, [], ◌∷◌, ◌++◌, Result, Ok, Err, refl, sym, ap, ◌∙◌, arith, length, length-append}
+use Rattle.std.specs.Prelude.{not, nat_le, nat_lt}
+use Rattle.std.specs.List.{AllByRecursion}
+use Rattle.std.proofs.lemmas.Bool.{leb-true}
+use Rattle.byte_defs.specs.Fields.{◌>>=◌, refuse_if}
+use Rattle.byte_defs.proofs.Fields.{bind_ok, refuse_ok}
+use Rattle.message_defs.specs.Limits.{last_process, last_number, most_places}
+use Rattle.message_defs.specs.declared.FrameFault.{FrameFault}
+use Rattle.message_defs.specs.declared.FrameFault.TheVariants.{Range}
+use Rattle.message_defs.specs.Reading.{statement_in}
+use Rattle.message_defs.specs.Statements.{Statement, Claim}
+use Rattle.message_defs.specs.Frames.{Group, IsGroup, FrameView, Bundle, Proof, Want, IsFrame, frame_of}
+use Rattle.message_defs.specs.Claims.{claims_on, claims_of_group, claims_of_groups, claims_of, Claims, Wants, Faulty, said, said_by, frame_said}
+use Rattle.frame_codec.specs.declared.groups.FrameView as code
+use Rattle.frame_codec.specs.declared.groups.FrameView.TheVariants as codes
+use Rattle.frame_codec.specs.Views.{groups_left, frame_view}
+use Rattle.pool_laws.proofs.Tests.{not-false}
+
+-- of a group as many as it has signatures
+length-claims_on : (st : Statement) (signatures : List (ℕ × List ℕ)) (cs : List Claim) → claims_on st signatures ≡ Ok cs → length cs ≡ length signatures
+unfolding claims_on
+length-claims_on st [] cs e = let same : [] ≡ cs = cc in ap length (sym same)
+length-claims_on st (s ∷ more) cs e =
+    let passed = refuse_ok (nat_lt last_process s.0) Range (λ _. claims_on st more >>= λ others. Ok (record { signer = s.0; statement = st; signature = s.1 } ∷ others)) cs e in
+    let rest = bind_ok (claims_on st more) (λ others. Ok (record { signer = s.0; statement = st; signature = s.1 } ∷ others)) cs passed.1 in
+    let same : record { signer = s.0; statement = st; signature = s.1 } ∷ rest.0 ≡ cs = cc in
+    ap length (sym same) ∙ ap suc (length-claims_on st more rest.0 rest.1)
+
+module _ (carries : ℕ → Bool) where
+  length-of_group : (g : Group) (cs : List Claim) → claims_of_group carries g ≡ Ok cs → length cs ≡ length g.signatures
+  unfolding claims_of_group
+  length-of_group g cs e =
+      let read = bind_ok (statement_in carries g.statement) (λ st. claims_on st g.signatures) cs e in
+      length-claims_on read.0 g.signatures cs read.2
+
+  -- of several groups at most 16 for each
+  length-of_groups : (gs : List Group) (cs : List Claim) → AllByRecursion IsGroup gs → claims_of_groups carries gs ≡ Ok cs → length cs ≤ 16 * length gs
+  unfolding claims_of_groups
+  length-of_groups [] cs each e = (let none : [] ≡ cs = cc in let zero = ap length none in omega (arith, zero))
+  length-of_groups (g ∷ gs) cs each e =
+      let first = bind_ok (claims_of_group carries g) (λ first. claims_of_groups carries gs >>= λ others. Ok (first ++ others)) cs e in
+      let rest = bind_ok (claims_of_groups carries gs) (λ others. Ok (first.0 ++ others)) cs first.2 in
+      let same : first.0 ++ rest.0 ≡ cs = cc in
+      let all = ap length (sym same) ∙ length-append first.0 rest.0 in
+      let one = length-of_group g first.0 first.1 in
+      let few = each.0.few in
+      let others = length-of_groups gs rest.0 each.1 rest.1 in
+      omega (arith, all, one, few, others)
+
+-- so a frame has few
+pub length-of : (f : FrameView) (cs : List Claim) → IsFrame f → claims_of f ≡ Ok cs → length cs ≤ 65025
+unfolding claims_of
+length-of (Bundle gs) cs ok e = (let all = length-of_groups _ gs cs ok.parts.each e in let few = ok.parts.few in omega (arith, all, few))
+length-of (Proof gs) cs ok e = (let all = length-of_groups _ gs cs ok.parts.each e in let few = ok.parts.few in omega (arith, all, few))
+length-of (Want x k) cs ok e =
+    let one = refuse_ok (not (nat_le x last_number)) Range (λ _. refuse_if (not (nat_le k most_places)) Range >>= λ _. Ok []) cs e in
+    let two = refuse_ok (not (nat_le k most_places)) Range (λ _. Ok []) cs one.1 in
+    let none : [] ≡ cs = cc in
+    let zero = ap length none in
+    omega (arith, zero)
+
+-- ---- what the bytes say
+
+-- bytes that are no frame are faulty
+pub said-fault : (bytes : List ℕ) (fault : FrameFault) → frame_of bytes ≡ Err fault → frame_said bytes ≡ Faulty fault
+unfolding frame_said
+said-fault bytes fault e = ap said_by e
+
+-- and so is a frame whose claims are
+pub said-claims-fault : (bytes : List ℕ) (f : FrameView) (fault : FrameFault) → frame_of bytes ≡ Ok f → claims_of f ≡ Err fault → frame_said bytes ≡ Faulty fault
+unfolding frame_said
+said-claims-fault bytes f fault e claims = ap said_by e ∙ go f (claims_of f) claims
+  where
+    go : (f : FrameView) (r : Result (List Claim) FrameFault) → r ≡ Err fault → said f r ≡ Faulty fault
+    go (Bundle gs) r e = ap (said (Bundle gs)) e
+    go (Proof gs) r e = ap (said (Proof gs)) e
+    go (Want x k) r e = ap (said (Want x k)) e
+
+-- a Want says its view and its place
+pub said-want : (bytes : List ℕ) (x k : ℕ) (cs : List Claim) → frame_of bytes ≡ Ok (Want x k) → claims_of (Want x k) ≡ Ok cs → frame_said bytes ≡ Wants x k
+unfolding frame_said
+said-want bytes x k cs e claims = ap said_by e ∙ ap (said (Want x k)) claims
+
+-- another frame says its claims
+pub said-claims : (bytes : List ℕ) (f : code.FrameView) (cs : List Claim) → ((x k : ℕ) → f ≡ codes.Want x k → ⊥) → frame_of bytes ≡ Ok (frame_view f) → claims_of (frame_view f) ≡ Ok cs → frame_said bytes ≡ Claims cs
+unfolding frame_said
+said-claims bytes (codes.Bundle gs) cs not' e claims = ap said_by e ∙ ap (said (Bundle (groups_left gs))) claims
+said-claims bytes (codes.Proof gs) cs not' e claims = ap said_by e ∙ ap (said (Proof (groups_left gs))) claims
+said-claims bytes (codes.Want x k) cs not' e claims = absurd (not' x k refl)
+
+-- a Want that is read is in range
+pub want-range : (x k : ℕ) (cs : List Claim) → claims_of (Want x k) ≡ Ok cs → (x ≤ last_number) × (k ≤ most_places)
+unfolding claims_of
+want-range x k cs e =
+    let one = refuse_ok (not (nat_le x last_number)) Range (λ _. refuse_if (not (nat_le k most_places)) Range >>= λ _. Ok []) cs e in
+    let two = refuse_ok (not (nat_le k most_places)) Range (λ _. Ok []) cs one.1 in
+    (leb-true x last_number (not-false (nat_le x last_number) one.0), leb-true k most_places (not-false (nat_le k most_places) two.0))
