@@ -23,7 +23,7 @@ abbrev pub with_hearing : Process → List Claim → List (Claim × Claim) → P
 with_hearing p heard pairs = record p { pool = record { view = p.pool.view; heard = heard }; conflicts = pairs }
 
 -- hearing a claim changes nothing else
-hear-changes : (s : Setting) (p : Process) (c : Claim) → hear s p c ≡ with_hearing p (hear s p c).pool.heard (hear s p c).conflicts
+pub hear-changes : (s : Setting) (p : Process) (c : Claim) → hear s p c ≡ with_hearing p (hear s p c).pool.heard (hear s p c).conflicts
 hear-changes s p c = go (verdict s p c)
   where
     go : (v : Verdict) → with_verdict v p c ≡ with_hearing p (with_verdict v p c).pool.heard (with_verdict v p c).conflicts

@@ -1,3 +1,5 @@
 pub mod Heard
 pub mod Said
 pub mod Placed
+pub mod Refused
+pub mod States

@@ -4,7 +4,8 @@ ghost use Rattle.std.specs.Option.{option_map};
 ghost use Rattle.std.specs.Result.{result_err};
 ghost use Rattle.group_defs.specs.Views as views;
 ghost use Rattle.group_defs.specs.Process.{Setting, Process, earlier, delivered_from};
-ghost use Rattle.group_defs.specs.Events.{Submit, refusal};
+ghost use Rattle.message_defs.specs.Claims.{frame_said};
+ghost use Rattle.group_defs.specs.Events.{Submit, Hand, refusal};
 ghost use Rattle.rp_base.specs.Views.{update as update_of};
 ghost use Rattle.ending_rules.specs.Perceiving.{asking, fault as fault_of};
 ghost use Rattle.member_state.specs.States.{IsStateOf, IsReal};
@@ -15,7 +16,7 @@ use crate::inputs::{Input, read_frame};
 use ending_rules::perceive;
 use member_state::ProcessState;
 use multicast_rules::counts_of;
-use rp_base::Update;
+use rp_base::{Pid, Update};
 use stmt_codec::{Event, EventFault, PAYLOAD_BYTES};
 
 /// The most accepted payloads that are not delivered yet.
@@ -56,28 +57,57 @@ fn payload_fault(state: &ProcessState, payload: &[u8]) -> Option<EventFault>
 }
 
 // Why the update is refused by a process that has not halted, if it is.
-fn update_fault(state: &ProcessState, update: Update) -> Option<EventFault>
-    ensures { (s : Setting) (p : Process) → IsStateOf s p state.now → p.halted ≡ false → refusal s p (asking (update_of update)) ≡ option_map fault_of result }
+fn update_fault(state: &ProcessState, update: &Update) -> Option<EventFault>
+    ensures { (s : Setting) (p : Process) → IsStateOf s p state.now → p.halted ≡ false → refusal s p (asking (update_of update.now)) ≡ option_map fault_of result }
 {
     if !is_member(state) {
         return Some(EventFault::Outsider);
     }
     let mut asked = state.perceived;
-    perceive(&mut asked, state.pool.view(), state.own.keyed, update).err()
-}
-
-// The input, where nothing refuses it.
-fn unless<'a>(fault: Option<EventFault>, input: Input<'a>) -> Result<Input<'a>, EventFault>
-    ensures input { IfOk result (λ i. (i ≡ input.entry) × (fault ≡ None)) }
-    ensures fault { IfErr result (λ f. fault ≡ Some f) }
-{
-    match fault {
-        Some(fault) => Err(fault),
-        None => Ok(input),
+    match perceive(&mut asked, state.pool.view(), state.own.keyed, *update) {
+        Ok(()) => None,
+        Err(fault) => Some(fault),
     }
 }
 
-// The input of an event, where the process has not halted.
+// The payload as an input of a process that has not halted, or why it is refused.
+fn admit_payload<'a>(state: &ProcessState, payload: &'a [u8]) -> Result<Input<'a>, EventFault>
+    requires real { IsReal state.now }
+    ensures read { IfOk result (λ i. Submit payload.now ≡ handed i) }
+    ensures range { IfOk result InRange }
+    ensures exactly { (s : Setting) (p : Process) → IsStateOf s p state.now → p.halted ≡ false → refusal s p (Submit payload.now) ≡ option_map fault_of (result_err result) }
+{
+    match payload_fault(state, payload) {
+        Some(fault) => Err(fault),
+        None => Ok(Input::Payload(payload)),
+    }
+}
+
+// The update as an input of a process that has not halted, or why it is refused.
+fn admit_update<'a>(state: &ProcessState, update: Update) -> Result<Input<'a>, EventFault>
+    ensures read { IfOk result (λ i. asking (update_of update) ≡ handed i) }
+    ensures range { IfOk result InRange }
+    ensures exactly { (s : Setting) (p : Process) → IsStateOf s p state.now → p.halted ≡ false → refusal s p (asking (update_of update)) ≡ option_map fault_of (result_err result) }
+{
+    match update_fault(state, &update) {
+        Some(fault) => Err(fault),
+        None => Ok(Input::Update(update)),
+    }
+}
+
+// What the frame hands to a process that has not halted, or the first fault in its bytes.
+fn admit_frame<'a>(from: Pid, bytes: &'a [u8]) -> Result<Input<'a>, EventFault>
+    ensures read { IfOk result (λ i. Hand from (frame_said bytes.now) ≡ handed i) }
+    ensures range { IfOk result InRange }
+    ensures exactly { (s : Setting) (p : Process) → p.halted ≡ false → refusal s p (Hand from (frame_said bytes.now)) ≡ option_map fault_of (result_err result) }
+{
+    match read_frame(from, bytes) {
+        Ok(input) => Ok(input),
+        Err(fault) => Err(EventFault::BadFrame(fault)),
+    }
+}
+
+// What the event hands to a process that has not halted, or why it is refused.
 fn admit_running<'a>(state: &ProcessState, event: &Event<'a>) -> Result<Input<'a>, EventFault>
     requires real { IsReal state.now }
     ensures read { IfOk result (λ i. event_of event.now ≡ handed i) }
@@ -85,14 +115,11 @@ fn admit_running<'a>(state: &ProcessState, event: &Event<'a>) -> Result<Input<'a
     ensures exactly { (s : Setting) (p : Process) → IsStateOf s p state.now → p.halted ≡ false → refusal s p (event_of event.now) ≡ option_map fault_of (result_err result) }
 {
     match *event {
-        Event::Submit(payload) => unless(payload_fault(state, payload), Input::Payload(payload)),
-        Event::Frame { from, bytes } => match read_frame(from, bytes) {
-            Ok(input) => Ok(input),
-            Err(fault) => Err(EventFault::BadFrame(fault)),
-        },
-        Event::Suspect(p) => unless(update_fault(state, Update::Remove(p)), Input::Update(Update::Remove(p))),
-        Event::Join(p) => unless(update_fault(state, Update::Add(p)), Input::Update(Update::Add(p))),
-        Event::Renew => unless(update_fault(state, Update::Renew), Input::Update(Update::Renew)),
+        Event::Submit(payload) => admit_payload(state, payload),
+        Event::Frame { from, bytes } => admit_frame(from, bytes),
+        Event::Suspect(p) => admit_update(state, Update::Remove(p)),
+        Event::Join(p) => admit_update(state, Update::Add(p)),
+        Event::Renew => admit_update(state, Update::Renew),
         Event::Tick => Ok(Input::Tick),
     }
 }

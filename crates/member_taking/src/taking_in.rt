@@ -25,8 +25,9 @@ use stmt_codec::{Claims, Payload};
 
 // Accepts the payload.
 fn accept(state: &mut ProcessState, payload: &[u8]) -> Result<(), NoMemory>
-    requires { length payload.now ≤ 1024 }
-    ensures { (s : Setting) (p : Process) → IsStateOf s p state.old → refusal s p (Submit payload.now) ≡ None → OnOk result (IsStateOf s (defs.take_in s p (Submit payload.now)) state.new) }
+    requires short { length payload.now ≤ 1024 }
+    requires admitted { (s : Setting) (p : Process) → IsStateOf s p state.old → refusal s p (Submit payload.now) ≡ None }
+    ensures { (s : Setting) (p : Process) → IsStateOf s p state.old → OnOk result (IsStateOf s (defs.take_in s p (Submit payload.now)) state.new) }
 {
     let alloc = *state.account.accepted.allocator();
     let bytes = Vec::from_slice(alloc, payload)?;
@@ -34,7 +35,7 @@ fn accept(state: &mut ProcessState, payload: &[u8]) -> Result<(), NoMemory>
     Ok(())
 }
 
-// Hears the claims, and tells how many of them are newly heard.
+// Hears the claims, and tells how many of them are newly heard. The process may be one of another setting than the judge.
 fn hear<V: Scheme>(
     state: &mut ProcessState,
     judge: &Judge<'_, V>,
@@ -43,8 +44,8 @@ fn hear<V: Scheme>(
     requires real { IsReal state.old }
     requires range { AllByRecursion IsClaim (claims_left claims) }
     requires few { length (claims_left claims) ≤ most_claims }
-    ensures taken { (s : Setting) (p : Process) → Shares s (V.valid judge.now.scheme.now) judge.now.group.now judge.now.roster.now → IsStateOf s p state.old → OnOk result (IsStateOf s (hearing.hear_all s p (claims_left claims.entry)) state.new) }
-    ensures heard { (s : Setting) (p : Process) → Shares s (V.valid judge.now.scheme.now) judge.now.group.now judge.now.roster.now → IsStateOf s p state.old → IfOk result (λ n. n ≡ length (hearing.hear_all s p (claims_left claims.entry)).pool.heard - length p.pool.heard) }
+    ensures taken { (s r : Setting) (p : Process) → Shares r (V.valid judge.now.scheme.now) judge.now.group.now judge.now.roster.now → IsStateOf s p state.old → OnOk result (IsStateOf s (hearing.hear_all r p (claims_left claims.entry)) state.new) }
+    ensures heard { (s r : Setting) (p : Process) → Shares r (V.valid judge.now.scheme.now) judge.now.group.now judge.now.roster.now → IsStateOf s p state.old → IfOk result (λ n. n ≡ length (hearing.hear_all r p (claims_left claims.entry)).pool.heard - length p.pool.heard) }
 {
     let before = state.pool.size().0;
     hear_all(judge, &state.own, &mut state.pool, &mut state.conflicts, claims)?;
@@ -53,16 +54,16 @@ fn hear<V: Scheme>(
 }
 
 // Whether the update, asked for in the view of this number, stands before the other one.
-fn stands_before(view: u16, update: Update, other: &(u16, Update)) -> bool
-    ensures { result ≡ numbers_below (perceived_numbers (perceived_of (view, update))) (perceived_numbers (perceived_of other.now)) }
+fn stands_before(view: u16, update: &Update, other: &(u16, Update)) -> bool
+    ensures { result ≡ numbers_below (perceived_numbers (perceived_of (view, update.now))) (perceived_numbers (perceived_of other.now)) }
 {
     view < other.0 || (view == other.0 && update.is_before(other.1))
 }
 
 // The place in the order where the update is put.
-fn place_among(all: &[(u16, Update)], view: u16, update: Update) -> usize
+fn place_among(all: &[(u16, Update)], view: u16, update: &Update) -> usize
     ensures within { result ≤ length all.now }
-    ensures place { map perceived_of (insert all.now result (view, update)) ≡ put perceived_numbers (perceived_of (view, update)) (map perceived_of all.now) }
+    ensures place { map perceived_of (insert all.now result (view, update.now)) ≡ put perceived_numbers (perceived_of (view, update.now)) (map perceived_of all.now) }
 {
     'updates: for (place, other) in all.iter().enumerate() {
         if stands_before(view, update, other) {
@@ -73,30 +74,33 @@ fn place_among(all: &[(u16, Update)], view: u16, update: Update) -> usize
 }
 
 // Puts the update, with the number of the view, into its place among those that the process tells of.
-fn tell_perceived(account: &mut Account, view: u16, update: Update) -> Result<(), NoMemory>
-    ensures { OnOk result (account_of account.new ≡ record (account_of account.old) { perceived = put perceived_numbers (perceived_of (view, update)) (account_of account.old).perceived }) }
+fn tell_perceived(account: &mut Account, view: u16, update: &Update) -> Result<(), NoMemory>
+    ensures { OnOk result (account_of account.new ≡ record (account_of account.old) { perceived = put perceived_numbers (perceived_of (view, update.now)) (account_of account.old).perceived }) }
 {
     let place = place_among(&account.perceived, view, update);
-    account.perceived.insert(place, (view, update))?;
+    account.perceived.insert(place, (view, *update))?;
     Ok(())
 }
 
 // The update is asked for in the current view.
-fn ask(state: &mut ProcessState, update: Update) -> Result<(), NoMemory>
-    ensures { (s : Setting) (p : Process) → IsStateOf s p state.old → refusal s p (asking (update_of update)) ≡ None → OnOk result (IsStateOf s (perceives p (update_of update)) state.new) }
+fn ask(state: &mut ProcessState, update: &Update) -> Result<(), NoMemory>
+    requires real { IsReal state.old }
+    requires admitted { (s : Setting) (p : Process) → IsStateOf s p state.old → refusal s p (asking (update_of update.now)) ≡ None }
+    ensures { (s : Setting) (p : Process) → IsStateOf s p state.old → OnOk result (IsStateOf s (perceives p (update_of update.now)) state.new) }
 {
-    if state.perceived.contains(update) {
+    if state.perceived.contains(*update) {
         return Ok(());
     }
-    let view = state.pool.view().number();
-    match perceive(&mut state.perceived, state.pool.view(), state.own.keyed, update) {
-        Ok(()) => tell_perceived(&mut state.account, (view, update)),
-        Err(_) => Ok(()),
-    }
+    let view = state.pool.view();
+    let Ok(()) = perceive(&mut state.perceived, view, state.own.keyed, *update) else {
+        unreachable!()
+    };
+    tell_perceived(&mut state.account, state.pool.view().number(), update)
 }
 
 /// Takes in what is handed to the process: a payload is accepted, claims are heard one by one, and an update is perceived in the
-/// current view. How many claims were newly heard. Without memory, the state is that of no process.
+/// current view. How many claims were newly heard. The process does not refuse the input. Without memory, the state is that of no
+/// process.
 pub fn take_in<V: Scheme>(
     state: &mut ProcessState,
     judge: &Judge<'_, V>,
@@ -104,15 +108,17 @@ pub fn take_in<V: Scheme>(
 ) -> Result<u16, NoMemory>
     requires real { IsReal state.old }
     requires range { InRange input }
-    ensures taken { (s : Setting) (p : Process) → Shares s (V.valid judge.now.scheme.now) judge.now.group.now judge.now.roster.now → IsStateOf s p state.old → refusal s p (handed input.entry) ≡ None → OnOk result (IsStateOf s (defs.take_in s p (handed input.entry)) state.new) }
-    ensures heard { (s : Setting) (p : Process) → Shares s (V.valid judge.now.scheme.now) judge.now.group.now judge.now.roster.now → IsStateOf s p state.old → refusal s p (handed input.entry) ≡ None → IfOk result (λ n. n ≡ length (defs.take_in s p (handed input.entry)).pool.heard - length p.pool.heard) }
+    requires admitted { (s : Setting) (p : Process) → IsStateOf s p state.old → refusal s p (handed input) ≡ None }
+    ensures taken { (s : Setting) (p : Process) → Shares s (V.valid judge.now.scheme.now) judge.now.group.now judge.now.roster.now → IsStateOf s p state.old → OnOk result (IsStateOf s (defs.take_in s p (handed input.entry)) state.new) }
+    ensures heard { (s : Setting) (p : Process) → Shares s (V.valid judge.now.scheme.now) judge.now.group.now judge.now.roster.now → IsStateOf s p state.old → IfOk result (λ n. n ≡ length (defs.take_in s p (handed input.entry)).pool.heard - length p.pool.heard) }
+    ensures real { OnOk result (IsReal state.new) }
 {
-    match input {
+    match &input {
         Input::Payload(payload) => {
             accept(state, payload)?;
             Ok(0)
         }
-        Input::Claims { claims, .. } => hear(state, judge, claims),
+        Input::Claims { claims, .. } => hear(state, judge, *claims),
         Input::Update(update) => {
             ask(state, update)?;
             Ok(0)
