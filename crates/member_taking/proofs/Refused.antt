@@ -23,6 +23,13 @@ use Rattle.member_state.specs.States.{halted_at}
 
 -- ---- a halted process
 
+abbrev pub pair : ℕ → ℕ → ℕ × ℕ
+pair n k = (n, k)
+
+-- what it tells of its halt, decided so
+abbrev told : Process → ℕ × Value → ℕ × ℕ
+told p d = (places_in p.delivered, d.1.cut)
+
 halted-phase : (p : Process) → p.halted ≡ true → phase_of p ≡ settle.HaltedView
 halted-phase p e = ap (λ b. unwrap_or (first_that_holds ((b, settle.HaltedView) ∷ (is_some p.decision, settle.DecidedView) ∷ (not (is_member p.pool.view p.me), settle.Observing) ∷ (is_ended p, settle.ClosingView) ∷ [])) settle.OpenView) e
 
@@ -41,21 +48,21 @@ runs phase p is none = go p.halted refl
     go false e = e
     go true e =
         let by = halted-decided phase p is e in
-        let there : halted_at p ≡ Some (places_in p.delivered, by.0.1.cut) = ap (option_and_then (λ (d : ℕ × Value). if p.halted then Some (places_in p.delivered, d.1.cut) else None)) by.1 ∙ ap (λ b. if b then Some (places_in p.delivered, by.0.1.cut) else None) e in
-        let clash : Some (places_in p.delivered, by.0.1.cut) ≡ None = sym there ∙ none in
+        let there : halted_at p ≡ Some (told p by.0) = ap (option_and_then (λ (d : ℕ × Value). if p.halted then Some (told p d) else None)) by.1 ∙ ap (λ b. if b then Some (told p by.0) else None) e in
+        let clash : Some (told p by.0) ≡ None = sym there ∙ none in
         absurd cc
 
 -- where it tells of its halt, it refuses every event so
-pub refused-halted : (s : Setting) (p : Process) (e : Event) (n k : ℕ) → halted_at p ≡ Some (n, k) → refusal s p e ≡ Some (HaltedNow n k)
+pub refused-halted : (s : Setting) (p : Process) (e : Event) (n k : ℕ) → halted_at p ≡ Some (pair n k) → refusal s p e ≡ Some (HaltedNow n k)
 refused-halted s p e n k at =
-    let by = then-some (λ (d : ℕ × Value). if p.halted then Some (places_in p.delivered, d.1.cut) else None) p.decision (n, k) at in
+    let by = then-some (λ (d : ℕ × Value). if p.halted then Some (told p d) else None) p.decision (pair n k) at in
     go p.halted refl by.0 by.1 by.2
   where
-    go : (b : Bool) → p.halted ≡ b → (d : ℕ × Value) → p.decision ≡ Some d → (if b then Some (places_in p.delivered, d.1.cut) else None) ≡ Some (n, k) → refusal s p e ≡ Some (HaltedNow n k)
+    go : (b : Bool) → p.halted ≡ b → (d : ℕ × Value) → p.decision ≡ Some d → (if b then Some (told p d) else None) ≡ Some (pair n k) → refusal s p e ≡ Some (HaltedNow n k)
     go true h d decision same =
         ap (λ b. first_that_holds ((b, HaltedNow (places_in p.delivered) (option_map_or (λ d. d.1.cut) p.decision 0)) ∷ refusals s p e)) h
         ∙ ap (λ o. Some (HaltedNow (places_in p.delivered) (option_map_or (λ (d : ℕ × Value). d.1.cut) o 0))) decision
-        ∙ ap (λ (at : ℕ × ℕ). Some (HaltedNow at.0 at.1)) (some-same (places_in p.delivered, d.1.cut) (n, k) same)
+        ∙ ap (λ (at : ℕ × ℕ). Some (HaltedNow at.0 at.1)) (some-same (told p d) (pair n k) same)
     go false h d decision same = absurd cc
 
 -- ---- a process that has not halted

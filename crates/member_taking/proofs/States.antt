@@ -5,7 +5,6 @@ use Rattle.std.specs.List.{AllByRecursion}
 use Rattle.std.specs.Option.{option_map_or}
 use Rattle.byte_defs.specs.Members.{has}
 use Rattle.std.proofs.lemmas.Bool.{eqb-true, eq-eqb}
-use Rattle.std.proofs.lemmas.List.{length-map}
 use Rattle.byte_defs.specs.Choices.{first_that_holds}
 use Rattle.byte_defs.specs.Orders.{put}
 use Rattle.message_defs.specs.Limits.{most_payload_bytes}
@@ -13,7 +12,7 @@ use Rattle.message_defs.specs.Spelling.{IsClaim, IsUpdate}
 use Rattle.message_defs.specs.Updates.{Update, Value, Remove, Add, Renew}
 use Rattle.message_defs.specs.Statements.{Claim, ReadyAt}
 use Rattle.group_defs.specs.Views.{is_member}
-use Rattle.group_defs.specs.Process.{Setting, Process, keyed, earlier, delivered_from, places_in}
+use Rattle.group_defs.specs.Process.{Setting, Pool, Process, keyed, earlier, delivered_from, places_in}
 use Rattle.group_defs.specs.Certified.{value_at, number_of_members}
 use Rattle.group_defs.specs.Hearing.{hear, hear_all}
 use Rattle.group_defs.specs.Due.{is_perceived}
@@ -34,23 +33,23 @@ use Rattle.view_phases.specs.declared.phases.Phase.TheVariants.{Observing, OpenV
 use Rattle.view_phases.specs.Phases.{IsIn}
 use Rattle.reliable_mcast.specs.Archives.{Keeps}
 use Rattle.member_laws.specs.Lawful.{IsLawful}
-use Rattle.member_laws.proofs.Lawful.{hearing_is_lawful, accepting_is_lawful}
+use Rattle.member_laws.proofs.Lawful.{hearing_is_lawful}
 use Rattle.accounts.specs.Views.{account as account_as}
 use Rattle.accounts.specs.declared.account.Account as code
 use Rattle.member_state.specs.declared.state.ProcessState.{ProcessState}
 use Rattle.member_state.specs.Bounds.{IsBounded}
 use Rattle.member_state.specs.States.{IsStateOf, IsReal, IsDecision, ArePairs}
-use Rattle.member_taking.proofs.Heard.{with_hearing, hear-changes, hear-value, hear-pairs, all-keep, all-change, AreOfOne, IsOnce}
-
--- ---- what the state says of the process
-
--- the counts have an entry for each member
-pub counted : (st : ProcessState) → IsReal st → length st.own.counts.items ≡ number_of_members st.pool.pool
-counted st real =
-    let place = real.state.place in
-    ap length (sym place.delivered.counts) ∙ length-map (λ m. delivered_from m real.process.delivered) real.process.pool.view.members ∙ ap number_of_members place.pool
+use Rattle.member_taking.proofs.Heard.{with_hearing, hear-changes, hear-value, hear-pairs, all-keep, all-change, all-length, AreOfOne, IsOnce}
 
 -- ---- hearing
+
+-- none is forgotten, and no more are newly heard than there are claims
+pub newly-heard : (r : Setting) (p : Process) (cs : List Claim) (old new : Pool) (pairs : List (Claim × Claim)) → p.pool ≡ old → IsHeard (hear_all r p cs) new pairs → (length old.heard ≤ length new.heard) × (length new.heard ≤ length old.heard + length cs)
+newly-heard r p cs old new pairs same heard =
+    let one = all-length r p cs in
+    let before = ap (λ (h : Pool). length h.heard) same in
+    let after = ap (λ (h : Pool). length h.heard) heard.pool in
+    (omega (arith, one.0, before, after), omega (arith, one.1, before, after))
 
 -- a phase looks at nothing that hearing changes
 phase-stays : (phase : Phase) (p : Process) (heard : List Claim) (pairs : List (Claim × Claim)) → IsIn phase p → IsIn phase (with_hearing p heard pairs)
@@ -66,15 +65,7 @@ phase-stays (HaltedView h) p heard pairs is = record { phase = is.phase; decisio
 hear-members : (r : Setting) (q : Process) (c : Claim) → number_of_members (hear r q c).pool ≡ number_of_members q.pool
 hear-members r q c = ap (λ (x : Process). number_of_members x.pool) (hear-changes r q c)
 
--- a phase looks at nothing that accepting changes
-accepting-phase : (phase : Phase) (p : Process) (accepted : List (List ℕ)) → IsIn phase p → IsIn phase (record p { accepted = accepted })
-accepting-phase (Observing o) p accepted is = is
-accepting-phase (OpenView o) p accepted is = is
-accepting-phase (ClosingView k) p accepted is = record { phase = is.phase; length = is.length }
-accepting-phase (DecidedView d) p accepted is = record { phase = is.phase; decision = is.decision }
-accepting-phase (HaltedView h) p accepted is = record { phase = is.phase; decision = is.decision; delivered = is.delivered }
-
--- nor at what perceiving changes
+-- a phase looks at nothing that perceiving changes
 perceiving-phase : (phase : Phase) (p : Process) (perceived : List (ℕ × Update)) → IsIn phase p → IsIn phase (record p { perceived = perceived })
 perceiving-phase (Observing o) p perceived is = is
 perceiving-phase (OpenView o) p perceived is = is
@@ -113,17 +104,6 @@ perceiving-hears p u = go (is_perceived p (p.pool.view.number, u))
     go : (b : Bool) → (let q : Process = if b then p else record p { perceived = put perceived_numbers (p.pool.view.number, u) p.perceived } in q.pool ≡ p.pool)
     go true = refl
     go false = refl
-
--- a payload that is not refused is not the 257th that waits
-no-backlog : (s : Setting) (p : Process) (payload : List ℕ) → refusal s p (Submit payload) ≡ None → length p.accepted - (earlier p + delivered_from p.me p.delivered) ≢ 256
-no-backlog s p payload admitted is = go p.halted (not (is_member p.pool.view p.me)) (nat_lt most_payload_bytes (length payload)) (length p.accepted - (earlier p + delivered_from p.me p.delivered) == 256) (eq-eqb _ _ is) admitted
-  where
-    go : (halted outside long full : Bool) → full ≡ true → first_that_holds ((halted, HaltedNow (places_in p.delivered) (option_map_or (λ d. d.1.cut) p.decision 0)) ∷ (outside, Outsider) ∷ (long, TooLong) ∷ (full, Backlog) ∷ []) ≡ None → ⊥
-    go true outside long full e none = cc
-    go false true long full e none = cc
-    go false false true full e none = cc
-    go false false false true e none = cc
-    go false false false false e none = cc
 
 module _ (s : Setting) (p : Process) (st : ProcessState) (is : IsStateOf s p st) where
   -- with these heard claims and these conflicts the state is the process's that has them
@@ -183,46 +163,6 @@ module _ (s : Setting) (p : Process) (st : ProcessState) (is : IsStateOf s p st)
       (record { same = pairs.0; once = pairs.1 })
       pool' conflicts'
       (sym (ap (λ (x : Process). x.pool) changed) ∙ heard.pool) heard.pairs)
-
-  -- ---- accepting
-
-  pub accepts : (payload : List ℕ) → length payload ≤ most_payload_bytes → refusal s p (Submit payload) ≡ None → (account' : code.Account)
-      → account_as account' ≡ record (account_as st.account) { accepted = st.account.accepted.items ++ payload ∷ [] }
-      → IsStateOf s (take_in s p (Submit payload)) (record st { account = account' })
-  accepts payload short admitted account' now = record {
-    lawful = accepting_is_lawful p payload short is.lawful;
-    bounded = record { now = is.bounded.now; before = is.bounded.before; backlog = below-limit };
-    number = is.number;
-    some = is.some;
-    decided = λ d e. record { certified = (is.decided d e).certified; possible = (is.decided d e).possible };
-    each = is.each;
-    asked_for = is.asked_for;
-    halted_member = is.halted_member;
-    halted_beyond = is.halted_beyond;
-    limit = is.limit;
-    place = record {
-      pool = is.place.pool;
-      number = is.place.number;
-      position = is.place.position;
-      keys = is.place.keys;
-      signed = record { slots = is.place.signed.slots; end = is.place.signed.end; greatest = is.place.signed.greatest; last_ready = is.place.signed.last_ready; how_many = is.place.signed.how_many; names = is.place.signed.names };
-      delivered = record { places = is.place.delivered.places; counts = is.place.delivered.counts };
-      before = is.place.before;
-    };
-    phase = accepting-phase st.phase p (p.accepted ++ payload ∷ []) is.phase;
-    asked = is.asked;
-    said = is.said;
-    pairs = is.pairs;
-    kept = record { numbers = is.kept.numbers; previous = is.kept.previous; commits = is.kept.commits };
-    account = (λ i. record (is.account i) { accepted = (is.account i).accepted ++ payload ∷ [] }) ∙ sym now;
-  }
-    where
-      below-limit : length (p.accepted ++ payload ∷ []) ≤ earlier p + delivered_from p.me p.delivered + 256
-      below-limit =
-          let room = no-backlog s p payload admitted in
-          let more = length-append p.accepted (payload ∷ []) in
-          let most = is.bounded.backlog in
-          omega (arith, room, more, most)
 
   -- ---- perceiving
 

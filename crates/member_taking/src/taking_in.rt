@@ -113,14 +113,15 @@ pub fn take_in<V: Scheme>(
     ensures heard { (s : Setting) (p : Process) → Shares s (V.valid judge.now.scheme.now) judge.now.group.now judge.now.roster.now → IsStateOf s p state.old → IfOk result (λ n. n ≡ length (defs.take_in s p (handed input.entry)).pool.heard - length p.pool.heard) }
     ensures real { OnOk result (IsReal state.new) }
 {
-    match &input {
+    let handed = input;
+    match handed {
         Input::Payload(payload) => {
             accept(state, payload)?;
             Ok(0)
         }
-        Input::Claims { claims, .. } => hear(state, judge, *claims),
+        Input::Claims { claims, .. } => hear(state, judge, claims),
         Input::Update(update) => {
-            ask(state, update)?;
+            ask(state, &update)?;
             Ok(0)
         }
         Input::Want { .. } | Input::Tick => Ok(0),
