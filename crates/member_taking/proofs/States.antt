@@ -97,14 +97,6 @@ asks s p (Remove q) = refl
 asks s p (Add q) = refl
 asks s p Renew = refl
 
--- perceiving hears nothing
-pub perceiving-hears : (p : Process) (u : Update) → (perceives p u).pool ≡ p.pool
-perceiving-hears p u = go (is_perceived p (p.pool.view.number, u))
-  where
-    go : (b : Bool) → (let q : Process = if b then p else record p { perceived = put perceived_numbers (p.pool.view.number, u) p.perceived } in q.pool ≡ p.pool)
-    go true = refl
-    go false = refl
-
 module _ (s : Setting) (p : Process) (st : ProcessState) (is : IsStateOf s p st) where
   -- with these heard claims and these conflicts the state is the process's that has them
   with-hearing : (heard : List Claim) (pairs : List (Claim × Claim)) → IsLawful (with_hearing p heard pairs)

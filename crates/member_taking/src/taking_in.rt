@@ -2,7 +2,7 @@
 ghost use Rattle.std.specs.Prelude.{◌≡◌, ◌-◌, ◌≤◌, length, map, insert, IfOk, OnOk, None};
 ghost use Rattle.std.specs.List.{AllByRecursion};
 ghost use Rattle.byte_defs.specs.Orders.{put, numbers_below};
-ghost use Rattle.message_defs.specs.Spelling.{IsClaim};
+ghost use Rattle.message_defs.specs.Spelling.{IsClaim, IsUpdate};
 ghost use Rattle.group_defs.specs.Process.{Setting, Process};
 ghost use Rattle.group_defs.specs.Hearing as hearing;
 ghost use Rattle.group_defs.specs.Events as defs;
@@ -82,6 +82,21 @@ fn tell_perceived(account: &mut Account, view: u16, update: &Update) -> Result<(
     Ok(())
 }
 
+// The process that the update removes or adds is one of 0 to 63, as its type says.
+fn in_range(update: &Update)
+    ensures { IsUpdate (update_of update.now) }
+{
+    match update {
+        Update::Remove(p) => {
+            let _ = p.get();
+        }
+        Update::Add(p) => {
+            let _ = p.get();
+        }
+        Update::Renew => {}
+    }
+}
+
 // The update is asked for in the current view.
 fn ask(state: &mut ProcessState, update: &Update) -> Result<(), NoMemory>
     requires real { IsReal state.old }
@@ -91,6 +106,7 @@ fn ask(state: &mut ProcessState, update: &Update) -> Result<(), NoMemory>
     if state.perceived.contains(*update) {
         return Ok(());
     }
+    in_range(update);
     let view = state.pool.view();
     let Ok(()) = perceive(&mut state.perceived, view, state.own.keyed, *update) else {
         unreachable!()
@@ -104,24 +120,23 @@ fn ask(state: &mut ProcessState, update: &Update) -> Result<(), NoMemory>
 pub fn take_in<V: Scheme>(
     state: &mut ProcessState,
     judge: &Judge<'_, V>,
-    input: Input<'_>,
+    input: &Input<'_>,
 ) -> Result<u16, NoMemory>
     requires real { IsReal state.old }
-    requires range { InRange input }
-    requires admitted { (s : Setting) (p : Process) → IsStateOf s p state.old → refusal s p (handed input) ≡ None }
-    ensures taken { (s : Setting) (p : Process) → Shares s (V.valid judge.now.scheme.now) judge.now.group.now judge.now.roster.now → IsStateOf s p state.old → OnOk result (IsStateOf s (defs.take_in s p (handed input.entry)) state.new) }
-    ensures heard { (s : Setting) (p : Process) → Shares s (V.valid judge.now.scheme.now) judge.now.group.now judge.now.roster.now → IsStateOf s p state.old → IfOk result (λ n. n ≡ length (defs.take_in s p (handed input.entry)).pool.heard - length p.pool.heard) }
+    requires range { InRange input.now }
+    requires admitted { (s : Setting) (p : Process) → IsStateOf s p state.old → refusal s p (handed input.now) ≡ None }
+    ensures taken { (s : Setting) (p : Process) → Shares s (V.valid judge.now.scheme.now) judge.now.group.now judge.now.roster.now → IsStateOf s p state.old → OnOk result (IsStateOf s (defs.take_in s p (handed input.now)) state.new) }
+    ensures heard { (s : Setting) (p : Process) → Shares s (V.valid judge.now.scheme.now) judge.now.group.now judge.now.roster.now → IsStateOf s p state.old → IfOk result (λ n. n ≡ length (defs.take_in s p (handed input.now)).pool.heard - length p.pool.heard) }
     ensures real { OnOk result (IsReal state.new) }
 {
-    let handed = input;
-    match handed {
+    match input {
         Input::Payload(payload) => {
             accept(state, payload)?;
             Ok(0)
         }
-        Input::Claims { claims, .. } => hear(state, judge, claims),
+        Input::Claims { claims, .. } => hear(state, judge, *claims),
         Input::Update(update) => {
-            ask(state, &update)?;
+            ask(state, update)?;
             Ok(0)
         }
         Input::Want { .. } | Input::Tick => Ok(0),
