@@ -1,0 +1,4 @@
+pub mod ByKind
+pub mod Few
+pub mod Ending
+pub mod Lists

@@ -18,8 +18,8 @@ ghost use Rattle.member_signing.specs.Signed.{IsUndecided, IsOwed};
 use claim_lists::ClaimList;
 use claim_pool::{Own, Pool};
 use member_state::ProcessState;
-use rp_base::NoMemory;
-use std::mem::replace_with;
+use rp_base::{NoMemory, Pid};
+use std::mem::replace;
 use stmt_codec::{Claim, OwnClaim, Statement, read_statement};
 use view_phases::Phase;
 use view_table::View;
@@ -66,23 +66,24 @@ fn closed(phase: Phase, length: u16) -> Phase {
     }
 }
 
-// The phase behind the statement: an End closes the view.
-fn close(phase: &mut Phase, statement: &Statement<'_>)
+// The phase behind the statement: an End closes the view. The process is `me`, in this view.
+fn close(phase: &mut Phase, view: &View, me: Pid, statement: &Statement<'_>)
     ensures closes { (s : defs.Setting) (signer : Signer) (p : defs.Process) → p.decision ≡ None → IsTrue (may_sign s p (stmt statement.now)) → IsIn phase.old p → IsIn phase.new (signs s signer p (stmt statement.now)) }
-    ensures open { IsUndecided phase.old → IsUndecided phase.new }
+    ensures undecided { IsUndecided phase.old → IsUndecided phase.new }
 {
     if let Statement::End { length, .. } = *statement {
-        replace_with(phase, length, |phase, length| (closed(phase, length), ()));
+        let open = replace(phase, Phase::begin(view, me));
+        *phase = closed(open, length);
     }
 }
 
 /// Puts the own claim into the state of the process that may sign its statement next.
 pub fn put(state: &mut ProcessState, own: &OwnClaim) -> Result<(), NoMemory>
     requires owed { IsOwed state.old own.now }
-    requires open { IsUndecided state.old.phase }
+    requires undecided { IsUndecided state.old.phase }
     ensures puts { (s : defs.Setting) (signer : Signer) (p : defs.Process) (st : plain.Statement) → IsTrue (may_sign s p st) → signed own.now ≡ signed_of (own_claim s signer p st) → IsStateOf s p state.old → OnOk result (IsStateOf s (signs s signer p st) state.new) }
     ensures real { OnOk result (IsReal state.new) }
-    ensures open { OnOk result (IsUndecided state.new.phase) }
+    ensures undecided { OnOk result (IsUndecided state.new.phase) }
 {
     let Ok(statement) = read_statement(own.statement.bytes()) else {
         unreachable!()
@@ -96,6 +97,11 @@ pub fn put(state: &mut ProcessState, own: &OwnClaim) -> Result<(), NoMemory>
     hear(&mut state.pool, &claim, bytes)?;
     note(&mut state.own, state.pool.view(), &statement)?;
     keep(&mut state.said, &claim, bytes)?;
-    close(&mut state.phase, &statement);
+    close(
+        &mut state.phase,
+        state.pool.view(),
+        state.own.me,
+        &statement,
+    );
     Ok(())
 }

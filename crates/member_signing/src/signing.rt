@@ -25,7 +25,7 @@ use view_phases::Phase;
 // Whether the view is decided.
 fn is_decided(phase: &Phase) -> bool
     ensures decided { (p : defs.Process) → IsIn phase.now p → result ≡ is_some p.decision }
-    ensures open { OnFalse result (IsUndecided phase.now) }
+    ensures undecided { OnFalse result (IsUndecided phase.now) }
 {
     matches!(phase, Phase::DecidedView(_) | Phase::HaltedView(_))
 }
@@ -85,10 +85,10 @@ fn sign_kind<G: Signer>(
     kind: Kind,
 ) -> Result<bool, NoMemory>
     requires real { IsReal state.old }
-    requires open { IsUndecided state.old.phase }
+    requires undecided { IsUndecided state.old.phase }
     ensures signs { (s : defs.Setting) (p : defs.Process) → s.group ≡ group.now → length p.signed ≡ G.Tally.used signer.old → IsStateOf s p state.old → IfOk result (IsSigned s p (signing.sign_kind s (G.signature signer.old) (kind_of kind) (G.Tally.total signer.old - G.Tally.used signer.old) p) state.new (G.Tally.total signer.old) (G.Tally.used signer.new) (map signed_by signed.old.items) (map signed_by signed.new.items)) }
     ensures real { OnOk result (IsReal state.new) }
-    ensures open { OnOk result (IsUndecided state.new.phase) }
+    ensures undecided { OnOk result (IsUndecided state.new.phase) }
     ensures total { G.Tally.total signer.new ≡ G.Tally.total signer.old }
     ensures secret { G.signature signer.new ≡ G.signature signer.old }
 {
@@ -112,8 +112,9 @@ fn sign_kinds<G: Signer>(
     kinds: &[Kind],
 ) -> Result<bool, NoMemory>
     requires real { IsReal state.old }
-    requires open { IsUndecided state.old.phase }
+    requires undecided { IsUndecided state.old.phase }
     ensures signs { (s : defs.Setting) (p : defs.Process) → s.group ≡ group.now → length p.signed ≡ G.Tally.used signer.old → IsStateOf s p state.old → IfOk result (IsSigned s p (signing.sign_kinds s (G.signature signer.old) (map kind_of kinds.now) (G.Tally.total signer.old - G.Tally.used signer.old) p) state.new (G.Tally.total signer.old) (G.Tally.used signer.new) (map signed_by signed.old.items) (map signed_by signed.new.items)) }
+    ensures real { OnOk result (IsReal state.new) }
     ensures total { G.Tally.total signer.new ≡ G.Tally.total signer.old }
     ensures secret { G.signature signer.new ≡ G.signature signer.old }
 {
@@ -137,6 +138,7 @@ pub fn sign_all<G: Signer>(
 ) -> Result<bool, NoMemory>
     requires real { IsReal state.old }
     ensures signs { (s : defs.Setting) (p : defs.Process) → s.group ≡ group.now → s.signs ≡ defs.all_kinds → length p.signed ≡ G.Tally.used signer.old → IsStateOf s p state.old → IfOk result (IsSigned s p (signing.sign_all s (G.signature signer.old) (G.Tally.total signer.old - G.Tally.used signer.old) p) state.new (G.Tally.total signer.old) (G.Tally.used signer.new) (map signed_by signed.old.items) (map signed_by signed.new.items)) }
+    ensures real { OnOk result (IsReal state.new) }
     ensures total { G.Tally.total signer.new ≡ G.Tally.total signer.old }
     ensures secret { G.signature signer.new ≡ G.signature signer.old }
 {
