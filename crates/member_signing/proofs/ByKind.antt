@@ -7,11 +7,11 @@ use Rattle.group_defs.specs.Process.{Kind, Setting, Process}
 use Rattle.group_defs.specs.Due.{least_due}
 use Rattle.group_defs.specs.Signing.{Signer, Signing, signs, sign_kind, sign_kinds, sign_all}
 
-module _ (s : Setting) (signer : Signer) where
-  -- p, with so many signatures left
-  abbrev pub still : ℕ → Bool → Process → Signing
-  still left lacks p = record { now = p; left = left; spent = lacks }
+-- p, with so many signatures left
+abbrev pub still : ℕ → Bool → Process → Signing
+still left lacks p = record { now = p; left = left; spent = lacks }
 
+module _ (s : Setting) (signer : Signer) where
   module _ (kind : Kind) where
     goes : ℕ → Process → Option Statement → Signing
     goes left p due = elim due [ None ↦ still (suc left) false p | Some st ↦ sign_kind s signer kind left (signs s signer p st) ]

@@ -2,3 +2,8 @@ pub mod ByKind
 pub mod Few
 pub mod Ending
 pub mod Lists
+pub mod States
+pub mod Open
+pub mod Owned
+pub mod Seated
+pub mod Going

@@ -1,11 +1,12 @@
 -- What has become of a process and its state where it signed what is due.
 use Rattle.std.specs.Prelude.{◌≡◌, ℕ, ◌-◌, ◌≤◌, ◌++◌, Bool, List, length, map, drop, IsTrue}
-use Rattle.message_defs.specs.Spelling.{spelling}
+use Rattle.message_defs.specs.Spelling.{IsStatement}
 use Rattle.message_defs.specs.Packing.{Signed, signed_of}
 use Rattle.message_defs.specs.Statements as plain
 use Rattle.group_defs.specs.Process.{Setting, Process}
 use Rattle.group_defs.specs.Due.{may_sign}
-use Rattle.group_defs.specs.Signing.{Signing}
+use Rattle.group_defs.specs.Signing.{Signing, own_claim}
+use Rattle.stmt_codec.specs.Views.{signed}
 use Rattle.stmt_codec.specs.declared.own.OwnClaim.{OwnClaim}
 use Rattle.view_phases.specs.declared.phases.Phase.{Phase}
 use Rattle.view_phases.specs.declared.phases.Phase.TheVariants.{Observing, OpenView, ClosingView, DecidedView, HaltedView}
@@ -20,15 +21,21 @@ IsUndecided (ClosingView c) = Unit {0}
 IsUndecided (DecidedView d) = ⊥
 IsUndecided (HaltedView h) = ⊥
 
--- some process that has this state may sign the statement of this claim, which is its own and has a signature that a frame can carry
+-- the bytes are those of a claim that a frame can carry
+pub record IsReadable (c : OwnClaim) : Type 0 where
+  pub said : plain.Claim
+  pub range : IsStatement said.statement
+  pub same : signed c ≡ signed_of said
+  pub short : length c.signature ≤ 16384
+
+-- some process that has this state may sign the statement of this claim, which is its own, with a signature that a frame can carry
 pub record IsOwed (st : ProcessState) (c : OwnClaim) : Type 0 where
   pub setting : Setting
   pub process : Process
   pub said : plain.Statement
   pub state : IsStateOf setting process st
   pub may : IsTrue (may_sign setting process said)
-  pub bytes : c.statement ≡ spelling said
-  pub signer : c.signer ≡ process.me
+  pub own : signed c ≡ signed_of (own_claim setting (λ used body. c.signature) process said)
   pub short : length c.signature ≤ 16384
 
 -- Process p has signed, and `one` is what it came to: this is its state now; one more was due exactly where it lacks a signature; of

@@ -39,7 +39,7 @@ fn standing(state: &ProcessState) -> Standing<'_>
         pool: &state.pool,
         own: &state.own,
         perceived: &state.perceived,
-        accepted: &state.account.accepted,
+        accepted: state.account.accepted.as_slice(),
         batch_limit: state.batch_limit,
     }
 }
@@ -71,7 +71,8 @@ fn next<G: Signer>(
     let Some(statement) = due(&standing(state), kind) else {
         return Ok(None);
     };
-    Ok(Some(make(alloc, group, state.own.me, &statement, signer)?))
+    let own = make(alloc, group, state.own.me, &statement, signer)?;
+    Ok(Some(own))
 }
 
 // Signs the least statement of the kind that is due, again and again, until none is due or no signature is left; and whether one
@@ -93,11 +94,14 @@ fn sign_kind<G: Signer>(
     ensures secret { G.signature signer.new ≡ G.signature signer.old }
 {
     'signatures: while signer.used() < signer.total() {
-        let Some(own) = next(state, alloc, group, signer, kind)? else {
-            return Ok(false);
-        };
-        put(state, &own)?;
-        signed.push(own)?;
+        let due = next(state, alloc, group, signer, kind)?;
+        match due {
+            None => return Ok(false),
+            Some(own) => {
+                put(state, &own)?;
+                signed.push(own)?;
+            }
+        }
     }
     Ok(is_due(state, kind))
 }
