@@ -10,7 +10,7 @@ use Rattle.group_defs.specs.Signing.{Signer, Signing, own_claim, signs, sign_kin
 use Rattle.member_state.specs.declared.state.ProcessState.{ProcessState}
 use Rattle.member_state.specs.States.{IsStateOf}
 use Rattle.member_signing.specs.Signed.{IsSigned}
-use Rattle.member_signing.proofs.ByKind.{still, none_due, one_due, none_left}
+use Rattle.member_signing.proofs.ByKind.{still, kind_done, kind_lacks, none_due, one_due, none_left}
 use Rattle.member_signing.proofs.Lists.{behind, grew-twice, grown-twice, rest-is, rest-of}
 
 -- nothing is signed yet
@@ -72,3 +72,24 @@ ends-spent s sig kind p q st total used before now lacks none due is =
     let left : total - used ≡ zero = omega arith in
     subst (λ one. IsSigned s p one st total used before now lacks) (sym (ap (λ n. sign_kind s sig kind n q) left ∙ none_left s sig kind q))
     (record { state = is.state; spent = sym due; used = is.used; left = sym left; grown = is.grown; told = is.told })
+
+-- ---- kinds
+
+-- a kind is done, and nothing was wanting
+pub kind-more : (s : Setting) (sig : Signer) (kind : Kind) (more : List Kind) (p q : Process) (st st' : ProcessState) (total used used' : ℕ) (before now now' : List Signed) → IsSigned s p (still (total - used) false q) st total used before now false
+    → IsSigned s q (sign_kind s sig kind (total - used) q) st' total used' now now' false
+    → IsSigned s p (still (total - used') false (sign_kind s sig kind (total - used) q).now) st' total used' before now' false
+      × (sign_kinds s sig more (total - used') (sign_kind s sig kind (total - used) q).now ≡ sign_kinds s sig (kind ∷ more) (total - used) q)
+kind-more s sig kind more p q st st' total used used' before now now' first then =
+    let on = goes-on s p q (sign_kind s sig kind (total - used) q) st st' total (total - used) used used' before now now' false first then in (
+      record { state = on.state; spent = refl; used = on.used; left = refl; grown = on.grown; told = on.told },
+      ap (λ left. sign_kinds s sig more left (sign_kind s sig kind (total - used) q).now) (sym then.left) ∙ sym (kind_done s sig kind more (total - used) q then.spent),
+    )
+
+-- a kind lacks a signature: no other is gone through
+pub kind-lacks : (s : Setting) (sig : Signer) (kind : Kind) (more : List Kind) (p q : Process) (st st' : ProcessState) (total used used' : ℕ) (before now now' : List Signed) → IsSigned s p (still (total - used) false q) st total used before now false
+    → IsSigned s q (sign_kind s sig kind (total - used) q) st' total used' now now' true
+    → IsSigned s p (sign_kinds s sig (kind ∷ more) (total - used) q) st' total used' before now' true
+kind-lacks s sig kind more p q st st' total used used' before now now' first then =
+    let on = goes-on s p q (sign_kind s sig kind (total - used) q) st st' total (total - used) used used' before now now' true first then in
+    subst (λ one. IsSigned s p one st' total used' before now' true) (sym (kind_lacks s sig kind more (total - used) q then.spent)) on

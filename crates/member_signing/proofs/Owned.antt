@@ -1,5 +1,5 @@
 -- The own claim, as the definitions have it and as it stands in a frame.
-use Rattle.std.proofs.Common.{◌≡◌, ℕ, ◌≤◌, List, Bool, true, false, Option, Some, None, Result, Ok, Err, refl, sym, ◌∙◌, ap, subst, arith}
+use Rattle.std.proofs.Common.{◌≡◌, ℕ, ◌≤◌, List, Bool, true, false, Option, Some, None, refl, sym, ◌∙◌, ap, subst, arith}
 use Rattle.std.specs.Prelude.{length}
 use Rattle.std.specs.Option.{option_map}
 use Rattle.message_defs.specs.Spelling.{IsClaim, IsStatement, body, spelling}
@@ -14,9 +14,6 @@ use Rattle.stmt_codec.specs.declared.own.OwnClaim.{OwnClaim}
 -- claims of the same parts are the same
 pub claim-is : (a b : Claim) → a.signer ≡ b.signer → a.statement ≡ b.statement → a.signature ≡ b.signature → a ≡ b
 claim-is a b e f g = λ i. record { signer = e i; statement = f i; signature = g i }
-
-pub ok-is : {A E : Type 0} {a b : A} → Ok {E = E} a ≡ Ok b → a ≡ b
-ok-is e = cc
 
 -- the process's claim, where group, number and count are these
 pub own-is : (s : Setting) (sig : Signer) (p : Process) (st : Statement) (group : List ℕ) (me used : ℕ) → s.group ≡ group → p.me ≡ me → length p.signed ≡ used

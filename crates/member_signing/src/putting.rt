@@ -20,7 +20,6 @@ use claim_lists::ClaimList;
 use claim_pool::{Own, Pool};
 use member_state::ProcessState;
 use rp_base::{NoMemory, Pid};
-use std::mem::replace;
 use stmt_codec::{Claim, OwnClaim, Statement, read_statement, spelled_len};
 use view_phases::Phase;
 use view_table::View;
@@ -107,17 +106,16 @@ fn closed(phase: Phase, length: u16) -> Phase
     }
 }
 
-// The phase behind the statement: an End closes the view. The process is `me`, in this view.
+// The phase behind the statement: an End closes the view. The process is `me`, in this view, and before its End the view is open.
 fn close(phase: &mut Phase, view: &View, me: Pid, statement: &Statement<'_>)
     requires { IsUndecided phase.old }
-    ensures closes { (s : defs.Setting) (signer : Signer) (p : defs.Process) → IsTrue (may_sign s p (stmt statement.now)) → IsIn phase.old p → IsIn phase.new (signs s signer p (stmt statement.now)) }
+    ensures closes { (s : defs.Setting) (signer : Signer) (p : defs.Process) → p.pool.view ≡ view.now → p.me ≡ me → IsTrue (may_sign s p (stmt statement.now)) → IsIn phase.old p → IsIn phase.new (signs s signer p (stmt statement.now)) }
     ensures undecided { IsUndecided phase.new }
 {
     let Some(length) = length_said(statement) else {
         return;
     };
-    let open = replace(phase, Phase::begin(view, me));
-    *phase = closed(open, length);
+    *phase = closed(Phase::begin(view, me), length);
 }
 
 /// Puts the own claim into the state of the process that may sign its statement next.

@@ -123,7 +123,8 @@ fn sign_kinds<G: Signer>(
     ensures secret { G.signature signer.new ≡ G.signature signer.old }
 {
     'kinds: for kind in kinds {
-        if sign_kind(state, alloc, group, signer, signed, *kind)? {
+        let lacks = sign_kind(state, alloc, group, signer, signed, *kind)?;
+        if lacks {
             return Ok(true);
         }
     }

@@ -15,8 +15,8 @@ use Rattle.member_signing.proofs.Seated.{fresh, orders-length}
 use Rattle.member_signing.proofs.States.{signed-state}
 use Rattle.member_signing.proofs.putting.put.Goals as goal
 
-pub read_own-requires : goal.read_own-requires
-read_own-requires c =
+pub read_own-claim-requires : goal.read_own-claim-requires
+read_own-claim-requires c =
     let r = c.requires.owed in record {
       said = own_claim r.setting (λ (used : ℕ) (body : List ℕ). c.args.own.now.signature) r.process r.said;
       range = due_is_in_range r.setting r.process r.said r.state.lawful r.may;
@@ -25,15 +25,15 @@ read_own-requires c =
     }
 
 pub hear-requires : goal.hear-requires
-hear-requires c = c.read_own.ensures.range
+hear-requires c = c.read_own-claim.ensures.range
 
 pub note-requires-clause-range : goal.note-requires-clause-range
-note-requires-clause-range c = c.read_own.ensures.range.1
+note-requires-clause-range c = c.read_own-claim.ensures.range.1
 
 pub note-requires-clause-members : goal.note-requires-clause-members
 note-requires-clause-members c =
     let r = c.requires.owed in
-    let same = c.read_own.ensures.only (own_claim r.setting (λ (used : ℕ) (body : List ℕ). c.args.own.now.signature) r.process r.said) (due_is_in_range r.setting r.process r.said r.state.lawful r.may) r.own in
+    let same = c.read_own-claim.ensures.only (own_claim r.setting (λ (used : ℕ) (body : List ℕ). c.args.own.now.signature) r.process r.said) (due_is_in_range r.setting r.process r.said r.state.lawful r.may) r.own in
     let at = ap (own_claim r.setting (λ (used : ℕ) (body : List ℕ). c.args.own.now.signature) r.process) (ap (λ (d : Claim). d.statement) same) ∙ sym same in
     let heard = c.in_ok-hear.ensures r.setting (λ (used : ℕ) (body : List ℕ). c.args.own.now.signature) r.process r.state.place.pool at in
     orders-length r.setting r.process c.args.state.now.pool.pool c.args.state.now.own r.state.place ∙ ap (λ (h : Pool). length h.view.members) heard ∙ ap (λ (v : View). length v.members) (sym c.view.ensures)
@@ -41,22 +41,22 @@ note-requires-clause-members c =
 pub note-requires-clause-fresh : goal.note-requires-clause-fresh
 note-requires-clause-fresh c =
     let r = c.requires.owed in
-    let same = c.read_own.ensures.only (own_claim r.setting (λ (used : ℕ) (body : List ℕ). c.args.own.now.signature) r.process r.said) (due_is_in_range r.setting r.process r.said r.state.lawful r.may) r.own in
+    let same = c.read_own-claim.ensures.only (own_claim r.setting (λ (used : ℕ) (body : List ℕ). c.args.own.now.signature) r.process r.said) (due_is_in_range r.setting r.process r.said r.state.lawful r.may) r.own in
     fresh r.setting r.process c.args.state.now.pool.pool c.args.state.now.own _ r.state.place (subst (λ (st : Statement). may_sign r.setting r.process st ≡ true) (sym (ap (λ (d : Claim). d.statement) same)) r.may)
 
 pub keep-requires : goal.keep-requires
-keep-requires c = c.read_own.ensures.range
+keep-requires c = c.read_own-claim.ensures.range
 
 pub returns-clause-puts : goal.returns-clause-puts
 returns-clause-puts c s signer p st may own is =
-    let same = c.read_own.ensures.only (own_claim s signer p st) (due_is_in_range s p st is.lawful may) own in
+    let same = c.read_own-claim.ensures.only (own_claim s signer p st) (due_is_in_range s p st is.lawful may) own in
     let said = ap (λ (d : Claim). d.statement) same in
     let now = subst (λ (st : Statement). may_sign s p st ≡ true) (sym said) may in
     let heard = c.in_ok-hear.ensures s signer p is.place.pool (ap (own_claim s signer p) said ∙ sym same) in
     let seen = ap (λ (h : Pool). h.view) (sym is.place.pool) ∙ ap (λ (h : Pool). h.view) heard ∙ sym c.view.ensures in
     let tells = c.in_ok-note.ensures s signer p c.args.state.now.pool.pool c.hear.new.pool.pool is.place seen now heard in
-    let phase = c.close.ensures.closes s signer p now is.phase in
-    signed-state s signer p st _ _ is may (none-decided _ p c.requires.undecided is.phase) (subst IsClaim same c.read_own.ensures.range)
+    let phase = c.close.ensures.closes s signer p (ap (λ (h : Pool). h.view) heard ∙ sym c.view-2.ensures) tells.number now is.phase in
+    signed-state s signer p st _ _ is may (none-decided _ p c.requires.undecided is.phase) (subst IsClaim same c.read_own-claim.ensures.range)
     (record { limit = refl; perceived = refl; said = c.in_ok-keep.ensures ∙ ap (λ (d : Claim). c.args.state.now.said.claims ++ d ∷ []) same; conflicts = refl; archive = refl; account = refl })
     (let at : Own = c.note.new.own in subst (λ (st : Statement). Tells s (signs s signer p st) c.hear.new.pool.pool at) said tells)
     (let at : Phase = c.close.new.phase in subst (λ (st : Statement). IsIn at (signs s signer p st)) said phase)

@@ -1,14 +1,14 @@
 use Rattle.std.proofs.Common.{◌≡◌, ◌∙◌, sym, ap, Ok}
 use Rattle.message_defs.specs.Packing.{Signed}
-use Rattle.member_signing.proofs.Owned.{claim-is, ok-is}
+use Rattle.member_signing.proofs.Owned.{claim-is}
 use Rattle.member_signing.proofs.putting.read_own.Goals as goal
 
-pub prove-unreachable-requires : goal.prove-unreachable-requires
-prove-unreachable-requires c =
+pub unreachable-requires : goal.unreachable-requires
+unreachable-requires c =
     let is = c.in_default.ensures.only c.requires.said.statement c.requires.range (c.bytes-bytes.ensures ∙ ap (λ (m : Signed). m.statement) c.requires.same) in cc
 
 pub returns-clause-only : goal.returns-clause-only
 returns-clause-only c d range e =
     claim-is _ d (ap (λ (m : Signed). m.signer) e)
-    (sym (ok-is (c.in-Ok.ensures.only d.statement range (c.bytes-bytes.ensures ∙ ap (λ (m : Signed). m.statement) e))))
+    (let said = c.in-Ok.ensures.only d.statement range (c.bytes-bytes.ensures ∙ ap (λ (m : Signed). m.statement) e) in cc)
     (c.bytes-signature.ensures ∙ ap (λ (m : Signed). m.signature) e)
