@@ -10,7 +10,7 @@ use Rattle.group_defs.specs.Signing.{Signer, Signing, own_claim, signs, sign_kin
 use Rattle.member_state.specs.declared.state.ProcessState.{ProcessState}
 use Rattle.member_state.specs.States.{IsStateOf}
 use Rattle.member_signing.specs.Signed.{IsSigned}
-use Rattle.member_signing.proofs.ByKind.{still, kind_done, kind_lacks, none_due, one_due, none_left}
+use Rattle.member_signing.proofs.ByKind.{still, kind_done, kind_lacks, kinds_done, none_due, one_due, none_left}
 use Rattle.member_signing.proofs.Lists.{behind, grew-twice, grown-twice, rest-is, rest-of}
 
 -- nothing is signed yet
@@ -93,3 +93,16 @@ pub kind-lacks : (s : Setting) (sig : Signer) (kind : Kind) (more : List Kind) (
 kind-lacks s sig kind more p q st st' total used used' before now now' first then =
     let on = goes-on s p q (sign_kind s sig kind (total - used) q) st st' total (total - used) used used' before now now' true first then in
     subst (λ one. IsSigned s p one st' total used' before now' true) (sym (kind_lacks s sig kind more (total - used) q then.spent)) on
+
+-- the same, of the key and the total that there were at first
+pub as-at-first : (s : Setting) (q : Process) (kind : Kind) (st : ProcessState) (sig sig' : Signer) (total total' used used' : ℕ) (now now' : List Signed) (lacks lacks' : Bool) → sig ≡ sig' → total ≡ total' → lacks ≡ lacks'
+    → IsSigned s q (sign_kind s sig kind (total - used) q) st total used' now now' lacks → IsSigned s q (sign_kind s sig' kind (total' - used) q) st total' used' now now' lacks'
+as-at-first s q kind st sig sig' total total' used used' now now' lacks lacks' e f g is =
+    subst (λ b. IsSigned s q (sign_kind s sig' kind (total' - used) q) st total' used' now now' b) g
+    (subst (λ n. IsSigned s q (sign_kind s sig' kind (n - used) q) st n used' now now' lacks) f
+      (subst (λ sig. IsSigned s q (sign_kind s sig kind (total - used) q) st total used' now now' lacks) e is))
+
+-- the kinds are gone through
+pub ends-kinds : (s : Setting) (sig : Signer) (kinds : List Kind) (p q : Process) (st : ProcessState) (total left used : ℕ) (before now : List Signed) → kinds ≡ [] → IsSigned s p (still left false q) st total used before now false
+    → IsSigned s p (sign_kinds s sig kinds left q) st total used before now false
+ends-kinds s sig kinds p q st total left used before now none is = subst (λ one. IsSigned s p one st total used before now false) (sym (ap (λ ks. sign_kinds s sig ks left q) none ∙ kinds_done s sig left q)) is
