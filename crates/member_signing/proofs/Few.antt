@@ -1,10 +1,10 @@
 -- No process accepts more payloads than a number of four bytes tells.
-use Rattle.std.proofs.Common.{◌≡◌, ℕ, ◌+◌, ◌*◌, ◌≤◌, List, refl, subst, sym, arith}
-use Rattle.std.specs.Prelude.{length, sum, map, count_by, All, ◌==◌}
+use Rattle.std.proofs.Common.{◌≡◌, ℕ, ◌*◌, ◌≤◌, List, arith}
+use Rattle.std.specs.Prelude.{length, sum, map, All, ◌==◌}
 use Rattle.std.specs.List.{sum_by}
 use Rattle.std.proofs.lemmas.List.Sums.{sum_by-le, sum-map, count_by-le-length}
-use Rattle.message_defs.specs.Limits.{most_messages, most_places, last_number}
-use Rattle.group_defs.specs.Process.{Process, Left, Delivered, delivered_from, places_in, earlier}
+use Rattle.message_defs.specs.Limits.{last_number}
+use Rattle.group_defs.specs.Process.{Process, Left, Delivered, delivered_from, earlier}
 use Rattle.pool_laws.proofs.Members.{All-mem, mem-All}
 use Rattle.member_state.specs.Bounds.{AreFew, IsBounded}
 

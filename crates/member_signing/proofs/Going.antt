@@ -1,5 +1,5 @@
 -- A process that signs on: one statement more, one kind more, and the end.
-use Rattle.std.proofs.Common.{◌≡◌, ℕ, zero, suc, ◌+◌, ◌-◌, ◌<◌, ◌≤◌, List, [], ◌∷◌, ◌++◌, Bool, true, false, Option, Some, None, refl, sym, ◌∙◌, ap, subst, length, drop, map, arith, append_assoc}
+use Rattle.std.proofs.Common.{◌≡◌, ℕ, zero, suc, ◌-◌, ◌<◌, ◌≤◌, List, [], ◌∷◌, ◌++◌, Bool, true, false, Some, None, refl, sym, ◌∙◌, ap, subst, length, drop, map, arith, append_assoc}
 use Rattle.std.specs.Prelude.{is_some}
 use Rattle.std.proofs.lemmas.List.{append-nil, map-append}
 use Rattle.message_defs.specs.Packing.{Signed, signed_of}
@@ -11,7 +11,7 @@ use Rattle.member_state.specs.declared.state.ProcessState.{ProcessState}
 use Rattle.member_state.specs.States.{IsStateOf}
 use Rattle.member_signing.specs.Signed.{IsSigned}
 use Rattle.member_signing.proofs.ByKind.{still, kind_done, kind_lacks, kinds_done, none_due, one_due, none_left}
-use Rattle.member_signing.proofs.Lists.{behind, grew-twice, grown-twice, rest-is, rest-of}
+use Rattle.member_signing.proofs.Lists.{behind, grew-twice, grown-twice, rest-of}
 
 -- nothing is signed yet
 pub begins : (s : Setting) (p : Process) (st : ProcessState) (total used : ℕ) (before : List Signed) → IsStateOf s p st → length p.signed ≡ used → IsSigned s p (still (total - used) false p) st total used before before false
@@ -79,7 +79,7 @@ ends-spent s sig kind p q st total used before now lacks none due is =
 pub kind-more : (s : Setting) (sig : Signer) (kind : Kind) (more : List Kind) (p q : Process) (st st' : ProcessState) (total used used' : ℕ) (before now now' : List Signed) → IsSigned s p (still (total - used) false q) st total used before now false
     → IsSigned s q (sign_kind s sig kind (total - used) q) st' total used' now now' false
     → IsSigned s p (still (total - used') false (sign_kind s sig kind (total - used) q).now) st' total used' before now' false
-      × (sign_kinds s sig more (total - used') (sign_kind s sig kind (total - used) q).now ≡ sign_kinds s sig (kind ∷ more) (total - used) q)
+    × (sign_kinds s sig more (total - used') (sign_kind s sig kind (total - used) q).now ≡ sign_kinds s sig (kind ∷ more) (total - used) q)
 kind-more s sig kind more p q st st' total used used' before now now' first then =
     let on = goes-on s p q (sign_kind s sig kind (total - used) q) st st' total (total - used) used used' before now now' false first then in (
       record { state = on.state; spent = refl; used = on.used; left = refl; grown = on.grown; told = on.told },
@@ -100,7 +100,7 @@ pub as-at-first : (s : Setting) (q : Process) (kind : Kind) (st : ProcessState) 
 as-at-first s q kind st sig sig' total total' used used' now now' lacks lacks' e f g is =
     subst (λ b. IsSigned s q (sign_kind s sig' kind (total' - used) q) st total' used' now now' b) g
     (subst (λ n. IsSigned s q (sign_kind s sig' kind (n - used) q) st n used' now now' lacks) f
-      (subst (λ sig. IsSigned s q (sign_kind s sig kind (total - used) q) st total used' now now' lacks) e is))
+    (subst (λ sig. IsSigned s q (sign_kind s sig kind (total - used) q) st total used' now now' lacks) e is))
 
 -- the kinds are gone through
 pub ends-kinds : (s : Setting) (sig : Signer) (kinds : List Kind) (p q : Process) (st : ProcessState) (total left used : ℕ) (before now : List Signed) → kinds ≡ [] → IsSigned s p (still left false q) st total used before now false

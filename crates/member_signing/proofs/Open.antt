@@ -1,10 +1,9 @@
 -- Which phases go before the decision, and which statement changes them.
-use Rattle.std.proofs.Common.{◌≡◌, ℕ, Bool, true, false, Option, Some, None, refl, sym, ◌∙◌, ap, subst}
-use Rattle.std.specs.Prelude.{is_some, if◌then◌else◌}
-use Rattle.message_defs.specs.Updates.{Value}
+use Rattle.std.proofs.Common.{◌≡◌, ℕ, Bool, true, false, Some, None, refl, sym, ◌∙◌, ap, subst}
+use Rattle.std.specs.Prelude.{if◌then◌else◌}
 use Rattle.message_defs.specs.Statements.{Statement, End, EndAt, view_of}
 use Rattle.group_defs.specs.Process.{Setting, Process}
-use Rattle.group_defs.specs.Certified.{own_on, is_signed, is_ended}
+use Rattle.group_defs.specs.Certified.{is_signed, is_ended}
 use Rattle.group_defs.specs.Due.{may_sign}
 use Rattle.group_defs.specs.Signing.{Signer, signs}
 use Rattle.group_defs.specs.Values.{length_said}

@@ -1,8 +1,8 @@
 -- The own claim, as the definitions have it and as it stands in a frame.
-use Rattle.std.proofs.Common.{◌≡◌, ℕ, ◌≤◌, List, Bool, true, false, Option, Some, None, refl, sym, ◌∙◌, ap, subst, arith}
+use Rattle.std.proofs.Common.{◌≡◌, ℕ, List, Option, Some, None, refl, sym, ◌∙◌, ap}
 use Rattle.std.specs.Prelude.{length}
 use Rattle.std.specs.Option.{option_map}
-use Rattle.message_defs.specs.Spelling.{IsClaim, IsStatement, body, spelling}
+use Rattle.message_defs.specs.Spelling.{body, spelling}
 use Rattle.message_defs.specs.Packing.{Signed, signed_of, signed as signed_by}
 use Rattle.message_defs.specs.Statements.{Statement, Claim}
 use Rattle.group_defs.specs.Process.{Kind, Setting, Process}

@@ -1,11 +1,11 @@
 -- What a state gives to the rules that look at it.
-use Rattle.std.proofs.Common.{◌≡◌, ℕ, ◌≤◌, List, Bool, true, false, Option, Some, None, refl, sym, ◌∙◌, ap, subst, length, map}
+use Rattle.std.proofs.Common.{◌≡◌, true, false, Option, Some, None, refl, sym, ◌∙◌, ap, length}
 use Rattle.std.specs.Prelude.{is_some}
 use Rattle.std.specs.Option.{option_map}
 use Rattle.std.proofs.lemmas.List.{length-map}
 use Rattle.message_defs.specs.Statements.{Statement, slot_of}
 use Rattle.group_defs.specs.Process.{Setting, Pool, Process, delivered_from}
-use Rattle.group_defs.specs.Certified.{named, messages, own_orders, number_of_members}
+use Rattle.group_defs.specs.Certified.{named, messages, own_orders}
 use Rattle.group_defs.specs.Due.{may_sign}
 use Rattle.rule_laws.proofs.Signable.{may-parts}
 use Rattle.own_place.specs.declared.own.Own.{Own}

@@ -1,18 +1,17 @@
 -- The state of a process that has signed one statement more.
-use Rattle.std.proofs.Common.{◌≡◌, ℕ, ◌≤◌, List, [], ◌∷◌, ◌++◌, Bool, true, false, Option, Some, None, refl, sym, ◌∙◌, ap, subst}
-use Rattle.std.specs.Prelude.{◌==◌, if◌then◌else◌, filter}
+use Rattle.std.proofs.Common.{◌≡◌, [], ◌∷◌, ◌++◌, Bool, true, Some, None, sym, ◌∙◌, ap, subst}
+use Rattle.std.specs.Prelude.{◌==◌, if◌then◌else◌}
 use Rattle.std.proofs.lemmas.Bool.{eq-eqb}
 use Rattle.std.proofs.lemmas.List.Elements.{filter-append}
-use Rattle.message_defs.specs.Updates.{Value}
 use Rattle.message_defs.specs.Statements.{Statement, Claim, view_of, slot_of}
-use Rattle.message_defs.specs.Spelling.{IsClaim, IsStatement}
+use Rattle.message_defs.specs.Spelling.{IsClaim}
 use Rattle.group_defs.specs.Process.{Setting, Pool, Process}
 use Rattle.group_defs.specs.Due.{may_sign}
 use Rattle.group_defs.specs.Signing.{Signer, own_claim, signs}
 use Rattle.rule_laws.proofs.Signable.{may-parts}
 use Rattle.own_place.specs.declared.own.Own.{Own}
 use Rattle.own_place.specs.Owns.{Tells}
-use Rattle.own_place.specs.Signed.{Signed, has_slot}
+use Rattle.own_place.specs.Signed.{Signed}
 use Rattle.claim_index.specs.Keys.{slot_key, same_slot_key}
 use Rattle.std.specs.List.{list_any}
 use Rattle.ending_rules.specs.Perceiving.{has_update}
@@ -21,7 +20,6 @@ use Rattle.view_phases.specs.Phases.{IsIn}
 use Rattle.reliable_mcast.specs.Archives.{Keeps}
 use Rattle.accounts.specs.Views.{account}
 use Rattle.member_laws.proofs.Lawful.{signing_is_lawful}
-use Rattle.member_laws.proofs.Ranges.{due_is_in_range}
 use Rattle.member_state.specs.States.{IsStateOf, signed_here}
 use Rattle.member_state.specs.declared.state.ProcessState.{ProcessState}
 

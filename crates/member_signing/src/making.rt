@@ -1,5 +1,5 @@
 //! The own claim on a statement: its bytes, and the signature that comes next.
-ghost use Rattle.std.specs.Prelude.{◌≡◌, ◌≢◌, ◌+◌, ◌≤◌, ◌<◌, length, IfOk};
+ghost use Rattle.std.specs.Prelude.{◌≡◌, ◌+◌, ◌≤◌, ◌<◌, length, IfOk};
 ghost use Rattle.message_defs.specs.Spelling.{IsStatement, spelling, body};
 ghost use Rattle.message_defs.specs.Packing.{signed as signed_by};
 ghost use Rattle.stmt_codec.specs.Views.{stmt, signed};
@@ -40,6 +40,7 @@ fn sign_body<G: Signer>(alloc: Global, body: &[u8], signer: &mut G) -> Result<Pa
     ensures total { G.Tally.total signer.new ≡ G.Tally.total signer.old }
     ensures secret { G.signature signer.new ≡ G.signature signer.old }
 {
+    // Its clause says that the room is enough.
     let _most = signer.sig_len();
     let mut room = [0; SIGNATURE_BYTES];
     let Ok(len) = signer.sign(body, &mut room) else {

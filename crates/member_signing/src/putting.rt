@@ -31,6 +31,8 @@ fn read_own(own: &OwnClaim) -> Claim<'_>
     ensures only { (c : plain.Claim) → IsStatement c.statement → signed own.now ≡ signed_of c → claim_of result ≡ c }
 {
     let signer = own.signer;
+
+    // Its clause says that the signer is one that a frame can carry.
     let _number = signer.get();
     let bytes = own.statement.bytes();
     let Ok(statement) = read_statement(bytes) else {

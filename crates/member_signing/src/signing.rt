@@ -1,9 +1,8 @@
 //! What is due, signed: of one kind, and of all kinds in their order.
+ghost use Rattle.std.specs.Prelude.{◌≡◌, ◌<◌, ◌-◌, ◌+◌, map, length, is_some, IfOk, IfSome, OnOk, MatchOption};
 ghost use Rattle.std.specs.Bool.{OnFalse};
 ghost use Rattle.std.specs.Option.{option_map};
-ghost use Rattle.std.specs.Prelude.{◌≡◌, ◌≤◌, ◌<◌, ◌-◌, ◌+◌, map, length, is_some, IfOk, IfSome, OnOk, IsTrue, Option, Some, None, MatchOption};
 ghost use Rattle.message_defs.specs.Packing.{signed_of};
-ghost use Rattle.message_defs.specs.Statements as plain;
 ghost use Rattle.group_defs.specs.Process as defs;
 ghost use Rattle.group_defs.specs.Due.{least_due};
 ghost use Rattle.group_defs.specs.Signing as signing;

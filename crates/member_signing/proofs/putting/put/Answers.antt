@@ -1,4 +1,4 @@
-use Rattle.std.proofs.Common.{◌≡◌, ℕ, List, [], ◌∷◌, ◌++◌, true, false, refl, sym, ◌∙◌, ap, subst, length}
+use Rattle.std.proofs.Common.{◌≡◌, ℕ, List, [], ◌∷◌, ◌++◌, true, refl, sym, ◌∙◌, ap, subst, length}
 use Rattle.message_defs.specs.Spelling.{IsClaim}
 use Rattle.message_defs.specs.Statements.{Statement, Claim}
 use Rattle.group_defs.specs.Views.{View}

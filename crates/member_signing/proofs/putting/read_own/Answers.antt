@@ -1,4 +1,4 @@
-use Rattle.std.proofs.Common.{◌≡◌, ◌∙◌, sym, ap, Ok}
+use Rattle.std.proofs.Common.{◌∙◌, ap}
 use Rattle.message_defs.specs.Packing.{Signed}
 use Rattle.member_signing.proofs.Owned.{claim-is}
 use Rattle.member_signing.proofs.putting.read_own.Goals as goal

@@ -1,4 +1,4 @@
-use Rattle.std.proofs.Common.{◌≡◌, ℕ, ◌-◌, List, Bool, false, true, sym, ◌∙◌, ap, subst, map}
+use Rattle.std.proofs.Common.{◌-◌, List, Bool, false, sym, ◌∙◌, ap, subst, map}
 use Rattle.std.specs.Prelude.{IfOk}
 use Rattle.std.specs.Bool.{OnFalse}
 use Rattle.group_defs.specs.Process.{Kind}

@@ -1,4 +1,4 @@
-use Rattle.std.proofs.Common.{◌≡◌, ℕ, suc, ◌+◌, ◌-◌, ◌<◌, ◌≤◌, List, [], ◌∷◌, ◌++◌, false, Option, Some, None, refl, sym, ◌∙◌, ap, subst, length, map, arith}
+use Rattle.std.proofs.Common.{◌≡◌, ℕ, suc, ◌+◌, ◌-◌, ◌<◌, ◌≤◌, List, [], ◌∷◌, false, Option, refl, sym, ◌∙◌, ap, subst, map, arith}
 use Rattle.std.specs.Prelude.{IfSome, MatchOption}
 use Rattle.std.proofs.lemmas.List.{map-append}
 use Rattle.message_defs.specs.Packing.{Signed, signed_of}
@@ -15,12 +15,12 @@ use Rattle.member_signing.proofs.signing.sign_kind.Goals as goal
 
 pub signatures-init : goal.signatures-init
 signatures-init g c = (
-    (λ s p group used is. (p, begins s p c.args.state.now (g.G.Tally.total c.args.signer.now) (g.G.Tally.used c.args.signer.now) (map signed c.args.signed.now.items) is used, refl)),
-    c.requires.real,
-    c.requires.undecided,
-    refl,
-    refl,
-  )
+  (λ s p group used is. (p, begins s p c.args.state.now (g.G.Tally.total c.args.signer.now) (g.G.Tally.used c.args.signer.now) (map signed c.args.signed.now.items) is used, refl)),
+  c.requires.real,
+  c.requires.undecided,
+  refl,
+  refl,
+)
 
 pub next-requires-clause-left : goal.next-requires-clause-left
 next-requires-clause-left g c = let here = c.used.ensures.value in let all = c.total.ensures in let room = c.signatures-test.true in omega (arith, here, all, room)
@@ -56,7 +56,7 @@ signatures-preserved g c =
           let one = signs-one s (g.G.Signer.signature c.args.signer.now) so.0 c.put.new.state (g.G.Tally.total c.args.signer.now) (g.G.Tally.used c.next.new.signer) (map signed c.signatures.signed.items) due.0 (signed c.in-Some.own) puts (ap suc so.1.used ∙ sym more) its in (
             signs s (g.G.Signer.signature c.args.signer.now) so.0 due.0,
             subst (λ (now : List Signed). IsSigned s p (still (g.G.Tally.total c.args.signer.now - g.G.Tally.used c.next.new.signer) false (signs s (g.G.Signer.signature c.args.signer.now) so.0 due.0)) c.put.new.state (g.G.Tally.total c.args.signer.now) (g.G.Tally.used c.next.new.signer) (map signed c.args.signed.now.items) now false) (sym pushed)
-              (goes-on s p so.0 _ _ _ _ _ _ _ _ _ _ _ so.1 one),
+                (goes-on s p so.0 _ _ _ _ _ _ _ _ _ _ _ so.1 one),
             same-end s (g.G.Signer.signature c.args.signer.now) (kind_of c.args.kind) so.0 due.0 (g.G.Tally.total c.args.signer.now) (g.G.Tally.used c.signatures.signer) (g.G.Tally.used c.next.new.signer) due.1 room more ∙ so.2,
           )),
       c.in_ok-put-in-Some.ensures.real,
@@ -73,7 +73,7 @@ returns-in-None-clause-signs g c s p group used is =
     let count : g.G.Tally.used c.next.new.signer ≡ g.G.Tally.used c.signatures.signer = subst (λ (o : Option OwnClaim). MatchOption o (g.G.Tally.used c.next.new.signer ≡ g.G.Tally.used c.signatures.signer) (λ (own : OwnClaim). g.G.Tally.used c.next.new.signer ≡ g.G.Tally.used c.signatures.signer + 1)) c.in-None.is c.in_ok-due.ensures.used in
     subst (λ (one : Signing). IsSigned s p one c.signatures.state (g.G.Tally.total c.args.signer.now) (g.G.Tally.used c.next.new.signer) (map signed c.args.signed.now.items) (map signed c.signatures.signed.items) false) so.2
     (subst (λ (n : ℕ). IsSigned s p (sign_kind s (g.G.Signer.signature c.args.signer.now) (kind_of c.args.kind) (g.G.Tally.total c.args.signer.now - g.G.Tally.used c.signatures.signer) so.0) c.signatures.state (g.G.Tally.total c.args.signer.now) n (map signed c.args.signed.now.items) (map signed c.signatures.signed.items) false) (sym count)
-      (ends-none s (g.G.Signer.signature c.args.signer.now) (kind_of c.args.kind) p so.0 c.signatures.state (g.G.Tally.total c.args.signer.now) (g.G.Tally.total c.args.signer.now - g.G.Tally.used c.signatures.signer) (g.G.Tally.used c.signatures.signer) (map signed c.args.signed.now.items) (map signed c.signatures.signed.items) none so.1))
+    (ends-none s (g.G.Signer.signature c.args.signer.now) (kind_of c.args.kind) p so.0 c.signatures.state (g.G.Tally.total c.args.signer.now) (g.G.Tally.total c.args.signer.now - g.G.Tally.used c.signatures.signer) (g.G.Tally.used c.signatures.signer) (map signed c.args.signed.now.items) (map signed c.signatures.signed.items) none so.1))
 
 pub returns-clause-signs : goal.returns-clause-signs
 returns-clause-signs g c s p group used is =

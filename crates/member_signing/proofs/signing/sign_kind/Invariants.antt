@@ -1,4 +1,4 @@
-use Rattle.std.proofs.Common.{◌≡◌, ℕ, ◌-◌, false, length, map}
+use Rattle.std.proofs.Common.{◌≡◌, ◌-◌, false, length, map}
 use Rattle.group_defs.specs.Process.{Setting, Process}
 use Rattle.group_defs.specs.Signing.{sign_kind}
 use Rattle.stmt_codec.specs.Views.{signed}
@@ -12,7 +12,7 @@ abbrev pub invariant-signatures : goal.invariant-signatures
 invariant-signatures g l =
     ((s : Setting) (p : Process) → s.group ≡ l.group → length p.signed ≡ g.G.Tally.used l.fn.signer → IsStateOf s p l.fn.state
     → (q : Process) × IsSigned s p (still (g.G.Tally.total l.fn.signer - g.G.Tally.used l.signer) false q) l.state (g.G.Tally.total l.fn.signer) (g.G.Tally.used l.signer) (map signed l.fn.signed.items) (map signed l.signed.items) false
-      × (sign_kind s (g.G.Signer.signature l.fn.signer) (kind_of l.kind) (g.G.Tally.total l.fn.signer - g.G.Tally.used l.signer) q ≡ sign_kind s (g.G.Signer.signature l.fn.signer) (kind_of l.kind) (g.G.Tally.total l.fn.signer - g.G.Tally.used l.fn.signer) p))
+    × (sign_kind s (g.G.Signer.signature l.fn.signer) (kind_of l.kind) (g.G.Tally.total l.fn.signer - g.G.Tally.used l.signer) q ≡ sign_kind s (g.G.Signer.signature l.fn.signer) (kind_of l.kind) (g.G.Tally.total l.fn.signer - g.G.Tally.used l.fn.signer) p))
     × IsReal l.state × IsUndecided l.state.phase × (g.G.Tally.total l.signer ≡ g.G.Tally.total l.fn.signer) × (g.G.Signer.signature l.signer ≡ g.G.Signer.signature l.fn.signer)
 
 abbrev pub decreases-signatures : goal.decreases-signatures

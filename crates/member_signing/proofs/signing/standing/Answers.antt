@@ -1,4 +1,4 @@
-use Rattle.std.proofs.Common.{◌≡◌, ℕ, ◌≤◌, List, sym, ◌∙◌, ap, subst, length}
+use Rattle.std.proofs.Common.{ℕ, ◌≤◌, List, sym, ◌∙◌, ap, subst, length}
 use Rattle.group_defs.specs.Accounts.{Account}
 use Rattle.group_defs.specs.Process.{Pool}
 use Rattle.rule_laws.specs.Heard.{IsPool}
