@@ -1,0 +1,4 @@
+pub mod Parcels
+pub mod Messages
+pub mod Own
+pub mod Places

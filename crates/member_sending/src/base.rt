@@ -1,0 +1,111 @@
+//! The own claims that a Bundle has, by their places among those of the view.
+ghost use Rattle.std.specs.Prelude.{◌≡◌, ◌-◌, ◌++◌, ◌∷◌, [], length, map, filter, drop, not, if◌then◌else◌, IfOk, OnOk};
+ghost use Rattle.std.specs.List.{list_any};
+ghost use Rattle.group_defs.specs.Process.{Process};
+ghost use Rattle.group_defs.specs.Sending as sending;
+ghost use Rattle.group_defs.specs.Due.{same_message};
+ghost use Rattle.stmt_codec.specs.Views.{message, stmt};
+ghost use Rattle.accounts.specs.Views.{delivery};
+ghost use Rattle.reliable_mcast.specs.Beside.{chosen};
+ghost use Rattle.member_sending.specs.Began.{HasDone};
+
+use member_state::{Delivered, ProcessState};
+use rp_base::{NoMemory, Pid};
+use std::alloc::Global;
+use stmt_codec::Statement;
+
+// Whether it is the message of this number of this sender.
+fn is_of(one: &Delivered, sender: Pid, number: u16) -> bool
+    ensures { result ≡ same_message (delivery one.now).message (message sender number) }
+{
+    one.sender == sender && one.number == number
+}
+
+// Whether the message of this number of this sender is among these.
+fn is_among(delivered: &[Delivered], sender: Pid, number: u16) -> bool
+    ensures { result ≡ list_any (λ d. same_message d.message (message sender number)) (map delivery delivered.now) }
+{
+    'delivered: for one in delivered {
+        if is_of(one, sender, number) {
+            return true;
+        }
+    }
+    false
+}
+
+// Whether the message was delivered in the view.
+fn has_delivered(state: &ProcessState, sender: Pid, number: u16) -> bool
+    ensures { (began : Process) → HasDone state.now began → result ≡ list_any (λ d. same_message d.message (message sender number)) began.delivered }
+{
+    match state.account.delivered.last() {
+        Some(delivered) => is_among(delivered, sender, number),
+        None => false,
+    }
+}
+
+// Whether the statement is of a message or a place that was delivered.
+fn was_delivered(state: &ProcessState, statement: &Statement<'_>) -> bool
+    ensures { (began : Process) → HasDone state.now began → result ≡ sending.was_delivered began (stmt statement.now) }
+{
+    match *statement {
+        Statement::Init { number, .. } => has_delivered(state, state.own.me, number),
+        Statement::Echo { sender, number, .. } => has_delivered(state, sender, number),
+        Statement::Order { place, .. }
+        | Statement::Place { place, .. }
+        | Statement::Keep { place, .. } => place < state.own.delivered,
+        _ => false,
+    }
+}
+
+// Puts the place behind the others, where its claim is not of what was delivered.
+fn put_repeated(places: &mut Vec<usize>, state: &ProcessState, place: usize) -> Result<(), NoMemory>
+    ensures { OnOk result ((began : Process) → HasDone state.now began → chosen state.now.said.claims places.new.items ≡ chosen state.now.said.claims places.old.items ++ filter (λ c. not (sending.was_delivered began c.statement)) (chosen state.now.said.claims (place ∷ []))) }
+{
+    let Some(claim) = state.said.get(place) else {
+        return Ok(());
+    };
+    if was_delivered(state, &claim.statement) {
+        return Ok(());
+    }
+    places.push(place)?;
+    Ok(())
+}
+
+// The places of the claims that a Tick repeats: all but those of messages and places that were delivered.
+fn repeated(alloc: Global, state: &ProcessState) -> Result<Vec<usize>, NoMemory>
+    ensures { IfOk result (λ places. (began : Process) → HasDone state.now began → chosen state.now.said.claims places.items ≡ filter (λ c. not (sending.was_delivered began c.statement)) state.now.said.claims) }
+{
+    let mut places = Vec::new(alloc);
+    'claims: for place in 0..state.said.len() {
+        put_repeated(&mut places, state, place)?;
+    }
+    Ok(places)
+}
+
+// The places of the last so many claims.
+fn last_places(alloc: Global, state: &ProcessState, newly: usize) -> Result<Vec<usize>, NoMemory>
+    ensures { IfOk result (λ places. chosen state.now.said.claims places.items ≡ drop (length state.now.said.claims - newly) state.now.said.claims) }
+{
+    let count = state.said.len();
+    let mut places = Vec::new(alloc);
+    'claims: for place in count.saturating_sub(newly)..count {
+        places.push(place)?;
+    }
+    Ok(places)
+}
+
+/// The places of the claims that a Bundle has: on a Tick of those that it repeats, else of the last so many.
+pub(crate) fn base_places(
+    alloc: Global,
+    state: &ProcessState,
+    tick: bool,
+    newly: usize,
+) -> Result<Vec<usize>, NoMemory>
+    ensures { IfOk result (λ places. (began : Process) → HasDone state.now began → chosen state.now.said.claims places.items ≡ (if tick then filter (λ c. not (sending.was_delivered began c.statement)) state.now.said.claims else drop (length state.now.said.claims - newly) state.now.said.claims)) }
+{
+    if tick {
+        repeated(alloc, state)
+    } else {
+        last_places(alloc, state, newly)
+    }
+}

@@ -1,0 +1,39 @@
+ghost use Rattle.std.specs.Prelude.{◌≡◌, ◌++◌, map, OnOk};
+ghost use Rattle.std.specs.List.{flat_map};
+ghost use Rattle.group_defs.specs.Process.{Setting, Process};
+ghost use Rattle.group_defs.specs.Sending.{Bundle, bundle, others, unless_empty};
+ghost use Rattle.member_state.specs.States.{IsStateOf, IsReal};
+ghost use Rattle.member_state.specs.Events.{frame_to, frames_to};
+ghost use Rattle.member_sending.specs.Began.{Began};
+ghost use Rattle.member_sending.specs.Sends.{IsEmpty};
+
+use crate::base::base_places;
+use crate::sends::{hand_over, is_nobody, others};
+use member_state::ProcessState;
+use reliable_mcast::Frames;
+use rp_base::NoMemory;
+use stmt_codec::Sending;
+
+/// Sends the Bundle of a process that has signed, and not settled yet: on a Tick what it signed in its view, but of messages and
+/// places that were delivered; else what it signed in this event, the last `newly` claims. It goes to the other members of the
+/// view, with what goes beside its Orders and Suggests.
+pub fn send_bundle(
+    state: &ProcessState,
+    tick: bool,
+    newly: usize,
+    frames: &mut Frames,
+    sends: &mut Vec<Sending>,
+) -> Result<(), NoMemory>
+    requires real { IsReal state.now }
+    requires empty { IsEmpty frames.old }
+    ensures sent { (s : Setting) (began p : Process) → Began newly began p → IsStateOf s p state.now → OnOk result (map frame_to sends.new.items ≡ map frame_to sends.old.items ++ flat_map frames_to (unless_empty (bundle tick began p) Bundle (others began began.pool.view))) }
+    ensures empty { OnOk result (IsEmpty frames.new) }
+{
+    let to = others(state.pool.view(), state.own.me);
+    if is_nobody(to) {
+        return Ok(());
+    }
+    let base = base_places(*sends.allocator(), state, tick, newly)?;
+    frames.resend(&state.pool, &state.said, &base, state.own.delivered)?;
+    hand_over(frames, to, sends)
+}
