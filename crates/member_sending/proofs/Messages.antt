@@ -1,5 +1,5 @@
 -- Messages compared by sender and number.
-use Rattle.std.proofs.Common.{◌≡◌, ℕ, Bool, true, false, refl, sym, ap, ◌∙◌}
+use Rattle.std.proofs.Common.{◌≡◌, Bool, true, false, refl, sym, ap, ◌∙◌}
 use Rattle.std.specs.Prelude.{◌&&◌, ◌==◌}
 use Rattle.std.proofs.lemmas.Bool.{eqb-true, eqb-false}
 use Rattle.message_defs.specs.Statements.{Message, Message-discrete}

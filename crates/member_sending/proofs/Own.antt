@@ -11,14 +11,14 @@ use Rattle.group_defs.specs.Process.{Setting, Left, Delivered, Process, keyed, p
 use Rattle.message_defs.specs.Claims.{Wants}
 use Rattle.byte_defs.specs.Members.{has}
 use Rattle.group_defs.specs.Events.{Hand, answers}
-use Rattle.group_defs.specs.Accounts.{Account, account_of}
+use Rattle.group_defs.specs.Accounts.{Account}
 use Rattle.group_defs.specs.Sending.{was_delivered, repeated, newly_signed, with_what_goes_beside, bundle, others, answer, Proof, unless_empty}
 use Rattle.accounts.specs.Views.{delivery}
 use Rattle.pool_laws.proofs.Members.{All-mem, filter-mem}
 use Rattle.reliable_mcast.specs.Certificates.{IsRanged}
 use Rattle.reliable_mcast.proofs.Listed.{mem-all}
 use Rattle.member_state.specs.declared.state.ProcessState.{ProcessState}
-use Rattle.member_state.specs.States.{signed_here, IsStateOf, IsReal}
+use Rattle.member_state.specs.States.{IsStateOf, IsReal}
 use Rattle.member_sending.specs.Began.{Began, HasDone}
 
 by-recursion : {A : Type 0} (P : A → Type 0) (xs : List A) → All P xs → AllByRecursion P xs

@@ -1,4 +1,4 @@
-use Rattle.std.proofs.Common.{◌≡◌, sym, ◌∙◌, false, true}
+use Rattle.std.proofs.Common.{sym, ◌∙◌}
 use Rattle.group_defs.specs.Process as defs
 use Rattle.group_defs.specs.Due.{same_message}
 use Rattle.stmt_codec.specs.Views.{message}

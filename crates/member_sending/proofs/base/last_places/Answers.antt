@@ -1,4 +1,4 @@
-use Rattle.std.proofs.Common.{◌≡◌, ◌+◌, ◌++◌, ◌∷◌, [], drop, sym, ap, ◌∙◌, arith, List, ℕ}
+use Rattle.std.proofs.Common.{◌+◌, ◌++◌, drop, sym, ap, ◌∙◌, arith, List, ℕ}
 use Rattle.std.proofs.lemmas.List.{append-nil}
 use Rattle.reliable_mcast.specs.Beside.{chosen}
 use Rattle.reliable_mcast.proofs.Walks.{drop-past}

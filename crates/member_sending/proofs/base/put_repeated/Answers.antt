@@ -1,4 +1,4 @@
-use Rattle.std.proofs.Common.{◌≡◌, ◌++◌, sym, ap, ◌∙◌, List, ℕ}
+use Rattle.std.proofs.Common.{sym, ap, ◌∙◌, List, ℕ}
 use Rattle.std.specs.Prelude.{not}
 use Rattle.message_defs.specs.Statements.{Claim}
 use Rattle.group_defs.specs.Sending.{was_delivered}
