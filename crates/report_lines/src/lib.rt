@@ -1,0 +1,17 @@
+//! The lines of a schedule's report, long or short (docs/FORMATS.md, «The report»): each function writes one kind of them behind the text
+//! so far. Where memory runs out, what stands behind the text is left open, and the caller gives it up.
+#![tactic(auto)]
+
+mod answers;
+mod heads;
+mod histories;
+mod processes;
+mod refusals;
+mod standing;
+mod words;
+
+pub use answers::{Answers, push_answers};
+pub use heads::{push_head, push_refused_count};
+pub use processes::{push_block, push_process};
+pub use refusals::{frame_word, push_refused, refusal_word, update_word};
+pub use standing::Standing;
