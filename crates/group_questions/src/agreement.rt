@@ -1,5 +1,5 @@
 //! Whether what each process tells is a front of what the group has.
-ghost use Rattle.std.specs.Prelude.{◌≡◌, ◌&&◌, ◌||◌, not, nat_lt, ◌+◌, map, take, drop, length};
+ghost use Rattle.std.specs.Prelude.{◌≡◌, ◌==◌, ◌&&◌, ◌||◌, not, nat_lt, ◌+◌, map, take, drop, length};
 ghost use Rattle.std.specs.List.{list_all, list_any, range_with_len};
 ghost use Rattle.byte_defs.specs.Equality.{is_yes};
 ghost use Rattle.group_defs.specs.Views as defs;
@@ -7,6 +7,7 @@ ghost use Rattle.group_defs.specs.Process.{letter_of, Letter-discrete};
 ghost use Rattle.group_defs.specs.Accounts as plain;
 ghost use Rattle.accounts.specs.Views.{account, delivery};
 ghost use Rattle.group_questions.specs.Letters.{letters};
+ghost use Rattle.group_questions.specs.Letters as words;
 
 use crate::group::{delivered_in, longest_views, sequence_in};
 use accounts::{Account, Delivered};
@@ -14,7 +15,7 @@ use view_table::View;
 
 /// Whether two views are equal.
 pub(crate) fn same_view(v: &View, w: &View) -> bool
-    ensures { result ≡ is_yes (defs.View-discrete v.now w.now) }
+    ensures { result ≡ words.same_view v.now w.now }
 {
     v.number() == w.number() && v.members() == w.members()
 }
@@ -50,22 +51,60 @@ fn is_member_in(a: &Account, x: usize) -> bool
     }
 }
 
+// Whether the process left the view of this number.
+fn has_left(a: &Account, x: usize) -> bool
+    ensures { result ≡ nat_lt (x + 1) (length a.now.views.items) }
+{
+    let views = a.views.as_slice();
+    x < views.len() && x + 1 < views.len()
+}
+
+// Whether it may lack what the group delivered in the view: it was no member there, or has not left it.
+fn may_lack(a: &Account, x: usize) -> bool
+    ensures { result ≡ (not (list_any (λ v. defs.is_member v a.now.me) (take 1 (drop x a.now.views.items))) || not (nat_lt (x + 1) (length a.now.views.items))) }
+{
+    !is_member_in(a, x) || !has_left(a, x)
+}
+
+fn same_length(own: &[Delivered], all: &[Delivered]) -> bool
+    ensures { result ≡ (length own.now == length all.now) }
+{
+    own.len() == all.len()
+}
+
+// A front is enough where more may lack, and else all of it is wanted.
+fn is_enough(is_front: bool, may_lack: bool, is_whole: bool) -> bool
+    ensures { result ≡ (is_front && (may_lack || is_whole)) }
+{
+    is_front && (may_lack || is_whole)
+}
+
 // Whether what it delivered in the view of this number is a front of the group's sequence, and all of it where a member left the view.
 fn agrees_in(accounts: &[Account], a: &Account, x: usize) -> bool
     ensures { result ≡ plain.agrees_in (plain.group_of (map account accounts.now)) (account a.now) x }
 {
     let own = delivered_in(a, x);
     let all = sequence_in(accounts, x);
-    let is_whole = own.len() == all.len() || !is_member_in(a, x) || x + 1 >= a.views.len();
-    is_whole && are_first_letters(own, all)
+    is_enough(
+        are_first_letters(own, all),
+        may_lack(a, x),
+        same_length(own, all),
+    )
+}
+
+// Whether it agrees in each of its views.
+fn agrees_throughout(accounts: &[Account], a: &Account) -> bool
+    ensures { result ≡ list_all (plain.agrees_in (plain.group_of (map account accounts.now)) (account a.now)) (range_with_len 0 (length a.now.views.items)) }
+{
+    let views = a.views.as_slice();
+    (0..views.len()).all(|x| agrees_in(accounts, a, x))
 }
 
 // Whether the process agrees with the group of them all.
 fn agrees_with(accounts: &[Account], a: &Account) -> bool
     ensures { result ≡ plain.agrees_with (plain.group_of (map account accounts.now)) (account a.now) }
 {
-    are_first_views(&a.views, longest_views(accounts))
-        && (0..a.views.len()).all(|x| agrees_in(accounts, a, x))
+    are_first_views(&a.views, longest_views(accounts)) && agrees_throughout(accounts, a)
 }
 
 fn all_agree(accounts: &[Account]) -> bool
