@@ -1,0 +1,5 @@
+//! Tests of `group_questions`.
+#![tactic(auto)]
+
+#[cfg(test)]
+mod questions;

@@ -1,0 +1,5 @@
+//! Tests of `report_lines`.
+#![tactic(auto)]
+
+#[cfg(test)]
+mod lines;
