@@ -78,5 +78,6 @@ pub whole-front : (ds es : List Delivered) (may_lack : Bool)
     ≡ (same_sequence (letters ds) (take (length (letters ds)) (letters es)) && (may_lack || same_sequence (letters ds) (letters es)))
 whole-front ds es may_lack =
     let test : Letter → Letter → Bool = λ d e. is_yes (Letter-discrete d e) in
+    let long : (length ds == length es) ≡ (length (letters ds) == length (letters es)) = λ i. sym (length-letters ds) i == sym (length-letters es) i in
     front-and (same_sequence (letters ds) (take (length (letters ds)) (letters es))) may_lack (length ds == length es) (same_sequence (letters ds) (letters es))
-    (λ front. (λ i. sym (length-letters ds) i == sym (length-letters es) i) ∙ sym (front-whole test (letters ds) (letters es) front))
+    (λ front. long ∙ sym (front-whole test (letters ds) (letters es) front))

@@ -43,9 +43,12 @@ longer-assoc xs ys zs = go (nat_lt (length xs) (length ys)) refl (nat_lt (length
 longer-none : {A : Type 0} (xs : List A) → longer xs [] ≡ longer [] xs
 longer-none [] = refl
 longer-none (x ∷ xs) =
-    let over : nat_lt (length (x ∷ xs)) 0 ≡ false = not-less (length (x ∷ xs)) 0 (omega arith) in
-    let under : nat_lt 0 (length (x ∷ xs)) ≡ true = lt-ltb 0 (length (x ∷ xs)) (omega arith) in
-    rw (over, under) refl
+    go (nat_lt (length (x ∷ xs)) 0) (nat_lt 0 (length (x ∷ xs))) (not-less (length (x ∷ xs)) 0 (omega arith)) (lt-ltb 0 (length (x ∷ xs)) (omega arith))
+  where
+    go : (a b : Bool) → a ≡ false → b ≡ true → (if a then [] else x ∷ xs) ≡ (if b then x ∷ xs else [])
+    go false true e f = refl
+    go false false e f = absurd cc
+    go true b e f = absurd cc
 
 -- one list more
 pub longest-more : {A : Type 0} (xss : List (List A)) (xs : List A) → longest (xss ++ xs ∷ []) ≡ longer (longest xss) xs

@@ -20,7 +20,7 @@ use Rattle.report_lines.specs.Standings.{StandsAs, halted_text}
 use Rattle.report_lines.proofs.Named.{phase-named}
 use Rattle.report_lines.proofs.Pieces.{behind}
 
-lengths-same : {A B X : Type 0} (inner : X → List A) (f : A → B) (xs : List X) → map length (map (λ x. map f (inner x)) xs) ≡ map (λ x. length (inner x)) xs
+pub lengths-same : {A B X : Type 0} (inner : X → List A) (f : A → B) (xs : List X) → map length (map (λ x. map f (inner x)) xs) ≡ map (λ x. length (inner x)) xs
 lengths-same inner f [] = refl
 lengths-same inner f (x ∷ xs) = λ i. length-map (inner x) f i ∷ lengths-same inner f xs i
 
