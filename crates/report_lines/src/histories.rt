@@ -83,7 +83,12 @@ fn push_message(out: &mut Vec<u8>, me: Pid, x: u64, d: &Delivered) -> Result<(),
 }
 
 // What was delivered in the view of this number.
-fn push_messages(out: &mut Vec<u8>, me: Pid, x: u64, delivered: &[Delivered]) -> Result<(), NoMemory>
+fn push_messages(
+    out: &mut Vec<u8>,
+    me: Pid,
+    x: u64,
+    delivered: &[Delivered],
+) -> Result<(), NoMemory>
     ensures { OnOk result (out.new.items ≡ out.old.items ++ flat_map (plain.message_line me x) (map delivery delivered.now)) }
 {
     for d in delivered {

@@ -1,6 +1,9 @@
 use accounts::{Account, Delivered, Payload};
 use message_defs::FrameFault;
-use report_lines::{Answers, Standing, push_answers, push_block, push_head, push_process, push_refused, push_refused_count};
+use report_lines::{
+    Answers, Standing, push_answers, push_block, push_head, push_process, push_refused,
+    push_refused_count,
+};
 use rp_base::{Pid, PidSet};
 use std::alloc::Global;
 use std::test::Fail;
@@ -50,7 +53,10 @@ fn a_process_with_two_liars(rt: HostRuntime) -> Result<(), Fail> {
     };
     let mut out = Vec::new(rt.alloc());
     push_block(&mut out, &standing, false)?;
-    assert_eq!(rt; out.as_slice(), b"process 1 open 1 1 3\nview 1 0 : 0 1 2 3\nmessage 1 0 0 3 0 62\nliar 1 2\nliar 1 3\n".as_slice());
+    assert_eq!(rt;
+        out.as_slice(),
+        b"process 1 open 1 1 3\nview 1 0 : 0 1 2 3\nmessage 1 0 0 3 0 62\nliar 1 2\nliar 1 3\n".as_slice()
+    );
     Ok(())
 }
 
@@ -66,7 +72,10 @@ fn a_process_that_halted(rt: HostRuntime) -> Result<(), Fail> {
     };
     let mut out = Vec::new(rt.alloc());
     push_block(&mut out, &standing, true)?;
-    assert_eq!(rt; out.as_slice(), b"process 2 halted 1 1 12\nview 2 0 : 0 1 2 3\nmessage 2 0 0 3 0 -\nspent 2\nhalted 2 1 0\n".as_slice());
+    assert_eq!(rt;
+        out.as_slice(),
+        b"process 2 halted 1 1 12\nview 2 0 : 0 1 2 3\nmessage 2 0 0 3 0 -\nspent 2\nhalted 2 1 0\n".as_slice()
+    );
     let mut first = Vec::new(rt.alloc());
     push_process(&mut first, &standing)?;
     assert_eq!(rt; first.as_slice(), b"process 2 halted 1 1 12\n".as_slice());
@@ -74,12 +83,27 @@ fn a_process_that_halted(rt: HostRuntime) -> Result<(), Fail> {
 }
 
 #[test]
-fn the_other_lines(rt: HostRuntime) -> Result<(), Fail> {
+fn what_stands_before_the_processes(rt: HostRuntime) -> Result<(), Fail> {
     let mut out = Vec::new(rt.alloc());
     push_head(&mut out, 9)?;
-    push_refused(&mut out, 5, pid(0)?, EventFault::BadFrame(FrameFault::Misplaced))?;
+    push_refused(
+        &mut out,
+        5,
+        pid(0)?,
+        EventFault::BadFrame(FrameFault::Misplaced),
+    )?;
     push_refused(&mut out, 257, pid(0)?, EventFault::Backlog)?;
     push_refused_count(&mut out, 100)?;
+    assert_eq!(rt;
+        out.as_slice(),
+        b"rampart report 1\nevents 9\nrefused 5 0 misplaced\nrefused 257 0 backlog\nrefused 100\n".as_slice()
+    );
+    Ok(())
+}
+
+#[test]
+fn what_stands_behind_them(rt: HostRuntime) -> Result<(), Fail> {
+    let mut out = Vec::new(rt.alloc());
     push_answers(
         &mut out,
         Answers {
@@ -89,6 +113,9 @@ fn the_other_lines(rt: HostRuntime) -> Result<(), Fail> {
             sound: true,
         },
     )?;
-    assert_eq!(rt; out.as_slice(), b"rampart report 1\nevents 9\nrefused 5 0 misplaced\nrefused 257 0 backlog\nrefused 100\nhonest yes\nbounded no\nagree no\nsound yes\n".as_slice());
+    assert_eq!(rt;
+        out.as_slice(),
+        b"honest yes\nbounded no\nagree no\nsound yes\n".as_slice()
+    );
     Ok(())
 }
