@@ -1,8 +1,8 @@
 -- A list that is a front of another.
 use Rattle.std.proofs.Common.{◌≡◌, ◌==◌, ℕ, ◌+◌, ◌<◌, ◌≤◌, List, [], ◌∷◌, map, take, length, Bool, true, false, refl, sym, ap, ◌∙◌, subst, arith}
-use Rattle.std.specs.Prelude.{◌&&◌, ◌||◌}
+use Rattle.std.specs.Prelude.{◌&&◌, ◌||◌, nat_le}
 use Rattle.std.specs.List.{list_all, zip}
-use Rattle.std.proofs.lemmas.Bool.{eqb-true, eq-eqb}
+use Rattle.std.proofs.lemmas.Bool.{eqb-true, eq-eqb, leb-true}
 use Rattle.std.proofs.lemmas.List.{length-map, take_all}
 use lib.Pointwise.{pointwise, pointwise_long, bytes_decides}
 use Rattle.byte_defs.specs.Equality.{is_yes, same_bytes}
@@ -23,12 +23,12 @@ same-truth false false f g = refl
 same_view-is : (v w : View) → same_view v w ≡ is_yes (View-discrete v w)
 same_view-is v w = same-truth (same_view v w) (is_yes (View-discrete v w))
     (λ e.
-        let number = eqb-true v.number w.number (and-first (v.number == w.number) (same_bytes v.members w.members) e) in
-        let members = (bytes_decides v.members w.members).0 (and-second (v.number == w.number) (same_bytes v.members w.members) e) in
-        is-yes (View-discrete v w) (λ i. record { number = number i; members = members i }))
+    let number = eqb-true v.number w.number (and-first (v.number == w.number) (same_bytes v.members w.members) e) in
+    let members = (bytes_decides v.members w.members).0 (and-second (v.number == w.number) (same_bytes v.members w.members) e) in
+    is-yes (View-discrete v w) (λ i. record { number = number i; members = members i }))
     (λ e.
-        let is = yes-is (View-discrete v w) e in
-        both-true (v.number == w.number) (same_bytes v.members w.members) (eq-eqb v.number w.number (ap (λ (u : View). u.number) is)) ((bytes_decides v.members w.members).1 (ap (λ (u : View). u.members) is)))
+    let is = yes-is (View-discrete v w) e in
+    both-true (v.number == w.number) (same_bytes v.members w.members) (eq-eqb v.number w.number (ap (λ (u : View). u.number) is)) ((bytes_decides v.members w.members).1 (ap (λ (u : View). u.members) is)))
 
 and-false : (a b : Bool) → false ≡ b → false ≡ (a && b)
 and-false true b e = e
@@ -45,6 +45,13 @@ pub letters-front : (ds es : List Delivered) → length ds ≤ length es
 letters-front [] es le = refl
 letters-front (d ∷ ds) [] le = absurd (omega (arith, le))
 letters-front (d ∷ ds) (e ∷ es) le = ap (λ (b : Bool). is_yes (Letter-discrete (letter_of (delivery d)) (letter_of (delivery e))) && b) (letters-front ds es (omega (arith, le)))
+
+pub not-le : (m n : ℕ) → n < m → nat_le m n ≡ false
+not-le m n lt = go (nat_le m n) refl
+  where
+    go : (b : Bool) → nat_le m n ≡ b → nat_le m n ≡ false
+    go true e = absurd (let le = leb-true m n e in omega (arith, lt, le))
+    go false e = e
 
 -- a longer list is no front
 pub too-long : {A : Type 0} (E : A → A → Bool) (xs ys : List A) → length ys < length xs → false ≡ pointwise E xs (take (length xs) ys)
@@ -64,9 +71,9 @@ front-whole : {A : Type 0} (E : A → A → Bool) (xs ys : List A) → pointwise
 front-whole E xs ys front = same-truth (pointwise E xs ys) (length xs == length ys)
     (λ e. eq-eqb (length xs) (length ys) (pointwise_long E xs ys e))
     (λ e.
-        let long = eqb-true (length xs) (length ys) e in
-        let all : take (length xs) ys ≡ ys = take_all (length xs) ys (omega (arith, long)) in
-        ap (pointwise E xs) (sym all) ∙ front)
+    let long = eqb-true (length xs) (length ys) e in
+    let all : take (length xs) ys ≡ ys = take_all (length xs) ys (omega (arith, long)) in
+    ap (pointwise E xs) (sym all) ∙ front)
 
 front-and : (a b c d : Bool) → (a ≡ true → c ≡ d) → (a && (b || c)) ≡ (a && (b || d))
 front-and true b c d same = ap (λ (x : Bool). b || x) (same refl)

@@ -11,7 +11,11 @@ use view_table::View;
 fn longer<'a, T>(first: &'a [T], other: &'a [T]) -> &'a [T]
     ensures { result.now ≡ (if nat_lt (length first.now) (length other.now) then other.now else first.now) }
 {
-    if first.len() < other.len() { other } else { first }
+    if first.len() < other.len() {
+        other
+    } else {
+        first
+    }
 }
 
 /// The views of the group: the longest list of them, and of equally long ones the first.
