@@ -1,5 +1,5 @@
 -- What hearing changes, and what it keeps.
-use Rattle.std.proofs.Common.{◌≡◌, ◌≢◌, ℕ, ◌+◌, ◌≤◌, List, [], ◌∷◌, ◌++◌, Bool, true, false, Option, Some, None, refl, sym, ap, subst, ◌∙◌, arith, length, slice_index_or, length-append}
+use Rattle.std.proofs.Common.{◌≡◌, ◌≢◌, ◌+◌, ◌≤◌, List, [], ◌∷◌, ◌++◌, Bool, true, false, Option, Some, None, refl, sym, ap, subst, ◌∙◌, arith, length, slice_index_or, length-append}
 use Rattle.std.specs.Prelude.{if◌then◌else◌, ◌&&◌, ◌==◌, is_some, option_map, option_and_then, unwrap_or, All, AllPairs}
 use Rattle.std.specs.List.{AllByRecursion, list_any}
 use Rattle.std.proofs.lemmas.Bool.{eqb-true, eq-eqb}
@@ -13,7 +13,7 @@ use Rattle.group_defs.specs.Process.{Setting, Process}
 use Rattle.group_defs.specs.Certified.{claim_on, heard_on, certified_on, value_at, number_of_members}
 use Rattle.group_defs.specs.Hearing.{Verdict, Old, Early, Stranger, OutOfWindow, Known, Unsigned, Conflict, Heard, verdict, with_verdict, hear, hear_all}
 use Rattle.pool_laws.proofs.Grown.{certified-stays}
-use Rattle.pool_laws.proofs.Members.{Mem, All-mem, mem-All, each-snoc, find-is, index-mem, mem-list_any}
+use Rattle.pool_laws.proofs.Members.{All-mem, mem-All, each-snoc, find-is, index-mem, mem-list_any}
 use Rattle.pool_laws.proofs.Tests.{and-first, then-some}
 
 -- ---- one claim

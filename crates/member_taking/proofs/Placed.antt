@@ -1,5 +1,5 @@
 -- Where an element is put among others.
-use Rattle.std.proofs.Common.{◌≡◌, ℕ, zero, suc, ◌+◌, ◌≤◌, ◌<◌, List, [], ◌∷◌, Bool, true, false, refl, sym, ap, ◌∙◌, arith, map, length, below_more}
+use Rattle.std.proofs.Common.{◌≡◌, ℕ, zero, suc, ◌+◌, ◌<◌, List, [], ◌∷◌, Bool, true, false, refl, sym, ap, ◌∙◌, arith, map, length, below_more}
 use Rattle.std.specs.Prelude.{if◌then◌else◌, insert, slice_index_or}
 use Rattle.byte_defs.specs.Orders.{put, numbers_below}
 

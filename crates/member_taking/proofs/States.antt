@@ -1,44 +1,35 @@
 -- What taking in keeps of whose state it is.
-use Rattle.std.proofs.Common.{◌≡◌, ◌≢◌, ℕ, ◌+◌, ◌-◌, ◌≤◌, List, [], ◌∷◌, ◌++◌, Bool, true, false, Option, Some, None, inl, inr, refl, sym, ap, subst, ◌∙◌, arith, map, length, length-append}
-use Rattle.std.specs.Prelude.{if◌then◌else◌, ◌==◌, not, All, nat_lt}
+use Rattle.std.proofs.Common.{◌≡◌, ℕ, ◌+◌, ◌≤◌, List, ◌∷◌, Bool, true, false, Some, None, inl, inr, refl, sym, ap, subst, ◌∙◌, arith, length}
+use Rattle.std.specs.Prelude.{if◌then◌else◌, not, All}
 use Rattle.std.specs.List.{AllByRecursion}
 use Rattle.std.specs.Option.{option_map_or}
 use Rattle.byte_defs.specs.Members.{has}
-use Rattle.std.proofs.lemmas.Bool.{eqb-true, eq-eqb}
 use Rattle.byte_defs.specs.Choices.{first_that_holds}
 use Rattle.byte_defs.specs.Orders.{put}
-use Rattle.message_defs.specs.Limits.{most_payload_bytes}
 use Rattle.message_defs.specs.Spelling.{IsClaim, IsUpdate}
 use Rattle.message_defs.specs.Updates.{Update, Value, Remove, Add, Renew}
 use Rattle.message_defs.specs.Statements.{Claim, ReadyAt}
 use Rattle.group_defs.specs.Views.{is_member}
-use Rattle.group_defs.specs.Process.{Setting, Pool, Process, keyed, earlier, delivered_from, places_in}
+use Rattle.group_defs.specs.Process.{Setting, Pool, Process, keyed, places_in}
 use Rattle.group_defs.specs.Certified.{value_at, number_of_members}
 use Rattle.group_defs.specs.Hearing.{hear, hear_all}
-use Rattle.group_defs.specs.Due.{is_perceived}
-use Rattle.group_defs.specs.Accounts.{Account, account_of}
-use Rattle.group_defs.specs.Events.{EventFault, HaltedNow, Outsider, TooLong, Backlog, NoKey, Submit, refusal, perceives, perceived_numbers, take_in, no_next}
-use Rattle.pool_laws.proofs.Members.{All-mem, mem-All, Mem}
+use Rattle.group_defs.specs.Events.{EventFault, HaltedNow, Outsider, NoKey, refusal, perceives, perceived_numbers, take_in, no_next}
+use Rattle.pool_laws.proofs.Members.{All-mem, mem-All}
 use Rattle.pool_laws.proofs.Sorting.{mem-put}
-use Rattle.rule_laws.specs.Heard.{IsPool}
-use Rattle.rp_base.specs.Views.{update as update_of}
 use Rattle.claim_index.specs.Kept.{Holding}
 use Rattle.claim_lists.specs.Pairs.{Pairing}
 use Rattle.claim_hearing.specs.Hearing.{IsHeard}
-use Rattle.own_place.specs.Owns.{Tells, HasSigned, HasDelivered}
 use Rattle.ending_rules.specs.Perceiving.{asking, has_update, TellsPerceived}
 use Rattle.ending_rules.specs.declared.notifies.Perceived.{Perceived}
 use Rattle.view_phases.specs.declared.phases.Phase.{Phase}
 use Rattle.view_phases.specs.declared.phases.Phase.TheVariants.{Observing, OpenView, ClosingView, DecidedView, HaltedView}
 use Rattle.view_phases.specs.Phases.{IsIn}
-use Rattle.reliable_mcast.specs.Archives.{Keeps}
 use Rattle.member_laws.specs.Lawful.{IsLawful}
 use Rattle.member_laws.proofs.Lawful.{hearing_is_lawful}
 use Rattle.accounts.specs.Views.{account as account_as}
 use Rattle.accounts.specs.declared.account.Account as code
 use Rattle.member_state.specs.declared.state.ProcessState.{ProcessState}
-use Rattle.member_state.specs.Bounds.{IsBounded}
-use Rattle.member_state.specs.States.{IsStateOf, IsReal, IsDecision, ArePairs}
+use Rattle.member_state.specs.States.{IsStateOf, ArePairs}
 use Rattle.member_taking.proofs.Heard.{with_hearing, hear-changes, hear-value, hear-pairs, all-keep, all-change, all-length, AreOfOne, IsOnce}
 
 -- ---- hearing

@@ -48,7 +48,13 @@ fn hear<V: Scheme>(
     ensures heard { (s r : Setting) (p : Process) → Shares r (V.valid judge.now.scheme.now) judge.now.group.now judge.now.roster.now → IsStateOf s p state.old → IfOk result (λ n. n ≡ length (hearing.hear_all r p (claims_left claims.entry)).pool.heard - length p.pool.heard) }
 {
     let before = state.pool.size().0;
-    hear_all(judge, &state.own, &mut state.pool, &mut state.conflicts, claims)?;
+    hear_all(
+        judge,
+        &state.own,
+        &mut state.pool,
+        &mut state.conflicts,
+        claims,
+    )?;
     let newly = state.pool.size().0 - before;
     Ok(newly as u16)
 }

@@ -1,6 +1,5 @@
-use Rattle.std.proofs.Common.{rules, ◌≡◌, ◌∙◌, Ok, sym, ap}
+use Rattle.std.proofs.Common.{rules, ◌∙◌, Ok, sym, ap}
 use Rattle.group_defs.specs.Events.{Hand}
-use Rattle.message_defs.specs.Frames.{Want}
 use Rattle.message_defs.specs.Claims.{claims_of}
 use Rattle.frame_codec.specs.Views.{frame_view}
 use Rattle.stmt_codec.specs.Left.{claims_left}

@@ -1,4 +1,4 @@
-use Rattle.std.proofs.Common.{◌≡◌, ◌∙◌, ap}
+use Rattle.std.proofs.Common.{◌∙◌, ap}
 use Rattle.group_defs.specs.Events.{refusal}
 use Rattle.member_state.specs.Events.{event as event_of}
 use Rattle.member_taking.proofs.refusals.admit_running.Goals as goal

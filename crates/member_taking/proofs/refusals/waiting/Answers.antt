@@ -1,4 +1,4 @@
-use Rattle.std.proofs.Common.{◌≡◌, ◌∙◌, sym, ap, subst, arith, length}
+use Rattle.std.proofs.Common.{◌∙◌, sym, ap, subst, arith, length}
 use Rattle.std.specs.Prelude.{IsTrue}
 use Rattle.group_defs.specs.Views as views
 use Rattle.group_defs.specs.Process.{delivered_from}

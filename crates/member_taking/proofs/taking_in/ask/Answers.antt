@@ -1,12 +1,12 @@
-use Rattle.std.proofs.Common.{◌≡◌, ◌∙◌, None, Some, true, false, sym, ap}
+use Rattle.std.proofs.Common.{◌≡◌, ◌∙◌, None, Some, sym, ap}
 use Rattle.std.proofs.lemmas.Result.{on_ok_weaker}
 use Rattle.byte_defs.specs.Orders.{put}
 use Rattle.group_defs.specs.Process.{Pool}
-use Rattle.group_defs.specs.Events.{EventFault, perceived_numbers}
+use Rattle.group_defs.specs.Events.{perceived_numbers}
 use Rattle.rp_base.specs.Views.{update as update_of}
-use Rattle.ending_rules.specs.Perceiving.{fault as fault_of, has_update}
+use Rattle.ending_rules.specs.Perceiving.{fault as fault_of}
 use Rattle.accounts.specs.Views.{account as account_of}
-use Rattle.member_taking.proofs.States.{may-ask, perceives-again, perceives-now}
+use Rattle.member_taking.proofs.States.{may-ask, perceives-now}
 use Rattle.member_taking.proofs.taking_in.ask.Goals as goal
 
 pub unreachable-requires : goal.unreachable-requires
@@ -22,5 +22,5 @@ pub returns : goal.returns
 returns c s p is =
     on_ok_weaker c.tell_perceived.result
     (λ now. perceives-now s p c.args.state.now is (update_of c.args.update.now) c.in_range.ensures (sym c.contains.ensures ∙ c.if-contains.false) c.perceive.new.set (c.in-Ok.ensures.taken p is.asked) c.tell_perceived.new.account
-        (now ∙ ap (λ x. record (account_of c.args.state.now.account) { perceived = put perceived_numbers (x, update_of c.args.update.now) (account_of c.args.state.now.account).perceived }) (c.number.ensures.value ∙ ap (λ v. v.number) c.view.ensures)))
+    (now ∙ ap (λ x. record (account_of c.args.state.now.account) { perceived = put perceived_numbers (x, update_of c.args.update.now) (account_of c.args.state.now.account).perceived }) (c.number.ensures.value ∙ ap (λ v. v.number) c.view.ensures)))
     c.tell_perceived.ensures

@@ -1,4 +1,4 @@
-use Rattle.std.proofs.Common.{◌≡◌, ◌≤◌, refl, subst, arith}
+use Rattle.std.proofs.Common.{refl, subst, arith}
 use Rattle.stmt_codec.specs.Left.{claims_left}
 use Rattle.rule_laws.specs.Heard.{IsPool}
 use Rattle.claim_pool.specs.Settings.{as_setting}
