@@ -1,3 +1,3 @@
-mod Taken
-mod Signed
-mod Settled
+pub mod Taken
+pub mod Signed
+pub mod Settled
