@@ -1,0 +1,82 @@
+-- The state of a process that has delivered one place more.
+use Rattle.std.proofs.Common.{◌≡◌, ℕ, ◌+◌, ◌<◌, ◌≤◌, List, [], ◌∷◌, ◌++◌, map, length, Option, Some, None, Bool, true, false, refl, sym, ap, ◌∙◌, subst, arith}
+use Rattle.std.specs.Option.{option_map_or}
+use Rattle.message_defs.specs.Updates.{Value}
+use Rattle.group_defs.specs.Views.{is_member}
+use Rattle.group_defs.specs.Process as defs
+use Rattle.group_defs.specs.Process.{Setting, Process, Left, places_in}
+use Rattle.group_defs.specs.Certified.{fixed_length}
+use Rattle.group_defs.specs.Settle.{limit}
+use Rattle.group_defs.specs.Accounts.{Account, account_of}
+use Rattle.own_place.specs.declared.own.Own.{Own}
+use Rattle.view_phases.specs.declared.phases.Phase.{Phase}
+use Rattle.view_phases.specs.declared.phases.Phase.TheVariants as phases
+use Rattle.view_phases.specs.Phases.{IsIn, IsDecided, IsClosing, IsHalted, decided, decision_of}
+use Rattle.accounts.specs.declared.account.Account as code
+use Rattle.accounts.specs.Views.{account}
+use Rattle.member_laws.specs.Lawful.{IsLawful}
+use Rattle.member_laws.specs.Telling.{OnePlaceMore}
+use Rattle.member_laws.proofs.Telling.{delivering_tells}
+use Rattle.member_state.specs.declared.state.ProcessState.{ProcessState}
+use Rattle.member_state.specs.States.{IsStateOf, IsDecision}
+use Rattle.member_settling.proofs.Bounded.{IsNext, delivering-bounded}
+use Rattle.pool_laws.proofs.Tests.{none-some}
+use Rattle.member_settling.proofs.Changed.{halted-decided}
+use Rattle.member_settling.proofs.Phases.{halted}
+
+-- who has halted may deliver nothing more
+stopped : (p : Process) (d : ℕ × Value) → p.decision ≡ Some d → d.1.cut < places_in p.delivered → places_in p.delivered < limit p → ⊥
+stopped p d e beyond below =
+    let cut : limit p ≡ d.1.cut = ap (λ o. option_map_or (λ (d : ℕ × Value). d.1.cut) o (fixed_length p.pool)) e in
+    omega (arith, cut, beyond, below)
+
+module _ (p : Process) (ds : List defs.Delivered) where
+  abbrev pub further : Process
+  further = record p { delivered = p.delivered ++ ds }
+
+  lawful-so : IsLawful p → IsLawful further
+  lawful-so ok = record { number = ok.number; pool = ok.pool; own = ok.own; past = ok.past; said = ok.said; short = ok.short; batches = ok.batches; asked = ok.asked }
+
+  phase-so : (phase : Phase) → (p.halted ≡ true → ⊥) → IsIn phase p → IsIn phase further
+  phase-so (phases.Observing o) on is = is
+  phase-so (phases.OpenView o) on is = is
+  phase-so (phases.ClosingView c) on is = record { phase = is.phase; length = is.length }
+  phase-so (phases.DecidedView d) on is = record { phase = is.phase; decision = is.decision }
+  phase-so (phases.HaltedView h) on is = absurd (on (halted p is.phase))
+
+  -- what is told of it
+  pub account-so : (a b : Account) → account_of p ≡ a → b ≡ record a { delivered = b.delivered }
+      → ((before : List (List defs.Delivered)) (last : List defs.Delivered) → a.delivered ≡ before ++ last ∷ [] → b.delivered ≡ before ++ (last ++ ds) ∷ [])
+      → account_of further ≡ b
+  account-so a b is rest more =
+      let now : b.delivered ≡ map (λ (v : Left). v.delivered) p.left ++ (p.delivered ++ ds) ∷ [] = more (map (λ (v : Left). v.delivered) p.left) p.delivered (sym (ap (λ (a : Account). a.delivered) is)) in
+      (λ i. record { me = (is i).me; views = (is i).views; delivered = sym now i; accepted = (is i).accepted; perceived = (is i).perceived }) ∙ sym rest
+
+  pub delivers-state : (s : Setting) (st : ProcessState) (own : Own) (told : code.Account) → IsStateOf s p st → (next : IsNext p ds) → places_in p.delivered < limit p
+      → OnePlaceMore p.pool.view next.batch p.delivered st.own own → account_of further ≡ account told → IsStateOf s further (record st { own = own; account = told })
+  delivers-state s st own told ok next below more tells = record {
+    lawful = lawful-so ok.lawful;
+    bounded = delivering-bounded p ds next ok.bounded;
+    number = ok.number;
+    some = ok.some;
+    decided = λ d e. let by = ok.decided d e in record { certified = by.certified; possible = by.possible };
+    each = ok.each;
+    asked_for = ok.asked_for;
+    halted_member = ok.halted_member;
+    halted_beyond = λ stops d e. (let lt = ok.halted_beyond stops d e in let places = next.more in omega (arith, lt, places));
+    limit = ok.limit;
+    place = delivering_tells s p st.pool.pool st.own own next.batch ds next.some next.delivers more ok.place;
+    phase = phase-so st.phase on ok.phase;
+    asked = ok.asked;
+    said = ok.said;
+    pairs = ok.pairs;
+    kept = record { numbers = ok.kept.numbers; previous = ok.kept.previous; commits = ok.kept.commits };
+    account = tells;
+  }
+    where
+      on : p.halted ≡ true → ⊥
+      on stops = go p.decision refl
+        where
+          go : (o : Option (ℕ × Value)) → p.decision ≡ o → ⊥
+          go (Some d) e = stopped p d e (ok.halted_beyond stops d e) below
+          go None e = (let was = halted-decided st.phase p ok.phase stops in none-some e was.1)

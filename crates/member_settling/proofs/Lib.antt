@@ -1,0 +1,9 @@
+pub mod Bounded
+pub mod Decisions
+pub mod Deliveries
+pub mod Phases
+pub mod Installing
+pub mod Lists
+pub mod Changed
+pub mod Delivered
+pub mod Begun
