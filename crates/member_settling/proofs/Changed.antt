@@ -93,15 +93,15 @@ decides-state s p st phase is ok = state-so p (option_or p.decision (decided_by 
     earlier : p.halted ≡ true → (d : ℕ × Value) → option_or p.decision (decided_by s p.pool) ≡ Some d → d.1.cut < places_in p.delivered
     earlier stops d e =
         let was = halted-decided st.phase p ok.phase stops in
-        let same : p.decision ≡ Some d = was.1 ∙ sym (ap (λ o. option_or o (decided_by s p.pool)) was.1) ∙ e in
+        let same : p.decision ≡ Some d = was.1 ∙ sym (ap (λ (o : Option (ℕ × Value)). option_or o (decided_by s p.pool)) was.1) ∙ e in
         ok.halted_beyond stops d same
 
 -- who has decided, or where no rank decides, stays as it is
 pub stays-decided : (s : Setting) (p : Process) (d : ℕ × Value) → p.decision ≡ Some d → decide s p ≡ p
-stays-decided s p d e = ap (λ o. record p { decision = o }) (ap (λ o. option_or o (decided_by s p.pool)) e ∙ sym e)
+stays-decided s p d e = ap (λ (o : Option (ℕ × Value)). record p { decision = o }) (ap (λ (o : Option (ℕ × Value)). option_or o (decided_by s p.pool)) e ∙ sym e)
 
 pub stays-undecided : (s : Setting) (p : Process) → decided_by s p.pool ≡ None → decide s p ≡ p
-stays-undecided s p e = ap (λ o. record p { decision = o }) (ap (option_or p.decision) e ∙ go p.decision)
+stays-undecided s p e = ap (λ (o : Option (ℕ × Value)). record p { decision = o }) (ap (option_or p.decision) e ∙ go p.decision)
   where
     go : (o : Option (ℕ × Value)) → option_or o None ≡ o
     go None = refl

@@ -50,7 +50,8 @@ module _ (p : Process) (ds : List defs.Delivered) where
       → account_of further ≡ b
   account-so a b is rest more =
       let now : b.delivered ≡ map (λ (v : Left). v.delivered) p.left ++ (p.delivered ++ ds) ∷ [] = more (map (λ (v : Left). v.delivered) p.left) p.delivered (sym (ap (λ (a : Account). a.delivered) is)) in
-      (λ i. record { me = (is i).me; views = (is i).views; delivered = sym now i; accepted = (is i).accepted; perceived = (is i).perceived }) ∙ sym rest
+      let same : account_of further ≡ record a { delivered = b.delivered } = λ i. record { me = (is i).me; views = (is i).views; delivered = sym now i; accepted = (is i).accepted; perceived = (is i).perceived } in
+      same ∙ sym rest
 
   pub delivers-state : (s : Setting) (st : ProcessState) (own : Own) (told : code.Account) → IsStateOf s p st → (next : IsNext p ds) → places_in p.delivered < limit p
       → OnePlaceMore p.pool.view next.batch p.delivered st.own own → account_of further ≡ account told → IsStateOf s further (record st { own = own; account = told })

@@ -4,6 +4,10 @@ pub mod Deliveries
 pub mod Phases
 pub mod Installing
 pub mod Lists
+pub mod Putting
 pub mod Changed
 pub mod Delivered
+pub mod Loop
 pub mod Begun
+pub mod Leaving
+pub mod Real

@@ -1,17 +1,21 @@
 //! A decided view is left: the process waits for what is left below the cut, installs the next view, or halts beyond the cut.
-ghost use Rattle.std.specs.Prelude.{◌≡◌, ◌≤◌, ◌++◌, List, ◌∷◌, [], length, map, count_by, ◌==◌, Some, OnOk, IfOk};
+ghost use Rattle.std.specs.Prelude.{◌≡◌, ◌+◌, ◌≤◌, ◌++◌, None, false, List, ◌∷◌, [], length, map, count_by, ◌==◌, Some, OnOk};
 ghost use Rattle.message_defs.specs.Statements.{Ready, ReadyAt};
+ghost use Rattle.message_defs.specs.Updates.{Update};
+ghost use Rattle.group_defs.specs.Views.{next_view};
 ghost use Rattle.group_defs.specs.Process as defs;
 ghost use Rattle.group_defs.specs.Process.{Setting, Process, delivered_from};
-ghost use Rattle.group_defs.specs.Certified.{certificate, value_at};
+ghost use Rattle.group_defs.specs.Certified.{certificate, is_ended, value_at};
 ghost use Rattle.group_defs.specs.Settle as settle;
 ghost use Rattle.group_defs.specs.Events.{Installs};
 ghost use Rattle.rp_base.specs.Views.{value};
-ghost use Rattle.accounts.specs.Views.{delivery};
+ghost use Rattle.accounts.specs.Views.{account as told, delivery};
 ghost use Rattle.claim_index.specs.Kept.{empty_pool};
 ghost use Rattle.own_place.specs.Owns.{Tells};
+ghost use Rattle.ending_rules.specs.Perceiving.{has_update};
+ghost use Rattle.member_laws.specs.Telling.{Begins};
 ghost use Rattle.reliable_mcast.specs.Certificates.{all_signed, IsRanged};
-ghost use Rattle.view_phases.specs.Phases.{counts, decided as decided_by, decision_of};
+ghost use Rattle.view_phases.specs.Phases.{counts, decision_of, IsIn};
 ghost use Rattle.member_state.specs.Events.{note};
 ghost use Rattle.member_state.specs.States.{IsStateOf, IsReal};
 ghost use Rattle.member_settling.specs.Steps.{in_phase, IsLeaving, CanLeave, Leaves};
@@ -22,7 +26,6 @@ use claim_pool::{Own, Pool};
 use ending_rules::Perceived;
 use member_state::{Account, Delivered, ProcessState};
 use own_moves::begin_view;
-use reliable_mcast::Archive;
 use rp_base::{NoMemory, Pid};
 use std::alloc::Global;
 use std::mem;
@@ -49,44 +52,59 @@ fn count_own(delivered: &[Delivered], me: Pid) -> u16
     delivered.iter().filter(|d| d.sender == me).count() as u16
 }
 
-// How many own messages were delivered in the current view, whose list is the last one.
-fn own_delivered(lists: &[Vec<Delivered>], me: Pid) -> u16
-    requires { HasShortLast (map (λ ds. map delivery ds.items) lists.now) }
-    ensures { (ds : List defs.Delivered) → IsLast (map (λ ds. map delivery ds.items) lists.now) ds → result ≡ delivered_from me ds }
+// How many own messages were delivered in the current view, whose list is the account's last one.
+fn own_delivered(account: &Account) -> u16
+    requires { HasShortLast (told account.now).delivered }
+    ensures { (ds : List defs.Delivered) → IsLast (told account.now).delivered ds → result ≡ delivered_from account.now.me ds }
 {
-    match lists.last() {
-        Some(delivered) => count_own(delivered, me),
+    match account.delivered.last() {
+        Some(delivered) => count_own(delivered, account.me),
         None => 0,
     }
 }
 
 // Turns to the view, and keeps the pool and the commit certificate of the one that is left.
 fn keep_left(
-    pool: &mut Pool,
-    archive: &mut Archive,
+    state: &mut ProcessState,
     view: &View,
     decision: Decision,
     alloc: Global,
 ) -> Result<(), NoMemory>
-    requires range { IsRanged pool.old.pool }
-    requires certified { value_at pool.old.pool (ReadyAt pool.old.pool.view.number decision.rank) ≡ Some (value decision.value) }
-    requires order { pool.old.pool.view.number ≡ length archive.old.commits }
-    ensures begins { OnOk result (pool.new.pool ≡ empty_pool view.now) }
-    ensures previous { OnOk result (archive.new.previous ≡ Some pool.old.pool) }
-    ensures commits { OnOk result (archive.new.commits ≡ archive.old.commits ++ all_signed (certificate pool.old.pool (Ready pool.old.pool.view.number decision.rank (value decision.value))) ∷ []) }
+    requires range { IsRanged state.old.pool.pool }
+    requires certified { value_at state.old.pool.pool (ReadyAt state.old.pool.pool.view.number decision.rank) ≡ Some (value decision.value) }
+    requires order { state.old.pool.pool.view.number ≡ length state.old.archive.commits }
+    ensures begins { OnOk result (state.new.pool.pool ≡ empty_pool view.now) }
+    ensures previous { OnOk result (state.new.archive.previous ≡ Some state.old.pool.pool) }
+    ensures commits { OnOk result (state.new.archive.commits ≡ state.old.archive.commits ++ all_signed (certificate state.old.pool.pool (Ready state.old.pool.pool.view.number decision.rank (value decision.value))) ∷ []) }
+    ensures rest { state.new ≡ record state.old { pool = state.new.pool; archive = state.new.archive } }
 {
     let begun = Pool::new(alloc, view.clone()?)?;
-    let left = mem::replace(pool, begun);
-    archive.keep_view(left, (decision.rank, decision.value))
+    let left = mem::replace(&mut state.pool, begun);
+    state.archive.reserve(300_000)?;
+    let _before = state
+        .archive
+        .keep_view(left, (decision.rank, decision.value));
+    Ok(())
+}
+
+// Begins the view: nothing is signed, delivered or asked for there. `mine` own messages more are of views before it.
+fn begin(state: &mut ProcessState, view: &View, mine: u16)
+    requires { state.old.own.earlier + mine ≤ 4294967295 }
+    ensures own { Begins view.now state.old.own state.new.own mine }
+    ensures asked { (u : Update) → has_update state.new.perceived u ≡ false }
+    ensures said { state.new.said.claims ≡ [] }
+    ensures phase { (p : Process) → p.pool.view ≡ view.now → p.me ≡ state.old.own.me → p.halted ≡ false → p.decision ≡ None → is_ended p ≡ false → IsIn state.new.phase p }
+    ensures rest { state.new ≡ record state.old { own = state.new.own; perceived = state.new.perceived; said = state.new.said; phase = state.new.phase } }
+{
+    state.phase = Phase::begin(view, state.own.me);
+    state.perceived = Perceived::new();
+    state.said.clear();
+    begin_view(&mut state.own, view, mine);
 }
 
 // Puts the view, in which nothing is delivered yet, behind those of the account.
 fn put_view(account: &mut Account, view: &View, alloc: Global) -> Result<(), NoMemory>
-    ensures views { OnOk result (account.new.views.items ≡ account.old.views.items ++ view.now ∷ []) }
-    ensures delivered { OnOk result (map (λ ds. map delivery ds.items) account.new.delivered.items ≡ map (λ ds. map delivery ds.items) account.old.delivered.items ++ [] ∷ []) }
-    ensures number { account.new.me ≡ account.old.me }
-    ensures accepted { account.new.accepted ≡ account.old.accepted }
-    ensures perceived { account.new.perceived ≡ account.old.perceived }
+    ensures { OnOk result (told account.new ≡ record (told account.old) { views = (told account.old).views ++ view.now ∷ []; delivered = (told account.old).delivered ++ [] ∷ [] }) }
 {
     account.views.push(view.clone()?)?;
     account.delivered.push(Vec::new(alloc))?;
@@ -103,7 +121,26 @@ fn installed(view: &View) -> Note
     }
 }
 
-// Installs the view that follows by the update which is decided.
+// Goes on to this view, which follows by the update that is decided.
+fn enter(
+    state: &mut ProcessState,
+    view: &View,
+    decision: Decision,
+    alloc: Global,
+    notes: &mut Vec<Note>,
+) -> Result<(), NoMemory>
+    requires { CanLeave (decision_of decision) state.old }
+    ensures { (s : Setting) (p : Process) → IsLeaving s p (decision_of decision) state.old → view.now ≡ next_view p.pool.view (value decision.value).update → OnOk result (Leaves s p (settle.install (decision_of decision) p) state.new notes.old.items notes.new.items) }
+{
+    let mine = own_delivered(&state.account);
+    keep_left(state, view, decision, alloc)?;
+    begin(state, view, mine);
+    put_view(&mut state.account, view, alloc)?;
+    notes.push(installed(view))?;
+    Ok(())
+}
+
+// Installs the view that follows by the update that is decided.
 fn install(
     state: &mut ProcessState,
     decision: Decision,
@@ -113,18 +150,10 @@ fn install(
     requires { CanLeave (decision_of decision) state.old }
     ensures { (s : Setting) (p : Process) → IsLeaving s p (decision_of decision) state.old → OnOk result (Leaves s p (settle.install (decision_of decision) p) state.new notes.old.items notes.new.items) }
 {
-    let Ok(view) = next(state.pool.view(), decision.value.update) else {
-        return Ok(());
-    };
-    let mine = own_delivered(&state.account.delivered, state.own.me);
-    keep_left(&mut state.pool, &mut state.archive, &view, decision, alloc)?;
-    begin_view(&mut state.own, &view, mine);
-    state.perceived = Perceived::new();
-    state.said.clear();
-    state.phase = Phase::begin(&view, state.own.me);
-    put_view(&mut state.account, &view, alloc)?;
-    notes.push(installed(&view))?;
-    Ok(())
+    match next(state.pool.view(), decision.value.update) {
+        Ok(view) => enter(state, &view, decision, alloc, notes),
+        Err(_) => Ok(()),
+    }
 }
 
 // Leaves the view that is decided so, where it may be left. The state's phase is none yet.

@@ -1,0 +1,157 @@
+-- The state of a process that has installed a view.
+use Rattle.std.proofs.Common.{◌≡◌, ℕ, ◌+◌, ◌*◌, ◌<◌, ◌≤◌, List, [], ◌∷◌, ◌++◌, map, length, Option, Some, None, Bool, true, false, refl, sym, ap, ◌∙◌, subst, arith, inl, inr}
+use Rattle.std.specs.Prelude.{All, is_none, Result, Ok, Err, if◌then◌else◌, ◌==◌}
+use Rattle.std.proofs.lemmas.Bool.{cases_lt, eq-eqb}
+use Rattle.byte_defs.specs.Choices.{first_that_holds}
+use Rattle.message_defs.specs.Limits.{last_number}
+use Rattle.group_defs.proofs.FollowingViews.{next_is_view}
+use Rattle.std.proofs.lemmas.List.{length-append, length-map, map-append}
+use Rattle.message_defs.specs.Statements.{Claim, Ready, view_of}
+use Rattle.message_defs.specs.Updates.{Update, Value}
+use Rattle.group_defs.specs.Views.{View, UpdateFault, ViewsSpent, IsView, update_faults, has_keys, is_possible, next, next_fault, next_view}
+use Rattle.group_defs.specs.Process as defs
+use Rattle.group_defs.specs.Process.{Setting, Process, Left, delivered_from, deliveries_of, earlier, keyed, views_of}
+use Rattle.group_defs.specs.Certified.{certificate, is_ended}
+use Rattle.group_defs.specs.Settle.{install}
+use Rattle.group_defs.specs.Accounts.{Account, account_of}
+use Rattle.pool_laws.proofs.Members.{All-mem, Mem, mem-All}
+use Rattle.pool_laws.proofs.Tests.{and-first, none-is}
+use Rattle.claim_index.specs.Kept.{empty_pool}
+use Rattle.own_place.specs.Owns.{Tells}
+use Rattle.ending_rules.specs.Perceiving.{has_update}
+use Rattle.reliable_mcast.specs.Certificates.{all_signed}
+use Rattle.view_phases.specs.Phases.{IsIn}
+use Rattle.accounts.specs.Views.{account}
+use Rattle.member_laws.specs.Telling.{Begins}
+use Rattle.member_laws.proofs.Lawful.{installing_is_lawful}
+use Rattle.member_laws.proofs.Telling.{installing_tells}
+use Rattle.member_state.specs.declared.state.ProcessState.{ProcessState}
+use Rattle.member_state.specs.Bounds.{IsBounded}
+use Rattle.member_state.specs.States.{IsStateOf}
+use Rattle.member_settling.specs.Steps.{in_phase, IsLeaving}
+use Rattle.member_settling.proofs.Bounded.{delivered-few, earlier-few, installing-bounded}
+use Rattle.member_settling.proofs.Installing.{length-more, none-perceived, none-signed, numbered}
+
+-- ---- the view that follows
+
+pub next-is : (v w : View) (u : Update) → next v u ≡ Ok w → w ≡ next_view v u
+next-is v w u e = go (next_fault v u) e
+  where
+    go : (o : Option UpdateFault) → (let it : Result View UpdateFault = elim o [ None ↦ Ok (next_view v u) | Some fault ↦ Err fault ] in it ≡ Ok w) → w ≡ next_view v u
+    go None e = cc
+    go (Some fault) e = absurd cc
+
+pub follows : (s : Setting) (v : View) (u : Update) (fault : UpdateFault) → is_possible (keyed s) v u ≡ true → next v u ≡ Err fault → ⊥
+follows s v u fault possible e =
+    let none : next_fault v u ≡ None = none-is (next_fault v u) (and-first (is_none (next_fault v u)) (has_keys (keyed s) u) possible) in
+    let clash : Ok (next_view v u) ≡ Err fault = sym (ap (λ (o : Option UpdateFault). let it : Result View UpdateFault = elim o [ None ↦ Ok (next_view v u) | Some fault ↦ Err fault ] in it) none) ∙ e in
+    cc
+
+-- its number is in range
+next-number : (v : View) (u : Update) → next_fault v u ≡ None → v.number ≤ 1023 → v.number + 1 ≤ 1023
+next-number v u none le = go (v.number == last_number) refl none
+  where
+    go : (b : Bool) → (v.number == last_number) ≡ b → (if b then Some ViewsSpent else first_that_holds (update_faults v u)) ≡ None → v.number + 1 ≤ 1023
+    go true e f = absurd cc
+    go false e f = elim (cases_lt v.number 1023) [
+      | inl lt ↦ omega (arith, lt)
+      | inr ge ↦ absurd (let yes : (v.number == 1023) ≡ true = eq-eqb v.number 1023 (omega (arith, le, ge)) in let no : false ≡ true = sym e ∙ yes in cc)
+    ]
+
+-- ---- the state
+
+-- the parts of the state that begin the view, and those that keep the one before it, whose own messages delivered there are `mine`
+pub record HasBegun (v : View) (d : ℕ × Value) (mine : ℕ) (old new : ProcessState) : Type 0 where
+  pub limit : new.batch_limit ≡ old.batch_limit
+  pub own : Begins v old.own new.own mine
+  pub pool : new.pool.pool ≡ empty_pool v
+  pub phase : (p : Process) → p.pool.view ≡ v → p.me ≡ new.own.me → p.halted ≡ false → p.decision ≡ None → is_ended p ≡ false → IsIn new.phase p
+  pub asked : (u : Update) → has_update new.perceived u ≡ false
+  pub said : new.said.claims ≡ []
+  pub pairs : new.conflicts.pairs ≡ old.conflicts.pairs
+  pub previous : new.archive.previous ≡ Some old.pool.pool
+  pub commits : new.archive.commits ≡ old.archive.commits ++ all_signed (certificate old.pool.pool (Ready old.pool.pool.view.number d.0 d.1)) ∷ []
+  pub account : account new.account ≡ record (account old.account) { views = (account old.account).views ++ v ∷ []; delivered = (account old.account).delivered ++ [] ∷ [] }
+
+later : (x : ℕ) (es : List (ℕ × Update)) → All (λ e. e.0 ≤ x) es → All (λ e. e.0 ≤ x + 1) es
+later x es all = mem-All (λ (e : ℕ × Update). e.0 ≤ x + 1) es (λ e m. let le = All-mem (λ (e : ℕ × Update). e.0 ≤ x) es e all m in omega (arith, le))
+
+module _ (s : Setting) (p : Process) (d : ℕ × Value) (old new : ProcessState) (v : View) (mine : ℕ) (leaving : IsLeaving s p d old) (is : v ≡ next_view p.pool.view d.1.update) (own : mine ≡ delivered_from p.me p.delivered) (begun : HasBegun v d mine old new) where
+  abbrev ok : IsStateOf s p (in_phase leaving.phase old)
+  ok = leaving.state
+
+  abbrev q : Process
+  q = install d p
+
+  begins : Begins (next_view p.pool.view d.1.update) old.own new.own (delivered_from p.me p.delivered)
+  begins = subst (λ v. Begins v old.own new.own (delivered_from p.me p.delivered)) is (subst (λ n. Begins v old.own new.own n) own begun.own)
+
+  fresh : new.pool.pool ≡ record { view = next_view p.pool.view d.1.update; heard = [] }
+  fresh = begun.pool ∙ ap empty_pool is
+
+  tells : Tells s q (record { view = next_view p.pool.view d.1.update; heard = [] }) new.own
+  tells = installing_tells s p old.pool.pool old.own new.own d ok.lawful begins ok.place
+
+  more : earlier q ≡ earlier p + delivered_from p.me p.delivered
+  more = tells.before ∙ begins.before ∙ ap (λ n. n + delivered_from p.me p.delivered) (sym ok.place.before)
+
+  abbrev last : Left
+  last = record { view = p.pool.view; delivered = p.delivered; commit = certificate p.pool (Ready p.pool.view.number d.0 d.1) }
+
+  commits : map (λ (l : Left). all_signed l.commit) q.left ≡ new.archive.commits
+  commits =
+      map-append (λ (l : Left). all_signed l.commit) p.left (last ∷ [])
+      ∙ ap (λ cs. cs ++ all_signed (certificate p.pool (Ready p.pool.view.number d.0 d.1)) ∷ []) ok.kept.commits
+      ∙ ap (λ h. old.archive.commits ++ all_signed (certificate h (Ready h.view.number d.0 d.1)) ∷ []) ok.place.pool
+      ∙ sym begun.commits
+
+  -- one view more, in which nothing is delivered
+  with_view : account_of q ≡ record (account_of p) { views = views_of p ++ next_view p.pool.view d.1.update ∷ []; delivered = deliveries_of p ++ [] ∷ [] }
+  with_view = λ i. record {
+    me = p.me;
+    views = map-append (λ (l : Left). l.view) p.left (last ∷ []) i ++ next_view p.pool.view d.1.update ∷ [];
+    delivered = map-append (λ (l : Left). l.delivered) p.left (last ∷ []) i ++ [] ∷ [];
+    accepted = p.accepted;
+    perceived = p.perceived;
+  }
+
+  told : account_of q ≡ account new.account
+  told =
+      with_view
+      ∙ ap (λ (a : Account). record a { views = a.views ++ next_view p.pool.view d.1.update ∷ []; delivered = a.delivered ++ [] ∷ [] }) ok.account
+      ∙ ap (λ (w : View). record (account old.account) { views = (account old.account).views ++ w ∷ []; delivered = (account old.account).delivered ++ [] ∷ [] }) (sym is)
+      ∙ sym begun.account
+
+  pub installs-state : IsStateOf s q new
+  installs-state = record {
+    lawful = installing_is_lawful p d number view ok.lawful;
+    bounded = installing-bounded p d more ok.bounded;
+    number = (let before = ok.number in let one = length-more p.left last in omega (arith, before, one));
+    some = ok.some;
+    decided = λ e none. absurd cc;
+    each = ok.each;
+    asked_for = later p.pool.view.number p.perceived ok.asked_for;
+    halted_member = λ stops. absurd (let no : false ≡ true = sym leaving.runs ∙ stops in cc);
+    halted_beyond = λ stops. absurd (let no : false ≡ true = sym leaving.runs ∙ stops in cc);
+    limit = ok.limit ∙ sym begun.limit;
+    place = subst (λ h. Tells s q h new.own) (sym fresh) tells;
+    phase = begun.phase q (sym is) (tells.number) leaving.runs refl (tells.signed.end ∙ begins.end);
+    asked = λ u. none-perceived p.pool.view.number p u ok.asked_for ∙ sym (begun.asked u);
+    said = none-signed p.pool.view.number p.signed ok.lawful.past ∙ sym begun.said;
+    pairs = ok.pairs ∙ sym begun.pairs;
+    kept = record {
+      numbers = numbered p.left last ok.number ok.kept.numbers;
+      previous = ap (λ h. Some h) ok.place.pool ∙ sym begun.previous;
+      commits = commits;
+    };
+    account = told;
+  }
+    where
+      none : next_fault p.pool.view d.1.update ≡ None
+      none = none-is (next_fault p.pool.view d.1.update) (and-first (is_none (next_fault p.pool.view d.1.update)) (has_keys (keyed s) d.1.update) (ok.decided d leaving.decision).possible)
+
+      number : p.pool.view.number + 1 ≤ 1023
+      number = next-number p.pool.view d.1.update none ok.lawful.number
+
+      view : IsView (next_view p.pool.view d.1.update)
+      view = next_is_view p.pool.view d.1.update none ok.lawful.pool.view
