@@ -6,7 +6,7 @@ use Rattle.std.proofs.lemmas.List.Sums.{sum_by-append, sum_by-le, count_by-le-le
 use Rattle.message_defs.specs.Limits.{last_number, most_messages, most_places}
 use Rattle.message_defs.specs.Spelling.{IsBatch, IsStatement}
 use Rattle.message_defs.specs.Updates.{Value}
-use Rattle.message_defs.specs.Statements.{Batch, Place, Ready}
+use Rattle.message_defs.specs.Statements.{Message, Batch, Place, Ready}
 use Rattle.group_defs.specs.Process.{Pool, Delivered, Left, Process, delivered_from, places_in, earlier}
 use Rattle.group_defs.specs.Certified.{place_at, certificate}
 use Rattle.group_defs.specs.Settle.{delivery, deliverable, install}
@@ -14,7 +14,7 @@ use Rattle.rule_laws.specs.Heard.{IsPool}
 use Rattle.rule_laws.proofs.Certified.{certified-ranges}
 use Rattle.pool_laws.proofs.Heard.{place-certified}
 use Rattle.pool_laws.proofs.Members.{All-mem, each-snoc, map-mem, mem-All}
-use Rattle.safety_laws.proofs.Batches.{AreAt, named_at, with_place, delivery-at, delivery-names, next-place, places-one-more}
+use Rattle.safety_laws.proofs.Batches.{AreAt, named_at, with_place, delivery-at, delivery-names, next-place, of-one, places-one-more}
 use Rattle.member_state.specs.Bounds.{AreFew, IsBounded}
 
 -- ---- the next place
@@ -23,6 +23,7 @@ use Rattle.member_state.specs.Bounds.{AreFew, IsBounded}
 pub record IsNext (p : Process) (ds : List Delivered) : Type 0 where
   pub batch : Batch
   pub delivers : delivery p.pool (places_in p.delivered) batch ≡ Some ds
+  pub names : map (λ d. d.message) ds ≡ batch
   pub some : 1 ≤ length batch
   pub place : places_in p.delivered ≤ last_number
   pub few : length ds ≤ most_messages
@@ -33,6 +34,13 @@ place-range h pool k b e = let range : IsStatement (Place h.view.number k b) = c
 
 as-long : (h : Pool) (k : ℕ) (b : Batch) (ds : List Delivered) → delivery h k b ≡ Some ds → length ds ≡ length b
 as-long h k b ds e = sym (length-map ds named_at) ∙ ap length (delivery-names h k b ds e) ∙ length-map b (with_place k)
+
+seconds : (ds : List Delivered) → map (λ (e : ℕ × Message). e.1) (map named_at ds) ≡ map (λ (d : Delivered). d.message) ds
+seconds [] = refl
+seconds (d ∷ ds) = ap (λ ms. d.message ∷ ms) (seconds ds)
+
+names : (k : ℕ) (b : Batch) (ds : List Delivered) → map named_at ds ≡ map (with_place k) b → map (λ (d : Delivered). d.message) ds ≡ b
+names k b ds e = sym (seconds ds) ∙ ap (map (λ (e : ℕ × Message). e.1)) e ∙ of-one k b
 
 places-more : (ds es : List Delivered) → 1 ≤ length es → AreAt (places_in ds) es → places_in (ds ++ es) ≡ places_in ds + 1
 places-more ds [] le at = absurd (omega (arith, le))
@@ -46,6 +54,7 @@ is-next p ds pool e =
     record {
       batch = next.0;
       delivers = next.2;
+      names = names (places_in p.delivered) next.0 ds (delivery-names p.pool (places_in p.delivered) next.0 ds next.2);
       some = range.1.some;
       place = range.0;
       few = (let few = range.1.few in omega (arith, few, long));

@@ -2,11 +2,13 @@
 use Rattle.std.proofs.Common.{◌≡◌, ℕ, ◌+◌, ◌<◌, ◌≤◌, List, [], ◌∷◌, ◌++◌, map, length, Option, Some, None, Bool, true, false, refl, sym, ap, ◌∙◌, subst, arith}
 use Rattle.std.specs.Option.{option_map_or}
 use Rattle.message_defs.specs.Updates.{Value}
+use Rattle.message_defs.specs.Statements.{Batch}
 use Rattle.group_defs.specs.Views.{is_member}
 use Rattle.group_defs.specs.Process as defs
 use Rattle.group_defs.specs.Process.{Setting, Process, Left, places_in}
 use Rattle.group_defs.specs.Certified.{fixed_length}
-use Rattle.group_defs.specs.Settle.{limit}
+use Rattle.group_defs.specs.Settle.{delivery, limit}
+use Rattle.group_defs.specs.Events.{Delivers}
 use Rattle.group_defs.specs.Accounts.{Account, account_of}
 use Rattle.own_place.specs.declared.own.Own.{Own}
 use Rattle.view_phases.specs.declared.phases.Phase.{Phase}
@@ -18,8 +20,13 @@ use Rattle.member_laws.specs.Lawful.{IsLawful}
 use Rattle.member_laws.specs.Telling.{OnePlaceMore}
 use Rattle.member_laws.proofs.Telling.{delivering_tells}
 use Rattle.member_state.specs.declared.state.ProcessState.{ProcessState}
+use Rattle.stmt_codec.specs.declared.events.Note as notes
+use Rattle.member_state.specs.Events.{note}
 use Rattle.member_state.specs.States.{IsStateOf, IsDecision}
-use Rattle.member_settling.proofs.Bounded.{IsNext, delivering-bounded}
+use Rattle.member_settling.specs.Told.{ArePutLast}
+use Rattle.member_settling.specs.Steps as steps
+use Rattle.member_settling.specs.Steps.{ComesNext}
+use Rattle.member_settling.proofs.Bounded.{IsNext, delivering-bounded, is-next}
 use Rattle.pool_laws.proofs.Tests.{none-some}
 use Rattle.member_settling.proofs.Changed.{halted-decided}
 use Rattle.member_settling.proofs.Phases.{halted}
@@ -46,10 +53,8 @@ module _ (p : Process) (ds : List defs.Delivered) where
 
   -- what is told of it
   pub account-so : (a b : Account) → account_of p ≡ a → b ≡ record a { delivered = b.delivered }
-      → ((before : List (List defs.Delivered)) (last : List defs.Delivered) → a.delivered ≡ before ++ last ∷ [] → b.delivered ≡ before ++ (last ++ ds) ∷ [])
-      → account_of further ≡ b
-  account-so a b is rest more =
-      let now : b.delivered ≡ map (λ (v : Left). v.delivered) p.left ++ (p.delivered ++ ds) ∷ [] = more (map (λ (v : Left). v.delivered) p.left) p.delivered (sym (ap (λ (a : Account). a.delivered) is)) in
+      → b.delivered ≡ map (λ (v : Left). v.delivered) p.left ++ (p.delivered ++ ds) ∷ [] → account_of further ≡ b
+  account-so a b is rest now =
       let same : account_of further ≡ record a { delivered = b.delivered } = λ i. record { me = (is i).me; views = (is i).views; delivered = sym now i; accepted = (is i).accepted; perceived = (is i).perceived } in
       same ∙ sym rest
 
@@ -81,3 +86,20 @@ module _ (p : Process) (ds : List defs.Delivered) where
           go : (o : Option (ℕ × Value)) → p.decision ≡ o → ⊥
           go (Some d) e = stopped p d e (ok.halted_beyond stops d e) below
           go None e = (let was = halted-decided st.phase p ok.phase stops in none-some e was.1)
+
+-- the next place is put, counted and told
+pub place-delivered : (s : Setting) (p : Process) (st : ProcessState) → IsStateOf s p st → (ds : List defs.Delivered) (b : Batch) (own : Own) (told : code.Account) (was now : List notes.Note) → ComesNext p ds b
+    → OnePlaceMore st.pool.pool.view b p.delivered st.own own
+    → account told ≡ record (account st.account) { delivered = (account told).delivered }
+    → (delivery st.pool.pool st.own.delivered b ≡ Some ds → (before : List (List defs.Delivered)) (last : List defs.Delivered) → (account st.account).delivered ≡ before ++ last ∷ [] → ArePutLast st.pool.pool.view.number ds before last (account told).delivered was now)
+    → steps.Delivers s p (record p { delivered = p.delivered ++ ds }) (record st { own = own; account = told }) was now
+place-delivered s p st ok ds b own told was now comes more rest puts =
+    let next = is-next p ds ok.lawful.pool comes.delivers in
+    let batch : next.batch ≡ b = sym next.names ∙ comes.batch in
+    let moved : delivery p.pool (places_in p.delivered) next.batch ≡ delivery st.pool.pool st.own.delivered b = λ i. delivery (ok.place.pool i) (ok.place.delivered.places i) (batch i) in
+    let put = puts (sym moved ∙ next.delivers) (map (λ (v : Left). v.delivered) p.left) p.delivered (sym (ap (λ (a : Account). a.delivered) ok.account)) in
+    let counted : OnePlaceMore p.pool.view next.batch p.delivered st.own own = subst (λ c. OnePlaceMore p.pool.view c p.delivered st.own own) (sym batch) (subst (λ (h : defs.Pool). OnePlaceMore h.view b p.delivered st.own own) (sym ok.place.pool) more) in
+    record {
+      state = delivers-state p ds s st own told ok next comes.below counted (account-so p ds (account st.account) (account told) ok.account rest put.delivered);
+      told = record { more = ds; delivered = refl; told = subst (λ (h : defs.Pool). map note now ≡ map note was ++ map (Delivers h.view.number) ds) (sym ok.place.pool) put.told };
+    }

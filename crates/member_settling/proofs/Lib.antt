@@ -11,3 +11,4 @@ pub mod Loop
 pub mod Begun
 pub mod Leaving
 pub mod Real
+pub mod Own

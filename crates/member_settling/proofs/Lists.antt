@@ -38,3 +38,10 @@ pub last-is : {A B : Type 0} (f : A → B) (xs : List A) (before : List B) (last
 last-is f xs before last a e at =
     let place : length xs - 1 ≡ length before = (let n = some-last f xs before last e in omega (arith, n)) in
     some-is (f a) last (slice_get (map f xs) (length xs - 1)) (map-get f xs (length xs - 1) a at) (ap (λ ys. slice_get ys (length xs - 1)) e ∙ slice_get-last before last (length xs - 1) place)
+
+-- more is put behind the last
+pub put-last : {A B : Type 0} (f : A → List B) (xs : List A) (n : ℕ) (h g : A) (before : List (List B)) (last ds : List B) → suc n ≡ length xs → h ≡ get_or xs n h → f g ≡ f h ++ ds → map f xs ≡ before ++ last ∷ []
+    → map f (slice_set xs n g) ≡ before ++ (last ++ ds) ∷ []
+put-last f xs n h g before last ds count at more e =
+    let is = last-changed f xs n h g before last count at e in
+    is.1 ∙ ap (λ y. before ++ y ∷ []) (more ∙ ap (λ y. y ++ ds) is.0)

@@ -1,15 +1,16 @@
 -- Delivering place by place, up to a limit.
-use Rattle.std.proofs.Common.{◌≡◌, ℕ, suc, ◌+◌, ◌-◌, ◌<◌, ◌≤◌, List, [], ◌++◌, map, Option, Some, None, Bool, true, refl, sym, ap, ◌∙◌, subst, arith, append_assoc}
+use Rattle.std.proofs.Common.{◌≡◌, ℕ, suc, ◌+◌, ◌-◌, ◌<◌, ◌≤◌, List, [], ◌++◌, map, Option, Some, None, Bool, true, false, refl, sym, ap, ◌∙◌, subst, arith, append_assoc}
 use Rattle.std.specs.Prelude.{if◌then◌else◌, nat_lt, drop, length}
 use Rattle.std.specs.Option.{option_map}
 use Rattle.std.proofs.lemmas.Bool.{lt-ltb}
 use Rattle.std.proofs.lemmas.List.{append-nil, map-append}
 use Rattle.std.proofs.Math.Seq.{drop-append_seam}
 use Rattle.message_defs.specs.Statements.{Batch}
+use Rattle.group_defs.specs.Views.{is_member}
 use Rattle.group_defs.specs.Process as defs
 use Rattle.group_defs.specs.Process.{Setting, Process, places_in}
 use Rattle.group_defs.specs.Events.{Note, Delivers}
-use Rattle.group_defs.specs.Settle.{deliverable, deliver_more, limit}
+use Rattle.group_defs.specs.Settle.{deliverable, deliver, deliver_more, limit}
 use Rattle.pool_laws.proofs.Tests.{map-some}
 use Rattle.stmt_codec.specs.declared.events.Note as code
 use Rattle.own_place.specs.Owns.{HasDelivered}
@@ -21,7 +22,7 @@ use Rattle.member_settling.specs.Told.{TellsDelivered}
 use Rattle.member_settling.specs.Steps as steps
 use Rattle.member_settling.specs.Steps.{ComesNext}
 use Rattle.member_settling.proofs.Bounded.{is-next}
-use Rattle.member_settling.proofs.Deliveries.{no-more, none-more, one-more}
+use Rattle.member_settling.proofs.Deliveries.{no-more, none-more, one-more, member-delivers, outsider-delivers}
 
 -- ---- what is told
 
@@ -109,17 +110,24 @@ ends s p most i st was now le on =
     let none : most - i ≡ 0 = omega (arith, le) in
     subst (λ q. steps.Delivers s p q st was now) (sym (no-more on.q) ∙ ap (λ n. deliver_more n on.q) (sym none) ∙ on.rest) on.delivers
 
--- ---- real states
-
-pub real-goes-on : (st st' : ProcessState) (most : ℕ) (b : Batch) (was now : List code.Note) → (real : IsReal st) → most ≡ limit real.process → places_in real.process.delivered < most → IsAnswer st most (Some b)
-    → ((ds : List defs.Delivered) → ComesNext real.process ds b → steps.Delivers real.setting real.process (record real.process { delivered = real.process.delivered ++ ds }) st' was now) → IsReal st'
-real-goes-on st st' most b was now real lim below answer step =
-    let next = comes-next real.setting real.process st most b real.state lim below answer in
-    record { setting = real.setting; process = record real.process { delivered = real.process.delivered ++ next.0 }; state = (step next.0 next.1).state }
+-- the state is that of some process
+pub real-on : (s : Setting) (p : Process) (most i : ℕ) (st : ProcessState) (was now : List code.Note) → GoesOn s p most i st was now → IsReal st
+real-on s p most i st was now on = record { setting = s; process = on.q; state = on.delivers.state }
 
 -- ---- the whole
+
+seat : (s : Setting) (p : Process) (st : ProcessState) → IsStateOf s p st → is_member p.pool.view p.me ≡ is_member st.pool.pool.view st.own.me
+seat s p st ok = λ i. is_member (ok.place.pool i).view (ok.place.number i)
 
 -- what was delivered stands behind what was there
 pub told-behind : (p q : Process) (was now : List code.Note) → (told : TellsDelivered p q was now) → map note now ≡ map note was ++ map (Delivers p.pool.view.number) (drop (length p.delivered) q.delivered)
 told-behind p q was now told =
     told.told ∙ ap (λ (ds : List defs.Delivered). map note was ++ map (Delivers p.pool.view.number) ds) (sym (ap (drop (length p.delivered)) told.delivered ∙ drop-append_seam p.delivered told.more))
+
+pub outsider_so : (s : Setting) (p : Process) (st : ProcessState) (was : List code.Note) → IsStateOf s p st → is_member st.pool.pool.view st.own.me ≡ false → steps.Delivers s p (deliver p) st was was
+outsider_so s p st was ok outside = subst (λ q. steps.Delivers s p q st was was) (sym (outsider-delivers p (seat s p st ok ∙ outside))) (record { state = ok; told = tells-nothing p was })
+
+pub member_so : (s : Setting) (p : Process) (st st' : ProcessState) (was now : List code.Note) → IsStateOf s p st → is_member st.pool.pool.view st.own.me ≡ true → (most : ℕ) → most ≡ limit p
+    → steps.Delivers s p (deliver_more (most - places_in p.delivered) p) st' was now → steps.Delivers s p (deliver p) st' was now
+member_so s p st st' was now ok inside most lim delivers =
+    subst (λ q. steps.Delivers s p q st' was now) (ap (λ n. deliver_more (n - places_in p.delivered) p) lim ∙ sym (member-delivers p (seat s p st ok ∙ inside))) delivers

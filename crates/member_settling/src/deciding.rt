@@ -8,11 +8,11 @@ ghost use Rattle.ending_rules.specs.Due.{HasKeys};
 ghost use Rattle.view_phases.specs.Phases.{decides, IsIn};
 ghost use Rattle.member_state.specs.States.{IsStateOf};
 
+use crate::taking::take_phase;
 use claim_pool::{Certificate, Commit, Own, Pool};
 use member_state::ProcessState;
 use rank_rules::{commit, decided};
 use rp_base::PidSet;
-use std::mem;
 use view_phases::Phase;
 use view_table::View;
 
@@ -66,6 +66,6 @@ pub(crate) fn decide(state: &mut ProcessState)
     ensures { (s : Setting) (p : Process) → IsStateOf s p state.old → IsStateOf s (defs.decide s p) state.new }
 {
     let begun = Phase::begin(state.pool.view(), state.own.me);
-    let phase = mem::replace(&mut state.phase, begun);
+    let phase = take_phase(&mut state.phase, begun);
     state.phase = phase_then(phase, &state.pool, &state.own);
 }

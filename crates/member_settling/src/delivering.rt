@@ -89,7 +89,7 @@ fn put_batch(
     lists: &mut Vec<Vec<Delivered>>,
     notes: &mut Vec<Note>,
 ) -> Result<(), NoMemory>
-    ensures { (ds : List defs.Delivered) → settle.delivery pool.now.pool place batch.now ≡ Some ds → OnOk result (ArePutLast pool.now.pool.view.number ds (map (λ ds. map delivery ds.items) lists.old.items) (map (λ ds. map delivery ds.items) lists.new.items) notes.old.items notes.new.items) }
+    ensures { (ds : List defs.Delivered) → settle.delivery pool.now.pool place batch.now ≡ Some ds → (before : List (List defs.Delivered)) (last : List defs.Delivered) → map (λ ds. map delivery ds.items) lists.old.items ≡ before ++ last ∷ [] → OnOk result (ArePutLast pool.now.pool.view.number ds before last (map (λ ds. map delivery ds.items) lists.new.items) notes.old.items notes.new.items) }
 {
     match lists.last_mut() {
         Some(delivered) => put_messages(pool, alloc, place, batch.messages(), delivered, notes),
@@ -129,7 +129,7 @@ fn deliver_below(
 ) -> Result<(), NoMemory>
     requires real { IsReal state.old }
     requires limit { (s : Setting) (p : Process) → IsStateOf s p state.old → limit ≡ settle.limit p }
-    ensures delivers { (s : Setting) (p : Process) → IsStateOf s p state.old → OnOk result (Delivers s p (settle.deliver_more (limit - places_in p.delivered) p) state.new notes.old.items notes.new.items) }
+    ensures { (s : Setting) (p : Process) → IsStateOf s p state.old → OnOk result (Delivers s p (settle.deliver_more (limit - places_in p.delivered) p) state.new notes.old.items notes.new.items) }
 {
     'places: for _place in state.own.delivered..limit {
         let Some(batch) = deliverable(&state.pool, &state.own, limit) else {

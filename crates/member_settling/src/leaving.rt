@@ -21,6 +21,7 @@ ghost use Rattle.member_state.specs.States.{IsStateOf, IsReal};
 ghost use Rattle.member_settling.specs.Steps.{in_phase, IsLeaving, CanLeave, Leaves};
 ghost use Rattle.member_settling.specs.Begun.{IsLast, HasShortLast};
 
+use crate::taking::take_phase;
 use arrayvec::ArrayVec;
 use claim_pool::{Own, Pool};
 use ending_rules::Perceived;
@@ -192,7 +193,7 @@ pub(crate) fn leave(
     ensures { (s : Setting) (p : Process) → IsStateOf s p state.old → OnOk result (Leaves s p (settle.leave p) state.new notes.old.items notes.new.items) }
 {
     let begun = Phase::begin(state.pool.view(), state.own.me);
-    match mem::replace(&mut state.phase, begun) {
+    match take_phase(&mut state.phase, begun) {
         Phase::DecidedView(decided) => leave_decided(state, decided, alloc, notes),
         phase => {
             state.phase = phase;

@@ -5,5 +5,6 @@ mod deciding;
 mod delivering;
 mod leaving;
 mod settling;
+mod taking;
 
 pub use settling::settle;

@@ -1,0 +1,14 @@
+use Rattle.std.proofs.Common.{refl, subst}
+use Rattle.group_defs.specs.Views.{View}
+use Rattle.member_laws.specs.Telling.{OnePlaceMore}
+use Rattle.member_settling.proofs.Delivered.{place-delivered}
+use Rattle.member_settling.proofs.Real.{counts}
+use Rattle.member_settling.proofs.delivering.deliver_place.Goals as goal
+
+pub deliver_batch-requires-clause-counts : goal.deliver_batch-requires-clause-counts
+deliver_batch-requires-clause-counts c = counts c.requires.setting c.requires.process c.args.state.now c.requires.state
+
+pub returns : goal.returns
+returns c = λ s p ok ds next.
+    place-delivered s p c.args.state.now ok ds c.args.batch.now c.deliver_batch.new.own (record c.args.state.now.account { delivered = c.put_batch.new.lists }) c.args.notes.now.items c.put_batch.new.notes.items next
+    (subst (λ (v : View). OnePlaceMore v c.args.batch.now p.delivered c.args.state.now.own c.deliver_batch.new.own) c.view.ensures (c.deliver_batch.ensures p.delivered)) refl (c.in_ok-put_batch.ensures ds)
