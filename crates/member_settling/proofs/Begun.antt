@@ -1,7 +1,8 @@
 -- The state of a process that has installed a view.
 use Rattle.std.proofs.Common.{◌≡◌, ℕ, ◌+◌, ◌*◌, ◌<◌, ◌≤◌, List, [], ◌∷◌, ◌++◌, map, length, Option, Some, None, Bool, true, false, refl, sym, ap, ◌∙◌, subst, arith, inl, inr}
-use Rattle.std.specs.Prelude.{All, is_none, Result, Ok, Err, if◌then◌else◌, ◌==◌}
-use Rattle.std.proofs.lemmas.Bool.{cases_lt, eq-eqb}
+use Rattle.std.specs.Prelude.{All, is_none, Result, Ok, Err, if◌then◌else◌, ◌==◌, nat_lt}
+use Rattle.std.specs.Result.{result_ok}
+use Rattle.std.proofs.lemmas.Bool.{cases_lt, eq-eqb, lt-ltb}
 use Rattle.byte_defs.specs.Choices.{first_that_holds}
 use Rattle.message_defs.specs.Limits.{last_number}
 use Rattle.group_defs.proofs.FollowingViews.{next_is_view}
@@ -14,6 +15,12 @@ use Rattle.group_defs.specs.Process.{Setting, Process, Left, delivered_from, del
 use Rattle.group_defs.specs.Certified.{certificate, is_ended}
 use Rattle.group_defs.specs.Settle.{install}
 use Rattle.group_defs.specs.Accounts.{Account, account_of}
+use Rattle.group_defs.specs.Events.{Note, Installs, note_if}
+use Rattle.stmt_codec.specs.declared.events.Note as code
+use Rattle.member_state.specs.Events.{note}
+use Rattle.member_settling.specs.Told.{TellsInstalled}
+use Rattle.member_settling.specs.Begun.{IsLast}
+use Rattle.member_settling.proofs.Real.{last}
 use Rattle.pool_laws.proofs.Members.{All-mem, Mem, mem-All}
 use Rattle.pool_laws.proofs.Tests.{and-first, none-is}
 use Rattle.claim_index.specs.Kept.{empty_pool}
@@ -33,19 +40,6 @@ use Rattle.member_settling.proofs.Bounded.{delivered-few, earlier-few, installin
 use Rattle.member_settling.proofs.Installing.{length-more, none-perceived, none-signed, numbered}
 
 -- ---- the view that follows
-
-pub next-is : (v w : View) (u : Update) → next v u ≡ Ok w → w ≡ next_view v u
-next-is v w u e = go (next_fault v u) e
-  where
-    go : (o : Option UpdateFault) → (let it : Result View UpdateFault = elim o [ None ↦ Ok (next_view v u) | Some fault ↦ Err fault ] in it ≡ Ok w) → w ≡ next_view v u
-    go None e = cc
-    go (Some fault) e = absurd cc
-
-pub follows : (s : Setting) (v : View) (u : Update) (fault : UpdateFault) → is_possible (keyed s) v u ≡ true → next v u ≡ Err fault → ⊥
-follows s v u fault possible e =
-    let none : next_fault v u ≡ None = none-is (next_fault v u) (and-first (is_none (next_fault v u)) (has_keys (keyed s) u) possible) in
-    let clash : Ok (next_view v u) ≡ Err fault = sym (ap (λ (o : Option UpdateFault). let it : Result View UpdateFault = elim o [ None ↦ Ok (next_view v u) | Some fault ↦ Err fault ] in it) none) ∙ e in
-    cc
 
 -- its number is in range
 next-number : (v : View) (u : Update) → next_fault v u ≡ None → v.number ≤ 1023 → v.number + 1 ≤ 1023
@@ -95,12 +89,12 @@ module _ (s : Setting) (p : Process) (d : ℕ × Value) (old new : ProcessState)
   more : earlier q ≡ earlier p + delivered_from p.me p.delivered
   more = tells.before ∙ begins.before ∙ ap (λ n. n + delivered_from p.me p.delivered) (sym ok.place.before)
 
-  abbrev last : Left
-  last = record { view = p.pool.view; delivered = p.delivered; commit = certificate p.pool (Ready p.pool.view.number d.0 d.1) }
+  abbrev left-now : Left
+  left-now = record { view = p.pool.view; delivered = p.delivered; commit = certificate p.pool (Ready p.pool.view.number d.0 d.1) }
 
   commits : map (λ (l : Left). all_signed l.commit) q.left ≡ new.archive.commits
   commits =
-      map-append (λ (l : Left). all_signed l.commit) p.left (last ∷ [])
+      map-append (λ (l : Left). all_signed l.commit) p.left (left-now ∷ [])
       ∙ ap (λ cs. cs ++ all_signed (certificate p.pool (Ready p.pool.view.number d.0 d.1)) ∷ []) ok.kept.commits
       ∙ ap (λ h. old.archive.commits ++ all_signed (certificate h (Ready h.view.number d.0 d.1)) ∷ []) ok.place.pool
       ∙ sym begun.commits
@@ -109,8 +103,8 @@ module _ (s : Setting) (p : Process) (d : ℕ × Value) (old new : ProcessState)
   with_view : account_of q ≡ record (account_of p) { views = views_of p ++ next_view p.pool.view d.1.update ∷ []; delivered = deliveries_of p ++ [] ∷ [] }
   with_view = λ i. record {
     me = p.me;
-    views = map-append (λ (l : Left). l.view) p.left (last ∷ []) i ++ next_view p.pool.view d.1.update ∷ [];
-    delivered = map-append (λ (l : Left). l.delivered) p.left (last ∷ []) i ++ [] ∷ [];
+    views = map-append (λ (l : Left). l.view) p.left (left-now ∷ []) i ++ next_view p.pool.view d.1.update ∷ [];
+    delivered = map-append (λ (l : Left). l.delivered) p.left (left-now ∷ []) i ++ [] ∷ [];
     accepted = p.accepted;
     perceived = p.perceived;
   }
@@ -126,7 +120,7 @@ module _ (s : Setting) (p : Process) (d : ℕ × Value) (old new : ProcessState)
   installs-state = record {
     lawful = installing_is_lawful p d number view ok.lawful;
     bounded = installing-bounded p d more ok.bounded;
-    number = (let before = ok.number in let one = length-more p.left last in omega (arith, before, one));
+    number = (let before = ok.number in let one = length-more p.left left-now in omega (arith, before, one));
     some = ok.some;
     decided = λ e none. absurd cc;
     each = ok.each;
@@ -140,7 +134,7 @@ module _ (s : Setting) (p : Process) (d : ℕ × Value) (old new : ProcessState)
     said = none-signed p.pool.view.number p.signed ok.lawful.past ∙ sym begun.said;
     pairs = ok.pairs ∙ sym begun.pairs;
     kept = record {
-      numbers = numbered p.left last ok.number ok.kept.numbers;
+      numbers = numbered p.left left-now ok.number ok.kept.numbers;
       previous = ap (λ h. Some h) ok.place.pool ∙ sym begun.previous;
       commits = commits;
     };
@@ -155,3 +149,34 @@ module _ (s : Setting) (p : Process) (d : ℕ × Value) (old new : ProcessState)
 
       view : IsView (next_view p.pool.view d.1.update)
       view = next_is_view p.pool.view d.1.update none ok.lawful.pool.view
+
+-- the view is told
+pub installs-told : (p : Process) (d : ℕ × Value) (v : View) (was now : List code.Note) (n : code.Note) → now ≡ was ++ n ∷ [] → note n ≡ Installs v → v ≡ next_view p.pool.view d.1.update → TellsInstalled p (install d p) was now
+installs-told p d v was now n more says is =
+    ap (map note) more
+    ∙ map-append note was (n ∷ [])
+    ∙ ap (λ (x : Note). map note was ++ x ∷ []) (says ∙ ap Installs is)
+    ∙ ap (λ b. map note was ++ note_if b (Installs (next_view p.pool.view d.1.update))) (sym longer)
+  where
+    longer : nat_lt (length p.left) (length (install d p).left) ≡ true
+    longer = lt-ltb (length p.left) (length (install d p).left) (let one = length-more p.left (record { view = p.pool.view; delivered = p.delivered; commit = certificate p.pool (Ready p.pool.view.number d.0 d.1) }) in omega (arith, one))
+
+-- the own messages that were delivered
+pub mine-is : (s : Setting) (p : Process) (st : ProcessState) (mine : ℕ) → IsStateOf s p st → ((ds : List defs.Delivered) → IsLast (account st.account).delivered ds → mine ≡ delivered_from st.account.me ds) → mine ≡ delivered_from p.me p.delivered
+mine-is s p st mine ok counts = counts p.delivered (last s p st ok) ∙ ap (λ m. delivered_from m p.delivered) (sym (ap (λ (a : Account). a.me) ok.account))
+
+-- the view behind is that which follows, and there is one
+pub behind-some : (s : Setting) (p : Process) (d : ℕ × Value) (st : ProcessState) (v : View) (o : Option View) → IsLeaving s p d st → o ≡ result_ok (next st.pool.pool.view d.1.update) → o ≡ Some v → v ≡ next_view p.pool.view d.1.update
+behind-some s p d st v o leaving is some = go (next_fault st.pool.pool.view d.1.update) (sym some ∙ is) ∙ ap (λ (h : defs.Pool). next_view h.view d.1.update) (sym leaving.state.place.pool)
+  where
+    go : (o : Option UpdateFault) → (let it : Result View UpdateFault = elim o [ None ↦ Ok (next_view st.pool.pool.view d.1.update) | Some fault ↦ Err fault ] in Some v ≡ result_ok it) → v ≡ next_view st.pool.pool.view d.1.update
+    go None e = cc
+    go (Some fault) e = absurd cc
+
+pub behind-none : (s : Setting) (p : Process) (d : ℕ × Value) (st : ProcessState) (o : Option View) → IsLeaving s p d st → o ≡ result_ok (next st.pool.pool.view d.1.update) → o ≡ None → ⊥
+behind-none s p d st o leaving is none =
+    let possible = (leaving.state.decided d leaving.decision).possible in
+    let fault : next_fault st.pool.pool.view d.1.update ≡ None = ap (λ (h : defs.Pool). next_fault h.view d.1.update) (sym leaving.state.place.pool) ∙ none-is (next_fault p.pool.view d.1.update) (and-first (is_none (next_fault p.pool.view d.1.update)) (has_keys (keyed s) d.1.update) possible) in
+    let some : next st.pool.pool.view d.1.update ≡ Ok (next_view st.pool.pool.view d.1.update) = ap (λ (o : Option UpdateFault). let it : Result View UpdateFault = elim o [ None ↦ Ok (next_view st.pool.pool.view d.1.update) | Some fault ↦ Err fault ] in it) fault in
+    let clash : None ≡ Some (next_view st.pool.pool.view d.1.update) = sym none ∙ is ∙ ap (λ (r : Result View UpdateFault). result_ok r) some in
+    cc

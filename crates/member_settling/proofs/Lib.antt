@@ -9,6 +9,6 @@ pub mod Changed
 pub mod Delivered
 pub mod Loop
 pub mod Begun
-pub mod Leaving
+pub mod Staying
 pub mod Real
 pub mod Own

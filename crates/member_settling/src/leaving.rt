@@ -1,13 +1,16 @@
 //! A decided view is left: the process waits for what is left below the cut, installs the next view, or halts beyond the cut.
 ghost use Rattle.std.specs.Prelude.{◌≡◌, ◌+◌, ◌≤◌, ◌++◌, None, false, List, ◌∷◌, [], length, map, count_by, ◌==◌, Some, OnOk};
 ghost use Rattle.message_defs.specs.Statements.{Ready, ReadyAt};
-ghost use Rattle.message_defs.specs.Updates.{Update};
+ghost use Rattle.message_defs.specs.Updates as plain;
+ghost use Rattle.std.specs.Result.{result_ok};
+ghost use Rattle.group_defs.specs.Views as views;
 ghost use Rattle.group_defs.specs.Views.{next_view};
 ghost use Rattle.group_defs.specs.Process as defs;
 ghost use Rattle.group_defs.specs.Process.{Setting, Process, delivered_from};
 ghost use Rattle.group_defs.specs.Certified.{certificate, is_ended, value_at};
 ghost use Rattle.group_defs.specs.Settle as settle;
 ghost use Rattle.group_defs.specs.Events.{Installs};
+ghost use Rattle.rp_base.specs.Views as base;
 ghost use Rattle.rp_base.specs.Views.{value};
 ghost use Rattle.accounts.specs.Views.{account as told, delivery};
 ghost use Rattle.claim_index.specs.Kept.{empty_pool};
@@ -27,7 +30,7 @@ use claim_pool::{Own, Pool};
 use ending_rules::Perceived;
 use member_state::{Account, Delivered, ProcessState};
 use own_moves::begin_view;
-use rp_base::{NoMemory, Pid};
+use rp_base::{NoMemory, Pid, Update};
 use std::alloc::Global;
 use std::mem;
 use stmt_codec::Note;
@@ -92,7 +95,7 @@ fn keep_left(
 fn begin(state: &mut ProcessState, view: &View, mine: u16)
     requires { state.old.own.earlier + mine ≤ 4294967295 }
     ensures own { Begins view.now state.old.own state.new.own mine }
-    ensures asked { (u : Update) → has_update state.new.perceived u ≡ false }
+    ensures asked { (u : plain.Update) → has_update state.new.perceived u ≡ false }
     ensures said { state.new.said.claims ≡ [] }
     ensures phase { (p : Process) → p.pool.view ≡ view.now → p.me ≡ state.old.own.me → p.halted ≡ false → p.decision ≡ None → is_ended p ≡ false → IsIn state.new.phase p }
     ensures rest { state.new ≡ record state.old { own = state.new.own; perceived = state.new.perceived; said = state.new.said; phase = state.new.phase } }
@@ -125,20 +128,30 @@ fn installed(view: &View) -> Note
 // Goes on to this view, which follows by the update that is decided.
 fn enter(
     state: &mut ProcessState,
-    view: &View,
+    view: View,
     decision: Decision,
     alloc: Global,
     notes: &mut Vec<Note>,
 ) -> Result<(), NoMemory>
     requires { CanLeave (decision_of decision) state.old }
-    ensures { (s : Setting) (p : Process) → IsLeaving s p (decision_of decision) state.old → view.now ≡ next_view p.pool.view (value decision.value).update → OnOk result (Leaves s p (settle.install (decision_of decision) p) state.new notes.old.items notes.new.items) }
+    ensures { (s : Setting) (p : Process) → IsLeaving s p (decision_of decision) state.old → view ≡ next_view p.pool.view (value decision.value).update → OnOk result (Leaves s p (settle.install (decision_of decision) p) state.new notes.old.items notes.new.items) }
 {
     let mine = own_delivered(&state.account);
-    keep_left(state, view, decision, alloc)?;
-    begin(state, view, mine);
-    put_view(&mut state.account, view, alloc)?;
-    notes.push(installed(view))?;
+    keep_left(state, &view, decision, alloc)?;
+    begin(state, &view, mine);
+    put_view(&mut state.account, &view, alloc)?;
+    notes.push(installed(&view))?;
     Ok(())
+}
+
+// The view that follows by the update; None exactly where none does.
+fn view_behind(pool: &Pool, update: Update) -> Option<View>
+    ensures { result ≡ result_ok (views.next pool.now.pool.view (base.update update)) }
+{
+    match next(pool.view(), update) {
+        Ok(view) => Some(view),
+        Err(_) => None,
+    }
 }
 
 // Installs the view that follows by the update that is decided.
@@ -151,9 +164,10 @@ fn install(
     requires { CanLeave (decision_of decision) state.old }
     ensures { (s : Setting) (p : Process) → IsLeaving s p (decision_of decision) state.old → OnOk result (Leaves s p (settle.install (decision_of decision) p) state.new notes.old.items notes.new.items) }
 {
-    match next(state.pool.view(), decision.value.update) {
-        Ok(view) => enter(state, &view, decision, alloc, notes),
-        Err(_) => Ok(()),
+    let behind = view_behind(&state.pool, decision.value.update);
+    match behind {
+        Some(view) => enter(state, view, decision, alloc, notes),
+        None => Ok(()),
     }
 }
 

@@ -8,5 +8,7 @@ pub(crate) fn take_phase(phase: &mut Phase, begun: Phase) -> Phase
     ensures taken { result ≡ phase.old }
     ensures put { phase.new ≡ begun }
 {
-    mem::replace(phase, begun)
+    let mut taken = begun;
+    mem::swap(phase, &mut taken);
+    taken
 }

@@ -1,7 +1,7 @@
 use Rattle.std.proofs.lemmas.Result.{on_ok_weaker}
 use Rattle.group_defs.specs.Settle.{decide, deliver, leave, settle}
 use Rattle.member_settling.proofs.Deliveries.{delivers-left}
-use Rattle.member_settling.proofs.Leaving.{all-told}
+use Rattle.member_settling.proofs.Staying.{all-told}
 use Rattle.member_settling.proofs.settling.settle.Goals as goal
 
 pub deliver-requires : goal.deliver-requires
