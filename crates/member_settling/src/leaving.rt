@@ -158,13 +158,15 @@ fn view_behind(pool: &Pool, update: Update) -> Option<View>
 fn install(
     state: &mut ProcessState,
     decision: Decision,
+    update: Update,
     alloc: Global,
     notes: &mut Vec<Note>,
 ) -> Result<(), NoMemory>
-    requires { CanLeave (decision_of decision) state.old }
+    requires real { CanLeave (decision_of decision) state.old }
+    requires same { update ≡ decision.value.update }
     ensures { (s : Setting) (p : Process) → IsLeaving s p (decision_of decision) state.old → OnOk result (Leaves s p (settle.install (decision_of decision) p) state.new notes.old.items notes.new.items) }
 {
-    let behind = view_behind(&state.pool, decision.value.update);
+    let behind = view_behind(&state.pool, update);
     match behind {
         Some(view) => enter(state, view, decision, alloc, notes),
         None => Ok(()),
@@ -188,7 +190,7 @@ fn leave_decided(
             state.phase = Phase::DecidedView(decided);
             Ok(())
         }
-        Settled::Install(_) => install(state, decision, alloc, notes),
+        Settled::Install(update) => install(state, decision, update, alloc, notes),
         Settled::Halted(halted) => {
             state.phase = Phase::HaltedView(halted);
             Ok(())

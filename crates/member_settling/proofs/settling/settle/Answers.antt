@@ -5,13 +5,13 @@ use Rattle.member_settling.proofs.Staying.{all-told}
 use Rattle.member_settling.proofs.settling.settle.Goals as goal
 
 pub deliver-requires : goal.deliver-requires
-deliver-requires c = record { setting = c.requires.setting; process = decide c.requires.setting c.requires.process; state = c.decide.ensures c.requires.setting c.requires.process c.requires.state }
+deliver-requires c = record { setting = c.requires.real.setting; process = decide c.requires.real.setting c.requires.real.process; state = c.decide.ensures c.requires.real.setting c.requires.real.process c.requires.real.state }
 
 pub leave-requires : goal.leave-requires
 leave-requires c = record {
-  setting = c.requires.setting;
-  process = deliver (decide c.requires.setting c.requires.process);
-  state = (c.in_ok-deliver.ensures c.requires.setting (decide c.requires.setting c.requires.process) (c.decide.ensures c.requires.setting c.requires.process c.requires.state)).state;
+  setting = c.requires.real.setting;
+  process = deliver (decide c.requires.real.setting c.requires.real.process);
+  state = (c.in_ok-deliver.ensures c.requires.real.setting (decide c.requires.real.setting c.requires.real.process) (c.decide.ensures c.requires.real.setting c.requires.real.process c.requires.real.state)).state;
 }
 
 pub returns-clause-settles : goal.returns-clause-settles
@@ -29,5 +29,5 @@ returns-clause-told c = λ s p ok.
 
 pub returns-clause-real : goal.returns-clause-real
 returns-clause-real c =
-    on_ok_weaker c.leave.result (λ left. record { setting = c.requires.setting; process = leave (deliver (decide c.requires.setting c.requires.process)); state = left.state })
-    (c.leave.ensures c.requires.setting (deliver (decide c.requires.setting c.requires.process)) (c.in_ok-deliver.ensures c.requires.setting (decide c.requires.setting c.requires.process) (c.decide.ensures c.requires.setting c.requires.process c.requires.state)).state)
+    on_ok_weaker c.leave.result (λ left. record { setting = c.requires.real.setting; process = leave (deliver (decide c.requires.real.setting c.requires.real.process)); state = left.state })
+    (c.leave.ensures c.requires.real.setting (deliver (decide c.requires.real.setting c.requires.real.process)) (c.in_ok-deliver.ensures c.requires.real.setting (decide c.requires.real.setting c.requires.real.process) (c.decide.ensures c.requires.real.setting c.requires.real.process c.requires.real.state)).state)

@@ -1,0 +1,15 @@
+use Rattle.std.proofs.Common.{sym, ap, subst}
+use Rattle.group_defs.specs.Settle.{leave}
+use Rattle.view_phases.specs.declared.phases.Phase.{Phase}
+use Rattle.view_phases.specs.Phases.{IsIn}
+use Rattle.member_state.specs.States.{IsStateOf}
+use Rattle.member_settling.specs.Steps.{in_phase}
+use Rattle.member_settling.proofs.Staying.{stays, stays-so}
+use Rattle.member_settling.proofs.leaving.leave.Goals as goal
+
+pub returns-in_default : goal.returns-in_default
+returns-in_default c = λ s p ok.
+    let taken = c.take_phase.ensures.taken in
+    stays-so s p (leave p) (in_phase c.take_phase.result c.args.state.now) c.args.notes.now.items
+    (stays s p c.args.state.now c.take_phase.result ok (subst (λ (phase : Phase). IsIn phase p) (sym taken) ok.phase) c.in_default.not-DecidedView)
+    (subst (IsStateOf s p) (sym (ap (λ (phase : Phase). in_phase phase c.args.state.now) taken)) ok)

@@ -1,0 +1,38 @@
+use Rattle.std.proofs.Common.{◌≡◌, ◌∙◌, ◌<◌, ℕ, Some, sym, ap, subst}
+use Rattle.std.specs.Prelude.{OnOk}
+use Rattle.group_defs.specs.Process.{Process}
+use Rattle.group_defs.specs.Settle.{install, leave}
+use Rattle.view_phases.specs.declared.phases.Decision.{Decision}
+use Rattle.view_phases.specs.declared.phases.DecidedView.{DecidedView}
+use Rattle.view_phases.specs.declared.phases.Phase.TheVariants as phases
+use Rattle.view_phases.specs.Phases.{decision_of}
+use Rattle.member_state.specs.States.{IsStateOf}
+use Rattle.member_settling.specs.Steps.{in_phase, IsLeaving, Leaves}
+use Rattle.member_settling.proofs.Phases.{runs}
+use Rattle.member_settling.proofs.Staying.{halts-so, stays-so}
+use Rattle.member_settling.proofs.leaving.leave_decided.Goals as goal
+
+pub returns-in-Waiting : goal.returns-in-Waiting
+returns-in-Waiting c = λ s p ok.
+    stays-so s p (leave p) (in_phase (phases.DecidedView c.in-Waiting.decided) c.args.state.now) c.args.notes.now.items
+    (c.in-Waiting.ensures.leaves p ok.phase (c.counted-delivered.ensures s p ok.place))
+    (subst (λ (d : DecidedView). IsStateOf s p (in_phase (phases.DecidedView d) c.args.state.now)) (sym c.in-Waiting.ensures.exactly.1) ok)
+
+pub returns-in-Install : goal.returns-in-Install
+returns-in-Install c = λ s p ok.
+    let leaves : leave p ≡ install (decision_of c.args.decided.decision) p = c.in-Install.ensures.leaves p ok.phase (c.counted-delivered.ensures s p ok.place) in
+    let leaving : IsLeaving s p (decision_of c.decision-decision.result) c.args.state.now = record {
+      phase = phases.DecidedView c.args.decided;
+      state = ok;
+      decision = ok.phase.decision ∙ ap (λ (d : Decision). Some (decision_of d)) (sym c.decision-decision.ensures);
+      runs = runs p ok.phase.phase;
+    } in
+    subst (λ (q : Process). OnOk c.install.result (Leaves s p q c.install.new.state c.args.notes.now.items c.install.new.notes.items))
+    (sym (leaves ∙ ap (λ (d : Decision). install (decision_of d) p) (sym c.decision-decision.ensures)))
+    (c.install.ensures s p leaving)
+
+pub returns-in-Halted : goal.returns-in-Halted
+returns-in-Halted c = λ s p ok.
+    let both = c.in-Halted.ensures.leaves p ok.phase (c.counted-delivered.ensures s p ok.place) in
+    halts-so s p (leave p) c.args.state.now c.args.notes.now.items c.args.decided c.in-Halted.halted ok both.0 both.1
+    (subst (λ (n : ℕ). c.args.decided.decision.value.cut < n) (c.counted-delivered.ensures s p ok.place) c.in-Halted.ensures.exactly.0)
