@@ -18,12 +18,7 @@ use view_table::View;
 
 // The phase behind the certified Ready: decided by it, where the phase is undecided and the Ready's update is possible; else the
 // same.
-fn phase_behind(
-    phase: Phase,
-    view: &View,
-    keyed: PidSet,
-    ready: &Certificate<'_, Commit>,
-) -> Phase
+fn phase_behind(phase: Phase, view: &View, keyed: PidSet, ready: &Certificate<'_, Commit>) -> Phase
     requires { IsSome (readied (content_of ready.now)) }
 
     // So is the process that decides, where the Ready's rank is the one that decides.

@@ -84,11 +84,9 @@ fn keep_left(
 {
     let begun = Pool::new(alloc, view.clone()?)?;
     let left = mem::replace(&mut state.pool, begun);
-    state.archive.reserve(300_000)?;
-    let _before = state
+    state
         .archive
-        .keep_view(left, (decision.rank, decision.value));
-    Ok(())
+        .keep_view(left, (decision.rank, decision.value))
 }
 
 // Begins the view: nothing is signed, delivered or asked for there. `mine` own messages more are of views before it.
