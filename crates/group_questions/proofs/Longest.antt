@@ -2,14 +2,12 @@
 use Rattle.std.proofs.Common.{◌≡◌, ℕ, ◌+◌, ◌<◌, ◌≤◌, List, [], ◌∷◌, ◌++◌, map, take, length, get_or, Bool, true, false, refl, sym, ap, ◌∙◌, arith}
 use Rattle.std.specs.Prelude.{if◌then◌else◌, nat_lt}
 use Rattle.std.proofs.lemmas.Bool.{ltb-true, ltb-false, lt-ltb}
-use Rattle.std.proofs.lemmas.List.{length-map, map-append, take_more, take_all}
+use Rattle.std.proofs.lemmas.List.{length-map, map-append, take_more}
 use Rattle.group_defs.specs.Accounts as told
 use Rattle.group_defs.specs.Accounts.{longest, group_of, messages_in, delivered_in}
 use Rattle.group_defs.specs.Process.{without_places, letter_of}
 use Rattle.accounts.specs.declared.account.Account.{Account}
-use Rattle.accounts.specs.Views.{account, delivery}
-use Rattle.stmt_codec.specs.declared.events.Delivered.{Delivered}
-use Rattle.group_questions.specs.Letters.{letters}
+use Rattle.accounts.specs.Views.{account}
 
 -- the longer one, and of two that are equally long the first
 abbrev pub longer : {A : Type 0} → List A → List A → List A

@@ -14,7 +14,7 @@ use accounts::{Account, Delivered};
 use view_table::View;
 
 /// Whether two views are equal.
-pub(crate) fn same_view(v: &View, w: &View) -> bool
+pub fn same_view(v: &View, w: &View) -> bool
     ensures { result ≡ words.same_view v.now w.now }
 {
     v.number() == w.number() && v.members() == w.members()

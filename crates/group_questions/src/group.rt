@@ -19,7 +19,7 @@ fn longer<'a, T>(first: &'a [T], other: &'a [T]) -> &'a [T]
 }
 
 /// The views of the group: the longest list of them, and of equally long ones the first.
-pub(crate) fn longest_views(accounts: &[Account]) -> &[View]
+pub fn longest_views(accounts: &[Account]) -> &[View]
     ensures { result.now ≡ (plain.group_of (map account accounts.now)).views }
 {
     let mut longest: &[View] = &[];
@@ -30,7 +30,7 @@ pub(crate) fn longest_views(accounts: &[Account]) -> &[View]
 }
 
 /// What the process delivered in the view of this number.
-pub(crate) fn delivered_in(a: &Account, x: usize) -> &[Delivered]
+pub fn delivered_in(a: &Account, x: usize) -> &[Delivered]
     ensures { map delivery result.now ≡ plain.delivered_in (account a.now) x }
 {
     match a.delivered.get(x) {
@@ -39,13 +39,20 @@ pub(crate) fn delivered_in(a: &Account, x: usize) -> &[Delivered]
     }
 }
 
-/// The group's sequence of the view of this number: the longest list of deliveries there, and of equally long ones the first.
-pub(crate) fn sequence_in(accounts: &[Account], x: usize) -> &[Delivered]
-    ensures { letters result.now ≡ (plain.group_of (map account accounts.now)).sequence x }
+/// The longest list of deliveries in the view of this number, and of equally long ones the first.
+pub fn longest_in(accounts: &[Account], x: usize) -> &[Delivered]
+    ensures { map delivery result.now ≡ plain.longest (map (λ a. plain.delivered_in (account a) x) accounts.now) }
 {
     let mut longest: &[Delivered] = &[];
     for a in accounts {
         longest = longer(longest, delivered_in(a, x));
     }
     longest
+}
+
+/// The group's sequence of the view of this number: the messages of the longest list of deliveries there.
+pub fn sequence_in(accounts: &[Account], x: usize) -> &[Delivered]
+    ensures { letters result.now ≡ (plain.group_of (map account accounts.now)).sequence x }
+{
+    longest_in(accounts, x)
 }

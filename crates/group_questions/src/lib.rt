@@ -1,5 +1,5 @@
-//! The questions that a report answers of a group, asked of what its processes tell of themselves (docs/PROMISES.md): whether each view is
-//! bounded, whether all agree, and whether views have causes and messages stand in order. Nothing is copied, and no memory is taken.
+//! Two questions that a report answers of a group, asked of what its processes tell of themselves (docs/PROMISES.md): whether each view is
+//! bounded, and whether all agree. Nothing is copied, and no memory is taken.
 #![tactic(auto)]
 
 mod agreement;
@@ -7,5 +7,6 @@ mod bounds;
 mod group;
 
 pub use accounts::Account;
-pub use agreement::agree;
+pub use agreement::{agree, same_view};
 pub use bounds::bounded;
+pub use group::{delivered_in, longest_in, longest_views, sequence_in};

@@ -3,6 +3,7 @@ use Rattle.std.proofs.Common.{◌≡◌, ℕ, ◌-◌, List, [], ◌∷◌, ◌+
 use Rattle.std.specs.Prelude.{if◌then◌else◌, ◌&&◌, ◌==◌, not, filter, All}
 use Rattle.std.specs.List.{AllByRecursion}
 use Rattle.std.proofs.lemmas.List.{length-map}
+use Rattle.std.proofs.Math.Logic.{∥∥₁_elim}
 use Rattle.message_defs.specs.Statements.{Claim, view_of}
 use Rattle.message_defs.specs.Spelling.{IsClaim}
 use Rattle.byte_defs.specs.Orders.{sorted}
@@ -19,6 +20,7 @@ use Rattle.reliable_mcast.specs.Certificates.{IsRanged}
 use Rattle.reliable_mcast.proofs.Listed.{mem-all}
 use Rattle.member_state.specs.declared.state.ProcessState.{ProcessState}
 use Rattle.member_state.specs.States.{IsStateOf, IsReal}
+use Rattle.member_state.proofs.Ranges.{claims-once}
 use Rattle.member_sending.specs.Began.{Began, HasDone}
 
 by-recursion : {A : Type 0} (P : A → Type 0) (xs : List A) → All P xs → AllByRecursion P xs
@@ -26,13 +28,13 @@ by-recursion P xs all = mem-all P xs (λ x m. All-mem P xs x all m)
 
 -- and so is what was signed
 pub real-said : (st : ProcessState) → IsReal st → AllByRecursion IsClaim st.said.claims
-real-said st real =
+real-said st real = ∥∥₁_elim real (claims-once st.said.claims) (λ real.
     let here : Claim → Bool = λ c. view_of c.statement == real.process.pool.view.number in
-    subst (AllByRecursion IsClaim) real.state.said (mem-all IsClaim (filter here real.process.signed) (λ c m. All-mem IsClaim real.process.signed c real.state.lawful.said (filter-mem here real.process.signed c m).0))
+    subst (AllByRecursion IsClaim) real.state.said (mem-all IsClaim (filter here real.process.signed) (λ c m. All-mem IsClaim real.process.signed c real.state.lawful.said (filter-mem here real.process.signed c m).0)))
 
 -- what was heard is in its ranges
 pub real-ranged : (st : ProcessState) → IsReal st → IsRanged st.pool.pool
-real-ranged st real = subst IsRanged real.state.place.pool (by-recursion IsClaim real.process.pool.heard real.state.lawful.pool.in_range)
+real-ranged st real = ∥∥₁_elim real (claims-once st.pool.pool.heard) (λ real. subst IsRanged real.state.place.pool (by-recursion IsClaim real.process.pool.heard real.state.lawful.pool.in_range))
 
 last-get : {A : Type 0} (xs : List A) (x : A) → slice_get (xs ++ x ∷ []) (length xs) ≡ Some x
 last-get [] x = refl

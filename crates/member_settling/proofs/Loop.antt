@@ -17,7 +17,7 @@ use Rattle.own_place.specs.Owns.{HasDelivered}
 use Rattle.multicast_rules.specs.Delivering.{batch_in}
 use Rattle.member_state.specs.declared.state.ProcessState.{ProcessState}
 use Rattle.member_state.specs.Events.{note}
-use Rattle.member_state.specs.States.{IsStateOf, IsReal}
+use Rattle.member_state.specs.States.{IsStateOf, HasProcess}
 use Rattle.member_settling.specs.Told.{TellsDelivered}
 use Rattle.member_settling.specs.Steps as steps
 use Rattle.member_settling.specs.Steps.{ComesNext}
@@ -110,9 +110,9 @@ ends s p most i st was now le on =
     let none : most - i ≡ 0 = omega (arith, le) in
     subst (λ q. steps.Delivers s p q st was now) (sym (no-more on.q) ∙ ap (λ n. deliver_more n on.q) (sym none) ∙ on.rest) on.delivers
 
--- the state is that of some process
-pub real-on : (s : Setting) (p : Process) (most i : ℕ) (st : ProcessState) (was now : List code.Note) → GoesOn s p most i st was now → IsReal st
-real-on s p most i st was now on = record { setting = s; process = on.q; state = on.delivers.state }
+-- the state is a process's
+pub has-process : (s : Setting) (p : Process) (most i : ℕ) (st : ProcessState) (was now : List code.Note) → GoesOn s p most i st was now → HasProcess st
+has-process s p most i st was now on = record { setting = s; process = on.q; state = on.delivers.state }
 
 -- ---- the whole
 

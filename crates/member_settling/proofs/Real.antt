@@ -15,7 +15,7 @@ use Rattle.reliable_mcast.specs.Certificates.{IsRanged, all_signed}
 use Rattle.accounts.specs.Views.{account}
 use Rattle.member_state.specs.declared.state.ProcessState.{ProcessState}
 use Rattle.member_state.specs.States.{IsStateOf}
-use Rattle.member_settling.specs.Begun.{IsLast, HasShortLast}
+use Rattle.member_settling.specs.Begun.{IsLast, HasLast}
 use Rattle.member_settling.proofs.Bounded.{delivered-few, earlier-few}
 
 by-recursion : {A : Type 0} (P : A → Type 0) (xs : List A) → ((x : A) → Mem x xs → P x) → AllByRecursion P xs
@@ -23,9 +23,6 @@ by-recursion P [] each = tt
 by-recursion P (x ∷ xs) each = (each x (inl refl), by-recursion P xs (λ y m. each y (inr m)))
 
 module _ (s : Setting) (p : Process) (st : ProcessState) (ok : IsStateOf s p st) where
-  pub members : length st.own.counts.items ≡ length st.pool.pool.view.members
-  members = sym (ap length ok.place.delivered.counts) ∙ length-map p.pool.view.members (λ m. delivered_from m p.delivered) ∙ ap (λ (h : Pool). length h.view.members) ok.place.pool
-
   pub place : st.own.delivered + 1 ≤ 65535
   place = (let at = ok.place.delivered.places in let few = ok.bounded.now.places in omega (arith, at, few))
 
@@ -37,7 +34,7 @@ module _ (s : Setting) (p : Process) (st : ProcessState) (ok : IsStateOf s p st)
   pub last : IsLast (account st.account).delivered p.delivered
   last = record { before = map (λ (v : Left). v.delivered) p.left; is = sym (ap (λ (a : Account). a.delivered) ok.account) }
 
-  pub short-last : HasShortLast (account st.account).delivered
+  pub short-last : HasLast (account st.account).delivered
   short-last = record { last = p.delivered; is = last; short = (let few = ok.bounded.now.messages in let places = ok.bounded.now.places in omega (arith, few, places)) }
 
   pub before : (mine : ℕ) → mine ≡ delivered_from p.me p.delivered → st.own.earlier + mine ≤ 4294967295

@@ -7,8 +7,12 @@ pub record IsLast (lists : List (List Delivered)) (ds : List Delivered) : Type 0
   pub before : List (List Delivered)
   pub is : lists ≡ before ++ ds ∷ []
 
--- there is a last list, and its length is a number of two bytes
-pub record HasShortLast (lists : List (List Delivered)) : Type 0 where
+-- a last list, whose length is a number of two bytes
+pub record HasLast (lists : List (List Delivered)) : Type 0 where
   pub last : List Delivered
   pub is : IsLast lists last
   pub short : length last ≤ 65535
+
+-- there is such a list
+abbrev pub HasShortLast : List (List Delivered) → Type 0
+HasShortLast lists = ∥ HasLast lists ∥₁

@@ -39,11 +39,15 @@ pub record IsLeaving (s : Setting) (p : Process) (d : ℕ × Value) (st : Proces
   pub decision : p.decision ≡ Some d
   pub runs : p.halted ≡ false
 
--- there is such a process
-pub record CanLeave (d : ℕ × Value) (st : ProcessState) : Type 0 where
+-- such a process, and its setting
+pub record HasLeaving (d : ℕ × Value) (st : ProcessState) : Type 0 where
   pub setting : Setting
   pub process : Process
   pub leaving : IsLeaving setting process d st
+
+-- there is such a process
+abbrev pub CanLeave : ℕ × Value → ProcessState → Type 0
+CanLeave d st = ∥ HasLeaving d st ∥₁
 
 -- the state is that of q, which came of p, and a view that was installed is told
 pub record Leaves (s : Setting) (p q : Process) (st : ProcessState) (was now : List Note) : Type 0 where

@@ -21,21 +21,29 @@ IsUndecided (ClosingView c) = Unit {0}
 IsUndecided (DecidedView d) = ⊥
 IsUndecided (HaltedView h) = ⊥
 
--- the bytes are those of a claim that a frame can carry
-pub record IsReadable (c : OwnClaim) : Type 0 where
+-- a claim that has these bytes, with a statement that a frame can carry
+pub record HasClaim (c : OwnClaim) : Type 0 where
   pub said : plain.Claim
   pub range : IsStatement said.statement
   pub same : signed c ≡ signed_of said
+
+-- the bytes are those of some claim that a frame can carry
+pub record IsReadable (c : OwnClaim) : Type 0 where
+  pub claim : ∥ HasClaim c ∥₁
   pub short : length c.signature ≤ 16384
 
--- some process that has this state may sign the statement of this claim, which is its own, with a signature that a frame can carry
-pub record IsOwed (st : ProcessState) (c : OwnClaim) : Type 0 where
+-- a process that has this state and may sign the statement of this claim, which is its own
+pub record HasSigner (st : ProcessState) (c : OwnClaim) : Type 0 where
   pub setting : Setting
   pub process : Process
   pub said : plain.Statement
   pub state : IsStateOf setting process st
   pub may : IsTrue (may_sign setting process said)
   pub own : signed c ≡ signed_of (own_claim setting (λ used body. c.signature) process said)
+
+-- some process that has this state may sign the statement of this claim, which is its own, with a signature that a frame can carry
+pub record IsOwed (st : ProcessState) (c : OwnClaim) : Type 0 where
+  pub signer : ∥ HasSigner st c ∥₁
   pub short : length c.signature ≤ 16384
 
 -- Process p has signed, and `one` is what it came to: this is its state now; one more was due exactly where it lacks a signature; of

@@ -1,2 +1,4 @@
 mod Liars
+pub mod Ranges
+pub mod Entries
 mod Starting

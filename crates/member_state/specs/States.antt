@@ -52,11 +52,15 @@ pub record IsStateOf (s : Setting) (p : Process) (st : ProcessState) : Type 0 wh
   pub kept : Keeps st.archive p
   pub account : account_of p ≡ account st.account
 
--- some process has this state
-pub record IsReal (st : ProcessState) : Type 0 where
+-- a process that has this state, and its setting
+pub record HasProcess (st : ProcessState) : Type 0 where
   pub setting : Setting
   pub process : Process
   pub state : IsStateOf setting process st
+
+-- some process has this state; which one is left open
+abbrev pub IsReal : ProcessState → Type 0
+IsReal st = ∥ HasProcess st ∥₁
 
 -- the setting has these keys and this genesis view
 pub record StartsWith (s : Setting) (listed : List (ℕ × List ℕ)) (first : View) : Type 0 where

@@ -28,7 +28,7 @@ payloads-decide = discrete-decides bytes_discrete
 
 -- ---- causes
 
-neighbours-at : {A : Type 0} (xs : List A) (a b : A) → Mem (a, b) (neighbours xs) → (i : ℕ) × (slice_get xs i ≡ Some a) × (slice_get xs (i + 1) ≡ Some b)
+pub neighbours-at : {A : Type 0} (xs : List A) (a b : A) → Mem (a, b) (neighbours xs) → (i : ℕ) × (slice_get xs i ≡ Some a) × (slice_get xs (i + 1) ≡ Some b)
 neighbours-at [] a b m = absurd m
 neighbours-at (x ∷ []) a b m = absurd m
 neighbours-at {A} (x ∷ y ∷ more) a b m = go m (neighbours-at (y ∷ more) a b)
@@ -44,7 +44,7 @@ neighbours-at {A} (x ∷ y ∷ more) a b m = go m (neighbours-at (y ∷ more) a 
         let same : suc at.0 + 1 ≡ suc (at.0 + 1) = omega arith in
         (suc at.0, at.1, ap (slice_get (x ∷ y ∷ more)) same ∙ at.2)
 
-at-neighbours : {A : Type 0} (xs : List A) (i : ℕ) (a b : A) → slice_get xs i ≡ Some a → slice_get xs (i + 1) ≡ Some b → Mem (a, b) (neighbours xs)
+pub at-neighbours : {A : Type 0} (xs : List A) (i : ℕ) (a b : A) → slice_get xs i ≡ Some a → slice_get xs (i + 1) ≡ Some b → Mem (a, b) (neighbours xs)
 at-neighbours [] i a b at next = absurd cc
 at-neighbours (x ∷ []) zero a b at next = absurd cc
 at-neighbours (x ∷ []) (suc i) a b at next = absurd cc
@@ -115,16 +115,16 @@ module _ (accounts : List Account) (keyed : List ℕ) (v : View) where
 
 -- ---- order
 
-abbrev numbers_of : ℕ → List Letter → List ℕ
+abbrev pub numbers_of : ℕ → List Letter → List ℕ
 numbers_of sender ds = map (λ (d : Letter). d.message.number) (of_sender sender ds)
 
-abbrev InOrder : List Letter → Type 0
+abbrev pub InOrder : List Letter → Type 0
 InOrder ds = (sender : ℕ) → numbers_of sender ds ≡ range_with_len 0 (length (of_sender sender ds))
 
-long-as : (sender : ℕ) (ds : List Letter) → length (numbers_of sender ds) ≡ length (of_sender sender ds)
+pub long-as : (sender : ℕ) (ds : List Letter) → length (numbers_of sender ds) ≡ length (of_sender sender ds)
 long-as sender ds = length-map (of_sender sender ds) (λ (d : Letter). d.message.number)
 
-order-there : (ds : List Letter) → list_all (λ d. is_in_order ds d.message.sender) ds ≡ true → InOrder ds
+pub order-there : (ds : List Letter) → list_all (λ d. is_in_order ds d.message.sender) ds ≡ true → InOrder ds
 order-there ds e sender = go (of_sender sender ds) refl
   where
     go : (es : List Letter) → of_sender sender ds ≡ es → numbers_of sender ds ≡ range_with_len 0 (length (of_sender sender ds))
@@ -134,7 +134,7 @@ order-there ds e sender = go (of_sender sender ds) refl
         let tested : is_in_order ds sender ≡ true = ap (is_in_order ds) (sym (eqb-true d.message.sender sender there.1)) ∙ list_all-mem (λ (d : Letter). is_in_order ds d.message.sender) ds d e there.0 in
         same-is (λ m n. m == n) numbers-decide (numbers_of sender ds) (range_with_len 0 (length (numbers_of sender ds))) tested ∙ ap (range_with_len 0) (long-as sender ds)
 
-there-order : (ds : List Letter) → InOrder ds → list_all (λ d. is_in_order ds d.message.sender) ds ≡ true
+pub there-order : (ds : List Letter) → InOrder ds → list_all (λ d. is_in_order ds d.message.sender) ds ≡ true
 there-order ds order = each-list_all (λ (d : Letter). is_in_order ds d.message.sender) ds (λ d m.
     is-same (λ m n. m == n) numbers-decide (numbers_of d.message.sender ds) (range_with_len 0 (length (numbers_of d.message.sender ds))) (order d.message.sender ∙ ap (range_with_len 0) (sym (long-as d.message.sender ds))))
 
@@ -149,7 +149,7 @@ order-numbered ds order k d at =
 
 -- ---- places
 
-stands-there : (ds : List Delivered) → stands_by_place ds ≡ true → StandsByPlace ds
+pub stands-there : (ds : List Delivered) → stands_by_place ds ≡ true → StandsByPlace ds
 stands-there ds e =
     let n : ℕ = places_in ds in
     let test : ℕ → Bool = λ k. nat_le 1 (length (at_place k ds)) && nat_le (length (at_place k ds)) 16 in
@@ -160,19 +160,19 @@ stands-there ds e =
           (leb-true 1 (length (at_place k ds)) (and-first _ _ here), leb-true (length (at_place k ds)) 16 (and-second _ _ here));
     }
 
-there-stands : (ds : List Delivered) → StandsByPlace ds → stands_by_place ds ≡ true
+pub there-stands : (ds : List Delivered) → StandsByPlace ds → stands_by_place ds ≡ true
 there-stands ds so =
     let n : ℕ = places_in ds in
     both-true _ _ (is-same same_delivered deliveries-decide (flat_map (λ k. at_place k ds) (range_with_len 0 n)) ds so.together)
     (each-list_all (λ k. nat_le 1 (length (at_place k ds)) && nat_le (length (at_place k ds)) 16) (range_with_len 0 n)
     (λ k m. let lt = mem-range 0 n k m in let both = so.batches k (omega (arith, lt)) in both-true _ _ (le-leb 1 (length (at_place k ds)) both.0) (le-leb (length (at_place k ds)) 16 both.1)))
 
-batches-there : (ds es : List Delivered) → have_same_batches ds es ≡ true → HaveSameBatches ds es
+pub batches-there : (ds es : List Delivered) → have_same_batches ds es ≡ true → HaveSameBatches ds es
 batches-there ds es e k lt lt' =
     let few : ℕ = min (places_in ds) (places_in es) in
     yes-is (Batch-discrete (batch_at k ds) (batch_at k es)) (list_all-mem (λ k. is_yes (Batch-discrete (batch_at k ds) (batch_at k es))) (range_with_len 0 few) k e (range-mem 0 few k (omega arith) (omega (arith, lt, lt'))))
 
-there-batches : (ds es : List Delivered) → HaveSameBatches ds es → have_same_batches ds es ≡ true
+pub there-batches : (ds es : List Delivered) → HaveSameBatches ds es → have_same_batches ds es ≡ true
 there-batches ds es same =
     let few : ℕ = min (places_in ds) (places_in es) in
     each-list_all (λ k. is_yes (Batch-discrete (batch_at k ds) (batch_at k es))) (range_with_len 0 few)

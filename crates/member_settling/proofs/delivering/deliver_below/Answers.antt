@@ -1,11 +1,12 @@
-use Rattle.member_settling.proofs.Loop.{begins, goes-on, stops, ends, real-on}
+use Rattle.std.proofs.Math.Logic.{∥∥₁_map}
+use Rattle.member_settling.proofs.Loop.{begins, goes-on, stops, ends, has-process}
 use Rattle.member_settling.proofs.delivering.deliver_below.Goals as goal
 
 pub places-init : goal.places-init
 places-init c = λ s p ok. begins s p c.args.limit c.args.state.now c.args.notes.now.items (c.requires.limit s p ok) ok
 
 pub deliver_place-requires : goal.deliver_place-requires
-deliver_place-requires c = real-on c.requires.real.setting c.requires.real.process c.args.limit c.places._place c.places.state c.args.notes.now.items c.places.notes.items (c.places.invariant c.requires.real.setting c.requires.real.process c.requires.real.state)
+deliver_place-requires c = ∥∥₁_map c.requires.real (λ real. has-process real.setting real.process c.args.limit c.places._place c.places.state c.args.notes.now.items c.places.notes.items (c.places.invariant real.setting real.process real.state))
 
 pub places-preserved : goal.places-preserved
 places-preserved c = λ s p ok.

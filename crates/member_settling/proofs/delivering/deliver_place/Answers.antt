@@ -1,12 +1,21 @@
-use Rattle.std.proofs.Common.{refl, subst}
+use Rattle.std.proofs.Common.{refl, sym, ap, ◌∙◌, subst, length}
+use Rattle.std.proofs.Math.Logic.{∥∥₁_elim}
+use Rattle.std.proofs.Props.{props}
 use Rattle.group_defs.specs.Views.{View}
 use Rattle.member_laws.specs.Telling.{OnePlaceMore}
+use Rattle.member_state.proofs.Entries.{counts-each}
 use Rattle.member_settling.proofs.Delivered.{place-delivered}
-use Rattle.member_settling.proofs.Real.{counts}
+use Rattle.member_settling.proofs.Real.{counts, place}
 use Rattle.member_settling.proofs.delivering.deliver_place.Goals as goal
 
 pub deliver_batch-requires-clause-counts : goal.deliver_batch-requires-clause-counts
-deliver_batch-requires-clause-counts c = counts c.requires.setting c.requires.process c.args.state.now c.requires.state
+deliver_batch-requires-clause-counts c = ∥∥₁_elim c.requires (hlevel props) (λ real. counts real.setting real.process c.args.state.now real.state)
+
+pub deliver_batch-requires-clause-members : goal.deliver_batch-requires-clause-members
+deliver_batch-requires-clause-members c = counts-each c.args.state.now c.requires ∙ ap (λ (v : View). length v.members) (sym c.view.ensures)
+
+pub deliver_batch-requires-clause-place : goal.deliver_batch-requires-clause-place
+deliver_batch-requires-clause-place c = ∥∥₁_elim c.requires (hlevel props) (λ real. place real.setting real.process c.args.state.now real.state)
 
 pub returns : goal.returns
 returns c = λ s p ok ds next.

@@ -1,4 +1,6 @@
 use Rattle.std.proofs.Common.{◌≡◌, ◌∙◌, ◌+◌, ◌≤◌, ◌++◌, ◌∷◌, [], ℕ, sym, ap, subst}
+use Rattle.std.proofs.Math.Logic.{∥∥₁_elim, ∥∥₁_map}
+use Rattle.std.proofs.Props.{props}
 use Rattle.group_defs.specs.Process.{delivered_from}
 use Rattle.own_place.specs.declared.own.Own.{Own}
 use Rattle.accounts.specs.declared.account.Account.{Account}
@@ -6,20 +8,30 @@ use Rattle.accounts.specs.Views.{account}
 use Rattle.member_laws.specs.Telling.{Begins}
 use Rattle.view_phases.specs.Phases.{decision_of}
 use Rattle.member_state.specs.declared.state.ProcessState.{ProcessState}
+use Rattle.member_state.proofs.Ranges.{claims-once}
 use Rattle.member_settling.specs.Steps.{in_phase}
 use Rattle.member_settling.proofs.Begun.{HasBegun, installs-state, installs-told, mine-is}
-use Rattle.member_settling.proofs.Real.{before, certified}
+use Rattle.member_settling.proofs.Real.{before, certified, order, ranged, short-last}
 use Rattle.member_settling.proofs.leaving.enter.Goals as goal
 
+pub own_delivered-mine-requires : goal.own_delivered-mine-requires
+own_delivered-mine-requires c = ∥∥₁_map c.requires (λ can. short-last can.setting can.process (in_phase can.leaving.phase c.args.state.now) can.leaving.state)
+
+pub keep_left-requires-clause-range : goal.keep_left-requires-clause-range
+keep_left-requires-clause-range c = ∥∥₁_elim c.requires (claims-once c.args.state.now.pool.pool.heard) (λ can. ranged can.setting can.process (in_phase can.leaving.phase c.args.state.now) can.leaving.state)
+
 pub keep_left-requires-clause-certified : goal.keep_left-requires-clause-certified
-keep_left-requires-clause-certified c = certified c.requires.setting c.requires.process (in_phase c.requires.leaving.phase c.args.state.now) c.requires.leaving.state (decision_of c.args.decision) c.requires.leaving.decision
+keep_left-requires-clause-certified c = ∥∥₁_elim c.requires (hlevel props) (λ can. certified can.setting can.process (in_phase can.leaving.phase c.args.state.now) can.leaving.state (decision_of c.args.decision) can.leaving.decision)
+
+pub keep_left-requires-clause-order : goal.keep_left-requires-clause-order
+keep_left-requires-clause-order c = ∥∥₁_elim c.requires (hlevel props) (λ can. order can.setting can.process (in_phase can.leaving.phase c.args.state.now) can.leaving.state)
 
 pub begin-requires : goal.begin-requires
-begin-requires c =
-    let old : ProcessState = in_phase c.requires.leaving.phase c.args.state.now in
-    let mine : c.own_delivered-mine.result ≡ delivered_from c.requires.process.me c.requires.process.delivered = mine-is c.requires.setting c.requires.process old c.own_delivered-mine.result c.requires.leaving.state c.own_delivered-mine.ensures in
+begin-requires c = ∥∥₁_elim c.requires (hlevel props) (λ can.
+    let old : ProcessState = in_phase can.leaving.phase c.args.state.now in
+    let mine : c.own_delivered-mine.result ≡ delivered_from can.process.me can.process.delivered = mine-is can.setting can.process old c.own_delivered-mine.result can.leaving.state c.own_delivered-mine.ensures in
     subst (λ (n : ℕ). n + c.own_delivered-mine.result ≤ 4294967295) (sym (ap (λ (st : ProcessState). st.own.earlier) c.in_ok-keep_left.ensures.rest))
-    (before c.requires.setting c.requires.process old c.requires.leaving.state c.own_delivered-mine.result mine)
+    (before can.setting can.process old can.leaving.state c.own_delivered-mine.result mine))
 
 pub returns : goal.returns
 returns c = λ s p leaving is.

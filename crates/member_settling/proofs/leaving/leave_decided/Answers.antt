@@ -1,16 +1,34 @@
 use Rattle.std.proofs.Common.{◌≡◌, ◌∙◌, ◌<◌, ℕ, Some, sym, ap, subst}
 use Rattle.std.specs.Prelude.{OnOk}
-use Rattle.group_defs.specs.Process.{Process}
+use Rattle.std.proofs.Math.Logic.{∥∥₁_map}
+use Rattle.group_defs.specs.Process.{Setting, Process}
 use Rattle.group_defs.specs.Settle.{install, leave}
 use Rattle.view_phases.specs.declared.phases.Decision.{Decision}
 use Rattle.view_phases.specs.declared.phases.DecidedView.{DecidedView}
 use Rattle.view_phases.specs.declared.phases.Phase.TheVariants as phases
 use Rattle.view_phases.specs.Phases.{decision_of}
+use Rattle.member_state.specs.declared.state.ProcessState.{ProcessState}
 use Rattle.member_state.specs.States.{IsStateOf}
 use Rattle.member_settling.specs.Steps.{in_phase, IsLeaving, Leaves}
 use Rattle.member_settling.proofs.Phases.{runs}
 use Rattle.member_settling.proofs.Staying.{halts-so, stays-so}
 use Rattle.member_settling.proofs.leaving.leave_decided.Goals as goal
+
+-- the process leaves by the decision
+is-leaving : (s : Setting) (p : Process) (st : ProcessState) (decided : DecidedView) (d : Decision) → d ≡ decided.decision → IsStateOf s p (in_phase (phases.DecidedView decided) st) → IsLeaving s p (decision_of d) st
+is-leaving s p st decided d is ok = record {
+  phase = phases.DecidedView decided;
+  state = ok;
+  decision = ok.phase.decision ∙ ap (λ (d : Decision). Some (decision_of d)) (sym is);
+  runs = runs p ok.phase.phase;
+}
+
+pub install-requires-clause-real : goal.install-requires-clause-real
+install-requires-clause-real c = ∥∥₁_map c.requires (λ real. record {
+  setting = real.setting;
+  process = real.process;
+  leaving = is-leaving real.setting real.process c.args.state.now c.args.decided c.decision-decision.result c.decision-decision.ensures real.state;
+})
 
 pub returns-in-Waiting : goal.returns-in-Waiting
 returns-in-Waiting c = λ s p ok.
@@ -21,15 +39,9 @@ returns-in-Waiting c = λ s p ok.
 pub returns-in-Install : goal.returns-in-Install
 returns-in-Install c = λ s p ok.
     let leaves : leave p ≡ install (decision_of c.args.decided.decision) p = c.in-Install.ensures.leaves p ok.phase (c.counted-delivered.ensures s p ok.place) in
-    let leaving : IsLeaving s p (decision_of c.decision-decision.result) c.args.state.now = record {
-      phase = phases.DecidedView c.args.decided;
-      state = ok;
-      decision = ok.phase.decision ∙ ap (λ (d : Decision). Some (decision_of d)) (sym c.decision-decision.ensures);
-      runs = runs p ok.phase.phase;
-    } in
     subst (λ (q : Process). OnOk c.install.result (Leaves s p q c.install.new.state c.args.notes.now.items c.install.new.notes.items))
     (sym (leaves ∙ ap (λ (d : Decision). install (decision_of d) p) (sym c.decision-decision.ensures)))
-    (c.install.ensures s p leaving)
+    (c.install.ensures s p (is-leaving s p c.args.state.now c.args.decided c.decision-decision.result c.decision-decision.ensures ok))
 
 pub returns-in-Halted : goal.returns-in-Halted
 returns-in-Halted c = λ s p ok.

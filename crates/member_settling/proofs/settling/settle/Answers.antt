@@ -1,18 +1,20 @@
 use Rattle.std.proofs.lemmas.Result.{on_ok_weaker}
+use Rattle.std.proofs.Math.Logic.{∥∥₁_elim, ∥∥₁_map}
+use Rattle.std.proofs.Props.{props}
 use Rattle.group_defs.specs.Settle.{decide, deliver, leave, settle}
 use Rattle.member_settling.proofs.Deliveries.{delivers-left}
 use Rattle.member_settling.proofs.Staying.{all-told}
 use Rattle.member_settling.proofs.settling.settle.Goals as goal
 
 pub deliver-requires : goal.deliver-requires
-deliver-requires c = record { setting = c.requires.real.setting; process = decide c.requires.real.setting c.requires.real.process; state = c.decide.ensures c.requires.real.setting c.requires.real.process c.requires.real.state }
+deliver-requires c = ∥∥₁_map c.requires.real (λ real. record { setting = real.setting; process = decide real.setting real.process; state = c.decide.ensures real.setting real.process real.state })
 
 pub leave-requires : goal.leave-requires
-leave-requires c = record {
-  setting = c.requires.real.setting;
-  process = deliver (decide c.requires.real.setting c.requires.real.process);
-  state = (c.in_ok-deliver.ensures c.requires.real.setting (decide c.requires.real.setting c.requires.real.process) (c.decide.ensures c.requires.real.setting c.requires.real.process c.requires.real.state)).state;
-}
+leave-requires c = ∥∥₁_map c.requires.real (λ real. record {
+  setting = real.setting;
+  process = deliver (decide real.setting real.process);
+  state = (c.in_ok-deliver.ensures real.setting (decide real.setting real.process) (c.decide.ensures real.setting real.process real.state)).state;
+})
 
 pub returns-clause-settles : goal.returns-clause-settles
 unfolding settle
@@ -28,6 +30,6 @@ returns-clause-told c = λ s p ok.
     (c.leave.ensures s (deliver (decide s p)) delivered.state)
 
 pub returns-clause-real : goal.returns-clause-real
-returns-clause-real c =
-    on_ok_weaker c.leave.result (λ left. record { setting = c.requires.real.setting; process = leave (deliver (decide c.requires.real.setting c.requires.real.process)); state = left.state })
-    (c.leave.ensures c.requires.real.setting (deliver (decide c.requires.real.setting c.requires.real.process)) (c.in_ok-deliver.ensures c.requires.real.setting (decide c.requires.real.setting c.requires.real.process) (c.decide.ensures c.requires.real.setting c.requires.real.process c.requires.real.state)).state)
+returns-clause-real c = ∥∥₁_elim c.requires.real (hlevel props) (λ real.
+    on_ok_weaker c.leave.result (λ left. ∣ record { setting = real.setting; process = leave (deliver (decide real.setting real.process)); state = left.state } ∣₁)
+    (c.leave.ensures real.setting (deliver (decide real.setting real.process)) (c.in_ok-deliver.ensures real.setting (decide real.setting real.process) (c.decide.ensures real.setting real.process real.state)).state))

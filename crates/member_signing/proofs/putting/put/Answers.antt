@@ -1,4 +1,6 @@
 use Rattle.std.proofs.Common.{◌≡◌, ℕ, List, [], ◌∷◌, ◌++◌, true, refl, sym, ◌∙◌, ap, subst, length}
+use Rattle.std.proofs.Math.Logic.{∥∥₁_elim, ∥∥₁_map}
+use Rattle.std.proofs.Props.{props}
 use Rattle.message_defs.specs.Spelling.{IsClaim}
 use Rattle.message_defs.specs.Statements.{Statement, Claim}
 use Rattle.group_defs.specs.Views.{View}
@@ -17,11 +19,13 @@ use Rattle.member_signing.proofs.putting.put.Goals as goal
 
 pub read_own-claim-requires : goal.read_own-claim-requires
 read_own-claim-requires c =
-    let r = c.requires.owed in record {
-      said = own_claim r.setting (λ (used : ℕ) (body : List ℕ). c.args.own.now.signature) r.process r.said;
-      range = due_is_in_range r.setting r.process r.said r.state.lawful r.may;
-      same = r.own;
-      short = r.short;
+    record {
+      claim = ∥∥₁_map c.requires.owed.signer (λ r. record {
+        said = own_claim r.setting (λ (used : ℕ) (body : List ℕ). c.args.own.now.signature) r.process r.said;
+        range = due_is_in_range r.setting r.process r.said r.state.lawful r.may;
+        same = r.own;
+      });
+      short = c.requires.owed.short;
     }
 
 pub hear-requires : goal.hear-requires
@@ -31,18 +35,16 @@ pub note-requires-clause-range : goal.note-requires-clause-range
 note-requires-clause-range c = c.read_own-claim.ensures.range.1
 
 pub note-requires-clause-members : goal.note-requires-clause-members
-note-requires-clause-members c =
-    let r = c.requires.owed in
+note-requires-clause-members c = ∥∥₁_elim c.requires.owed.signer (hlevel props) (λ r.
     let same = c.read_own-claim.ensures.only (own_claim r.setting (λ (used : ℕ) (body : List ℕ). c.args.own.now.signature) r.process r.said) (due_is_in_range r.setting r.process r.said r.state.lawful r.may) r.own in
     let at = ap (own_claim r.setting (λ (used : ℕ) (body : List ℕ). c.args.own.now.signature) r.process) (ap (λ (d : Claim). d.statement) same) ∙ sym same in
     let heard = c.in_ok-hear.ensures r.setting (λ (used : ℕ) (body : List ℕ). c.args.own.now.signature) r.process r.state.place.pool at in
-    orders-length r.setting r.process c.args.state.now.pool.pool c.args.state.now.own r.state.place ∙ ap (λ (h : Pool). length h.view.members) heard ∙ ap (λ (v : View). length v.members) (sym c.view.ensures)
+    orders-length r.setting r.process c.args.state.now.pool.pool c.args.state.now.own r.state.place ∙ ap (λ (h : Pool). length h.view.members) heard ∙ ap (λ (v : View). length v.members) (sym c.view.ensures))
 
 pub note-requires-clause-fresh : goal.note-requires-clause-fresh
-note-requires-clause-fresh c =
-    let r = c.requires.owed in
+note-requires-clause-fresh c = ∥∥₁_elim c.requires.owed.signer (hlevel props) (λ r.
     let same = c.read_own-claim.ensures.only (own_claim r.setting (λ (used : ℕ) (body : List ℕ). c.args.own.now.signature) r.process r.said) (due_is_in_range r.setting r.process r.said r.state.lawful r.may) r.own in
-    fresh r.setting r.process c.args.state.now.pool.pool c.args.state.now.own _ r.state.place (subst (λ (st : Statement). may_sign r.setting r.process st ≡ true) (sym (ap (λ (d : Claim). d.statement) same)) r.may)
+    fresh r.setting r.process c.args.state.now.pool.pool c.args.state.now.own _ r.state.place (subst (λ (st : Statement). may_sign r.setting r.process st ≡ true) (sym (ap (λ (d : Claim). d.statement) same)) r.may))
 
 pub keep-requires : goal.keep-requires
 keep-requires c = c.read_own-claim.ensures.range
@@ -63,8 +65,8 @@ returns-clause-puts c s signer p st may own is =
 
 pub returns-clause-real : goal.returns-clause-real
 returns-clause-real c =
-    let r = c.requires.owed in record {
+    ∥∥₁_map c.requires.owed.signer (λ r. record {
       setting = r.setting;
       process = signs r.setting (λ (used : ℕ) (body : List ℕ). c.args.own.now.signature) r.process r.said;
       state = returns-clause-puts c r.setting (λ (used : ℕ) (body : List ℕ). c.args.own.now.signature) r.process r.said r.may r.own r.state;
-    }
+    })

@@ -3,7 +3,11 @@ use Rattle.std.specs.Prelude.{IsTrue}
 use Rattle.group_defs.specs.Views as views
 use Rattle.group_defs.specs.Process.{delivered_from}
 use Rattle.group_defs.specs.Accounts.{Account}
+use Rattle.member_state.proofs.Entries.{counts-each}
 use Rattle.member_taking.proofs.refusals.waiting.Goals as goal
+
+pub counts_of-requires : goal.counts_of-requires
+counts_of-requires c = counts-each c.args.state.now c.requires.real
 
 pub returns : goal.returns
 returns c s p is member =

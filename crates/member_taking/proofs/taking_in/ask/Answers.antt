@@ -1,5 +1,7 @@
 use Rattle.std.proofs.Common.{◌≡◌, ◌∙◌, None, Some, sym, ap}
 use Rattle.std.proofs.lemmas.Result.{on_ok_weaker}
+use Rattle.std.proofs.Math.Logic.{∥∥₁_elim}
+use Rattle.std.proofs.Props.{props}
 use Rattle.byte_defs.specs.Orders.{put}
 use Rattle.group_defs.specs.Process.{Pool}
 use Rattle.group_defs.specs.Events.{perceived_numbers}
@@ -11,12 +13,12 @@ use Rattle.member_taking.proofs.taking_in.ask.Goals as goal
 
 pub unreachable-requires : goal.unreachable-requires
 unreachable-requires c =
-    let real = c.requires.real in
+    ∥∥₁_elim c.requires.real (hlevel props) (λ real.
     let admitted = c.requires.admitted real.setting real.process real.state in
     let may = may-ask real.setting real.process (update_of c.args.update.now) admitted in
     let exactly = c.in_default.ensures.exactly real.setting real.process real.state.place.keys (ap (λ (h : Pool). h.view) real.state.place.pool ∙ sym c.view-view.ensures) may.1 may.0 in
     let clash : Some (fault_of c.in_default.field-0) ≡ None = sym exactly ∙ admitted in
-    cc
+    cc)
 
 pub returns : goal.returns
 returns c s p is =

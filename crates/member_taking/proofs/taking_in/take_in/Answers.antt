@@ -1,5 +1,7 @@
 use Rattle.std.proofs.Common.{◌≡◌, None, refl, sym, subst}
 use Rattle.std.proofs.lemmas.Result.{on_ok_weaker}
+use Rattle.std.proofs.Math.Logic.{∥∥₁_elim, ∥∥₁_map}
+use Rattle.std.proofs.Props.{props}
 use Rattle.group_defs.specs.Process.{Process}
 use Rattle.group_defs.specs.Hearing.{hear_all}
 use Rattle.group_defs.specs.Events.{Submit, refusal, take_in, perceives}
@@ -20,15 +22,14 @@ returns-in_ok-accept-in-Payload-clause-taken g c s p shares is = subst (λ (i : 
 
 pub returns-in_ok-accept-in-Payload-clause-real : goal.returns-in_ok-accept-in-Payload-clause-real
 returns-in_ok-accept-in-Payload-clause-real g c =
-    let real = c.requires.real in
-    record { setting = real.setting; process = take_in real.setting real.process (Submit c.in-Payload.payload.now); state = c.in_ok-accept-in-Payload.ensures real.setting real.process real.state }
+    ∥∥₁_map c.requires.real (λ real. record { setting = real.setting; process = take_in real.setting real.process (Submit c.in-Payload.payload.now); state = c.in_ok-accept-in-Payload.ensures real.setting real.process real.state })
 
 pub returns-in-Claims-clause-real : goal.returns-in-Claims-clause-real
 returns-in-Claims-clause-real g c =
-    let real = c.requires.real in
     let r = as_setting (g.V.Scheme.valid c.args.judge.now.scheme.now) c.args.judge.now.group.now c.args.judge.now.roster.now in
-    on_ok_weaker c.hear.result (λ state. record { setting = real.setting; process = hear_all r real.process (claims_left c.in-Claims.claims); state = state })
-    (c.hear.ensures.taken real.setting r real.process (record { rule = refl; bound = refl; keys = refl }) real.state)
+    ∥∥₁_elim c.requires.real (hlevel props) (λ real.
+    on_ok_weaker c.hear.result (λ state. ∣ record { setting = real.setting; process = hear_all r real.process (claims_left c.in-Claims.claims); state = state } ∣₁)
+    (c.hear.ensures.taken real.setting r real.process (record { rule = refl; bound = refl; keys = refl }) real.state))
 
 pub returns-in_ok-ask-in-Update-clause-taken : goal.returns-in_ok-ask-in-Update-clause-taken
 returns-in_ok-ask-in-Update-clause-taken g c s p shares is =
@@ -37,5 +38,4 @@ returns-in_ok-ask-in-Update-clause-taken g c s p shares is =
 
 pub returns-in_ok-ask-in-Update-clause-real : goal.returns-in_ok-ask-in-Update-clause-real
 returns-in_ok-ask-in-Update-clause-real g c =
-    let real = c.requires.real in
-    record { setting = real.setting; process = perceives real.process (update_of c.in-Update.update); state = c.in_ok-ask-in-Update.ensures real.setting real.process real.state }
+    ∥∥₁_map c.requires.real (λ real. record { setting = real.setting; process = perceives real.process (update_of c.in-Update.update); state = c.in_ok-ask-in-Update.ensures real.setting real.process real.state })

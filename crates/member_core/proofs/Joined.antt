@@ -1,0 +1,213 @@
+-- The parts of an event, put together.
+use Rattle.std.proofs.Common.{◌≡◌, ℕ, ◌+◌, ◌-◌, List, [], ◌∷◌, ◌++◌, map, length, drop, Option, None, Some, Bool, true, false, refl, sym, ap, subst, ◌∙◌, arith, inl, inr}
+use Rattle.std.specs.Prelude.{if◌then◌else◌, ◌==◌, filter, nat_lt, All}
+use Rattle.std.specs.List.{flat_map}
+use Rattle.std.proofs.lemmas.List.{append_assoc, length-append, length-map}
+use Rattle.std.proofs.lemmas.Bool.{eqb-false}
+use Rattle.message_defs.specs.Statements.{Claim, view_of}
+use Rattle.message_defs.specs.Packing.{Signed, signed_of}
+use Rattle.group_defs.specs.Process.{Setting, Process, delivered_from}
+use Rattle.group_defs.specs.Signing.{Signer, Signing, sign_all}
+use Rattle.group_defs.specs.Settle.{decide, deliver, leave, settle}
+use Rattle.group_defs.specs.Sending.{Bundle, bundle, newly_signed, others, unless_empty}
+use Rattle.group_defs.specs.Events.{Event, EventFault, Outcome, Turn, Note, Delivers, Installs, Spent, refusal, take_in, signing, after, answered, outcome, is_tick, answers, note_if}
+use Rattle.stmt_codec.specs.Views.{signed}
+use Rattle.stmt_codec.specs.declared.events.Outcome.{Outcome as Came}
+use Rattle.stmt_codec.specs.declared.events.EventVerdict.TheVariants.{Taken}
+use Rattle.stmt_codec.specs.declared.own.OwnClaim.{OwnClaim}
+use Rattle.member_state.specs.declared.state.ProcessState.{ProcessState}
+use Rattle.member_signing.specs.Signed.{IsSigned}
+use Rattle.pool_laws.proofs.Members.{Mem, All-mem}
+use Rattle.event_laws.specs.Parts.{HasTakenIn, HasSigned}
+use Rattle.event_laws.proofs.Taken.{taking_in_leaves}
+use Rattle.event_laws.proofs.Signed.{signing_leaves}
+use Rattle.event_laws.proofs.Settled.{settling_leaves}
+use Rattle.member_state.specs.States.{signed_here}
+use Rattle.member_state.specs.Events.{refusal as verdict-of, frame_to, frames_to, note, IsOutcome}
+use Rattle.member_sending.specs.Began.{Began}
+use Rattle.member_core.specs.declared.member.Core.{Core}
+use Rattle.member_core.specs.Outcomes.{HasBegun, HasEnded, halts, liars_from, refusing}
+use Rattle.member_core.specs.Cores.{IsCore, Steps, turn_of}
+
+-- ---- what is the same behind taking in and signing
+
+record Same (p q : Process) : Type 0 where
+  pub me : q.me ≡ p.me
+  pub view : q.pool.view ≡ p.pool.view
+  pub delivered : q.delivered ≡ p.delivered
+  pub left : q.left ≡ p.left
+
+pub signed-still : (s : Setting) (p : Process) (e : Event) → (take_in s p e).signed ≡ p.signed
+signed-still s p e = ap (λ (x : Process). x.signed) (taking_in_leaves s p e)
+
+same-so : (s : Setting) (signer : Signer) (left : ℕ) (p : Process) (e : Event) → Same p (sign_all s signer left (take_in s p e)).now
+same-so s signer left p e =
+    let a = taking_in_leaves s p e in
+    let b = (signing_leaves s signer left (take_in s p e)).rest in
+    record {
+      me = ap (λ (x : Process). x.me) b ∙ ap (λ (x : Process). x.me) a;
+      view = ap (λ (x : Process). x.pool.view) b ∙ ap (λ (x : Process). x.pool.view) a;
+      delivered = ap (λ (x : Process). x.delivered) b ∙ ap (λ (x : Process). x.delivered) a;
+      left = ap (λ (x : Process). x.left) b ∙ ap (λ (x : Process). x.left) a;
+    }
+
+-- ---- what was signed in this event is the last of what was signed in the view
+
+filter-both : (f : Claim → Bool) (xs ys : List Claim) → filter f (xs ++ ys) ≡ filter f xs ++ filter f ys
+filter-both f [] ys = refl
+filter-both f (x ∷ xs) ys = go (f x) (filter-both f xs ys)
+  where
+    go : (b : Bool) → filter f (xs ++ ys) ≡ filter f xs ++ filter f ys → (if b then x ∷ filter f (xs ++ ys) else filter f (xs ++ ys)) ≡ (if b then x ∷ filter f xs else filter f xs) ++ filter f ys
+    go true rest = ap (λ cs. x ∷ cs) rest
+    go false rest = rest
+
+filter-whole : (f : Claim → Bool) (xs : List Claim) → ((c : Claim) → Mem c xs → f c ≡ true) → filter f xs ≡ xs
+filter-whole f [] each = refl
+filter-whole f (x ∷ xs) each =
+    ap (λ b. if b then x ∷ filter f xs else filter f xs) (each x (inl refl)) ∙ ap (λ cs. x ∷ cs) (filter-whole f xs (λ c m. each c (inr m)))
+
+drop-front : {A : Type 0} (xs ys : List A) → drop (length xs) (xs ++ ys) ≡ ys
+drop-front [] ys = refl
+drop-front (x ∷ xs) ys = drop-front xs ys
+
+eqb-same : (m : ℕ) → (m == m) ≡ true
+eqb-same m = go (m == m) refl
+  where
+    go : (b : Bool) → (m == m) ≡ b → b ≡ true
+    go true e = refl
+    go false e = absurd (eqb-false m m e refl)
+
+same-number : (m n : ℕ) → m ≡ n → (m == n) ≡ true
+same-number m n e = subst (λ (k : ℕ). (m == k) ≡ true) e (eqb-same m)
+
+last-here : (p q : Process) (r : HasSigned p q) → newly_signed p q ≡ drop (length (signed_here q) - length r.more) (signed_here q)
+last-here p q r =
+    let f : Claim → Bool = λ c. view_of c.statement == q.pool.view.number in
+    let view : q.pool.view ≡ p.pool.view = ap (λ (x : Process). x.pool.view) r.rest in
+    let mine : filter f r.more ≡ r.more = filter-whole f r.more (λ c m. same-number (view_of c.statement) q.pool.view.number (All-mem (λ (c : Claim). view_of c.statement ≡ p.pool.view.number) r.more c r.here m ∙ sym (ap (λ v. v.number) view))) in
+    let whole : signed_here q ≡ filter f p.signed ++ r.more = ap (filter f) r.signed ∙ filter-both f p.signed r.more ∙ ap (λ cs. filter f p.signed ++ cs) mine in
+    let long : length (signed_here q) - length r.more ≡ length (filter f p.signed) = (let all = ap length whole ∙ length-append (filter f p.signed) r.more in omega (arith, all)) in
+    ap (drop (length p.signed)) r.signed ∙ drop-front p.signed r.more
+    ∙ sym (ap (λ n. drop n (signed_here q)) long ∙ ap (drop (length (filter f p.signed))) whole ∙ drop-front (filter f p.signed) r.more)
+
+pub began-so : (s : Setting) (signer : Signer) (left : ℕ) (p : Process) (e : Event) (newly : ℕ)
+    → newly ≡ length (drop (length p.signed) (sign_all s signer left (take_in s p e)).now.signed)
+    → Began newly p (sign_all s signer left (take_in s p e)).now
+began-so s signer left p e newly long =
+    let p' : Process = take_in s p e in
+    let q : Process = (sign_all s signer left p').now in
+    let r : HasSigned p' q = signing_leaves s signer left p' in
+    let is = same-so s signer left p e in
+    let still = signed-still s p e in
+    let many : newly ≡ length r.more = long ∙ ap (λ cs. length (drop (length cs) q.signed)) (sym still) ∙ ap length (ap (drop (length p'.signed)) r.signed ∙ drop-front p'.signed r.more) in
+    record {
+      number = sym is.me;
+      delivered = sym is.delivered;
+      view = sym is.view;
+      signed = ap (λ cs. drop (length cs) q.signed) (sym still) ∙ last-here p' q r ∙ ap (λ n. drop (length (signed_here q) - n) (signed_here q)) (sym many);
+    }
+
+-- ---- the halves
+
+-- as many were signed as stand in frames
+counted-so : (n : ℕ) (xs : List OwnClaim) (ys : List Claim) → n ≡ length xs → map signed xs ≡ map signed_of ys → n ≡ length ys
+counted-so n xs ys long same = long ∙ sym (length-map xs signed) ∙ ap length same ∙ length-map ys signed_of
+
+module _ (s : Setting) (p : Process) (t : Turn) (st : ProcessState) (total many : ℕ) (before : List Signed) (none : before ≡ []) where
+  -- what signing leaves is told from what was signed before the event
+  signed-here-so : (xs : List OwnClaim) (lacks : Bool) → IsSigned s (take_in s p t.event) (signing s p t) st total many before (map signed xs) lacks → map signed xs ≡ map signed_of (drop (length p.signed) (signing s p t).now.signed)
+  signed-here-so xs lacks is =
+      is.told ∙ ap (λ (cs : List Signed). cs ++ map signed_of (drop (length (take_in s p t.event).signed) (signing s p t).now.signed)) none
+      ∙ ap (λ (cs : List Claim). map signed_of (drop (length cs) (signing s p t).now.signed)) (signed-still s p t.event)
+
+  pub began-here : (n : ℕ) (xs : List OwnClaim) (lacks : Bool) → IsSigned s (take_in s p t.event) (signing s p t) st total many before (map signed xs) lacks → n ≡ length xs → Began n p (signing s p t).now
+  began-here n xs lacks is long = began-so s t.signer t.allowance p t.event n (counted-so n xs (drop (length p.signed) (signing s p t).now.signed) long (signed-here-so xs lacks is))
+
+  pub begun-so : (r : Came) (tick : Bool) (sends : List (List ℕ × List ℕ)) → IsSigned s (take_in s p t.event) (signing s p t) st total many before (map signed r.signed.items) r.spent
+      → r.verdict ≡ Taken → r.heard ≡ length (take_in s p t.event).pool.heard - length p.pool.heard → tick ≡ is_tick t.event → sends ≡ []
+      → map frame_to r.sends.items ≡ sends ++ flat_map frames_to (unless_empty (bundle tick p (signing s p t).now) Bundle (others p p.pool.view)) → map note r.notes.items ≡ []
+      → HasBegun s p t st many r
+  begun-so r tick sends is verdict heard same empty sent told = record {
+    state = is.state;
+    used = is.used;
+    verdict = verdict;
+    heard = heard;
+    signed_now = signed-here-so r.signed.items r.spent is;
+    spent = is.spent;
+    sends = sent ∙ (λ i. empty i ++ flat_map frames_to (unless_empty (bundle (same i) p (signing s p t).now) Bundle (others p p.pool.view)));
+    notes = told;
+  }
+
+-- ---- the outcome
+
+flat-both : {A B : Type 0} (f : A → List B) (xs ys : List A) → flat_map f (xs ++ ys) ≡ flat_map f xs ++ flat_map f ys
+flat-both f [] ys = refl
+flat-both f (x ∷ xs) ys = ap (λ zs. f x ++ zs) (flat-both f xs ys) ∙ sym (append_assoc (f x) (flat_map f xs) (flat_map f ys))
+
+answered-so : (s : Setting) (p : Process) (t : Turn) (st st' : ProcessState) (many pairs : ℕ) (was r : Came) → pairs ≡ length p.conflicts
+    → HasBegun s p t st many was → HasEnded s (signing s p t).now t.event pairs st' was r → IsOutcome (answered s p t (signing s p t)) r
+unfolding settle
+answered-so s p t st st' many pairs was r first begun ended =
+    let one : Signing = signing s p t in
+    let q : Process = leave (deliver (decide s one.now)) in
+    let same : Same p one.now = same-so s t.signer t.allowance p t.event in
+    record {
+      verdict = sym (ap verdict-of (ended.verdict ∙ begun.verdict));
+      heard = sym (ended.heard ∙ begun.heard);
+      signed_now = sym (ap (λ v. map signed v.items) ended.signed_now ∙ begun.signed_now);
+      spent = begun.spent ∙ sym ended.spent;
+      sends = flat-both frames_to (unless_empty (bundle (is_tick t.event) p one.now) Bundle (others p p.pool.view)) (answers s q t.event)
+          ∙ sym (ended.sends ∙ ap (λ fs. fs ++ flat_map frames_to (answers s q t.event)) begun.sends);
+      told = sym (ended.notes ∙ (λ i. begun.notes i
+          ++ map (Delivers (same.view i).number) (drop (length (same.delivered i)) (deliver (decide s one.now)).delivered)
+          ++ note_if (nat_lt (length (same.left i)) (length q.left)) (Installs q.pool.view)
+          ++ liars_from (first i) q.conflicts ++ note_if (sym begun.spent i) Spent ++ halts q));
+    }
+
+outcome-taken : (s : Setting) (p : Process) (t : Turn) (r : Came) → refusal s p t.event ≡ None → IsOutcome (answered s p t (signing s p t)) r → IsOutcome (outcome s p t) r
+outcome-taken s p t r none is =
+    subst (λ (o : Outcome). IsOutcome o r) (sym (ap (λ (o : Option EventFault). elim o [ None ↦ answered s p t (signing s p t) | Some fault ↦ refusing fault ]) none)) is
+
+outcome-refused : (s : Setting) (p : Process) (t : Turn) (r : Came) (fault : EventFault) → refusal s p t.event ≡ Some fault → IsOutcome (refusing fault) r → IsOutcome (outcome s p t) r
+outcome-refused s p t r fault some is =
+    subst (λ (o : Outcome). IsOutcome o r) (sym (ap (λ (o : Option EventFault). elim o [ None ↦ answered s p t (signing s p t) | Some fault ↦ refusing fault ]) some)) is
+
+-- ---- the process after the event
+
+after-taken : (s : Setting) (p : Process) (t : Turn) → refusal s p t.event ≡ None → after s p t ≡ settle s (signing s p t).now
+unfolding after
+after-taken s p t none = ap (λ (o : Option EventFault). elim o [ None ↦ settle s (signing s p t).now | Some fault ↦ p ]) none
+
+after-refused : (s : Setting) (p : Process) (t : Turn) (fault : EventFault) → refusal s p t.event ≡ Some fault → after s p t ≡ p
+unfolding after
+after-refused s p t fault some = ap (λ (o : Option EventFault). elim o [ None ↦ settle s (signing s p t).now | Some fault ↦ p ]) some
+
+-- ---- the step
+
+module _ {G : Type 0} (used total : G → ℕ) (signature : G → ℕ → List ℕ → List ℕ) (s : Setting) (p : Process) (old : Core G) (e : Event) where
+  -- the process after the event
+  settled-so : (new : Core G) (was r : Came) (st : ProcessState) (many pairs : ℕ) → IsCore used s p old → many ≡ used new.signer → old.group ≡ new.group → old.roster ≡ new.roster
+      → HasBegun s p (turn_of used total signature old e) st many was → HasEnded s (signing s p (turn_of used total signature old e)).now e pairs new.state was r → IsCore used s (settle s (signing s p (turn_of used total signature old e)).now) new
+  unfolding IsCore
+  settled-so new was r st many pairs is count group roster begun ended = record {
+    state = ended.state;
+    signed = ap length (settling_leaves s (signing s p (turn_of used total signature old e)).now).signed ∙ begun.used ∙ count;
+    group = is.group ∙ group;
+    roster = is.roster ∙ roster;
+    kinds = is.kinds;
+  }
+
+  -- an event that is taken
+  pub taken-so : (new : Core G) (was r : Came) (st : ProcessState) (many pairs : ℕ) → refusal s p e ≡ None → pairs ≡ length p.conflicts → IsCore used s p old → many ≡ used new.signer → old.group ≡ new.group → old.roster ≡ new.roster
+      → HasBegun s p (turn_of used total signature old e) st many was → HasEnded s (signing s p (turn_of used total signature old e)).now e pairs new.state was r → Steps used total signature s p old new e r
+  taken-so new was r st many pairs none first is count group roster begun ended = record {
+    core = subst (λ (q : Process). IsCore used s q new) (sym (after-taken s p (turn_of used total signature old e) none)) (settled-so new was r st many pairs is count group roster begun ended);
+    outcome = outcome-taken s p (turn_of used total signature old e) r none (answered-so s p (turn_of used total signature old e) st new.state many pairs was r first begun ended);
+  }
+
+  -- one that is refused
+  pub refused-so : (r : Came) (fault : EventFault) → refusal s p e ≡ Some fault → IsCore used s p old → IsOutcome (refusing fault) r → Steps used total signature s p old old e r
+  refused-so r fault some is came = record {
+    core = subst (λ (q : Process). IsCore used s q old) (sym (after-refused s p (turn_of used total signature old e) fault some)) is;
+    outcome = outcome-refused s p (turn_of used total signature old e) r fault some came;
+  }

@@ -1,0 +1,2 @@
+mod Liars
+mod Joined

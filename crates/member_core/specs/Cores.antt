@@ -1,0 +1,42 @@
+-- Which process of the definitions a core is, and what a step of it gives.
+use Rattle.std.specs.Prelude.{◌≡◌, ℕ, ◌-◌, List, length}
+use Rattle.group_defs.specs.Views.{View}
+use Rattle.group_defs.specs.Process.{Setting, Process, all_kinds}
+use Rattle.group_defs.specs.Events as defs
+use Rattle.stmt_codec.specs.declared.events.Outcome.{Outcome}
+use Rattle.member_state.specs.States.{IsStateOf}
+use Rattle.member_state.specs.Events.{IsOutcome}
+use Rattle.member_core.specs.declared.member.Core.{Core}
+
+-- the setting of this group, roster and genesis view, in which all kinds are signed
+pub record Shares (s : Setting) (g : List ℕ) (r : List (ℕ × List ℕ)) (v : View) : Type 0 where
+  pub group : s.group ≡ g
+  pub roster : s.roster ≡ r
+  pub genesis : s.genesis ≡ v
+  pub kinds : s.signs ≡ all_kinds
+
+-- the signer
+abbrev pub signer_of : {G : Type 0} → Core G → G
+signer_of c = c.signer
+
+-- The core is this process in this setting: its state is, and it has made as many signatures as the process has signed statements. `used`
+-- tells how many signatures a signer has made.
+pub record IsProcess {G : Type 0} (used : G → ℕ) (s : Setting) (p : Process) (c : Core G) : Type 0 where
+  pub state : IsStateOf s p c.state
+  pub signed : length p.signed ≡ used c.signer
+  pub group : s.group ≡ c.group
+  pub roster : s.roster ≡ c.roster
+  pub kinds : s.signs ≡ all_kinds
+
+-- the same, as one word
+unfoldable pub IsCore : {G : Type 0} → (G → ℕ) → Setting → Process → Core G → Type 0
+IsCore used s p c = IsProcess used s p c
+
+-- the turn of this event: the signatures that the signer has left may be made, and it makes them
+abbrev pub turn_of : {G : Type 0} → (G → ℕ) → (G → ℕ) → (G → ℕ → List ℕ → List ℕ) → Core G → defs.Event → defs.Turn
+turn_of used total signature c e = record { event = e; allowance = total c.signer - used c.signer; signer = signature c.signer }
+
+-- the new core is the process after the turn, and the outcome is that of the turn
+pub record Steps {G : Type 0} (used total : G → ℕ) (signature : G → ℕ → List ℕ → List ℕ) (s : Setting) (p : Process) (old new : Core G) (e : defs.Event) (r : Outcome) : Type 0 where
+  pub core : IsCore used s (defs.after s p (turn_of used total signature old e)) new
+  pub outcome : IsOutcome (defs.outcome s p (turn_of used total signature old e)) r

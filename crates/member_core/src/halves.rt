@@ -1,0 +1,83 @@
+//! The two halves of an event that is taken: up to what it signs and sends of that, and from settling on.
+ghost use Rattle.std.specs.Prelude.{◌≡◌, ◌-◌, length, IfOk, OnOk, None};
+ghost use Rattle.group_defs.specs.Process.{Setting, Process, all_kinds};
+ghost use Rattle.group_defs.specs.Events as defs;
+ghost use Rattle.claim_hearing.specs.Hearing.{Shares};
+ghost use Rattle.member_state.specs.States.{IsReal, IsStateOf};
+ghost use Rattle.member_taking.specs.Inputs.{handed, InRange};
+ghost use Rattle.member_sending.specs.Sends.{IsEmpty};
+ghost use Rattle.member_core.specs.Outcomes.{HasBegun, HasEnded};
+
+use crate::notes::tell;
+use member_sending::{send_answers, send_bundle};
+use member_settling::settle;
+use member_signing::sign_all;
+use member_state::ProcessState;
+use member_taking::{Input, Judge, take_in};
+use reliable_mcast::Frames;
+use rp_base::{NoMemory, Scheme, Signer, Tally};
+use std::alloc::Global;
+use stmt_codec::{EventVerdict, Outcome};
+
+// Whether the process is asked to send again what it signed.
+fn is_tick(input: &Input<'_>) -> bool
+    ensures { result ≡ defs.is_tick (handed input.now) }
+{
+    matches!(input, Input::Tick)
+}
+
+/// Begins an event that is not refused: it is taken in, what is due is signed, and the Bundle of that is sent. What came of it so far,
+/// with nothing told.
+pub(crate) fn begin<G: Signer, V: Scheme>(
+    state: &mut ProcessState,
+    alloc: Global,
+    judge: &Judge<'_, V>,
+    signer: &mut G,
+    frames: &mut Frames,
+    input: &Input<'_>,
+) -> Result<Outcome, NoMemory>
+    requires real { IsReal state.old }
+    requires empty { IsEmpty frames.old }
+    requires range { InRange input.now }
+    requires admitted { (s : Setting) (p : Process) → IsStateOf s p state.old → defs.refusal s p (handed input.now) ≡ None }
+    ensures begins { (s : Setting) (p : Process) → Shares s (V.valid judge.now.scheme.now) judge.now.group.now judge.now.roster.now → s.signs ≡ all_kinds → length p.signed ≡ G.Tally.used signer.old → IsStateOf s p state.old → IfOk result (HasBegun s p (record { event = handed input.now; allowance = G.Tally.total signer.old - G.Tally.used signer.old; signer = G.signature signer.old }) state.new (G.Tally.used signer.new)) }
+    ensures real { OnOk result (IsReal state.new) }
+    ensures empty { OnOk result (IsEmpty frames.new) }
+    ensures total { G.Tally.total signer.new ≡ G.Tally.total signer.old }
+    ensures secret { G.signature signer.new ≡ G.signature signer.old }
+{
+    let heard = take_in(state, judge, input)?;
+    let mut signed = Vec::new(alloc);
+    let spent = sign_all(state, alloc, judge.group, signer, &mut signed)?;
+    let mut sends = Vec::new(alloc);
+    send_bundle(state, is_tick(input), signed.len(), frames, &mut sends)?;
+    Ok(Outcome {
+        verdict: EventVerdict::Taken,
+        heard,
+        signed,
+        spent,
+        sends,
+        notes: Vec::new(alloc),
+    })
+}
+
+/// Ends the event: the process settles, what came of it is told, of conflicts those from this pair on, and Wants and Ticks are answered.
+pub(crate) fn end(
+    state: &mut ProcessState,
+    alloc: Global,
+    pairs: usize,
+    frames: &mut Frames,
+    input: &Input<'_>,
+    outcome: &mut Outcome,
+) -> Result<(), NoMemory>
+    requires real { IsReal state.old }
+    requires empty { IsEmpty frames.old }
+    requires range { InRange input.now }
+    ensures ends { (s : Setting) (p : Process) → IsStateOf s p state.old → OnOk result (HasEnded s p (handed input.now) pairs state.new outcome.old outcome.new) }
+    ensures real { OnOk result (IsReal state.new) }
+    ensures empty { OnOk result (IsEmpty frames.new) }
+{
+    settle(state, alloc, &mut outcome.notes)?;
+    tell(state, pairs, outcome.spent, &mut outcome.notes)?;
+    send_answers(state, input, frames, &mut outcome.sends)
+}

@@ -1,0 +1,15 @@
+//! One member of a group: a function of its state and an event, with no clock, disk or socket in it (docs/PROTOCOL.md).
+#![tactic(auto)]
+
+mod halves;
+mod member;
+mod notes;
+mod stepping;
+mod telling;
+
+pub use member::Core;
+pub use member_state::{Account, Delivered};
+pub use stmt_codec::{
+    Entry, Event, EventFault, EventVerdict, Note, Outcome, OwnClaim, Payload, Sending,
+};
+pub use view_phases::PhaseWord;

@@ -1,0 +1,89 @@
+//! A member as it starts, and what it tells of itself.
+ghost use Rattle.std.specs.Prelude.{◌≡◌, ◌≤◌, length, IfOk};
+ghost use Rattle.group_defs.specs.Process.{Setting, Process, start};
+ghost use Rattle.group_defs.specs.Accounts.{account_of};
+ghost use Rattle.group_defs.specs.Settle.{phase_of};
+ghost use Rattle.accounts.specs.Views.{account};
+ghost use Rattle.view_phases.specs.Phases.{word};
+ghost use Rattle.member_state.specs.States.{liars_of, halted_at};
+ghost use Rattle.member_core.specs.Cores.{IsCore, Shares, signer_of};
+
+use crate::member::Core;
+use member_state::{Account, ProcessState};
+use reliable_mcast::Frames;
+use rp_base::{GroupId, NoMemory, Pid, PidSet, Roster, Tally};
+use std::alloc::Global;
+use view_phases::PhaseWord;
+use view_table::View;
+
+impl<G: Tally + Drop> Core<G> {
+    /// The process of this number as it starts, in the genesis view, which has the number 0. The signer has signed nothing; on
+    /// `NoMemory` it is dropped unused. An own Order has at most `batch_limit` messages, 1 to 16.
+    pub fn new(
+        alloc: Global,
+        group: GroupId,
+        roster: Roster,
+        genesis: View,
+        me: Pid,
+        batch_limit: u8,
+        signer: G,
+    ) -> Result<Core<G>, NoMemory>
+        requires number { genesis.number ≡ 0 }
+        requires some { 1 ≤ batch_limit }
+        requires few { batch_limit ≤ 16 }
+        requires unused { G.used signer ≡ 0 }
+        ensures starts { IfOk result (λ c. (s : Setting) → Shares s group roster genesis → IsCore G.used s (start s me batch_limit) c) }
+        ensures signer { IfOk result (λ c. signer_of c ≡ signer) }
+    {
+        let state = ProcessState::new(alloc, &roster, &genesis, me, batch_limit)?;
+        let frames = Frames::new(alloc)?;
+        Ok(Core {
+            alloc,
+            group,
+            roster,
+            state,
+            frames,
+            signer,
+        })
+    }
+
+    /// What the process tells of itself.
+    #[tactic(auto, unfolding(crate::specs::Cores::IsCore))]
+    pub fn account(&self) -> &Account
+        ensures { (s : Setting) (p : Process) → IsCore G.used s p self.now → account_of p ≡ account result.now }
+    {
+        &self.state.account
+    }
+
+    /// Its phase in the current view.
+    #[tactic(auto, unfolding(crate::specs::Cores::IsCore))]
+    pub fn phase(&self) -> PhaseWord
+        ensures { (s : Setting) (p : Process) → IsCore G.used s p self.now → phase_of p ≡ word result }
+    {
+        self.state.phase.word()
+    }
+
+    /// How many signatures it has made.
+    #[tactic(auto, unfolding(crate::specs::Cores::IsCore))]
+    pub fn used(&self) -> u32
+        ensures { (s : Setting) (p : Process) → IsCore G.used s p self.now → length p.signed ≡ result }
+    {
+        self.signer.used()
+    }
+
+    /// The signers of whom it keeps two claims that conflict.
+    #[tactic(auto, unfolding(crate::specs::Cores::IsCore))]
+    pub fn liars(&self) -> PidSet
+        ensures { (s : Setting) (p : Process) → IsCore G.used s p self.now → liars_of p ≡ result }
+    {
+        self.state.liars()
+    }
+
+    /// Where it has halted, how many places it has delivered, and the cut, which is below that.
+    #[tactic(auto, unfolding(crate::specs::Cores::IsCore))]
+    pub fn halted(&self) -> Option<(u16, u16)>
+        ensures { (s : Setting) (p : Process) → IsCore G.used s p self.now → halted_at p ≡ result }
+    {
+        self.state.halted()
+    }
+}

@@ -1,0 +1,5 @@
+//! One member alone: whole events, from what is handed in to what is sent and told.
+#![tactic(auto)]
+
+#[cfg(test)]
+mod alone;
