@@ -1,0 +1,7 @@
+//! What a process said over all views, found by its bytes (docs/FORMATS.md, «Statements»). A process itself keeps what it signed in its
+//! current view alone.
+#![tactic(auto)]
+
+mod index;
+
+pub use index::SaidIndex;

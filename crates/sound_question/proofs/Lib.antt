@@ -1,0 +1,6 @@
+mod Lists
+mod Perceived
+mod Counted
+mod Behind
+mod Steps
+mod Fronts

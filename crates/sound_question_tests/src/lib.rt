@@ -1,0 +1,5 @@
+//! Tests of `sound_question`.
+#![tactic(auto)]
+
+#[cfg(test)]
+mod questions;
