@@ -1,143 +1,169 @@
 -- What a line asks, by the kinds of questions.
-use Rattle.std.proofs.Common.{◌≡◌, ◌∙◌, ℕ, List, [], ◌∷◌, inl, inr, sym, ap, subst, arith}
-use Rattle.std.specs.Prelude.{codes}
+use Rattle.std.proofs.Common.{◌≡◌, ◌≢◌, ◌==◌, ◌∙◌, ℕ, ◌<◌, List, [], ◌∷◌, ◌⊎◌, inl, inr, sym, ap, subst, arith, refl}
+use Rattle.std.specs.Prelude.{codes, if◌then◌else◌}
 use Rattle.text_defs.specs.Words.{words_of}
 use Rattle.interop_signatures.specs.Signatures as signatures
 use Rattle.interop_levels.specs.Levels as levels
 use Rattle.interop_frames.specs.Frames as frames
 use Rattle.interop_kits.specs.Kits as kits
 use Rattle.interop_schedules.specs.Schedules as schedules
+use Rattle.interop_node.specs.Questions as nodes
 use Rattle.interop_lines.specs.Lines.{Answers}
 use Rattle.interop_signatures.proofs.SignatureLaws as of_signatures
 use Rattle.interop_levels.proofs.LevelLaws as of_levels
 use Rattle.interop_frames.proofs.FrameLaws as of_frames
 use Rattle.interop_kits.proofs.KitLaws as of_kits
 use Rattle.interop_schedules.proofs.ScheduleLaws as of_schedules
+use Rattle.interop_node.proofs.QuestionLaws as of_nodes
 
--- a line that asks on no signature, no frame, no kit and no schedule
-pub none : (line told : List ℕ) (ws ls vs us ss : List (List ℕ)) → ws ≡ words_of line → ls ≡ words_of line → vs ≡ words_of line → us ≡ words_of line → ss ≡ words_of line
-    → (signatures.Answers ws told → ⊥) → (levels.Answers ls told → ⊥) → (frames.Answers vs told → ⊥) → (kits.Answers us told → ⊥) → (schedules.Answers ss told → ⊥) → Answers line told → ⊥
-none line told ws ls vs us ss e l f g h one two three four five (inl a) = one (subst (λ w. signatures.Answers w told) (sym e) a)
-none line told ws ls vs us ss e l f g h one two three four five (inr (inl a)) = two (subst (λ w. levels.Answers w told) (sym l) a)
-none line told ws ls vs us ss e l f g h one two three four five (inr (inr (inl a))) = three (subst (λ w. frames.Answers w told) (sym f) a)
-none line told ws ls vs us ss e l f g h one two three four five (inr (inr (inr (inl a)))) = four (subst (λ w. kits.Answers w told) (sym g) a)
-none line told ws ls vs us ss e l f g h one two three four five (inr (inr (inr (inr a)))) = five (subst (λ w. schedules.Answers w told) (sym h) a)
+-- a line that asks on no signature, no frame, no kit, no schedule, no journal and no datagram
+pub none : (line told : List ℕ) (ws ls vs us ss ns : List (List ℕ)) → ws ≡ words_of line → ls ≡ words_of line → vs ≡ words_of line → us ≡ words_of line → ss ≡ words_of line → ns ≡ words_of line
+    → (signatures.Answers ws told → ⊥) → (levels.Answers ls told → ⊥) → (frames.Answers vs told → ⊥) → (kits.Answers us told → ⊥) → (schedules.Answers ss told → ⊥) → (nodes.Answers ns told → ⊥) → Answers line told → ⊥
+none line told ws ls vs us ss ns e l f g h k one two three four five six (inl a) = one (subst (λ w. signatures.Answers w told) (sym e) a)
+none line told ws ls vs us ss ns e l f g h k one two three four five six (inr (inl a)) = two (subst (λ w. levels.Answers w told) (sym l) a)
+none line told ws ls vs us ss ns e l f g h k one two three four five six (inr (inr (inl a))) = three (subst (λ w. frames.Answers w told) (sym f) a)
+none line told ws ls vs us ss ns e l f g h k one two three four five six (inr (inr (inr (inl a)))) = four (subst (λ w. kits.Answers w told) (sym g) a)
+none line told ws ls vs us ss ns e l f g h k one two three four five six (inr (inr (inr (inr (inl a))))) = five (subst (λ w. schedules.Answers w told) (sym h) a)
+none line told ws ls vs us ss ns e l f g h k one two three four five six (inr (inr (inr (inr (inr a))))) = six (subst (λ w. nodes.Answers w told) (sym k) a)
 
-abbrev first_word : List (List ℕ) → List ℕ
-first_word [] = []
-first_word (word ∷ words) = word
-
-abbrev second_word : List (List ℕ) → List ℕ
-second_word [] = []
-second_word (word ∷ words) = first_word words
+-- ---- a number for each kind of question
 
 abbrev first_letter : List ℕ → ℕ
 first_letter [] = 0
 first_letter (letter ∷ word) = letter
 
-not_both : codes "lms" ≡ codes "hss" → ⊥
-not_both e = let letters : 108 ≡ 104 = ap first_letter e in absurd (omega (arith, letters))
+abbrev second_letter : List ℕ → ℕ
+second_letter [] = 0
+second_letter (letter ∷ word) = first_letter word
 
--- no line asks on two of them: the first words differ, or the second
-no_level : (ws : List (List ℕ)) (x y : List ℕ) → signatures.Answers ws x → levels.Answers ws y → ⊥
-no_level ws x y a b = of a.question b.question a.asked b.asked
+-- what begins with `verify lms`, with `lms`, `hss`, `frame`, `statement`, `kit`, `schedule`, `journal` and `datagram`
+of_words : List ℕ → List ℕ → ℕ
+of_words first second =
+    if first_letter first == 118 then (if first_letter second == 108 then 0 else 1)
+    else if first_letter first == 108 then 0
+    else if first_letter first == 104 then 1
+    else if first_letter first == 102 then 2
+    else if first_letter first == 107 then 3
+    else if first_letter first == 106 then 5
+    else if first_letter first == 100 then 5
+    else if second_letter first == 116 then 2
+    else 4
+
+number : List (List ℕ) → ℕ
+number [] = 6
+number (first ∷ []) = 6
+number (first ∷ second ∷ words) = of_words first second
+
+asks_signature : (ws : List (List ℕ)) (x : List ℕ) → signatures.Answers ws x → number ws ≡ 0
+unfolding number of_words
+asks_signature ws x a = of a.question a.asked
   where
-    of : (p : signatures.Question) (q : levels.Question) → ws ≡ signatures.spelled p → ws ≡ levels.spelled q → ⊥
-    of (signatures.Verify key body sig) (levels.Verify key2 body2 sig2) is also = not_both (ap second_word (sym is ∙ also))
-    of (signatures.Verify key body sig) (levels.Sign s2) is also = cc
-    of (signatures.Sign s) (levels.Verify key2 body2 sig2) is also = cc
-    of (signatures.Sign s) (levels.Sign s2) is also = not_both (ap first_word (sym is ∙ also))
+    of : (q : signatures.Question) → ws ≡ signatures.spelled q → number ws ≡ 0
+    of (signatures.Verify key body sig) is = ap number is
+    of (signatures.Sign s) is = ap number is
 
-no_frame : (ws : List (List ℕ)) (x y : List ℕ) → signatures.Answers ws x → frames.Answers ws y → ⊥
-no_frame ws x y a b = of a.question b.question a.asked b.asked
+asks_levels : (ws : List (List ℕ)) (x : List ℕ) → levels.Answers ws x → number ws ≡ 1
+unfolding number of_words
+asks_levels ws x a = of a.question a.asked
   where
-    of : (p : signatures.Question) (q : frames.Question) → ws ≡ signatures.spelled p → ws ≡ frames.spelled q → ⊥
-    of (signatures.Verify key body sig) (frames.OfFrame bytes) is also = cc
-    of (signatures.Verify key body sig) (frames.OfStatement bytes) is also = cc
-    of (signatures.Sign s) (frames.OfFrame bytes) is also = cc
-    of (signatures.Sign s) (frames.OfStatement bytes) is also = cc
+    of : (q : levels.Question) → ws ≡ levels.spelled q → number ws ≡ 1
+    of (levels.Verify key body sig) is = ap number is
+    of (levels.Sign s) is = ap number is
 
-no_signature : (ws : List (List ℕ)) (x y : List ℕ) → kits.Answers ws x → signatures.Answers ws y → ⊥
-no_signature ws x y a b = of a.question b.question a.asked b.asked
+asks_frame : (ws : List (List ℕ)) (x : List ℕ) → frames.Answers ws x → number ws ≡ 2
+unfolding number of_words
+asks_frame ws x a = of a.question a.asked
   where
-    of : (p : kits.Question) (q : signatures.Question) → ws ≡ kits.spelled p → ws ≡ signatures.spelled q → ⊥
-    of (kits.OfKit n) (signatures.Verify key body sig) is also = cc
-    of (kits.OfKit n) (signatures.Sign s) is also = cc
+    of : (q : frames.Question) → ws ≡ frames.spelled q → number ws ≡ 2
+    of (frames.OfFrame bytes) is = ap number is
+    of (frames.OfStatement bytes) is = ap number is
 
-no_frame_of_levels : (ws : List (List ℕ)) (x y : List ℕ) → levels.Answers ws x → frames.Answers ws y → ⊥
-no_frame_of_levels ws x y a b = of a.question b.question a.asked b.asked
+asks_kit : (ws : List (List ℕ)) (x : List ℕ) → kits.Answers ws x → number ws ≡ 3
+unfolding number of_words
+asks_kit ws x a = of a.question a.asked
   where
-    of : (p : levels.Question) (q : frames.Question) → ws ≡ levels.spelled p → ws ≡ frames.spelled q → ⊥
-    of (levels.Verify key body sig) (frames.OfFrame bytes) is also = cc
-    of (levels.Verify key body sig) (frames.OfStatement bytes) is also = cc
-    of (levels.Sign s) (frames.OfFrame bytes) is also = cc
-    of (levels.Sign s) (frames.OfStatement bytes) is also = cc
+    of : (q : kits.Question) → ws ≡ kits.spelled q → number ws ≡ 3
+    of (kits.OfKit bytes) is = ap number is
 
-no_kit_of_levels : (ws : List (List ℕ)) (x y : List ℕ) → levels.Answers ws x → kits.Answers ws y → ⊥
-no_kit_of_levels ws x y a b = of a.question b.question a.asked b.asked
+asks_schedule : (ws : List (List ℕ)) (x : List ℕ) → schedules.Answers ws x → number ws ≡ 4
+unfolding number of_words
+asks_schedule ws x a = of a.question a.asked
   where
-    of : (p : levels.Question) (q : kits.Question) → ws ≡ levels.spelled p → ws ≡ kits.spelled q → ⊥
-    of (levels.Verify key body sig) (kits.OfKit n) is also = cc
-    of (levels.Sign s) (kits.OfKit n) is also = cc
+    of : (q : schedules.Question) → ws ≡ schedules.spelled q → number ws ≡ 4
+    of (schedules.OfSchedule bytes) is = ap number is
 
-no_kit : (ws : List (List ℕ)) (x y : List ℕ) → frames.Answers ws x → kits.Answers ws y → ⊥
-no_kit ws x y a b = of a.question b.question a.asked b.asked
+asks_node : (ws : List (List ℕ)) (x : List ℕ) → nodes.Answers ws x → number ws ≡ 5
+unfolding number of_words
+asks_node ws x a = of a.question a.asked
   where
-    of : (p : frames.Question) (q : kits.Question) → ws ≡ frames.spelled p → ws ≡ kits.spelled q → ⊥
-    of (frames.OfFrame m) (kits.OfKit n) is also = cc
-    of (frames.OfStatement m) (kits.OfKit n) is also = cc
+    of : (q : nodes.Question) → ws ≡ nodes.spelled q → number ws ≡ 5
+    of (nodes.OfJournal bytes) is = ap number is
+    of (nodes.OfDatagram key bytes) is = ap number is
 
--- no other line asks on a schedule
-signature_no_schedule : (ws : List (List ℕ)) (x y : List ℕ) → signatures.Answers ws x → schedules.Answers ws y → ⊥
-signature_no_schedule ws x y a b = of a.question b.question a.asked b.asked
-  where
-    of : (p : signatures.Question) (q : schedules.Question) → ws ≡ signatures.spelled p → ws ≡ schedules.spelled q → ⊥
-    of (signatures.Verify key body sig) (schedules.OfSchedule n) is also = cc
-    of (signatures.Sign s) (schedules.OfSchedule n) is also = cc
+-- ---- one answer
 
-level_no_schedule : (ws : List (List ℕ)) (x y : List ℕ) → levels.Answers ws x → schedules.Answers ws y → ⊥
-level_no_schedule ws x y a b = of a.question b.question a.asked b.asked
-  where
-    of : (p : levels.Question) (q : schedules.Question) → ws ≡ levels.spelled p → ws ≡ schedules.spelled q → ⊥
-    of (levels.Verify key body sig) (schedules.OfSchedule n) is also = cc
-    of (levels.Sign s) (schedules.OfSchedule n) is also = cc
+-- what answers has this number, or a later one
+abbrev IsFrom : (List (List ℕ) → List ℕ → Type 0) → ℕ → Type 0
+IsFrom P n = (ws : List (List ℕ)) (x : List ℕ) → P ws x → n < number ws
 
-frame_no_schedule : (ws : List (List ℕ)) (x y : List ℕ) → frames.Answers ws x → schedules.Answers ws y → ⊥
-frame_no_schedule ws x y a b = of a.question b.question a.asked b.asked
-  where
-    of : (p : frames.Question) (q : schedules.Question) → ws ≡ frames.spelled p → ws ≡ schedules.spelled q → ⊥
-    of (frames.OfFrame m) (schedules.OfSchedule n) is also = cc
-    of (frames.OfStatement m) (schedules.OfSchedule n) is also = cc
+abbrev IsKind : (List (List ℕ) → List ℕ → Type 0) → ℕ → Type 0
+IsKind P n = (ws : List (List ℕ)) (x : List ℕ) → P ws x → number ws ≡ n
 
-kit_no_schedule : (ws : List (List ℕ)) (x y : List ℕ) → kits.Answers ws x → schedules.Answers ws y → ⊥
-kit_no_schedule ws x y a b = of a.question b.question a.asked b.asked
-  where
-    of : (p : kits.Question) (q : schedules.Question) → ws ≡ kits.spelled p → ws ≡ schedules.spelled q → ⊥
-    of (kits.OfKit m) (schedules.OfSchedule n) is also = cc
+abbrev HasOne : (List (List ℕ) → List ℕ → Type 0) → Type 0
+HasOne P = (ws : List (List ℕ)) (x y : List ℕ) → P ws x → P ws y → x ≡ y
 
+module _ (P Q : List (List ℕ) → List ℕ → Type 0) (n : ℕ) (is : IsKind P n) (later : IsFrom Q n) where
+  -- where a kind and the later ones have one answer each, so have they together
+  both_one : HasOne P → HasOne Q → HasOne (λ ws x. P ws x ⊎ Q ws x)
+  both_one p q ws x y (inl a) (inl b) = p ws x y a b
+  both_one p q ws x y (inr a) (inr b) = q ws x y a b
+  both_one p q ws x y (inl a) (inr b) = absurd (omega (arith, is ws x a, later ws y b))
+  both_one p q ws x y (inr a) (inl b) = absurd (omega (arith, is ws y b, later ws x a))
+
+module _ (P Q : List (List ℕ) → List ℕ → Type 0) (n m : ℕ) (is : IsKind P m) (later : IsFrom Q m) (less : n < m) where
+  both_later : IsFrom (λ ws x. P ws x ⊎ Q ws x) n
+  both_later ws x (inl a) = omega (arith, is ws x a, less)
+  both_later ws x (inr b) = omega (arith, later ws x b, less)
+
+abbrev From4 : List (List ℕ) → List ℕ → Type 0
+From4 ws x = schedules.Answers ws x ⊎ nodes.Answers ws x
+
+abbrev From3 : List (List ℕ) → List ℕ → Type 0
+From3 ws x = kits.Answers ws x ⊎ From4 ws x
+
+abbrev From2 : List (List ℕ) → List ℕ → Type 0
+From2 ws x = frames.Answers ws x ⊎ From3 ws x
+
+abbrev From1 : List (List ℕ) → List ℕ → Type 0
+From1 ws x = levels.Answers ws x ⊎ From2 ws x
+
+last : IsFrom nodes.Answers 4
+last ws x a = omega (arith, asks_node ws x a)
+
+later3 : IsFrom From4 3
+later3 = both_later schedules.Answers nodes.Answers 3 4 asks_schedule last (omega arith)
+
+later2 : IsFrom From3 2
+later2 = both_later kits.Answers From4 2 3 asks_kit later3 (omega arith)
+
+later1 : IsFrom From2 1
+later1 = both_later frames.Answers From3 1 2 asks_frame later2 (omega arith)
+
+later0 : IsFrom From1 0
+later0 = both_later levels.Answers From2 0 1 asks_levels later1 (omega arith)
+
+one4 : HasOne From4
+one4 = both_one schedules.Answers nodes.Answers 4 asks_schedule last of_schedules.one_answer of_nodes.one_answer
+
+one3 : HasOne From3
+one3 = both_one kits.Answers From4 3 asks_kit later3 of_kits.one_answer one4
+
+one2 : HasOne From2
+one2 = both_one frames.Answers From3 2 asks_frame later2 of_frames.one_answer one3
+
+one1 : HasOne From1
+one1 = both_one levels.Answers From2 1 asks_levels later1 of_levels.one_answer one2
+
+-- no line asks two questions of different kinds, and each has one answer
 pub one_answer : (line a b : List ℕ) → Answers line a → Answers line b → a ≡ b
-one_answer line a b (inl x) (inl y) = of_signatures.one_answer (words_of line) a b x y
-one_answer line a b (inl x) (inr (inl y)) = absurd (no_level (words_of line) a b x y)
-one_answer line a b (inl x) (inr (inr (inl y))) = absurd (no_frame (words_of line) a b x y)
-one_answer line a b (inl x) (inr (inr (inr (inl y)))) = absurd (no_signature (words_of line) b a y x)
-one_answer line a b (inl x) (inr (inr (inr (inr y)))) = absurd (signature_no_schedule (words_of line) a b x y)
-one_answer line a b (inr (inl x)) (inl y) = absurd (no_level (words_of line) b a y x)
-one_answer line a b (inr (inl x)) (inr (inl y)) = of_levels.one_answer (words_of line) a b x y
-one_answer line a b (inr (inl x)) (inr (inr (inl y))) = absurd (no_frame_of_levels (words_of line) a b x y)
-one_answer line a b (inr (inl x)) (inr (inr (inr (inl y)))) = absurd (no_kit_of_levels (words_of line) a b x y)
-one_answer line a b (inr (inl x)) (inr (inr (inr (inr y)))) = absurd (level_no_schedule (words_of line) a b x y)
-one_answer line a b (inr (inr (inl x))) (inl y) = absurd (no_frame (words_of line) b a y x)
-one_answer line a b (inr (inr (inl x))) (inr (inl y)) = absurd (no_frame_of_levels (words_of line) b a y x)
-one_answer line a b (inr (inr (inl x))) (inr (inr (inl y))) = of_frames.one_answer (words_of line) a b x y
-one_answer line a b (inr (inr (inl x))) (inr (inr (inr (inl y)))) = absurd (no_kit (words_of line) a b x y)
-one_answer line a b (inr (inr (inl x))) (inr (inr (inr (inr y)))) = absurd (frame_no_schedule (words_of line) a b x y)
-one_answer line a b (inr (inr (inr (inl x)))) (inl y) = absurd (no_signature (words_of line) a b x y)
-one_answer line a b (inr (inr (inr (inl x)))) (inr (inl y)) = absurd (no_kit_of_levels (words_of line) b a y x)
-one_answer line a b (inr (inr (inr (inl x)))) (inr (inr (inl y))) = absurd (no_kit (words_of line) b a y x)
-one_answer line a b (inr (inr (inr (inl x)))) (inr (inr (inr (inl y)))) = of_kits.one_answer (words_of line) a b x y
-one_answer line a b (inr (inr (inr (inl x)))) (inr (inr (inr (inr y)))) = absurd (kit_no_schedule (words_of line) a b x y)
-one_answer line a b (inr (inr (inr (inr x)))) (inl y) = absurd (signature_no_schedule (words_of line) b a y x)
-one_answer line a b (inr (inr (inr (inr x)))) (inr (inl y)) = absurd (level_no_schedule (words_of line) b a y x)
-one_answer line a b (inr (inr (inr (inr x)))) (inr (inr (inl y))) = absurd (frame_no_schedule (words_of line) b a y x)
-one_answer line a b (inr (inr (inr (inr x)))) (inr (inr (inr (inl y)))) = absurd (kit_no_schedule (words_of line) b a y x)
-one_answer line a b (inr (inr (inr (inr x)))) (inr (inr (inr (inr y)))) = of_schedules.one_answer (words_of line) a b x y
+one_answer line a b = both_one signatures.Answers From1 0 asks_signature later0 of_signatures.one_answer one1 (words_of line) a b

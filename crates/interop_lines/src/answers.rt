@@ -4,6 +4,7 @@ ghost use Rattle.interop_lines.specs.Lines.{Answers};
 use interop_frames::answer_frames;
 use interop_kits::answer_kits;
 use interop_levels::answer_levels;
+use interop_node::answer_nodes;
 use interop_schedules::answer_schedules;
 use interop_signatures::answer_signatures;
 use interop_words::{LineFault, words_of};
@@ -21,6 +22,8 @@ use std::alloc::Global;
 /// | `statement HEX` | what the bytes say as a statement: the word of their fault (docs/FORMATS.md, «Statements»), or `ok STATEMENT`, spelled from what was read |
 /// | `kit HEX` | what the bytes say as a kit: `kit HEX`, the kit spelled again from what was read; or its fault (docs/FORMATS.md, «Kits»): `line N`, `repeated N`, `missing N`, or `mismatch N MADE LISTED` with the public key that the secret makes and the one of the key line. N counts lines from 1 |
 /// | `schedule HEX` | what the bytes say as a schedule: `schedule HEX`, the schedule spelled again from what was read; or its fault and place (docs/FORMATS.md, «Schedules»): `WORD PLACE` |
+/// | `journal HEX` | what the bytes say as a journal, whose header may be that of any group, processes and digest: `journal LIMIT`, by its magic 1 or 16, and for each entry before the first closed gate ` entry PROCESS EVENT SPENT` and its signatures, each behind a space; or `entry PLACE`, the place of an open gate behind which no whole entry and next gate stand; or `notajournal` (docs/FORMATS.md, «Journals»). EVENT is `submit HEX`, `frame FROM HEX`, `suspect P`, `join P`, `renew` or `tick`, and SPENT 0 or 1 |
+/// | `datagram KEY HEX` | what process 2 of the group 000102..0f opens of the bytes as a datagram, which shares the key of 32 bytes with process 1: `opened FROM FRAME`, or the word of their first fault (docs/FORMATS.md, «Datagrams»): `short`, `magic`, `othergroup`, `notforme`, `unknownpeer` or `badtag` |
 ///
 /// Words stand between single spaces. Bytes are in lower-case hexadecimal, or `-` where there are none; I has 16 bytes and
 /// SEED 32. Numbers are decimal, without sign or leading zero. `NoQuestion` comes exactly where the line is none of these.
@@ -33,7 +36,10 @@ pub fn answer(alloc: Global, line: &[u8]) -> Result<Vec<u8>, LineFault>
         Err(LineFault::NoQuestion) => match answer_levels(alloc, &words) {
             Err(LineFault::NoQuestion) => match answer_frames(alloc, &words) {
                 Err(LineFault::NoQuestion) => match answer_kits(alloc, &words) {
-                    Err(LineFault::NoQuestion) => answer_schedules(alloc, &words),
+                    Err(LineFault::NoQuestion) => match answer_schedules(alloc, &words) {
+                        Err(LineFault::NoQuestion) => answer_nodes(alloc, &words),
+                        answered => answered,
+                    },
                     answered => answered,
                 },
                 answered => answered,

@@ -25,6 +25,18 @@ fn each_line_is_answered_until_one_is_no_question(rt: HostRuntime) -> Result<(),
         (b"verify lms - 00 ff\n\n", b"false\nstop 7 line 2\n", 7),
         (b"verify lms - 00 fF\n", b"stop 7 line 1\n", 7),
         (b"verify lms - - -", b"stop 7 line 1\n", 7),
+        (b"journal 5250\n", b"notajournal\n", 0),
+        (
+            b"journal 52\njournal 5\n",
+            b"notajournal\nstop 7 line 2\n",
+            7,
+        ),
+        (
+            b"datagram 0000000000000000000000000000000000000000000000000000000000000000 52\n",
+            b"short\n",
+            0,
+        ),
+        (b"datagram 00 52\n", b"stop 7 line 1\n", 7),
     ] {
         let (status, sink) = run(rt.alloc(), input, &[], &[])?;
         assert_eq!(rt; sink.bytes(), output);
