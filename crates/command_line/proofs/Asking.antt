@@ -1,5 +1,6 @@
 -- A command is read of the words that spell it, and of no others.
-use Rattle.std.proofs.Common.{◌≡◌, ℕ, ◌-◌, ◌^◌, ◌<◌, List, [], ◌∷◌, codes, Option, Some, None, IfSome, option_map, refl, sym, ap, subst, ◌∙◌, arith}
+use Rattle.std.proofs.Common.{◌≡◌, ℕ, Bool, true, false, ◌-◌, ◌^◌, ◌<◌, List, [], ◌∷◌, codes, Option, Some, None, IfSome, option_map, refl, sym, ap, subst, ◌∙◌, arith}
+use Rattle.std.specs.Prelude.{if◌then◌else◌, ◌&&◌}
 use Rattle.std.specs.Fmt.{decimal}
 use Rattle.hex.specs.Hex.{encode_lower}
 use Rattle.byte_defs.specs.Equality.{same_bytes}
@@ -8,7 +9,7 @@ use Rattle.text_defs.specs.Words.{bytes_of, number_within}
 use Rattle.text_defs.proofs.Bytes.{bytes_found, bytes_spelled}
 use Rattle.text_defs.proofs.Choosing.{if_some, map_some, some_is, then_some}
 use Rattle.text_defs.proofs.Numbers.{number_within_found, number_within_spelled}
-use Rattle.text_defs.proofs.Tests.{word_is}
+use Rattle.text_defs.proofs.Tests.{word_is, and_true}
 use Rattle.command_line.specs.Commands.{Asks, Command, Replay, Gen, Keygen, IsOrder, KitOrder, plan_word}
 use Rattle.command_line.specs.Laws.{CommandIsSpelled}
 use Rattle.command_line.specs.Reading.{command_of, order_of, plan_of}
@@ -46,14 +47,26 @@ order_spelled order fits =
 
 command_found : (words : List (List ℕ)) (c : Command) → command_of words ≡ Some c → Asks words c
 command_found (word ∷ []) c e =
-    let tested = if_some (same_bytes word (codes "replay")) (Some Replay) c e in
-    subst (Asks (word ∷ [])) (some_is Replay c tested.1) (record { fits = tt; spelled = λ i. word_is word (codes "replay") tested.0 i ∷ [] })
-command_found (word ∷ number ∷ []) c e =
-    let tested = if_some (same_bytes word (codes "gen")) (option_map Gen (number_within 0 (2 ^ 32 - 1) number)) c e in
-    let read = map_some Gen (number_within 0 (2 ^ 32 - 1) number) c tested.1 in
-    let n = number_within_found 0 (2 ^ 32 - 1) number read.0 read.1 in
-    let fits : read.0 < 2 ^ 32 = omega (arith, n.2) in
-    subst (Asks (word ∷ number ∷ [])) read.2 (record { fits = fits; spelled = λ i. word_is word (codes "gen") tested.0 i ∷ n.0 i ∷ [] })
+    let tested = if_some (same_bytes word (codes "replay")) (Some (Replay false)) c e in
+    subst (Asks (word ∷ [])) (some_is (Replay false) c tested.1) (record { fits = tt; spelled = λ i. word_is word (codes "replay") tested.0 i ∷ [] })
+command_found (word ∷ further ∷ []) c e = of_gen (same_bytes word (codes "gen")) refl e
+  where
+    of_short : (if same_bytes word (codes "replay") && same_bytes further (codes "short") then Some (Replay true) else None) ≡ Some c → Asks (word ∷ further ∷ []) c
+    of_short e =
+        let tested = if_some (same_bytes word (codes "replay") && same_bytes further (codes "short")) (Some (Replay true)) c e in
+        let both = and_true (same_bytes word (codes "replay")) (same_bytes further (codes "short")) tested.0 in
+        subst (Asks (word ∷ further ∷ [])) (some_is (Replay true) c tested.1)
+        (record { fits = tt; spelled = λ i. word_is word (codes "replay") both.0 i ∷ word_is further (codes "short") both.1 i ∷ [] })
+
+    of_gen : (is_gen : Bool) → same_bytes word (codes "gen") ≡ is_gen
+        → (if is_gen then option_map Gen (number_within 0 (2 ^ 32 - 1) further) else (if same_bytes word (codes "replay") && same_bytes further (codes "short") then Some (Replay true) else None)) ≡ Some c
+        → Asks (word ∷ further ∷ []) c
+    of_gen true is e =
+        let read = map_some Gen (number_within 0 (2 ^ 32 - 1) further) c e in
+        let n = number_within_found 0 (2 ^ 32 - 1) further read.0 read.1 in
+        let fits : read.0 < 2 ^ 32 = omega (arith, n.2) in
+        subst (Asks (word ∷ further ∷ [])) read.2 (record { fits = fits; spelled = λ i. word_is word (codes "gen") is i ∷ n.0 i ∷ [] })
+    of_gen false is e = of_short e
 command_found (word ∷ members ∷ roster ∷ keys ∷ seed ∷ []) c e =
     let tested = if_some (same_bytes word (codes "keygen")) (option_map Keygen (order_of members roster keys seed)) c e in
     let read = map_some Keygen (order_of members roster keys seed) c tested.1 in
@@ -63,7 +76,8 @@ command_found (word ∷ members ∷ roster ∷ keys ∷ seed ∷ []) c e =
 command_found _ c e = absurd cc
 
 command_spelled : (c : Command) (words : List (List ℕ)) → Asks words c → command_of words ≡ Some c
-command_spelled Replay words asks = ap command_of asks.spelled
+command_spelled (Replay false) words asks = ap command_of asks.spelled
+command_spelled (Replay true) words asks = ap command_of asks.spelled
 command_spelled (Gen number) words asks =
     let fits : number < 2 ^ 32 = asks.fits in
     ap command_of asks.spelled ∙ ap (option_map Gen) (number_within_spelled 0 (2 ^ 32 - 1) number (omega arith) (omega arith) (omega arith))

@@ -1,5 +1,5 @@
 -- The command that words ask for, word by word.
-use Rattle.std.specs.Prelude.{ℕ, ◌^◌, ◌-◌, ◌==◌, ◌&&◌, Bool, if◌then◌else◌, List, [], ◌∷◌, length, take, drop, slice_index, Option, Some, None, option_map, option_and_then, codes}
+use Rattle.std.specs.Prelude.{ℕ, ◌^◌, ◌-◌, ◌==◌, ◌&&◌, Bool, true, false, if◌then◌else◌, List, [], ◌∷◌, length, take, drop, slice_index, Option, Some, None, option_map, option_and_then, codes}
 use Rattle.std.specs.Option.{option_or}
 use Rattle.byte_defs.specs.Equality.{same_bytes}
 use Rattle.byte_defs.specs.Choices.{and_then}
@@ -52,7 +52,9 @@ order_of members roster keys seed =
 
 -- the command that the words ask for
 abbrev pub command_of : List (List ℕ) → Option Command
-command_of (word ∷ []) = if same_bytes word (codes "replay") then Some Replay else None
-command_of (word ∷ number ∷ []) = if same_bytes word (codes "gen") then option_map Gen (number_within 0 (2 ^ 32 - 1) number) else None
+command_of (word ∷ []) = if same_bytes word (codes "replay") then Some (Replay false) else None
+command_of (word ∷ further ∷ []) =
+    if same_bytes word (codes "gen") then option_map Gen (number_within 0 (2 ^ 32 - 1) further) else
+    (if same_bytes word (codes "replay") && same_bytes further (codes "short") then Some (Replay true) else None)
 command_of (word ∷ members ∷ roster ∷ keys ∷ seed ∷ []) = if same_bytes word (codes "keygen") then option_map Keygen (order_of members roster keys seed) else None
 command_of _ = None

@@ -8,6 +8,6 @@ abbrev pub order : KitOrder → plain.KitOrder
 order o = record { members = o.members; roster = o.roster; keys = o.keys; seed = o.seed }
 
 abbrev pub command : Command → plain.Command
-command Replay = plain.Replay
+command (Replay short) = plain.Replay short
 command (Gen number) = plain.Gen number
 command (Keygen o) = plain.Keygen (order o)

@@ -10,8 +10,8 @@ use text_codec::number;
 /// What the program is to do. Its `Debug` does not show the seed of an order.
 #[derive(Clone, Copy, Debug, PartialEq, Eq)]
 pub enum Command {
-    /// Read a schedule, and write its report.
-    Replay,
+    /// Read a schedule, and write its report: all that it tells, or the short one.
+    Replay { short: bool },
 
     /// Write the schedule that this number makes.
     Gen(u32),
@@ -24,7 +24,7 @@ fn of_one_word(word: &[u8]) -> Option<Command>
     ensures { option_map views.command result ≡ command_of (word.now ∷ []) }
 {
     if word == b"replay".as_slice() {
-        Some(Command::Replay)
+        Some(Command::Replay { short: false })
     } else {
         None
     }
@@ -35,6 +35,8 @@ fn of_two_words(word: &[u8], further: &[u8]) -> Option<Command>
 {
     if word == b"gen".as_slice() {
         Some(Command::Gen(number(further, 0, u32::MAX)?))
+    } else if word == b"replay".as_slice() && further == b"short".as_slice() {
+        Some(Command::Replay { short: true })
     } else {
         None
     }
@@ -74,7 +76,7 @@ fn of_words(words: &[String]) -> Option<Command>
 }
 
 /// The command that the words ask for; None exactly where they ask for none. The words are those behind the program's
-/// name: `replay`, `gen NUMBER` with a number of 32 bits, or `keygen N R KEYS SEED` with the ranges of [`KitOrder`].
+/// name: `replay`, `replay short`, `gen NUMBER` with a number of 32 bits, or `keygen N R KEYS SEED` with the ranges of [`KitOrder`].
 pub fn read_command(words: &[String]) -> Option<Command>
     // The words are those of the command that is read, and it is in its ranges.
     ensures found { IfSome result (λ c. Asks (map string_bytes words.now) (views.command c)) }

@@ -26,7 +26,13 @@ fn keygen(alloc: Global, order: &str) -> Result<Option<Command>, Fail> {
 
 #[test]
 fn the_words_of_a_command_ask_for_it(rt: HostRuntime) -> Result<(), Fail> {
-    assert_eq!(rt; read(rt.alloc(), "replay")?, Some(Command::Replay));
+    for (line, short) in [("replay", false), ("replay short", true)] {
+        assert_eq!(rt;
+            read(rt.alloc(), line)?,
+            Some(Command::Replay { short }),
+            "{line}"
+        );
+    }
     for (line, number) in [("gen 0", 0), ("gen 1", 1), ("gen 4294967295", u32::MAX)] {
         assert_eq!(rt;
             read(rt.alloc(), line)?,
@@ -88,7 +94,12 @@ fn other_words_ask_for_nothing(rt: HostRuntime) -> Result<(), Fail> {
     for line in [
         "",
         "replays",
-        "replay short",
+        "short",
+        "replay shorts",
+        "replay long",
+        "short replay",
+        "replay short short",
+        "gen short",
         "gen",
         "gen 01",
         "gen 4294967296",

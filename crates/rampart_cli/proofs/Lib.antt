@@ -1,4 +1,4 @@
+pub mod Headline
 pub mod Runs
-pub mod Single
 pub mod Stopped
 mod Orders

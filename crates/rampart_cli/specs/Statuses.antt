@@ -1,7 +1,7 @@
 -- Why a run stops, the status that it ends with, and the line that it writes.
 use Rattle.std.specs.Prelude.{ℕ, List, [], codes}
 use Rattle.rampart_cli.specs.declared.stops.Stop.{Stop}
-use Rattle.rampart_cli.specs.declared.stops.Stop.TheVariants.{NoMemory, Words, Read, Write, Input}
+use Rattle.rampart_cli.specs.declared.stops.Stop.TheVariants.{NoMemory, Words, Read, Write}
 use Rattle.rampart_cli.specs.declared.streams.ReadFault.{ReadFault}
 use Rattle.rampart_cli.specs.declared.streams.ReadFault.TheVariants as faults
 
@@ -14,11 +14,9 @@ status_of NoMemory = 1
 status_of Words = 2
 status_of Read = 3
 status_of Write = 4
-status_of Input = 7
 
 abbrev pub line_of : Stop → List ℕ
 line_of NoMemory = []
 line_of Words = codes "stop 2 words\n"
 line_of Read = codes "stop 3 read\n"
 line_of Write = []
-line_of Input = codes "stop 7 input\n"

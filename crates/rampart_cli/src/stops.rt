@@ -5,7 +5,7 @@ ghost use Rattle.rampart_cli.specs.Statuses.{status_of, line_of, stop_of};
 use crate::streams::ReadFault;
 use rp_base::NoMemory;
 
-/// Why a run stops before its work is done.
+/// Why a run stops before its work is done. An input without a report is none of these: its line tells its own fault.
 #[derive(Clone, Copy, Debug, PartialEq, Eq)]
 pub enum Stop {
     /// No memory is left.
@@ -19,9 +19,6 @@ pub enum Stop {
 
     /// The output failed.
     Write,
-
-    /// The input is no schedule, or it passes a frame on that is not sent yet.
-    Input,
 }
 
 impl Stop {
@@ -34,7 +31,6 @@ impl Stop {
             Stop::Words => 2,
             Stop::Read => 3,
             Stop::Write => 4,
-            Stop::Input => 7,
         }
     }
 
@@ -46,7 +42,6 @@ impl Stop {
             Stop::NoMemory | Stop::Write => b"",
             Stop::Words => b"stop 2 words\n",
             Stop::Read => b"stop 3 read\n",
-            Stop::Input => b"stop 7 input\n",
         }
     }
 }

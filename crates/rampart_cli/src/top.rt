@@ -1,10 +1,10 @@
-ghost use Rattle.std.specs.Prelude.{◌≡◌, ◌≢◌, ◌↔◌, ◌⊎◌, ℕ, codes, IsSome, IfSome, IsSomeAnd};
+ghost use Rattle.std.specs.Prelude.{◌≡◌, ◌≢◌, ◌↔◌, ◌⊎◌, ℕ, Bool, codes, IsOk, IsErr, IsSomeAnd};
 ghost use Rattle.std.specs.Io.KnownBytes.{Appends, Keeps};
 ghost use Rattle.rp_base.specs.Causes.{Rose};
-ghost use Rattle.echo_defs.specs.Reports.{report_of};
+ghost use Rattle.replay_defs.specs.Reports.{report_of};
 ghost use Rattle.command_line.specs.Commands.{KitOrder, Replay, Gen, Keygen};
 ghost use Rattle.rp_streams.specs.Streams.{AppendsPrefix, Says};
-ghost use Rattle.rampart_cli.specs.Top.{Asks, AskAny, Reported, ReportedInPart, Refused, kit_of_order, schedule_of_number};
+ghost use Rattle.rampart_cli.specs.Top.{Asks, AskAny, Reported, ReportedInPart, Stopped, kit_of_order, schedule_of_number};
 
 use crate::running::{run_gen, run_keygen, run_replay, tell};
 use crate::stops::Stop;
@@ -21,9 +21,10 @@ pub fn rampart<S: Source, K: Sink, D: Disk, L: Link>(
     disk: &mut D,
     link: &mut L,
 ) -> u8
-    // replay, 0: a schedule was read to its end, and the report of its own family was written and nothing else.
-    ensures done { Asks words.now Replay → result ≡ 0
-        → Reported (S.left input.old) (S.left input.new) (K.written output.old) (K.written output.new) }
+    // replay, 0: a schedule was read to its end, and the report of its own family was written, long or short, and nothing else; and the
+    // headline holds of this family.
+    ensures done { (short : Bool) → Asks words.now (Replay short) → result ≡ 0
+        → Reported short (S.left input.old) (S.left input.new) (K.written output.old) (K.written output.new) }
 
     // gen, 0: the schedule that the number makes was written, and nothing else.
     ensures generated { (number : ℕ) → Asks words.now (Gen number) → result ≡ 0
@@ -54,8 +55,8 @@ pub fn rampart<S: Source, K: Sink, D: Disk, L: Link>(
 
     // 4: only where the sink failed; a prefix of the report, of the schedule or of the kit's text was written and nothing else.
     ensures write { result ≡ 4 → Rose (K.faults output.old) (K.faults output.new) }
-    ensures part { Asks words.now Replay → result ≡ 4
-        → ReportedInPart (S.left input.old) (S.left input.new) (K.written output.old) (K.written output.new) }
+    ensures part { (short : Bool) → Asks words.now (Replay short) → result ≡ 4
+        → ReportedInPart short (S.left input.old) (S.left input.new) (K.written output.old) (K.written output.new) }
     ensures part_of_schedule { (number : ℕ) → Asks words.now (Gen number) → result ≡ 4
         → AppendsPrefix (K.written output.old) (K.written output.new) (schedule_of_number number) }
     ensures part_of_kit { (order : KitOrder) → Asks words.now (Keygen order) → result ≡ 4
@@ -64,19 +65,22 @@ pub fn rampart<S: Source, K: Sink, D: Disk, L: Link>(
     // 4, 7: no read failed.
     ensures whole { (result ≡ 4) ⊎ (result ≡ 7) → S.faults input.new ≡ S.faults input.old }
 
-    // 7: what was read has no report.
-    ensures input { result ≡ 7 → Refused (S.left input.old) (S.left input.new) }
-    ensures no_report { result ≡ 7 → IfSome (S.left input.old) (λ told. report_of told ≡ None) }
-    ensures input_line { result ≡ 7 → Says (codes "stop 7 input\n")
+    // 7: what was read has no report, long or short, and the line says why.
+    ensures input { result ≡ 7 → Stopped (S.left input.old) (S.left input.new)
         (K.written output.old) (K.written output.new) (K.faults output.old) (K.faults output.new) }
 
-    // replay: a schedule with a report gives 0, and other input 7, where memory is left and nothing failed.
-    ensures completes { Asks words.now Replay → IsSomeAnd (S.left input.old) (λ told. IsSome (report_of told))
+    // replay: an input with a report gives 0, and other input 7, where memory is left and nothing failed. No status but 0, 1, 3, 4 and 7
+    // comes.
+    ensures completes { (short : Bool) → Asks words.now (Replay short)
+        → IsSomeAnd (S.left input.old) (λ told. IsOk (report_of short told))
         → ¬ Rose (S.faults input.old) (S.faults input.new) → ¬ Rose (K.faults output.old) (K.faults output.new)
         → (result ≡ 0) ⊎ (result ≡ 1) }
-    ensures refuses { Asks words.now Replay → IsSomeAnd (S.left input.old) (λ told. report_of told ≡ None)
+    ensures refuses { (short : Bool) → Asks words.now (Replay short)
+        → IsSomeAnd (S.left input.old) (λ told. IsErr (report_of short told))
         → ¬ Rose (S.faults input.old) (S.faults input.new)
         → (result ≡ 7) ⊎ (result ≡ 1) }
+    ensures only_replayed { (short : Bool) → Asks words.now (Replay short)
+        → (result ≡ 0) ⊎ (result ≡ 1) ⊎ (result ≡ 3) ⊎ (result ≡ 4) ⊎ (result ≡ 7) }
 
     // gen: 0 where memory is left and nothing failed. It reads nothing, and no status but 0, 1 and 4 comes.
     ensures generates { (number : ℕ) → Asks words.now (Gen number)
@@ -97,7 +101,7 @@ pub fn rampart<S: Source, K: Sink, D: Disk, L: Link>(
     ensures link { link.new ≡ link.old }
 {
     match read_command(words) {
-        Some(Command::Replay) => run_replay(alloc, input, output),
+        Some(Command::Replay { short }) => run_replay(alloc, short, input, output),
         Some(Command::Gen(number)) => run_gen(alloc, number, output),
         Some(Command::Keygen(ordered)) => run_keygen(alloc, &ordered, output),
         None => tell(output, Stop::Words),

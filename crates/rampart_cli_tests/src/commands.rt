@@ -7,8 +7,37 @@ use std::test::Fail;
 const ONE_MEMBER: [u8; 68] =
     *b"RPS1\x00................\x01\x00\x0000000000000000000000000000000000\x00\x00\x01\x00\x01\x00\x01\x00\x00\x02hi";
 
-const REPORT: &[u8] =
-    b"rampart report 0\nevents 1\nprocess 0 2\nheld 0 0 0 6869\nhonest yes\nbounded yes\nsingle yes\n";
+const REPORT: &[u8] = b"rampart report 1
+events 1
+process 0 open 1 1 5
+view 0 0 : 0
+message 0 0 0 0 0 6869
+honest yes
+bounded yes
+agree yes
+sound yes
+";
+
+const SHORT_REPORT: &[u8] = b"rampart report 1
+events 1
+refused 0
+process 0 open 1 1 5
+honest yes
+bounded yes
+agree yes
+sound yes
+";
+
+/// Inputs that have no report, told by what stands behind the header of `ONE_MEMBER`, and their lines.
+const STOPPED: [(&[u8], &[u8]); 4] = [
+    (b"\x0a", b"stop 7 tag 62\n"),
+    (b"\x03\x00\x00\x00\x00\x00", b"stop 7 frame 0 0 0\n"),
+    (b"\x03\x00\x00\x00\x00\x00\x0a", b"stop 7 tag 68\n"),
+    (
+        b"\x01\x00\x00\x02hi\x03\x00\x00\x00\x05\x00",
+        b"stop 7 frame 1 5 0\n",
+    ),
+];
 
 // What another program, in Python, writes for these words.
 const KEYGEN: [&str; 5] = [
@@ -86,11 +115,41 @@ fn a_schedule_gives_its_report(rt: HostRuntime) -> Result<(), Fail> {
     let (status, sink) = run(alloc, &asked(alloc, &["replay"])?, &ONE_MEMBER, &[])?;
     assert_eq!(rt; sink.bytes(), REPORT);
     assert_eq!(rt; status, 0);
+    let (status, sink) = run(
+        alloc,
+        &asked(alloc, &["replay", "short"])?,
+        &ONE_MEMBER,
+        &[],
+    )?;
+    assert_eq!(rt; sink.bytes(), SHORT_REPORT);
+    assert_eq!(rt; status, 0);
     Ok(())
 }
 
 #[test]
-fn other_words_and_no_schedule_stop(rt: HostRuntime) -> Result<(), Fail> {
+fn an_input_without_a_report_is_told_why(rt: HostRuntime) -> Result<(), Fail> {
+    let alloc = rt.alloc();
+    let words = asked(alloc, &["replay"])?;
+    for (events, line) in STOPPED {
+        let mut input = ONE_MEMBER[..62].to_vec(alloc)?;
+        input.extend_from_slice(events)?;
+        let (status, sink) = run(alloc, &words, &input, &[])?;
+        assert_eq!(rt; sink.bytes(), line);
+        assert_eq!(rt; status, 7);
+    }
+    for (input, line) in [
+        (b"".as_slice(), b"stop 7 short 0\n".as_slice()),
+        (b"RPX1", b"stop 7 magic 0\n"),
+    ] {
+        let (status, sink) = run(alloc, &asked(alloc, &["replay", "short"])?, input, &[])?;
+        assert_eq!(rt; sink.bytes(), line);
+        assert_eq!(rt; status, 7);
+    }
+    Ok(())
+}
+
+#[test]
+fn other_words_stop(rt: HostRuntime) -> Result<(), Fail> {
     let alloc = rt.alloc();
     let (status, sink) = run(alloc, &Vec::new(alloc), &ONE_MEMBER, &[])?;
     assert_eq!(rt; sink.bytes(), b"stop 2 words\n".as_slice());
@@ -98,9 +157,9 @@ fn other_words_and_no_schedule_stop(rt: HostRuntime) -> Result<(), Fail> {
     let (status, sink) = run(alloc, &asked(alloc, &["replays"])?, &ONE_MEMBER, &[])?;
     assert_eq!(rt; sink.bytes(), b"stop 2 words\n".as_slice());
     assert_eq!(rt; status, 2);
-    let (status, sink) = run(alloc, &asked(alloc, &["replay"])?, &[], &[])?;
-    assert_eq!(rt; sink.bytes(), b"stop 7 input\n".as_slice());
-    assert_eq!(rt; status, 7);
+    let (status, sink) = run(alloc, &asked(alloc, &["replay", "long"])?, &ONE_MEMBER, &[])?;
+    assert_eq!(rt; sink.bytes(), b"stop 2 words\n".as_slice());
+    assert_eq!(rt; status, 2);
     Ok(())
 }
 
@@ -146,7 +205,7 @@ fn a_write_that_fails_leaves_a_prefix(rt: HostRuntime) -> Result<(), Fail> {
         &mut NoDisk::new(),
         &mut NoLink::new(),
     );
-    assert_eq!(rt; output.sink.bytes(), b"rampart report 0\neve".as_slice());
+    assert_eq!(rt; output.sink.bytes(), b"rampart report 1\neve".as_slice());
     assert_eq!(rt; status, 4);
     Ok(())
 }

@@ -1,14 +1,12 @@
-use Rattle.rampart_cli.proofs.Runs.{reported, reported_in_part, refused}
-use Rattle.rampart_cli.proofs.Stopped.{ok_so}
+use Rattle.rampart_cli.proofs.Runs.{as_replayed, as_refused}
 use Rattle.rampart_cli.proofs.replaying.replay_input.Goals as goal
 
-pub returns-clause-done : goal.returns-clause-done
-returns-clause-done g c = ok_so c.report_bytes.result (reported _ _ c.deref.result.now (rw c.deref.ensures.value c.in_ok-bytes.ensures.bytes) (rw c.deref.ensures.value c.in_ok-bytes.ensures.end) _ _) c.report_bytes.ensures.done
+pub returns-clause-report : goal.returns-clause-report
+returns-clause-report g c =
+    as_replayed _ _ c.deref.result.now (rw c.deref.ensures.value c.in_ok-bytes.ensures.bytes) (rw c.deref.ensures.value c.in_ok-bytes.ensures.end)
+    c.args.short (λ report. report.items) c.in_ok-report_or_line.field-0 c.in_ok-report_or_line.ensures.report
 
-pub returns-clause-write : goal.returns-clause-write
-returns-clause-write g c = λ is.
-    reported_in_part _ _ c.deref.result.now (rw c.deref.ensures.value c.in_ok-bytes.ensures.bytes) (rw c.deref.ensures.value c.in_ok-bytes.ensures.end) _ _ (c.report_bytes.ensures.write is)
-
-pub returns-clause-refused : goal.returns-clause-refused
-returns-clause-refused g c = λ is.
-    refused _ _ c.deref.result.now (rw c.deref.ensures.value c.in_ok-bytes.ensures.bytes) (rw c.deref.ensures.value c.in_ok-bytes.ensures.end) (c.report_bytes.ensures.refused is)
+pub returns-clause-line : goal.returns-clause-line
+returns-clause-line g c =
+    as_refused _ _ c.deref.result.now (rw c.deref.ensures.value c.in_ok-bytes.ensures.bytes) (rw c.deref.ensures.value c.in_ok-bytes.ensures.end)
+    (λ line. line.items) c.in_ok-report_or_line.field-0 c.in_ok-report_or_line.ensures.line

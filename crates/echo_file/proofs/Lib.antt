@@ -1,3 +1,0 @@
-pub mod Processes
-pub mod Grammar
-pub mod Events

@@ -1,8 +1,0 @@
-use Rattle.std.proofs.Common.{◌≡◌, ℕ, map, take}
-use Rattle.byte_defs.specs.Members.{has}
-use Rattle.echo_defs.specs.Schedules.{is_correct}
-use Rattle.echo_file.specs.Schedules.{listed}
-use Rattle.echo_file.proofs.reading.all_correct.Given as goal
-
-abbrev pub invariant-loop-listed : goal.invariant-loop-listed
-invariant-loop-listed l = (p : ℕ) → has l.correct p ≡ is_correct (map listed (take l.listed-index l.processes)) p

@@ -1,0 +1,5 @@
+pub mod Players
+pub mod Liars
+pub mod Keyed
+pub mod Starts
+pub mod Casts

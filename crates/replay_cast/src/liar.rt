@@ -1,0 +1,58 @@
+use crate::bundle::bundle;
+use rp_base::{GroupId, NoMemory, Pid, Signer, Tally};
+use sig_scheme::AnySigner;
+use std::alloc::Global;
+use stmt_codec::{Payload, Statement, body_into, spell_into};
+
+/// The room of a body that is signed.
+const BODY_ROOM: usize = 1100;
+
+/// The room of a signature.
+const SIGNATURE_ROOM: usize = 16_384;
+
+/// The room of a statement's bytes.
+const STATEMENT_ROOM: usize = 1032;
+
+/// A corrupt process, with its key.
+#[derive(Drop)]
+pub struct Liar {
+    pub process: Pid,
+    pub signer: AnySigner,
+}
+
+impl Liar {
+    ghost use Rattle.std.specs.Prelude.{◌≡◌, IfOk, IfSome, IfNone, OnOk};
+    ghost use Rattle.message_defs.specs.Spelling.{IsStatement};
+    ghost use Rattle.sig_scheme.specs.Signers.{total, signature};
+    ghost use Rattle.stmt_codec.specs.Views.{stmt};
+    ghost use Rattle.replay_cast.specs.Liars.{Told, Silent, lie_of};
+
+    /// It signs a statement: the claim in a Bundle of its own. None comes exactly where its key is spent, and changes nothing.
+    pub fn lie(
+        &mut self,
+        alloc: Global,
+        group: &GroupId,
+        statement: &Statement<'_>,
+    ) -> Result<Option<Payload>, NoMemory>
+        requires { IsStatement (stmt statement.now) }
+        ensures told { IfOk result (λ lie. IfSome lie (Told group.now (stmt statement.now) self.old self.new)) }
+        ensures silent { IfOk result (λ lie. IfNone lie (Silent self.old self.new)) }
+        ensures process { self.new.process ≡ self.old.process }
+        ensures total { total self.new.signer ≡ total self.old.signer }
+        ensures secret { signature self.new.signer ≡ signature self.old.signer }
+    {
+        if self.signer.used() == self.signer.total() {
+            return Ok(None);
+        }
+        let mut body = [0; BODY_ROOM];
+        let len = body_into(group, self.process, statement, &mut body);
+        let mut room = [0; SIGNATURE_ROOM];
+        let signature = &mut room[..self.signer.sig_len()];
+        let Ok(size) = self.signer.sign(&body[..len], signature) else {
+            unreachable!();
+        };
+        let mut spelled = [0; STATEMENT_ROOM];
+        let end = spell_into(statement, &mut spelled);
+        Ok(Some(bundle(alloc, &spelled[..end], self.process, &signature[..size])?))
+    }
+}

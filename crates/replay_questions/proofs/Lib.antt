@@ -1,0 +1,4 @@
+pub mod Wants
+pub mod Tested
+pub mod OwnWords
+pub mod Whole

@@ -1,0 +1,6 @@
+pub mod Players
+pub mod Standing
+pub mod Questions
+pub mod Ending
+pub mod Headlines
+pub mod Faulting

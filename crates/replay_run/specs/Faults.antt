@@ -1,0 +1,38 @@
+-- Why there is no report, in the definitions' words.
+use Rattle.std.specs.Prelude.{◌≡◌, Option, Some, None}
+use Rattle.std.specs.Option.{option_map}
+use Rattle.replay_defs.specs.Worlds as worlds
+use Rattle.replay_defs.specs.Reports as plain
+use Rattle.schedule_fields.specs.declared.fault.ScheduleFault.{ScheduleFault}
+use Rattle.schedule_fields.specs.Faults.{fault_of}
+use Rattle.replay_world.specs.declared.fault.WorldFault.{WorldFault}
+use Rattle.replay_world.specs.declared.fault.WorldFault.TheVariants as stops
+use Rattle.replay_run.specs.declared.fault.ReplayFault.{ReplayFault}
+use Rattle.replay_run.specs.declared.fault.ReplayFault.TheVariants.{Schedule, NoSuchFrame, TooMuchSent}
+use Rattle.replay_run.specs.declared.fault.Stop.{Stop}
+use Rattle.replay_run.specs.declared.fault.Stop.TheVariants.{Fault, NoMemory}
+
+-- the fault
+abbrev pub fault : ReplayFault → plain.ReplayFault
+fault (Schedule f) = plain.NoSchedule f
+fault (NoSuchFrame event frame sent) = plain.Stops (worlds.NoSuchFrame event frame sent)
+fault (TooMuchSent event bytes) = plain.Stops (worlds.TooMuchSent event bytes)
+
+-- the fault that it tells; where memory ran out, none
+abbrev pub fault_in : Stop → Option plain.ReplayFault
+fault_in (Fault f) = Some (fault f)
+fault_in NoMemory = None
+
+-- of a run
+abbrev pub fault_of_run : WorldFault → Option worlds.WorldFault
+fault_of_run (stops.NoSuchFrame event frame sent) = Some (worlds.NoSuchFrame event frame sent)
+fault_of_run (stops.TooMuchSent event bytes) = Some (worlds.TooMuchSent event bytes)
+fault_of_run stops.NoMemory = None
+
+-- the same fault of a run, or want of memory
+abbrev pub IsOfRun : WorldFault → Stop → Type 0
+IsOfRun f s = fault_in s ≡ option_map plain.Stops (fault_of_run f)
+
+-- the same fault of the bytes, or want of memory
+abbrev pub IsOfBytes : ScheduleFault → Stop → Type 0
+IsOfBytes f s = fault_in s ≡ option_map plain.NoSchedule (fault_of f)

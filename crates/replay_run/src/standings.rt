@@ -1,0 +1,56 @@
+//! Where the correct processes stand at the end of a run.
+ghost use Rattle.std.specs.Prelude.{◌≡◌, ℕ, List, map, IfOk, IsSomeAnd};
+ghost use Rattle.byte_defs.specs.Members.{has};
+ghost use Rattle.group_defs.specs.Process.{Setting};
+ghost use Rattle.group_defs.specs.Accounts.{account_of};
+ghost use Rattle.accounts.specs.Views.{account};
+ghost use Rattle.replay_defs.specs.Worlds as plain;
+ghost use Rattle.replay_cast.specs.Players.{Plays, ArePlayers, process_of};
+ghost use Rattle.report_lines.specs.Standings.{StandsAs};
+
+use crate::copies::copy_account;
+use accounts::Account;
+use replay_world::Player;
+use report_lines::Standing;
+use rp_base::{NoMemory, PidSet};
+use std::alloc::Global;
+
+/// What a report tells of the process, which is there unless memory ran out.
+pub(crate) fn standing_of(player: &Player) -> Option<Standing<'_>>
+    ensures { (s : Setting) (c : plain.Player) → Plays s player.now c → IsSomeAnd result (λ t. StandsAs t c.now) }
+{
+    let core = player.core()?;
+    Some(Standing {
+        account: core.account(),
+        phase: core.phase(),
+        signed: core.used(),
+        liars: core.liars(),
+        halted: core.halted(),
+    })
+}
+
+/// What each of them tells of itself, copied.
+pub(crate) fn accounts_of(alloc: Global, players: &[Player]) -> Result<Vec<Account>, NoMemory>
+    ensures { (s : Setting) (cs : List plain.Player) → ArePlayers s players.now cs → IfOk result (λ all. map account all.items ≡ map (λ c. account_of c.now) cs) }
+{
+    let mut all = Vec::new(alloc);
+    for player in players {
+        let Some(core) = player.core() else {
+            return Err(NoMemory);
+        };
+        let account = copy_account(alloc, core.account())?;
+        all.push(account)?;
+    }
+    Ok(all)
+}
+
+/// Their numbers.
+pub(crate) fn numbers_of(players: &[Player]) -> PidSet
+    ensures { (p : ℕ) → has result p ≡ has (map process_of players.now) p }
+{
+    let mut all = PidSet::new();
+    for player in players {
+        all.insert(player.process);
+    }
+    all
+}

@@ -1,0 +1,16 @@
+pub mod Sums
+pub mod Sends
+pub mod Seats
+pub mod Apart
+pub mod HandedOver
+pub mod Carrying
+pub mod Places
+pub mod Showing
+pub mod Happenings
+pub mod Giving
+pub mod Draining
+pub mod Running
+pub mod Beginning
+pub mod Popping
+pub mod Stopping
+pub mod Telling

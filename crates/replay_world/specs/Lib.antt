@@ -1,0 +1,6 @@
+pub mod Traffic
+pub mod Handing
+pub mod Stepping
+pub mod Lying
+pub mod Worlds
+pub mod Steps

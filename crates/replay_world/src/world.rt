@@ -1,0 +1,284 @@
+//! The world of a schedule: its correct processes, each a real one, and the frames that were sent.
+ghost use Rattle.std.specs.Prelude.{◌≡◌, ◌==◌, ◌<◌, ◌+◌, ◌-◌, ◌^◌, ◌++◌, length, map, OnOk, IfOk, IfErr};
+ghost use Rattle.std.specs.List.{position_from};
+ghost use Rattle.member_state.specs.Events.{event as event_of};
+ghost use Rattle.rp_base.specs.Pids.{mask_of};
+ghost use Rattle.replay_defs.specs.Worlds as plain;
+ghost use Rattle.replay_defs.specs.Worlds.{setting_of};
+ghost use Rattle.replay_defs.specs.Schedules as schedules;
+ghost use Rattle.schedule_file.specs.Views as views;
+ghost use Rattle.replay_world.specs.Handing.{bytes_in, Marks};
+ghost use Rattle.replay_world.specs.Stepping.{StepsAt, Refuses, Spends};
+
+use crate::fault::WorldFault;
+use crate::traffic::{Delivery, Sent, Traffic};
+use replay_cast::{Liar, Player};
+use rp_base::{GroupId, NoMemory, Pid, PidSet, Roster};
+use schedule_file::ScheduleEvent;
+use sig_scheme::AnyScheme;
+use std::alloc::Global;
+use stmt_codec::{Event, EventFault, EventVerdict, Outcome, Payload};
+
+/// An event that a process refused, by the event's number in the schedule, from 0.
+#[derive(Clone, Copy, Debug)]
+pub struct Refused {
+    pub event: u64,
+    pub process: Pid,
+    pub fault: EventFault,
+}
+
+/// The correct processes of a schedule, and what happened between them so far. Which world of the definitions it is, the word
+/// `Shows` of the specs says. After a fault it is to be given up.
+#[derive(Drop)]
+pub struct World {
+    pub(crate) group: GroupId,
+    pub(crate) scheme: AnyScheme,
+    pub(crate) roster: Roster,
+
+    /// By rising numbers.
+    pub(crate) players: Vec<Player>,
+    pub(crate) liars: Vec<Liar>,
+    pub(crate) traffic: Traffic,
+
+    /// The bytes that were handed over as frames, and that no process sent.
+    pub(crate) raws: Vec<Payload>,
+    pub(crate) refused: Vec<Refused>,
+
+    /// The processes that met a spent key, as often as one did.
+    pub(crate) spent: Vec<Pid>,
+
+    /// How many events there were.
+    pub(crate) count: u64,
+}
+
+// The place of a process among the correct ones.
+fn place_of(players: &[Player], p: Pid) -> Option<usize>
+    ensures { result ≡ position_from (λ q. q.process == p) 0 players.now }
+{
+    players.iter().position(|q| q.process == p)
+}
+
+// The process at a place takes an event.
+fn step_at(
+    scheme: &AnyScheme,
+    players: &mut Vec<Player>,
+    i: usize,
+    event: &Event<'_>,
+) -> Result<Outcome, NoMemory>
+    requires { i < length players.old.items }
+    ensures { IfOk result (StepsAt scheme.now players.old.items players.new.items i event.now) }
+{
+    let player = &mut players[i];
+    player.step(scheme, event)
+}
+
+// Keeps the bytes that an event hands over as a frame.
+fn keep_bytes(alloc: Global, raws: &mut Vec<Payload>, event: &Event<'_>) -> Result<(), NoMemory>
+    ensures { OnOk result (raws.new.items ≡ raws.old.items ++ bytes_in event.now) }
+{
+    if let Event::Frame { bytes, .. } = event {
+        raws.push(Payload::from_vec(Vec::from_slice(alloc, bytes)?))?;
+    }
+    Ok(())
+}
+
+// A correct process took the frame of this number.
+fn mark(frames: &mut Vec<Sent>, i: usize)
+    requires { i < length frames.old.items }
+    ensures { Marks frames.old.items frames.new.items i }
+{
+    let frame = &mut frames[i];
+    frame.handed = true;
+}
+
+// Whether the process is one of these, by their mask.
+fn is_addressed(to: PidSet, p: Pid) -> bool
+    ensures { result ≡ plain.is_in (mask_of to) p }
+{
+    to.mask() >> p.get() & 1 == 1
+}
+
+// Keeps the refusal, if it was refused.
+fn note_refusal(
+    all: &mut Vec<Refused>,
+    event: u64,
+    process: Pid,
+    verdict: EventVerdict,
+) -> Result<(), NoMemory>
+    ensures { OnOk result (Refuses all.old.items event process verdict all.new.items) }
+{
+    match verdict {
+        EventVerdict::Taken => Ok(()),
+        EventVerdict::Refused(fault) => Ok(all.push(Refused {
+            event,
+            process,
+            fault,
+        })?),
+    }
+}
+
+// Keeps the process, if it met a spent key.
+fn note_spent(all: &mut Vec<Pid>, process: Pid, spent: bool) -> Result<(), NoMemory>
+    ensures { OnOk result (Spends all.old.items process spent all.new.items) }
+{
+    if spent {
+        all.push(process)?;
+    }
+    Ok(())
+}
+
+impl World {
+    ghost use Rattle.replay_world.specs.Worlds.{Shows, Becomes, Exceeds, Happens, Stops, HappensYet, count_of};
+    ghost use Rattle.replay_world.specs.Steps.{Notes, NotesTooMuch, arrives, oldest_arrives};
+    ghost use Rattle.std.specs.Prelude.{is_some, slice_get};
+
+    /// One event of the schedule.
+    pub fn event(&mut self, alloc: Global, what: &ScheduleEvent) -> Result<(), WorldFault>
+        requires { count_of self.old < 2 ^ 64 - 1 }
+
+        // What the definitions make of a world that this one shows, it shows then.
+        ensures happens { OnOk result (Happens self.old self.new (views.event what.now)) }
+
+        // Else their world stops with this fault, or memory ran out.
+        ensures stops { IfErr result (Stops self.old (views.event what.now)) }
+        ensures count { OnOk result (count_of self.new ≡ count_of self.old + 1) }
+    {
+        self.happen(alloc, what)?;
+        self.count += 1;
+        Ok(())
+    }
+
+    // What happens in an event, without its being counted.
+    fn happen(&mut self, alloc: Global, what: &ScheduleEvent) -> Result<(), WorldFault>
+        ensures happens { OnOk result (HappensYet self.old self.new (views.event what.now)) }
+        ensures stops { IfErr result (Stops self.old (views.event what.now)) }
+        ensures count { OnOk result (count_of self.new ≡ count_of self.old) }
+    {
+        match what {
+            ScheduleEvent::Submit { at, payload } => {
+                self.hand(alloc, *at, &Event::Submit(payload))
+            }
+            ScheduleEvent::Raw { to, from, bytes } => {
+                self.hand(alloc, *to, &Event::Frame { from: *from, bytes })
+            }
+            ScheduleEvent::Pass { frame, to } => self.pass(*frame, *to),
+            ScheduleEvent::Drain { count, to } => self.drain(*count, *to),
+            ScheduleEvent::Lie {
+                signer,
+                to,
+                statement,
+            } => self.lie(alloc, *signer, *to, statement),
+            ScheduleEvent::Suspect { at, of } => self.hand(alloc, *at, &Event::Suspect(*of)),
+            ScheduleEvent::Join { at, of } => self.hand(alloc, *at, &Event::Join(*of)),
+            ScheduleEvent::Renew { at } => self.hand(alloc, *at, &Event::Renew),
+            ScheduleEvent::Tick { at } => self.hand(alloc, *at, &Event::Tick),
+        }
+    }
+
+    // A process takes an event.
+    fn hand(&mut self, alloc: Global, at: Pid, event: &Event<'_>) -> Result<(), WorldFault>
+        ensures becomes { OnOk result (Becomes (λ h v. plain.hands (setting_of h) v at (event_of event.now)) self.old self.new) }
+        ensures exceeds { IfErr result (Exceeds (λ h v. plain.hands (setting_of h) v at (event_of event.now)) self.old) }
+        ensures count { OnOk result (count_of self.new ≡ count_of self.old) }
+    {
+        let Some(i) = place_of(&self.players, at) else {
+            return Ok(());
+        };
+        keep_bytes(alloc, &mut self.raws, event)?;
+        let outcome = step_at(&self.scheme, &mut self.players, i, event)?;
+        self.note(at, outcome)
+    }
+
+    // A process takes the frame of this number, if it was sent.
+    fn deliver(&mut self, frame: usize, to: Pid) -> Result<(), WorldFault>
+        ensures becomes { OnOk result (Becomes (λ h v. plain.delivers (setting_of h) v to frame) self.old self.new) }
+        ensures exceeds { IfErr result (Exceeds (λ h v. plain.delivers (setting_of h) v to frame) self.old) }
+        ensures count { OnOk result (count_of self.new ≡ count_of self.old) }
+    {
+        let Some(sent) = self.traffic.frames.get(frame) else {
+            return Ok(());
+        };
+        let Some(i) = place_of(&self.players, to) else {
+            return Ok(());
+        };
+        let event = Event::Frame {
+            from: sent.sender,
+            bytes: sent.bytes.bytes(),
+        };
+        let outcome = step_at(&self.scheme, &mut self.players, i, &event)?;
+        mark(&mut self.traffic.frames, frame);
+        self.note(to, outcome)
+    }
+
+    // A process takes a frame that was sent; one that is not sent yet stops the world.
+    fn pass(&mut self, frame: u32, to: Pid) -> Result<(), WorldFault>
+        ensures happens { OnOk result (HappensYet self.old self.new (schedules.Pass frame to)) }
+        ensures stops { IfErr result (Stops self.old (schedules.Pass frame to)) }
+        ensures count { OnOk result (count_of self.new ≡ count_of self.old) }
+    {
+        let sent = self.traffic.frames.len();
+        if frame as usize >= sent {
+            return Err(WorldFault::NoSuchFrame {
+                event: self.count,
+                frame,
+                sent,
+            });
+        }
+        self.deliver(frame as usize, to)
+    }
+
+    // A delivery is made, where its addressee is one of these; else it is lost.
+    fn arrive(&mut self, to: PidSet, next: Delivery) -> Result<(), WorldFault>
+        ensures becomes { OnOk result (Becomes (λ h v. arrives (setting_of h) (mask_of to) v (next.frame, next.to)) self.old self.new) }
+        ensures exceeds { IfErr result (Exceeds (λ h v. arrives (setting_of h) (mask_of to) v (next.frame, next.to)) self.old) }
+        ensures count { OnOk result (count_of self.new ≡ count_of self.old) }
+    {
+        if is_addressed(to, next.to) {
+            self.deliver(next.frame, next.to)
+        } else {
+            Ok(())
+        }
+    }
+
+    // The oldest delivery is made, or lost. It is false where none waits.
+    fn deliver_next(&mut self, to: PidSet) -> Result<bool, WorldFault>
+        ensures becomes { OnOk result (Becomes (λ h v. oldest_arrives (setting_of h) (mask_of to) v) self.old self.new) }
+        ensures exceeds { IfErr result (Exceeds (λ h v. oldest_arrives (setting_of h) (mask_of to) v) self.old) }
+        ensures waits { IfOk result (λ more. (h : schedules.Header) (v : plain.World) → Shows h self.old v → more ≡ is_some (slice_get v.pending 0)) }
+        ensures count { OnOk result (count_of self.new ≡ count_of self.old) }
+    {
+        let Some(next) = self.traffic.pending.pop_front() else {
+            return Ok(false);
+        };
+        self.arrive(to, next)?;
+        Ok(true)
+    }
+
+    // So many deliveries are made or lost, or until none waits.
+    fn drain(&mut self, count: u32, to: PidSet) -> Result<(), WorldFault>
+        ensures becomes { OnOk result (Becomes (λ h v. plain.drains (setting_of h) (mask_of to) count v) self.old self.new) }
+        ensures exceeds { IfErr result (Exceeds (λ h v. plain.drains (setting_of h) (mask_of to) count v) self.old) }
+        ensures count { OnOk result (count_of self.new ≡ count_of self.old) }
+    {
+        let mut left = count;
+        'deliveries: while left > 0 {
+            if !self.deliver_next(to)? {
+                return Ok(());
+            }
+            left -= 1;
+        }
+        Ok(())
+    }
+
+    // Keeps what came of an event at a process, and sends its frames.
+    fn note(&mut self, me: Pid, outcome: Outcome) -> Result<(), WorldFault>
+        ensures notes { OnOk result (Notes self.old self.new me outcome) }
+        ensures too_much { IfErr result (NotesTooMuch self.old me outcome) }
+        ensures count { OnOk result (count_of self.new ≡ count_of self.old) }
+    {
+        note_refusal(&mut self.refused, self.count, me, outcome.verdict)?;
+        note_spent(&mut self.spent, me, outcome.spent)?;
+        self.traffic
+            .send_all(&self.players, self.count, me, outcome.sends)
+    }
+}
