@@ -1,5 +1,5 @@
 #!/bin/sh
-# Times one replay: four correct processes, 200 submits, and every frame handed to every other process.
+# Times one replay: four correct processes and 200 submits, each of which all four deliver.
 # Prints the seconds, the bytes of the schedule, and the claims that were signed.
 set -eu
 top=$(dirname "$(readlink -f "$0")")/..
@@ -14,5 +14,5 @@ begun=$(date +%s.%N)
 ended=$(date +%s.%N)
 
 bytes=$(wc -c <"$work/schedule")
-claims=$(awk '$1 == "process" { signed += $3 } END { print signed }' "$work/report")
+claims=$(awk '$1 == "process" { signed += $6 } END { print signed }' "$work/report")
 echo "$begun $ended $bytes $claims" | awk '{ printf "seconds %.3f\nbytes %d\nclaims %d\n", $2 - $1, $3, $4 }'

@@ -15,7 +15,8 @@ import sys
 from draw import drawn
 
 OURS = [str(pathlib.Path(__file__).resolve().parent.parent / "rampart"), "replay"]
-SEEN = [b"\nheld ", b" kind\n", b" submit\n", b"honest no\n", b"bounded no\n", b"single no\n", b"stop 7 "]
+SEEN = [b"\nmessage ", b"\nrefused ", b"\nliar ", b"\nspent ", b"\nhalted ", b" closing ", b" observer ", b" 1 : ", b" 2 : ",
+        b"honest no\n", b"bounded no\n", b"agree no\n", b"sound no\n", b"stop 7 "]
 
 
 def answer(command, data):

@@ -3,104 +3,131 @@
 
     python3 tools/draw.py NUMBER > FILE
 
-The same number gives the same schedule. Draws aim at what is rare: corrupt members that tell two stories, certificates
-that just come together, keys that are soon spent, processes outside the group, frames that are no frames, and inputs
-that are no schedules. A third of the schedules has hostile frames, and one in ten is broken afterwards.
+The same number gives the same schedule. Draws aim at what is rare: corrupt members that lie where it hurts, suspected managers and
+deputies, joins, views that end while messages are on their way, lost and repeated frames, keys that are soon spent, processes outside the
+group, frames that are no frames, and inputs that are no schedules. A third of the schedules has hostile frames, a fourth has batches,
+and one in ten is broken afterwards.
 """
 
 import random
 import sys
 
-from schedules import (BUNDLE, PROOF, WANT, Process, Schedule, bundle, echo, frame_of_groups, hand_on, init, raw, submit,
-                       u8, u16)
+from schedules import (ACK, BUNDLE, EVERYONE, KEEP, ORDER, PLACE, PROOF, READY, RENEW, SUGGEST, WANT, Process, Schedule, add, at_place,
+                       at_rank, bundle, drain, echo, end, frame_of_groups, hand_on, init, join, last, lie, notify, raw, remove, renew,
+                       submit, suspect, tick, u8, u16, value)
 
-WINDOW = 32
-EDGES = [0, 0, 0, 1, 2, 31, 32, 33, 1023, 1024, 65535]
+EDGES = [0, 0, 0, 0, 1, 2, 31, 32, 33, 1023, 1024, 65535]
 
 
 class Drawing:
-    """A schedule that grows, with a guess at which frames were sent: a frame that this guess has was sent, but where
-    hostile frames came between."""
+    """A schedule that grows, with a guess at how many frames were sent."""
 
     def __init__(self, number):
         self.draw = random.Random(number)
         self.hostile = number % 3 == 0
         draw = self.draw
         count = draw.choice([1, 2, 3, 4, 4, 4, 4, 5, 7, 7, draw.randint(8, 20)])
-        numbers = list(range(count)) if draw.random() < 0.7 else sorted(draw.sample(range(64), count))
+        numbers = list(range(count)) if draw.random() < 0.8 else sorted(draw.sample(range(64), count))
         size = min(16, count if draw.random() < 0.7 else draw.randint(max(1, count - 2), count))
-        genesis = numbers[:size] if draw.random() < 0.6 else draw.sample(numbers, size)
-        limit = (size - 1) // 3 + (draw.random() < 0.35)
+        genesis = numbers[:size] if draw.random() < 0.7 else draw.sample(numbers, size)
+        limit = (size - 1) // 3 + (draw.random() < 0.25)
         corrupt = set(draw.sample(genesis, min(draw.randint(0, limit), count - 1, size)))
-        processes = [Process(p, draw.randbytes(32), draw.choice([100000] * 8 + [0, 1, 2, 3, 7]), p in corrupt) for p in numbers]
-        self.schedule = Schedule(draw.randbytes(16), processes, genesis)
+        processes = [Process(p, draw.randbytes(32), draw.choice([100000] * 60 + [0, 3, 9, 17]), p in corrupt) for p in numbers]
+        batch = draw.choice([2, 3, 16]) if draw.random() < 0.25 else 1
+        self.schedule = Schedule(draw.randbytes(16), processes, genesis, batch)
         self.numbers = numbers
         self.genesis = genesis
         self.corrupt = sorted(corrupt)
         self.correct = [p for p in numbers if p not in corrupt]
-        self.left = {p.number: p.total for p in processes}
-        self.accepted = {p: [] for p in self.correct}
-        self.heard = {p: set() for p in self.correct}
-        self.frames = []
+        self.quiet = draw.random() < 0.4
+        self.view = 0
+        self.frames = 0
 
     def add(self, event):
         self.schedule.events.append(event)
 
-    # ---- what correct processes do
+    # ---- what correct processes are told
 
-    def sends(self, p, inits, echoes):
-        """Process p signs these, as far as its key reaches, in one frame."""
-        signed = (inits + echoes)[:self.left[p]]
-        self.left[p] -= len(signed)
-        if signed and len(self.genesis) > 1:
-            self.frames.append((p, [what for what in signed if what[0] == "init"]))
+    def submit(self):
+        draw = self.draw
+        p = draw.choice(self.correct)
+        times = draw.choice([1, 1, 1, 1, 1, 2, 5] + ([40] if draw.random() < 0.2 else []) + ([258] if draw.random() < 0.03 else []))
+        for _ in range(times):
+            self.add(submit(p, self.payload()))
+        self.frames += len(self.genesis) > 1 and p in self.genesis
 
-    def submit(self, p, payload):
-        self.add(submit(p, payload))
-        if p not in self.genesis or len(payload) > 1024 or len(self.accepted[p]) == 256:
-            return
-        number = len(self.accepted[p])
-        self.accepted[p].append(payload)
-        if number < WINDOW:
-            self.heard[p].add((p, number))
-            self.sends(p, [("init", p, number)], [("echo", p, number)])
+    def hand_on(self):
+        if self.frames:
+            frame = self.draw.randrange((self.frames + 1) // 2)
+            self.add(hand_on(frame, self.draw.choice(self.correct)))
 
-    def hand_on(self, frame, to):
-        self.add(hand_on(frame, to))
-        if frame >= len(self.frames):
-            return
-        _, inits = self.frames[frame]
-        new = [(sender, number) for _, sender, number in inits if (sender, number) not in self.heard[to]]
-        self.heard[to].update(new)
-        if to in self.genesis and new:
-            self.sends(to, [], [("echo", sender, number) for sender, number in new])
+    def mask(self):
+        draw = self.draw
+        return EVERYONE if draw.random() < 0.6 else sum(1 << p for p in self.correct if draw.random() < 0.7)
 
-    def flood(self, rounds):
-        """Hands many of the frames to everyone, the earlier ones first."""
-        for _ in range(rounds):
-            for frame in range(len(self.frames)):
-                for p in self.correct:
-                    if self.draw.random() < 0.8 and len(self.schedule.events) < 600:
-                        self.hand_on(frame, p)
+    def drain(self):
+        self.add(drain(self.draw.choice([1, 3, 6, 10, 30, 200]), self.mask()))
+
+    def lose(self):
+        self.add(drain(self.draw.randint(1, 6), 0))
+
+    def tick(self):
+        self.add(tick(self.draw.choice(self.correct)))
+
+    def change(self):
+        """Some are told of one update."""
+        draw = self.draw
+        some = draw.sample(self.correct, min(len(self.correct), draw.choice([1, 2, 2, 3])))
+        what = draw.choice(["suspect", "suspect", "suspect", "renew", "renew", "join"])
+        other = draw.choice([self.genesis[0], self.genesis[0], draw.choice(self.numbers)])
+        newcomer = draw.choice(self.numbers + [63])
+        for p in some:
+            self.add({"suspect": suspect(p, other), "renew": renew(p), "join": join(p, newcomer)}[what])
+        self.view += draw.random() < 0.3
 
     # ---- what hostile processes do
 
     def payload(self):
         draw = self.draw
-        if draw.random() < 0.03:
-            return draw.randbytes(draw.choice([1023, 1024, 1025]))
+        if draw.random() < 0.02:
+            return draw.randbytes(draw.choice([1023, 1024]))
         return bytes(draw.choices(b"abc", k=draw.randint(0, 2)))
 
-    def statement(self, signer):
+    def update(self):
         draw = self.draw
-        view = draw.choice([0] * 12 + [1, 2, 1023, 1024])
-        number = draw.choice(EDGES)
-        kind = draw.random()
-        if kind < 0.45:
-            return init(number, self.payload(), view)
-        if kind < 0.95:
-            return echo(draw.choice([signer] * 3 + self.genesis + [draw.randrange(66)]), number, self.payload(), view)
-        return u8(draw.choice([0, 3, 4, 5, 6, 11, 12])) + draw.randbytes(draw.randint(0, 9))
+        return draw.choice([RENEW, RENEW, remove(self.genesis[0]), remove(draw.choice(self.numbers)), add(draw.choice(self.numbers))])
+
+    def messages(self, signer):
+        draw = self.draw
+        count = draw.choice([1, 1, 1, 2]) if self.schedule.limit > 1 else 1
+        return [(draw.choice([signer] * 2 + self.genesis), draw.choice([0, 0, 0, 1, 2])) for _ in range(count)]
+
+    def statement(self, signer):
+        """A statement in its ranges."""
+        draw = self.draw
+        view = draw.choice([0] * 6 + [self.view] * 6 + [self.view + 1, 1023])
+        number = draw.choice(EDGES[:-2])
+        rank = draw.choice([0, 0, 0, 1, 1, 2, 15])
+        what = value(self.update(), draw.choice([0, 0, 0, 1, 2, 1024]))
+        reported = (draw.randrange(rank), what) if rank and draw.random() < 0.5 else None
+        return draw.choice([
+            lambda: init(number, self.payload(), view),
+            lambda: echo(draw.choice([signer] * 3 + self.genesis), number, self.payload(), view),
+            lambda: at_place(draw.choice([ORDER, PLACE, KEEP]), number, self.messages(signer), view),
+            lambda: notify(self.update(), view),
+            lambda: end(draw.choice([0, 0, 1, 2, 1024]), view),
+            lambda: last(rank, reported, view),
+            lambda: at_rank(draw.choice([SUGGEST, ACK, READY]), rank, what, view),
+            lambda: at_rank(draw.choice([SUGGEST, ACK, READY]), rank, what, view)])()
+
+    def odd_statement(self, signer):
+        """A statement, now and then out of its ranges or none at all."""
+        draw = self.draw
+        if draw.random() < 0.85:
+            return self.statement(signer)
+        if draw.random() < 0.5:
+            return init(draw.choice(EDGES), self.payload(), draw.choice([0, 1023, 1024]))
+        return u8(draw.randrange(16)) + draw.randbytes(draw.randint(0, 9))
 
     def signed(self, signer, statement):
         """A claim, most often with the true signature of a corrupt process."""
@@ -120,6 +147,11 @@ class Drawing:
             return draw.choice(self.corrupt)
         return draw.choice(self.numbers + [63])
 
+    def lie(self):
+        signer = self.draw.choice(self.corrupt)
+        self.add(lie(signer, self.statement(signer), self.mask()))
+        self.frames += 1
+
     def stories(self):
         """A corrupt sender tells one payload to some and another to the others, and its friends echo both."""
         draw = self.draw
@@ -130,16 +162,11 @@ class Drawing:
             claims += [self.schedule.claim(q, echo(sender, number, payload)) for q in self.corrupt]
             self.add(raw(p, draw.choice(self.corrupt), bundle(claims)))
 
-    def own_words(self):
-        """What correct processes said, told by another; and sometimes what they never said."""
+    def forged(self):
+        """What correct processes never said, told by another with their keys."""
         draw = self.draw
-        said = [(p, i) for p in self.correct for i in range(min(WINDOW, len(self.accepted[p])))]
-        if not said:
-            return
-        sender, number = draw.choice(said)
-        payload = self.accepted[sender][number] if draw.random() < 0.7 else b"forged"
-        claims = [self.schedule.claim(sender, init(number, payload))]
-        claims += [self.schedule.claim(q, echo(sender, number, payload)) for q in self.genesis if draw.random() < 0.5]
+        signers = draw.sample(self.correct, draw.randint(1, min(4, len(self.correct))))
+        claims = [self.schedule.claim(p, self.statement(p)) for p in signers]
         self.add(raw(draw.choice(self.correct), draw.choice(self.numbers), bundle(claims)))
 
     def claims(self):
@@ -147,10 +174,10 @@ class Drawing:
         claims = []
         for _ in range(draw.choice([1, 1, 2, 3, 5])):
             signer = self.signer()
-            claims.append(self.signed(signer, self.statement(signer)))
+            claims.append(self.signed(signer, self.odd_statement(signer)))
         if draw.random() < 0.3:
             signers = sorted(draw.sample(self.numbers, draw.randint(1, len(self.numbers))))
-            statement = self.statement(signers[0])
+            statement = self.odd_statement(signers[0])
             claims += [self.signed(q, statement) for q in signers]
         return claims
 
@@ -170,7 +197,7 @@ class Drawing:
         if what == 3:
             return frame_of_groups([], draw.choice([BUNDLE, PROOF]))
         if what == 4:
-            return u8(1) + u8(WANT) + u16(0) + u16(0)
+            return u8(1) + u8(WANT) + u16(draw.choice([0, 0, 1, 1024])) + u16(draw.choice([0, 0, 1, 1024, 1025]))
         if what == 5:
             return bundle(self.claims(), PROOF)
         if what == 6:
@@ -188,35 +215,35 @@ class Drawing:
         what = draw.random()
         if what < 0.25 and self.corrupt:
             self.stories()
-        elif what < 0.4:
-            self.own_words()
+        elif what < 0.3:
+            self.forged()
         else:
-            frame = bundle(self.claims()) if what < 0.75 else self.odd_frame()
+            frame = bundle(self.claims()) if what < 0.7 else self.odd_frame()
             self.add(raw(draw.choice(self.correct), draw.choice(self.numbers + [63]), frame[:61440]))
 
     # ---- events
 
     def event(self):
         draw = self.draw
-        if self.hostile and draw.random() < 0.5:
+        if self.hostile and draw.random() < 0.3:
             self.hostile_event()
-        elif not self.frames or draw.random() < 0.4:
-            p = draw.choice(self.correct)
-            times = draw.choice([1, 1, 1, 1, 1, 2, 5] + ([40] if draw.random() < 0.2 else []) + ([258] if draw.random() < 0.05 else []))
-            for _ in range(times):
-                self.submit(p, self.payload())
-        else:
-            frame = draw.randrange(len(self.frames))
-            if draw.random() < 0.004:
-                frame = len(self.frames) + draw.randrange(3)
-            self.hand_on(frame, draw.choice(self.correct))
+            return
+        kinds = [self.submit] * 5 + [self.drain] * 6 + [self.tick] * 2 + [self.hand_on] * 2 + [self.lose]
+        if not self.quiet or draw.random() < 0.1:
+            kinds += [self.change] * 2 + [self.lie] * (8 if self.corrupt else 0)
+        draw.choice(kinds)()
 
     def spelled(self):
         draw = self.draw
-        for _ in range(draw.randint(0, 50)):
+        for _ in range(draw.randint(0, 60)):
             self.event()
         if draw.random() < 0.7:
-            self.flood(draw.randint(1, 3))
+            self.add(drain(2000))
+            for p in self.correct:
+                self.add(tick(p))
+            self.add(drain(3000))
+        if draw.random() < 0.01:
+            self.add(hand_on(10**6, draw.choice(self.correct)))
         out = self.schedule.spelled()
         return self.broken(out) if draw.random() < 0.1 else out
 

@@ -6,8 +6,9 @@ Standard library alone. A schedule is the header's fields and a list of events; 
 import hashlib
 import struct
 
-INIT, ECHO = 1, 2
+INIT, ECHO, ORDER, PLACE, KEEP, NOTIFY, END, LAST, SUGGEST, ACK, READY = range(1, 12)
 BUNDLE, PROOF, WANT = 1, 2, 3
+EVERYONE = 2**64 - 1
 
 
 def u8(n):
@@ -22,6 +23,10 @@ def u32(n):
     return struct.pack(">I", n)
 
 
+def u64(n):
+    return struct.pack(">Q", n)
+
+
 # ---- statements and claims
 
 
@@ -31,6 +36,48 @@ def init(number, payload, view=0):
 
 def echo(sender, number, payload, view=0):
     return u8(ECHO) + u16(view) + u8(sender) + u16(number) + u16(len(payload)) + payload
+
+
+def remove(p):
+    """An update."""
+    return b"\x01" + u8(p)
+
+
+def add(p):
+    return b"\x02" + u8(p)
+
+
+RENEW = b"\x03\x00"
+
+
+def value(update, cut):
+    return update + u16(cut)
+
+
+def at_place(kind, place, messages, view=0):
+    """An Order, a Place or a Keep of the messages (sender, number)."""
+    batch = b"".join(u8(sender) + u16(number) for sender, number in messages)
+    if len(messages) == 1:
+        return u8(kind) + u16(view) + u16(place) + batch
+    return u8(kind + 9) + u16(view) + u16(place) + u8(len(messages)) + batch
+
+
+def notify(update, view=0):
+    return u8(NOTIFY) + u16(view) + update
+
+
+def end(length, view=0):
+    return u8(END) + u16(view) + u16(length)
+
+
+def last(rank, reported=None, view=0):
+    """A Last; what it reports is a rank and a value."""
+    return u8(LAST) + u16(view) + u8(rank) + (b"\x00" if reported is None else b"\x01" + u8(reported[0]) + reported[1])
+
+
+def at_rank(kind, rank, what, view=0):
+    """A Suggest, an Ack or a Ready of a value."""
+    return u8(kind) + u16(view) + u8(rank) + what
 
 
 def body(group, signer, statement):
@@ -83,6 +130,30 @@ def hand_on(frame, to):
     return u8(3) + u32(frame) + u8(to)
 
 
+def drain(count, mask=EVERYONE):
+    return u8(4) + u32(count) + u64(mask)
+
+
+def lie(signer, statement, mask=EVERYONE):
+    return u8(5) + u8(signer) + u64(mask) + u16(len(statement)) + statement
+
+
+def suspect(at, other):
+    return u8(6) + u8(at) + u8(other)
+
+
+def join(at, other):
+    return u8(7) + u8(at) + u8(other)
+
+
+def renew(at):
+    return u8(8) + u8(at)
+
+
+def tick(at):
+    return u8(9) + u8(at)
+
+
 class Process:
     """One line of the header."""
 
@@ -99,8 +170,9 @@ class Process:
 class Schedule:
     """The header's fields and the events."""
 
-    def __init__(self, group, processes, genesis):
+    def __init__(self, group, processes, genesis, limit=1):
         self.group = group
+        self.limit = limit
         self.processes = processes
         self.genesis = genesis
         self.events = []
@@ -111,7 +183,7 @@ class Schedule:
         return signer, statement, signature(key, self.group, signer, statement)
 
     def header(self):
-        out = b"RPS1" + u8(0) + self.group + u8(len(self.processes))
+        out = (b"RPS1" + u8(0) if self.limit == 1 else b"RPS3" + u8(0) + u8(self.limit)) + self.group + u8(len(self.processes))
         out += b"".join(p.spelled() for p in self.processes)
         return out + u8(len(self.genesis)) + bytes(self.genesis)
 
