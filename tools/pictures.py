@@ -4,7 +4,8 @@
     python3 tools/pictures.py            writes them all
     python3 tools/pictures.py crates     writes this one
 
-`crates` is drawn from crates.txt, so draw it again when a crate comes or goes. The others are drawn from the text below.
+`crates` is drawn from crates.txt and the areas below, so draw it again when a crate comes or goes: what is then missing is told. `schedule`
+is the example one_member. The others are drawn from the text below.
 """
 import html
 import pathlib
@@ -24,6 +25,7 @@ text { font: 13px 'DejaVu Sans', Verdana, sans-serif; fill: #1f2328; }
 .end { fill: #fdf3e3; stroke: #b07a1e; stroke-width: 1.2; }
 .stop { fill: #fbecec; stroke: #b04a4a; stroke-width: 1.2; }
 .plain { fill: none; stroke: #8c959f; stroke-width: 1; }
+.area { fill: #f6f8fa; stroke: #8c959f; stroke-width: 1; }
 .line { fill: none; stroke: #59636e; stroke-width: 1.3; }
 .thin { fill: none; stroke: #8c959f; stroke-width: 0.9; }
 .dash { fill: none; stroke: #59636e; stroke-width: 1.3; stroke-dasharray: 5 4; }
@@ -36,6 +38,7 @@ text { fill: #e6edf3; }
 .quorum { fill: #12301c; stroke: #63b27c; }
 .end { fill: #38290f; stroke: #d6a04a; }
 .stop { fill: #3b1818; stroke: #d87373; }
+.area { fill: #161b22; stroke: #6e7681; }
 .line, .dash { stroke: #9198a1; }
 .thin { stroke: #6e7681; }
 .head { fill: #9198a1; }
@@ -124,7 +127,7 @@ def view():
         ("Suggest", "the manager, rank 0", "box"),
         ("Ack", "(u, K) is justified", "quorum"),
         ("Ready", "of a certified Ack", "quorum"),
-        ("decide (u, K)", "first certified Ready", "box"),
+        ("decide (u, K)", "Q Readies", "box"),
     ]
     notes = [
         (0, "f + 1 of them: one\nis correct"),
@@ -138,7 +141,7 @@ def view():
     p.box(xs[5], 402, wide, 54, ["next view", "number x + 1"], "end")
     p.arrow([(xs[5] + wide / 2, 372), (xs[5] + wide / 2, 402)])
 
-    p.text(20, 340, "Where the manager, and each deputy before rank r, is to be removed", "title", "start")
+    p.text(20, 384, "Where each member of a rank below r is to be removed", "title", "start")
     y = 402
     p.box(xs[0], y, wide, high, ["Notify", "removals below rank r"], "end")
     p.box(xs[1], y, wide, high, ["Last at r", "own Ready, or none"], "quorum")
@@ -148,29 +151,29 @@ def view():
     p.arrow([(xs[2] + wide, y + 31), (xs[3] + wide / 2, y + 31), (xs[3] + wide / 2, 270)], "Ack and Ready at rank r", (xs[3] + wide / 2, y + 48))
     for i, words in [(0, "f + 1 of each"), (1, "Q Lasts at r")]:
         p.text(xs[i] + wide / 2, y + high + 18, words, "small")
-    p.text(20, 512, "What the deputy suggests: some Last of a rank r0 < r reports a Ready of (u, K), Q Lasts report nothing of a greater rank, and Ack (r0, (u, K)) is certified: this value.", "small", "start")
-    p.text(20, 528, "Else, where Q Lasts at r report nothing at all: a free value. Members acknowledge neither without checking the same, so no deputy is trusted.", "small", "start")
+    p.text(20, 512, "What the deputy suggests: where some Last at r reports Ready (r0, (u, K)), Q Lasts at r report none of a rank above r0, and Ack (r0, (u, K)) is certified: this value.", "small", "start")
+    p.text(20, 528, "Else, where Q Lasts at r report none: a free value. Who acknowledges checks the same, so no deputy is trusted.", "small", "start")
     p.text(20, 548, "Green: a quorum, Q = n - f, makes a certificate of it. n members, of whom at most f = (n - 1) / 3, rounded down, lie.", "small", "start")
     p.write("view")
 
 
 def phases():
     """The phases of one process in one view."""
-    p = Picture(890, 330, "The phases of a process in a view")
-    p.box(10, 60, 190, 62, ["Observing", "no member of the view"], "box")
-    p.box(10, 200, 190, 62, ["OpenView", "echoes, orders, places, keeps"], "quorum")
-    p.box(310, 200, 150, 62, ["ClosingView", "the own End is signed"], "end")
-    p.box(510, 130, 150, 62, ["DecidedView", "update u and cut K"], "box")
-    p.box(740, 40, 130, 62, ["next view", "Open or Observing"], "quorum")
-    p.box(740, 220, 130, 62, ["HaltedView", "for good"], "stop")
-    p.arrow([(200, 231), (310, 231)], "close: f + 1\nnotify an update", (254, 208))
-    p.arrow([(200, 91), (510, 146)], "decide: a Ready is certified,\nits update possible", (330, 80), anchor="start")
-    p.arrow([(460, 222), (510, 184)], "decide", (502, 218))
-    p.arrow([(105, 200), (105, 162), (510, 162)], "decide", (300, 156))
+    p = Picture(890, 326, "The phases of a process in a view")
+    p.box(10, 60, 190, 62, ["observer", "no member of the view"], "box")
+    p.box(10, 200, 190, 62, ["open", "echoes, orders, places, keeps"], "quorum")
+    p.box(310, 200, 150, 62, ["closing", "the own End is signed"], "end")
+    p.box(510, 130, 150, 62, ["decided", "update u and cut K"], "box")
+    p.box(740, 40, 130, 62, ["next view", "open or observer"], "quorum")
+    p.box(740, 220, 130, 62, ["halted", "for good"], "stop")
+    p.arrow([(200, 231), (310, 231)], "f + 1 notify\nan update: End", (254, 208))
+    p.arrow([(200, 91), (510, 146)], "a Ready is certified\nwhose update is possible", (330, 80), anchor="start")
+    p.arrow([(460, 222), (510, 184)], "the same", (504, 220))
+    p.arrow([(105, 200), (105, 162), (510, 162)], "the same", (300, 156))
     p.arrow([(660, 146), (740, 80)], "K places delivered,\nor no member", (668, 76))
     p.arrow([(660, 178), (740, 240)], "more than K\ndelivered", (672, 228))
     p.arrow([(565, 192), (565, 250), (605, 250), (605, 192)], "fewer than K: it waits, and signs nothing", (585, 268))
-    p.text(30, 312, "Where at most f of the n members of each view lie, no process comes to HaltedView: a law, not a hope.", "small", "start")
+    p.text(30, 312, "In an honest, bounded family no process halts (nobody_halts). In the code: Observing, OpenView, ClosingView, DecidedView, HaltedView.", "small", "start")
     p.write("phases")
 
 
@@ -199,41 +202,96 @@ def reduced(crates):
     return {name: [b for b in bs if not any(b in reach[c] for c in bs if c != b)] for name, bs in crates.items()}
 
 
-def crates_picture():
-    """The crates in layers: each stands above those that it uses; edges that others imply are left out."""
-    crates = {name: below for name, below in read_crates().items() if not name.endswith("_tests")}
-    edges = reduced(crates)
-    depth = {}
+# The areas of the crates: where each is drawn, how many crates stand side by side, and its crates, none above one that it uses.
+AREAS = {
+    "the program": (20, 20, 2, "rampart_cli rampart"),
+    "a replay": (20, 121, 2, "said_index replay_cast group_questions sound_question replay_world replay_questions report_lines replay_run"),
+    "a member": (20, 303, 2, "accounts own_moves reliable_mcast member_state member_taking member_signing member_settling member_sending member_core"),
+    "the rules": (20, 512, 2, "multicast_rules ending_rules rank_rules view_phases due_statements"),
+    "what is heard": (
+        20, 667, 2, "view_table claim_index claim_lists own_place slot_quorums placed_batches pool_values claim_pool pool_questions member_laws claim_hearing"
+    ),
+    "laws and rows": (20, 903, 2, "pool_laws rule_laws safety_laws event_laws group_rows schedule_laws schedule_rows"),
+    "definitions": (20, 1085, 6, "byte_defs signature_defs message_defs text_defs secret_defs group_defs kit_defs replay_defs"),
+    "beside other implementations": (
+        348, 20, 2,
+        "interop_words interop_signatures interop_levels interop_frames interop_kits interop_schedules interop_node interop_lines interop",
+    ),
+    "schedules": (348, 303, 2, "schedule_file schedule_fields schedule_header schedule_events schedule_reading schedule_pieces schedule_making"),
+    "frames and statements": (348, 667, 2, "frame_codec statements stmt_codec"),
+    "the outside": (348, 903, 2, "rp_base rp_streams rp_devices net_edge file_disk udp_link"),
+    "how fast": (676, 20, 2, "bench_lms frame_bench schedule_bench bench_journal"),
+    "kits and words": (676, 303, 2, "text_codec kit_file kit_lines kit_draft kit_reading kit_making command_line"),
+    "signatures": (676, 512, 2, "lms_ots lms_tree lms_hss sig_scheme"),
+    "links and journals": (676, 667, 2, "link_defs auth_link journal_defs journal_disk journal_entries journal_rp"),
+}
 
-    def level(name):
-        if name not in depth:
-            depth[name] = 1 + max((level(b) for b in edges[name]), default=-1)
-        return depth[name]
+# The lines from each area to those that it uses, without those that others imply.
+LINES = {
+    ("the program", "a replay"): [(172, 85), (172, 121)],
+    ("a replay", "a member"): [(172, 267), (172, 303)],
+    ("a replay", "schedules"): [(324, 244), (430, 244), (430, 303)],
+    ("a replay", "kits and words"): [(324, 220), (760, 220), (760, 303)],
+    ("a member", "the rules"): [(172, 476), (172, 512)],
+    ("the rules", "what is heard"): [(172, 631), (172, 667)],
+    ("what is heard", "laws and rows"): [(172, 867), (172, 903)],
+    ("what is heard", "frames and statements"): [(324, 713), (348, 713)],
+    ("laws and rows", "definitions"): [(172, 1049), (172, 1085)],
+    ("beside other implementations", "schedules"): [(500, 193), (500, 303)],
+    ("beside other implementations", "kits and words"): [(652, 166), (828, 166), (828, 303)],
+    ("beside other implementations", "links and journals"): [(652, 138), (996, 138), (996, 720), (980, 720)],
+    ("how fast", "schedules"): [(700, 112), (700, 268), (570, 268), (570, 303)],
+    ("how fast", "links and journals"): [(980, 66), (996, 66), (996, 720), (980, 720)],
+    ("schedules", "signatures"): [(652, 400), (664, 400), (664, 545), (676, 545)],
+    ("schedules", "frames and statements"): [(500, 449), (500, 667)],
+    ("schedules", "laws and rows"): [(348, 400), (336, 400), (336, 960), (324, 960)],
+    ("frames and statements", "the outside"): [(500, 759), (500, 903)],
+    ("links and journals", "frames and statements"): [(676, 713), (652, 713)],
+    ("kits and words", "signatures"): [(828, 449), (828, 512)],
+    ("signatures", "the outside"): [(676, 580), (664, 580), (664, 960), (652, 960)],
+    ("the outside", "definitions"): [(500, 1022), (500, 1085)],
+}
 
+
+def check_areas(crates):
+    """Each crate is in one area, behind those of it that it uses; and the lines are those that crates.txt asks for."""
+    of = {}
+    for area, (_, _, _, names) in AREAS.items():
+        for name in names.split():
+            if name not in crates or name in of:
+                sys.exit(f"pictures: {name} of the area {area} is no crate, or is in two areas")
+            of[name] = area
+            for below in crates[name]:
+                if below not in of and below in names.split():
+                    sys.exit(f"pictures: {name} stands before {below} in the area {area}")
     for name in crates:
-        level(name)
-    layers = [[n for n in crates if depth[n] == d] for d in range(max(depth.values()) + 1)]
-    place = {}
-    for layer in layers:
-        layer.sort(key=lambda n: (sum(place[b] for b in edges[n]) / len(edges[n]) if edges[n] else 0, n))
-        for i, name in enumerate(layer):
-            place[name] = (i + 0.5) / len(layer)
-    wide, high, across = 112, 30, max(len(layer) for layer in layers)
-    width, height = max(across * (wide + 14) + 40, 700), len(layers) * 78 + 50
-    p = Picture(width, height, "The crates and what stands on what")
-    at = {}
-    for d, layer in enumerate(layers):
-        for i, name in enumerate(layer):
-            at[name] = (width * (i + 0.5) / len(layer), height - 60 - 78 * d)
-    for name, below in edges.items():
-        for b in below:
-            (x, y), (u, v) = at[name], at[b]
-            p.line([(x, y + high), (u, v)])
-    for name, (x, y) in at.items():
-        kind = "quorum" if name.endswith("_defs") else "end" if name.endswith(("_laws", "_rows")) else "box"
-        p.parts.append(f'<rect x="{x - wide / 2}" y="{y}" width="{wide}" height="{high}" rx="5" class="{kind}"/>')
-        p.text(x, y + 19, name)
-    p.text(20, height - 10, "Green: definitions. Yellow: laws and rows about them. Blue: code. A crate uses those that its lines lead down to. Crates of tests are left out.", "small", "start")
+        if name not in of:
+            sys.exit(f"pictures: {name} is in no area")
+    uses = {area: sorted({of[b] for name in names.split() for b in crates[name]} - {area}) for area, (_, _, _, names) in AREAS.items()}
+    asked = {(area, below) for area, belows in reduced(uses).items() for below in belows}
+    if asked != set(LINES):
+        sys.exit(f"pictures: lines to draw {sorted(asked - set(LINES))}, and to leave out {sorted(set(LINES) - asked)}")
+
+
+def crates_picture():
+    """The crates by areas: each area stands above those that it uses; lines that others imply are left out."""
+    crates = {name: below for name, below in read_crates().items() if not name.endswith("_tests")}
+    check_areas(crates)
+    p = Picture(1010, 1216, "The crates and what stands on what")
+    for points in LINES.values():
+        p.arrow(points)
+    for area, (x, y, across, names) in AREAS.items():
+        names = names.split()
+        wide, rows = (304 if across == 2 else 960), -(-len(names) // across)
+        p.parts.append(f'<rect x="{x}" y="{y}" width="{wide}" height="{38 + 27 * rows}" rx="6" class="area"/>')
+        p.text(x + 10, y + 21, area, "title", "start")
+        step = (wide - 12) / across
+        for i, name in enumerate(names):
+            kind = "quorum" if name.endswith("_defs") else "end" if name.endswith(("_laws", "_rows")) else "box"
+            left, top = x + 8 + step * (i % across), y + 32 + 27 * (i // across)
+            p.parts.append(f'<rect x="{left:g}" y="{top}" width="{step - 4:g}" height="23" rx="4" class="{kind}"/>')
+            p.text(left + (step - 4) / 2, top + 16, name)
+    p.text(20, 1202, "Green: definitions. Yellow: laws and rows. Blue: code. In an area no crate stands on one that comes after it.", "small", "start")
     p.write("crates")
 
 
@@ -253,8 +311,11 @@ SCHEDULE = [
 
 def schedule():
     """A small schedule, byte by byte, beside its report."""
-    report = (TOP / "docs" / "pictures" / "one_member.report").read_text().splitlines()
-    p = Picture(860, 300, "A schedule of one event, byte by byte, and its report")
+    report = (TOP / "examples" / "one_member.report").read_text().splitlines()
+    drawn = "".join(field for field, _ in SCHEDULE).replace("00000000 .. 00000000", "00" * 32)
+    if bytes.fromhex(drawn) != (TOP / "examples" / "one_member.rps").read_bytes():
+        sys.exit("pictures: the schedule that is drawn is not examples/one_member.rps")
+    p = Picture(860, 290, "A schedule of one event, byte by byte, and its report")
     p.text(20, 28, "the schedule's bytes", "title", "start")
     p.text(585, 28, "its report", "title", "start")
     for i, (field, meaning) in enumerate(SCHEDULE):
