@@ -9,7 +9,7 @@ Each schedule NAME.rps stands there as `NAME`, and its report NAME.report as `NA
 import pathlib
 
 EXAMPLES = pathlib.Path(__file__).resolve().parent.parent / "examples"
-WIDTH = 60
+WIDTH = 120
 
 
 def spelled(byte):

@@ -1,7 +1,13 @@
-//! The examples' schedules, replayed: each whole report is the one that stands beside it.
+//! The examples' schedules, replayed: each whole report is the one that stands beside it. And bytes that have no report, with the reason.
 #![tactic(auto)]
 
 #[cfg(test)]
+mod asking;
+#[cfg(test)]
 mod data;
+#[cfg(test)]
+mod faults;
+#[cfg(test)]
+mod large;
 #[cfg(test)]
 mod rows;

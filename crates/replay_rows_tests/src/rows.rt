@@ -1,14 +1,16 @@
+use crate::asking::report;
 use crate::data::{
     CUT_BETWEEN_PLACES, CUT_BETWEEN_PLACES_REPORT, DEPUTY_ADOPTS_COMMIT,
-    DEPUTY_ADOPTS_COMMIT_REPORT, FRAME_NOT_SENT, LOST_FRAMES_AND_WANT, LOST_FRAMES_AND_WANT_REPORT,
-    MANAGER_RENEWS, MANAGER_RENEWS_REPORT, ONE_MEMBER, ONE_MEMBER_REPORT, ONE_PLACE,
-    ONE_PLACE_REPORT, REMOVED_AND_ADDED_AGAIN, REMOVED_AND_ADDED_AGAIN_REPORT, SPENT_KEY,
-    SPENT_KEY_REPORT, SPENT_TREE, SPENT_TREE_REPORT, TAG_BEFORE_FRAME, THREE_SENDERS_ONE_LIAR,
-    THREE_SENDERS_ONE_LIAR_REPORT, TWO_LEVELS, TWO_LEVELS_REPORT, TWO_LIARS, TWO_LIARS_REPORT,
+    DEPUTY_ADOPTS_COMMIT_REPORT, DEPUTY_HIDES_READY, DEPUTY_HIDES_READY_REPORT, HOSTILE_FRAMES,
+    HOSTILE_FRAMES_REPORT, LONG_PAYLOAD_AND_BACKLOG, LONG_PAYLOAD_AND_BACKLOG_REPORT,
+    LOST_FRAMES_AND_WANT, LOST_FRAMES_AND_WANT_REPORT, MANAGER_RENEWS, MANAGER_RENEWS_REPORT,
+    NO_EVENTS, NO_EVENTS_REPORT, ONE_LIAR, ONE_LIAR_REPORT, ONE_MEMBER, ONE_MEMBER_REPORT,
+    ONE_PLACE, ONE_PLACE_REPORT, REFUSED_REQUESTS, REFUSED_REQUESTS_REPORT,
+    REMOVED_AND_ADDED_AGAIN, REMOVED_AND_ADDED_AGAIN_REPORT, SPENT_KEY, SPENT_KEY_REPORT,
+    SPENT_TREE, SPENT_TREE_REPORT, THREE_PLACES, THREE_PLACES_REPORT, THREE_SENDERS,
+    THREE_SENDERS_ONE_LIAR, THREE_SENDERS_ONE_LIAR_REPORT, THREE_SENDERS_REPORT, TWO_LEVELS,
+    TWO_LEVELS_REPORT, TWO_LIARS, TWO_LIARS_REPORT,
 };
-use replay_defs::{Fault, FaultKind};
-use replay_run::{ReplayFault, replay};
-use std::alloc::Global;
 use std::test::Fail;
 
 /// What `replay` writes of the schedule in `THREE_SENDERS_ONE_LIAR`, the short report.
@@ -24,26 +26,31 @@ agree yes
 sound yes
 ";
 
-/// The report of a schedule that has one.
-fn report(alloc: Global, schedule: &[u8], short: bool) -> Result<Vec<u8>, Fail> {
-    match replay(alloc, schedule, short)? {
-        Ok(report) => Ok(report),
-        Err(_) => Err(Fail::from("no report")),
-    }
-}
-
-/// Why a schedule has no report.
-fn fault(alloc: Global, schedule: &[u8]) -> Result<ReplayFault, Fail> {
-    match replay(alloc, schedule, false)? {
-        Ok(_) => Err(Fail::from("a report")),
-        Err(fault) => Ok(fault),
-    }
-}
-
 #[test]
 fn one_member(rt: HostRuntime) -> Result<(), Fail> {
     let told = report(rt.alloc(), ONE_MEMBER, false)?;
     assert_eq!(rt; told.as_slice(), ONE_MEMBER_REPORT);
+    Ok(())
+}
+
+#[test]
+fn no_events(rt: HostRuntime) -> Result<(), Fail> {
+    let told = report(rt.alloc(), NO_EVENTS, false)?;
+    assert_eq!(rt; told.as_slice(), NO_EVENTS_REPORT);
+    Ok(())
+}
+
+#[test]
+fn three_senders(rt: HostRuntime) -> Result<(), Fail> {
+    let told = report(rt.alloc(), THREE_SENDERS, false)?;
+    assert_eq!(rt; told.as_slice(), THREE_SENDERS_REPORT);
+    Ok(())
+}
+
+#[test]
+fn one_liar(rt: HostRuntime) -> Result<(), Fail> {
+    let told = report(rt.alloc(), ONE_LIAR, false)?;
+    assert_eq!(rt; told.as_slice(), ONE_LIAR_REPORT);
     Ok(())
 }
 
@@ -76,6 +83,13 @@ fn one_place(rt: HostRuntime) -> Result<(), Fail> {
 }
 
 #[test]
+fn three_places(rt: HostRuntime) -> Result<(), Fail> {
+    let told = report(rt.alloc(), THREE_PLACES, false)?;
+    assert_eq!(rt; told.as_slice(), THREE_PLACES_REPORT);
+    Ok(())
+}
+
+#[test]
 fn manager_renews(rt: HostRuntime) -> Result<(), Fail> {
     let told = report(rt.alloc(), MANAGER_RENEWS, false)?;
     assert_eq!(rt; told.as_slice(), MANAGER_RENEWS_REPORT);
@@ -93,6 +107,13 @@ fn cut_between_places(rt: HostRuntime) -> Result<(), Fail> {
 fn deputy_adopts_commit(rt: HostRuntime) -> Result<(), Fail> {
     let told = report(rt.alloc(), DEPUTY_ADOPTS_COMMIT, false)?;
     assert_eq!(rt; told.as_slice(), DEPUTY_ADOPTS_COMMIT_REPORT);
+    Ok(())
+}
+
+#[test]
+fn deputy_hides_ready(rt: HostRuntime) -> Result<(), Fail> {
+    let told = report(rt.alloc(), DEPUTY_HIDES_READY, false)?;
+    assert_eq!(rt; told.as_slice(), DEPUTY_HIDES_READY_REPORT);
     Ok(())
 }
 
@@ -125,33 +146,29 @@ fn two_levels(rt: HostRuntime) -> Result<(), Fail> {
 }
 
 #[test]
+fn hostile_frames(rt: HostRuntime) -> Result<(), Fail> {
+    let told = report(rt.alloc(), HOSTILE_FRAMES, false)?;
+    assert_eq!(rt; told.as_slice(), HOSTILE_FRAMES_REPORT);
+    Ok(())
+}
+
+#[test]
+fn long_payload_and_backlog(rt: HostRuntime) -> Result<(), Fail> {
+    let told = report(rt.alloc(), LONG_PAYLOAD_AND_BACKLOG, false)?;
+    assert_eq!(rt; told.as_slice(), LONG_PAYLOAD_AND_BACKLOG_REPORT);
+    Ok(())
+}
+
+#[test]
+fn refused_requests(rt: HostRuntime) -> Result<(), Fail> {
+    let told = report(rt.alloc(), REFUSED_REQUESTS, false)?;
+    assert_eq!(rt; told.as_slice(), REFUSED_REQUESTS_REPORT);
+    Ok(())
+}
+
+#[test]
 fn the_short_report(rt: HostRuntime) -> Result<(), Fail> {
     let told = report(rt.alloc(), THREE_SENDERS_ONE_LIAR, true)?;
     assert_eq!(rt; told.as_slice(), SHORT_REPORT);
-    Ok(())
-}
-
-#[test]
-fn a_frame_that_is_not_sent(rt: HostRuntime) -> Result<(), Fail> {
-    assert_eq!(rt;
-        fault(rt.alloc(), FRAME_NOT_SENT)?,
-        ReplayFault::NoSuchFrame {
-            event: 0,
-            frame: 0,
-            sent: 0
-        }
-    );
-    Ok(())
-}
-
-#[test]
-fn a_fault_of_the_bytes_comes_before_one_of_the_run(rt: HostRuntime) -> Result<(), Fail> {
-    assert_eq!(rt;
-        fault(rt.alloc(), TAG_BEFORE_FRAME)?,
-        ReplayFault::Schedule(Fault {
-            kind: FaultKind::Tag,
-            place: 68
-        })
-    );
     Ok(())
 }
