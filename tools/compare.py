@@ -3,9 +3,9 @@
 
     python3 tools/compare.py FIRST COUNT COMMAND [WORD ...]
 
-COMMAND and its words are run with each schedule as standard input, beside `./rampart replay`. Schedules are those of
-`tools/draw.py` with the numbers from FIRST on. Each difference is printed with its number, and at the end how often
-the reports had what they are drawn for. The status is 1 where anything differs.
+COMMAND and its words are run with each schedule as standard input, beside `./rampart replay`, and every fifth time with the
+word `short` behind both. Schedules are those of `tools/draw.py` with the numbers from FIRST on. Each difference is printed
+with its number, and at the end how often the reports had what they are drawn for. The status is 1 where anything differs.
 """
 
 import pathlib
@@ -15,6 +15,7 @@ import sys
 from draw import drawn
 
 OURS = [str(pathlib.Path(__file__).resolve().parent.parent / "rampart"), "replay"]
+SHORT_EVERY = 5
 SEEN = [b"\nmessage ", b"\nrefused ", b"\nliar ", b"\nspent ", b"\nhalted ", b" closing ", b" observer ", b" 1 : ", b" 2 : ",
         b"honest no\n", b"bounded no\n", b"agree no\n", b"sound no\n", b"stop 7 "]
 
@@ -39,7 +40,8 @@ def main(first, count, command):
     different = 0
     for number in range(first, first + count):
         data = drawn(number)
-        ours, theirs = answer(OURS, data), answer(command, data)
+        words = ["short"] if number % SHORT_EVERY == 0 else []
+        ours, theirs = answer(OURS + words, data), answer(command + words, data)
         for what in SEEN:
             seen[what] += what in ours[1]
         if ours != theirs:

@@ -26,7 +26,7 @@ class Drawing:
         self.draw = random.Random(number)
         self.hostile = number % 3 == 0
         draw = self.draw
-        count = draw.choice([1, 2, 3, 4, 4, 4, 4, 5, 7, 7, draw.randint(8, 20)])
+        count = draw.choice([1, 2, 3, 4, 4, 4, 4, 5, 7, 7, draw.randint(8, 20), draw.choice([16, 17, 18])])
         numbers = list(range(count)) if draw.random() < 0.8 else sorted(draw.sample(range(64), count))
         size = min(16, count if draw.random() < 0.7 else draw.randint(max(1, count - 2), count))
         genesis = numbers[:size] if draw.random() < 0.7 else draw.sample(numbers, size)
@@ -54,6 +54,8 @@ class Drawing:
         times = draw.choice([1, 1, 1, 1, 1, 2, 5] + ([40] if draw.random() < 0.2 else []) + ([258] if draw.random() < 0.03 else []))
         for _ in range(times):
             self.add(submit(p, self.payload()))
+        if draw.random() < 0.02:
+            self.add(submit(p, draw.randbytes(draw.choice([1025, 65535]))))
         self.frames += len(self.genesis) > 1 and p in self.genesis
 
     def hand_on(self):
@@ -195,7 +197,7 @@ class Drawing:
         if what == 2:
             return frame + draw.randbytes(draw.randint(1, 3))
         if what == 3:
-            return frame_of_groups([], draw.choice([BUNDLE, PROOF]))
+            return frame_of_groups([], draw.choice([BUNDLE, PROOF, 0, 4]))
         if what == 4:
             return u8(1) + u8(WANT) + u16(draw.choice([0, 0, 1, 1024])) + u16(draw.choice([0, 0, 1, 1024, 1025]))
         if what == 5:

@@ -29,6 +29,17 @@ agree yes
 sound yes
 ";
 
+/// And of a group of one that renews its view as often as it can, and once more. A view takes a Renew and a Tick.
+const ALL_VIEWS: &[u8] = b"rampart report 1
+events 2047
+refused 1
+process 0 open 1024 0 5115
+honest yes
+bounded yes
+agree yes
+sound yes
+";
+
 #[test]
 fn a_large_schedule(rt: HostRuntime) -> Result<(), Fail> {
     let mut schedule = Vec::new(rt.alloc());
@@ -46,5 +57,18 @@ fn the_longest_payload_is_refused(rt: HostRuntime) -> Result<(), Fail> {
     schedule.extend_from_slice(&[0; 65_535])?;
     let told = report(rt.alloc(), &schedule, false)?;
     assert_eq!(rt; told.as_slice(), LONGEST_PAYLOAD);
+    Ok(())
+}
+
+#[test]
+fn the_last_view_has_no_next(rt: HostRuntime) -> Result<(), Fail> {
+    let mut schedule = ONE_MEMBER.to_vec(rt.alloc())?;
+    schedule.truncate(62);
+    for _ in 0..1023 {
+        schedule.extend_from_slice(&[8, 0, 9, 0])?;
+    }
+    schedule.extend_from_slice(&[8, 0])?;
+    let told = report(rt.alloc(), &schedule, true)?;
+    assert_eq!(rt; told.as_slice(), ALL_VIEWS);
     Ok(())
 }
