@@ -2,6 +2,7 @@
 """Writes the schedules and reports of `examples/` as the data of their tests.
 
     python3 tools/example_rows.py > crates/replay_rows_tests/src/data.rt
+    (cd crates/replay_rows_tests && rt fmt)
 
 Each schedule NAME.rps stands there as `NAME`, and its report NAME.report as `NAME_REPORT`, but for those that are a stop line.
 """
