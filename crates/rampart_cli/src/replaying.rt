@@ -1,34 +1,35 @@
-ghost use Rattle.std.specs.Prelude.{◌≡◌, ◌⊎◌, OnOk, IfOk, IfErr, IsErrOf};
+ghost use Rattle.std.specs.Prelude.{◌≡◌, ◌⊎◌, ℕ, List, OnOk, IfOk, IfErr, IsErrOf};
 ghost use Rattle.rp_base.specs.Causes.{Rose};
+ghost use Rattle.replay_run.specs.Fed.{HasFed};
 ghost use Rattle.rampart_cli.specs.Top as told;
 ghost use Rattle.rampart_cli.specs.Top.{Runs, HasNoRun, report_of_run, Replayed, Refused};
 
 use crate::faults::stop_line;
 use crate::stops::Stop;
-use crate::streams::read_all;
-use replay_run::replay;
+use crate::streams::replay_pieces;
+use replay_run::Replay;
 use rp_base::{NoMemory, Source};
 use std::alloc::Global;
 
-/// The report of the bytes, long or short, or the line that says why they have none.
+/// The report of what was fed, long or short, or the line that says why it has none.
 fn report_or_line(
     alloc: Global,
-    bytes: &[u8],
+    replay: Replay,
     short: bool,
 ) -> Result<Result<Vec<u8>, Vec<u8>>, NoMemory>
-    ensures report { IfOk result (λ r. IfOk r (λ report. (run : Runs bytes.now)
+    ensures report { (fed : List ℕ) → HasFed replay fed → IfOk result (λ r. IfOk r (λ report. (run : Runs fed)
         × (report.items ≡ report_of_run short run))) }
-    ensures line { IfOk result (λ r. IfErr r (λ line. (none : HasNoRun bytes.now)
+    ensures line { (fed : List ℕ) → HasFed replay fed → IfOk result (λ r. IfErr r (λ line. (none : HasNoRun fed)
         × (line.items ≡ told.stop_line none.fault))) }
 {
-    match replay(alloc, bytes, short)? {
+    match replay.end(short)? {
         Ok(report) => Ok(Ok(report)),
         Err(fault) => Ok(Err(stop_line(alloc, fault)?)),
     }
 }
 
-/// Reads an input to its end, and replays it: the answer is its report, long or short, or the line that says why it has
-/// none. Nothing is written.
+/// Replays an input as it comes, to its end: the answer is its report, long or short, or the line that says why it has none.
+/// Nothing is written.
 ///
 /// # Errors
 /// [`Stop::Read`] only where the source's count of faults rose; [`Stop::NoMemory`].
@@ -45,6 +46,6 @@ pub fn replay_input<S: Source>(
     ensures read { IsErrOf result Stop.Read → Rose (S.faults input.old) (S.faults input.new) }
     ensures only { IfErr result (λ stop. (stop ≡ Stop.NoMemory) ⊎ (stop ≡ Stop.Read)) }
 {
-    let bytes = read_all(alloc, input)?;
-    Ok(report_or_line(alloc, &bytes, short)?)
+    let replay = replay_pieces(alloc, input)?;
+    Ok(report_or_line(alloc, replay, short)?)
 }

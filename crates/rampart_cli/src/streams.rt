@@ -1,11 +1,12 @@
-ghost use Rattle.std.specs.Prelude.{◌≡◌, ◌≤◌, length, IfOk, OnOk, IsErrOf};
-ghost use Rattle.std.specs.Io.KnownBytes.{Consumes, IsAtEnd};
+ghost use Rattle.std.specs.Prelude.{◌≡◌, IfOk, OnOk, IsErrOf};
 ghost use Rattle.rp_base.specs.Causes.{Rose};
+ghost use Rattle.rampart_cli.specs.Inputs.{WasFed};
 ghost use Rattle.rampart_cli.specs.declared.streams.ReadFault.TheVariants as faults;
 
-use rp_base::{Failed, Source};
+use replay_run::Replay;
+use rp_base::{Failed, NoMemory, Source};
 use schedule_fields::SCHEDULE_BYTES;
-use std::alloc::{AllocError, Global};
+use std::alloc::Global;
 
 /// How many bytes are asked of a source at a time.
 const PIECE: usize = 16384;
@@ -28,29 +29,32 @@ impl From<Failed> for ReadFault {
     }
 }
 
-impl From<AllocError> for ReadFault {
+impl From<NoMemory> for ReadFault {
     ghost from_gives = { λ _ e. e ≡ faults.NoMemory };
 
-    fn from(_: AllocError) -> ReadFault {
+    fn from(_: NoMemory) -> ReadFault {
         ReadFault::NoMemory
     }
 }
 
-/// All that is left of an input, or its first bytes where it is longer than a schedule may be.
-pub fn read_all<S: Source>(alloc: Global, input: &mut S) -> Result<Vec<u8>, ReadFault>
-    ensures bytes { IfOk result (λ all. Consumes (S.left input.old) (S.left input.new) all.items) }
-    ensures end { IfOk result (λ all. length all.items ≤ SCHEDULE_BYTES → IsAtEnd (S.left input.new)) }
+/// A replay of all that is left of an input, or of its first bytes where it is longer than a schedule may be. Each piece is replayed
+/// as it comes, and is not kept.
+#[tactic(auto, unfolding(replay_defs::specs::Schedules::most_bytes))]
+pub fn replay_pieces<S: Source>(alloc: Global, input: &mut S) -> Result<Replay, ReadFault>
+    ensures fed { IfOk result (WasFed (S.left input.old) (S.left input.new)) }
     ensures failed { IsErrOf result ReadFault.Failed → Rose (S.faults input.old) (S.faults input.new) }
     ensures steady { OnOk result (S.faults input.new ≡ S.faults input.old) }
 {
-    let mut all = Vec::new(alloc);
+    let mut replay = Replay::new(alloc)?;
+    let mut taken = 0;
     let mut piece = [0u8; PIECE];
-    'pieces: while all.len() <= SCHEDULE_BYTES {
+    'pieces: while taken <= SCHEDULE_BYTES {
         let n = input.read(&mut piece)?;
         if n == 0 {
-            return Ok(all);
+            return Ok(replay);
         }
-        all.extend_from_slice(&piece[..n])?;
+        replay = replay.feed(&piece[..n])?;
+        taken += n;
     }
-    Ok(all)
+    Ok(replay)
 }

@@ -1,5 +1,7 @@
+ghost use Rattle.std.specs.Prelude.{◌≤◌, length, None};
+
 use rampart_cli::rampart;
-use rp_base::{Failed, MemSink, MemSource, NoDisk, NoLink, Sink};
+use rp_base::{Failed, MemSink, MemSource, NoDisk, NoLink, Sink, Source};
 use std::alloc::{AllocError, Global};
 use std::test::Fail;
 
@@ -22,6 +24,19 @@ const SHORT_REPORT: &[u8] = b"rampart report 1
 events 1
 refused 0
 process 0 open 1 1 5
+honest yes
+bounded yes
+agree yes
+sound yes
+";
+
+// What another program says of the schedule of number 1.
+const LARGE_REPORT: &[u8] = b"rampart report 1
+events 2160
+refused 100
+process 0 open 21 1000 4434
+process 1 open 21 1000 3413
+process 2 open 21 1000 3393
 honest yes
 bounded yes
 agree yes
@@ -143,6 +158,83 @@ fn an_input_without_a_report_is_told_why(rt: HostRuntime) -> Result<(), Fail> {
     ] {
         let (status, sink) = run(alloc, &asked(alloc, &["replay", "short"])?, input, &[])?;
         assert_eq!(rt; sink.bytes(), line);
+        assert_eq!(rt; status, 7);
+    }
+    Ok(())
+}
+
+/// Gives so many bytes at a time.
+#[derive(Drop)]
+struct Slow {
+    bytes: Vec<u8>,
+    at: usize,
+    most: usize,
+    ghost within: { at ≤ length bytes.items },
+}
+
+impl Source for Slow {
+    ghost left = { λ s. None };
+
+    ghost faults = { λ s. 0 };
+
+    fn read(&mut self, into: &mut [u8]) -> Result<usize, Failed> {
+        let n = into
+            .len()
+            .min(self.bytes.len() - self.at)
+            .min(self.most);
+        into[..n].copy_from_slice(&self.bytes[self.at..self.at + n]);
+        self.at += n;
+        Ok(n)
+    }
+}
+
+/// The status, and what is written where the input comes so many bytes at a time.
+fn run_slowly(
+    alloc: Global,
+    words: &[String],
+    input: &[u8],
+    most: usize,
+) -> Result<(u8, MemSink), AllocError> {
+    let mut source = Slow {
+        bytes: input.to_vec(alloc)?,
+        at: 0,
+        most,
+    };
+    let mut sink = MemSink::new(alloc, Vec::new(alloc));
+    let status = rampart(
+        alloc,
+        words,
+        &mut source,
+        &mut sink,
+        &mut NoDisk::new(),
+        &mut NoLink::new(),
+    );
+    Ok((status, sink))
+}
+
+#[test]
+fn pieces_of_any_size_give_the_same_report(rt: HostRuntime) -> Result<(), Fail> {
+    let alloc = rt.alloc();
+    let (_, schedule) = run(alloc, &asked(alloc, &["gen", "1"])?, &[], &[])?;
+    let words = asked(alloc, &["replay", "short"])?;
+    for most in [1, 7, 4096] {
+        let (status, sink) = run_slowly(alloc, &words, schedule.bytes(), most)?;
+        assert_eq!(rt; sink.bytes(), LARGE_REPORT);
+        assert_eq!(rt; status, 0);
+    }
+    Ok(())
+}
+
+/// A Pass of a frame that is not sent stops the run, and behind it stands a byte that is no tag.
+#[test]
+fn a_fault_of_the_bytes_comes_first_for_every_cut(rt: HostRuntime) -> Result<(), Fail> {
+    let alloc = rt.alloc();
+    let words = asked(alloc, &["replay"])?;
+    let mut input = ONE_MEMBER[..62].to_vec(alloc)?;
+    input.extend_from_slice(b"\x03\x00\x00\x00\x00\x00\x0a")?;
+    for most in 1..70 {
+        let (status, sink) = run_slowly(alloc, &words, &input, most)?;
+        assert_eq!(rt; sink.bytes(), b"stop 7 tag 68\n".as_slice());
         assert_eq!(rt; status, 7);
     }
     Ok(())

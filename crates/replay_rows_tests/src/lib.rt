@@ -11,3 +11,5 @@ mod faults;
 mod large;
 #[cfg(test)]
 mod rows;
+#[cfg(test)]
+mod runs;

@@ -4,3 +4,9 @@ pub mod Questions
 pub mod Ending
 pub mod Headlines
 pub mod Faulting
+pub mod Ranges
+pub mod Grammar
+pub mod Stepping
+pub mod Feeding
+pub mod Answering
+pub mod Ended

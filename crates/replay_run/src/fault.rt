@@ -6,7 +6,7 @@ ghost use Rattle.replay_run.specs.Faults.{IsOfRun, IsOfBytes};
 use replay_defs::{Fault, FaultKind};
 use replay_world::WorldFault;
 use rp_base::NoMemory;
-use schedule_reading::ScheduleFault;
+use schedule_pieces::ScheduleFault;
 
 /// Why bytes have no report. The schedule's author is to blame. Events are numbered from 0.
 #[derive(Clone, Copy, Debug, PartialEq, Eq)]

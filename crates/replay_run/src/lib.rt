@@ -1,12 +1,17 @@
-//! A replay: from a schedule's bytes to its report, over real processes (docs/FORMATS.md, «The report»).
+//! A replay: from a schedule's bytes, which come in pieces, to its report, over real processes (docs/FORMATS.md, «The report»).
 #![tactic(auto)]
 
 mod answers;
 mod copies;
 mod fault;
+mod pieces;
 mod replaying;
 mod reporting;
+mod run;
 mod standings;
+mod under_way;
 
 pub use fault::ReplayFault;
+pub use pieces::PIECE_BYTES;
 pub use replaying::replay;
+pub use under_way::Replay;
