@@ -178,10 +178,7 @@ impl Source for Slow {
     ghost faults = { λ s. 0 };
 
     fn read(&mut self, into: &mut [u8]) -> Result<usize, Failed> {
-        let n = into
-            .len()
-            .min(self.bytes.len() - self.at)
-            .min(self.most);
+        let n = into.len().min(self.bytes.len() - self.at).min(self.most);
         into[..n].copy_from_slice(&self.bytes[self.at..self.at + n]);
         self.at += n;
         Ok(n)

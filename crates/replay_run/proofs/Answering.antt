@@ -23,8 +23,8 @@ moves_on old new (Some e) moves = moves
 moves_on old new None moves = tt
 
 module _ (old new : Reading) (run : Run) (fed : List ℕ) (midway : IsMidway old run fed) (answer : Result (Option ScheduleEvent) ScheduleFault)
-  (gives : (fed : List ℕ) (es : List plain.ScheduleEvent) → Stands old fed es → GivesNext fed es new (plainly answer))
-  (again : (f : Fault) → old.fault ≡ Some f → (new ≡ old) × (plainly answer ≡ Err (Some f))) (moves : MovesOn old new answer) (room : LeavesRoom new answer) where
+    (gives : (fed : List ℕ) (es : List plain.ScheduleEvent) → Stands old fed es → GivesNext fed es new (plainly answer))
+    (again : (f : Fault) → old.fault ≡ Some f → (new ≡ old) × (plainly answer ≡ Err (Some f))) (moves : MovesOn old new answer) (room : LeavesRoom new answer) where
   pub gives_next : (next : Option ScheduleEvent) → answer ≡ Ok next → Gives new run fed (option_map event next)
   gives_next (Some e) is = gives_event old new run fed midway (plainly answer) gives again (event e) (ap plainly is)
   gives_next None is = gives_none old new run fed midway (plainly answer) gives again (ap plainly is) (rw is at moves) (rw is at room)

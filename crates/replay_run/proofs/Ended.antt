@@ -35,7 +35,7 @@ pub record HasRunWhole (fed : List ℕ) (run : Run) : Type 0 where
   pub ran : IsRunOf schedule.header schedule.events run
 
 module _ (r : Reading) (run : Run) (fed : List ℕ) (after : IsAfter r run fed) (answer : Result (Unit {0}) ScheduleFault)
-  (ends : (fed : List ℕ) (es : List ScheduleEvent) → Stands r fed es → Ends r fed es answer) (again : (f : Fault) → r.fault ≡ Some f → IsFault f answer) where
+    (ends : (fed : List ℕ) (es : List ScheduleEvent) → Stands r fed es → Ends r fed es answer) (again : (f : Fault) → r.fault ≡ Some f → IsFault f answer) where
   pub ran_whole : (u : Unit {0}) → answer ≡ Ok u → HasRunWhole fed run
   ran_whole u is = go r.fault refl after.midway.holds
     where

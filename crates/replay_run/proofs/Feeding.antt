@@ -40,7 +40,7 @@ IsBytes-append (x ∷ xs) ys fits more zero = fits 0
 IsBytes-append (x ∷ xs) ys fits more (suc i) = IsBytes-append xs ys (λ j. fits (suc j)) more i
 
 module _ (old new : Reading) (run : Run) (fed piece : List ℕ) (after : IsAfter old run fed) (fits : IsBytes piece)
-  (feeds : (fed : List ℕ) (es : List ScheduleEvent) → Stands old fed es → Stands new (fed ++ piece) es) (stopped : IsSome old.fault → new ≡ old) where
+    (feeds : (fed : List ℕ) (es : List ScheduleEvent) → Stands old fed es → Stands new (fed ++ piece) es) (stopped : IsSome old.fault → new ≡ old) where
   all_fit : IsBytes (fed ++ piece)
   all_fit = IsBytes-append fed piece after.midway.bytes fits
 
@@ -91,7 +91,7 @@ abbrev Answer : Type 0
 Answer = Result (Option ScheduleEvent) (Option Fault)
 
 module _ (old new : Reading) (run : Run) (fed : List ℕ) (midway : IsMidway old run fed) (answer : Answer)
-  (gives : (fed : List ℕ) (es : List ScheduleEvent) → Stands old fed es → GivesNext fed es new answer) (again : (f : Fault) → old.fault ≡ Some f → (new ≡ old) × (answer ≡ Err (Some f))) where
+    (gives : (fed : List ℕ) (es : List ScheduleEvent) → Stands old fed es → GivesNext fed es new answer) (again : (f : Fault) → old.fault ≡ Some f → (new ≡ old) × (answer ≡ Err (Some f))) where
   counts : (h : Header) (es : List ScheduleEvent) (run : Run) → IsRunOf h es run → length es ≤ most_bytes → CanCount run
   unfolding most_bytes
   counts h es (Runs w) of few = omega (arith, of.count, few)
@@ -106,8 +106,7 @@ module _ (old new : Reading) (run : Run) (fed : List ℕ) (midway : IsMidway old
       behind : (es : List ScheduleEvent) (h : Header) → Stands old fed es → Stands new fed (es ++ e ∷ []) → old.header ≡ Some h → IsRunOf h es run → Gives new run fed (Some e)
       behind es h stands now has of =
           let here : new.header ≡ Some h = header_stays old new fed fed [] es (es ++ e ∷ []) h (sym (append-nil fed)) stands now has in
-          let range : IsEvent h.processes e = last_in h.processes es e (events_ranges new fed (es ++ e ∷ []) h midway.bytes now here).0 in
-          (
+          let range : IsEvent h.processes e = last_in h.processes es e (events_ranges new fed (es ++ e ∷ []) h midway.bytes now here).0 in (
             counts h es run of (events_ranges old fed es h midway.bytes stands has).1,
             λ later on. record {
               bytes = midway.bytes;
