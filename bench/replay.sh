@@ -1,18 +1,58 @@
-#!/bin/sh
-# Times one replay: four correct processes and 200 submits, each of which all four deliver.
-# Prints the seconds, the bytes of the schedule, and the claims that were signed.
+#!/usr/bin/env bash
+# The time of `./rampart gen 1 | ./rampart replay short`, beside that of the SHA-256 blocks which its signatures and their checks
+# take, hashed alone; and of the same schedule with its events ten times over. Run it from any folder, with `rt` in the path.
 set -eu
-top=$(dirname "$(readlink -f "$0")")/..
+top=$(cd "$(dirname "$0")/.." && pwd)
+cd "$top/crates/bench_replay"
+rt run >/dev/null 2>&1 || { echo 'bench_replay is not built' >&2; exit 1; }
 work=$(mktemp -d)
 trap 'rm -rf "$work"' EXIT
-python3 "$top/tools/flood.py" 200 4 >"$work/schedule"
+"$top/rampart" gen 1 >"$work/once"
+python3 - "$top/crates/rampart/out/rampart" "$work" <<'PY'
+import os
+import subprocess
+import sys
+import time
 
-# the first run builds the program where it is not built
-"$top/rampart" replay <"$work/schedule" >"$work/report"
-begun=$(date +%s.%N)
-"$top/rampart" replay <"$work/schedule" >"$work/report"
-ended=$(date +%s.%N)
+program, work = sys.argv[1:]
 
-bytes=$(wc -c <"$work/schedule")
-claims=$(awk '$1 == "process" { signed += $6 } END { print signed }' "$work/report")
-echo "$begun $ended $bytes $claims" | awk '{ printf "seconds %.3f\nbytes %d\nclaims %d\n", $2 - $1, $3, $4 }'
+# The header of four processes with plain keys, all of them members: the letters and the scheme, the group, the processes, the members.
+HEADER = 5 + 16 + 1 + 4 * (1 + 1 + 32 + 4) + 1 + 4
+
+
+def replay(path):
+    """The seconds of a replay, its short report, and the most memory that it had, in bytes."""
+    begun = time.monotonic()
+    with open(path, "rb") as schedule:
+        child = subprocess.Popen([program, "replay", "short"], stdin=schedule, stdout=subprocess.PIPE, text=True)
+        report = child.stdout.read()
+    _, status, usage = os.wait4(child.pid, 0)
+    if status:
+        raise SystemExit("the replay failed")
+    return time.monotonic() - begun, report, usage.ru_maxrss * 1024
+
+
+def counts(path, *words):
+    """What bench_replay tells, by its words."""
+    told = subprocess.run(["out/bench_replay", path, *words], check=True, capture_output=True, text=True).stdout.split()
+    return {word: float(number) for word, number in zip(told[::2], told[1::2])}
+
+
+once, tenfold = f"{work}/once", f"{work}/tenfold"
+with open(once, "rb") as schedule:
+    data = schedule.read()
+with open(tenfold, "wb") as schedule:
+    schedule.write(data[:HEADER] + 10 * data[HEADER:])
+
+spent, report, memory = min(replay(once) for _ in range(3))
+told = counts(once, "times")
+signed = sum(int(line.split()[5]) for line in report.splitlines() if line.startswith("process "))
+if signed != told["claims"]:
+    raise SystemExit(f"the report has {signed} claims, bench_replay counts {told['claims']:.0f}")
+hashing = told["blocks"] * told["block"] / 1e9
+print(f"gen 1: {spent:.2f} s, {told['frames']:,.0f} frames, {told['claims']:,.0f} claims, {memory / 1e6:.0f} MB at most")
+print(f"its signatures and their checks: {told['blocks']:,.0f} blocks of {told['block']:.0f} ns, {hashing:.2f} s; "
+      f"the replay takes {spent / hashing:.2f} times as long (goal: at most 2.5)")
+ten, _, memory = min(replay(tenfold) for _ in range(2))
+print(f"its events ten times: {ten:.2f} s, {ten / spent:.1f} times as long (goal: at most 11), {memory / 1e6:.0f} MB at most")
+PY

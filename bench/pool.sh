@@ -1,0 +1,39 @@
+#!/usr/bin/env bash
+# The time of a pool of 16 members that hears 1,000, 10,000 and 100,000 claims, on up to 1,024 places with batches of 16 messages, where
+# five members say something else on every slot: of `take` without the check of its signature, of `certificate` and of the placed
+# length, beside their goals; and the bytes of statements and signatures a claim, beside the memory that a claim takes in all.
+# Run it from any folder, with `rt` in the path.
+set -eu
+cd "$(dirname "$0")/../crates/bench_pool"
+rt run >/dev/null 2>&1 || { echo 'bench_pool is not built' >&2; exit 1; }
+python3 - <<'PY'
+import os
+import subprocess
+
+SIZES = [1000, 10000, 100000]
+
+
+def run(claims):
+    """The program's words with their numbers, and the most memory that it had, in bytes."""
+    child = subprocess.Popen(["out/bench_pool", str(claims)], stdout=subprocess.PIPE, text=True)
+    words = child.stdout.read().split()
+    _, status, usage = os.wait4(child.pid, 0)
+    if status:
+        raise SystemExit("bench_pool failed")
+    return {word: float(number) for word, number in zip(words[::2], words[1::2])}, usage.ru_maxrss * 1024
+
+
+_, little = run(101)
+told = []
+for size in SIZES:
+    times, most = run(size)
+    times["take"] -= times.pop("check")
+    told.append(times)
+    print(f"{size:7,} claims: take {times['take']:.0f} ns, certificate {times['certificate']:.0f} ns, "
+          f"placed length {times['placed']:.2f} ns, {times['bytes']:.0f} bytes a claim")
+print(f"memory: {(most - little) / SIZES[-1]:.0f} bytes a claim at {SIZES[-1]:,}")
+for what, goal in [("take", 1.5), ("certificate", 3), ("placed", 1.5)]:
+    ratio = told[-1][what] / told[0][what]
+    print(f"{what}: {ratio:.2f} times as long at {SIZES[-1]:,} claims as at {SIZES[0]:,} (goal: at most {goal})")
+print(f"take at {SIZES[1]:,} claims: {told[1]['take']:.0f} ns (goal: at most 200)")
+PY

@@ -1,0 +1,201 @@
+//! A group whose cores hand each other their frames.
+use anyhow::{Result, anyhow};
+use bench_parts::{Counted, blocks_to_sign, key_of, plain_roster};
+use member_core::{Core, Event, Outcome, OwnClaim, Payload, Sending};
+use rp_base::{GroupId, Pid, PidSet, PlainScheme, PlainSigner};
+use std::alloc::Global;
+use std::collections::VecDeque;
+use view_table::View;
+
+const GROUP: GroupId = GroupId([7; 16]);
+
+/// How many statements a key signs.
+const SIGNATURES: u32 = 1_000_000;
+
+/// A frame that waits.
+#[derive(Drop)]
+struct Waiting {
+    from: Pid,
+    to: PidSet,
+    frame: Payload,
+}
+
+/// The cores of processes 0, 1, 2 and so on, of which one that steps is taken out; and what happened between them.
+#[derive(Drop)]
+pub struct Group {
+    cores: Vec<Option<Core<PlainSigner>>>,
+    scheme: Counted<PlainScheme>,
+    waiting: VecDeque<Waiting>,
+
+    /// How many claims were signed, and how often one was heard.
+    signed: u64,
+    heard: u64,
+
+    /// How many blocks were hashed to sign.
+    blocks: u64,
+}
+
+// The process of this number.
+fn process(n: usize) -> Result<Pid> {
+    let number = u8::try_from(n).ok().and_then(Pid::new);
+    number.ok_or(anyhow!("no process"))
+}
+
+// The first so many processes, of which 16 at most are members of a view and have a key.
+fn processes(alloc: Global, count: usize) -> Result<Vec<Pid>> {
+    let mut all = Vec::new(alloc);
+    for n in 0..count {
+        all.push(process(n)?)?;
+    }
+    Ok(all)
+}
+
+// The core of a member, as it starts. An own Order has at most 16 messages.
+fn core_of(alloc: Global, members: &[Pid], me: Pid) -> Result<Core<PlainSigner>> {
+    let Some(genesis) = View::new(0, members) else {
+        return Err(anyhow!("no view"));
+    };
+    let Ok(roster) = plain_roster(alloc, 16) else {
+        return Err(anyhow!("no memory"));
+    };
+    let signer = PlainSigner::new(key_of(me), SIGNATURES);
+    match Core::new(alloc, GROUP, roster, genesis, me, 16, signer) {
+        Ok(core) => Ok(core),
+        Err(_) => Err(anyhow!("no memory")),
+    }
+}
+
+fn blocks_signed(signed: &[OwnClaim]) -> u64 {
+    let mut blocks = 0u64;
+    for claim in signed {
+        blocks = blocks.wrapping_add(blocks_to_sign(claim.statement.bytes().len()));
+    }
+    blocks
+}
+
+impl Group {
+    /// A group of so many members, as it starts.
+    pub fn new(alloc: Global, members: usize) -> Result<Group> {
+        let members = processes(alloc, members)?;
+        let mut cores = Vec::new(alloc);
+        for me in &members {
+            cores.push(Some(core_of(alloc, &members, *me)?))?;
+        }
+        Ok(Group {
+            cores,
+            scheme: Counted::new(PlainScheme),
+            waiting: VecDeque::new(alloc),
+            signed: 0,
+            heard: 0,
+            blocks: 0,
+        })
+    }
+
+    /// How many claims were signed, and how often one was heard, together.
+    pub fn claims(&self) -> u64 {
+        self.signed.wrapping_add(self.heard)
+    }
+
+    /// How many claims were signed.
+    pub fn signed(&self) -> u64 {
+        self.signed
+    }
+
+    /// How many signatures were checked.
+    pub fn checks(&self) -> u64 {
+        self.scheme.checks()
+    }
+
+    /// How many blocks were hashed to sign and to check signatures.
+    pub fn blocks(&self) -> u64 {
+        self.blocks.wrapping_add(self.scheme.blocks())
+    }
+
+    /// The fewest messages that a member has delivered in the first view.
+    pub fn delivered(&self) -> usize {
+        let mut fewest = usize::MAX;
+        for core in &self.cores {
+            fewest = fewest.min(delivered_by(core));
+        }
+        fewest
+    }
+
+    /// Hands a payload to a member, and then all frames to those that they go to.
+    pub fn submit(&mut self, member: usize, payload: &[u8]) -> Result<()> {
+        self.step(member, &Event::Submit(payload))?;
+        self.hand_over()
+    }
+
+    // Hands over the frames that wait, and those that come of it, until none waits.
+    fn hand_over(&mut self) -> Result<()> {
+        for _ in 0..u64::MAX {
+            let Some(next) = self.waiting.pop_front() else {
+                return Ok(());
+            };
+            self.deliver(&next)?;
+        }
+        Ok(())
+    }
+
+    fn deliver(&mut self, next: &Waiting) -> Result<()> {
+        let event = Event::Frame {
+            from: next.from,
+            bytes: next.frame.bytes(),
+        };
+        for n in 0..self.cores.len() {
+            if next.to.contains(process(n)?) {
+                self.step(n, &event)?;
+            }
+        }
+        Ok(())
+    }
+
+    // A member takes an event.
+    fn step(&mut self, member: usize, event: &Event<'_>) -> Result<()> {
+        let Some(core) = take_at(&mut self.cores, member) else {
+            return Err(anyhow!("no member"));
+        };
+        let Ok((core, outcome)) = core.step(&self.scheme, event) else {
+            return Err(anyhow!("no memory"));
+        };
+        put_at(&mut self.cores, member, core);
+        self.note(process(member)?, outcome)
+    }
+
+    // Counts what a member signed and heard, and keeps the frames that it sends.
+    fn note(&mut self, from: Pid, outcome: Outcome) -> Result<()> {
+        self.signed = self.signed.wrapping_add(outcome.signed.len() as u64);
+        self.heard = self.heard.wrapping_add(u64::from(outcome.heard));
+        self.blocks = self.blocks.wrapping_add(blocks_signed(&outcome.signed));
+        self.keep(from, outcome.sends)
+    }
+
+    fn keep(&mut self, from: Pid, sends: Vec<Sending>) -> Result<()> {
+        for Sending { to, frame } in sends {
+            self.waiting.push_back(Waiting { from, to, frame })?;
+        }
+        Ok(())
+    }
+}
+
+// The member's core, taken out.
+fn take_at(cores: &mut [Option<Core<PlainSigner>>], member: usize) -> Option<Core<PlainSigner>> {
+    cores.get_mut(member)?.take()
+}
+
+fn put_at(cores: &mut [Option<Core<PlainSigner>>], member: usize, core: Core<PlainSigner>) {
+    if let Some(seat) = cores.get_mut(member) {
+        *seat = Some(core);
+    }
+}
+
+// How many messages the member has delivered in the first view.
+fn delivered_by(core: &Option<Core<PlainSigner>>) -> usize {
+    let Some(core) = core else {
+        return 0;
+    };
+    match core.account().delivered.first() {
+        Some(delivered) => delivered.len(),
+        None => 0,
+    }
+}

@@ -1,0 +1,124 @@
+//! The time of a group's cores that hand each other their frames, without a disk or a socket: as many members as the first word says
+//! deliver as many hundred places as the second word says, of one message each, in their first view. It prints the nanoseconds a claim,
+//! signed or heard, in the first and in the last hundred places, and which share of the whole time the SHA-256 blocks of the signatures
+//! take, hashed alone in the same run. With no word four members deliver three places, and no time is printed.
+#![tactic(auto)]
+
+mod group;
+
+use anyhow::{Result, anyhow};
+use bench_parts::block_nanos;
+use group::Group;
+use std::env;
+use std::time::CpuClock;
+
+const PAYLOAD: &[u8] = &[5; 32];
+
+/// The places are timed by the hundred.
+const HUNDRED: u32 = 100;
+
+/// A hundred places: the seconds, and the claims that were signed or heard.
+#[derive(Clone, Copy)]
+struct Spent {
+    seconds: f64,
+    claims: u64,
+}
+
+impl Spent {
+    fn nanos_a_claim(&self) -> f64 {
+        self.seconds * 1e9 / self.claims as f64
+    }
+}
+
+fn seconds(rt: &impl CpuClock) -> Result<f64> {
+    Ok(rt.thread_cpu_time()?.as_secs_f64())
+}
+
+// So many places, each of a message of the next member.
+fn deliver(group: &mut Group, members: u32, places: u32) -> Result<()> {
+    for n in 0..places {
+        group.submit((n % members.max(1)) as usize, PAYLOAD)?;
+    }
+    Ok(())
+}
+
+// A hundred places, timed.
+fn deliver_hundred(rt: &impl CpuClock, group: &mut Group, members: u32) -> Result<Spent> {
+    let before = group.claims();
+    let begun = seconds(rt)?;
+    deliver(group, members, HUNDRED)?;
+    let ended = seconds(rt)?;
+    Ok(Spent {
+        seconds: ended - begun,
+        claims: group.claims().wrapping_sub(before),
+    })
+}
+
+fn once(rt: &(impl Print + AllocGlobal)) -> Result<()> {
+    let mut group = Group::new(rt.alloc(), 4)?;
+    deliver(&mut group, 4, 3)?;
+    let delivered = group.delivered();
+    let signed = group.signed();
+    let checks = group.checks();
+    let blocks = group.blocks();
+    println!(rt;
+        "4 members delivered {delivered} messages: {signed} signatures, {checks} checks, {blocks} blocks"
+    )?;
+    Ok(())
+}
+
+fn times(rt: &(impl Print + AllocGlobal + CpuClock), members: u32, hundreds: u32) -> Result<()> {
+    let block = block_nanos(rt)?;
+    let mut group = Group::new(rt.alloc(), members as usize)?;
+    let first = deliver_hundred(rt, &mut group, members)?;
+    let mut last = first;
+    let mut whole = first.seconds;
+    for _ in 1..hundreds {
+        last = deliver_hundred(rt, &mut group, members)?;
+        whole += last.seconds;
+    }
+    tell_claims(rt, &group, first, last)?;
+    tell_blocks(rt, &group, whole, block)
+}
+
+fn tell_claims(rt: &impl Print, group: &Group, first: Spent, last: Spent) -> Result<()> {
+    let delivered = group.delivered();
+    let signed = group.signed();
+    let early = first.nanos_a_claim();
+    let late = last.nanos_a_claim();
+    let ratio = late / early;
+    println!(rt; "{delivered} places, {signed} claims")?;
+    println!(rt;
+        "a claim in the first hundred places: {early:.0} ns, in the last: {late:.0} ns, {ratio:.2} times (goal: at most 1.3)"
+    )?;
+    Ok(())
+}
+
+fn tell_blocks(rt: &impl Print, group: &Group, whole: f64, block: f64) -> Result<()> {
+    let blocks = group.blocks();
+    let checks = group.checks();
+    let hashing = blocks as f64 * block / 1e9;
+    let share = hashing / whole * 100.0;
+    println!(rt;
+        "{checks} signatures checked, {blocks} blocks of {block:.0} ns: {hashing:.2} s of {whole:.2} s, {share:.0} % (goal: at least 40 %)"
+    )?;
+    Ok(())
+}
+
+// The number that a word spells.
+fn number(word: Option<&str>) -> Result<u32> {
+    match word.and_then(|word| word.parse().ok()) {
+        Some(number) => Ok(number),
+        None => Err(anyhow!("the words are a number of members and of hundreds of places")),
+    }
+}
+
+fn main(rt: HostRuntime) -> Result<()> {
+    let mut words = env::args(&rt)?.skip(1);
+    let Some(first) = words.next() else {
+        return once(&rt);
+    };
+    let members = number(Some(first.as_str()))?;
+    let hundreds = number(words.next().as_deref())?;
+    times(&rt, members, hundreds)
+}

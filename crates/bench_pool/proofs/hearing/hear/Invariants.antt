@@ -1,0 +1,10 @@
+use Rattle.std.proofs.Common.{◌≡◌, ◌+◌, ◌*◌, ◌≤◌, length}
+use Rattle.group_defs.specs.Certified.{number_of_members}
+use Rattle.bench_pool.proofs.hearing.hear.Given as goal
+
+abbrev pub invariant-claims : goal.invariant-claims
+invariant-claims l = record {
+  members : length l.own.counts.items ≡ number_of_members l.pool.pool;
+  room : length l.claims ≤ l.pool.claims_left + l.ranged-index;
+  bytes : length l.claims * 1064 ≤ l.pool.bytes_left + l.ranged-index * 1064;
+}

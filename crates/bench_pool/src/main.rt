@@ -1,0 +1,38 @@
+//! The time of a pool that hears so many claims, as the first word says: in nanoseconds of `take`, of what of it is the check of a
+//! signature that hashes nothing, of `certificate` and of the placed length; and the bytes of a claim's statement and signature. With no
+//! word 1,000 claims are heard, and no time is printed.
+#![tactic(auto)]
+
+mod anything;
+mod claims;
+mod hearing;
+mod timing;
+
+use anyhow::{Result, anyhow};
+use std::env;
+use std::time::CpuClock;
+use timing::{Hearer, times};
+
+/// How many claims are heard where no time is printed.
+const FEW: u32 = 1_000;
+
+fn once(rt: &(impl Print + CpuClock + AllocGlobal)) -> Result<()> {
+    let mut hearer = Hearer::new(rt.alloc())?;
+    let heard = hearer.hear_all(rt, FEW)?;
+    let claims = heard.claims;
+    let certificates = hearer.certificates(FEW, 100);
+    let places = hearer.places();
+    println!(rt; "{claims} claims heard, {certificates} of 200 certificates, {places} places")?;
+    Ok(())
+}
+
+fn main(rt: HostRuntime) -> Result<()> {
+    let mut words = env::args(&rt)?.skip(1);
+    match words.next() {
+        None => once(&rt),
+        Some(word) => match word.parse() {
+            Ok(claims) => times(&rt, claims),
+            Err(_) => Err(anyhow!("the word is a number of claims, 101 to 103,424")),
+        },
+    }
+}

@@ -1,0 +1,306 @@
+//! The run of a schedule (docs/FORMATS.md, «Schedules»), with a count of what is signed and checked. Beside a replay it leaves out the
+//! report's questions, and no fault ends it but a frame that was not sent.
+ghost use Rattle.replay_defs.specs.Schedules.{IsSchedule};
+ghost use Rattle.schedule_file.specs.Views as views;
+
+use anyhow::{Result, anyhow};
+use bench_parts::{Counted, blocks_to_sign};
+use member_core::{Core, Event, Outcome, OwnClaim, Payload, Sending};
+use replay_cast::{Cast, Liar, Player, Seat};
+use rp_base::{GroupId, Pid, PidSet};
+use schedule_file::{Schedule, ScheduleEvent};
+use sig_scheme::{AnyScheme, AnySigner};
+use std::alloc::Global;
+use std::collections::VecDeque;
+use stmt_codec::read_statement;
+
+/// A correct process, with None where it stands in the midst of an event.
+#[derive(Drop)]
+struct Process {
+    number: Pid,
+    core: Option<Core<AnySigner>>,
+}
+
+/// A frame that was sent.
+#[derive(Drop)]
+struct Sent {
+    sender: Pid,
+    bytes: Payload,
+}
+
+/// A frame that waits, by its number, to be delivered to one process.
+#[derive(Clone, Copy)]
+struct Delivery {
+    frame: usize,
+    to: Pid,
+}
+
+/// How many claims were signed, lies among them, and how many blocks were hashed for that.
+#[derive(Clone, Copy)]
+struct Signed {
+    claims: u64,
+    blocks: u64,
+}
+
+/// What takes part in a run, and what happened so far.
+#[derive(Drop)]
+pub struct Run {
+    group: GroupId,
+    scheme: Counted<AnyScheme>,
+    processes: Vec<Process>,
+    liars: Vec<Liar>,
+    frames: Vec<Sent>,
+
+    /// The oldest first.
+    pending: VecDeque<Delivery>,
+    deliveries: u64,
+    signed: Signed,
+}
+
+// The processes of these players.
+fn processes_of(alloc: Global, players: Vec<Player>) -> Result<Vec<Process>> {
+    let mut all = Vec::new(alloc);
+    for Player { process, seat, .. } in players {
+        let core = match seat {
+            Seat::Taken(core) => Some(core),
+            Seat::Lost => None,
+        };
+        all.push(Process {
+            number: process,
+            core,
+        })?;
+    }
+    Ok(all)
+}
+
+fn place_of(processes: &[Process], number: Pid) -> Option<usize> {
+    processes.iter().position(|p| p.number == number)
+}
+
+fn place_of_liar(liars: &[Liar], number: Pid) -> Option<usize> {
+    liars.iter().position(|liar| liar.process == number)
+}
+
+// The process of this number takes an event. None comes where no correct process has the number.
+fn step(
+    scheme: &Counted<AnyScheme>,
+    processes: &mut [Process],
+    at: Pid,
+    event: &Event<'_>,
+) -> Result<Option<Outcome>> {
+    let Some(place) = place_of(processes, at) else {
+        return Ok(None);
+    };
+    let Some(process) = processes.get_mut(place) else {
+        return Ok(None);
+    };
+    let Some(core) = process.core.take() else {
+        return Err(anyhow!("no memory"));
+    };
+    let Ok((core, outcome)) = core.step(scheme, event) else {
+        return Err(anyhow!("no memory"));
+    };
+    process.core = Some(core);
+    Ok(Some(outcome))
+}
+
+fn blocks_signed(claims: &[OwnClaim]) -> u64 {
+    let mut blocks = 0u64;
+    for claim in claims {
+        blocks = blocks.wrapping_add(blocks_to_sign(claim.statement.bytes().len()));
+    }
+    blocks
+}
+
+impl Signed {
+    fn and(self, claims: u64, blocks: u64) -> Signed {
+        Signed {
+            claims: self.claims.wrapping_add(claims),
+            blocks: self.blocks.wrapping_add(blocks),
+        }
+    }
+}
+
+impl Run {
+    /// Runs a schedule to its end.
+    pub fn of(alloc: Global, what: &Schedule) -> Result<Run>
+        requires { IsSchedule (views.schedule what.now) }
+    {
+        let Ok(cast) = Cast::new(alloc, &what.header) else {
+            return Err(anyhow!("no memory"));
+        };
+        let mut run = Run::begin(alloc, cast)?;
+        for event in &what.events {
+            run.event(alloc, event)?;
+        }
+        Ok(run)
+    }
+
+    // A run before its first event.
+    fn begin(alloc: Global, cast: Cast) -> Result<Run> {
+        let Cast {
+            group,
+            scheme,
+            players,
+            liars,
+            ..
+        } = cast;
+        if scheme != AnyScheme::Plain {
+            return Err(anyhow!("blocks are counted of plain keys alone"));
+        }
+        Ok(Run {
+            group,
+            scheme: Counted::new(scheme),
+            processes: processes_of(alloc, players)?,
+            liars,
+            frames: Vec::new(alloc),
+            pending: VecDeque::new(alloc),
+            deliveries: 0,
+            signed: Signed {
+                claims: 0,
+                blocks: 0,
+            },
+        })
+    }
+
+    /// How many frames were sent, each counted once for all that it went to.
+    pub fn frames(&self) -> usize {
+        self.frames.len()
+    }
+
+    /// How many frames correct processes took that were sent.
+    pub fn deliveries(&self) -> u64 {
+        self.deliveries
+    }
+
+    /// How many claims were signed, lies among them.
+    pub fn claims(&self) -> u64 {
+        self.signed.claims
+    }
+
+    /// How many signatures were checked.
+    pub fn checks(&self) -> u64 {
+        self.scheme.checks()
+    }
+
+    /// How many blocks of SHA-256 were hashed to sign and to check signatures.
+    pub fn blocks(&self) -> u64 {
+        self.signed.blocks.wrapping_add(self.scheme.blocks())
+    }
+
+    fn event(&mut self, alloc: Global, what: &ScheduleEvent) -> Result<()> {
+        match what {
+            ScheduleEvent::Submit { at, payload } => self.hand(*at, &Event::Submit(payload)),
+            ScheduleEvent::Raw { to, from, bytes } => {
+                self.hand(*to, &Event::Frame { from: *from, bytes })
+            }
+            ScheduleEvent::Pass { frame, to } => self.pass(*frame, *to),
+            ScheduleEvent::Drain { count, to } => self.drain(*count, *to),
+            ScheduleEvent::Lie {
+                signer,
+                to,
+                statement,
+            } => self.lie(alloc, *signer, *to, statement),
+            ScheduleEvent::Suspect { at, of } => self.hand(*at, &Event::Suspect(*of)),
+            ScheduleEvent::Join { at, of } => self.hand(*at, &Event::Join(*of)),
+            ScheduleEvent::Renew { at } => self.hand(*at, &Event::Renew),
+            ScheduleEvent::Tick { at } => self.hand(*at, &Event::Tick),
+        }
+    }
+
+    // A process takes an event.
+    fn hand(&mut self, at: Pid, event: &Event<'_>) -> Result<()> {
+        match step(&self.scheme, &mut self.processes, at, event)? {
+            Some(outcome) => self.note(at, outcome),
+            None => Ok(()),
+        }
+    }
+
+    fn pass(&mut self, frame: u32, to: Pid) -> Result<()> {
+        if frame as usize >= self.frames.len() {
+            return Err(anyhow!("no such frame"));
+        }
+        self.deliver(frame as usize, to)
+    }
+
+    // So many deliveries are made, the oldest first, or lost where their process is none of these.
+    fn drain(&mut self, count: u32, to: PidSet) -> Result<()> {
+        for _ in 0..count {
+            let Some(next) = self.pending.pop_front() else {
+                return Ok(());
+            };
+            if to.contains(next.to) {
+                self.deliver(next.frame, next.to)?;
+            }
+        }
+        Ok(())
+    }
+
+    // A process takes the frame of this number, if it was sent.
+    fn deliver(&mut self, frame: usize, to: Pid) -> Result<()> {
+        let Some(sent) = self.frames.get(frame) else {
+            return Ok(());
+        };
+        let event = Event::Frame {
+            from: sent.sender,
+            bytes: sent.bytes.bytes(),
+        };
+        match step(&self.scheme, &mut self.processes, to, &event)? {
+            Some(outcome) => {
+                self.deliveries = self.deliveries.wrapping_add(1);
+                self.note(to, outcome)
+            }
+            None => Ok(()),
+        }
+    }
+
+    // A corrupt process signs a statement, and sends it to these; a spent key sends nothing.
+    fn lie(&mut self, alloc: Global, signer: Pid, to: PidSet, spelled: &[u8]) -> Result<()> {
+        let Ok(statement) = read_statement(spelled) else {
+            return Ok(());
+        };
+        let Some(place) = place_of_liar(&self.liars, signer) else {
+            return Ok(());
+        };
+        let Some(liar) = self.liars.get_mut(place) else {
+            return Ok(());
+        };
+        let Ok(lie) = liar.lie(alloc, &self.group, &statement) else {
+            return Err(anyhow!("no memory"));
+        };
+        let Some(frame) = lie else {
+            return Ok(());
+        };
+        self.signed = self.signed.and(1, blocks_to_sign(spelled.len()));
+        self.send(signer, to, frame)
+    }
+
+    // Counts what a process signed, and sends its frames.
+    fn note(&mut self, sender: Pid, outcome: Outcome) -> Result<()> {
+        let claims = outcome.signed.len() as u64;
+        self.signed = self.signed.and(claims, blocks_signed(&outcome.signed));
+        self.send_all(sender, outcome.sends)
+    }
+
+    fn send_all(&mut self, sender: Pid, sends: Vec<Sending>) -> Result<()> {
+        for Sending { to, frame } in sends {
+            self.send(sender, to, frame)?;
+        }
+        Ok(())
+    }
+
+    // A frame gets the next number, and waits for each correct process that it goes to.
+    fn send(&mut self, sender: Pid, to: PidSet, bytes: Payload) -> Result<()> {
+        let frame = self.frames.len();
+        self.frames.push(Sent { sender, bytes })?;
+        for process in &self.processes {
+            if to.contains(process.number) {
+                self.pending.push_back(Delivery {
+                    frame,
+                    to: process.number,
+                })?;
+            }
+        }
+        Ok(())
+    }
+}
