@@ -21,21 +21,11 @@ pub const PLACES: u16 = 1_024;
 /// How many bytes a claim's statement and signature have at most.
 pub const CLAIM_BYTES: usize = 1_064;
 
+/// The text of which payloads and signatures are pieces. Payloads begin at different letters where members say different things.
+pub const TEXT: [u8; 48] = *b"0123456789abcdefghijklmnopqrstuvwxyzABCDEFGHIJKL";
+
 /// The members below this one all say the same, and each other one something else.
 const HONEST: u8 = 11;
-
-/// Payloads are pieces of this text, and begin at different letters where members say different things.
-const TEXT: &[u8; 48] = b"0123456789abcdefghijklmnopqrstuvwxyzABCDEFGHIJKL";
-
-const SIGNATURE: &[u8; 32] = &[9; 32];
-
-/// A claim in its ranges.
-#[derive(Clone, Copy)]
-pub struct Ranged<'a> {
-    pub claim: Claim<'a>,
-    pub ghost range: { IsClaim (claim_of claim) },
-    pub ghost short: { claim_bytes (claim_of claim) ≤ 1064 },
-}
 
 // The member whose turn it is to speak on a slot.
 fn speaker(turn: u32) -> u8
@@ -52,15 +42,17 @@ fn said_by(member: u8) -> u8
     if member < HONEST { 0 } else { member }
 }
 
-fn payload(said: u8) -> &'static [u8]
-    requires { said < 16 }
+// 32 bytes of the text.
+fn piece(text: &[u8], start: u8) -> &[u8]
+    requires text { length text.now ≡ 48 }
+    requires start { start < 16 }
     ensures { length result.now ≡ 32 }
 {
-    let start = said as usize;
-    &TEXT[start..start + 32]
+    let start = start as usize;
+    &text[start..start + 32]
 }
 
-// The messages of this number, one of each member, from this one on.
+// The messages of this number, one of each member, from this member on.
 fn batch(first: u8, number: u16) -> Batch
     requires member { first < 16 }
     requires number { number ≤ 1023 }
@@ -73,20 +65,6 @@ fn batch(first: u8, number: u16) -> Batch
     batch
 }
 
-fn claim_by(signer: u8, statement: &Statement<'static>) -> Ranged<'static>
-    requires signer { signer < 64 }
-    requires range { IsStatement (stmt statement.now) }
-{
-    let _length = spelled_len(statement);
-    Ranged {
-        claim: Claim {
-            signer: process(signer),
-            statement: *statement,
-            signature: SIGNATURE,
-        },
-    }
-}
-
 /// The sender of one of the four messages of this number that are echoed.
 pub fn sender(number: u16, index: u32) -> u8
     ensures { result < 16 }
@@ -94,91 +72,67 @@ pub fn sender(number: u16, index: u32) -> u8
     (number % 4) as u8 * 4 + (index % 4) as u8
 }
 
-fn init(number: u16, index: u32) -> Ranged<'static>
-    requires { number ≤ 1023 }
+// Who signs the claim of this index, 0 to 100, of a place.
+fn signer(number: u16, index: u32) -> u8
+    ensures { result < 16 }
 {
-    let signer = sender(number, index);
-    let payload = payload(said_by(signer));
-    claim_by(
-        signer,
-        &Statement::Init {
+    match index {
+        0..=3 => sender(number, index),
+        4 => 0,
+        _ => speaker(index.saturating_sub(5)),
+    }
+}
+
+// What it says.
+fn statement(text: &[u8], number: u16, index: u32) -> Statement<'_>
+    requires text { length text.now ≡ 48 }
+    requires number { number ≤ 1023 }
+    ensures { IsStatement (stmt result) }
+{
+    let said = said_by(signer(number, index));
+    let batch = batch(said, number);
+    match index {
+        0..=3 => Statement::Init {
             view: 0,
             number,
-            payload,
+            payload: piece(text, said),
         },
-    )
-}
-
-fn echo(number: u16, index: u32) -> Ranged<'static>
-    requires { number ≤ 1023 }
-{
-    let signer = speaker(index);
-    let sender = process(sender(number, index / 16));
-    let payload = payload(said_by(signer));
-    claim_by(
-        signer,
-        &Statement::Echo {
+        4 => Statement::Order {
             view: 0,
-            sender,
+            place: number,
+            batch,
+        },
+        5..=20 => Statement::Place {
+            view: 0,
+            place: number,
+            batch,
+        },
+        21..=36 => Statement::Keep {
+            view: 0,
+            place: number,
+            batch,
+        },
+        _ => Statement::Echo {
+            view: 0,
+            sender: process(sender(number, index.saturating_sub(37) / 16)),
             number,
-            payload,
+            payload: piece(text, said),
         },
-    )
-}
-
-fn order(place: u16) -> Ranged<'static>
-    requires { place ≤ 1023 }
-{
-    let batch = batch(0, place);
-    claim_by(
-        0,
-        &Statement::Order {
-            view: 0,
-            place,
-            batch,
-        },
-    )
-}
-
-fn place(place: u16, index: u32) -> Ranged<'static>
-    requires { place ≤ 1023 }
-{
-    let signer = speaker(index);
-    let batch = batch(said_by(signer), place);
-    claim_by(
-        signer,
-        &Statement::Place {
-            view: 0,
-            place,
-            batch,
-        },
-    )
-}
-
-fn keep(place: u16, index: u32) -> Ranged<'static>
-    requires { place ≤ 1023 }
-{
-    let signer = speaker(index);
-    let batch = batch(said_by(signer), place);
-    claim_by(
-        signer,
-        &Statement::Keep {
-            view: 0,
-            place,
-            batch,
-        },
-    )
+    }
 }
 
 /// The claim of this index, 0 to 100, of a place.
-pub fn nth_claim(number: u16, index: u32) -> Ranged<'static>
-    requires { number ≤ 1023 }
+pub fn nth_claim(text: &[u8], number: u16, index: u32) -> Claim<'_>
+    requires text { length text.now ≡ 48 }
+    requires number { number ≤ 1023 }
+    ensures range { IsClaim (claim_of result) }
+    ensures short { claim_bytes (claim_of result) ≤ 1064 }
 {
-    match index {
-        0..=3 => init(number, index),
-        4..=67 => echo(number, index - 4),
-        68 => order(number),
-        69..=84 => place(number, index - 69),
-        _ => keep(number, index.saturating_sub(85)),
+    let statement = statement(text, number, index);
+    let _length = spelled_len(&statement);
+    Claim {
+        signer: process(signer(number, index)),
+        statement,
+        signature: piece(text, 0),
     }
 }

@@ -2,25 +2,35 @@
 ghost use Rattle.std.specs.Prelude.{◌≡◌, ◌≤◌, ◌*◌, length};
 ghost use Rattle.group_defs.specs.Certified.{number_of_members};
 
-use crate::anything::Anything;
-use crate::claims::{Ranged, sender};
+use crate::claims::{nth_claim, sender};
+use crate::summing::Summing;
 use bench_parts::process;
 use claim_pool::{Message, Own, Place, Pool, Verdict, check};
 use rp_base::{GroupId, Roster};
-use std::hint::black_box;
 use stmt_codec::Slot;
 
 const GROUP: GroupId = GroupId([7; 16]);
 
-/// Takes the claims in, for which there is room, and answers how many of them are heard.
-pub fn hear(pool: &mut Pool, roster: &Roster, own: &Own, claims: &[Ranged<'_>]) -> u32
-    requires members { length own.now.counts.items ≡ number_of_members pool.old.pool }
-    requires claims { length claims.now ≤ pool.old.claims_left }
-    requires bytes { length claims.now * 1064 ≤ pool.old.bytes_left }
+/// By what claims are judged.
+#[derive(Drop)]
+pub struct Judge {
+    pub scheme: Summing,
+    pub roster: Roster,
+    pub own: Own,
+}
+
+/// Takes in so many claims of a place, for which there is room, and answers how many of them are heard.
+pub fn hear(pool: &mut Pool, judge: &Judge, text: &[u8], place: u16, count: u32) -> u32
+    requires text { length text.now ≡ 48 }
+    requires place { place ≤ 1023 }
+    requires members { length judge.now.own.counts.items ≡ number_of_members pool.old.pool }
+    requires claims { count ≤ pool.old.claims_left }
+    requires bytes { count * 1064 ≤ pool.old.bytes_left }
 {
     let mut heard = 0u32;
-    'claims: for ranged in claims {
-        let verdict = pool.take(&Anything, roster, &GROUP, own, &ranged.claim);
+    'claims: for index in 0..count {
+        let claim = nth_claim(text, place, index);
+        let verdict = pool.take(&judge.scheme, &judge.roster, &GROUP, &judge.own, &claim);
         if verdict == Verdict::Heard {
             heard = heard.wrapping_add(1);
         }
@@ -28,11 +38,15 @@ pub fn hear(pool: &mut Pool, roster: &Roster, own: &Own, claims: &[Ranged<'_>]) 
     heard
 }
 
-/// Checks the signatures of the claims alone, and answers how many are valid.
-pub fn check_all(roster: &Roster, claims: &[Ranged<'_>]) -> u32 {
+/// Makes the same claims, checks their signatures alone, and answers how many are valid.
+pub fn check_all(judge: &Judge, text: &[u8], place: u16, count: u32) -> u32
+    requires text { length text.now ≡ 48 }
+    requires place { place ≤ 1023 }
+{
     let mut valid = 0u32;
-    for ranged in claims {
-        if check(&Anything, roster, &GROUP, &ranged.claim).is_some() {
+    for index in 0..count {
+        let claim = nth_claim(text, place, index);
+        if check(&judge.scheme, &judge.roster, &GROUP, &claim).is_some() {
             valid = valid.wrapping_add(1);
         }
     }
@@ -65,11 +79,24 @@ pub fn certify(pool: &Pool, places: u32, times: u32) -> u32 {
     found
 }
 
-/// Asks so many times for the placed length, and answers the sum.
-pub fn placed(pool: &Pool, times: u32) -> u32 {
-    let mut sum = 0u32;
-    for _ in 0..times {
-        sum = sum.wrapping_add(u32::from(black_box(pool).placed_len()));
+// How many messages the batch of the place has, if the place is placed.
+fn messages_at(pool: &Pool, place: u16) -> u32 {
+    match pool.batch_at(place) {
+        Some(batch) => batch.len() as u32,
+        None => 0,
     }
-    sum
+}
+
+/// Asks so many times for the placed length, and for the batch of the next of these places, and answers how many messages these have.
+pub fn walk_placed(pool: &Pool, times: u32) -> u32 {
+    let mut messages = 0u32;
+    let mut place = 0;
+    for _ in 0..times {
+        if place >= pool.placed_len() {
+            place = 0;
+        }
+        messages = messages.wrapping_add(messages_at(pool, place));
+        place = place.wrapping_add(1);
+    }
+    messages
 }

@@ -1,14 +1,16 @@
 //! A pool that hears so many claims, and the times of what it is asked.
-use crate::claims::{CLAIM_BYTES, CLAIMS, MEMBERS, PLACES, Ranged, nth_claim};
-use crate::hearing::{certify, check_all, hear, placed};
+ghost use Rattle.std.specs.Prelude.{◌≤◌};
+
+use crate::claims::{CLAIM_BYTES, CLAIMS, MEMBERS, PLACES, TEXT};
+use crate::hearing::{Judge, certify, check_all, hear, walk_placed};
+use crate::summing::Summing;
 use anyhow::{Result, anyhow};
 use arrayvec::ArrayVec;
 use bench_parts::{plain_roster, process};
 use claim_pool::{Own, Pool};
 use own_place::SignedSlots;
-use rp_base::{Pid, PidSet, Roster};
+use rp_base::{Pid, PidSet};
 use std::alloc::Global;
-use std::hint::black_box;
 use std::time::CpuClock;
 use view_table::View;
 
@@ -25,8 +27,7 @@ const QUESTIONS: u32 = 100_000;
 #[derive(Drop)]
 pub struct Hearer {
     pool: Pool,
-    roster: Roster,
-    own: Own,
+    judge: Judge,
 }
 
 /// How many claims were heard, and the seconds of taking them and of checking their signatures alone.
@@ -92,17 +93,6 @@ fn own(alloc: Global) -> Own {
     }
 }
 
-// The first so many claims of a place.
-fn claims_of(alloc: Global, place: u16, count: u32) -> Result<Vec<Ranged<'static>>>
-    requires { place ≤ 1023 }
-{
-    let mut claims = Vec::new(alloc);
-    for index in 0..count {
-        claims.push(nth_claim(place, index))?;
-    }
-    Ok(claims)
-}
-
 // How many places have all their claims among so many.
 fn places_of(claims: u32) -> u32 {
     claims / CLAIMS
@@ -119,26 +109,31 @@ impl Hearer {
         };
         Ok(Hearer {
             pool,
-            roster,
-            own: own(alloc),
+            judge: Judge {
+                scheme: Summing::new(),
+                roster,
+                own: own(alloc),
+            },
         })
     }
 
-    // Hears claims of a place, timed.
-    fn hear_some(&mut self, rt: &impl CpuClock, claims: &[Ranged<'_>]) -> Result<Heard> {
-        let Some(bytes) = claims.len().checked_mul(CLAIM_BYTES) else {
-            return Err(anyhow!("too many claims"));
-        };
-        let Ok(()) = self.pool.reserve(claims.len(), bytes) else {
+    // Hears so many claims of a place, timed.
+    fn hear_some(&mut self, rt: &impl CpuClock, place: u16, count: u32) -> Result<Heard>
+        requires { place ≤ 1023 }
+    {
+        let Ok(()) = self
+            .pool
+            .reserve(count as usize, count as usize * CLAIM_BYTES)
+        else {
             return Err(anyhow!("no memory"));
         };
-        if self.own.counts.len() != self.pool.view().members().len() {
+        if self.judge.own.counts.len() != self.pool.view().members().len() {
             return Err(anyhow!("not as many counts as members"));
         }
         let begun = seconds(rt)?;
-        let heard = hear(&mut self.pool, &self.roster, &self.own, claims);
+        let heard = hear(&mut self.pool, &self.judge, &TEXT, place, count);
         let taken = seconds(rt)?;
-        let valid = check_all(&self.roster, claims);
+        let valid = check_all(&self.judge, &TEXT, place, count);
         let checked = seconds(rt)?;
         Ok(Heard {
             claims: heard.min(valid),
@@ -148,20 +143,22 @@ impl Hearer {
     }
 
     /// Forgets what is heard, and hears the first so many claims.
-    pub fn hear_all(&mut self, rt: &(impl CpuClock + AllocGlobal), claims: u32) -> Result<Heard> {
+    pub fn hear_all(&mut self, rt: &impl CpuClock, claims: u32) -> Result<Heard> {
         self.pool.turn_to(view()?);
         let mut heard = NOTHING;
         let mut left = claims;
         for place in 0..PLACES {
-            let some = claims_of(rt.alloc(), place, left.min(CLAIMS))?;
-            heard = heard.and(self.hear_some(rt, &some)?);
+            if left == 0 {
+                break;
+            }
+            heard = heard.and(self.hear_some(rt, place, left.min(CLAIMS))?);
             left = left.saturating_sub(CLAIMS);
         }
         Ok(heard)
     }
 
     // Hears as many claims as a run does, so many at a time.
-    fn run(&mut self, rt: &(impl CpuClock + AllocGlobal), claims: u32) -> Result<Heard> {
+    fn run(&mut self, rt: &impl CpuClock, claims: u32) -> Result<Heard> {
         let mut heard = NOTHING;
         for _ in 0..(RUN / claims.max(1)).max(1) {
             heard = heard.and(self.hear_all(rt, claims)?);
@@ -170,7 +167,7 @@ impl Hearer {
     }
 
     // The quickest of the runs.
-    fn quickest(&mut self, rt: &(impl CpuClock + AllocGlobal), claims: u32) -> Result<Heard> {
+    fn quickest(&mut self, rt: &impl CpuClock, claims: u32) -> Result<Heard> {
         let mut quickest = self.run(rt, claims)?;
         for _ in 1..RUNS {
             quickest = quickest.or_quicker(self.run(rt, claims)?);
@@ -199,11 +196,14 @@ impl Hearer {
         self.pool.placed_len()
     }
 
-    // The seconds of the placed length.
+    // The seconds of the placed length and a batch below it, where each batch has a message of each member.
     fn time_placed(&self, rt: &impl CpuClock) -> Result<f64> {
         let begun = seconds(rt)?;
-        black_box(placed(&self.pool, QUESTIONS));
+        let messages = walk_placed(&self.pool, QUESTIONS);
         let ended = seconds(rt)?;
+        if messages != u32::from(MEMBERS) * QUESTIONS {
+            return Err(anyhow!("not all are placed"));
+        }
         Ok((ended - begun) / f64::from(QUESTIONS))
     }
 
@@ -223,8 +223,9 @@ pub fn times(rt: &(impl Print + CpuClock + AllocGlobal), claims: u32) -> Result<
     let certificate = hearer.time_certificate(rt, claims)? * 1e9;
     let placed = hearer.time_placed(rt)? * 1e9;
     let bytes = hearer.bytes_a_claim();
+    let sum = hearer.judge.scheme.sum();
     println!(rt;
-        "take {take:.1} check {check:.1} certificate {certificate:.1} placed {placed:.2} bytes {bytes:.1}"
+        "take {take:.1} check {check:.1} certificate {certificate:.1} placed {placed:.2} bytes {bytes:.1} sum {sum}"
     )?;
     Ok(())
 }

@@ -4,7 +4,7 @@ use Rattle.bench_pool.proofs.hearing.hear.Given as goal
 
 abbrev pub invariant-claims : goal.invariant-claims
 invariant-claims l = record {
-  members : length l.own.counts.items ≡ number_of_members l.pool.pool;
-  room : length l.claims ≤ l.pool.claims_left + l.ranged-index;
-  bytes : length l.claims * 1064 ≤ l.pool.bytes_left + l.ranged-index * 1064;
+  members : length l.judge.own.counts.items ≡ number_of_members l.pool.pool;
+  room : l.count ≤ l.pool.claims_left + l.index;
+  bytes : l.count * 1064 ≤ l.pool.bytes_left + l.index * 1064;
 }
