@@ -10,6 +10,7 @@ use anyhow::{Result, anyhow};
 use bench_parts::block_nanos;
 use group::Group;
 use std::env;
+use std::num::nearest_u64_to_f64;
 use std::time::CpuClock;
 
 const PAYLOAD: &[u8] = &[5; 32];
@@ -26,7 +27,7 @@ struct Spent {
 
 impl Spent {
     fn nanos_a_claim(&self) -> f64 {
-        self.seconds * 1e9 / self.claims as f64
+        self.seconds * 1e9 / nearest_u64_to_f64(self.claims)
     }
 }
 
@@ -97,7 +98,7 @@ fn tell_claims(rt: &impl Print, group: &Group, first: Spent, last: Spent) -> Res
 fn tell_blocks(rt: &impl Print, group: &Group, whole: f64, block: f64) -> Result<()> {
     let blocks = group.blocks();
     let checks = group.checks();
-    let hashing = blocks as f64 * block / 1e9;
+    let hashing = nearest_u64_to_f64(blocks) * block / 1e9;
     let share = hashing / whole * 100.0;
     println!(rt;
         "{checks} signatures checked, {blocks} blocks of {block:.0} ns: {hashing:.2} s of {whole:.2} s, {share:.0} % (goal: at least 40 %)"

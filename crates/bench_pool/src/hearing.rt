@@ -1,5 +1,5 @@
 //! The loops that are timed.
-ghost use Rattle.std.specs.Prelude.{◌≡◌, ◌≤◌, ◌*◌, length};
+ghost use Rattle.std.specs.Prelude.{◌≡◌, ◌≤◌, ◌+◌, ◌*◌, length};
 ghost use Rattle.group_defs.specs.Certified.{number_of_members};
 
 use crate::claims::{nth_claim, sender};
@@ -19,6 +19,22 @@ pub struct Judge {
     pub own: Own,
 }
 
+// Takes in a claim of a place, for which there is room; whether it is heard.
+fn is_heard(pool: &mut Pool, judge: &Judge, text: &[u8], place: u16, index: u32) -> bool
+    requires text { length text.now ≡ 48 }
+    requires place { place ≤ 1023 }
+    requires members { length judge.now.own.counts.items ≡ number_of_members pool.old.pool }
+    requires claims { 1 ≤ pool.old.claims_left }
+    requires bytes { 1064 ≤ pool.old.bytes_left }
+    ensures members { number_of_members pool.new.pool ≡ number_of_members pool.old.pool }
+    ensures claims { pool.old.claims_left ≤ pool.new.claims_left + 1 }
+    ensures bytes { pool.old.bytes_left ≤ pool.new.bytes_left + 1064 }
+{
+    let claim = nth_claim(text, place, index);
+    let verdict = pool.take(&judge.scheme, &judge.roster, &GROUP, &judge.own, &claim);
+    verdict == Verdict::Heard
+}
+
 /// Takes in so many claims of a place, for which there is room, and answers how many of them are heard.
 pub fn hear(pool: &mut Pool, judge: &Judge, text: &[u8], place: u16, count: u32) -> u32
     requires text { length text.now ≡ 48 }
@@ -29,13 +45,20 @@ pub fn hear(pool: &mut Pool, judge: &Judge, text: &[u8], place: u16, count: u32)
 {
     let mut heard = 0u32;
     'claims: for index in 0..count {
-        let claim = nth_claim(text, place, index);
-        let verdict = pool.take(&judge.scheme, &judge.roster, &GROUP, &judge.own, &claim);
-        if verdict == Verdict::Heard {
+        if is_heard(pool, judge, text, place, index) {
             heard = heard.wrapping_add(1);
         }
     }
     heard
+}
+
+// Makes the same claim, and checks its signature alone.
+fn is_valid(judge: &Judge, text: &[u8], place: u16, index: u32) -> bool
+    requires text { length text.now ≡ 48 }
+    requires place { place ≤ 1023 }
+{
+    let claim = nth_claim(text, place, index);
+    check(&judge.scheme, &judge.roster, &GROUP, &claim).is_some()
 }
 
 /// Makes the same claims, checks their signatures alone, and answers how many are valid.
@@ -45,8 +68,7 @@ pub fn check_all(judge: &Judge, text: &[u8], place: u16, count: u32) -> u32
 {
     let mut valid = 0u32;
     for index in 0..count {
-        let claim = nth_claim(text, place, index);
-        if check(&judge.scheme, &judge.roster, &GROUP, &claim).is_some() {
+        if is_valid(judge, text, place, index) {
             valid = valid.wrapping_add(1);
         }
     }

@@ -11,6 +11,7 @@ use claim_pool::{Own, Pool};
 use own_place::SignedSlots;
 use rp_base::{Pid, PidSet};
 use std::alloc::Global;
+use std::num::nearest_usize_to_f64;
 use std::time::CpuClock;
 use view_table::View;
 
@@ -210,7 +211,7 @@ impl Hearer {
     // The mean of the bytes of a heard claim's statement and signature.
     fn bytes_a_claim(&self) -> f64 {
         let (claims, bytes) = self.pool.size();
-        bytes as f64 / claims as f64
+        nearest_usize_to_f64(bytes) / nearest_usize_to_f64(claims)
     }
 }
 
