@@ -2,12 +2,11 @@
 //! of 16 members, and of four of these messages the Inits and 16 Echoes. On each slot the five members that may be corrupt speak
 //! first, and each says something else.
 ghost use Rattle.std.specs.Prelude.{◌≡◌, ◌<◌, ◌≤◌, length};
-ghost use Rattle.message_defs.specs.Spelling.{IsBatch, IsClaim, IsStatement};
-ghost use Rattle.claim_index.specs.Kept.{claim_bytes};
-ghost use Rattle.stmt_codec.specs.Views.{stmt, claim as claim_of};
+ghost use Rattle.message_defs.specs.Spelling.{IsBatch, IsStatement};
+ghost use Rattle.stmt_codec.specs.Views.{stmt};
 
 use bench_parts::process;
-use stmt_codec::{Batch, Claim, Statement, spelled_len};
+use stmt_codec::{Batch, Statement};
 
 /// How many members the view has.
 pub const MEMBERS: u8 = 16;
@@ -42,8 +41,8 @@ fn said_by(member: u8) -> u8
     if member < HONEST { 0 } else { member }
 }
 
-// 32 bytes of the text.
-fn piece(text: &[u8], start: u8) -> &[u8]
+/// 32 bytes of the text, from this one on.
+pub fn piece(text: &[u8], start: u8) -> &[u8]
     requires text { length text.now ≡ 48 }
     requires start { start < 16 }
     ensures { length result.now ≡ 32 }
@@ -72,8 +71,8 @@ pub fn sender(number: u16, index: u32) -> u8
     (number % 4) as u8 * 4 + (index % 4) as u8
 }
 
-// Who signs the claim of this index, 0 to 100, of a place.
-fn signer(number: u16, index: u32) -> u8
+/// Who signs the claim of this index, 0 to 100, of a place.
+pub fn signer(number: u16, index: u32) -> u8
     ensures { result < 16 }
 {
     match index {
@@ -83,8 +82,8 @@ fn signer(number: u16, index: u32) -> u8
     }
 }
 
-// What it says.
-fn statement(text: &[u8], number: u16, index: u32) -> Statement<'_>
+/// What it says: at most 1,032 bytes.
+pub fn statement(text: &[u8], number: u16, index: u32) -> Statement<'_>
     requires text { length text.now ≡ 48 }
     requires number { number ≤ 1023 }
     ensures { IsStatement (stmt result) }
@@ -118,21 +117,5 @@ fn statement(text: &[u8], number: u16, index: u32) -> Statement<'_>
             number,
             payload: piece(text, said),
         },
-    }
-}
-
-/// The claim of this index, 0 to 100, of a place.
-pub fn nth_claim(text: &[u8], number: u16, index: u32) -> Claim<'_>
-    requires text { length text.now ≡ 48 }
-    requires number { number ≤ 1023 }
-    ensures range { IsClaim (claim_of result) }
-    ensures short { claim_bytes (claim_of result) ≤ 1064 }
-{
-    let statement = statement(text, number, index);
-    let _length = spelled_len(&statement);
-    Claim {
-        signer: process(signer(number, index)),
-        statement,
-        signature: piece(text, 0),
     }
 }

@@ -2,12 +2,12 @@
 ghost use Rattle.std.specs.Prelude.{◌≡◌, ◌≤◌, ◌+◌, ◌*◌, length};
 ghost use Rattle.group_defs.specs.Certified.{number_of_members};
 
-use crate::claims::{nth_claim, sender};
+use crate::claims::{piece, sender, signer, statement};
 use crate::summing::Summing;
 use bench_parts::process;
 use claim_pool::{Message, Own, Place, Pool, Verdict, check};
 use rp_base::{GroupId, Roster};
-use stmt_codec::Slot;
+use stmt_codec::{Claim, Slot, spelled_len};
 
 const GROUP: GroupId = GroupId([7; 16]);
 
@@ -30,7 +30,13 @@ fn is_heard(pool: &mut Pool, judge: &Judge, text: &[u8], place: u16, index: u32)
     ensures claims { pool.old.claims_left ≤ pool.new.claims_left + 1 }
     ensures bytes { pool.old.bytes_left ≤ pool.new.bytes_left + 1064 }
 {
-    let claim = nth_claim(text, place, index);
+    let statement = statement(text, place, index);
+    let _length = spelled_len(&statement);
+    let claim = Claim {
+        signer: process(signer(place, index)),
+        statement,
+        signature: piece(text, 0),
+    };
     let verdict = pool.take(&judge.scheme, &judge.roster, &GROUP, &judge.own, &claim);
     verdict == Verdict::Heard
 }
@@ -57,7 +63,13 @@ fn is_valid(judge: &Judge, text: &[u8], place: u16, index: u32) -> bool
     requires text { length text.now ≡ 48 }
     requires place { place ≤ 1023 }
 {
-    let claim = nth_claim(text, place, index);
+    let statement = statement(text, place, index);
+    let _length = spelled_len(&statement);
+    let claim = Claim {
+        signer: process(signer(place, index)),
+        statement,
+        signature: piece(text, 0),
+    };
     check(&judge.scheme, &judge.roster, &GROUP, &claim).is_some()
 }
 

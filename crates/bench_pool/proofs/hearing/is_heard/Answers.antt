@@ -1,8 +1,6 @@
-use Rattle.std.proofs.Common.{◌≡◌, ◌∙◌, ap}
+use Rattle.std.proofs.Common.{ap, ◌∙◌}
 use Rattle.group_defs.specs.Process.{Pool}
 use Rattle.group_defs.specs.Certified.{number_of_members}
-use Rattle.stmt_codec.specs.Views.{claim as claim_of}
-use Rattle.claim_pool.specs.Verdicts.{verdict as verdict_of}
 use Rattle.bench_pool.proofs.Members.{after_members}
 use Rattle.bench_pool.proofs.hearing.is_heard.Goals as goal
 
