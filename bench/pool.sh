@@ -1,26 +1,37 @@
 #!/usr/bin/env bash
 # The time of a pool of 16 members that hears 1,000, 10,000 and 100,000 claims, on up to 1,024 places with batches of 16 messages, where
 # five members say something else on every slot: of `take` without the check of its signature, of `certificate` and of the placed
-# length, beside their goals; and the bytes of statements and signatures a claim, beside the memory that a claim takes in all.
+# length with one of the placed batches, beside their goals; and the bytes of statements and signatures a claim, beside the memory that
+# a claim takes in all.
 # Run it from any folder, with `rt` in the path.
 set -eu
 cd "$(dirname "$0")/../crates/bench_pool"
 rt run >/dev/null 2>&1 || { echo 'bench_pool is not built' >&2; exit 1; }
 python3 - <<'PY'
-import os
 import subprocess
+import time
 
 SIZES = [1000, 10000, 100000]
+
+
+def most_memory(child):
+    """The most memory that a process had until it ended, in bytes, looked at a hundred times a second."""
+    most = 0
+    while child.poll() is None:
+        with open(f"/proc/{child.pid}/status") as status:
+            most = max([most] + [int(line.split()[1]) for line in status if line.startswith("VmHWM:")])
+        time.sleep(0.01)
+    return most * 1024
 
 
 def run(claims):
     """The program's words with their numbers, and the most memory that it had, in bytes."""
     child = subprocess.Popen(["out/bench_pool", str(claims)], stdout=subprocess.PIPE, text=True)
+    most = most_memory(child)
     words = child.stdout.read().split()
-    _, status, usage = os.wait4(child.pid, 0)
-    if status:
+    if child.returncode:
         raise SystemExit("bench_pool failed")
-    return {word: float(number) for word, number in zip(words[::2], words[1::2])}, usage.ru_maxrss * 1024
+    return {word: float(number) for word, number in zip(words[::2], words[1::2])}, most
 
 
 _, little = run(101)

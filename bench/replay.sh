@@ -9,7 +9,6 @@ work=$(mktemp -d)
 trap 'rm -rf "$work"' EXIT
 "$top/rampart" gen 1 >"$work/once"
 python3 - "$top/crates/rampart/out/rampart" "$work" <<'PY'
-import os
 import subprocess
 import sys
 import time
@@ -20,16 +19,25 @@ program, work = sys.argv[1:]
 HEADER = 5 + 16 + 1 + 4 * (1 + 1 + 32 + 4) + 1 + 4
 
 
+def most_memory(child):
+    """The most memory that a process had until it ended, in bytes, looked at a hundred times a second."""
+    most = 0
+    while child.poll() is None:
+        with open(f"/proc/{child.pid}/status") as status:
+            most = max([most] + [int(line.split()[1]) for line in status if line.startswith("VmHWM:")])
+        time.sleep(0.01)
+    return most * 1024
+
+
 def replay(path):
     """The seconds of a replay, its short report, and the most memory that it had, in bytes."""
     begun = time.monotonic()
     with open(path, "rb") as schedule:
         child = subprocess.Popen([program, "replay", "short"], stdin=schedule, stdout=subprocess.PIPE, text=True)
-        report = child.stdout.read()
-    _, status, usage = os.wait4(child.pid, 0)
-    if status:
+        most = most_memory(child)
+    if child.returncode:
         raise SystemExit("the replay failed")
-    return time.monotonic() - begun, report, usage.ru_maxrss * 1024
+    return time.monotonic() - begun, child.stdout.read(), most
 
 
 def counts(path, *words):
