@@ -27,7 +27,7 @@ account_of p = record { me = p.me; views = views_of p; delivered = deliveries_of
 abbrev pub delivered_in : Account → ℕ → List Delivered
 delivered_in a x = slice_index_or a.delivered x []
 
--- the messages of that, without their places
+-- the messages that it delivered in the view of this number, without their places
 abbrev pub messages_in : Account → ℕ → List Letter
 messages_in a x = without_places (delivered_in a x)
 
@@ -108,7 +108,7 @@ IsInOrder sender ds = map (λ d. d.message.number) (of_sender sender ds) ≡ ran
 abbrev pub at_place : ℕ → List Delivered → List Delivered
 at_place k ds = filter (λ d. d.place == k) ds
 
--- and its messages
+-- the messages that were delivered at place k, in order
 abbrev pub batch_at : ℕ → List Delivered → Batch
 batch_at k ds = map (λ d. d.message) (at_place k ds)
 
@@ -181,7 +181,7 @@ is_in_order ds sender =
     let numbers = map (λ d. d.message.number) (of_sender sender ds) in
     pointwise (λ m n. m == n) numbers (range_with_len 0 (length numbers))
 
--- each sender of the sequence is in order, so no message stands twice
+-- in the sequence of view x the numbers of each sender are 0, 1, 2 and so on, so no message stands twice
 abbrev pub is_sound_in : Group → ℕ → Bool
 is_sound_in g x = list_all (λ d. is_in_order (g.sequence x) d.message.sender) (g.sequence x)
 
@@ -245,6 +245,6 @@ AccountsHaveLists = (ps : List Process) → All HasListOfEachView (map account_o
 abbrev pub AgreeIsTested : Type 0
 AgreeIsTested = (accounts : List Account) → All HasListOfEachView accounts → IsTrue (agree accounts) ↔ Agree accounts
 
--- and so do the test of soundness and soundness
+-- of accounts with these lists the test of soundness and soundness say the same
 abbrev pub SoundIsTested : Type 0
 SoundIsTested = (accounts : List Account) (keyed : List ℕ) → All HasListOfEachView accounts → IsTrue (sound accounts keyed) ↔ Sound accounts keyed

@@ -25,11 +25,11 @@ SignsAt p i st = slice_get (statements_of p) i ≡ Some st
 abbrev pub EachRun : (Setting → ℕ → List Turn → Process → Type 0) → Type 0
 EachRun P = (s : Setting) (me batch_limit : ℕ) (turns : List Turn) → P s me turns (run s (start s me batch_limit) turns)
 
--- 1. of each slot at most one statement
+-- 1. of each kind and slot a process signs at most one statement
 abbrev pub OnePerSlot : Type 0
 OnePerSlot = EachRun (λ s me turns p. AllPairs (λ c d. slot_of c.statement ≢ slot_of d.statement) p.signed)
 
--- 2. a Keep stands before the End of its view, and the End says more
+-- 2. in the signed list a Keep of place k stands before the End of its view, and the End's number n is above k
 abbrev pub KeepsBeforeEnd : Type 0
 KeepsBeforeEnd = EachRun (λ s me turns p. (i j x k n : ℕ) (b : Batch) → SignsAt p i (Keep x k b) → SignsAt p j (End x n) → (i < j) × (k < n))
 
@@ -67,7 +67,7 @@ pub record WasDue (s : Setting) (turns : List Turn) (p : Process) (i : ℕ) (st 
 abbrev pub EachWasDue : Type 0
 EachWasDue = EachRun (λ s me turns p. (i : ℕ) (st : Statement) → SignsAt p i st → WasDue s turns p i st)
 
--- each is of a kind that the setting signs
+-- each statement that a process signed is of a kind that the setting signs
 abbrev pub SignsItsKinds : Type 0
 SignsItsKinds = EachRun (λ s me turns p. All (λ c. Contains s.signs (kind_of c.statement)) p.signed)
 
@@ -90,7 +90,7 @@ pub record DeliversIn (me : ℕ) (v : View) (ds : List Delivered) : Type 0 where
   pub outside : IsFalse (is_member v me) → ds ≡ []
   pub senders : All (λ d. IsTrue (is_member v d.message.sender)) ds
 
--- so it is in each view that a process left, and in its current one
+-- in each view that a process left, and in its current one, it delivers only as a member, and only messages of members
 abbrev pub MembersDeliver : Type 0
 MembersDeliver = EachRun (λ s me turns p. All (λ l. DeliversIn p.me l.view l.delivered) p.left × DeliversIn p.me p.pool.view p.delivered)
 
@@ -104,7 +104,7 @@ pub record AreInARow (s : Setting) (vs : List View) : Type 0 where
   pub behind : (i : ℕ) (v w : View) → slice_get vs i ≡ Some v → slice_get vs (i + 1) ≡ Some w → IsBehind s v w
   pub numbers : (i : ℕ) (v : View) → slice_get vs i ≡ Some v → v.number ≡ s.genesis.number + i
 
--- so stand the views of each process
+-- the views of each process, those that it left and the current one, are the genesis and then each a possible update of the one before
 abbrev pub ViewsInARow : Type 0
 ViewsInARow = EachRun (λ s me turns p. AreInARow s (views_of p))
 
@@ -114,16 +114,16 @@ DecisionStands = EachRun (λ s me turns p. (d : ℕ × Value) → p.decision ≡
 
 -- ---- of one heard list: what a deputy chooses
 
--- It is justified, and where an earlier rank may have decided, it is a value of the last such rank or of a later one.
+-- The value v at rank r is justified; and where value w of rank r0 is a second way to rank r, so is v of some rank r1 ≥ r0.
 pub record IsChoice (s : Setting) (h : Pool) (r : ℕ) (v : Value) : Type 0 where
   pub justified : IsTrue (is_justified s h r v)
   pub adopts : (r0 : ℕ) (w : Value) → IsTrue (is_second_way h r r0 w) → (r1 : ℕ) × (r0 ≤ r1) × IsTrue (is_second_way h r r1 v)
 
--- what a deputy chooses is such a choice
+-- what the deputy of rank r chooses is justified, and no lower in rank than any second way (`IsChoice`)
 abbrev pub DeputyAdopts : Type 0
 DeputyAdopts = (s : Setting) (h : Pool) (r : ℕ) (v : Value) → choose s h r ≡ Some v → IsChoice s h r v
 
--- and where some value is justified there is one
+-- where some value is justified at rank r, the deputy of rank r chooses one
 abbrev pub DeputyChooses : Type 0
 DeputyChooses = (s : Setting) (h : Pool) (r : ℕ) (v : Value) → IsTrue (is_justified s h r v) → IsTrue (is_some (choose s h r))
 
@@ -143,7 +143,8 @@ pub record Premises (f : Family) : Type 0 where
   pub honest : Honest f
   pub bounded : Bounded (accounts f) (numbers f)
 
--- as each of its events settles: what the process had signed and heard by then
+-- The process at each of its turns that is not refused, when the turn's event was heard and what was due is signed, and nothing is
+-- decided or delivered of it yet.
 abbrev pub settlings_from : Setting → Process → List Turn → List Process
 settlings_from s p [] = []
 settlings_from s p (t ∷ ts) = settled (refusal s p t.event) (signing s p t).now ++ settlings_from s (after s p t) ts
@@ -152,26 +153,27 @@ settlings_from s p (t ∷ ts) = settled (refusal s p t.event) (signing s p t).no
     settled None q = q ∷ []
     settled (Some fault) q = []
 
--- of all turns of a correct process
+-- the settlings of a correct process from its start on, through all its turns
 abbrev pub settlings : Family → Correct → List Process
 settlings f c = settlings_from f.setting (start f.setting c.me c.batch_limit) c.turns
 
--- some correct process stood so as an event settled
+-- some correct process stood as q does where one of its events settled
 abbrev pub SettledSo : Family → Process → Type 0
 SettledSo f q = (c : Correct) × Contains f.correct c × Contains (settlings f c) q
 
--- some correct process stood so at a moment, as far as laws 1 to 4 tell
+-- Some correct process `by` stood as q does at a moment, as far as laws 1 to 4 tell: what `by` keeps at the end has grown from what q
+-- keeps, and each claim that q has heard was handed over and is valid, or is q's own.
 pub record StoodSo (f : Family) (q : Process) : Type 0 where
   pub by : Process
   pub correct : Contains (ends f) by
   pub grown : HasGrown q by
   pub heard : All (IsFrom f.setting (handed f) q.signed) q.pool.heard
 
--- what stood so as an event settled stood so at a moment
+-- as a correct process stands where an event settles, so it stood at a moment (`StoodSo`)
 abbrev pub SettledStood : Type 0
 SettledStood = (f : Family) (q : Process) → SettledSo f q → StoodSo f q
 
--- and so did each process at the end
+-- as a correct process stands after its last event, so it stood at a moment (`StoodSo`)
 abbrev pub EndStood : Type 0
 EndStood = (f : Family) (p : Process) → Contains (ends f) p → StoodSo f p
 
@@ -179,15 +181,15 @@ EndStood = (f : Family) (p : Process) → Contains (ends f) p → StoodSo f p
 abbrev pub IsViewOfAll : Family → View → Type 0
 IsViewOfAll f v = All (λ p. All (λ w. w.number ≡ v.number → w ≡ v) (views_of p)) (ends f)
 
--- the member has signed it, or is not correct
+-- the member m has signed the statement, or is not correct
 abbrev pub may_back : Family → Statement → ℕ → Bool
 may_back f st m = list_all (λ p. not (p.me == m) || list_any (same_statement st) (statements_of p)) (ends f)
 
--- a quorum of the members may back it
+-- at least Q members of the view v may back the statement: each of them has signed it, or is not correct
 abbrev pub IsBacked : Family → View → Statement → Type 0
 IsBacked f v st = quorum (length v.members) ≤ count_by (may_back f st) v.members
 
--- a view that correct processes installed, and none of them another one of its number
+-- v is a view that some correct process installed, and no correct process installed another view of its number
 pub record IsOneView (f : Family) (v : View) : Type 0 where
   pub premises : Premises f
   pub by : Process
@@ -196,15 +198,15 @@ pub record IsOneView (f : Family) (v : View) : Type 0 where
   pub view : IsView v
   pub of_all : IsViewOfAll f v
 
--- each view that is installed is one
+-- each view that a correct process installed has 1 to 16 members, each once
 abbrev pub InstalledIsView : Type 0
 InstalledIsView = (f : Family) → Premises f → All (λ p. All IsView (views_of p)) (ends f)
 
--- and the one of its number: so what follows holds of each view that a correct process installed
+-- each view that a correct process installed is the one of its number (`IsOneView`), so that the laws of one view hold of it
 abbrev pub InstalledIsOne : Type 0
 InstalledIsOne = (f : Family) → Premises f → All (λ p. All (IsOneView f) (views_of p)) (ends f)
 
--- certified gives backed: nothing below looks at heard claims again
+-- what is certified at a correct process of the view is backed; the laws below speak of backed statements, not of heard claims
 abbrev pub CertifiedIsBacked : Type 0
 CertifiedIsBacked = (f : Family) (v : View) (q : Process) (st : Statement) → IsOneView f v → StoodSo f q → q.pool.view ≡ v → IsTrue (is_certified q.pool st) → IsBacked f v st
 
@@ -221,7 +223,7 @@ abbrev pub AckedWasFree : Type 0
 AckedWasFree = (f : Family) (v : View) (r : ℕ) (w : Value) → IsOneView f v → IsBacked f v (Ack v.number r w)
     → (q : Process) × StoodSo f q × (q.pool.view ≡ v) × IsTrue (is_member v q.me) × IsTrue (is_free f.setting q.pool w)
 
--- and each place with a backed Keep is below its cut
+-- where a Keep of place k is backed and an Ack of value w is, k is below the cut of w
 abbrev pub KeptBelowCut : Type 0
 KeptBelowCut = (f : Family) (v : View) (r k : ℕ) (w : Value) (b : Batch) → IsOneView f v → IsBacked f v (Keep v.number k b) → IsBacked f v (Ack v.number r w) → k < w.cut
 
@@ -233,25 +235,26 @@ Decides f v q w = SettledSo f q × (q.pool.view ≡ v) × ((r : ℕ) × ((decide
 abbrev pub OneDecision : Type 0
 OneDecision = (f : Family) (v : View) (q q' : Process) (w w' : Value) → IsOneView f v → Decides f v q w → Decides f v q' w' → w ≡ w'
 
--- nobody delivers beyond its cut
+-- where value w is decided in the view, no correct process delivers in it at a place of w's cut or behind it
 abbrev pub DeliversWithinCut : Type 0
 DeliversWithinCut = (f : Family) (v : View) (q q' : Process) (w : Value) → IsOneView f v → Decides f v q w → SettledSo f q' → q'.pool.view ≡ v → places_in (deliver (decide f.setting q')).delivered ≤ w.cut
 
--- and nobody halts
+-- no correct process halts
 abbrev pub NobodyHalts : Type 0
 NobodyHalts = (f : Family) → Premises f → All (λ p. p.halted ≡ false) (ends f)
 
--- of any two accounts: the views up to x are the same, and what was delivered in those before x
+-- Accounts a and b agree up to view x: they have the same views up to number x; of what they delivered in a view before x the one is a
+-- prefix of the other; and where a left that view as a member, what b delivered in it is a prefix of what a did.
 pub record AgreeUpTo (x : ℕ) (a b : Account) : Type 0 where
   pub views : (y : ℕ) (v w : View) → y ≤ x → slice_get a.views y ≡ Some v → slice_get b.views y ≡ Some w → v ≡ w
   pub prefixes : (y : ℕ) → y < x → IsPrefixOf (messages_in a y) (messages_in b y) ⊎ IsPrefixOf (messages_in b y) (messages_in a y)
   pub whole : (y : ℕ) (v : View) → y < x → slice_get a.views y ≡ Some v → IsTrue (is_member v a.me) → HasLeft a y → IsPrefixOf (messages_in b y) (messages_in a y)
 
--- any two accounts of the family agree so
+-- any two accounts of the family agree up to view x
 abbrev pub AllAgreeUpTo : Family → ℕ → Type 0
 AllAgreeUpTo f x = All (λ a. All (AgreeUpTo x a) (accounts f)) (accounts f)
 
--- 8. from view to view
+-- 8. where all accounts agree up to view x, they agree up to view x + 1
 abbrev pub AgreeGoesOn : Type 0
 AgreeGoesOn = (f : Family) (x : ℕ) → Premises f → AllAgreeUpTo f x → AllAgreeUpTo f (x + 1)
 
@@ -262,7 +265,8 @@ AgreeGoesOn = (f : Family) (x : ℕ) → Premises f → AllAgreeUpTo f x → All
 abbrev pub Agreement : Type 0
 Agreement = (f : Family) → Premises f → Agree (accounts f)
 
--- and their group is sound: each view has its cause, and each sequence is in order and is what its senders accepted
+-- under the premises the group of correct processes is sound: each view has its cause, and each sequence is in order and is what its
+-- senders accepted
 abbrev pub CauseAndOrder : Type 0
 CauseAndOrder = (f : Family) → Premises f → Sound (accounts f) (keyed f.setting)
 
@@ -283,7 +287,7 @@ pub record GrowsTo (early late : List Account) : Type 0 where
   pub sequences : (x : ℕ) → IsPrefixOf ((group_of early).sequence x) ((group_of late).sequence x)
   pub whole : All (λ a. (x : ℕ) (v : View) → slice_get a.views x ≡ Some v → IsTrue (is_member v a.me) → HasLeft a x → (group_of early).sequence x ≡ (group_of late).sequence x) early
 
--- what was agreed at an earlier moment stays agreed
+-- under the premises at the end, the group at an earlier moment is a front of the group at the end (`GrowsTo`)
 abbrev pub Growth : Type 0
 Growth = (early late : Family) → IsFrontOf early late → Premises late → GrowsTo (accounts early) (accounts late)
 
@@ -312,7 +316,7 @@ pub record HoldsAtTheCut (early late : Family) : Type 0 where
   pub in_order : (x sender : ℕ) → IsInOrder sender ((group_of (accounts early)).sequence x)
   pub placed : ArePlaced (accounts early)
 
--- after any part of the turns
+-- where each process has taken the first of its turns, and the premises hold at the end
 abbrev pub AtTheCut : Type 0
 AtTheCut = (early late : Family) → IsFrontOf early late → Premises late → HoldsAtTheCut early late
 
@@ -322,12 +326,17 @@ AtTheCut = (early late : Family) → IsFrontOf early late → Premises late → 
 abbrev pub NoConflict : Type 0
 NoConflict = EachRun (λ s me turns p. AllPairs (λ c d. ¬ Conflicts c d) p.signed)
 
--- in views of one number no two payloads of a message are certified at correct processes
+-- in views of one number no two payloads of a message are certified at correct processes, each as an event settles
 abbrev pub OnePayload : Type 0
 OnePayload = (f : Family) (q q' : Process) (m : Message) (b b' : List ℕ) → Premises f → SettledSo f q → SettledSo f q' → q.pool.view.number ≡ q'.pool.view.number
     → payload_at q.pool m ≡ Some b → payload_at q'.pool m ≡ Some b' → b ≡ b'
 
--- nor are two batches of one place
+-- in views of one number no two payloads of a message are certified at correct processes, each after its last event
+abbrev pub OnePayloadAtTheEnd : Type 0
+OnePayloadAtTheEnd = (f : Family) (p q : Process) (m : Message) (b c : List ℕ) → Premises f → Contains (ends f) p → Contains (ends f) q → p.pool.view.number ≡ q.pool.view.number
+    → payload_at p.pool m ≡ Some b → payload_at q.pool m ≡ Some c → b ≡ c
+
+-- in views of one number no two batches of a place are certified at correct processes, each as an event settles
 abbrev pub OneBatch : Type 0
 OneBatch = (f : Family) (q q' : Process) (k : ℕ) (b b' : Batch) → Premises f → SettledSo f q → SettledSo f q' → q.pool.view.number ≡ q'.pool.view.number
     → place_at q.pool k ≡ Some b → place_at q'.pool k ≡ Some b' → b ≡ b'

@@ -11,4 +11,3 @@ pub mod Events
 pub mod Accounts
 pub mod Family
 pub mod Laws
-pub mod Echoing

@@ -1,110 +1,33 @@
--- A view ends while a batch is in flight: the cut falls behind the place that was delivered, and the messages of the other one are
--- ordered again in the next view.
-use Rattle.std.proofs.Common.{◌≡◌, refl, List, [], ◌∷◌, true, None}
+-- The row of specs/CutBetweenPlaces.antt, computed.
+use Rattle.std.proofs.Common.{◌≡◌, refl, [], ◌∷◌, true}
 use native.Mathlib.Decide.{ℕ_discrete}
 use Rattle.byte_defs.specs.Equality.{bytes_discrete, list_discrete, option_discrete, pair_discrete}
 use Rattle.group_defs.specs.Views.{View-discrete}
-use Rattle.message_defs.specs.Updates.{Renew, Value-discrete}
-use Rattle.message_defs.specs.Statements.{Init, Echo, Order, Place, Keep, Notify, End, Suggest, Ack, Ready, Message-discrete, Batch-discrete}
-use Rattle.group_defs.specs.Process.{Setting, Letter-discrete, Delivered-discrete, start, keyed}
+use Rattle.message_defs.specs.Updates.{Value-discrete}
+use Rattle.message_defs.specs.Statements.{Message-discrete, Batch-discrete}
+use Rattle.group_defs.specs.Process.{Letter-discrete, Delivered-discrete, start, keyed}
 use Rattle.group_defs.specs.Certified.{placed}
 use Rattle.group_defs.specs.Due.{least_due, next_messages}
 use Rattle.group_defs.specs.Hearing.{hear_all}
 use Rattle.group_defs.specs.Signing.{sign_kind, sign_kinds, sign_all}
 use Rattle.group_defs.specs.Settle.{deliver_more, settle}
-use Rattle.message_defs.specs.Claims.{Claims, Wants}
-use Rattle.group_defs.specs.Events.{Turn, after, run, Submit, Hand, RenewView, Tick, Delivers, Installs}
-use Rattle.group_rows.specs.Scripts.{Seen, seen, setting, turn, by, msg, value}
+use Rattle.group_defs.specs.Events.{after, run}
+use Rattle.group_rows.specs.Scripts.{seen}
 use Rattle.group_defs.specs.Accounts.{bounded, agree, sound}
-use Rattle.group_defs.specs.Family.{Family, accounts, numbers, honest}
+use Rattle.group_defs.specs.Family.{accounts, numbers, honest}
 use Rattle.group_defs.specs.Laws.{Premises}
 use Rattle.group_rows.proofs.Premises.{is_well_set, premises-of, four}
-
-pub s : Setting
-s = setting (0 ∷ 1 ∷ []) (0 ∷ 1 ∷ [])
-
-turns_0 : List Turn
-turns_0 =
-    turn 100000 (Submit (97 ∷ []))
-    ∷ turn 99998 (Submit (98 ∷ []))
-    ∷ turn 99996 Tick
-    ∷ turn 99996 (Hand 1 (Claims (by 1 (Echo 0 (msg 0 0) (97 ∷ [])) ∷ by 1 (Echo 0 (msg 0 1) (98 ∷ [])) ∷ [])))
-    ∷ turn 99994 (Hand 1 (Claims (by 1 (Place 0 0 (msg 0 0 ∷ msg 0 1 ∷ [])) ∷ by 1 (Keep 0 0 (msg 0 0 ∷ msg 0 1 ∷ [])) ∷ [])))
-    ∷ turn 99993 (Hand 1 (Claims (by 1 (Init 0 0 (99 ∷ [])) ∷ by 1 (Echo 0 (msg 1 0) (99 ∷ [])) ∷ by 1 (Init 0 1 (100 ∷ [])) ∷ by 1 (Echo 0 (msg 1 1) (100 ∷ [])) ∷ [])))
-    ∷ turn 99989 (Hand 1 (Wants 0 1))
-    ∷ turn 99989 RenewView
-    ∷ turn 99987 (Hand 1 (Claims (by 1 (End 0 1) ∷ [])))
-    ∷ turn 99985 (Hand 1 (Claims (by 1 (Ack 0 0 (value Renew 1)) ∷ [])))
-    ∷ turn 99984 (Hand 1 (Claims (by 1 (Ready 0 0 (value Renew 1)) ∷ [])))
-    ∷ turn 99984 (Hand 1 (Claims (by 1 (Init 1 0 (99 ∷ [])) ∷ by 1 (Init 1 1 (100 ∷ [])) ∷ by 1 (Echo 1 (msg 1 0) (99 ∷ [])) ∷ by 1 (Echo 1 (msg 1 1) (100 ∷ [])) ∷ [])))
-    ∷ turn 99980 (Hand 1 (Wants 1 0))
-    ∷ turn 99980 (Hand 1 (Claims (by 1 (Place 1 0 (msg 1 0 ∷ msg 1 1 ∷ [])) ∷ by 1 (Keep 1 0 (msg 1 0 ∷ msg 1 1 ∷ [])) ∷ [])))
-    ∷ []
-
-answers_0 : List Seen
-answers_0 =
-    (None, ((Init 0 0 (97 ∷ [])) ∷ (Echo 0 (msg 0 0) (97 ∷ [])) ∷ []), (((1 ∷ []), (1 ∷ 1 ∷ 2 ∷ 0 ∷ 8 ∷ 1 ∷ 0 ∷ 0 ∷ 0 ∷ 0 ∷ 0 ∷ 1 ∷ 97 ∷ 1 ∷ 0 ∷ 0 ∷ 0 ∷ 0 ∷ 9 ∷ 2 ∷ 0 ∷ 0 ∷ 0 ∷ 0 ∷ 0 ∷ 0 ∷ 1 ∷ 97 ∷ 1 ∷ 0 ∷ 0 ∷ 0 ∷ [])) ∷ []), ([]))
-    ∷ (None, ((Init 0 1 (98 ∷ [])) ∷ (Echo 0 (msg 0 1) (98 ∷ [])) ∷ []), (((1 ∷ []), (1 ∷ 1 ∷ 2 ∷ 0 ∷ 8 ∷ 1 ∷ 0 ∷ 0 ∷ 0 ∷ 1 ∷ 0 ∷ 1 ∷ 98 ∷ 1 ∷ 0 ∷ 0 ∷ 0 ∷ 0 ∷ 9 ∷ 2 ∷ 0 ∷ 0 ∷ 0 ∷ 0 ∷ 1 ∷ 0 ∷ 1 ∷ 98 ∷ 1 ∷ 0 ∷ 0 ∷ 0 ∷ [])) ∷ []), ([]))
-    ∷ (None, ([]), (((1 ∷ []), (1 ∷ 1 ∷ 4 ∷ 0 ∷ 8 ∷ 1 ∷ 0 ∷ 0 ∷ 0 ∷ 0 ∷ 0 ∷ 1 ∷ 97 ∷ 1 ∷ 0 ∷ 0 ∷ 0 ∷ 0 ∷ 9 ∷ 2 ∷ 0 ∷ 0 ∷ 0 ∷ 0 ∷ 0 ∷ 0 ∷ 1 ∷ 97 ∷ 1 ∷ 0 ∷ 0 ∷ 0 ∷ 0 ∷ 8 ∷ 1 ∷ 0 ∷ 0 ∷ 0 ∷ 1 ∷ 0 ∷ 1 ∷ 98 ∷ 1 ∷ 0 ∷ 0 ∷ 0 ∷ 0 ∷ 9 ∷ 2 ∷ 0 ∷ 0 ∷ 0 ∷ 0 ∷ 1 ∷ 0 ∷ 1 ∷ 98 ∷ 1 ∷ 0 ∷ 0 ∷ 0 ∷ [])) ∷ ((1 ∷ []), (1 ∷ 3 ∷ 0 ∷ 0 ∷ 0 ∷ 0 ∷ [])) ∷ []), ([]))
-    ∷ (None, ((Order 0 0 (msg 0 0 ∷ msg 0 1 ∷ [])) ∷ (Place 0 0 (msg 0 0 ∷ msg 0 1 ∷ [])) ∷ []), (((1 ∷ []), (1 ∷ 1 ∷ 4 ∷ 0 ∷ 12 ∷ 12 ∷ 0 ∷ 0 ∷ 0 ∷ 0 ∷ 2 ∷ 0 ∷ 0 ∷ 0 ∷ 0 ∷ 0 ∷ 1 ∷ 1 ∷ 0 ∷ 0 ∷ 0 ∷ 0 ∷ 12 ∷ 13 ∷ 0 ∷ 0 ∷ 0 ∷ 0 ∷ 2 ∷ 0 ∷ 0 ∷ 0 ∷ 0 ∷ 0 ∷ 1 ∷ 1 ∷ 0 ∷ 0 ∷ 0 ∷ 0 ∷ 9 ∷ 2 ∷ 0 ∷ 0 ∷ 0 ∷ 0 ∷ 0 ∷ 0 ∷ 1 ∷ 97 ∷ 2 ∷ 0 ∷ 0 ∷ 0 ∷ 1 ∷ 0 ∷ 0 ∷ 0 ∷ 9 ∷ 2 ∷ 0 ∷ 0 ∷ 0 ∷ 0 ∷ 1 ∷ 0 ∷ 1 ∷ 98 ∷ 2 ∷ 0 ∷ 0 ∷ 0 ∷ 1 ∷ 0 ∷ 0 ∷ [])) ∷ []), ([]))
-    ∷ (None, ((Keep 0 0 (msg 0 0 ∷ msg 0 1 ∷ [])) ∷ []), (((1 ∷ []), (1 ∷ 1 ∷ 1 ∷ 0 ∷ 12 ∷ 14 ∷ 0 ∷ 0 ∷ 0 ∷ 0 ∷ 2 ∷ 0 ∷ 0 ∷ 0 ∷ 0 ∷ 0 ∷ 1 ∷ 1 ∷ 0 ∷ 0 ∷ 0 ∷ [])) ∷ []), (Delivers 0 (record { place = 0; message = msg 0 0; payload = 97 ∷ [] }) ∷ Delivers 0 (record { place = 0; message = msg 0 1; payload = 98 ∷ [] }) ∷ []))
-    ∷ (None, ((Echo 0 (msg 1 0) (99 ∷ [])) ∷ (Echo 0 (msg 1 1) (100 ∷ [])) ∷ (Order 0 1 (msg 1 0 ∷ msg 1 1 ∷ [])) ∷ (Place 0 1 (msg 1 0 ∷ msg 1 1 ∷ [])) ∷ []), (((1 ∷ []), (1 ∷ 1 ∷ 6 ∷ 0 ∷ 9 ∷ 2 ∷ 0 ∷ 0 ∷ 1 ∷ 0 ∷ 0 ∷ 0 ∷ 1 ∷ 99 ∷ 1 ∷ 0 ∷ 0 ∷ 0 ∷ 0 ∷ 9 ∷ 2 ∷ 0 ∷ 0 ∷ 1 ∷ 0 ∷ 1 ∷ 0 ∷ 1 ∷ 100 ∷ 1 ∷ 0 ∷ 0 ∷ 0 ∷ 0 ∷ 12 ∷ 12 ∷ 0 ∷ 0 ∷ 0 ∷ 1 ∷ 2 ∷ 1 ∷ 0 ∷ 0 ∷ 1 ∷ 0 ∷ 1 ∷ 1 ∷ 0 ∷ 0 ∷ 0 ∷ 0 ∷ 12 ∷ 13 ∷ 0 ∷ 0 ∷ 0 ∷ 1 ∷ 2 ∷ 1 ∷ 0 ∷ 0 ∷ 1 ∷ 0 ∷ 1 ∷ 1 ∷ 0 ∷ 0 ∷ 0 ∷ 0 ∷ 9 ∷ 2 ∷ 0 ∷ 0 ∷ 1 ∷ 0 ∷ 0 ∷ 0 ∷ 1 ∷ 99 ∷ 1 ∷ 1 ∷ 0 ∷ 0 ∷ 0 ∷ 9 ∷ 2 ∷ 0 ∷ 0 ∷ 1 ∷ 0 ∷ 1 ∷ 0 ∷ 1 ∷ 100 ∷ 1 ∷ 1 ∷ 0 ∷ 0 ∷ [])) ∷ []), ([]))
-    ∷ (None, ([]), ([]), ([]))
-    ∷ (None, ((Notify 0 Renew) ∷ (End 0 1) ∷ []), (((1 ∷ []), (1 ∷ 1 ∷ 2 ∷ 0 ∷ 5 ∷ 6 ∷ 0 ∷ 0 ∷ 3 ∷ 0 ∷ 1 ∷ 0 ∷ 0 ∷ 0 ∷ 0 ∷ 5 ∷ 7 ∷ 0 ∷ 0 ∷ 0 ∷ 1 ∷ 1 ∷ 0 ∷ 0 ∷ 0 ∷ [])) ∷ []), ([]))
-    ∷ (None, ((Suggest 0 0 (value Renew 1)) ∷ (Ack 0 0 (value Renew 1)) ∷ []), (((1 ∷ []), (1 ∷ 1 ∷ 5 ∷ 0 ∷ 8 ∷ 9 ∷ 0 ∷ 0 ∷ 0 ∷ 3 ∷ 0 ∷ 0 ∷ 1 ∷ 1 ∷ 0 ∷ 0 ∷ 0 ∷ 0 ∷ 8 ∷ 10 ∷ 0 ∷ 0 ∷ 0 ∷ 3 ∷ 0 ∷ 0 ∷ 1 ∷ 1 ∷ 0 ∷ 0 ∷ 0 ∷ 0 ∷ 12 ∷ 13 ∷ 0 ∷ 0 ∷ 0 ∷ 0 ∷ 2 ∷ 0 ∷ 0 ∷ 0 ∷ 0 ∷ 0 ∷ 1 ∷ 2 ∷ 0 ∷ 0 ∷ 0 ∷ 1 ∷ 0 ∷ 0 ∷ 0 ∷ 5 ∷ 6 ∷ 0 ∷ 0 ∷ 3 ∷ 0 ∷ 1 ∷ 0 ∷ 0 ∷ 0 ∷ 0 ∷ 5 ∷ 7 ∷ 0 ∷ 0 ∷ 0 ∷ 1 ∷ 2 ∷ 0 ∷ 0 ∷ 0 ∷ 1 ∷ 0 ∷ 0 ∷ [])) ∷ []), ([]))
-    ∷ (None, ((Ready 0 0 (value Renew 1)) ∷ []), (((1 ∷ []), (1 ∷ 1 ∷ 1 ∷ 0 ∷ 8 ∷ 11 ∷ 0 ∷ 0 ∷ 0 ∷ 3 ∷ 0 ∷ 0 ∷ 1 ∷ 1 ∷ 0 ∷ 0 ∷ 0 ∷ [])) ∷ []), ([]))
-    ∷ (None, ([]), ([]), (Installs (record { number = 1; members = 0 ∷ 1 ∷ [] }) ∷ []))
-    ∷ (None, ((Echo 1 (msg 1 0) (99 ∷ [])) ∷ (Echo 1 (msg 1 1) (100 ∷ [])) ∷ (Order 1 0 (msg 1 0 ∷ msg 1 1 ∷ [])) ∷ (Place 1 0 (msg 1 0 ∷ msg 1 1 ∷ [])) ∷ []), (((1 ∷ []), (1 ∷ 1 ∷ 6 ∷ 0 ∷ 9 ∷ 2 ∷ 0 ∷ 1 ∷ 1 ∷ 0 ∷ 0 ∷ 0 ∷ 1 ∷ 99 ∷ 1 ∷ 0 ∷ 0 ∷ 0 ∷ 0 ∷ 9 ∷ 2 ∷ 0 ∷ 1 ∷ 1 ∷ 0 ∷ 1 ∷ 0 ∷ 1 ∷ 100 ∷ 1 ∷ 0 ∷ 0 ∷ 0 ∷ 0 ∷ 12 ∷ 12 ∷ 0 ∷ 1 ∷ 0 ∷ 0 ∷ 2 ∷ 1 ∷ 0 ∷ 0 ∷ 1 ∷ 0 ∷ 1 ∷ 1 ∷ 0 ∷ 0 ∷ 0 ∷ 0 ∷ 12 ∷ 13 ∷ 0 ∷ 1 ∷ 0 ∷ 0 ∷ 2 ∷ 1 ∷ 0 ∷ 0 ∷ 1 ∷ 0 ∷ 1 ∷ 1 ∷ 0 ∷ 0 ∷ 0 ∷ 0 ∷ 9 ∷ 2 ∷ 0 ∷ 1 ∷ 1 ∷ 0 ∷ 0 ∷ 0 ∷ 1 ∷ 99 ∷ 1 ∷ 1 ∷ 0 ∷ 0 ∷ 0 ∷ 9 ∷ 2 ∷ 0 ∷ 1 ∷ 1 ∷ 0 ∷ 1 ∷ 0 ∷ 1 ∷ 100 ∷ 1 ∷ 1 ∷ 0 ∷ 0 ∷ [])) ∷ []), ([]))
-    ∷ (None, ([]), ([]), ([]))
-    ∷ (None, ((Keep 1 0 (msg 1 0 ∷ msg 1 1 ∷ [])) ∷ []), (((1 ∷ []), (1 ∷ 1 ∷ 1 ∷ 0 ∷ 12 ∷ 14 ∷ 0 ∷ 1 ∷ 0 ∷ 0 ∷ 2 ∷ 1 ∷ 0 ∷ 0 ∷ 1 ∷ 0 ∷ 1 ∷ 1 ∷ 0 ∷ 0 ∷ 0 ∷ [])) ∷ []), (Delivers 1 (record { place = 0; message = msg 1 0; payload = 99 ∷ [] }) ∷ Delivers 1 (record { place = 0; message = msg 1 1; payload = 100 ∷ [] }) ∷ []))
-    ∷ []
+use Rattle.group_rows.specs.CutBetweenPlaces.{s, turns_0, answers_0, turns_1, answers_1, f, CutBetweenPlaces}
 
 row_0 : seen s (start s 0 16) turns_0 ≡ answers_0
 unfolding ℕ_discrete bytes_discrete option_discrete pair_discrete Value-discrete Message-discrete list_discrete Batch-discrete placed next_messages least_due hear_all sign_kind sign_kinds sign_all deliver_more settle after s turns_0 answers_0
 row_0 = refl
 
-turns_1 : List Turn
-turns_1 =
-    turn 100000 (Hand 0 (Claims (by 0 (Init 0 0 (97 ∷ [])) ∷ by 0 (Echo 0 (msg 0 0) (97 ∷ [])) ∷ by 0 (Init 0 1 (98 ∷ [])) ∷ by 0 (Echo 0 (msg 0 1) (98 ∷ [])) ∷ [])))
-    ∷ turn 99998 (Hand 0 (Wants 0 0))
-    ∷ turn 99998 (Hand 0 (Claims (by 0 (Order 0 0 (msg 0 0 ∷ msg 0 1 ∷ [])) ∷ by 0 (Place 0 0 (msg 0 0 ∷ msg 0 1 ∷ [])) ∷ by 0 (Echo 0 (msg 0 0) (97 ∷ [])) ∷ by 1 (Echo 0 (msg 0 0) (97 ∷ [])) ∷ by 0 (Echo 0 (msg 0 1) (98 ∷ [])) ∷ by 1 (Echo 0 (msg 0 1) (98 ∷ [])) ∷ [])))
-    ∷ turn 99996 (Hand 0 (Claims (by 0 (Keep 0 0 (msg 0 0 ∷ msg 0 1 ∷ [])) ∷ [])))
-    ∷ turn 99996 (Submit (99 ∷ []))
-    ∷ turn 99994 (Submit (100 ∷ []))
-    ∷ turn 99992 Tick
-    ∷ turn 99992 (Hand 0 (Claims (by 0 (Notify 0 Renew) ∷ by 0 (End 0 1) ∷ [])))
-    ∷ turn 99991 (Hand 0 (Claims (by 0 (Suggest 0 0 (value Renew 1)) ∷ by 0 (Ack 0 0 (value Renew 1)) ∷ by 0 (Place 0 0 (msg 0 0 ∷ msg 0 1 ∷ [])) ∷ by 1 (Place 0 0 (msg 0 0 ∷ msg 0 1 ∷ [])) ∷ by 0 (Notify 0 Renew) ∷ by 0 (End 0 1) ∷ by 1 (End 0 1) ∷ [])))
-    ∷ turn 99990 (Hand 0 (Claims (by 0 (Ready 0 0 (value Renew 1)) ∷ [])))
-    ∷ turn 99989 Tick
-    ∷ turn 99985 (Hand 0 (Claims (by 0 (Echo 1 (msg 1 0) (99 ∷ [])) ∷ by 0 (Echo 1 (msg 1 1) (100 ∷ [])) ∷ by 0 (Order 1 0 (msg 1 0 ∷ msg 1 1 ∷ [])) ∷ by 0 (Place 1 0 (msg 1 0 ∷ msg 1 1 ∷ [])) ∷ by 1 (Echo 1 (msg 1 0) (99 ∷ [])) ∷ by 1 (Echo 1 (msg 1 1) (100 ∷ [])) ∷ [])))
-    ∷ turn 99983 (Hand 0 (Claims (by 0 (Keep 1 0 (msg 1 0 ∷ msg 1 1 ∷ [])) ∷ [])))
-    ∷ []
-
-answers_1 : List Seen
-answers_1 =
-    (None, ((Echo 0 (msg 0 0) (97 ∷ [])) ∷ (Echo 0 (msg 0 1) (98 ∷ [])) ∷ []), (((0 ∷ []), (1 ∷ 1 ∷ 2 ∷ 0 ∷ 9 ∷ 2 ∷ 0 ∷ 0 ∷ 0 ∷ 0 ∷ 0 ∷ 0 ∷ 1 ∷ 97 ∷ 1 ∷ 1 ∷ 0 ∷ 0 ∷ 0 ∷ 9 ∷ 2 ∷ 0 ∷ 0 ∷ 0 ∷ 0 ∷ 1 ∷ 0 ∷ 1 ∷ 98 ∷ 1 ∷ 1 ∷ 0 ∷ 0 ∷ [])) ∷ []), ([]))
-    ∷ (None, ([]), ([]), ([]))
-    ∷ (None, ((Place 0 0 (msg 0 0 ∷ msg 0 1 ∷ [])) ∷ (Keep 0 0 (msg 0 0 ∷ msg 0 1 ∷ [])) ∷ []), (((0 ∷ []), (1 ∷ 1 ∷ 2 ∷ 0 ∷ 12 ∷ 13 ∷ 0 ∷ 0 ∷ 0 ∷ 0 ∷ 2 ∷ 0 ∷ 0 ∷ 0 ∷ 0 ∷ 0 ∷ 1 ∷ 1 ∷ 1 ∷ 0 ∷ 0 ∷ 0 ∷ 12 ∷ 14 ∷ 0 ∷ 0 ∷ 0 ∷ 0 ∷ 2 ∷ 0 ∷ 0 ∷ 0 ∷ 0 ∷ 0 ∷ 1 ∷ 1 ∷ 1 ∷ 0 ∷ 0 ∷ [])) ∷ []), ([]))
-    ∷ (None, ([]), ([]), (Delivers 0 (record { place = 0; message = msg 0 0; payload = 97 ∷ [] }) ∷ Delivers 0 (record { place = 0; message = msg 0 1; payload = 98 ∷ [] }) ∷ []))
-    ∷ (None, ((Init 0 0 (99 ∷ [])) ∷ (Echo 0 (msg 1 0) (99 ∷ [])) ∷ []), (((0 ∷ []), (1 ∷ 1 ∷ 2 ∷ 0 ∷ 8 ∷ 1 ∷ 0 ∷ 0 ∷ 0 ∷ 0 ∷ 0 ∷ 1 ∷ 99 ∷ 1 ∷ 1 ∷ 0 ∷ 0 ∷ 0 ∷ 9 ∷ 2 ∷ 0 ∷ 0 ∷ 1 ∷ 0 ∷ 0 ∷ 0 ∷ 1 ∷ 99 ∷ 1 ∷ 1 ∷ 0 ∷ 0 ∷ [])) ∷ []), ([]))
-    ∷ (None, ((Init 0 1 (100 ∷ [])) ∷ (Echo 0 (msg 1 1) (100 ∷ [])) ∷ []), (((0 ∷ []), (1 ∷ 1 ∷ 2 ∷ 0 ∷ 8 ∷ 1 ∷ 0 ∷ 0 ∷ 0 ∷ 1 ∷ 0 ∷ 1 ∷ 100 ∷ 1 ∷ 1 ∷ 0 ∷ 0 ∷ 0 ∷ 9 ∷ 2 ∷ 0 ∷ 0 ∷ 1 ∷ 0 ∷ 1 ∷ 0 ∷ 1 ∷ 100 ∷ 1 ∷ 1 ∷ 0 ∷ 0 ∷ [])) ∷ []), ([]))
-    ∷ (None, ([]), (((0 ∷ []), (1 ∷ 1 ∷ 4 ∷ 0 ∷ 8 ∷ 1 ∷ 0 ∷ 0 ∷ 0 ∷ 0 ∷ 0 ∷ 1 ∷ 99 ∷ 1 ∷ 1 ∷ 0 ∷ 0 ∷ 0 ∷ 9 ∷ 2 ∷ 0 ∷ 0 ∷ 1 ∷ 0 ∷ 0 ∷ 0 ∷ 1 ∷ 99 ∷ 1 ∷ 1 ∷ 0 ∷ 0 ∷ 0 ∷ 8 ∷ 1 ∷ 0 ∷ 0 ∷ 0 ∷ 1 ∷ 0 ∷ 1 ∷ 100 ∷ 1 ∷ 1 ∷ 0 ∷ 0 ∷ 0 ∷ 9 ∷ 2 ∷ 0 ∷ 0 ∷ 1 ∷ 0 ∷ 1 ∷ 0 ∷ 1 ∷ 100 ∷ 1 ∷ 1 ∷ 0 ∷ 0 ∷ [])) ∷ ((0 ∷ []), (1 ∷ 3 ∷ 0 ∷ 0 ∷ 0 ∷ 1 ∷ [])) ∷ []), ([]))
-    ∷ (None, ((End 0 1) ∷ []), (((0 ∷ []), (1 ∷ 1 ∷ 1 ∷ 0 ∷ 5 ∷ 7 ∷ 0 ∷ 0 ∷ 0 ∷ 1 ∷ 1 ∷ 1 ∷ 0 ∷ 0 ∷ [])) ∷ []), ([]))
-    ∷ (None, ((Ack 0 0 (value Renew 1)) ∷ []), (((0 ∷ []), (1 ∷ 1 ∷ 1 ∷ 0 ∷ 8 ∷ 10 ∷ 0 ∷ 0 ∷ 0 ∷ 3 ∷ 0 ∷ 0 ∷ 1 ∷ 1 ∷ 1 ∷ 0 ∷ 0 ∷ [])) ∷ []), ([]))
-    ∷ (None, ((Ready 0 0 (value Renew 1)) ∷ []), (((0 ∷ []), (1 ∷ 1 ∷ 1 ∷ 0 ∷ 8 ∷ 11 ∷ 0 ∷ 0 ∷ 0 ∷ 3 ∷ 0 ∷ 0 ∷ 1 ∷ 1 ∷ 1 ∷ 0 ∷ 0 ∷ [])) ∷ []), (Installs (record { number = 1; members = 0 ∷ 1 ∷ [] }) ∷ []))
-    ∷ (None, ((Init 1 0 (99 ∷ [])) ∷ (Init 1 1 (100 ∷ [])) ∷ (Echo 1 (msg 1 0) (99 ∷ [])) ∷ (Echo 1 (msg 1 1) (100 ∷ [])) ∷ []), (((0 ∷ []), (1 ∷ 1 ∷ 4 ∷ 0 ∷ 8 ∷ 1 ∷ 0 ∷ 1 ∷ 0 ∷ 0 ∷ 0 ∷ 1 ∷ 99 ∷ 1 ∷ 1 ∷ 0 ∷ 0 ∷ 0 ∷ 8 ∷ 1 ∷ 0 ∷ 1 ∷ 0 ∷ 1 ∷ 0 ∷ 1 ∷ 100 ∷ 1 ∷ 1 ∷ 0 ∷ 0 ∷ 0 ∷ 9 ∷ 2 ∷ 0 ∷ 1 ∷ 1 ∷ 0 ∷ 0 ∷ 0 ∷ 1 ∷ 99 ∷ 1 ∷ 1 ∷ 0 ∷ 0 ∷ 0 ∷ 9 ∷ 2 ∷ 0 ∷ 1 ∷ 1 ∷ 0 ∷ 1 ∷ 0 ∷ 1 ∷ 100 ∷ 1 ∷ 1 ∷ 0 ∷ 0 ∷ [])) ∷ ((0 ∷ []), (1 ∷ 3 ∷ 0 ∷ 1 ∷ 0 ∷ 0 ∷ [])) ∷ []), ([]))
-    ∷ (None, ((Place 1 0 (msg 1 0 ∷ msg 1 1 ∷ [])) ∷ (Keep 1 0 (msg 1 0 ∷ msg 1 1 ∷ [])) ∷ []), (((0 ∷ []), (1 ∷ 1 ∷ 2 ∷ 0 ∷ 12 ∷ 13 ∷ 0 ∷ 1 ∷ 0 ∷ 0 ∷ 2 ∷ 1 ∷ 0 ∷ 0 ∷ 1 ∷ 0 ∷ 1 ∷ 1 ∷ 1 ∷ 0 ∷ 0 ∷ 0 ∷ 12 ∷ 14 ∷ 0 ∷ 1 ∷ 0 ∷ 0 ∷ 2 ∷ 1 ∷ 0 ∷ 0 ∷ 1 ∷ 0 ∷ 1 ∷ 1 ∷ 1 ∷ 0 ∷ 0 ∷ [])) ∷ []), ([]))
-    ∷ (None, ([]), ([]), (Delivers 1 (record { place = 0; message = msg 1 0; payload = 99 ∷ [] }) ∷ Delivers 1 (record { place = 0; message = msg 1 1; payload = 100 ∷ [] }) ∷ []))
-    ∷ []
-
 row_1 : seen s (start s 1 16) turns_1 ≡ answers_1
 unfolding ℕ_discrete bytes_discrete option_discrete pair_discrete Value-discrete Message-discrete list_discrete Batch-discrete placed next_messages least_due hear_all sign_kind sign_kinds sign_all deliver_more settle after s turns_1 answers_1
 row_1 = refl
 
-pub f : Family
-f = record { setting = s; correct = (record { me = 0; batch_limit = 16; turns = turns_0 } ∷ record { me = 1; batch_limit = 16; turns = turns_1 } ∷ []) }
-
-pub judged : honest f ∷ bounded (accounts f) (numbers f) ∷ agree (accounts f) ∷ sound (accounts f) (keyed f.setting) ∷ [] ≡ true ∷ true ∷ true ∷ true ∷ []
+judged : honest f ∷ bounded (accounts f) (numbers f) ∷ agree (accounts f) ∷ sound (accounts f) (keyed f.setting) ∷ [] ≡ true ∷ true ∷ true ∷ true ∷ []
 unfolding ℕ_discrete bytes_discrete option_discrete pair_discrete Value-discrete Message-discrete list_discrete Batch-discrete placed next_messages least_due hear_all sign_kind sign_kinds sign_all deliver_more settle after run View-discrete Letter-discrete Delivered-discrete f s turns_0 turns_1
 judged = refl
 
@@ -112,5 +35,8 @@ well_set : is_well_set f ≡ true
 unfolding f s
 well_set = refl
 
-pub premises : Premises f
+premises : Premises f
 premises = premises-of f well_set (four judged).0 (four judged).1
+
+pub cut_between_places : CutBetweenPlaces
+cut_between_places = record { row_0 = row_0; row_1 = row_1; judged = judged; premises = premises }

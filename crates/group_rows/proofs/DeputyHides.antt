@@ -1,140 +1,37 @@
--- All correct members have signed a Ready at rank 0. The corrupt deputy of rank 1 says Last none and suggests another value:
--- nobody acknowledges it.
-use Rattle.std.proofs.Common.{◌≡◌, refl, List, [], ◌∷◌, true, Some, None}
+-- The row of specs/DeputyHides.antt, computed.
+use Rattle.std.proofs.Common.{◌≡◌, refl, [], ◌∷◌, true}
 use native.Mathlib.Decide.{ℕ_discrete}
 use Rattle.byte_defs.specs.Equality.{bytes_discrete, list_discrete, option_discrete, pair_discrete}
 use Rattle.group_defs.specs.Views.{View-discrete}
-use Rattle.message_defs.specs.Updates.{Remove, Renew, Value-discrete}
-use Rattle.message_defs.specs.Statements.{Notify, End, Last, Suggest, Ack, Ready, Message-discrete, Batch-discrete}
-use Rattle.group_defs.specs.Process.{Setting, Letter-discrete, Delivered-discrete, start, keyed}
+use Rattle.message_defs.specs.Updates.{Value-discrete}
+use Rattle.message_defs.specs.Statements.{Message-discrete, Batch-discrete}
+use Rattle.group_defs.specs.Process.{Letter-discrete, Delivered-discrete, start, keyed}
 use Rattle.group_defs.specs.Certified.{placed}
 use Rattle.group_defs.specs.Due.{least_due, next_messages}
 use Rattle.group_defs.specs.Hearing.{hear_all}
 use Rattle.group_defs.specs.Signing.{sign_kind, sign_kinds, sign_all}
 use Rattle.group_defs.specs.Settle.{deliver_more, settle}
-use Rattle.message_defs.specs.Claims.{Claims}
-use Rattle.group_defs.specs.Events.{Turn, after, run, Hand, Suspect, RenewView}
-use Rattle.group_rows.specs.Scripts.{Seen, seen, setting, turn, by, value}
+use Rattle.group_defs.specs.Events.{after, run}
+use Rattle.group_rows.specs.Scripts.{seen}
 use Rattle.group_defs.specs.Accounts.{bounded, agree, sound}
-use Rattle.group_defs.specs.Family.{Family, accounts, numbers, honest}
+use Rattle.group_defs.specs.Family.{accounts, numbers, honest}
 use Rattle.group_defs.specs.Laws.{Premises}
 use Rattle.group_rows.proofs.Premises.{is_well_set, premises-of, four}
-
-pub s : Setting
-s = setting (0 ∷ 1 ∷ 2 ∷ 3 ∷ []) (0 ∷ 1 ∷ 2 ∷ 3 ∷ [])
-
-turns_0 : List Turn
-turns_0 =
-    turn 100000 (RenewView)
-    ∷ turn 99999 (Hand 2 (Claims (by 2 (Notify 0 Renew) ∷ [])))
-    ∷ turn 99998 (Hand 2 (Claims (by 2 (End 0 0) ∷ [])))
-    ∷ turn 99998 (Hand 3 (Claims (by 3 (End 0 0) ∷ [])))
-    ∷ turn 99996 (Hand 2 (Claims (by 2 (Ack 0 0 (value Renew 0)) ∷ [])))
-    ∷ turn 99996 (Hand 3 (Claims (by 3 (Ack 0 0 (value Renew 0)) ∷ [])))
-    ∷ turn 99995 (Hand 2 (Claims (by 2 (Notify 0 (Remove 0)) ∷ [])))
-    ∷ turn 99995 (Hand 3 (Claims (by 3 (Notify 0 (Remove 0)) ∷ [])))
-    ∷ turn 99994 (Hand 1 (Claims (by 1 (Last 0 1 None) ∷ [])))
-    ∷ turn 99994 (Hand 1 (Claims (by 1 (Suggest 0 1 (value (Remove 0) 0)) ∷ [])))
-    ∷ turn 99994 (Hand 3 (Claims (by 3 (Last 0 1 (Some (0, (value Renew 0)))) ∷ [])))
-    ∷ turn 99994 (Hand 2 (Claims (by 2 (Last 0 1 (Some (0, (value Renew 0)))) ∷ [])))
-    ∷ []
-
-answers_0 : List Seen
-answers_0 =
-    (None, ((Notify 0 Renew) ∷ []), (((1 ∷ 2 ∷ 3 ∷ []), (1 ∷ 1 ∷ 1 ∷ 0 ∷ 5 ∷ 6 ∷ 0 ∷ 0 ∷ 3 ∷ 0 ∷ 1 ∷ 0 ∷ 0 ∷ 0 ∷ [])) ∷ []), ([]))
-    ∷ (None, ((End 0 0) ∷ []), (((1 ∷ 2 ∷ 3 ∷ []), (1 ∷ 1 ∷ 1 ∷ 0 ∷ 5 ∷ 7 ∷ 0 ∷ 0 ∷ 0 ∷ 0 ∷ 1 ∷ 0 ∷ 0 ∷ 0 ∷ [])) ∷ []), ([]))
-    ∷ (None, ([]), ([]), ([]))
-    ∷ (None, ((Suggest 0 0 (value Renew 0)) ∷ (Ack 0 0 (value Renew 0)) ∷ []), (((1 ∷ 2 ∷ 3 ∷ []), (1 ∷ 1 ∷ 4 ∷ 0 ∷ 8 ∷ 9 ∷ 0 ∷ 0 ∷ 0 ∷ 3 ∷ 0 ∷ 0 ∷ 0 ∷ 1 ∷ 0 ∷ 0 ∷ 0 ∷ 0 ∷ 8 ∷ 10 ∷ 0 ∷ 0 ∷ 0 ∷ 3 ∷ 0 ∷ 0 ∷ 0 ∷ 1 ∷ 0 ∷ 0 ∷ 0 ∷ 0 ∷ 5 ∷ 6 ∷ 0 ∷ 0 ∷ 3 ∷ 0 ∷ 2 ∷ 0 ∷ 0 ∷ 0 ∷ 2 ∷ 0 ∷ 0 ∷ 0 ∷ 5 ∷ 7 ∷ 0 ∷ 0 ∷ 0 ∷ 0 ∷ 3 ∷ 0 ∷ 0 ∷ 0 ∷ 2 ∷ 0 ∷ 0 ∷ 3 ∷ 0 ∷ 0 ∷ [])) ∷ []), ([]))
-    ∷ (None, ([]), ([]), ([]))
-    ∷ (None, ((Ready 0 0 (value Renew 0)) ∷ []), (((1 ∷ 2 ∷ 3 ∷ []), (1 ∷ 1 ∷ 1 ∷ 0 ∷ 8 ∷ 11 ∷ 0 ∷ 0 ∷ 0 ∷ 3 ∷ 0 ∷ 0 ∷ 0 ∷ 1 ∷ 0 ∷ 0 ∷ 0 ∷ [])) ∷ []), ([]))
-    ∷ (None, ([]), ([]), ([]))
-    ∷ (None, ((Last 0 1 (Some (0, (value Renew 0)))) ∷ []), (((1 ∷ 2 ∷ 3 ∷ []), (1 ∷ 1 ∷ 1 ∷ 0 ∷ 10 ∷ 8 ∷ 0 ∷ 0 ∷ 1 ∷ 1 ∷ 0 ∷ 3 ∷ 0 ∷ 0 ∷ 0 ∷ 1 ∷ 0 ∷ 0 ∷ 0 ∷ [])) ∷ []), ([]))
-    ∷ (None, ([]), ([]), ([]))
-    ∷ (None, ([]), ([]), ([]))
-    ∷ (None, ([]), ([]), ([]))
-    ∷ (None, ([]), ([]), ([]))
-    ∷ []
+use Rattle.group_rows.specs.DeputyHides.{s, turns_0, answers_0, turns_2, answers_2, turns_3, answers_3, f, DeputyHides}
 
 row_0 : seen s (start s 0 1) turns_0 ≡ answers_0
 unfolding ℕ_discrete bytes_discrete option_discrete pair_discrete Value-discrete Message-discrete list_discrete Batch-discrete placed next_messages least_due hear_all sign_kind sign_kinds sign_all deliver_more settle after s turns_0 answers_0
 row_0 = refl
 
-turns_2 : List Turn
-turns_2 =
-    turn 100000 (RenewView)
-    ∷ turn 99999 (Hand 0 (Claims (by 0 (Notify 0 Renew) ∷ [])))
-    ∷ turn 99998 (Hand 0 (Claims (by 0 (End 0 0) ∷ [])))
-    ∷ turn 99998 (Hand 3 (Claims (by 3 (End 0 0) ∷ [])))
-    ∷ turn 99998 (Hand 0 (Claims (by 0 (Suggest 0 0 (value Renew 0)) ∷ by 0 (Ack 0 0 (value Renew 0)) ∷ by 0 (Notify 0 Renew) ∷ by 2 (Notify 0 Renew) ∷ by 0 (End 0 0) ∷ by 2 (End 0 0) ∷ by 3 (End 0 0) ∷ [])))
-    ∷ turn 99997 (Hand 3 (Claims (by 3 (Ack 0 0 (value Renew 0)) ∷ [])))
-    ∷ turn 99996 (Suspect 0)
-    ∷ turn 99995 (Hand 3 (Claims (by 3 (Notify 0 (Remove 0)) ∷ [])))
-    ∷ turn 99994 (Hand 1 (Claims (by 1 (Last 0 1 None) ∷ [])))
-    ∷ turn 99994 (Hand 1 (Claims (by 1 (Suggest 0 1 (value (Remove 0) 0)) ∷ [])))
-    ∷ turn 99994 (Hand 3 (Claims (by 3 (Last 0 1 (Some (0, (value Renew 0)))) ∷ [])))
-    ∷ turn 99994 (Hand 0 (Claims (by 0 (Last 0 1 (Some (0, (value Renew 0)))) ∷ [])))
-    ∷ []
-
-answers_2 : List Seen
-answers_2 =
-    (None, ((Notify 0 Renew) ∷ []), (((0 ∷ 1 ∷ 3 ∷ []), (1 ∷ 1 ∷ 1 ∷ 0 ∷ 5 ∷ 6 ∷ 0 ∷ 0 ∷ 3 ∷ 0 ∷ 1 ∷ 2 ∷ 0 ∷ 0 ∷ [])) ∷ []), ([]))
-    ∷ (None, ((End 0 0) ∷ []), (((0 ∷ 1 ∷ 3 ∷ []), (1 ∷ 1 ∷ 1 ∷ 0 ∷ 5 ∷ 7 ∷ 0 ∷ 0 ∷ 0 ∷ 0 ∷ 1 ∷ 2 ∷ 0 ∷ 0 ∷ [])) ∷ []), ([]))
-    ∷ (None, ([]), ([]), ([]))
-    ∷ (None, ([]), ([]), ([]))
-    ∷ (None, ((Ack 0 0 (value Renew 0)) ∷ []), (((0 ∷ 1 ∷ 3 ∷ []), (1 ∷ 1 ∷ 1 ∷ 0 ∷ 8 ∷ 10 ∷ 0 ∷ 0 ∷ 0 ∷ 3 ∷ 0 ∷ 0 ∷ 0 ∷ 1 ∷ 2 ∷ 0 ∷ 0 ∷ [])) ∷ []), ([]))
-    ∷ (None, ((Ready 0 0 (value Renew 0)) ∷ []), (((0 ∷ 1 ∷ 3 ∷ []), (1 ∷ 1 ∷ 1 ∷ 0 ∷ 8 ∷ 11 ∷ 0 ∷ 0 ∷ 0 ∷ 3 ∷ 0 ∷ 0 ∷ 0 ∷ 1 ∷ 2 ∷ 0 ∷ 0 ∷ [])) ∷ []), ([]))
-    ∷ (None, ((Notify 0 (Remove 0)) ∷ []), (((0 ∷ 1 ∷ 3 ∷ []), (1 ∷ 1 ∷ 1 ∷ 0 ∷ 5 ∷ 6 ∷ 0 ∷ 0 ∷ 1 ∷ 0 ∷ 1 ∷ 2 ∷ 0 ∷ 0 ∷ [])) ∷ []), ([]))
-    ∷ (None, ((Last 0 1 (Some (0, (value Renew 0)))) ∷ []), (((0 ∷ 1 ∷ 3 ∷ []), (1 ∷ 1 ∷ 1 ∷ 0 ∷ 10 ∷ 8 ∷ 0 ∷ 0 ∷ 1 ∷ 1 ∷ 0 ∷ 3 ∷ 0 ∷ 0 ∷ 0 ∷ 1 ∷ 2 ∷ 0 ∷ 0 ∷ [])) ∷ []), ([]))
-    ∷ (None, ([]), ([]), ([]))
-    ∷ (None, ([]), ([]), ([]))
-    ∷ (None, ([]), ([]), ([]))
-    ∷ (None, ([]), ([]), ([]))
-    ∷ []
-
 row_2 : seen s (start s 2 1) turns_2 ≡ answers_2
 unfolding ℕ_discrete bytes_discrete option_discrete pair_discrete Value-discrete Message-discrete list_discrete Batch-discrete placed next_messages least_due hear_all sign_kind sign_kinds sign_all deliver_more settle after s turns_2 answers_2
 row_2 = refl
-
-turns_3 : List Turn
-turns_3 =
-    turn 100000 (Hand 0 (Claims (by 0 (Notify 0 Renew) ∷ [])))
-    ∷ turn 100000 (Hand 2 (Claims (by 2 (Notify 0 Renew) ∷ [])))
-    ∷ turn 99999 (Hand 2 (Claims (by 2 (End 0 0) ∷ [])))
-    ∷ turn 99999 (Hand 0 (Claims (by 0 (End 0 0) ∷ [])))
-    ∷ turn 99999 (Hand 0 (Claims (by 0 (Suggest 0 0 (value Renew 0)) ∷ by 0 (Ack 0 0 (value Renew 0)) ∷ by 0 (Notify 0 Renew) ∷ by 2 (Notify 0 Renew) ∷ by 0 (End 0 0) ∷ by 2 (End 0 0) ∷ by 3 (End 0 0) ∷ [])))
-    ∷ turn 99998 (Hand 2 (Claims (by 2 (Ack 0 0 (value Renew 0)) ∷ [])))
-    ∷ turn 99997 (Suspect 0)
-    ∷ turn 99996 (Hand 2 (Claims (by 2 (Notify 0 (Remove 0)) ∷ [])))
-    ∷ turn 99995 (Hand 1 (Claims (by 1 (Last 0 1 None) ∷ [])))
-    ∷ turn 99995 (Hand 1 (Claims (by 1 (Suggest 0 1 (value (Remove 0) 0)) ∷ [])))
-    ∷ turn 99995 (Hand 0 (Claims (by 0 (Last 0 1 (Some (0, (value Renew 0)))) ∷ [])))
-    ∷ turn 99995 (Hand 2 (Claims (by 2 (Last 0 1 (Some (0, (value Renew 0)))) ∷ [])))
-    ∷ []
-
-answers_3 : List Seen
-answers_3 =
-    (None, ([]), ([]), ([]))
-    ∷ (None, ((End 0 0) ∷ []), (((0 ∷ 1 ∷ 2 ∷ []), (1 ∷ 1 ∷ 1 ∷ 0 ∷ 5 ∷ 7 ∷ 0 ∷ 0 ∷ 0 ∷ 0 ∷ 1 ∷ 3 ∷ 0 ∷ 0 ∷ [])) ∷ []), ([]))
-    ∷ (None, ([]), ([]), ([]))
-    ∷ (None, ([]), ([]), ([]))
-    ∷ (None, ((Ack 0 0 (value Renew 0)) ∷ []), (((0 ∷ 1 ∷ 2 ∷ []), (1 ∷ 1 ∷ 1 ∷ 0 ∷ 8 ∷ 10 ∷ 0 ∷ 0 ∷ 0 ∷ 3 ∷ 0 ∷ 0 ∷ 0 ∷ 1 ∷ 3 ∷ 0 ∷ 0 ∷ [])) ∷ []), ([]))
-    ∷ (None, ((Ready 0 0 (value Renew 0)) ∷ []), (((0 ∷ 1 ∷ 2 ∷ []), (1 ∷ 1 ∷ 1 ∷ 0 ∷ 8 ∷ 11 ∷ 0 ∷ 0 ∷ 0 ∷ 3 ∷ 0 ∷ 0 ∷ 0 ∷ 1 ∷ 3 ∷ 0 ∷ 0 ∷ [])) ∷ []), ([]))
-    ∷ (None, ((Notify 0 (Remove 0)) ∷ []), (((0 ∷ 1 ∷ 2 ∷ []), (1 ∷ 1 ∷ 1 ∷ 0 ∷ 5 ∷ 6 ∷ 0 ∷ 0 ∷ 1 ∷ 0 ∷ 1 ∷ 3 ∷ 0 ∷ 0 ∷ [])) ∷ []), ([]))
-    ∷ (None, ((Last 0 1 (Some (0, (value Renew 0)))) ∷ []), (((0 ∷ 1 ∷ 2 ∷ []), (1 ∷ 1 ∷ 1 ∷ 0 ∷ 10 ∷ 8 ∷ 0 ∷ 0 ∷ 1 ∷ 1 ∷ 0 ∷ 3 ∷ 0 ∷ 0 ∷ 0 ∷ 1 ∷ 3 ∷ 0 ∷ 0 ∷ [])) ∷ []), ([]))
-    ∷ (None, ([]), ([]), ([]))
-    ∷ (None, ([]), ([]), ([]))
-    ∷ (None, ([]), ([]), ([]))
-    ∷ (None, ([]), ([]), ([]))
-    ∷ []
 
 row_3 : seen s (start s 3 1) turns_3 ≡ answers_3
 unfolding ℕ_discrete bytes_discrete option_discrete pair_discrete Value-discrete Message-discrete list_discrete Batch-discrete placed next_messages least_due hear_all sign_kind sign_kinds sign_all deliver_more settle after s turns_3 answers_3
 row_3 = refl
 
-pub f : Family
-f = record { setting = s; correct = (record { me = 0; batch_limit = 1; turns = turns_0 } ∷ record { me = 2; batch_limit = 1; turns = turns_2 } ∷ record { me = 3; batch_limit = 1; turns = turns_3 } ∷ []) }
-
-pub judged : honest f ∷ bounded (accounts f) (numbers f) ∷ agree (accounts f) ∷ sound (accounts f) (keyed f.setting) ∷ [] ≡ true ∷ true ∷ true ∷ true ∷ []
+judged : honest f ∷ bounded (accounts f) (numbers f) ∷ agree (accounts f) ∷ sound (accounts f) (keyed f.setting) ∷ [] ≡ true ∷ true ∷ true ∷ true ∷ []
 unfolding ℕ_discrete bytes_discrete option_discrete pair_discrete Value-discrete Message-discrete list_discrete Batch-discrete placed next_messages least_due hear_all sign_kind sign_kinds sign_all deliver_more settle after run View-discrete Letter-discrete Delivered-discrete f s turns_0 turns_2 turns_3
 judged = refl
 
@@ -142,5 +39,8 @@ well_set : is_well_set f ≡ true
 unfolding f s
 well_set = refl
 
-pub premises : Premises f
+premises : Premises f
 premises = premises-of f well_set (four judged).0 (four judged).1
+
+pub deputy_hides : DeputyHides
+deputy_hides = record { row_0 = row_0; row_2 = row_2; row_3 = row_3; judged = judged; premises = premises }

@@ -1,64 +1,29 @@
--- A kept place whose second message is not certified yet: nothing of it is delivered, and then both at once.
-use Rattle.std.proofs.Common.{◌≡◌, refl, List, [], ◌∷◌, true, false, None}
+-- The row of specs/HalfCertified.antt, computed.
+use Rattle.std.proofs.Common.{◌≡◌, refl, [], ◌∷◌, true, false}
 use native.Mathlib.Decide.{ℕ_discrete}
 use Rattle.byte_defs.specs.Equality.{bytes_discrete, list_discrete, option_discrete, pair_discrete}
 use Rattle.group_defs.specs.Views.{View-discrete}
 use Rattle.message_defs.specs.Updates.{Value-discrete}
-use Rattle.message_defs.specs.Statements.{Echo, Place, Keep, Message-discrete, Batch-discrete}
-use Rattle.group_defs.specs.Process.{Setting, Letter-discrete, Delivered-discrete, start, keyed}
+use Rattle.message_defs.specs.Statements.{Message-discrete, Batch-discrete}
+use Rattle.group_defs.specs.Process.{Letter-discrete, Delivered-discrete, start, keyed}
 use Rattle.group_defs.specs.Certified.{placed}
 use Rattle.group_defs.specs.Due.{least_due, next_messages}
 use Rattle.group_defs.specs.Hearing.{hear_all}
 use Rattle.group_defs.specs.Signing.{sign_kind, sign_kinds, sign_all}
 use Rattle.group_defs.specs.Settle.{deliver_more, settle}
-use Rattle.message_defs.specs.Claims.{Claims}
-use Rattle.group_defs.specs.Events.{Turn, after, run, Hand, Delivers}
-use Rattle.group_rows.specs.Scripts.{Seen, seen, setting, turn, by, msg}
+use Rattle.group_defs.specs.Events.{after, run}
+use Rattle.group_rows.specs.Scripts.{seen}
 use Rattle.group_defs.specs.Accounts.{bounded, agree, sound}
-use Rattle.group_defs.specs.Family.{Family, accounts, numbers, honest}
-
-pub s : Setting
-s = setting (0 ∷ 1 ∷ 2 ∷ 3 ∷ []) (0 ∷ 1 ∷ 2 ∷ 3 ∷ [])
-
-turns_2 : List Turn
-turns_2 =
-    turn 100000 (Hand 0 (Claims (by 0 (Echo 0 (msg 0 0) (97 ∷ [])) ∷ [])))
-    ∷ turn 100000 (Hand 1 (Claims (by 1 (Echo 0 (msg 0 0) (97 ∷ [])) ∷ [])))
-    ∷ turn 100000 (Hand 3 (Claims (by 3 (Echo 0 (msg 0 0) (97 ∷ [])) ∷ [])))
-    ∷ turn 100000 (Hand 0 (Claims (by 0 (Place 0 0 (msg 0 0 ∷ msg 0 1 ∷ [])) ∷ [])))
-    ∷ turn 100000 (Hand 1 (Claims (by 1 (Place 0 0 (msg 0 0 ∷ msg 0 1 ∷ [])) ∷ [])))
-    ∷ turn 100000 (Hand 3 (Claims (by 3 (Place 0 0 (msg 0 0 ∷ msg 0 1 ∷ [])) ∷ [])))
-    ∷ turn 99999 (Hand 0 (Claims (by 0 (Keep 0 0 (msg 0 0 ∷ msg 0 1 ∷ [])) ∷ [])))
-    ∷ turn 99999 (Hand 1 (Claims (by 1 (Keep 0 0 (msg 0 0 ∷ msg 0 1 ∷ [])) ∷ [])))
-    ∷ turn 99999 (Hand 3 (Claims (by 3 (Keep 0 0 (msg 0 0 ∷ msg 0 1 ∷ [])) ∷ [])))
-    ∷ turn 99999 (Hand 0 (Claims (by 0 (Echo 0 (msg 0 1) (98 ∷ [])) ∷ [])))
-    ∷ turn 99999 (Hand 1 (Claims (by 1 (Echo 0 (msg 0 1) (98 ∷ [])) ∷ [])))
-    ∷ turn 99999 (Hand 3 (Claims (by 3 (Echo 0 (msg 0 1) (98 ∷ [])) ∷ [])))
-    ∷ []
-
-answers_2 : List Seen
-answers_2 =
-    (None, ([]), ([]), ([]))
-    ∷ (None, ([]), ([]), ([]))
-    ∷ (None, ([]), ([]), ([]))
-    ∷ (None, ([]), ([]), ([]))
-    ∷ (None, ([]), ([]), ([]))
-    ∷ (None, ((Keep 0 0 (msg 0 0 ∷ msg 0 1 ∷ [])) ∷ []), (((0 ∷ 1 ∷ 3 ∷ []), (1 ∷ 1 ∷ 1 ∷ 0 ∷ 12 ∷ 14 ∷ 0 ∷ 0 ∷ 0 ∷ 0 ∷ 2 ∷ 0 ∷ 0 ∷ 0 ∷ 0 ∷ 0 ∷ 1 ∷ 1 ∷ 2 ∷ 0 ∷ 0 ∷ [])) ∷ []), ([]))
-    ∷ (None, ([]), ([]), ([]))
-    ∷ (None, ([]), ([]), ([]))
-    ∷ (None, ([]), ([]), ([]))
-    ∷ (None, ([]), ([]), ([]))
-    ∷ (None, ([]), ([]), ([]))
-    ∷ (None, ([]), ([]), (Delivers 0 (record { place = 0; message = msg 0 0; payload = 97 ∷ [] }) ∷ Delivers 0 (record { place = 0; message = msg 0 1; payload = 98 ∷ [] }) ∷ []))
-    ∷ []
+use Rattle.group_defs.specs.Family.{accounts, numbers, honest}
+use Rattle.group_rows.specs.HalfCertified.{s, turns_2, answers_2, f, HalfCertified}
 
 row_2 : seen s (start s 2 16) turns_2 ≡ answers_2
 unfolding ℕ_discrete bytes_discrete option_discrete pair_discrete Value-discrete Message-discrete list_discrete Batch-discrete placed next_messages least_due hear_all sign_kind sign_kinds sign_all deliver_more settle after s turns_2 answers_2
 row_2 = refl
 
-pub f : Family
-f = record { setting = s; correct = (record { me = 2; batch_limit = 16; turns = turns_2 } ∷ []) }
-
-pub judged : honest f ∷ bounded (accounts f) (numbers f) ∷ agree (accounts f) ∷ sound (accounts f) (keyed f.setting) ∷ [] ≡ true ∷ false ∷ true ∷ true ∷ []
+judged : honest f ∷ bounded (accounts f) (numbers f) ∷ agree (accounts f) ∷ sound (accounts f) (keyed f.setting) ∷ [] ≡ true ∷ false ∷ true ∷ true ∷ []
 unfolding ℕ_discrete bytes_discrete option_discrete pair_discrete Value-discrete Message-discrete list_discrete Batch-discrete placed next_messages least_due hear_all sign_kind sign_kinds sign_all deliver_more settle after run View-discrete Letter-discrete Delivered-discrete f s turns_2
 judged = refl
+
+pub half_certified : HalfCertified
+half_certified = record { row_2 = row_2; judged = judged }

@@ -1,37 +1,28 @@
--- When there is no next view, and which view is next.
-use Rattle.std.proofs.Common.{◌≡◌, refl, ℕ, List, [], ◌∷◌, Some}
+-- The row of specs/NextRefusals.antt, computed.
+use Rattle.std.proofs.Common.{◌≡◌, refl, [], ◌∷◌, Some}
 use Rattle.std.specs.List.{range_with_len}
 use Rattle.message_defs.specs.Updates.{Remove, Add, Renew}
-use Rattle.group_defs.specs.Views.{View, ViewsSpent, AlreadyMember, GroupFull, NotMember, LastMember, next_fault, next_view}
+use Rattle.group_defs.specs.Views.{ViewsSpent, AlreadyMember, GroupFull, NotMember, LastMember, next_fault, next_view}
+use Rattle.group_rows.specs.NextRefusals.{view, four, NextRefusals}
 
-abbrev view : ℕ → List ℕ → View
-view x members = record { number = x; members = members }
-
-abbrev four : List ℕ
-four = 0 ∷ 1 ∷ 2 ∷ 3 ∷ []
-
--- a member can't be added, nor a seventeenth one
 already : next_fault (view 0 four) (Add 2) ≡ Some AlreadyMember
 already = refl
 
 full : next_fault (view 0 (range_with_len 0 16)) (Add 20) ≡ Some GroupFull
 full = refl
 
--- a stranger can't be removed, nor the last member
 stranger : next_fault (view 0 (0 ∷ [])) (Remove 5) ≡ Some NotMember
 stranger = refl
 
 last : next_fault (view 0 (0 ∷ [])) (Remove 0) ≡ Some LastMember
 last = refl
 
--- view 1023 is the last one, and this is told first
 spent : next_fault (view 1023 four) Renew ≡ Some ViewsSpent
 spent = refl
 
 spent_first : next_fault (view 1023 four) (Add 2) ≡ Some ViewsSpent
 spent_first = refl
 
--- Remove closes up, Add appends, Renew keeps
 removed : next_view (view 0 four) (Remove 1) ≡ view 1 (0 ∷ 2 ∷ 3 ∷ [])
 removed = refl
 
@@ -40,3 +31,16 @@ added = refl
 
 renewed : next_view (view 0 four) Renew ≡ view 1 four
 renewed = refl
+
+pub next_refusals : NextRefusals
+next_refusals = record {
+  already = already;
+  full = full;
+  stranger = stranger;
+  last = last;
+  spent = spent;
+  spent_first = spent_first;
+  removed = removed;
+  added = added;
+  renewed = renewed;
+}

@@ -1,22 +1,22 @@
--- A family of no correct process meets the premises, and its group has no view and nothing delivered.
-use Rattle.std.proofs.Common.{◌≡◌, refl, ℕ, [], ◌∷◌}
+-- The row of specs/Nobody.antt, computed.
+use Rattle.std.proofs.Common.{◌≡◌, refl, ℕ, []}
 use Rattle.group_defs.specs.Accounts.{group_of}
-use Rattle.group_defs.specs.Family.{Family, accounts}
+use Rattle.group_defs.specs.Family.{accounts}
 use Rattle.group_defs.specs.Laws.{Premises}
-use Rattle.group_rows.specs.Scripts.{setting}
 use Rattle.group_rows.proofs.Premises.{premises-of}
+use Rattle.group_rows.specs.Nobody.{f, Nobody}
 
-pub f : Family
-f = record { setting = setting (0 ∷ 1 ∷ 2 ∷ 3 ∷ []) (0 ∷ 1 ∷ 2 ∷ 3 ∷ []); correct = [] }
-
-pub premises : Premises f
+premises : Premises f
 unfolding f
 premises = premises-of f refl refl refl
 
-pub no_views : (group_of (accounts f)).views ≡ []
+no_views : (group_of (accounts f)).views ≡ []
 unfolding f
 no_views = refl
 
-pub no_deliveries : (x : ℕ) → (group_of (accounts f)).sequence x ≡ []
+no_deliveries : (x : ℕ) → (group_of (accounts f)).sequence x ≡ []
 unfolding f
 no_deliveries x = refl
+
+pub nobody_is_correct : Nobody
+nobody_is_correct = record { premises = premises; no_views = no_views; no_deliveries = no_deliveries }

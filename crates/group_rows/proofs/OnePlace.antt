@@ -1,76 +1,33 @@
--- Two members, and the manager may order 16 messages at once: three that are certified together stand at one place, and are delivered
--- together.
-use Rattle.std.proofs.Common.{◌≡◌, refl, List, [], ◌∷◌, true, None}
+-- The row of specs/OnePlace.antt, computed.
+use Rattle.std.proofs.Common.{◌≡◌, refl, [], ◌∷◌, true}
 use native.Mathlib.Decide.{ℕ_discrete}
 use Rattle.byte_defs.specs.Equality.{bytes_discrete, list_discrete, option_discrete, pair_discrete}
 use Rattle.group_defs.specs.Views.{View-discrete}
 use Rattle.message_defs.specs.Updates.{Value-discrete}
-use Rattle.message_defs.specs.Statements.{Init, Echo, Order, Place, Keep, Message-discrete, Batch-discrete}
-use Rattle.group_defs.specs.Process.{Setting, Letter-discrete, Delivered-discrete, start, keyed}
+use Rattle.message_defs.specs.Statements.{Message-discrete, Batch-discrete}
+use Rattle.group_defs.specs.Process.{Letter-discrete, Delivered-discrete, start, keyed}
 use Rattle.group_defs.specs.Certified.{placed}
 use Rattle.group_defs.specs.Due.{least_due, next_messages}
 use Rattle.group_defs.specs.Hearing.{hear_all}
 use Rattle.group_defs.specs.Signing.{sign_kind, sign_kinds, sign_all}
 use Rattle.group_defs.specs.Settle.{deliver_more, settle}
-use Rattle.message_defs.specs.Claims.{Claims, Wants}
-use Rattle.group_defs.specs.Events.{Turn, after, run, Submit, Hand, Tick, Delivers}
-use Rattle.group_rows.specs.Scripts.{Seen, seen, setting, turn, by, msg}
+use Rattle.group_defs.specs.Events.{after, run}
+use Rattle.group_rows.specs.Scripts.{seen}
 use Rattle.group_defs.specs.Accounts.{bounded, agree, sound}
-use Rattle.group_defs.specs.Family.{Family, accounts, numbers, honest}
+use Rattle.group_defs.specs.Family.{accounts, numbers, honest}
 use Rattle.group_defs.specs.Laws.{Premises}
 use Rattle.group_rows.proofs.Premises.{is_well_set, premises-of, four}
-
-pub s : Setting
-s = setting (0 ∷ 1 ∷ []) (0 ∷ 1 ∷ [])
-
-turns_0 : List Turn
-turns_0 =
-    turn 100000 (Submit (97 ∷ []))
-    ∷ turn 99998 (Submit (98 ∷ []))
-    ∷ turn 99996 (Submit (99 ∷ []))
-    ∷ turn 99994 Tick
-    ∷ turn 99994 (Hand 1 (Claims (by 1 (Echo 0 (msg 0 0) (97 ∷ [])) ∷ by 1 (Echo 0 (msg 0 1) (98 ∷ [])) ∷ by 1 (Echo 0 (msg 0 2) (99 ∷ [])) ∷ [])))
-    ∷ turn 99992 (Hand 1 (Claims (by 1 (Place 0 0 (msg 0 0 ∷ msg 0 1 ∷ msg 0 2 ∷ [])) ∷ by 1 (Keep 0 0 (msg 0 0 ∷ msg 0 1 ∷ msg 0 2 ∷ [])) ∷ [])))
-    ∷ []
-
-answers_0 : List Seen
-answers_0 =
-    (None, ((Init 0 0 (97 ∷ [])) ∷ (Echo 0 (msg 0 0) (97 ∷ [])) ∷ []), (((1 ∷ []), (1 ∷ 1 ∷ 2 ∷ 0 ∷ 8 ∷ 1 ∷ 0 ∷ 0 ∷ 0 ∷ 0 ∷ 0 ∷ 1 ∷ 97 ∷ 1 ∷ 0 ∷ 0 ∷ 0 ∷ 0 ∷ 9 ∷ 2 ∷ 0 ∷ 0 ∷ 0 ∷ 0 ∷ 0 ∷ 0 ∷ 1 ∷ 97 ∷ 1 ∷ 0 ∷ 0 ∷ 0 ∷ [])) ∷ []), ([]))
-    ∷ (None, ((Init 0 1 (98 ∷ [])) ∷ (Echo 0 (msg 0 1) (98 ∷ [])) ∷ []), (((1 ∷ []), (1 ∷ 1 ∷ 2 ∷ 0 ∷ 8 ∷ 1 ∷ 0 ∷ 0 ∷ 0 ∷ 1 ∷ 0 ∷ 1 ∷ 98 ∷ 1 ∷ 0 ∷ 0 ∷ 0 ∷ 0 ∷ 9 ∷ 2 ∷ 0 ∷ 0 ∷ 0 ∷ 0 ∷ 1 ∷ 0 ∷ 1 ∷ 98 ∷ 1 ∷ 0 ∷ 0 ∷ 0 ∷ [])) ∷ []), ([]))
-    ∷ (None, ((Init 0 2 (99 ∷ [])) ∷ (Echo 0 (msg 0 2) (99 ∷ [])) ∷ []), (((1 ∷ []), (1 ∷ 1 ∷ 2 ∷ 0 ∷ 8 ∷ 1 ∷ 0 ∷ 0 ∷ 0 ∷ 2 ∷ 0 ∷ 1 ∷ 99 ∷ 1 ∷ 0 ∷ 0 ∷ 0 ∷ 0 ∷ 9 ∷ 2 ∷ 0 ∷ 0 ∷ 0 ∷ 0 ∷ 2 ∷ 0 ∷ 1 ∷ 99 ∷ 1 ∷ 0 ∷ 0 ∷ 0 ∷ [])) ∷ []), ([]))
-    ∷ (None, ([]), (((1 ∷ []), (1 ∷ 1 ∷ 6 ∷ 0 ∷ 8 ∷ 1 ∷ 0 ∷ 0 ∷ 0 ∷ 0 ∷ 0 ∷ 1 ∷ 97 ∷ 1 ∷ 0 ∷ 0 ∷ 0 ∷ 0 ∷ 9 ∷ 2 ∷ 0 ∷ 0 ∷ 0 ∷ 0 ∷ 0 ∷ 0 ∷ 1 ∷ 97 ∷ 1 ∷ 0 ∷ 0 ∷ 0 ∷ 0 ∷ 8 ∷ 1 ∷ 0 ∷ 0 ∷ 0 ∷ 1 ∷ 0 ∷ 1 ∷ 98 ∷ 1 ∷ 0 ∷ 0 ∷ 0 ∷ 0 ∷ 9 ∷ 2 ∷ 0 ∷ 0 ∷ 0 ∷ 0 ∷ 1 ∷ 0 ∷ 1 ∷ 98 ∷ 1 ∷ 0 ∷ 0 ∷ 0 ∷ 0 ∷ 8 ∷ 1 ∷ 0 ∷ 0 ∷ 0 ∷ 2 ∷ 0 ∷ 1 ∷ 99 ∷ 1 ∷ 0 ∷ 0 ∷ 0 ∷ 0 ∷ 9 ∷ 2 ∷ 0 ∷ 0 ∷ 0 ∷ 0 ∷ 2 ∷ 0 ∷ 1 ∷ 99 ∷ 1 ∷ 0 ∷ 0 ∷ 0 ∷ [])) ∷ ((1 ∷ []), (1 ∷ 3 ∷ 0 ∷ 0 ∷ 0 ∷ 0 ∷ [])) ∷ []), ([]))
-    ∷ (None, ((Order 0 0 (msg 0 0 ∷ msg 0 1 ∷ msg 0 2 ∷ [])) ∷ (Place 0 0 (msg 0 0 ∷ msg 0 1 ∷ msg 0 2 ∷ [])) ∷ []), (((1 ∷ []), (1 ∷ 1 ∷ 5 ∷ 0 ∷ 15 ∷ 12 ∷ 0 ∷ 0 ∷ 0 ∷ 0 ∷ 3 ∷ 0 ∷ 0 ∷ 0 ∷ 0 ∷ 0 ∷ 1 ∷ 0 ∷ 0 ∷ 2 ∷ 1 ∷ 0 ∷ 0 ∷ 0 ∷ 0 ∷ 15 ∷ 13 ∷ 0 ∷ 0 ∷ 0 ∷ 0 ∷ 3 ∷ 0 ∷ 0 ∷ 0 ∷ 0 ∷ 0 ∷ 1 ∷ 0 ∷ 0 ∷ 2 ∷ 1 ∷ 0 ∷ 0 ∷ 0 ∷ 0 ∷ 9 ∷ 2 ∷ 0 ∷ 0 ∷ 0 ∷ 0 ∷ 0 ∷ 0 ∷ 1 ∷ 97 ∷ 2 ∷ 0 ∷ 0 ∷ 0 ∷ 1 ∷ 0 ∷ 0 ∷ 0 ∷ 9 ∷ 2 ∷ 0 ∷ 0 ∷ 0 ∷ 0 ∷ 1 ∷ 0 ∷ 1 ∷ 98 ∷ 2 ∷ 0 ∷ 0 ∷ 0 ∷ 1 ∷ 0 ∷ 0 ∷ 0 ∷ 9 ∷ 2 ∷ 0 ∷ 0 ∷ 0 ∷ 0 ∷ 2 ∷ 0 ∷ 1 ∷ 99 ∷ 2 ∷ 0 ∷ 0 ∷ 0 ∷ 1 ∷ 0 ∷ 0 ∷ [])) ∷ []), ([]))
-    ∷ (None, ((Keep 0 0 (msg 0 0 ∷ msg 0 1 ∷ msg 0 2 ∷ [])) ∷ []), (((1 ∷ []), (1 ∷ 1 ∷ 1 ∷ 0 ∷ 15 ∷ 14 ∷ 0 ∷ 0 ∷ 0 ∷ 0 ∷ 3 ∷ 0 ∷ 0 ∷ 0 ∷ 0 ∷ 0 ∷ 1 ∷ 0 ∷ 0 ∷ 2 ∷ 1 ∷ 0 ∷ 0 ∷ 0 ∷ [])) ∷ []), (Delivers 0 (record { place = 0; message = msg 0 0; payload = 97 ∷ [] }) ∷ Delivers 0 (record { place = 0; message = msg 0 1; payload = 98 ∷ [] }) ∷ Delivers 0 (record { place = 0; message = msg 0 2; payload = 99 ∷ [] }) ∷ []))
-    ∷ []
+use Rattle.group_rows.specs.OnePlace.{s, turns_0, answers_0, turns_1, answers_1, f, OnePlace}
 
 row_0 : seen s (start s 0 16) turns_0 ≡ answers_0
 unfolding ℕ_discrete bytes_discrete option_discrete pair_discrete Value-discrete Message-discrete list_discrete Batch-discrete placed next_messages least_due hear_all sign_kind sign_kinds sign_all deliver_more settle after s turns_0 answers_0
 row_0 = refl
 
-turns_1 : List Turn
-turns_1 =
-    turn 100000 (Hand 0 (Claims (by 0 (Init 0 0 (97 ∷ [])) ∷ by 0 (Echo 0 (msg 0 0) (97 ∷ [])) ∷ by 0 (Init 0 1 (98 ∷ [])) ∷ by 0 (Echo 0 (msg 0 1) (98 ∷ [])) ∷ by 0 (Init 0 2 (99 ∷ [])) ∷ by 0 (Echo 0 (msg 0 2) (99 ∷ [])) ∷ [])))
-    ∷ turn 99997 (Hand 0 (Wants 0 0))
-    ∷ turn 99997 (Hand 0 (Claims (by 0 (Order 0 0 (msg 0 0 ∷ msg 0 1 ∷ msg 0 2 ∷ [])) ∷ by 0 (Place 0 0 (msg 0 0 ∷ msg 0 1 ∷ msg 0 2 ∷ [])) ∷ by 0 (Echo 0 (msg 0 0) (97 ∷ [])) ∷ by 1 (Echo 0 (msg 0 0) (97 ∷ [])) ∷ by 0 (Echo 0 (msg 0 1) (98 ∷ [])) ∷ by 1 (Echo 0 (msg 0 1) (98 ∷ [])) ∷ by 0 (Echo 0 (msg 0 2) (99 ∷ [])) ∷ by 1 (Echo 0 (msg 0 2) (99 ∷ [])) ∷ [])))
-    ∷ turn 99995 (Hand 0 (Claims (by 0 (Keep 0 0 (msg 0 0 ∷ msg 0 1 ∷ msg 0 2 ∷ [])) ∷ [])))
-    ∷ []
-
-answers_1 : List Seen
-answers_1 =
-    (None, ((Echo 0 (msg 0 0) (97 ∷ [])) ∷ (Echo 0 (msg 0 1) (98 ∷ [])) ∷ (Echo 0 (msg 0 2) (99 ∷ [])) ∷ []), (((0 ∷ []), (1 ∷ 1 ∷ 3 ∷ 0 ∷ 9 ∷ 2 ∷ 0 ∷ 0 ∷ 0 ∷ 0 ∷ 0 ∷ 0 ∷ 1 ∷ 97 ∷ 1 ∷ 1 ∷ 0 ∷ 0 ∷ 0 ∷ 9 ∷ 2 ∷ 0 ∷ 0 ∷ 0 ∷ 0 ∷ 1 ∷ 0 ∷ 1 ∷ 98 ∷ 1 ∷ 1 ∷ 0 ∷ 0 ∷ 0 ∷ 9 ∷ 2 ∷ 0 ∷ 0 ∷ 0 ∷ 0 ∷ 2 ∷ 0 ∷ 1 ∷ 99 ∷ 1 ∷ 1 ∷ 0 ∷ 0 ∷ [])) ∷ []), ([]))
-    ∷ (None, ([]), ([]), ([]))
-    ∷ (None, ((Place 0 0 (msg 0 0 ∷ msg 0 1 ∷ msg 0 2 ∷ [])) ∷ (Keep 0 0 (msg 0 0 ∷ msg 0 1 ∷ msg 0 2 ∷ [])) ∷ []), (((0 ∷ []), (1 ∷ 1 ∷ 2 ∷ 0 ∷ 15 ∷ 13 ∷ 0 ∷ 0 ∷ 0 ∷ 0 ∷ 3 ∷ 0 ∷ 0 ∷ 0 ∷ 0 ∷ 0 ∷ 1 ∷ 0 ∷ 0 ∷ 2 ∷ 1 ∷ 1 ∷ 0 ∷ 0 ∷ 0 ∷ 15 ∷ 14 ∷ 0 ∷ 0 ∷ 0 ∷ 0 ∷ 3 ∷ 0 ∷ 0 ∷ 0 ∷ 0 ∷ 0 ∷ 1 ∷ 0 ∷ 0 ∷ 2 ∷ 1 ∷ 1 ∷ 0 ∷ 0 ∷ [])) ∷ []), ([]))
-    ∷ (None, ([]), ([]), (Delivers 0 (record { place = 0; message = msg 0 0; payload = 97 ∷ [] }) ∷ Delivers 0 (record { place = 0; message = msg 0 1; payload = 98 ∷ [] }) ∷ Delivers 0 (record { place = 0; message = msg 0 2; payload = 99 ∷ [] }) ∷ []))
-    ∷ []
-
 row_1 : seen s (start s 1 16) turns_1 ≡ answers_1
 unfolding ℕ_discrete bytes_discrete option_discrete pair_discrete Value-discrete Message-discrete list_discrete Batch-discrete placed next_messages least_due hear_all sign_kind sign_kinds sign_all deliver_more settle after s turns_1 answers_1
 row_1 = refl
 
-pub f : Family
-f = record { setting = s; correct = (record { me = 0; batch_limit = 16; turns = turns_0 } ∷ record { me = 1; batch_limit = 16; turns = turns_1 } ∷ []) }
-
-pub judged : honest f ∷ bounded (accounts f) (numbers f) ∷ agree (accounts f) ∷ sound (accounts f) (keyed f.setting) ∷ [] ≡ true ∷ true ∷ true ∷ true ∷ []
+judged : honest f ∷ bounded (accounts f) (numbers f) ∷ agree (accounts f) ∷ sound (accounts f) (keyed f.setting) ∷ [] ≡ true ∷ true ∷ true ∷ true ∷ []
 unfolding ℕ_discrete bytes_discrete option_discrete pair_discrete Value-discrete Message-discrete list_discrete Batch-discrete placed next_messages least_due hear_all sign_kind sign_kinds sign_all deliver_more settle after run View-discrete Letter-discrete Delivered-discrete f s turns_0 turns_1
 judged = refl
 
@@ -78,5 +35,8 @@ well_set : is_well_set f ≡ true
 unfolding f s
 well_set = refl
 
-pub premises : Premises f
+premises : Premises f
 premises = premises-of f well_set (four judged).0 (four judged).1
+
+pub one_place : OnePlace
+one_place = record { row_0 = row_0; row_1 = row_1; judged = judged; premises = premises }

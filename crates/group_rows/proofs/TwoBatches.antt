@@ -1,147 +1,37 @@
--- A manager that tells two batches for one place to different members: one is certified at most.
-use Rattle.std.proofs.Common.{◌≡◌, refl, List, [], ◌∷◌, true, None}
+-- The row of specs/TwoBatches.antt, computed.
+use Rattle.std.proofs.Common.{◌≡◌, refl, [], ◌∷◌, true}
 use native.Mathlib.Decide.{ℕ_discrete}
 use Rattle.byte_defs.specs.Equality.{bytes_discrete, list_discrete, option_discrete, pair_discrete}
 use Rattle.group_defs.specs.Views.{View-discrete}
 use Rattle.message_defs.specs.Updates.{Value-discrete}
-use Rattle.message_defs.specs.Statements.{Init, Echo, Order, Place, Keep, Message-discrete, Batch-discrete}
-use Rattle.group_defs.specs.Process.{Setting, Letter-discrete, Delivered-discrete, start, keyed}
+use Rattle.message_defs.specs.Statements.{Message-discrete, Batch-discrete}
+use Rattle.group_defs.specs.Process.{Letter-discrete, Delivered-discrete, start, keyed}
 use Rattle.group_defs.specs.Certified.{placed}
 use Rattle.group_defs.specs.Due.{least_due, next_messages}
 use Rattle.group_defs.specs.Hearing.{hear_all}
 use Rattle.group_defs.specs.Signing.{sign_kind, sign_kinds, sign_all}
 use Rattle.group_defs.specs.Settle.{deliver_more, settle}
-use Rattle.message_defs.specs.Claims.{Claims}
-use Rattle.group_defs.specs.Events.{Turn, after, run, Submit, Hand, Delivers}
-use Rattle.group_rows.specs.Scripts.{Seen, seen, setting, turn, by, msg}
+use Rattle.group_defs.specs.Events.{after, run}
+use Rattle.group_rows.specs.Scripts.{seen}
 use Rattle.group_defs.specs.Accounts.{bounded, agree, sound}
-use Rattle.group_defs.specs.Family.{Family, accounts, numbers, honest}
+use Rattle.group_defs.specs.Family.{accounts, numbers, honest}
 use Rattle.group_defs.specs.Laws.{Premises}
 use Rattle.group_rows.proofs.Premises.{is_well_set, premises-of, four}
-
-pub s : Setting
-s = setting (0 ∷ 1 ∷ 2 ∷ 3 ∷ []) (0 ∷ 1 ∷ 2 ∷ 3 ∷ [])
-
-turns_1 : List Turn
-turns_1 =
-    turn 100000 (Submit (97 ∷ []))
-    ∷ turn 99998 (Submit (98 ∷ []))
-    ∷ turn 99996 (Hand 2 (Claims (by 2 (Init 0 0 (99 ∷ [])) ∷ by 2 (Echo 0 (msg 2 0) (99 ∷ [])) ∷ [])))
-    ∷ turn 99995 (Hand 2 (Claims (by 2 (Echo 0 (msg 1 0) (97 ∷ [])) ∷ [])))
-    ∷ turn 99995 (Hand 3 (Claims (by 3 (Echo 0 (msg 1 0) (97 ∷ [])) ∷ [])))
-    ∷ turn 99995 (Hand 2 (Claims (by 2 (Echo 0 (msg 1 1) (98 ∷ [])) ∷ [])))
-    ∷ turn 99995 (Hand 3 (Claims (by 3 (Echo 0 (msg 1 1) (98 ∷ [])) ∷ [])))
-    ∷ turn 99995 (Hand 3 (Claims (by 3 (Echo 0 (msg 2 0) (99 ∷ [])) ∷ [])))
-    ∷ turn 99995 (Hand 0 (Claims (by 0 (Order 0 0 (msg 1 0 ∷ msg 1 1 ∷ [])) ∷ [])))
-    ∷ turn 99994 (Hand 0 (Claims (by 0 (Place 0 0 (msg 1 0 ∷ msg 1 1 ∷ [])) ∷ [])))
-    ∷ turn 99994 (Hand 0 (Claims (by 0 (Keep 0 0 (msg 1 0 ∷ msg 1 1 ∷ [])) ∷ [])))
-    ∷ turn 99994 (Hand 2 (Claims (by 2 (Place 0 0 (msg 1 0 ∷ msg 1 1 ∷ [])) ∷ [])))
-    ∷ turn 99993 (Hand 3 (Claims (by 3 (Place 0 0 (msg 2 0 ∷ [])) ∷ [])))
-    ∷ turn 99993 (Hand 2 (Claims (by 2 (Keep 0 0 (msg 1 0 ∷ msg 1 1 ∷ [])) ∷ [])))
-    ∷ []
-
-answers_1 : List Seen
-answers_1 =
-    (None, ((Init 0 0 (97 ∷ [])) ∷ (Echo 0 (msg 1 0) (97 ∷ [])) ∷ []), (((0 ∷ 2 ∷ 3 ∷ []), (1 ∷ 1 ∷ 2 ∷ 0 ∷ 8 ∷ 1 ∷ 0 ∷ 0 ∷ 0 ∷ 0 ∷ 0 ∷ 1 ∷ 97 ∷ 1 ∷ 1 ∷ 0 ∷ 0 ∷ 0 ∷ 9 ∷ 2 ∷ 0 ∷ 0 ∷ 1 ∷ 0 ∷ 0 ∷ 0 ∷ 1 ∷ 97 ∷ 1 ∷ 1 ∷ 0 ∷ 0 ∷ [])) ∷ []), ([]))
-    ∷ (None, ((Init 0 1 (98 ∷ [])) ∷ (Echo 0 (msg 1 1) (98 ∷ [])) ∷ []), (((0 ∷ 2 ∷ 3 ∷ []), (1 ∷ 1 ∷ 2 ∷ 0 ∷ 8 ∷ 1 ∷ 0 ∷ 0 ∷ 0 ∷ 1 ∷ 0 ∷ 1 ∷ 98 ∷ 1 ∷ 1 ∷ 0 ∷ 0 ∷ 0 ∷ 9 ∷ 2 ∷ 0 ∷ 0 ∷ 1 ∷ 0 ∷ 1 ∷ 0 ∷ 1 ∷ 98 ∷ 1 ∷ 1 ∷ 0 ∷ 0 ∷ [])) ∷ []), ([]))
-    ∷ (None, ((Echo 0 (msg 2 0) (99 ∷ [])) ∷ []), (((0 ∷ 2 ∷ 3 ∷ []), (1 ∷ 1 ∷ 1 ∷ 0 ∷ 9 ∷ 2 ∷ 0 ∷ 0 ∷ 2 ∷ 0 ∷ 0 ∷ 0 ∷ 1 ∷ 99 ∷ 1 ∷ 1 ∷ 0 ∷ 0 ∷ [])) ∷ []), ([]))
-    ∷ (None, ([]), ([]), ([]))
-    ∷ (None, ([]), ([]), ([]))
-    ∷ (None, ([]), ([]), ([]))
-    ∷ (None, ([]), ([]), ([]))
-    ∷ (None, ([]), ([]), ([]))
-    ∷ (None, ((Place 0 0 (msg 1 0 ∷ msg 1 1 ∷ [])) ∷ []), (((0 ∷ 2 ∷ 3 ∷ []), (1 ∷ 1 ∷ 1 ∷ 0 ∷ 12 ∷ 13 ∷ 0 ∷ 0 ∷ 0 ∷ 0 ∷ 2 ∷ 1 ∷ 0 ∷ 0 ∷ 1 ∷ 0 ∷ 1 ∷ 1 ∷ 1 ∷ 0 ∷ 0 ∷ [])) ∷ []), ([]))
-    ∷ (None, ([]), ([]), ([]))
-    ∷ (None, ([]), ([]), ([]))
-    ∷ (None, ((Keep 0 0 (msg 1 0 ∷ msg 1 1 ∷ [])) ∷ []), (((0 ∷ 2 ∷ 3 ∷ []), (1 ∷ 1 ∷ 1 ∷ 0 ∷ 12 ∷ 14 ∷ 0 ∷ 0 ∷ 0 ∷ 0 ∷ 2 ∷ 1 ∷ 0 ∷ 0 ∷ 1 ∷ 0 ∷ 1 ∷ 1 ∷ 1 ∷ 0 ∷ 0 ∷ [])) ∷ []), ([]))
-    ∷ (None, ([]), ([]), ([]))
-    ∷ (None, ([]), ([]), (Delivers 0 (record { place = 0; message = msg 1 0; payload = 97 ∷ [] }) ∷ Delivers 0 (record { place = 0; message = msg 1 1; payload = 98 ∷ [] }) ∷ []))
-    ∷ []
+use Rattle.group_rows.specs.TwoBatches.{s, turns_1, answers_1, turns_2, answers_2, turns_3, answers_3, f, TwoBatches}
 
 row_1 : seen s (start s 1 16) turns_1 ≡ answers_1
 unfolding ℕ_discrete bytes_discrete option_discrete pair_discrete Value-discrete Message-discrete list_discrete Batch-discrete placed next_messages least_due hear_all sign_kind sign_kinds sign_all deliver_more settle after s turns_1 answers_1
 row_1 = refl
 
-turns_2 : List Turn
-turns_2 =
-    turn 100000 (Submit (99 ∷ []))
-    ∷ turn 99998 (Hand 1 (Claims (by 1 (Init 0 0 (97 ∷ [])) ∷ by 1 (Echo 0 (msg 1 0) (97 ∷ [])) ∷ [])))
-    ∷ turn 99997 (Hand 1 (Claims (by 1 (Init 0 1 (98 ∷ [])) ∷ by 1 (Echo 0 (msg 1 1) (98 ∷ [])) ∷ [])))
-    ∷ turn 99996 (Hand 3 (Claims (by 3 (Echo 0 (msg 1 0) (97 ∷ [])) ∷ [])))
-    ∷ turn 99996 (Hand 3 (Claims (by 3 (Echo 0 (msg 1 1) (98 ∷ [])) ∷ [])))
-    ∷ turn 99996 (Hand 1 (Claims (by 1 (Echo 0 (msg 2 0) (99 ∷ [])) ∷ [])))
-    ∷ turn 99996 (Hand 3 (Claims (by 3 (Echo 0 (msg 2 0) (99 ∷ [])) ∷ [])))
-    ∷ turn 99996 (Hand 0 (Claims (by 0 (Order 0 0 (msg 1 0 ∷ msg 1 1 ∷ [])) ∷ [])))
-    ∷ turn 99995 (Hand 0 (Claims (by 0 (Place 0 0 (msg 1 0 ∷ msg 1 1 ∷ [])) ∷ [])))
-    ∷ turn 99995 (Hand 0 (Claims (by 0 (Keep 0 0 (msg 1 0 ∷ msg 1 1 ∷ [])) ∷ [])))
-    ∷ turn 99995 (Hand 1 (Claims (by 1 (Place 0 0 (msg 1 0 ∷ msg 1 1 ∷ [])) ∷ [])))
-    ∷ turn 99994 (Hand 3 (Claims (by 3 (Place 0 0 (msg 2 0 ∷ [])) ∷ [])))
-    ∷ turn 99994 (Hand 1 (Claims (by 1 (Keep 0 0 (msg 1 0 ∷ msg 1 1 ∷ [])) ∷ [])))
-    ∷ []
-
-answers_2 : List Seen
-answers_2 =
-    (None, ((Init 0 0 (99 ∷ [])) ∷ (Echo 0 (msg 2 0) (99 ∷ [])) ∷ []), (((0 ∷ 1 ∷ 3 ∷ []), (1 ∷ 1 ∷ 2 ∷ 0 ∷ 8 ∷ 1 ∷ 0 ∷ 0 ∷ 0 ∷ 0 ∷ 0 ∷ 1 ∷ 99 ∷ 1 ∷ 2 ∷ 0 ∷ 0 ∷ 0 ∷ 9 ∷ 2 ∷ 0 ∷ 0 ∷ 2 ∷ 0 ∷ 0 ∷ 0 ∷ 1 ∷ 99 ∷ 1 ∷ 2 ∷ 0 ∷ 0 ∷ [])) ∷ []), ([]))
-    ∷ (None, ((Echo 0 (msg 1 0) (97 ∷ [])) ∷ []), (((0 ∷ 1 ∷ 3 ∷ []), (1 ∷ 1 ∷ 1 ∷ 0 ∷ 9 ∷ 2 ∷ 0 ∷ 0 ∷ 1 ∷ 0 ∷ 0 ∷ 0 ∷ 1 ∷ 97 ∷ 1 ∷ 2 ∷ 0 ∷ 0 ∷ [])) ∷ []), ([]))
-    ∷ (None, ((Echo 0 (msg 1 1) (98 ∷ [])) ∷ []), (((0 ∷ 1 ∷ 3 ∷ []), (1 ∷ 1 ∷ 1 ∷ 0 ∷ 9 ∷ 2 ∷ 0 ∷ 0 ∷ 1 ∷ 0 ∷ 1 ∷ 0 ∷ 1 ∷ 98 ∷ 1 ∷ 2 ∷ 0 ∷ 0 ∷ [])) ∷ []), ([]))
-    ∷ (None, ([]), ([]), ([]))
-    ∷ (None, ([]), ([]), ([]))
-    ∷ (None, ([]), ([]), ([]))
-    ∷ (None, ([]), ([]), ([]))
-    ∷ (None, ((Place 0 0 (msg 1 0 ∷ msg 1 1 ∷ [])) ∷ []), (((0 ∷ 1 ∷ 3 ∷ []), (1 ∷ 1 ∷ 1 ∷ 0 ∷ 12 ∷ 13 ∷ 0 ∷ 0 ∷ 0 ∷ 0 ∷ 2 ∷ 1 ∷ 0 ∷ 0 ∷ 1 ∷ 0 ∷ 1 ∷ 1 ∷ 2 ∷ 0 ∷ 0 ∷ [])) ∷ []), ([]))
-    ∷ (None, ([]), ([]), ([]))
-    ∷ (None, ([]), ([]), ([]))
-    ∷ (None, ((Keep 0 0 (msg 1 0 ∷ msg 1 1 ∷ [])) ∷ []), (((0 ∷ 1 ∷ 3 ∷ []), (1 ∷ 1 ∷ 1 ∷ 0 ∷ 12 ∷ 14 ∷ 0 ∷ 0 ∷ 0 ∷ 0 ∷ 2 ∷ 1 ∷ 0 ∷ 0 ∷ 1 ∷ 0 ∷ 1 ∷ 1 ∷ 2 ∷ 0 ∷ 0 ∷ [])) ∷ []), ([]))
-    ∷ (None, ([]), ([]), ([]))
-    ∷ (None, ([]), ([]), (Delivers 0 (record { place = 0; message = msg 1 0; payload = 97 ∷ [] }) ∷ Delivers 0 (record { place = 0; message = msg 1 1; payload = 98 ∷ [] }) ∷ []))
-    ∷ []
-
 row_2 : seen s (start s 2 16) turns_2 ≡ answers_2
 unfolding ℕ_discrete bytes_discrete option_discrete pair_discrete Value-discrete Message-discrete list_discrete Batch-discrete placed next_messages least_due hear_all sign_kind sign_kinds sign_all deliver_more settle after s turns_2 answers_2
 row_2 = refl
-
-turns_3 : List Turn
-turns_3 =
-    turn 100000 (Hand 1 (Claims (by 1 (Init 0 0 (97 ∷ [])) ∷ by 1 (Echo 0 (msg 1 0) (97 ∷ [])) ∷ [])))
-    ∷ turn 99999 (Hand 1 (Claims (by 1 (Init 0 1 (98 ∷ [])) ∷ by 1 (Echo 0 (msg 1 1) (98 ∷ [])) ∷ [])))
-    ∷ turn 99998 (Hand 2 (Claims (by 2 (Init 0 0 (99 ∷ [])) ∷ by 2 (Echo 0 (msg 2 0) (99 ∷ [])) ∷ [])))
-    ∷ turn 99997 (Hand 2 (Claims (by 2 (Echo 0 (msg 1 0) (97 ∷ [])) ∷ [])))
-    ∷ turn 99997 (Hand 2 (Claims (by 2 (Echo 0 (msg 1 1) (98 ∷ [])) ∷ [])))
-    ∷ turn 99997 (Hand 1 (Claims (by 1 (Echo 0 (msg 2 0) (99 ∷ [])) ∷ [])))
-    ∷ turn 99997 (Hand 0 (Claims (by 0 (Order 0 0 (msg 2 0 ∷ [])) ∷ [])))
-    ∷ turn 99996 (Hand 0 (Claims (by 0 (Place 0 0 (msg 2 0 ∷ [])) ∷ [])))
-    ∷ turn 99996 (Hand 0 (Claims (by 0 (Keep 0 0 (msg 1 0 ∷ msg 1 1 ∷ [])) ∷ [])))
-    ∷ turn 99996 (Hand 1 (Claims (by 1 (Place 0 0 (msg 1 0 ∷ msg 1 1 ∷ [])) ∷ [])))
-    ∷ turn 99996 (Hand 2 (Claims (by 2 (Place 0 0 (msg 1 0 ∷ msg 1 1 ∷ [])) ∷ [])))
-    ∷ turn 99996 (Hand 2 (Claims (by 2 (Keep 0 0 (msg 1 0 ∷ msg 1 1 ∷ [])) ∷ [])))
-    ∷ turn 99996 (Hand 1 (Claims (by 1 (Keep 0 0 (msg 1 0 ∷ msg 1 1 ∷ [])) ∷ [])))
-    ∷ []
-
-answers_3 : List Seen
-answers_3 =
-    (None, ((Echo 0 (msg 1 0) (97 ∷ [])) ∷ []), (((0 ∷ 1 ∷ 2 ∷ []), (1 ∷ 1 ∷ 1 ∷ 0 ∷ 9 ∷ 2 ∷ 0 ∷ 0 ∷ 1 ∷ 0 ∷ 0 ∷ 0 ∷ 1 ∷ 97 ∷ 1 ∷ 3 ∷ 0 ∷ 0 ∷ [])) ∷ []), ([]))
-    ∷ (None, ((Echo 0 (msg 1 1) (98 ∷ [])) ∷ []), (((0 ∷ 1 ∷ 2 ∷ []), (1 ∷ 1 ∷ 1 ∷ 0 ∷ 9 ∷ 2 ∷ 0 ∷ 0 ∷ 1 ∷ 0 ∷ 1 ∷ 0 ∷ 1 ∷ 98 ∷ 1 ∷ 3 ∷ 0 ∷ 0 ∷ [])) ∷ []), ([]))
-    ∷ (None, ((Echo 0 (msg 2 0) (99 ∷ [])) ∷ []), (((0 ∷ 1 ∷ 2 ∷ []), (1 ∷ 1 ∷ 1 ∷ 0 ∷ 9 ∷ 2 ∷ 0 ∷ 0 ∷ 2 ∷ 0 ∷ 0 ∷ 0 ∷ 1 ∷ 99 ∷ 1 ∷ 3 ∷ 0 ∷ 0 ∷ [])) ∷ []), ([]))
-    ∷ (None, ([]), ([]), ([]))
-    ∷ (None, ([]), ([]), ([]))
-    ∷ (None, ([]), ([]), ([]))
-    ∷ (None, ((Place 0 0 (msg 2 0 ∷ [])) ∷ []), (((0 ∷ 1 ∷ 2 ∷ []), (1 ∷ 1 ∷ 1 ∷ 0 ∷ 8 ∷ 4 ∷ 0 ∷ 0 ∷ 0 ∷ 0 ∷ 2 ∷ 0 ∷ 0 ∷ 1 ∷ 3 ∷ 0 ∷ 0 ∷ [])) ∷ []), ([]))
-    ∷ (None, ([]), ([]), ([]))
-    ∷ (None, ([]), ([]), ([]))
-    ∷ (None, ([]), ([]), ([]))
-    ∷ (None, ([]), ([]), ([]))
-    ∷ (None, ([]), ([]), ([]))
-    ∷ (None, ([]), ([]), ([]))
-    ∷ []
 
 row_3 : seen s (start s 3 16) turns_3 ≡ answers_3
 unfolding ℕ_discrete bytes_discrete option_discrete pair_discrete Value-discrete Message-discrete list_discrete Batch-discrete placed next_messages least_due hear_all sign_kind sign_kinds sign_all deliver_more settle after s turns_3 answers_3
 row_3 = refl
 
-pub f : Family
-f = record { setting = s; correct = (record { me = 1; batch_limit = 16; turns = turns_1 } ∷ record { me = 2; batch_limit = 16; turns = turns_2 } ∷ record { me = 3; batch_limit = 16; turns = turns_3 } ∷ []) }
-
-pub judged : honest f ∷ bounded (accounts f) (numbers f) ∷ agree (accounts f) ∷ sound (accounts f) (keyed f.setting) ∷ [] ≡ true ∷ true ∷ true ∷ true ∷ []
+judged : honest f ∷ bounded (accounts f) (numbers f) ∷ agree (accounts f) ∷ sound (accounts f) (keyed f.setting) ∷ [] ≡ true ∷ true ∷ true ∷ true ∷ []
 unfolding ℕ_discrete bytes_discrete option_discrete pair_discrete Value-discrete Message-discrete list_discrete Batch-discrete placed next_messages least_due hear_all sign_kind sign_kinds sign_all deliver_more settle after run View-discrete Letter-discrete Delivered-discrete f s turns_1 turns_2 turns_3
 judged = refl
 
@@ -149,5 +39,8 @@ well_set : is_well_set f ≡ true
 unfolding f s
 well_set = refl
 
-pub premises : Premises f
+premises : Premises f
 premises = premises-of f well_set (four judged).0 (four judged).1
+
+pub two_batches : TwoBatches
+two_batches = record { row_1 = row_1; row_2 = row_2; row_3 = row_3; judged = judged; premises = premises }

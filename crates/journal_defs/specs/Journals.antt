@@ -123,15 +123,15 @@ RecordIsSpelled = (bytes rest : List ℕ) (e : Entry) → AreBytes bytes → rec
 abbrev pub RecordIsRead : Type 0
 RecordIsRead = (e : Entry) (rest : List ℕ) → IsEntry e → 1 ≤ length rest → record_at (behind_gate e ++ rest) ≡ Ok (e, rest)
 
--- with the entry at a place behind them, the entries stand before the next gate
+-- where entries stand before a place and e stands at it, the entries and then e stand before the gate behind e
 abbrev pub EntryGoesOn : Type 0
 EntryGoesOn = (head bytes : List ℕ) (es : List Entry) (place : ℕ) (e : Entry) (next : ℕ) → StandsBefore head bytes es place → HasEntryAt bytes place e next → StandsBefore head bytes (es ++ e ∷ []) next
 
--- where the gate behind them is closed, the bytes read as the entries
+-- where entries stand before a place and the gate there is closed, the bytes read as the entries
 abbrev pub ClosedGateEnds : Type 0
 ClosedGateEnds = (head bytes : List ℕ) (es : List Entry) (place : ℕ) → StandsBefore head bytes es place → IsClosedAt bytes place → ReadsAs head bytes es
 
--- and where no entry stands behind it, the reading breaks there
+-- where the gate behind the entries is open and no whole entry and next gate stand behind it, the reading breaks at that gate
 abbrev pub BrokenGateBreaks : Type 0
 BrokenGateBreaks = (head bytes : List ℕ) (es : List Entry) (place : ℕ) → StandsBefore head bytes es place → IsBrokenAt bytes place → BreaksAt head bytes place
 
@@ -139,7 +139,7 @@ BrokenGateBreaks = (head bytes : List ℕ) (es : List Entry) (place : ℕ) → S
 abbrev pub EntryIsThere : Type 0
 EntryIsThere = (head bytes : List ℕ) (es fs : List Entry) (e : Entry) → ReadsAs head bytes (es ++ e ∷ fs) → HasEntryAt bytes (length (up_to_gate head es)) e (length (up_to_gate head (es ++ e ∷ [])))
 
--- and a closed gate behind the last
+-- bytes that read as entries have a closed gate behind the last of them
 abbrev pub GateIsThere : Type 0
 GateIsThere = (head bytes : List ℕ) (es : List Entry) → ReadsAs head bytes es → IsClosedAt bytes (length (up_to_gate head es))
 

@@ -9,7 +9,7 @@ use Rattle.hex.specs.Hex.{encode_lower}
 use Rattle.byte_defs.proofs.Fields.{ok_is}
 use Rattle.byte_defs.specs.Equality.{same_bytes}
 use Rattle.byte_defs.specs.Members.{has}
-use Rattle.secret_defs.specs.Schemes.{Scheme}
+use Rattle.signature_defs.specs.Schemes.{Scheme}
 use Rattle.text_defs.specs.Words.{AreBytes, begin_with}
 use Rattle.kit_defs.specs.Kits.{AreKeys, KitLine, KitVersion, Version, SchemeIs, GroupIs, Key, Genesis, key_length, key_line, line_words, roster_of, version_of}
 use Rattle.kit_defs.specs.KitReading.{Draft, is_scheme}

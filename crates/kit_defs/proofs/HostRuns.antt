@@ -9,8 +9,8 @@ use Rattle.byte_defs.specs.Choices.{is_some_and}
 use Rattle.byte_defs.specs.Equality.{same_bytes}
 use Rattle.hex.specs.Hex.{encode_lower}
 use Rattle.byte_defs.specs.Members.{has}
-use Rattle.secret_defs.specs.Schemes.{Scheme}
-use Rattle.secret_defs.specs.Secrets.{Secret, Plain, Lms, Hss, public_key_of, scheme_of}
+use Rattle.signature_defs.specs.Schemes.{Scheme}
+use Rattle.signature_defs.specs.Secrets.{Secret, Plain, Lms, Hss, public_key_of, scheme_of}
 use Rattle.text_defs.specs.Words.{AreBytes, begin_with}
 use Rattle.kit_defs.specs.Kits.{AreHosts, AreKeys, Host, IsHost, IsSecret, KitLine, PlainHost, LmsHost, HssHost, Pair, host_lines, key_length, key_of, line_words, others_than, pair_line, roster_of, secret_line}
 use Rattle.kit_defs.specs.KitReading.{Draft, KeyMismatch, first_of, has_genesis, host_above, host_stands, is_hosted, is_pair, is_scheme, last_of, listed_key, next_pair, next_port, lacks_port, with_host, with_matching, with_pair}

@@ -3,7 +3,7 @@ use Rattle.std.proofs.Common.{◌≡◌, ℕ, ◌+◌, ◌<◌, ◌≤◌, ◌==
 use Rattle.std.specs.List.{AllByRecursion}
 use Rattle.std.proofs.lemmas.List.{length-map, map-append}
 use Rattle.byte_defs.specs.Members.{has}
-use Rattle.secret_defs.specs.Schemes.{Scheme}
+use Rattle.signature_defs.specs.Schemes.{Scheme}
 use Rattle.text_defs.specs.Words.{AreBytes}
 use Rattle.kit_defs.specs.Kits.{AreHosts, AreKeys, Host, IsHost, KitLine, Pair, host_lines, key_of, others_than, pair_line, roster_of, secret_line}
 use Rattle.kit_defs.specs.KitReading.{first_of, last_of, with_pair}

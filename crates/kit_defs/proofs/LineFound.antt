@@ -13,9 +13,9 @@ use Rattle.byte_defs.specs.Members.{has}
 use Rattle.signature_defs.specs.declared.OtsType.{OtsType}
 use Rattle.signature_defs.specs.LmOts.{ots_type_of, ots_typecode}
 use Rattle.signature_defs.proofs.OtsLaws.{typecode_of_type}
-use Rattle.secret_defs.specs.Schemes.{Scheme}
-use Rattle.secret_defs.specs.Schemes as schemes
-use Rattle.secret_defs.specs.Secrets.{levels_are_built}
+use Rattle.signature_defs.specs.Schemes.{Scheme}
+use Rattle.signature_defs.specs.Schemes as schemes
+use Rattle.signature_defs.specs.Secrets.{levels_are_built}
 use Rattle.text_defs.specs.Words.{bytes_of, number_within, process_of}
 use Rattle.kit_defs.specs.Kits.{KitLine, One, Two, Version, SchemeIs, GroupIs, Key, Genesis, Port, PlainHost, LmsHost, HssHost, Pair, key_length, line_words, scheme_word}
 use Rattle.kit_defs.specs.KitReading.{genesis_by, group_by, host_by, hss_host_by, key_by, key_in, kind_by, line_by, lms_host_by, members_by, pair_by, plain_host_by, port_by, public_key_by, scheme_by, scheme_in, scheme_of_word, secret_by, version_by}

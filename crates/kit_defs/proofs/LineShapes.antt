@@ -2,9 +2,9 @@
 use Rattle.std.proofs.Common.{◌≡◌, ◌≢◌, ℕ, ◌^◌, ◌<◌, ◌≤◌, Bool, true, List, length, AllPairs}
 use Rattle.std.specs.List.{AllByRecursion}
 use Rattle.signature_defs.specs.declared.OtsType.{OtsType}
-use Rattle.secret_defs.specs.Schemes.{Scheme}
-use Rattle.secret_defs.specs.Schemes as schemes
-use Rattle.secret_defs.specs.Secrets.{levels_are_built}
+use Rattle.signature_defs.specs.Schemes.{Scheme}
+use Rattle.signature_defs.specs.Schemes as schemes
+use Rattle.signature_defs.specs.Secrets.{levels_are_built}
 use Rattle.text_defs.specs.Words.{AreBytes}
 use Rattle.kit_defs.specs.Kits.{KitLine, Version, SchemeIs, GroupIs, Key, Genesis, Port, PlainHost, LmsHost, HssHost, Pair, key_length, line_words}
 

@@ -13,8 +13,8 @@ use Rattle.byte_defs.specs.Members.{has}
 use Rattle.byte_defs.specs.Choices.{and_then}
 use Rattle.signature_defs.specs.declared.OtsType.{OtsType}
 use Rattle.signature_defs.specs.LmOts.{ots_type_of, ots_typecode}
-use Rattle.secret_defs.specs.Schemes.{Scheme}
-use Rattle.secret_defs.specs.Schemes as schemes
+use Rattle.signature_defs.specs.Schemes.{Scheme}
+use Rattle.signature_defs.specs.Schemes as schemes
 use Rattle.signature_defs.proofs.OtsLaws.{type_of_typecode, typecode_range}
 use Rattle.text_defs.specs.Words.{bytes_of, number_within, process_of}
 use Rattle.kit_defs.specs.Kits.{KitLine, KitVersion, One, Two, Version, SchemeIs, GroupIs, Key, Genesis, Port, PlainHost, LmsHost, HssHost, Pair, line_words, scheme_word, version_of}

@@ -8,8 +8,8 @@ use Rattle.std.proofs.lemmas.List.{length-map}
 use Rattle.hex.specs.Hex.{encode_lower, lower_digits}
 use Rattle.hex.proofs.HexLemmas.{length-encode_with}
 use Rattle.signature_defs.specs.LmOts.{ots_typecode}
-use Rattle.secret_defs.specs.Schemes.{Scheme}
-use Rattle.secret_defs.specs.Schemes as schemes
+use Rattle.signature_defs.specs.Schemes.{Scheme}
+use Rattle.signature_defs.specs.Schemes as schemes
 use Rattle.text_defs.specs.Words.{AreBytes, space, line_feed, words_of}
 use Rattle.kit_defs.specs.Kits.{KitLine, One, Two, Version, SchemeIs, GroupIs, Key, Genesis, Port, PlainHost, LmsHost, HssHost, Pair, key_length, line_words}
 use Rattle.kit_defs.specs.KitReading.{most_line_bytes}

@@ -11,9 +11,9 @@ use Rattle.byte_defs.specs.Choices.{is_some_and}
 use Rattle.byte_defs.specs.Equality.{same_bytes}
 use Rattle.byte_defs.specs.Members.{has}
 use Rattle.signature_defs.specs.declared.OtsType.{OtsType}
-use Rattle.secret_defs.specs.Schemes.{Scheme}
-use Rattle.secret_defs.specs.Schemes as schemes
-use Rattle.secret_defs.specs.Secrets.{Secret, Plain, Lms, Hss, public_key_of, scheme_of}
+use Rattle.signature_defs.specs.Schemes.{Scheme}
+use Rattle.signature_defs.specs.Schemes as schemes
+use Rattle.signature_defs.specs.Secrets.{Secret, Plain, Lms, Hss, public_key_of, scheme_of}
 use Rattle.text_defs.specs.Words.{AreBytes, begin_with}
 use Rattle.kit_defs.specs.Kits.{AreKeys, Host, IsSecret, KitLine, Version, SchemeIs, GroupIs, Key, Genesis, Port, PlainHost, LmsHost, HssHost, Pair, host_lines, key_length, key_line, key_of, line_words, port_line, roster_of, secret_line}
 use Rattle.kit_defs.specs.KitReading.{Draft, KeyMismatch, first_of, has_genesis, host_above, host_stands, is_pair, lacks_port, listed_key, next_pair, next_port, with_host, with_matching, with_pair}

@@ -9,7 +9,7 @@ use Rattle.byte_defs.specs.Choices.{is_some_and}
 use Rattle.byte_defs.specs.Equality.{same_bytes}
 use Rattle.hex.specs.Hex.{encode_lower}
 use Rattle.byte_defs.specs.Members.{has}
-use Rattle.secret_defs.specs.Schemes.{Scheme}
+use Rattle.signature_defs.specs.Schemes.{Scheme}
 use Rattle.text_defs.specs.Words.{AreBytes, begin_with, number_of}
 use Rattle.kit_defs.specs.Kits.{AreKeys, Version, SchemeIs, GroupIs, Key, Genesis, Port, key_length, key_line, line_words, port_line, roster_of, version_of}
 use Rattle.kit_defs.specs.KitReading.{Draft, first_of, has_genesis, is_scheme, may_of, next_port}

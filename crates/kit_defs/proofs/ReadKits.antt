@@ -5,7 +5,7 @@ use Rattle.std.specs.Prelude.{if◌then◌else◌}
 use Rattle.std.proofs.lemmas.Bool.{eqb-true, or_parts}
 use Rattle.std.proofs.lemmas.List.Concat.{flat_map-append}
 use Rattle.byte_defs.proofs.Fields.{bind_ok, ok_is, refuse_ok}
-use Rattle.secret_defs.specs.Schemes.{Scheme}
+use Rattle.signature_defs.specs.Schemes.{Scheme}
 use Rattle.text_defs.specs.Words.{space, line_feed, line_text, parts_of, words_of}
 use Rattle.kit_defs.specs.Kits.{Host, IsKit, Kit, KitLine, kit_text, line_words, roster_of, text_of_lines}
 use Rattle.kit_defs.specs.KitReading.{Draft, KitFault, Missing, finish, has_genesis, kit_by, kit_of, lacks_port, lines_at, next_pair, next_port, take_line}

@@ -1,7 +1,7 @@
 -- A kit in its ranges is read of its spelling.
 use Rattle.std.proofs.Common.{◌≡◌, ℕ, ◌+◌, ◌||◌, false, List, [], ◌∷◌, ◌++◌, map, flat_map, is_some, Ok, refl, ap, ◌∙◌, arith}
 use Rattle.std.proofs.lemmas.Bool.{or_from}
-use Rattle.secret_defs.specs.Schemes.{Scheme}
+use Rattle.signature_defs.specs.Schemes.{Scheme}
 use Rattle.kit_defs.specs.Kits.{AreHosts, Genesis, Host, IsKit, Kit, host_lines, key_length, key_line, kit_lines, kit_text, port_line, public_lines, version_of}
 use Rattle.kit_defs.specs.KitReading.{Draft, Missing, finish, kit_of, lacks_port, lines_at, next_pair}
 use Rattle.kit_defs.specs.KitLaws.{SpelledIsRead}

@@ -2,8 +2,8 @@
 use Rattle.std.proofs.Common.{◌≡◌, ◌≢◌, ℕ, ◌+◌, ◌≤◌, ◌⊎◌, List, [], ◌∷◌, ◌++◌, length, map, drop, flat_map, AllPairs, Some, None, IsTrue}
 use Rattle.std.specs.List.{AllByRecursion}
 use Rattle.byte_defs.specs.Members.{has}
-use Rattle.secret_defs.specs.Schemes.{Scheme}
-use Rattle.secret_defs.specs.Secrets.{scheme_of, public_key_of}
+use Rattle.signature_defs.specs.Schemes.{Scheme}
+use Rattle.signature_defs.specs.Secrets.{scheme_of, public_key_of}
 use Rattle.text_defs.specs.Words.{AreBytes}
 use Rattle.kit_defs.specs.Kits.{AreKeys, Host, IsHost, IsSecret, KitLine, KitVersion, Version, SchemeIs, GroupIs, Genesis, key_length, key_line, key_of, host_lines, others_than, port_line, roster_of, version_of}
 use Rattle.kit_defs.specs.KitReading.{Draft, nothing}

@@ -4,9 +4,9 @@ use Rattle.std.specs.Prelude.{◌&&◌, ◌||◌, nat_le}
 use Rattle.std.proofs.lemmas.Bool.{and_parts, eqb-true, leb-true, or_cases}
 use Rattle.signature_defs.specs.declared.OtsType.{OtsType}
 use Rattle.signature_defs.specs.Hss.{height_in_range, length_in_range, levels_in_range}
-use Rattle.secret_defs.specs.Schemes.{Scheme}
-use Rattle.secret_defs.specs.Schemes as schemes
-use Rattle.secret_defs.specs.Secrets.{levels_are_built}
+use Rattle.signature_defs.specs.Schemes.{Scheme}
+use Rattle.signature_defs.specs.Schemes as schemes
+use Rattle.signature_defs.specs.Secrets.{levels_are_built}
 use Rattle.kit_defs.specs.Kits.{KitVersion, One, Two, version_of}
 use Rattle.kit_defs.specs.KitReading.{is_of, is_scheme}
 

@@ -2,9 +2,9 @@
 use Rattle.std.specs.Prelude.{◌≡◌, ℕ, ◌+◌, ◌<◌, ◌≤◌, ◌^◌, min, max, true, List, ◌∷◌, ◌++◌, map, take, codes}
 use Rattle.std.specs.List.{range_with_len}
 use Rattle.sha2.specs.Sha256.{sha256}
-use Rattle.secret_defs.specs.Schemes.{Scheme}
-use Rattle.secret_defs.specs.Schemes as schemes
-use Rattle.secret_defs.specs.Secrets.{Secret, Plain, Lms, Hss, levels_are_built, public_key_of}
+use Rattle.signature_defs.specs.Schemes.{Scheme}
+use Rattle.signature_defs.specs.Schemes as schemes
+use Rattle.signature_defs.specs.Secrets.{Secret, Plain, Lms, Hss, levels_are_built, public_key_of}
 use Rattle.kit_defs.specs.declared.KeyPlan.{KeyPlan}
 use Rattle.kit_defs.specs.declared.KeyPlan.TheVariants as plans
 use Rattle.kit_defs.specs.Kits.{Kit, Host, others_than}

@@ -17,9 +17,9 @@ use Rattle.byte_defs.specs.Fields.{◌>>=◌, refuse_if}
 use Rattle.byte_defs.specs.Members.{has}
 use Rattle.signature_defs.specs.declared.OtsType.{OtsType}
 use Rattle.signature_defs.specs.LmOts.{ots_type_of}
-use Rattle.secret_defs.specs.Schemes.{Scheme}
-use Rattle.secret_defs.specs.Schemes as schemes
-use Rattle.secret_defs.specs.Secrets.{Secret, Plain, Lms, Hss, levels_are_built, public_key_of}
+use Rattle.signature_defs.specs.Schemes.{Scheme}
+use Rattle.signature_defs.specs.Schemes as schemes
+use Rattle.signature_defs.specs.Secrets.{Secret, Plain, Lms, Hss, levels_are_built, public_key_of}
 use Rattle.text_defs.specs.Words.{words_of, parts_of, begin_with, number_within, process_of, bytes_of}
 use Rattle.kit_defs.specs.Kits.{Kit, KitVersion, One, Two, Host, KitLine, Version, SchemeIs, GroupIs, Key, Genesis, Port, PlainHost, LmsHost, HssHost, Pair, key_length, roster_of, others_than, key_of}
 

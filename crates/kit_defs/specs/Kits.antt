@@ -18,9 +18,9 @@ use Rattle.sha2.specs.Sha256.{sha256}
 use Rattle.byte_defs.specs.Members.{has}
 use Rattle.signature_defs.specs.declared.OtsType.{OtsType}
 use Rattle.signature_defs.specs.LmOts.{ots_typecode}
-use Rattle.secret_defs.specs.Schemes.{Scheme}
-use Rattle.secret_defs.specs.Schemes as schemes
-use Rattle.secret_defs.specs.Secrets.{Secret, Plain, Lms, Hss, levels_are_built, scheme_of, public_key_of}
+use Rattle.signature_defs.specs.Schemes.{Scheme}
+use Rattle.signature_defs.specs.Schemes as schemes
+use Rattle.signature_defs.specs.Secrets.{Secret, Plain, Lms, Hss, levels_are_built, scheme_of, public_key_of}
 use Rattle.text_defs.specs.Words.{line_text, AreBytes}
 
 -- what a process that is hosted holds

@@ -3,7 +3,7 @@ use Rattle.std.proofs.Common.{◌≡◌, ◌≢◌, ℕ, ◌+◌, ◌==◌, Bool
 use Rattle.std.specs.Prelude.{◌↔◌, ◌&&◌, not, find, is_some, option_map, option_and_then, IsTrue}
 use Rattle.std.proofs.lemmas.Bool.{eqb-true, eq-eqb}
 use Rattle.byte_defs.specs.Members.{has}
-use Rattle.secret_defs.specs.Schemes.{Scheme}
+use Rattle.signature_defs.specs.Schemes.{Scheme}
 use Rattle.kit_defs.specs.Kits.{AreHosts, Host, IsHost, key_of, others_than, roster_of}
 use Rattle.text_defs.proofs.Tests.{and_true}
 

@@ -2,7 +2,7 @@
 use Rattle.std.proofs.Common.{◌≡◌, ℕ, Bool, true, false, List, [], ◌∷◌, map, Option, Some, None, option_map, refl, sym, ap, ◌∙◌}
 use Rattle.std.specs.Option.{option_flatten}
 use Rattle.byte_defs.specs.Choices.{first_that_holds}
-use Rattle.secret_defs.specs.Schemes.{Scheme}
+use Rattle.signature_defs.specs.Schemes.{Scheme}
 use Rattle.kit_defs.specs.Kits.{KitLine}
 use Rattle.kit_defs.specs.KitReading.{version_by, scheme_by, group_by, key_by, genesis_by, port_by, host_by, pair_by, line_by}
 use Rattle.kit_lines.specs.declared.first_words.FirstWord.{FirstWord}

@@ -1,6 +1,6 @@
 -- Lines of a kit, as plain data, and of which schemes it may be.
 use Rattle.std.specs.Prelude.{Bool, option_map}
-use Rattle.secret_defs.specs.Schemes.{Scheme}
+use Rattle.signature_defs.specs.Schemes.{Scheme}
 use Rattle.sig_scheme.specs.Views as views
 use Rattle.sig_scheme.specs.Keys.{key_bytes}
 use Rattle.kit_defs.specs.Kits as plain

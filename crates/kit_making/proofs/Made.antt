@@ -3,7 +3,7 @@ use Rattle.std.proofs.Common.{◌≡◌, ◌≢◌, ℕ, ◌+◌, ◌<◌, ◌==
 use Rattle.std.proofs.lemmas.List.{map-append, map-id}
 use Rattle.std.proofs.lemmas.List.Elements.{filter-append}
 use Rattle.std.proofs.lemmas.List.FromFn.{get_or-map-range_with_len, length-map-range_with_len, map-range_with_len_more}
-use Rattle.secret_defs.specs.Secrets as secrets
+use Rattle.signature_defs.specs.Secrets as secrets
 use Rattle.sig_scheme.specs.Views.{secret}
 use Rattle.kit_defs.specs.declared.KeyPlan.{KeyPlan}
 use Rattle.kit_defs.specs.Kits as plain

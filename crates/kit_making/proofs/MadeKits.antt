@@ -5,8 +5,7 @@ use Rattle.std.proofs.lemmas.Bool.{eqb-false, eqb-true}
 use Rattle.std.proofs.lemmas.List.FromFn.{length-range_with_len, get_or-range_with_len}
 use Rattle.byte_defs.specs.Members.{has}
 use Rattle.signature_defs.specs.Lms.{lms_public_key}
-use Rattle.signature_defs.specs.Secrets.{height_of}
-use Rattle.secret_defs.specs.Secrets.{scheme_of, public_key_of}
+use Rattle.signature_defs.specs.Secrets.{scheme_of, height_of, public_key_of}
 use Rattle.sig_scheme.specs.Keys.{refusal_of}
 use Rattle.sig_scheme.proofs.Refusals.{levels_not_refused, tree_not_refused}
 use Rattle.kit_defs.specs.declared.KeyPlan.{KeyPlan}

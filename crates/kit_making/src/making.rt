@@ -1,6 +1,6 @@
 //! Kits for rehearsals and tests, made from one seed.
 ghost use Rattle.std.specs.Prelude.{◌≡◌, ◌+◌, ◌≤◌, ◌<◌, map, IfOk, take};
-ghost use Rattle.secret_defs.specs.Secrets.{public_key_of};
+ghost use Rattle.signature_defs.specs.Secrets.{public_key_of};
 ghost use Rattle.sig_scheme.specs.Views.{scheme, secret};
 ghost use Rattle.kit_defs.specs.Kits.{IsKit, others_than};
 ghost use Rattle.kit_defs.specs.KitMaking.{derive, derived_group, derived_pair, derived_secret, first_numbers, made_host, made_kit, planned_scheme, IsPlan};

@@ -9,9 +9,9 @@ use Rattle.std.proofs.lemmas.List.Quantifiers.{all_pairs_push}
 use Rattle.byte_defs.specs.Fields.{◌>>=◌}
 use Rattle.byte_defs.proofs.Fields.{bind_ok, ok_is}
 use Rattle.byte_defs.specs.Members.{has}
-use Rattle.secret_defs.specs.Schemes.{Scheme}
-use Rattle.secret_defs.specs.Schemes as schemes
-use Rattle.secret_defs.specs.Secrets.{Secret, Plain, Lms, Hss, scheme_of}
+use Rattle.signature_defs.specs.Schemes.{Scheme}
+use Rattle.signature_defs.specs.Schemes as schemes
+use Rattle.signature_defs.specs.Secrets.{Secret, Plain, Lms, Hss, scheme_of}
 use Rattle.sig_scheme.specs.Keys.{refusal_of}
 use Rattle.sig_scheme.proofs.Refusals.{levels_not_refused, tree_not_refused}
 use Rattle.text_defs.specs.Words.{begin_with}

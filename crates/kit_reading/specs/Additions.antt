@@ -1,6 +1,6 @@
 -- Which lines may be put behind those that stand.
 use Rattle.std.specs.Prelude.{◌≡◌, ℕ, ◌≤◌, ◌<◌, true, length, All, Ok}
-use Rattle.secret_defs.specs.Secrets.{Secret, Plain, levels_are_built}
+use Rattle.signature_defs.specs.Secrets.{Secret, Plain, levels_are_built}
 use Rattle.kit_defs.specs.Kits.{KitLine, Key, PlainHost, LmsHost, HssHost}
 use Rattle.kit_defs.specs.KitReading.{Draft, listed_key, with_line}
 use Rattle.kit_draft.specs.Drafts.{IsDraft}

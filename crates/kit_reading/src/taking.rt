@@ -3,7 +3,7 @@ ghost use Rattle.std.specs.Prelude.{◌≡◌, ◌∷◌, [], ◌++◌, length, 
 ghost use Rattle.byte_defs.specs.Reads.{Makes};
 ghost use Rattle.sig_scheme.specs.Keys.{key_bytes, key_scheme, refusal_of};
 ghost use Rattle.sig_scheme.specs.Views.{secret};
-ghost use Rattle.secret_defs.specs.Secrets.{Plain, scheme_of};
+ghost use Rattle.signature_defs.specs.Secrets.{Plain, scheme_of};
 ghost use Rattle.text_codec.specs.Views.{parts_left};
 ghost use Rattle.kit_defs.specs.Kits as plain_kits;
 ghost use Rattle.kit_defs.specs.Kits.{key_length, secret_line};

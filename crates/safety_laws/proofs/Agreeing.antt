@@ -5,8 +5,7 @@ use Rattle.message_defs.specs.Statements.{Message, Statement, Echo, Place, slot_
 use Rattle.group_defs.specs.Process.{Process}
 use Rattle.group_defs.specs.Certified.{is_certified, payload_at}
 use Rattle.group_defs.specs.Family.{Family, ends}
-use Rattle.group_defs.specs.Laws.{Premises, StoodSo, IsOneView, OnePayload, OneBatch}
-use Rattle.group_defs.specs.Echoing.{OnePayloadAtTheEnd}
+use Rattle.group_defs.specs.Laws.{Premises, StoodSo, IsOneView, OnePayload, OnePayloadAtTheEnd, OneBatch}
 use Rattle.safety_laws.proofs.CertifiedIsBacked.{certified_is_backed}
 use Rattle.safety_laws.proofs.Decisions.{end_stood, settled_stood}
 use Rattle.pool_laws.proofs.Heard.{payload-certified, place-certified}

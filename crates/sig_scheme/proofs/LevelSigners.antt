@@ -3,10 +3,9 @@ use Rattle.std.proofs.Common.{◌≡◌, ℕ, List, refl, sym, ap, ◌∙◌}
 use Rattle.std.specs.Option.{unwrap_or}
 use Rattle.signature_defs.specs.declared.OtsType.{OtsType}
 use Rattle.signature_defs.specs.Lms.{lms_height_of}
-use Rattle.signature_defs.specs.Secrets.{height_of}
 use Rattle.signature_defs.specs.Hss.{HssSecret, hss_public_key, hss_signature, hss_signature_length, hss_total}
-use Rattle.secret_defs.specs.Secrets as secrets
-use Rattle.secret_defs.specs.Secrets.{hss_secret}
+use Rattle.signature_defs.specs.Secrets as secrets
+use Rattle.signature_defs.specs.Secrets.{height_of, hss_secret}
 use Rattle.lms_hss.specs.declared.key.HssKey.{HssKey}
 use Rattle.lms_hss.specs.Plans.{secret}
 use Rattle.lms_hss.specs.Key.{IsMadeFrom}

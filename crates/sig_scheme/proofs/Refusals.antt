@@ -4,7 +4,7 @@ use Rattle.std.proofs.lemmas.Bool.{le-leb}
 use Rattle.byte_defs.specs.Choices.{first_that_holds}
 use Rattle.signature_defs.specs.declared.OtsType.{OtsType}
 use Rattle.signature_defs.specs.Hss.{height_in_range, length_in_range, levels_in_range}
-use Rattle.secret_defs.specs.Secrets.{levels_are_built}
+use Rattle.signature_defs.specs.Secrets.{levels_are_built}
 use Rattle.lms_hss.specs.Refusals.{refusal}
 use Rattle.lms_hss.specs.declared.faults.KeyFault.TheVariants.{Levels, TooTall, TooLong}
 use Rattle.sig_scheme.specs.Keys.{tree_refusal}

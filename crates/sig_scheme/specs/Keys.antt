@@ -1,10 +1,10 @@
 -- Public keys, and the secrets that have one here.
 use Rattle.std.specs.Prelude.{◌≡◌, ℕ, List, [], ◌∷◌, not, Option, None}
 use Rattle.byte_defs.specs.Choices.{first_that_holds}
-use Rattle.secret_defs.specs.Schemes as schemes
-use Rattle.secret_defs.specs.Schemes.{Scheme}
-use Rattle.secret_defs.specs.Secrets as secrets
-use Rattle.secret_defs.specs.Secrets.{Secret, scheme_of, public_key_of, tree_is_built}
+use Rattle.signature_defs.specs.Schemes as schemes
+use Rattle.signature_defs.specs.Schemes.{Scheme}
+use Rattle.signature_defs.specs.Secrets as secrets
+use Rattle.signature_defs.specs.Secrets.{Secret, scheme_of, public_key_of, tree_is_built}
 use Rattle.lms_hss.specs.Refusals.{refusal}
 use Rattle.lms_hss.specs.declared.faults.KeyFault.{KeyFault}
 use Rattle.lms_hss.specs.declared.faults.KeyFault.TheVariants.{TooTall}

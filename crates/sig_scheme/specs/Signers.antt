@@ -3,9 +3,9 @@ use Rattle.std.specs.Prelude.{◌≡◌, ℕ, ◌^◌, List, Bool}
 use Rattle.signature_defs.specs.Plain.{plain_signature, plain_valid}
 use Rattle.signature_defs.specs.Lms.{lms_valid}
 use Rattle.signature_defs.specs.Hss.{hss_valid}
-use Rattle.secret_defs.specs.Schemes.{is_valid}
-use Rattle.secret_defs.specs.Secrets as secrets
-use Rattle.secret_defs.specs.Secrets.{Secret, scheme_of, total_of, public_key_of, signature_length_of}
+use Rattle.signature_defs.specs.Schemes.{is_valid}
+use Rattle.signature_defs.specs.Secrets as secrets
+use Rattle.signature_defs.specs.Secrets.{Secret, scheme_of, total_of, public_key_of, signature_length_of}
 use Rattle.rp_base.specs.Signer as plain
 use Rattle.rp_base.specs.Signer.{KeyKeeps, key_of, plain_keeps}
 use Rattle.lms_tree.specs.Key as trees

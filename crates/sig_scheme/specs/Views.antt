@@ -1,6 +1,6 @@
 -- Schemes and secrets of the code, as plain data.
-use Rattle.secret_defs.specs.Schemes as schemes
-use Rattle.secret_defs.specs.Secrets as secrets
+use Rattle.signature_defs.specs.Schemes as schemes
+use Rattle.signature_defs.specs.Secrets as secrets
 use Rattle.sig_scheme.specs.declared.any_scheme.AnyScheme.{AnyScheme}
 use Rattle.sig_scheme.specs.declared.any_scheme.AnyScheme.TheVariants as kinds
 use Rattle.sig_scheme.specs.declared.secret.Secret.{Secret}

@@ -1,5 +1,5 @@
 ghost use Rattle.std.specs.Prelude.{◌≡◌};
-ghost use Rattle.secret_defs.specs.Schemes.{is_valid};
+ghost use Rattle.signature_defs.specs.Schemes.{is_valid};
 ghost use Rattle.sig_scheme.specs.Views.{scheme};
 
 use lms_hss::hss_verify;

@@ -2,7 +2,7 @@
 ghost use Rattle.std.specs.Prelude.{◌≡◌, ◌↔◌, true, None, IfOk, IsErrOf, IsOkUnless};
 ghost use Rattle.std.specs.Option.{MatchOption};
 ghost use Rattle.signature_defs.specs.Hss.{height_in_range, length_in_range, levels_in_range};
-ghost use Rattle.secret_defs.specs.Secrets.{levels_are_built};
+ghost use Rattle.signature_defs.specs.Secrets.{levels_are_built};
 ghost use Rattle.lms_tree.specs.Key as trees;
 ghost use Rattle.lms_hss.specs.Key as levels;
 ghost use Rattle.lms_hss.specs.Refusals.{refusal};

@@ -1,7 +1,7 @@
 ghost use Rattle.std.specs.Prelude.{◌≡◌, ◌≢◌, IfOk, OnErr, IsErrOf, IsOkUnless};
 ghost use Rattle.std.specs.Option.{MatchOption};
-ghost use Rattle.secret_defs.specs.Secrets.{scheme_of};
-ghost use Rattle.secret_defs.specs.Schemes as schemes;
+ghost use Rattle.signature_defs.specs.Secrets.{scheme_of};
+ghost use Rattle.signature_defs.specs.Schemes as schemes;
 ghost use Rattle.lms_hss.specs.declared.faults.KeyFault.TheVariants as faults;
 ghost use Rattle.sig_scheme.specs.Views.{secret};
 ghost use Rattle.sig_scheme.specs.Keys.{IsKeyOf, refusal_of};

@@ -1,6 +1,6 @@
 use Rattle.std.proofs.Common.{◌≡◌, ℕ, List, None, refl, ap, subst, sym, ◌∙◌}
 use Rattle.sig_scheme.specs.Keys.{refusal_of}
-use Rattle.secret_defs.specs.Secrets.{public_key_of}
+use Rattle.signature_defs.specs.Secrets.{public_key_of}
 use Rattle.kit_defs.specs.KitMaking.{derived_secret}
 use Rattle.kit_making.proofs.Made.{below_next, made_by, pair_is}
 use Rattle.kit_making.proofs.MadeKits.{not_refused}

@@ -1,5 +1,5 @@
 use Rattle.std.proofs.Common.{◌≡◌, map}
-use Rattle.secret_defs.specs.Secrets.{public_key_of}
+use Rattle.signature_defs.specs.Secrets.{public_key_of}
 use Rattle.kit_defs.specs.KitMaking.{first_numbers, derived_secret}
 use Rattle.kit_making.proofs.making.make_roster.Given as goal
 

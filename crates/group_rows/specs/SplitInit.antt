@@ -1,0 +1,103 @@
+-- Process 3 lies: it sends one Init to processes 0 and 1 and another to process 2, and echoes both. All deliver the one that a
+-- quorum echoed.
+use Rattle.std.specs.Prelude.{◌≡◌, List, [], ◌∷◌, true, None}
+use Rattle.message_defs.specs.Statements.{Init, Echo, Order, Place, Keep}
+use Rattle.group_defs.specs.Process.{Setting, start, keyed}
+use Rattle.message_defs.specs.Claims.{Claims}
+use Rattle.group_defs.specs.Events.{Turn, Hand, Delivers, Liar}
+use Rattle.group_rows.specs.Scripts.{Seen, seen, setting, turn, by, msg}
+use Rattle.group_defs.specs.Accounts.{bounded, agree, sound}
+use Rattle.group_defs.specs.Family.{Family, accounts, numbers, honest}
+use Rattle.group_defs.specs.Laws.{Premises}
+
+unfoldable pub s : Setting
+s = setting (0 ∷ 1 ∷ 2 ∷ 3 ∷ []) (0 ∷ 1 ∷ 2 ∷ 3 ∷ [])
+
+unfoldable pub turns_0 : List Turn
+turns_0 =
+    turn 100000 (Hand 3 (Claims (by 3 (Init 0 0 (97 ∷ [])) ∷ [])))
+    ∷ turn 99999 (Hand 3 (Claims (by 3 (Echo 0 (msg 3 0) (97 ∷ [])) ∷ [])))
+    ∷ turn 99999 (Hand 3 (Claims (by 3 (Echo 0 (msg 3 0) (98 ∷ [])) ∷ [])))
+    ∷ turn 99999 (Hand 1 (Claims (by 1 (Echo 0 (msg 3 0) (97 ∷ [])) ∷ [])))
+    ∷ turn 99997 (Hand 2 (Claims (by 2 (Echo 0 (msg 3 0) (98 ∷ [])) ∷ [])))
+    ∷ turn 99997 (Hand 1 (Claims (by 1 (Place 0 0 (msg 3 0 ∷ [])) ∷ [])))
+    ∷ turn 99997 (Hand 2 (Claims (by 2 (Place 0 0 (msg 3 0 ∷ [])) ∷ [])))
+    ∷ turn 99996 (Hand 2 (Claims (by 2 (Keep 0 0 (msg 3 0 ∷ [])) ∷ [])))
+    ∷ turn 99996 (Hand 1 (Claims (by 1 (Keep 0 0 (msg 3 0 ∷ [])) ∷ [])))
+    ∷ []
+
+unfoldable pub answers_0 : List Seen
+answers_0 =
+    (None, ((Echo 0 (msg 3 0) (97 ∷ [])) ∷ []), (((1 ∷ 2 ∷ 3 ∷ []), (1 ∷ 1 ∷ 1 ∷ 0 ∷ 9 ∷ 2 ∷ 0 ∷ 0 ∷ 3 ∷ 0 ∷ 0 ∷ 0 ∷ 1 ∷ 97 ∷ 1 ∷ 0 ∷ 0 ∷ 0 ∷ [])) ∷ []), ([]))
+    ∷ (None, ([]), ([]), ([]))
+    ∷ (None, ([]), ([]), (Liar 3 ∷ []))
+    ∷ (None, ((Order 0 0 (msg 3 0 ∷ [])) ∷ (Place 0 0 (msg 3 0 ∷ [])) ∷ []), (((1 ∷ 2 ∷ 3 ∷ []), (1 ∷ 1 ∷ 3 ∷ 0 ∷ 8 ∷ 3 ∷ 0 ∷ 0 ∷ 0 ∷ 0 ∷ 3 ∷ 0 ∷ 0 ∷ 1 ∷ 0 ∷ 0 ∷ 0 ∷ 0 ∷ 8 ∷ 4 ∷ 0 ∷ 0 ∷ 0 ∷ 0 ∷ 3 ∷ 0 ∷ 0 ∷ 1 ∷ 0 ∷ 0 ∷ 0 ∷ 0 ∷ 9 ∷ 2 ∷ 0 ∷ 0 ∷ 3 ∷ 0 ∷ 0 ∷ 0 ∷ 1 ∷ 97 ∷ 3 ∷ 0 ∷ 0 ∷ 0 ∷ 1 ∷ 0 ∷ 0 ∷ 3 ∷ 0 ∷ 0 ∷ [])) ∷ []), ([]))
+    ∷ (None, ([]), ([]), ([]))
+    ∷ (None, ([]), ([]), ([]))
+    ∷ (None, ((Keep 0 0 (msg 3 0 ∷ [])) ∷ []), (((1 ∷ 2 ∷ 3 ∷ []), (1 ∷ 1 ∷ 1 ∷ 0 ∷ 8 ∷ 5 ∷ 0 ∷ 0 ∷ 0 ∷ 0 ∷ 3 ∷ 0 ∷ 0 ∷ 1 ∷ 0 ∷ 0 ∷ 0 ∷ [])) ∷ []), ([]))
+    ∷ (None, ([]), ([]), ([]))
+    ∷ (None, ([]), ([]), (Delivers 0 (record { place = 0; message = msg 3 0; payload = 97 ∷ [] }) ∷ []))
+    ∷ []
+
+unfoldable pub turns_1 : List Turn
+turns_1 =
+    turn 100000 (Hand 3 (Claims (by 3 (Init 0 0 (97 ∷ [])) ∷ [])))
+    ∷ turn 99999 (Hand 3 (Claims (by 3 (Echo 0 (msg 3 0) (97 ∷ [])) ∷ [])))
+    ∷ turn 99999 (Hand 3 (Claims (by 3 (Echo 0 (msg 3 0) (98 ∷ [])) ∷ [])))
+    ∷ turn 99999 (Hand 0 (Claims (by 0 (Echo 0 (msg 3 0) (97 ∷ [])) ∷ [])))
+    ∷ turn 99999 (Hand 2 (Claims (by 2 (Echo 0 (msg 3 0) (98 ∷ [])) ∷ [])))
+    ∷ turn 99999 (Hand 0 (Claims (by 0 (Order 0 0 (msg 3 0 ∷ [])) ∷ by 0 (Place 0 0 (msg 3 0 ∷ [])) ∷ by 0 (Echo 0 (msg 3 0) (97 ∷ [])) ∷ by 1 (Echo 0 (msg 3 0) (97 ∷ [])) ∷ by 3 (Echo 0 (msg 3 0) (97 ∷ [])) ∷ [])))
+    ∷ turn 99998 (Hand 2 (Claims (by 2 (Place 0 0 (msg 3 0 ∷ [])) ∷ [])))
+    ∷ turn 99997 (Hand 2 (Claims (by 2 (Keep 0 0 (msg 3 0 ∷ [])) ∷ [])))
+    ∷ turn 99997 (Hand 0 (Claims (by 0 (Keep 0 0 (msg 3 0 ∷ [])) ∷ [])))
+    ∷ []
+
+unfoldable pub answers_1 : List Seen
+answers_1 =
+    (None, ((Echo 0 (msg 3 0) (97 ∷ [])) ∷ []), (((0 ∷ 2 ∷ 3 ∷ []), (1 ∷ 1 ∷ 1 ∷ 0 ∷ 9 ∷ 2 ∷ 0 ∷ 0 ∷ 3 ∷ 0 ∷ 0 ∷ 0 ∷ 1 ∷ 97 ∷ 1 ∷ 1 ∷ 0 ∷ 0 ∷ [])) ∷ []), ([]))
+    ∷ (None, ([]), ([]), ([]))
+    ∷ (None, ([]), ([]), (Liar 3 ∷ []))
+    ∷ (None, ([]), ([]), ([]))
+    ∷ (None, ([]), ([]), ([]))
+    ∷ (None, ((Place 0 0 (msg 3 0 ∷ [])) ∷ []), (((0 ∷ 2 ∷ 3 ∷ []), (1 ∷ 1 ∷ 1 ∷ 0 ∷ 8 ∷ 4 ∷ 0 ∷ 0 ∷ 0 ∷ 0 ∷ 3 ∷ 0 ∷ 0 ∷ 1 ∷ 1 ∷ 0 ∷ 0 ∷ [])) ∷ []), ([]))
+    ∷ (None, ((Keep 0 0 (msg 3 0 ∷ [])) ∷ []), (((0 ∷ 2 ∷ 3 ∷ []), (1 ∷ 1 ∷ 1 ∷ 0 ∷ 8 ∷ 5 ∷ 0 ∷ 0 ∷ 0 ∷ 0 ∷ 3 ∷ 0 ∷ 0 ∷ 1 ∷ 1 ∷ 0 ∷ 0 ∷ [])) ∷ []), ([]))
+    ∷ (None, ([]), ([]), ([]))
+    ∷ (None, ([]), ([]), (Delivers 0 (record { place = 0; message = msg 3 0; payload = 97 ∷ [] }) ∷ []))
+    ∷ []
+
+unfoldable pub turns_2 : List Turn
+turns_2 =
+    turn 100000 (Hand 3 (Claims (by 3 (Init 0 0 (98 ∷ [])) ∷ [])))
+    ∷ turn 99999 (Hand 3 (Claims (by 3 (Echo 0 (msg 3 0) (97 ∷ [])) ∷ [])))
+    ∷ turn 99999 (Hand 3 (Claims (by 3 (Echo 0 (msg 3 0) (98 ∷ [])) ∷ [])))
+    ∷ turn 99999 (Hand 0 (Claims (by 0 (Echo 0 (msg 3 0) (97 ∷ [])) ∷ [])))
+    ∷ turn 99999 (Hand 1 (Claims (by 1 (Echo 0 (msg 3 0) (97 ∷ [])) ∷ [])))
+    ∷ turn 99999 (Hand 0 (Claims (by 0 (Order 0 0 (msg 3 0 ∷ [])) ∷ by 0 (Place 0 0 (msg 3 0 ∷ [])) ∷ by 0 (Echo 0 (msg 3 0) (97 ∷ [])) ∷ by 1 (Echo 0 (msg 3 0) (97 ∷ [])) ∷ by 3 (Echo 0 (msg 3 0) (97 ∷ [])) ∷ [])))
+    ∷ turn 99998 (Hand 1 (Claims (by 1 (Place 0 0 (msg 3 0 ∷ [])) ∷ [])))
+    ∷ turn 99997 (Hand 0 (Claims (by 0 (Keep 0 0 (msg 3 0 ∷ [])) ∷ [])))
+    ∷ turn 99997 (Hand 1 (Claims (by 1 (Keep 0 0 (msg 3 0 ∷ [])) ∷ [])))
+    ∷ []
+
+unfoldable pub answers_2 : List Seen
+answers_2 =
+    (None, ((Echo 0 (msg 3 0) (98 ∷ [])) ∷ []), (((0 ∷ 1 ∷ 3 ∷ []), (1 ∷ 1 ∷ 1 ∷ 0 ∷ 9 ∷ 2 ∷ 0 ∷ 0 ∷ 3 ∷ 0 ∷ 0 ∷ 0 ∷ 1 ∷ 98 ∷ 1 ∷ 2 ∷ 0 ∷ 0 ∷ [])) ∷ []), ([]))
+    ∷ (None, ([]), ([]), ([]))
+    ∷ (None, ([]), ([]), (Liar 3 ∷ []))
+    ∷ (None, ([]), ([]), ([]))
+    ∷ (None, ([]), ([]), ([]))
+    ∷ (None, ((Place 0 0 (msg 3 0 ∷ [])) ∷ []), (((0 ∷ 1 ∷ 3 ∷ []), (1 ∷ 1 ∷ 1 ∷ 0 ∷ 8 ∷ 4 ∷ 0 ∷ 0 ∷ 0 ∷ 0 ∷ 3 ∷ 0 ∷ 0 ∷ 1 ∷ 2 ∷ 0 ∷ 0 ∷ [])) ∷ []), ([]))
+    ∷ (None, ((Keep 0 0 (msg 3 0 ∷ [])) ∷ []), (((0 ∷ 1 ∷ 3 ∷ []), (1 ∷ 1 ∷ 1 ∷ 0 ∷ 8 ∷ 5 ∷ 0 ∷ 0 ∷ 0 ∷ 0 ∷ 3 ∷ 0 ∷ 0 ∷ 1 ∷ 2 ∷ 0 ∷ 0 ∷ [])) ∷ []), ([]))
+    ∷ (None, ([]), ([]), ([]))
+    ∷ (None, ([]), ([]), (Delivers 0 (record { place = 0; message = msg 3 0; payload = 97 ∷ [] }) ∷ []))
+    ∷ []
+
+unfoldable pub f : Family
+f = record { setting = s; correct = (record { me = 0; batch_limit = 1; turns = turns_0 } ∷ record { me = 1; batch_limit = 1; turns = turns_1 } ∷ record { me = 2; batch_limit = 1; turns = turns_2 } ∷ []) }
+
+-- the row: what the definitions give
+pub record SplitInit : Type 0 where
+  pub row_0 : seen s (start s 0 1) turns_0 ≡ answers_0
+  pub row_1 : seen s (start s 1 1) turns_1 ≡ answers_1
+  pub row_2 : seen s (start s 2 1) turns_2 ≡ answers_2
+  pub judged : honest f ∷ bounded (accounts f) (numbers f) ∷ agree (accounts f) ∷ sound (accounts f) (keyed f.setting) ∷ [] ≡ true ∷ true ∷ true ∷ true ∷ []
+  pub premises : Premises f

@@ -1,2 +1,0 @@
-pub mod Schemes
-pub mod Secrets
