@@ -1,13 +1,13 @@
 -- A claim more: the bytes grow at their end, and so do the entries.
-use Rattle.std.proofs.Common.{◌≡◌, ℕ, ◌+◌, ◌-◌, ◌≤◌, List, [], ◌∷◌, ◌++◌, length, take, drop, Option, Some, None, refl, sym, ap, ◌∙◌, subst, arith, append_assoc, length-append}
+use Rattle.std.proofs.Common.{◌≡◌, ℕ, ◌+◌, ◌-◌, ◌≤◌, List, [], ◌∷◌, ◌++◌, length, take, drop, Option, Some, None, Bool, true, refl, sym, ap, ◌∙◌, subst, arith, append_assoc, length-append}
 use Rattle.std.proofs.Math.Seq.{take-length}
-use Rattle.std.specs.Prelude.{IsOk, Ok, slice_range}
+use Rattle.std.specs.Prelude.{IsOk, Ok, slice_range, slice_set}
 use Rattle.std.specs.Option.{option_map}
 use Rattle.std.specs.List.{sum_by}
 use Rattle.std.proofs.lemmas.List.Sums.{sum_by_push}
 use Rattle.std.proofs.lemmas.List.{take-append-le, drop-append-le, length-drop, take_at, drop_at, map-append}
 use Rattle.message_defs.specs.Spelling.{IsStatement, spelling}
-use Rattle.message_defs.specs.Statements.{Statement, Claim, slot_of}
+use Rattle.message_defs.specs.Statements.{Statement, Claim, kind_number, slot_of}
 use Rattle.message_defs.specs.Reading.{statement_of}
 use Rattle.group_defs.specs.Certified.{claim_on}
 use Rattle.statements.proofs.Grammar.{spelling_again}
@@ -16,8 +16,9 @@ use Rattle.indexmap.proofs.CallerLemmas.{insert_entry-new}
 use Rattle.claim_index.specs.declared.key.Key.{Key}
 use Rattle.claim_index.specs.declared.index.Kept.{Kept}
 use Rattle.claim_index.specs.Keys.{key_of, same_key}
-use Rattle.claim_index.specs.Kept.{claim_bytes, spelled, middle, past, statement_bytes, claim_with, claim_at, heard_in, IsKept, AreKept}
+use Rattle.claim_index.specs.Kept.{claim_bytes, spelled, middle, past, statement_bytes, claim_with, claim_at, heard_in, IsKept, AreKept, AreNoted}
 use Rattle.claim_index.proofs.Found.{lookup_is_claim}
+use Rattle.claim_index.proofs.Noted.{kind-below, one-noted}
 
 -- ---- what stands there stays
 
@@ -126,3 +127,8 @@ module _ (bytes : List ℕ) (c : Claim) (k : Kept) (start : k.start ≡ length b
     all_filled filled =
         let one_more = ap (sum_by claim_bytes) all_heard ∙ sum_by_push claim_bytes (heard_in bytes m.entries) c in
         omega (arith, filled, one_more, length-append bytes (spelling c.statement ++ c.signature), length-append (spelling c.statement) c.signature)
+
+    -- its kind is noted
+    pub all_noted : (kinds : List Bool) (n : ℕ) → n ≡ kind_number c.statement → length kinds ≡ 12 → AreNoted kinds (heard_in bytes m.entries)
+        → AreNoted (slice_set kinds n true) (heard_in now (insert_entry same_key m.entries (key_of c.signer (slot_of c.statement)) k))
+    all_noted kinds n is twelve noted = subst (AreNoted (slice_set kinds n true)) (sym all_heard) (one-noted kinds (heard_in bytes m.entries) c n (sym is) (omega (arith, is, twelve, kind-below c.statement)) noted)

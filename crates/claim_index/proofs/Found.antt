@@ -1,5 +1,5 @@
 -- The entry under the key of a signer and a slot is the signer's first claim on the slot.
-use Rattle.std.proofs.Common.{◌≡◌, ℕ, Bool, true, false, cond, List, [], ◌∷◌, Option, Some, None, ◌≤◌, length, refl, sym, ap, ◌∙◌, subst}
+use Rattle.std.proofs.Common.{◌≡◌, ℕ, zero, suc, slice_get, Bool, true, false, cond, List, [], ◌∷◌, Option, Some, None, ◌≤◌, length, refl, sym, ap, ◌∙◌, subst}
 use Rattle.std.specs.Prelude.{◌&&◌, ◌==◌, IsOk, option_and_then}
 use Rattle.std.specs.Option.{option_map}
 use Rattle.std.specs.Map.{lookup}
@@ -100,3 +100,32 @@ pub unsaid : (h : Pool) (bytes : List ℕ) (es : List (Key × Kept)) → h.heard
 unsaid h bytes es is kept p st e =
     let none : None ≡ claim_on h.heard p (slot_of st) = ap (option_map (claim_with bytes p)) e ∙ lookup_is_claim bytes es kept p (slot_of st) ∙ ap (λ cs. claim_on cs p (slot_of st)) (sym is) in
     ap (λ o. option_map (same_statement st) (option_map (λ (c : Claim). c.statement) o)) none
+
+-- ---- by the place in order of hearing
+
+kept_at : (bytes : List ℕ) (es : List (Key × Kept)) → AreKept bytes es → (k : ℕ) (e : Key × Kept) → slice_get es k ≡ Some e → IsKept bytes e × (slice_get (heard_in bytes es) k ≡ Some (claim_at bytes e))
+kept_at bytes [] kept k e is = absurd cc
+kept_at bytes (x ∷ es) kept zero e is = let one : x ≡ e = cc in (subst (IsKept bytes) one kept.0, ap (λ y. Some (claim_at bytes y)) one)
+kept_at bytes (x ∷ es) kept (suc k) e is = kept_at bytes es kept.1 k e is
+
+none_at : (bytes : List ℕ) (es : List (Key × Kept)) (k : ℕ) → slice_get es k ≡ None → slice_get (heard_in bytes es) k ≡ None
+none_at bytes [] k is = refl
+none_at bytes (x ∷ es) zero is = absurd cc
+none_at bytes (x ∷ es) (suc k) is = none_at bytes es k is
+
+module _ (h : Pool) (bytes : List ℕ) (es : List (Key × Kept)) (heard : h.heard ≡ heard_in bytes es) (kept : AreKept bytes es) (k : ℕ) where
+  -- the claim there says it, where its entry has the statement's bytes
+  pub said_there : (e : Key × Kept) → Some e ≡ slice_get es k → (st : Statement) → IsStatement st
+      → bytes_eq (statement_bytes bytes e.1) (spelling st) ≡ is_some_and (option_map (λ (c : Claim). c.statement) (slice_get h.heard k)) (same_statement st)
+  said_there e is st fits =
+      let at = kept_at bytes es kept k e (sym is) in
+      same_said (statement_bytes bytes e.1) st fits at.0.written
+      ∙ ap (λ o. is_some_and (option_map (λ (c : Claim). c.statement) o) (same_statement st)) (sym (ap (λ cs. slice_get cs k) heard ∙ at.1))
+
+  pub what_there : (e : Key × Kept) → Some e ≡ slice_get es k → Some (claim_at bytes e).statement ≡ option_map (λ (c : Claim). c.statement) (slice_get h.heard k)
+  what_there e is =
+      let at = kept_at bytes es kept k e (sym is) in
+      ap (option_map (λ (c : Claim). c.statement)) (sym (ap (λ cs. slice_get cs k) heard ∙ at.1))
+
+  pub nothing_there : None ≡ slice_get es k → None ≡ option_map (λ (c : Claim). c.statement) (slice_get h.heard k)
+  nothing_there is = ap (option_map (λ (c : Claim). c.statement)) (sym (ap (λ cs. slice_get cs k) heard ∙ none_at bytes es k (sym is)))

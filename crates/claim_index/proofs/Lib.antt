@@ -3,3 +3,5 @@ pub mod Found
 pub mod Adding
 pub mod Signers
 pub mod Sets
+pub mod Noted
+pub mod Unheard

@@ -9,7 +9,7 @@ use Rattle.pool_laws.proofs.Members.{Mem, filter-mem}
 use Rattle.pool_laws.proofs.Places.{mem-slice_get, get-drop, slice_get-index, all-pairs}
 use Rattle.pool_laws.proofs.Sorting.{mem-sorted, by_number, below-by_number}
 
-put_once-new : (p : ℕ) (qs : List ℕ) → ((q : ℕ) → Mem q qs → q ≡ p → ⊥) → put_once p qs ≡ put by_number p qs
+pub put_once-new : (p : ℕ) (qs : List ℕ) → ((q : ℕ) → Mem q qs → q ≡ p → ⊥) → put_once p qs ≡ put by_number p qs
 put_once-new p [] new = refl
 put_once-new p (q ∷ qs) new =
     go (nat_lt q p) refl (q == p) refl (nat_lt p q) refl (put_once-new p qs (λ r m. new r (inr m)))

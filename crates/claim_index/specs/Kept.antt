@@ -1,7 +1,7 @@
 -- How claims are kept: their bytes one behind the other, and by key where a claim's bytes stand among them.
-use Rattle.std.specs.Prelude.{◌≡◌, ℕ, ◌+◌, ◌≤◌, List, [], ◌∷◌, ◌++◌, length, map, slice_range, Ok, Err, IsOk}
-use Rattle.std.specs.List.{AllByRecursion, sum_by}
-use Rattle.message_defs.specs.Statements.{Statement, End, Claim, slot_of}
+use Rattle.std.specs.Prelude.{◌≡◌, ℕ, ◌+◌, ◌≤◌, ◌==◌, Bool, false, List, [], ◌∷◌, ◌++◌, length, map, slice_index_or, slice_range, Ok, Err, IsOk}
+use Rattle.std.specs.List.{AllByRecursion, list_any, sum_by}
+use Rattle.message_defs.specs.Statements.{Statement, End, Claim, kind_number, slot_of}
 use Rattle.message_defs.specs.Spelling.{spelling}
 use Rattle.message_defs.specs.Reading.{statement_of}
 use Rattle.group_defs.specs.Views.{View}
@@ -33,6 +33,10 @@ empty_pool v = record { view = v; heard = [] }
 -- the claim stands behind those that are heard
 abbrev pub with_heard : Pool → Claim → Pool
 with_heard h c = record { view = h.view; heard = h.heard ++ c ∷ [] }
+
+-- some heard claim says a statement of the kind of this number
+abbrev pub is_kind_heard : List Claim → ℕ → Bool
+is_kind_heard cs kind = list_any (λ c. kind_number c.statement == kind) cs
 
 -- ---- where the bytes stand
 
@@ -80,7 +84,12 @@ pub record IsKept (bytes : List ℕ) (e : Key × Kept) : Type 0 where
 abbrev pub AreKept : List ℕ → List (Key × Kept) → Type 0
 AreKept bytes es = AllByRecursion (IsKept bytes) es
 
--- each claim is kept, and there are no other bytes
-pub record IsIndex (bytes : List ℕ) (es : List (Key × Kept)) : Type 0 where
+-- at a kind's number it is noted whether a claim of the kind is heard
+abbrev pub AreNoted : List Bool → List Claim → Type 0
+AreNoted kinds cs = (kind : ℕ) → slice_index_or kinds kind false ≡ is_kind_heard cs kind
+
+-- each claim is kept, there are no other bytes, and the kinds of the claims are noted
+pub record IsIndex (bytes : List ℕ) (es : List (Key × Kept)) (kinds : List Bool) : Type 0 where
   pub kept : AreKept bytes es
   pub filled : length bytes ≡ sum_by claim_bytes (heard_in bytes es)
+  pub noted : AreNoted kinds (heard_in bytes es)

@@ -1,5 +1,6 @@
 ghost use Rattle.std.specs.Prelude.{◌≡◌, ◌+◌, ◌-◌, ◌≤◌, [], ◌++◌, ◌↔◌, length, slice_get, slice_range, None, IsTrue, IsOk, IfOk, OnOk, OnErr, IfSome, option_and_then, sum_by};
 ghost use Rattle.std.specs.Option.{option_map, option_copied};
+ghost use Rattle.byte_defs.specs.Choices.{is_some_and};
 ghost use Rattle.std.specs.Map.{lookup};
 ghost use Rattle.std.specs.Str.{bytes_eq};
 ghost use Rattle.std.specs.Vec.{vec_len, vec_capacity};
@@ -9,10 +10,10 @@ ghost use Rattle.message_defs.specs.Reading.{statement_of};
 ghost use Rattle.group_defs.specs.Certified as defs;
 ghost use Rattle.stmt_codec.specs.Views.{stmt, slot, claim, claim as claim_of};
 ghost use Rattle.byte_defs.specs.Orders.{sorted};
-ghost use Rattle.claim_index.specs.Keys.{same_key};
-ghost use Rattle.claim_index.specs.Kept.{by_number, past, middle, spelled, claim_with, claim_bytes, statement_bytes, empty_pool, with_heard, AreKept};
+ghost use Rattle.claim_index.specs.Keys.{slot_key, same_key};
+ghost use Rattle.claim_index.specs.Kept.{by_number, past, middle, spelled, claim_with, claim_bytes, statement_bytes, empty_pool, with_heard, is_kind_heard, AreKept};
 
-use crate::key::{Key, slot_key_at, slot_key_of};
+use crate::key::{Key, SlotKey, slot_key_at, slot_key_of};
 use indexmap::IndexMap;
 use rp_base::{NoMemory, Pid, PidSet};
 use std::alloc::Global;
@@ -28,6 +29,9 @@ pub struct Kept {
     signed: u16,
 }
 
+/// How many numbers a kind can have: 1 to 11, and 0, which none has.
+const KIND_NUMBERS: usize = 12;
+
 /// The heard claims of a view, in order of hearing, and of each signer and slot one at most that is found. Contracts see
 /// them as the definitions' pool, with the room that is left.
 #[derive(Drop)]
@@ -35,6 +39,7 @@ pub struct ClaimIndex {
     view: View,
     bytes: Vec<u8>,
     kept: IndexMap<Key, Kept>,
+    kinds: [bool; KIND_NUMBERS],
 }
 
 impl Model for ClaimIndex {
@@ -47,7 +52,7 @@ impl Model for ClaimIndex {
 
     ghost view = { λ p. record { pool = pool_of p.view p.bytes.items p.kept.entries; claims_left = spare p.kept; bytes_left = vec_capacity p.bytes - length p.bytes.items } };
 
-    ghost invariant = { λ p. IsIndex p.bytes.items p.kept.entries };
+    ghost invariant = { λ p. IsIndex p.bytes.items p.kept.entries p.kinds };
 }
 
 // The entry under this key.
@@ -106,17 +111,30 @@ pub fn store(bytes: &mut Vec<u8>, claim: &Claim<'_>) -> Kept
 {
     let mut spelled = [0; STATEMENT_BYTES];
     let said = spell_into(&claim.statement, &mut spelled);
+    store_spelled(bytes, &spelled[..said], claim.signature)
+}
+
+// Puts the bytes of a statement and its signature behind those that stand there, and answers where they stand.
+fn store_spelled(bytes: &mut Vec<u8>, spelled: &[u8], signature: &[u8]) -> Kept
+    requires short { (length spelled.now ≤ 1032) × (length signature.now ≤ 16384) }
+    requires room { vec_len bytes.old + (length spelled.now + length signature.now) ≤ vec_capacity bytes.old }
+    ensures items { bytes.new.items ≡ bytes.old.items ++ (spelled.now ++ signature.now) }
+    ensures capacity { vec_capacity bytes.old ≤ vec_capacity bytes.new }
+    ensures start { result.start ≡ length bytes.old.items }
+    ensures said { result.said ≡ length spelled.now }
+    ensures signed { result.signed ≡ length signature.now }
+{
     let start = bytes.len();
-    let Ok(()) = bytes.extend_from_slice(&spelled[..said]) else {
+    let Ok(()) = bytes.extend_from_slice(spelled) else {
         unreachable!()
     };
-    let Ok(()) = bytes.extend_from_slice(claim.signature) else {
+    let Ok(()) = bytes.extend_from_slice(signature) else {
         unreachable!()
     };
     Kept {
         start,
-        said: said as u16,
-        signed: claim.signature.len() as u16,
+        said: spelled.len() as u16,
+        signed: signature.len() as u16,
     }
 }
 
@@ -138,6 +156,7 @@ impl ClaimIndex {
             view,
             bytes: Vec::new(alloc),
             kept: IndexMap::new(alloc),
+            kinds: [false; KIND_NUMBERS],
         }
     }
 
@@ -149,6 +168,7 @@ impl ClaimIndex {
     {
         self.bytes.clear();
         self.kept.clear();
+        self.kinds = [false; KIND_NUMBERS];
         self.view = view;
     }
 
@@ -186,6 +206,13 @@ impl ClaimIndex {
             Some((key, kept)) => Some(lent(&self.bytes, key.signer(), *kept)),
             None => None,
         }
+    }
+
+    /// Whether a claim of the kind is heard; false where no kind has the number.
+    pub fn hears(&self, kind: u8) -> bool
+        ensures { result ≡ is_kind_heard self.now.pool.heard kind }
+    {
+        self.kinds.get(kind as usize).copied().unwrap_or(false)
     }
 
     /// The signer's heard claim of that kind and slot, with its signature; None exactly where there is none, or the kind
@@ -283,10 +310,12 @@ impl ClaimIndex {
         backers
     }
 
-    /// Hears a claim whose signer has none on the slot.
-    pub fn add(&mut self, claim: &Claim<'_>)
+    /// Hears a claim whose signer has none on the slot; the slot and the statement's bytes are handed in.
+    pub fn add(&mut self, claim: &Claim<'_>, slot: SlotKey, spelled: &[u8])
         requires range { IsStatement (stmt claim.now.statement) }
         requires short { length claim.now.signature.now ≤ 16384 }
+        requires slot { slot ≡ slot_key (plain.slot_of (stmt claim.now.statement)) }
+        requires spelled { (spelled.now ≡ spelling (stmt claim.now.statement)) × (length spelled.now ≤ 1032) }
         requires fresh { defs.claim_on self.old.pool.heard claim.now.signer (plain.slot_of (stmt claim.now.statement)) ≡ None }
         requires claims { 1 ≤ self.old.claims_left }
         requires bytes { claim_bytes (claim_of claim.now) ≤ self.old.bytes_left }
@@ -294,10 +323,34 @@ impl ClaimIndex {
         ensures claims_left { self.old.claims_left ≤ self.new.claims_left + 1 }
         ensures bytes_left { self.old.bytes_left ≤ self.new.bytes_left + claim_bytes (claim_of claim.now) }
     {
-        let key = Key::new(claim.signer, slot_key_of(&claim.statement));
-        let kept = store(&mut self.bytes, claim);
+        self.kinds[claim.statement.kind() as usize] = true;
+        let key = Key::new(claim.signer, slot);
+        let kept = store_spelled(&mut self.bytes, spelled, claim.signature);
         let Ok(_) = self.kept.insert(key, kept) else {
             unreachable!()
         };
+    }
+
+    /// What the heard claim at this place in order of hearing says; None exactly where the place is not below their number.
+    pub fn said_at(&self, place: usize) -> Option<Statement<'_>>
+        ensures value { option_map stmt result ≡ option_map (λ c. c.statement) (slice_get self.now.pool.heard place) }
+        ensures range { IfSome result (λ st. IsStatement (stmt st)) }
+    {
+        match self.kept.get_index(place) {
+            Some((key, kept)) => Some(lent(&self.bytes, key.signer(), *kept).statement),
+            None => None,
+        }
+    }
+
+    /// Whether the heard claim at this place in order of hearing has the statement's bytes, which are handed in.
+    pub fn says_at(&self, place: usize, statement: &Statement<'_>, spelled: &[u8]) -> bool
+        requires range { IsStatement (stmt statement.now) }
+        requires spelled { spelled.now ≡ spelling (stmt statement.now) }
+        ensures { result ≡ is_some_and (option_map (λ c. c.statement) (slice_get self.now.pool.heard place)) (plain.same_statement (stmt statement.now)) }
+    {
+        match self.kept.get_index(place) {
+            Some((_, kept)) => is_said(&self.bytes, *kept, spelled),
+            None => false,
+        }
     }
 }

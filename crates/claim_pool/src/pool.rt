@@ -14,8 +14,9 @@ ghost use Rattle.byte_defs.specs.Orders.{sorted};
 ghost use Rattle.rp_base.specs.Views.{update as update_of};
 ghost use Rattle.group_defs.specs.Views.{quorum};
 ghost use Rattle.claim_pool.specs.Certificates.{content_of, signers_of};
-ghost use Rattle.claim_index.specs.Kept.{by_number, claim_bytes, empty_pool, with_heard};
+ghost use Rattle.claim_index.specs.Kept.{by_number, claim_bytes, empty_pool, is_kind_heard, with_heard};
 ghost use Rattle.pool_values.specs.Updates.{has_update};
+ghost use Rattle.pool_values.specs.Ends.{IsInitsEnd};
 ghost use Rattle.claim_pool.specs.Settings.{as_setting};
 ghost use Rattle.own_place.specs.Owns.{HasDelivered};
 ghost use Rattle.claim_pool.specs.Verdicts.{verdict, after, with_own, late_tests};
@@ -28,6 +29,7 @@ use claim_index::ClaimIndex;
 use own_place::Own;
 use pool_values::{Places, UpdateSet};
 use rp_base::{GroupId, NoMemory, Pid, Roster, Scheme, Update};
+use slot_quorums::Quorums;
 use std::alloc::Global;
 use std::marker::{Model, PhantomData};
 use stmt_codec::{Batch, Claim, Slot, Statement};
@@ -50,17 +52,17 @@ impl Model for Pool {
 
 // The verdict on a claim of the view, in its window. The signature is looked at last of all.
 fn heard_verdict<V: Scheme>(
-    claims: &ClaimIndex,
+    quorums: &Quorums,
     scheme: &V,
     roster: &Roster,
     group: &GroupId,
     claim: &Claim<'_>,
 ) -> Verdict
     requires { IsStatement (stmt claim.now.statement) }
-    ensures value { verdict result ≡ unwrap_or (first_that_holds (late_tests (as_setting (V.valid scheme.now) group.now roster.now) claims.now.pool (claim_of claim.now))) hearing.Heard }
-    ensures fresh { verdict result ≡ hearing.Heard → certified.claim_on claims.now.pool.heard claim.now.signer (plain.slot_of (stmt claim.now.statement)) ≡ None }
+    ensures value { verdict result ≡ unwrap_or (first_that_holds (late_tests (as_setting (V.valid scheme.now) group.now roster.now) quorums.now.pool (claim_of claim.now))) hearing.Heard }
+    ensures fresh { verdict result ≡ hearing.Heard → certified.claim_on quorums.now.pool.heard claim.now.signer (plain.slot_of (stmt claim.now.statement)) ≡ None }
 {
-    match claims.repeats(claim.signer, &claim.statement) {
+    match quorums.repeats(claim.signer, &claim.statement) {
         Some(true) => Verdict::Known,
         Some(false) => {
             if is_signed(scheme, roster, group, claim) {
@@ -175,10 +177,10 @@ impl Pool {
         ensures first { (p : defs.Process) → HasDelivered own.now p → p.pool ≡ self.now.pool → verdict result ≡ hearing.verdict (as_setting (V.valid scheme.now) group.now roster.now) p (claim_of claim.now) }
         ensures fresh { verdict result ≡ hearing.Heard → certified.claim_on self.now.pool.heard claim.now.signer (plain.slot_of (stmt claim.now.statement)) ≡ None }
     {
-        let claims = self.heard.quorums().claims();
-        match turned_away(claims.view(), own, claim) {
+        let quorums = self.heard.quorums();
+        match turned_away(quorums.claims().view(), own, claim) {
             Some(verdict) => verdict,
-            None => heard_verdict(claims, scheme, roster, group, claim),
+            None => heard_verdict(quorums, scheme, roster, group, claim),
         }
     }
 
@@ -198,6 +200,13 @@ impl Pool {
         if !is_heard(self.heard.quorums().claims(), claim) {
             self.heard.add(claim);
         }
+    }
+
+    /// Whether a claim of the kind is heard; false where no kind has the number.
+    pub fn hears(&self, kind: u8) -> bool
+        ensures { result ≡ is_kind_heard self.now.pool.heard kind }
+    {
+        self.heard.quorums().claims().hears(kind)
     }
 
     /// The signer's heard claim of that kind and slot, with its signature; None exactly where there is none, or the kind
@@ -245,15 +254,12 @@ impl Pool {
         ensures enough { IfSome result (λ c. quorum (certified.number_of_members self.now.pool) ≤ length (signers_of c)) }
     {
         let quorums = self.heard.quorums();
-        match quorums.certified(K::number(), &slot) {
-            Some(content) => {
-                let signers = quorums.claims().backers(&content);
-                Some(Certificate {
-                    content,
-                    signers,
-                    kind: PhantomData,
-                })
-            }
+        match quorums.certificate(K::number(), &slot) {
+            Some((content, signers)) => Some(Certificate {
+                content,
+                signers,
+                kind: PhantomData,
+            }),
             None => None,
         }
     }
@@ -263,9 +269,9 @@ impl Pool {
         requires { IsStatement (stmt statement.now) }
         ensures { result ≡ length (certified.backers self.now.pool (stmt statement.now)) }
     {
-        let claims = self.heard.quorums().claims();
-        let _members = claims.view().members();
-        claims.count(statement) as u8
+        let quorums = self.heard.quorums();
+        let _members = quorums.claims().view().members();
+        quorums.count(statement) as u8
     }
 
     /// Whether more than f members' heard claims notify the update.
@@ -310,5 +316,12 @@ impl Pool {
         ensures { result ≡ certified.fixed_length self.now.pool }
     {
         self.heard.fixed()
+    }
+
+    /// The least number from which on none of the process's Inits of the view is heard: 0, or the greatest heard number + 1.
+    pub fn inits_end(&self, sender: Pid) -> u16
+        ensures { IsInitsEnd self.now.pool sender result }
+    {
+        self.heard.inits_end(sender)
     }
 }

@@ -1,4 +1,4 @@
-ghost use Rattle.std.specs.Prelude.{◌≡◌, ◌<◌};
+ghost use Rattle.std.specs.Prelude.{◌≡◌, ◌<◌, ◌≤◌};
 ghost use Rattle.message_defs.specs.Spelling.{IsClaim};
 ghost use Rattle.stmt_codec.specs.Views.{claim as claim_of};
 
@@ -72,6 +72,39 @@ fn a_place_of_all_three_is_placed_with_its_names(rt: HostRuntime) -> Result<(), 
     assert!(rt; pool.batch_at(0).is_some() && pool.batch_at(1).is_none());
     assert_eq!(rt; pool.names_before(0), [0, 0, 0].as_slice());
     assert_eq!(rt; pool.names_before(1), [0, 1, 1].as_slice());
+    Ok(())
+}
+
+// Hears process 1's Init of this number, of this view.
+fn hear_init(rt: &impl Abort, pool: &mut Pool, view: u16, number: u16)
+    requires view { view ≤ 1023 }
+    requires number { number ≤ 1023 }
+{
+    let claim = Claim {
+        signer: pid(1),
+        statement: Statement::Init {
+            view,
+            number,
+            payload: b"a",
+        },
+        signature: b"s",
+    };
+    hear_own(rt, pool, &claim);
+}
+
+#[test]
+fn inits_end_behind_the_greatest_that_is_heard(rt: HostRuntime) -> Result<(), NoMemory> {
+    let rt = &rt;
+    let view = View::new(0, &[pid(2), pid(1), pid(0)]).expect(rt, "a view");
+    let mut pool = Pool::new(rt.alloc(), view)?;
+    let pool = &mut pool;
+    assert!(rt; pool.inits_end(pid(1)) == 0);
+    hear_init(rt, pool, 0, 4);
+    hear_init(rt, pool, 0, 2);
+    hear_init(rt, pool, 1, 9);
+    assert!(rt; pool.inits_end(pid(1)) == 5 && pool.inits_end(pid(2)) == 0);
+    pool.turn_to(View::new(1, &[pid(2), pid(1), pid(0)]).expect(rt, "a view"));
+    assert!(rt; pool.inits_end(pid(1)) == 0);
     Ok(())
 }
 

@@ -1,4 +1,5 @@
 mod Noted
+mod Reaching
 pub mod Next
 pub mod Batches
 pub mod Telling

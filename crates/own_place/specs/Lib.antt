@@ -1,3 +1,4 @@
 pub mod Signed
+pub mod Rows
 pub mod Owns
 pub mod Noting

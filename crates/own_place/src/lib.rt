@@ -3,6 +3,7 @@
 
 mod noting;
 mod own;
+mod rows;
 mod signed;
 
 pub use own::Own;

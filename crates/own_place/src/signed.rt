@@ -1,16 +1,18 @@
-ghost use Rattle.std.specs.Prelude.{◌≡◌, ◌+◌, ◌≤◌, false, not, [], ◌∷◌, ◌++◌, OnOk};
+ghost use Rattle.std.specs.Prelude.{◌≡◌, ◌+◌, ◌≤◌, ◌<◌, ℕ, true, false, not, [], ◌∷◌, ◌++◌, OnOk};
 ghost use Rattle.std.specs.List.{list_any};
 ghost use Rattle.byte_defs.specs.Choices.{is_some_and};
 ghost use Rattle.message_defs.specs.Limits.{most_places};
-ghost use Rattle.message_defs.specs.Statements.{InitAt, KeepAt, slot_of};
-ghost use Rattle.stmt_codec.specs.Views.{stmt, slot as slot_at};
+ghost use Rattle.message_defs.specs.Statements.{InitAt, EchoAt, PlaceAt, KeepAt, slot_of};
+ghost use Rattle.stmt_codec.specs.Views.{stmt, message, slot as slot_at};
 ghost use Rattle.claim_index.specs.Keys.{slot_key, same_slot_key};
 ghost use Rattle.pool_laws.specs.Least.{IsLeastBelow};
 ghost use Rattle.own_place.specs.Signed.{has_slot};
+ghost use Rattle.own_place.specs.Rows.{slot_in};
 
+use crate::rows::{ROWS, Row, row_of, view_of};
 use claim_index::{SlotKey, slot_key_at, slot_key_of};
 use indexmap::IndexSet;
-use rp_base::NoMemory;
+use rp_base::{NoMemory, Pid};
 use std::alloc::Global;
 use std::marker::Model;
 use stmt_codec::{Slot, Statement};
@@ -23,6 +25,10 @@ const MOST_PLACES: u16 = 1_024;
 #[derive(Drop)]
 pub struct SignedSlots {
     keys: IndexSet<SlotKey>,
+
+    // the view whose rows are followed, and for each of them a number below which all slots are signed
+    view: u16,
+    reached: [u16; ROWS],
 }
 
 impl Model for SignedSlots {
@@ -32,6 +38,10 @@ impl Model for SignedSlots {
     ghost Value = { Signed };
 
     ghost view = { λ p. record { slots = p.keys.keys; left = spare p.keys } };
+
+    ghost use Rattle.own_place.specs.Rows.{AreReached};
+
+    ghost invariant = { λ p. AreReached p.keys.keys p.view p.reached };
 }
 
 // Whether the kind and slot are among these.
@@ -48,6 +58,8 @@ impl SignedSlots {
     {
         SignedSlots {
             keys: IndexSet::new(alloc),
+            view: 0,
+            reached: [0; ROWS],
         }
     }
 
@@ -57,6 +69,7 @@ impl SignedSlots {
         ensures left { self.old.left ≤ self.new.left }
     {
         self.keys.clear();
+        self.reached = [0; ROWS];
     }
 
     /// Makes room to note so many slots more. Without memory, what is signed is as before.
@@ -79,8 +92,71 @@ impl SignedSlots {
         }
     }
 
-    /// Notes that the statement's slot is signed, which it was not. It takes no memory: room for one slot must be reserved.
-    pub fn sign(&mut self, statement: &Statement<'_>)
+    // Whether the slot of this number in the row is signed.
+    fn is_signed(&self, row: &Row, view: u16, number: u16) -> bool
+        ensures { result ≡ has_slot self.now (slot_in row.now view number) }
+    {
+        let place = Slot::Place {
+            view,
+            place: number,
+        };
+        match *row {
+            Row::Inits => self.has_signed(1, &Slot::Number { view, number }),
+            Row::Places => self.has_signed(4, &place),
+            Row::Keeps => self.has_signed(5, &place),
+            Row::Echoes(sender) => {
+                let message = Slot::Message {
+                    view,
+                    sender,
+                    number,
+                };
+                self.has_signed(2, &message)
+            }
+        }
+    }
+
+    // A number below which all slots of the row are signed.
+    fn reached(&self, row: &Row, view: u16) -> u16
+        ensures { (n : ℕ) → n < result → has_slot self.now (slot_in row.now view n) ≡ true }
+    {
+        if view == self.view {
+            self.reached[row.index()]
+        } else {
+            0
+        }
+    }
+
+    // The least number whose slot in the row is not signed; None exactly where all 1,024 are.
+    fn first_unsigned(&self, row: &Row, view: u16) -> Option<u16>
+        ensures { IsLeastBelow most_places (λ n. not (has_slot self.now (slot_in row.now view n))) result }
+    {
+        'numbers: for number in self.reached(row, view)..MOST_PLACES {
+            if !self.is_signed(row, view, number) {
+                return Some(number);
+            }
+        }
+        None
+    }
+
+    // Follows the rows of this view, where nothing is signed yet.
+    fn turn_to(&mut self, view: u16)
+        ensures { self.new ≡ self.old }
+    {
+        if self.keys.is_empty() {
+            self.view = view;
+        }
+    }
+
+    // Follows the row of the statement, whose slot is signed.
+    fn follow(&mut self, row: &Row)
+        ensures { self.new ≡ self.old }
+    {
+        let number = self.first_unsigned(row, self.view).unwrap_or(MOST_PLACES);
+        self.reached[row.index()] = number;
+    }
+
+    // Notes the slot.
+    fn note(&mut self, statement: &Statement<'_>)
         requires fresh { has_slot self.old (slot_of (stmt statement.now)) ≡ false }
         requires room { 1 ≤ self.old.left }
         ensures slots { self.new.slots ≡ self.old.slots ++ slot_key (slot_of (stmt statement.now)) ∷ [] }
@@ -92,27 +168,45 @@ impl SignedSlots {
         };
     }
 
+    /// Notes that the statement's slot is signed, which it was not. It takes no memory: room for one slot must be reserved.
+    pub fn sign(&mut self, statement: &Statement<'_>)
+        requires fresh { has_slot self.old (slot_of (stmt statement.now)) ≡ false }
+        requires room { 1 ≤ self.old.left }
+        ensures slots { self.new.slots ≡ self.old.slots ++ slot_key (slot_of (stmt statement.now)) ∷ [] }
+        ensures left { self.old.left ≤ self.new.left + 1 }
+    {
+        self.turn_to(view_of(statement));
+        self.note(statement);
+        if let Some(row) = row_of(statement) {
+            self.follow(&row);
+        }
+    }
+
     /// The least number whose Init is not signed in the view of this number; None exactly where all 1,024 are.
     pub fn first_unsigned_init(&self, view: u16) -> Option<u16>
         ensures { IsLeastBelow most_places (λ l. not (has_slot self.now (InitAt view l))) result }
     {
-        'numbers: for number in 0..MOST_PLACES {
-            if !self.has_signed(1, &Slot::Number { view, number }) {
-                return Some(number);
-            }
-        }
-        None
+        self.first_unsigned(&Row::Inits, view)
+    }
+
+    /// The least number of the sender's messages whose Echo is not signed in the view of this number; None exactly where all 1,024 are.
+    pub fn first_unsigned_echo(&self, view: u16, sender: Pid) -> Option<u16>
+        ensures { IsLeastBelow most_places (λ l. not (has_slot self.now (EchoAt view (message sender l)))) result }
+    {
+        self.first_unsigned(&Row::Echoes(sender), view)
+    }
+
+    /// The least place whose Place is not signed in the view of this number; None exactly where all 1,024 are.
+    pub fn first_unsigned_place(&self, view: u16) -> Option<u16>
+        ensures { IsLeastBelow most_places (λ k. not (has_slot self.now (PlaceAt view k))) result }
+    {
+        self.first_unsigned(&Row::Places, view)
     }
 
     /// The least place whose Keep is not signed in the view of this number; None exactly where all 1,024 are.
     pub fn first_unsigned_keep(&self, view: u16) -> Option<u16>
         ensures { IsLeastBelow most_places (λ k. not (has_slot self.now (KeepAt view k))) result }
     {
-        'places: for place in 0..MOST_PLACES {
-            if !self.has_signed(5, &Slot::Place { view, place }) {
-                return Some(place);
-            }
-        }
-        None
+        self.first_unsigned(&Row::Keeps, view)
     }
 }

@@ -1,6 +1,7 @@
-ghost use Rattle.std.specs.Prelude.{◌≡◌, ◌<◌};
+ghost use Rattle.std.specs.Prelude.{◌≡◌, ◌<◌, []};
 ghost use Rattle.message_defs.specs.Spelling.{IsStatement};
-ghost use Rattle.stmt_codec.specs.Views.{stmt};
+ghost use Rattle.message_defs.specs.Statements as plain;
+ghost use Rattle.stmt_codec.specs.Views.{stmt, message};
 
 use arrayvec::ArrayVec;
 use own_place::{Own, SignedSlots};
@@ -84,5 +85,35 @@ fn an_end_and_a_ready_are_noted(rt: HostRuntime) -> Result<(), NoMemory> {
     };
     let own = place_after(&rt, &ready)?;
     assert!(rt; !own.ended && own.rank == 2 && own.ready == Some((2, value)));
+    Ok(())
+}
+
+// The Echo of process 1's message of this number, of view 4.
+fn echo(number: u16) -> Statement<'static>
+    ensures { stmt result ≡ plain.Echo 4 (message 1 number) [] }
+{
+    Statement::Echo {
+        view: 4,
+        sender: pid(1),
+        number,
+        payload: &[],
+    }
+}
+
+#[test]
+fn the_first_unsigned_slot_of_a_row_is_found(rt: HostRuntime) -> Result<(), NoMemory> {
+    let mut signed = SignedSlots::new(rt.alloc());
+    signed.reserve(2)?;
+    signed.sign(&echo(1));
+    assert_eq!(rt; signed.first_unsigned_echo(4, pid(1)), Some(0));
+    signed.sign(&echo(0));
+    assert_eq!(rt; signed.first_unsigned_echo(4, pid(1)), Some(2));
+    assert_eq!(rt; signed.first_unsigned_echo(4, pid(2)), Some(0));
+    assert_eq!(rt; signed.first_unsigned_echo(5, pid(1)), Some(0));
+    assert_eq!(rt; signed.first_unsigned_place(4), Some(0));
+    assert_eq!(rt; signed.first_unsigned_keep(4), Some(0));
+    assert_eq!(rt; signed.first_unsigned_init(4), Some(0));
+    signed.clear();
+    assert_eq!(rt; signed.first_unsigned_echo(4, pid(1)), Some(0));
     Ok(())
 }

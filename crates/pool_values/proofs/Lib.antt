@@ -1,3 +1,4 @@
 pub mod PlacedLength
 pub mod Notified
+pub mod Ended
 pub mod Inserted

@@ -23,7 +23,7 @@ module _ (h : Pool) (c : Claim) (fresh : claim_on h.heard c.signer (slot_of c.st
   abbrev is_its : ℕ → Slot → Bool
   is_its p s = (c.signer == p) && same_slot (slot_of c.statement) s
 
-  on-grown : (p : ℕ) (s : Slot) → claim_on (with_heard h c).heard p s ≡ option_or (claim_on h.heard p s) (if is_its p s then Some c else None)
+  pub on-grown : (p : ℕ) (s : Slot) → claim_on (with_heard h c).heard p s ≡ option_or (claim_on h.heard p s) (if is_its p s then Some c else None)
   on-grown p s = folds.find-append (λ (d : Claim). (d.signer == p) && same_slot (slot_of d.statement) s) h.heard (c ∷ [])
 
   abbrev answer : Statement → Option Claim → Bool

@@ -3,11 +3,11 @@ use Rattle.std.proofs.Common.{◌≡◌, inl, inr, ℕ, zero, suc, ◌+◌, ◌<
 use Rattle.std.specs.Prelude.{option_and_then, filter, nat_lt}
 use Rattle.std.proofs.lemmas.Bool.{le-ltb}
 use Rattle.message_defs.specs.Updates.{Update}
-use Rattle.message_defs.specs.Statements.{Batch, Statement, Notify, Claim, PlaceAt, slot_of, batch_of}
+use Rattle.message_defs.specs.Statements.{Batch, Statement, Place, Notify, Claim, PlaceAt, kind_number, slot_of, batch_of}
 use Rattle.group_defs.specs.Views.{View, faulty}
 use Rattle.group_defs.specs.Process.{Pool}
 use Rattle.group_defs.specs.Certified.{claim_on, says, certified_on, place_at, placed_from, placed, fixed_length, place_kept, is_notified, number_of_members}
-use Rattle.pool_laws.proofs.Grown.{certified-stays}
+use Rattle.pool_laws.proofs.Grown.{certified-stays, none-stays}
 use Rattle.pool_laws.proofs.Heard.{placed-at}
 use Rattle.pool_laws.proofs.Places.{Compared, ahead, level, behind, compared, get-some, slice_get-snoc, length-snoc}
 use Rattle.pool_laws.proofs.Tests.{then-some, some-same}
@@ -17,6 +17,7 @@ use Rattle.claim_index.specs.Kept.{empty_pool, with_heard}
 use Rattle.placed_batches.specs.Rows.{Prefix}
 use Rattle.pool_values.specs.declared.updates.UpdateSet.{UpdateSet}
 use Rattle.pool_values.specs.Updates.{has_update}
+use Rattle.pool_values.specs.Ends.{AreInitsEnds}
 use Rattle.pool_values.specs.Places.{ArePlaced, AreCounted, placed_in, after_one}
 
 same-lists : {A : Type 0} (xs ys : List A) → length xs ≡ length ys → ((k : ℕ) (x y : A) → slice_get xs k ≡ Some x → slice_get ys k ≡ Some y → x ≡ y) → xs ≡ ys
@@ -90,6 +91,31 @@ more-placed h c fresh some = record {
   few = few-placed h;
 }
 
+-- ---- no other claim than a Place certifies a place
+
+not-place : (st : Statement) (x k : ℕ) → (kind_number st ≡ 4 → ⊥) → slot_of st ≡ PlaceAt x k → ⊥
+not-place (Place y j b) x k other at = other refl
+not-place _ x k other at = cc
+
+module _ (h : Pool) (c : Claim) (fresh : claim_on h.heard c.signer (slot_of c.statement) ≡ None) (some : 1 ≤ number_of_members h) (other : kind_number c.statement ≡ 4 → ⊥) where
+  same-at : (k : ℕ) → place_at (with_heard h c) k ≡ place_at h k
+  same-at k = ap (option_and_then batch_of) (go (certified_on h (PlaceAt h.view.number k)) refl)
+    where
+      go : (o : Option Statement) → certified_on h (PlaceAt h.view.number k) ≡ o → certified_on (with_heard h c) (PlaceAt h.view.number k) ≡ certified_on h (PlaceAt h.view.number k)
+      go None e = none-stays h c fresh some (PlaceAt h.view.number k) e (λ at _. not-place c.statement h.view.number k other at) ∙ sym e
+      go (Some st) e = certified-stays h c fresh some (PlaceAt h.view.number k) st e ∙ sym e
+
+  same-from : (more k : ℕ) → placed_from (with_heard h c) more k ≡ placed_from h more k
+  same-from zero k = refl
+  same-from (suc more) k = λ i. elim (same-at k i) [ None ↦ [] | Some b ↦ b ∷ same-from more (k + 1) i ]
+
+  same : placed (with_heard h c) ≡ placed h
+  unfolding placed
+  same = same-from 1024 0
+
+  pub same-placed : placed_in (with_heard h c) ≡ placed_in h
+  same-placed = λ i. record { view = h.view; batches = same i }
+
 -- ---- how far the places are kept
 
 same-after : (most : ℕ) (o : Option ℕ) → after_one most o ≡ fixed.after_one most o
@@ -106,12 +132,13 @@ nobody : (v : View) (st : Statement) (ms : List ℕ) → filter (says (empty_poo
 nobody v st [] = refl
 nobody v st (m ∷ ms) = nobody v st ms
 
-pub empty-counted : (v : View) (p : Prefix) (h : Pool) (s : UpdateSet) → p ≡ record { view = v; batches = [] } → h ≡ empty_pool v → ((u : Update) → has_update s u ≡ false) → AreCounted h p 0 s
+pub empty-counted : (v : View) (p : Prefix) (h : Pool) (s : UpdateSet) → p ≡ record { view = v; batches = [] } → h ≡ empty_pool v → ((u : Update) → has_update s u ≡ false) → (ends : List ℕ) → AreInitsEnds h ends → AreCounted h p 0 s ends
 unfolding placed
-empty-counted v p h s prefix pool none = record {
+empty-counted v p h s prefix pool none ends inits = record {
   places = prefix ∙ ap placed_in (sym pool);
   fixed = ap fixed_length (sym pool);
   updates = λ u.
       none u ∙ sym (ap (λ (ms : List ℕ). nat_lt (faulty (length v.members)) (length ms)) (nobody v (Notify v.number u) v.members) ∙ le-ltb (faulty (length v.members)) 0 (omega arith))
       ∙ ap (λ h. is_notified h u) (sym pool);
+  inits = inits;
 }

@@ -1,2 +1,3 @@
 pub mod Updates
+pub mod Ends
 pub mod Places

@@ -6,16 +6,18 @@ use Rattle.group_defs.specs.Certified.{place_at, placed, fixed_length}
 use Rattle.placed_batches.specs.Rows.{Prefix}
 use Rattle.pool_values.specs.declared.updates.UpdateSet.{UpdateSet}
 use Rattle.pool_values.specs.Updates.{AreNotified}
+use Rattle.pool_values.specs.Ends.{AreInitsEnds}
 
 -- the places that are certified from the first on, in the pool's view
 abbrev pub placed_in : Pool → Prefix
 placed_in h = record { view = h.view; batches = placed h }
 
--- they are these, the places are kept so far, and these updates are notified
-pub record AreCounted (h : Pool) (prefix : Prefix) (kept_to : ℕ) (notified : UpdateSet) : Type 0 where
+-- they are these, the places are kept so far, these updates are notified, and of each process the Inits are heard so far
+pub record AreCounted (h : Pool) (prefix : Prefix) (kept_to : ℕ) (notified : UpdateSet) (ends : List ℕ) : Type 0 where
   pub places : prefix ≡ placed_in h
   pub fixed : kept_to ≡ fixed_length h
   pub updates : AreNotified h notified
+  pub inits : AreInitsEnds h ends
 
 -- each of these batches is certified at its place, of which there are 1,024 at most
 pub record ArePlaced (h : Pool) (batches : List Batch) : Type 0 where

@@ -12,11 +12,12 @@ ghost use Rattle.stmt_codec.specs.Views.{stmt, claim as claim_of};
 ghost use Rattle.claim_index.specs.Kept.{claim_bytes, empty_pool, with_heard};
 ghost use Rattle.pool_values.specs.Updates.{has_update, AreNotified, notified_said};
 ghost use Rattle.pool_values.specs.Places.{ArePlaced, placed_in, after_one};
+ghost use Rattle.pool_values.specs.Ends.{IsInitsEnd};
 
+use crate::ends::{PROCESSES, note_init};
 use crate::updates::UpdateSet;
-use claim_index::ClaimIndex;
 use placed_batches::PlacedBatches;
-use rp_base::{NoMemory, Update};
+use rp_base::{NoMemory, Pid, Update};
 use slot_quorums::Quorums;
 use std::alloc::Global;
 use std::marker::Model;
@@ -26,14 +27,18 @@ use view_table::{View, faulty};
 /// How many places a view has.
 const MOST_PLACES: u16 = 1_024;
 
-/// The heard claims of a view, its places that are certified from the first on, how far they are kept, and the updates that more
-/// than f members notify.
+/// The number of the kind Place.
+const PLACE: u8 = 4;
+
+/// The heard claims of a view, its places that are certified from the first on, how far they are kept, the updates that more
+/// than f members notify, and how far the Inits of each process are heard.
 #[derive(Drop)]
 pub struct Places {
     quorums: Quorums,
     prefix: PlacedBatches,
     fixed: u16,
     notified: UpdateSet,
+    ends: [u16; PROCESSES],
 }
 
 impl Model for Places {
@@ -44,7 +49,7 @@ impl Model for Places {
 
     ghost view = { λ p. p.quorums };
 
-    ghost invariant = { λ p. AreCounted p.quorums.pool p.prefix p.fixed p.notified };
+    ghost invariant = { λ p. AreCounted p.quorums.pool p.prefix p.fixed p.notified p.ends };
 }
 
 // The batch of an Order, a Place or a Keep.
@@ -64,7 +69,7 @@ fn batch_at(quorums: &Quorums, place: u16) -> Option<Batch>
     ensures { result ≡ defs.place_at quorums.now.pool place }
 {
     let view = quorums.claims().view().number();
-    match quorums.certified(4, &Slot::Place { view, place }) {
+    match quorums.certified(PLACE, &Slot::Place { view, place }) {
         Some(statement) => batch_of(&statement),
         None => None,
     }
@@ -84,13 +89,24 @@ fn follow(quorums: &Quorums, prefix: &mut PlacedBatches)
     }
 }
 
+// The same, with this claim, the last that was heard: no other than a Place certifies a place.
+fn follow_claim(quorums: &Quorums, statement: &Statement<'_>, prefix: &mut PlacedBatches)
+    requires view { prefix.old.view ≡ quorums.now.pool.view }
+    requires placed { ArePlaced quorums.now.pool prefix.old.batches }
+    ensures { (h : Pool) (c : plain.Claim) → quorums.now.pool ≡ with_heard h c → c.statement ≡ stmt statement.now → defs.claim_on h.heard c.signer (plain.slot_of c.statement) ≡ None → 1 ≤ defs.number_of_members h → prefix.old ≡ placed_in h → prefix.new ≡ placed_in quorums.now.pool }
+{
+    if statement.kind() == PLACE {
+        follow(quorums, prefix);
+    }
+}
+
 // How far the places are kept with this claim, the last that was heard.
 fn fixed_with(quorums: &Quorums, fixed: u16, statement: &Statement<'_>) -> u16
     requires { IsStatement (stmt statement.now) }
     ensures { result ≡ after_one fixed (defs.place_kept quorums.now.pool (stmt statement.now)) }
 {
     match statement {
-        Statement::Keep { place, .. } if quorums.claims().is_certified(statement) => {
+        Statement::Keep { place, .. } if quorums.is_certified(statement) => {
             fixed.max(*place + 1)
         }
         _ => fixed,
@@ -98,11 +114,12 @@ fn fixed_with(quorums: &Quorums, fixed: u16, statement: &Statement<'_>) -> u16
 }
 
 // Whether more than f members notify the update.
-fn is_notified(claims: &ClaimIndex, update: Update) -> bool
-    ensures { result ≡ defs.is_notified claims.now.pool (update_of update) }
+fn is_notified(quorums: &Quorums, update: Update) -> bool
+    ensures { result ≡ defs.is_notified quorums.now.pool (update_of update) }
 {
+    let claims = quorums.claims();
     let view = claims.view().number();
-    let backers = claims.count(&Statement::Notify { view, update });
+    let backers = quorums.count(&Statement::Notify { view, update });
     faulty(claims.view().members().len()) < backers
 }
 
@@ -117,20 +134,20 @@ fn update_said(statement: &Statement<'_>) -> Option<Update>
 }
 
 // Whether more than f members notify the update that the statement tells.
-fn is_told_enough(claims: &ClaimIndex, statement: &Statement<'_>) -> bool
-    ensures { result ≡ is_some_and (defs.update_said (stmt statement.now)) (defs.is_notified claims.now.pool) }
+fn is_told_enough(quorums: &Quorums, statement: &Statement<'_>) -> bool
+    ensures { result ≡ is_some_and (defs.update_said (stmt statement.now)) (defs.is_notified quorums.now.pool) }
 {
     match update_said(statement) {
-        Some(update) => is_notified(claims, update),
+        Some(update) => is_notified(quorums, update),
         None => false,
     }
 }
 
 // The update that the statement tells, where more than f members notify it.
-fn notified_by(claims: &ClaimIndex, statement: &Statement<'_>) -> Option<Update>
-    ensures { option_map update_of result ≡ notified_said claims.now.pool (stmt statement.now) }
+fn notified_by(quorums: &Quorums, statement: &Statement<'_>) -> Option<Update>
+    ensures { option_map update_of result ≡ notified_said quorums.now.pool (stmt statement.now) }
 {
-    if is_told_enough(claims, statement) {
+    if is_told_enough(quorums, statement) {
         update_said(statement)
     } else {
         None
@@ -141,7 +158,7 @@ fn notified_by(claims: &ClaimIndex, statement: &Statement<'_>) -> Option<Update>
 fn note_update(quorums: &Quorums, statement: &Statement<'_>, notified: &mut UpdateSet)
     ensures { (h : Pool) (c : plain.Claim) → quorums.now.pool ≡ with_heard h c → c.statement ≡ stmt statement.now → defs.claim_on h.heard c.signer (plain.slot_of c.statement) ≡ None → AreNotified h notified.old → AreNotified quorums.now.pool notified.new }
 {
-    if let Some(update) = notified_by(quorums.claims(), statement) {
+    if let Some(update) = notified_by(quorums, statement) {
         notified.insert(update);
     }
 }
@@ -169,6 +186,7 @@ impl Places {
             prefix,
             fixed: 0,
             notified,
+            ends: [0; PROCESSES],
         })
     }
 
@@ -182,6 +200,7 @@ impl Places {
         self.quorums.turn_to(view);
         self.fixed = 0;
         self.notified = UpdateSet::new();
+        self.ends = [0; PROCESSES];
     }
 
     /// Makes room for so many claims more, with so many bytes in all.
@@ -236,6 +255,13 @@ impl Places {
         &self.notified
     }
 
+    /// The least number from which on none of the process's Inits of the view is heard: 0, or the greatest heard number + 1.
+    pub fn inits_end(&self, sender: Pid) -> u16
+        ensures { IsInitsEnd self.now.pool sender result }
+    {
+        self.ends[sender.get() as usize]
+    }
+
     /// Hears a claim whose signer has none on the slot.
     pub fn add(&mut self, claim: &Claim<'_>)
         requires range { IsStatement (stmt claim.now.statement) }
@@ -247,11 +273,12 @@ impl Places {
         ensures claims_left { self.old.claims_left ≤ self.new.claims_left + 1 }
         ensures bytes_left { self.old.bytes_left ≤ self.new.bytes_left + claim_bytes (claim_of claim.now) }
     {
-        let _number = self.quorums.claims().view().number();
+        let view = self.quorums.claims().view().number();
         self.quorums.add(claim);
-        follow(&self.quorums, &mut self.prefix);
+        follow_claim(&self.quorums, &claim.statement, &mut self.prefix);
         let fixed = fixed_with(&self.quorums, self.fixed, &claim.statement);
         note_update(&self.quorums, &claim.statement, &mut self.notified);
+        note_init(view, claim, &mut self.ends);
         self.fixed = fixed;
     }
 }

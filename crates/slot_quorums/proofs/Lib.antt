@@ -1,1 +1,3 @@
-pub mod Noting
+pub mod Joining
+pub mod Hearing
+pub mod Asking

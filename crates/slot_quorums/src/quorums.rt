@@ -1,63 +1,70 @@
-ghost use Rattle.std.specs.Prelude.{◌≡◌, ◌+◌, ◌≤◌, ◌<◌, Some, None, cond, length, OnOk, IfSome, option_and_then};
+ghost use Rattle.std.specs.Prelude.{◌≡◌, ◌+◌, ◌≤◌, ◌<◌, Some, None, cond, length, nat_le, OnOk, IfSome, option_and_then};
 ghost use Rattle.std.specs.Option.{option_map};
 ghost use Rattle.std.specs.Map.{lookup};
 ghost use Rattle.indexmap.specs.IndexMap.{spare};
+ghost use Rattle.byte_defs.specs.Orders.{sorted};
 ghost use Rattle.message_defs.specs.Spelling.{IsStatement};
 ghost use Rattle.message_defs.specs.Statements as plain;
+ghost use Rattle.group_defs.specs.Views as views;
 ghost use Rattle.group_defs.specs.Certified as defs;
 ghost use Rattle.stmt_codec.specs.Views.{stmt, slot, claim, claim as claim_of};
 ghost use Rattle.claim_index.specs.Keys.{same_slot_key};
-ghost use Rattle.claim_index.specs.Kept.{claim_bytes, empty_pool, with_heard};
-ghost use Rattle.slot_quorums.specs.Noting.{keep_or};
+ghost use Rattle.claim_index.specs.Kept.{by_number, claim_bytes, empty_pool, with_heard};
+ghost use Rattle.slot_quorums.specs.Cells.{IsCertifiedBy};
 
+use crate::cell::{Cell, cell_with};
 use claim_index::{ClaimIndex, SlotKey, slot_key_at, slot_key_of};
 use indexmap::IndexMap;
-use rp_base::{NoMemory, Pid};
+use rp_base::{NoMemory, Pid, PidSet};
 use std::alloc::Global;
 use std::marker::Model;
-use stmt_codec::{Claim, Slot, Statement};
-use view_table::View;
+use stmt_codec::{Claim, STATEMENT_BYTES, Slot, Statement, spell_into};
+use view_table::{View, quorum};
 
-/// The heard claims of a view, and of each slot that has a certified content, one who says it. Nothing is counted again
-/// on a slot that is certified.
+/// The heard claims of a view, and a cell for each slot on which one is heard. Members are counted where a claim says something else
+/// than its slot's cell, and else nowhere.
 #[derive(Drop)]
 pub struct Quorums {
     claims: ClaimIndex,
-    noted: IndexMap<SlotKey, Pid>,
+    cells: IndexMap<SlotKey, Cell>,
 }
 
 impl Model for Quorums {
     ghost use Rattle.std.specs.Prelude.{min};
     ghost use Rattle.indexmap.specs.IndexMap.{spare};
     ghost use Rattle.claim_index.specs.Kept.{Holding};
-    ghost use Rattle.slot_quorums.specs.Noting.{AreNoted};
+    ghost use Rattle.slot_quorums.specs.Cells.{AreCells};
 
     ghost Value = { Holding };
 
-    ghost view = { λ p. record { pool = p.claims.pool; claims_left = min p.claims.claims_left (spare p.noted); bytes_left = p.claims.bytes_left } };
+    ghost view = { λ p. record { pool = p.claims.pool; claims_left = min p.claims.claims_left (spare p.cells); bytes_left = p.claims.bytes_left } };
 
-    ghost invariant = { λ p. AreNoted p.claims.pool p.noted.entries };
+    ghost invariant = { λ p. AreCells p.claims.pool p.cells.entries };
 }
 
-// One who says what is certified on the slot.
-fn noted_at(noted: &IndexMap<SlotKey, Pid>, key: &SlotKey) -> Option<Pid>
-    ensures { result ≡ lookup (same_slot_key key.now) noted.now.entries }
+// What is heard on the slot.
+fn cell_at(cells: &IndexMap<SlotKey, Cell>, key: &SlotKey) -> Option<Cell>
+    ensures { result ≡ lookup (same_slot_key key.now) cells.now.entries }
 {
-    noted.get(key).copied()
+    cells.get(key).copied()
 }
 
-// Notes who says what is certified on the slot, where none is noted.
-fn note(noted: &mut IndexMap<SlotKey, Pid>, key: SlotKey, who: Pid)
-    requires { 0 < spare noted.old }
-    ensures looks { (k : SlotKey) → lookup (same_slot_key k) noted.new.entries ≡ keep_or (lookup (same_slot_key key) noted.old.entries) (lookup (same_slot_key k) noted.old.entries) (cond (same_slot_key key k) (Some who) (lookup (same_slot_key k) noted.old.entries)) }
-    ensures room { spare noted.old ≤ spare noted.new + 1 }
+// Puts the cell in the place of what the slot had.
+fn put(cells: &mut IndexMap<SlotKey, Cell>, key: SlotKey, cell: Cell)
+    requires { 0 < spare cells.old }
+    ensures looks { (k : SlotKey) → lookup (same_slot_key k) cells.new.entries ≡ cond (same_slot_key key k) (Some cell) (lookup (same_slot_key k) cells.old.entries) }
+    ensures room { spare cells.old ≤ spare cells.new + 1 }
 {
-    if noted_at(noted, &key).is_some() {
-        return;
-    }
-    let Ok(_) = noted.insert(key, who) else {
+    let Ok(_) = cells.insert(key, cell) else {
         unreachable!()
     };
+}
+
+// Whether a quorum says the cell's content.
+fn is_enough(claims: &ClaimIndex, cell: &Cell) -> bool
+    ensures { result ≡ nat_le (views.quorum (defs.number_of_members claims.now.pool)) (length cell.now.backers) }
+{
+    quorum(claims.view().members().len()) <= cell.count()
 }
 
 impl Quorums {
@@ -69,7 +76,7 @@ impl Quorums {
     {
         Quorums {
             claims: ClaimIndex::new(alloc, view),
-            noted: IndexMap::new(alloc),
+            cells: IndexMap::new(alloc),
         }
     }
 
@@ -80,7 +87,7 @@ impl Quorums {
         ensures bytes { self.old.bytes_left ≤ self.new.bytes_left }
     {
         self.claims.turn_to(view);
-        self.noted.clear();
+        self.cells.clear();
     }
 
     /// Makes room for so many claims more, with so many bytes in all.
@@ -90,7 +97,7 @@ impl Quorums {
         ensures kept { (self.old.claims_left ≤ self.new.claims_left) × (self.old.bytes_left ≤ self.new.bytes_left) }
     {
         self.claims.reserve(claims, bytes)?;
-        self.noted.reserve(claims)?;
+        self.cells.reserve(claims)?;
         Ok(())
     }
 
@@ -101,17 +108,79 @@ impl Quorums {
         &self.claims
     }
 
+    // The cell of that kind and slot, where its content is certified.
+    fn certified_cell(&self, kind: u8, about: &Slot) -> Option<Cell>
+        ensures { IsCertifiedBy self.now.pool (slot kind about.now) result }
+    {
+        let key = slot_key_at(kind, about)?;
+        let cell = cell_at(&self.cells, &key)?;
+        if is_enough(&self.claims, &cell) {
+            Some(cell)
+        } else {
+            None
+        }
+    }
+
     /// What is certified of that kind and slot; None exactly where nothing is, or the kind has no such slots.
     pub fn certified(&self, kind: u8, about: &Slot) -> Option<Statement<'_>>
         ensures value { option_map stmt result ≡ option_and_then (defs.certified_on self.now.pool) (slot kind about.now) }
         ensures range { IfSome result (λ st. IsStatement (stmt st)) }
     {
-        let key = slot_key_at(kind, about)?;
-        let who = noted_at(&self.noted, &key)?;
-        match self.claims.heard_claim(who, kind, about) {
-            Some(claim) => Some(claim.statement),
+        let cell = self.certified_cell(kind, about)?;
+        self.claims.said_at(cell.place())
+    }
+
+    /// What is certified of that kind and slot, with the members who say it; None exactly where nothing is, or the kind has no such slots.
+    pub fn certificate(&self, kind: u8, about: &Slot) -> Option<(Statement<'_>, PidSet)>
+        ensures value { option_map (λ c. stmt c.0) result ≡ option_and_then (defs.certified_on self.now.pool) (slot kind about.now) }
+        ensures signers { IfSome result (λ c. c.1 ≡ sorted by_number (defs.backers self.now.pool (stmt c.0))) }
+    {
+        let cell = self.certified_cell(kind, about)?;
+        match self.claims.said_at(cell.place()) {
+            Some(statement) => Some((statement, cell.backers())),
             None => None,
         }
+    }
+
+    /// Whether the signer's heard claim on the statement's slot says the same; None where there is none.
+    pub fn repeats(&self, signer: Pid, statement: &Statement<'_>) -> Option<bool>
+        requires { IsStatement (stmt statement.now) }
+        ensures { result ≡ option_map (plain.same_statement (stmt statement.now)) (defs.heard_on self.now.pool signer (plain.slot_of (stmt statement.now))) }
+    {
+        let cell = cell_at(&self.cells, &slot_key_of(statement))?;
+        if cell.has_heard(signer) {
+            self.claims.repeats(signer, statement)
+        } else {
+            None
+        }
+    }
+
+    /// How many members say this.
+    pub fn count(&self, statement: &Statement<'_>) -> usize
+        requires { IsStatement (stmt statement.now) }
+        ensures { result ≡ length (defs.backers self.now.pool (stmt statement.now)) }
+    {
+        let Some(cell) = cell_at(&self.cells, &slot_key_of(statement)) else {
+            return 0;
+        };
+        let mut spelled = [0; STATEMENT_BYTES];
+        let said = spell_into(statement, &mut spelled);
+        if self
+            .claims
+            .says_at(cell.place(), statement, &spelled[..said])
+        {
+            cell.count()
+        } else {
+            self.claims.count(statement)
+        }
+    }
+
+    /// Whether a quorum of the members says this.
+    pub fn is_certified(&self, statement: &Statement<'_>) -> bool
+        requires { IsStatement (stmt statement.now) }
+        ensures { result ≡ defs.is_certified self.now.pool (stmt statement.now) }
+    {
+        quorum(self.claims.view().members().len()) <= self.count(statement)
     }
 
     /// Hears a claim whose signer has none on the slot.
@@ -126,13 +195,13 @@ impl Quorums {
         ensures bytes_left { self.old.bytes_left ≤ self.new.bytes_left + claim_bytes (claim_of claim.now) }
     {
         let key = slot_key_of(&claim.statement);
+        let was = cell_at(&self.cells, &key);
+        let (place, _) = self.claims.size();
         let _number = self.claims.view().number();
-        self.claims.add(claim);
-        if let Some(_who) = noted_at(&self.noted, &key) {
-            return;
-        }
-        if self.claims.is_certified(&claim.statement) {
-            note(&mut self.noted, key, claim.signer);
-        }
+        let mut spelled = [0; STATEMENT_BYTES];
+        let said = spell_into(&claim.statement, &mut spelled);
+        self.claims.add(claim, key, &spelled[..said]);
+        let cell = cell_with(&self.claims, was, place, claim, &spelled[..said]);
+        put(&mut self.cells, key, cell);
     }
 }

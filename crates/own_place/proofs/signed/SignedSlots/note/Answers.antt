@@ -3,7 +3,7 @@ use Rattle.message_defs.specs.Statements.{slot_of}
 use Rattle.stmt_codec.specs.Views.{stmt}
 use Rattle.own_place.specs.Signed.{Signed}
 use Rattle.own_place.proofs.Noted.{noted-last}
-use Rattle.own_place.proofs.signed.SignedSlots.sign.Goals as goal
+use Rattle.own_place.proofs.signed.SignedSlots.note.Goals as goal
 
 pub returns-clause-slots : goal.returns-clause-slots
 returns-clause-slots c =

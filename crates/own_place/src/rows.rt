@@ -1,0 +1,68 @@
+//! The rows of slots of a view.
+ghost use Rattle.std.specs.Prelude.{◌≡◌, ◌<◌};
+ghost use Rattle.message_defs.specs.Statements as plain;
+ghost use Rattle.stmt_codec.specs.Views.{stmt};
+ghost use Rattle.own_place.specs.Rows as rows;
+
+use rp_base::Pid;
+use stmt_codec::Statement;
+
+/// The slots of one kind of a view that differ in one number: those of the Inits, of the Places, of the Keeps, or of the Echoes of one
+/// sender's messages.
+#[derive(Clone, Copy, Debug)]
+pub(crate) enum Row {
+    Inits,
+    Places,
+    Keeps,
+    Echoes(Pid),
+}
+
+/// How many rows there are.
+pub(crate) const ROWS: usize = 67;
+
+impl Row {
+    /// The row's place among them.
+    pub(crate) fn index(&self) -> usize
+        ensures place { result ≡ rows.index_of self.now }
+        ensures below { result < 67 }
+    {
+        match *self {
+            Row::Inits => 0,
+            Row::Places => 1,
+            Row::Keeps => 2,
+            Row::Echoes(sender) => sender.get() as usize + 3,
+        }
+    }
+}
+
+/// The row of the statement's slot; None exactly where its kind has no rows.
+pub(crate) fn row_of(statement: &Statement<'_>) -> Option<Row>
+    ensures { result ≡ rows.row_of (stmt statement.now) }
+{
+    match *statement {
+        Statement::Init { .. } => Some(Row::Inits),
+        Statement::Echo { sender, .. } => Some(Row::Echoes(sender)),
+        Statement::Place { .. } => Some(Row::Places),
+        Statement::Keep { .. } => Some(Row::Keeps),
+        _ => None,
+    }
+}
+
+/// The number of the view that the statement belongs to.
+pub(crate) fn view_of(statement: &Statement<'_>) -> u16
+    ensures { result ≡ plain.view_of (stmt statement.now) }
+{
+    match *statement {
+        Statement::Init { view, .. }
+        | Statement::Echo { view, .. }
+        | Statement::Order { view, .. }
+        | Statement::Place { view, .. }
+        | Statement::Keep { view, .. }
+        | Statement::Notify { view, .. }
+        | Statement::End { view, .. }
+        | Statement::Last { view, .. }
+        | Statement::Suggest { view, .. }
+        | Statement::Ack { view, .. }
+        | Statement::Ready { view, .. } => view,
+    }
+}
