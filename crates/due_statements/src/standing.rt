@@ -19,16 +19,16 @@ use stmt_codec::{Payload, Slot, Statement};
 /// What the rules look at: what a process has heard, its own place in its view, what was asked for, and what it accepted.
 #[derive(Clone, Copy)]
 pub struct Standing<'a> {
-    /// What it has heard in its view.
+    /// What the process has heard in its view.
     pub pool: &'a Pool,
 
-    /// Its own place there.
+    /// The process's own place in its view.
     pub own: &'a Own,
 
-    /// The updates that were asked for there.
+    /// The updates that were asked for in the view.
     pub perceived: &'a Perceived,
 
-    /// The payloads that it accepted, in all views.
+    /// The payloads that the process accepted, in all views.
     pub accepted: &'a [Payload],
 
     /// The most messages of an own Order, 1 to 16.

@@ -8,21 +8,14 @@ ghost use Rattle.rule_laws.specs.Heard.{IsPool};
 ghost use Rattle.own_place.specs.Owns.{HasDelivered};
 ghost use Rattle.ending_rules.specs.Due.{IsLeastDue};
 
-use crate::updates::first_notified;
 use claim_pool::{Own, Pool};
-
-// Whether more than f members notify one update.
-fn is_any_notified(pool: &Pool) -> bool
-    ensures { IsPool pool.now.pool → result ≡ nat_lt 0 (length (notified_updates pool.now.pool)) }
-{
-    first_notified(pool).is_some()
-}
+use pool_questions::has_notified;
 
 // Whether the process is a member that has not signed its End, and an update is notified.
 fn may_end(pool: &Pool, own: &Own) -> bool
     ensures { IsPool pool.now.pool → result ≡ (is_some own.now.position && nat_lt 0 (length (notified_updates pool.now.pool)) && not own.now.ended) }
 {
-    own.position.is_some() && is_any_notified(pool) && !own.ended
+    own.position.is_some() && has_notified(pool) && !own.ended
 }
 
 /// The length that the End says that is due, 0 to 1,024 places: the placed length. None exactly where no End is due: the

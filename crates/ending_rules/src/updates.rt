@@ -1,11 +1,8 @@
 //! The updates in their order: Remove of process 0 to 63, Add of process 0 to 63, Renew.
 ghost use Rattle.std.specs.Prelude.{◌≡◌};
 ghost use Rattle.rp_base.specs.Views.{update as update_of};
-ghost use Rattle.group_defs.specs.Certified.{is_notified};
-ghost use Rattle.pool_laws.specs.Least.{IsLeastBelow};
-ghost use Rattle.rule_laws.specs.Perceived.{update_at as plain_at, most_updates};
+ghost use Rattle.rule_laws.specs.Perceived.{update_at as plain_at};
 
-use claim_pool::Pool;
 use rp_base::{Pid, Update};
 
 /// How many updates there are.
@@ -22,16 +19,4 @@ pub(crate) fn update_at(number: u8) -> Update
             None => Update::Renew,
         },
     }
-}
-
-// The number of the least update that more than f members notify; None exactly where there is none.
-pub(crate) fn first_notified(pool: &Pool) -> Option<u8>
-    ensures { IsLeastBelow most_updates (λ i. is_notified pool.now.pool (plain_at i)) result }
-{
-    'updates: for number in 0..MOST_UPDATES {
-        if pool.is_notified(update_at(number)) {
-            return Some(number);
-        }
-    }
-    None
 }

@@ -136,6 +136,7 @@ fn may_update(pool: &Pool, own: &Own, update: Update) -> bool
 fn least_update(pool: &Pool, own: &Own) -> Option<u8>
     ensures { (s : Setting) → HasKeys s own.now → IsLeastBelow most_updates (λ i. plain_update s pool.now.pool (plain_at i)) result }
 {
+    pool.notified().first()?;
     'updates: for number in 0..MOST_UPDATES {
         if may_update(pool, own, update_at(number)) {
             return Some(number);

@@ -1,4 +1,4 @@
-ghost use Rattle.std.specs.Prelude.{◌≡◌};
+ghost use Rattle.std.specs.Prelude.{◌≡◌, ◌<◌, ℕ, IsFalse};
 ghost use Rattle.message_defs.specs.Limits.{most_places};
 ghost use Rattle.pool_laws.specs.Least.{IsLeastFrom, IsLeastBelow};
 ghost use Rattle.multicast_rules.specs.Waiting.{is_init_waiting, IsFirstWaiting, is_order_waiting};
@@ -7,7 +7,7 @@ use claim_pool::Pool;
 use own_place::SignedSlots;
 use pool_questions::ordered_batch;
 use rp_base::Pid;
-use statements::MOST_PLACES;
+use statements::{LAST_NUMBER, MOST_PLACES};
 use stmt_codec::Slot;
 
 // Whether the sender's Init of this number is heard, and the own Echo of its message is not signed.
@@ -25,11 +25,22 @@ fn is_init_waiting(pool: &Pool, signed: &SignedSlots, sender: Pid, number: u16) 
         && !signed.has_signed(2, &message)
 }
 
+// A number below which none of the sender's Inits waits so: their own Echoes are signed.
+fn echoed(pool: &Pool, signed: &SignedSlots, sender: Pid) -> u16
+    ensures { (l : ℕ) → l < result → IsFalse (is_init_waiting pool.now.pool signed.now sender l) }
+{
+    let view = pool.view().number();
+    match signed.first_unsigned_echo(view, sender) {
+        Some(number) => number,
+        None => MOST_PLACES,
+    }
+}
+
 // The sender's least heard Init whose own Echo is not signed.
 fn first_waiting_init(pool: &Pool, signed: &SignedSlots, sender: Pid) -> Option<u16>
     ensures { IsLeastBelow most_places (is_init_waiting pool.now.pool signed.now sender) result }
 {
-    'numbers: for number in 0..MOST_PLACES {
+    'numbers: for number in echoed(pool, signed, sender)..pool.inits_end(sender) {
         if is_init_waiting(pool, signed, sender, number) {
             return Some(number);
         }
@@ -60,11 +71,23 @@ fn is_order_waiting(pool: &Pool, signed: &SignedSlots, place: u16) -> bool
         && !signed.has_signed(4, &Slot::Place { view, place })
 }
 
+// A place below which none waits so: the own Places are signed.
+fn answered(pool: &Pool, signed: &SignedSlots) -> u16
+    ensures { (k : ℕ) → k < result → IsFalse (is_order_waiting pool.now.pool signed.now k) }
+{
+    let view = pool.view().number();
+    match signed.first_unsigned_place(view) {
+        Some(place) => place,
+        None => MOST_PLACES,
+    }
+}
+
 /// The least place from this one on that waits so.
 pub(crate) fn first_waiting_order(pool: &Pool, signed: &SignedSlots, from: u16) -> Option<u16>
     ensures { IsLeastFrom from most_places (is_order_waiting pool.now.pool signed.now) result }
 {
-    'places: for place in from..MOST_PLACES {
+    let last = pool.placed_len().min(LAST_NUMBER);
+    'places: for place in from.max(answered(pool, signed))..last + 1 {
         if is_order_waiting(pool, signed, place) {
             return Some(place);
         }

@@ -77,6 +77,10 @@ pub fn ack_candidate(pool: &Pool, own: &Own, from: u8) -> Option<(u8, Value)>
 pub fn next_ack(pool: &Pool, own: &Own) -> Option<(u8, Value)>
     ensures { IsLeastDue pool.now.pool own.now Acks (option_map (λ a. Ack pool.now.pool.view.number a.0 (value_of a.1)) result) }
 {
+    // Where no Suggest is heard, no Ack is due.
+    if !pool.hears(9) {
+        return None;
+    }
     let mut from = 0;
     'candidates: while let Some((rank, value)) = ack_candidate(pool, own, from) {
         if is_justified(pool, own, rank, &value) {

@@ -46,6 +46,10 @@ fn deciding_rank(pool: &Pool, own: &Own) -> Option<u8>
 pub fn decided(pool: &Pool, own: &Own) -> Option<(u8, Value)>
     ensures { (s : Setting) → HasKeys s own.now → report result ≡ defs.decided_by s pool.now.pool }
 {
+    // Where no Ready is heard, none is certified.
+    if !pool.hears(11) {
+        return None;
+    }
     let rank = deciding_rank(pool, own)?;
     decided_at(pool, own, rank)
 }

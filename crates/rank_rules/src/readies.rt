@@ -45,6 +45,10 @@ pub fn ready_due(pool: &Pool, own: &Own) -> Option<(u8, Value)>
     ensures { IsLeastDue pool.now.pool own.now Readies (option_map (λ r. Ready pool.now.pool.view.number r.0 (value_of r.1)) result) }
 {
     own.position?;
+    // Where no Ack is heard, none is certified.
+    if !pool.hears(10) {
+        return None;
+    }
     let rank = open_rank(pool, own)?;
     let value = certified_ack(pool, rank)?;
     Some((rank, value))

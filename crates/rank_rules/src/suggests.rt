@@ -1,5 +1,6 @@
 //! The Suggest of a rank's deputy: what it chooses, and when it is due (docs/PROTOCOL.md, «Values», «What is signed»).
-ghost use Rattle.std.specs.Prelude.{◌≡◌, ℕ, Some};
+ghost use Rattle.std.specs.Prelude.{◌≡◌, ℕ, Some, None};
+ghost use Rattle.std.specs.Bool.{OnFalse};
 ghost use Rattle.std.specs.Option.{option_map};
 ghost use Rattle.message_defs.specs.Statements.{Suggest};
 ghost use Rattle.group_defs.specs.Process.{Setting, Process, Suggests};
@@ -14,7 +15,7 @@ ghost use Rattle.rank_rules.specs.Open.{is_suggest_open};
 use crate::ways::{is_first_way, last_deciding};
 use claim_pool::{Own, Pool};
 use ending_rules::free_value;
-use pool_questions::certified_ack;
+use pool_questions::{certified_ack, has_notified};
 use rp_base::Value;
 use stmt_codec::Slot;
 
@@ -25,8 +26,22 @@ pub fn choose(pool: &Pool, rank: u8, free: Option<Value>) -> Option<Value>
 {
     match last_deciding(pool, rank) {
         Some(lower) => certified_ack(pool, lower),
-        None => { if is_first_way(pool, rank) { free } else { None } }
+        None => {
+            let value = free?;
+            if is_first_way(pool, rank) {
+                Some(value)
+            } else {
+                None
+            }
+        }
     }
+}
+
+// Whether there may be a value to choose: an Ack is heard, or more than f members notify some update.
+fn may_choose(pool: &Pool) -> bool
+    ensures { OnFalse result (IsPool pool.now.pool → (s : Setting) (r : ℕ) → defs.choose s pool.now.pool r ≡ None) }
+{
+    pool.hears(10) || has_notified(pool)
 }
 
 // Whether the rank, the member's own, is not below its rank in the view's end, and its Suggest there is not signed.
@@ -55,6 +70,9 @@ pub fn next_suggest(pool: &Pool, own: &Own) -> Option<(u8, Value)>
     ensures { IsLeastDue pool.now.pool own.now Suggests (option_map (λ v. Suggest pool.now.pool.view.number v.0 (value_of v.1)) result) }
 {
     let rank = own.position?;
+    if !may_choose(pool) {
+        return None;
+    }
     if !is_open(pool, own, rank) {
         return None;
     }

@@ -136,6 +136,10 @@ fn may_have_decided(pool: &Pool, rank: u8, lower: u8) -> bool
 pub(crate) fn last_deciding(pool: &Pool, rank: u8) -> Option<u8>
     ensures { IsPool pool.now.pool → IsGreatestBelow rank (λ r. is_some_and (acked pool.now.pool r) (defs.is_second_way pool.now.pool rank r)) result }
 {
+    // Where no Ack is heard, none is certified.
+    if !pool.hears(10) {
+        return None;
+    }
     let mut above = rank;
     'ranks: while above > 0 {
         above -= 1;

@@ -24,13 +24,13 @@ word words.ClosingView = defs.ClosingView
 word words.DecidedView = defs.DecidedView
 word words.HaltedView = defs.HaltedView
 
--- the name of a phase
-abbrev pub word_of : Phase → defs.Phase
-word_of (Observing o) = defs.Observing
-word_of (OpenView o) = defs.OpenView
-word_of (Closing c) = defs.ClosingView
-word_of (Decided d) = defs.DecidedView
-word_of (Halted h) = defs.HaltedView
+-- the phase of the definitions that a phase of the code is
+abbrev pub as_phase : Phase → defs.Phase
+as_phase (Observing o) = defs.Observing
+as_phase (OpenView o) = defs.OpenView
+as_phase (Closing c) = defs.ClosingView
+as_phase (Decided d) = defs.DecidedView
+as_phase (Halted h) = defs.HaltedView
 
 -- the rank and the value
 abbrev pub decision_of : Decision → ℕ × Value
@@ -42,17 +42,17 @@ decided d = decision_of d.decision
 
 -- ---- which process is in which phase
 
--- behind its End, which tells that length
+-- process p is in phase c: a member that has signed its End, which tells the length c keeps
 pub record IsClosing (c : ClosingView) (p : Process) : Type 0 where
   pub phase : defs.phase_of p ≡ defs.ClosingView
   pub length : own_on p (EndAt p.pool.view.number) ≡ Some (End p.pool.view.number c.length)
 
--- decided so, and it has not left the view
+-- process p is in phase d: its view is decided as d keeps it, and p has not left it
 pub record IsDecided (d : DecidedView) (p : Process) : Type 0 where
   pub phase : defs.phase_of p ≡ defs.DecidedView
   pub decision : p.decision ≡ Some (decided d)
 
--- halted, with both numbers
+-- process p is in phase h: it has halted, and h keeps what decided the view and how many places p delivered
 pub record IsHalted (h : HaltedView) (p : Process) : Type 0 where
   pub phase : defs.phase_of p ≡ defs.HaltedView
   pub decision : p.decision ≡ Some (decision_of h.decision)

@@ -61,7 +61,8 @@ impl OpenView {
 }
 
 impl ClosingView {
-    /// As in an open view; where the update is not possible, the same phase, with the length of the End.
+    /// The decided view, as `OpenView::decide` gives it, of a member that has signed its End; the same phase, with the length of the End,
+    /// exactly where the value's update is not possible.
     pub fn decide(
         self,
         view: &View,
@@ -87,7 +88,8 @@ impl ClosingView {
 }
 
 impl Observing {
-    /// As in an open view, for a process that is no member.
+    /// The decided view, as `OpenView::decide` gives it, of a process that is no member; the same phase exactly where the value's update is
+    /// not possible.
     pub fn decide(
         self,
         view: &View,

@@ -3,6 +3,7 @@
 #![tactic(auto)]
 
 mod deciding;
+mod going_on;
 mod phases;
 mod settling;
 

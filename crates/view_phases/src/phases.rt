@@ -5,7 +5,7 @@ ghost use Rattle.group_defs.specs.Process.{Setting, Process};
 ghost use Rattle.group_defs.specs.Certified.{is_ended};
 ghost use Rattle.group_defs.specs.Signing.{Signer, signs};
 ghost use Rattle.group_defs.specs.Settle as defs;
-ghost use Rattle.view_phases.specs.Phases.{word, word_of, IsIn, IsClosing};
+ghost use Rattle.view_phases.specs.Phases.{word, as_phase, IsIn, IsClosing};
 
 use rp_base::{Pid, Value};
 use view_table::View;
@@ -89,7 +89,7 @@ pub enum PhaseWord {
 impl Phase {
     /// The phase in which the process begins a view: open to a member, and else observing.
     pub fn begin(view: &View, me: Pid) -> Phase
-        ensures word { word_of result ≡ (if views.is_member view.now me then defs.OpenView else defs.Observing) }
+        ensures word { as_phase result ≡ (if views.is_member view.now me then defs.OpenView else defs.Observing) }
 
         // So is a process that has signed no End of the view, and has no decision of it.
         ensures begins { (p : Process) → p.pool.view ≡ view.now → p.me ≡ me → p.halted ≡ false → p.decision ≡ None → is_ended p ≡ false → IsIn result p }
@@ -101,9 +101,9 @@ impl Phase {
         }
     }
 
-    /// Its name.
+    /// The name of the phase.
     pub fn word(&self) -> PhaseWord
-        ensures { word result ≡ word_of self.now }
+        ensures { word result ≡ as_phase self.now }
     {
         match self {
             Phase::Observing(_) => PhaseWord::Observing,

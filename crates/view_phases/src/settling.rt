@@ -10,13 +10,13 @@ use rp_base::Update;
 /// What becomes of a process whose view is decided.
 #[derive(Debug, Drop)]
 pub enum Settled {
-    /// It waits for what is left below the cut.
+    /// The process waits for what is left below the cut.
     Waiting(DecidedView),
 
-    /// It installs the view that follows by this update.
+    /// The process installs the view that follows by this update.
     Install(Update),
 
-    /// It has delivered beyond the cut, and halts.
+    /// The process has delivered beyond the cut, and halts.
     Halted(HaltedView),
 }
 

@@ -1,9 +1,13 @@
-use Rattle.std.proofs.Common.{◌∙◌, Some, None, ap, arith}
-use Rattle.std.specs.Prelude.{option_map}
+use Rattle.std.proofs.Common.{◌∙◌, Some, None, ap, sym, arith}
+use Rattle.std.specs.Prelude.{◌&&◌, option_map}
+use Rattle.byte_defs.specs.Choices.{is_some_and}
+use Rattle.group_defs.specs.Values.{is_justified}
+use Rattle.rank_rules.specs.Open.{is_ack_open}
 use Rattle.message_defs.specs.Statements.{Ack}
 use Rattle.rp_base.specs.Views.{value}
 use Rattle.rank_rules.proofs.Acking.{none-left, this-one, not-this}
 use Rattle.rank_rules.proofs.Ranking.{ack-is}
+use Rattle.rank_rules.proofs.Unheard.{nor, unsuggested}
 use Rattle.rank_rules.proofs.acks.next_ack.Goals as goal
 
 pub returns-then-is_justified : goal.returns-then-is_justified
@@ -27,3 +31,9 @@ pub returns : goal.returns
 returns c pool s p tells =
     ack-is s p c.args.pool.now.pool c.args.own.now tells pool None
     (none-left c.args.pool.now.pool c.args.own.now s c.candidates.from (c.candidates.invariant pool s tells.keys) c.in_default.ensures.least)
+
+pub returns-then-not-hears : goal.returns-then-not-hears
+returns-then-not-hears c pool s p tells =
+    let h = c.args.pool.now.pool in
+    ack-is s p h c.args.own.now tells pool None
+    (λ r _ _. ap (λ o. is_ack_open h c.args.own.now r && is_some_and o (is_justified s h r)) (unsuggested h (sym c.if-not-hears.ensures) r) ∙ nor (is_ack_open h c.args.own.now r))
