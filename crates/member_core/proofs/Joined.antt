@@ -1,16 +1,16 @@
 -- The parts of an event, put together.
-use Rattle.std.proofs.Common.{◌≡◌, ℕ, ◌+◌, ◌-◌, List, [], ◌∷◌, ◌++◌, map, length, drop, Option, None, Some, Bool, true, false, refl, sym, ap, subst, ◌∙◌, arith, inl, inr}
-use Rattle.std.specs.Prelude.{if◌then◌else◌, ◌==◌, filter, nat_lt, All}
+use Rattle.std.proofs.Common.{◌≡◌, ℕ, ◌-◌, List, [], ◌∷◌, ◌++◌, map, length, drop, Option, None, Some, Bool, true, false, refl, sym, ap, subst, ◌∙◌, arith, inl, inr}
+use Rattle.std.specs.Prelude.{if◌then◌else◌, ◌==◌, filter, nat_lt}
 use Rattle.std.specs.List.{flat_map}
-use Rattle.std.proofs.lemmas.List.{append_assoc, length-append, length-map}
+use Rattle.std.proofs.lemmas.List.{append_assoc, append-nil, drop_at, length-append, length-map}
 use Rattle.std.proofs.lemmas.Bool.{eqb-false}
 use Rattle.message_defs.specs.Statements.{Claim, view_of}
 use Rattle.message_defs.specs.Packing.{Signed, signed_of}
-use Rattle.group_defs.specs.Process.{Setting, Process, delivered_from}
+use Rattle.group_defs.specs.Process.{Setting, Process}
 use Rattle.group_defs.specs.Signing.{Signer, Signing, sign_all}
 use Rattle.group_defs.specs.Settle.{decide, deliver, leave, settle}
 use Rattle.group_defs.specs.Sending.{Bundle, bundle, newly_signed, others, unless_empty}
-use Rattle.group_defs.specs.Events.{Event, EventFault, Outcome, Turn, Note, Delivers, Installs, Spent, refusal, take_in, signing, after, answered, outcome, is_tick, answers, note_if}
+use Rattle.group_defs.specs.Events.{Event, EventFault, Outcome, Turn, Delivers, Installs, Spent, refusal, take_in, signing, after, answered, outcome, is_tick, answers, note_if}
 use Rattle.stmt_codec.specs.Views.{signed}
 use Rattle.stmt_codec.specs.declared.events.Outcome.{Outcome as Came}
 use Rattle.stmt_codec.specs.declared.events.EventVerdict.TheVariants.{Taken}
@@ -18,7 +18,7 @@ use Rattle.stmt_codec.specs.declared.own.OwnClaim.{OwnClaim}
 use Rattle.member_state.specs.declared.state.ProcessState.{ProcessState}
 use Rattle.member_signing.specs.Signed.{IsSigned}
 use Rattle.pool_laws.proofs.Members.{Mem, All-mem}
-use Rattle.event_laws.specs.Parts.{HasTakenIn, HasSigned}
+use Rattle.event_laws.specs.Parts.{HasSigned}
 use Rattle.event_laws.proofs.Taken.{taking_in_leaves}
 use Rattle.event_laws.proofs.Signed.{signing_leaves}
 use Rattle.event_laws.proofs.Settled.{settling_leaves}
@@ -66,10 +66,6 @@ filter-whole f [] each = refl
 filter-whole f (x ∷ xs) each =
     ap (λ b. if b then x ∷ filter f xs else filter f xs) (each x (inl refl)) ∙ ap (λ cs. x ∷ cs) (filter-whole f xs (λ c m. each c (inr m)))
 
-drop-front : {A : Type 0} (xs ys : List A) → drop (length xs) (xs ++ ys) ≡ ys
-drop-front [] ys = refl
-drop-front (x ∷ xs) ys = drop-front xs ys
-
 eqb-same : (m : ℕ) → (m == m) ≡ true
 eqb-same m = go (m == m) refl
   where
@@ -87,8 +83,8 @@ last-here p q r =
     let mine : filter f r.more ≡ r.more = filter-whole f r.more (λ c m. same-number (view_of c.statement) q.pool.view.number (All-mem (λ (c : Claim). view_of c.statement ≡ p.pool.view.number) r.more c r.here m ∙ sym (ap (λ v. v.number) view))) in
     let whole : signed_here q ≡ filter f p.signed ++ r.more = ap (filter f) r.signed ∙ filter-both f p.signed r.more ∙ ap (λ cs. filter f p.signed ++ cs) mine in
     let long : length (signed_here q) - length r.more ≡ length (filter f p.signed) = (let all = ap length whole ∙ length-append (filter f p.signed) r.more in omega (arith, all)) in
-    ap (drop (length p.signed)) r.signed ∙ drop-front p.signed r.more
-    ∙ sym (ap (λ n. drop n (signed_here q)) long ∙ ap (drop (length (filter f p.signed))) whole ∙ drop-front (filter f p.signed) r.more)
+    ap (drop (length p.signed)) r.signed ∙ drop_at p.signed r.more (length p.signed) refl
+    ∙ sym (ap (λ n. drop n (signed_here q)) long ∙ ap (drop (length (filter f p.signed))) whole ∙ drop_at (filter f p.signed) r.more (length (filter f p.signed)) refl)
 
 pub began-so : (s : Setting) (signer : Signer) (left : ℕ) (p : Process) (e : Event) (newly : ℕ)
     → newly ≡ length (drop (length p.signed) (sign_all s signer left (take_in s p e)).now.signed)
@@ -99,7 +95,7 @@ began-so s signer left p e newly long =
     let r : HasSigned p' q = signing_leaves s signer left p' in
     let is = same-so s signer left p e in
     let still = signed-still s p e in
-    let many : newly ≡ length r.more = long ∙ ap (λ cs. length (drop (length cs) q.signed)) (sym still) ∙ ap length (ap (drop (length p'.signed)) r.signed ∙ drop-front p'.signed r.more) in
+    let many : newly ≡ length r.more = long ∙ ap (λ cs. length (drop (length cs) q.signed)) (sym still) ∙ ap length (ap (drop (length p'.signed)) r.signed ∙ drop_at p'.signed r.more (length p'.signed) refl) in
     record {
       number = sym is.me;
       delivered = sym is.delivered;
@@ -164,13 +160,17 @@ answered-so s p t st st' many pairs was r first begun ended =
           ++ liars_from (first i) q.conflicts ++ note_if (sym begun.spent i) Spent ++ halts q));
     }
 
+outcome-answered : (s : Setting) (p : Process) (t : Turn) → refusal s p t.event ≡ None → outcome s p t ≡ answered s p t (signing s p t)
+outcome-answered s p t none = ap (λ (o : Option EventFault). elim o [ None ↦ answered s p t (signing s p t) | Some fault ↦ refusing fault ]) none
+
+outcome-refusing : (s : Setting) (p : Process) (t : Turn) (fault : EventFault) → refusal s p t.event ≡ Some fault → outcome s p t ≡ refusing fault
+outcome-refusing s p t fault some = ap (λ (o : Option EventFault). elim o [ None ↦ answered s p t (signing s p t) | Some fault ↦ refusing fault ]) some
+
 outcome-taken : (s : Setting) (p : Process) (t : Turn) (r : Came) → refusal s p t.event ≡ None → IsOutcome (answered s p t (signing s p t)) r → IsOutcome (outcome s p t) r
-outcome-taken s p t r none is =
-    subst (λ (o : Outcome). IsOutcome o r) (sym (ap (λ (o : Option EventFault). elim o [ None ↦ answered s p t (signing s p t) | Some fault ↦ refusing fault ]) none)) is
+outcome-taken s p t r none is = subst (λ (o : Outcome). IsOutcome o r) (sym (outcome-answered s p t none)) is
 
 outcome-refused : (s : Setting) (p : Process) (t : Turn) (r : Came) (fault : EventFault) → refusal s p t.event ≡ Some fault → IsOutcome (refusing fault) r → IsOutcome (outcome s p t) r
-outcome-refused s p t r fault some is =
-    subst (λ (o : Outcome). IsOutcome o r) (sym (ap (λ (o : Option EventFault). elim o [ None ↦ answered s p t (signing s p t) | Some fault ↦ refusing fault ]) some)) is
+outcome-refused s p t r fault some is = subst (λ (o : Outcome). IsOutcome o r) (sym (outcome-refusing s p t fault some)) is
 
 -- ---- the process after the event
 
@@ -181,6 +181,22 @@ after-taken s p t none = ap (λ (o : Option EventFault). elim o [ None ↦ settl
 after-refused : (s : Setting) (p : Process) (t : Turn) (fault : EventFault) → refusal s p t.event ≡ Some fault → after s p t ≡ p
 unfolding after
 after-refused s p t fault some = ap (λ (o : Option EventFault). elim o [ None ↦ settle s (signing s p t).now | Some fault ↦ p ]) some
+
+-- ---- what is signed
+
+-- behind what was signed before
+pub signed-more : (s : Setting) (p : Process) (t : Turn) → (after s p t).signed ≡ p.signed ++ (outcome s p t).signed
+signed-more s p t = go (refusal s p t.event) refl
+  where
+    go : (r : Option EventFault) → refusal s p t.event ≡ r → (after s p t).signed ≡ p.signed ++ (outcome s p t).signed
+    go None e =
+        let now : Process = (signing s p t).now in
+        let r : HasSigned (take_in s p t.event) now = signing_leaves s t.signer t.allowance (take_in s p t.event) in
+        let all : now.signed ≡ p.signed ++ r.more = r.signed ∙ ap (λ cs. cs ++ r.more) (signed-still s p t.event) in
+        let last : drop (length p.signed) now.signed ≡ r.more = ap (drop (length p.signed)) all ∙ drop_at p.signed r.more (length p.signed) refl in
+        ap (λ (q : Process). q.signed) (after-taken s p t e) ∙ (settling_leaves s now).signed ∙ all ∙ ap (λ cs. p.signed ++ cs) (sym (ap (λ (o : Outcome). o.signed) (outcome-answered s p t e) ∙ last))
+    go (Some fault) e =
+        ap (λ (q : Process). q.signed) (after-refused s p t fault e) ∙ sym (append-nil p.signed) ∙ ap (λ cs. p.signed ++ cs) (sym (ap (λ (o : Outcome). o.signed) (outcome-refusing s p t fault e)))
 
 -- ---- the step
 

@@ -1,2 +1,5 @@
 mod Liars
-mod Joined
+pub mod Joined
+mod Handing
+mod Judging
+mod Absorbed

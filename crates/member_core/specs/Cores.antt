@@ -28,9 +28,15 @@ pub record IsProcess {G : Type 0} (used : G → ℕ) (s : Setting) (p : Process)
   pub roster : s.roster ≡ c.roster
   pub kinds : s.signs ≡ all_kinds
 
--- the same, as one word
+-- the core is this process in this setting (`IsProcess`), as one word that proofs leave closed
 unfoldable pub IsCore : {G : Type 0} → (G → ℕ) → Setting → Process → Core G → Type 0
 IsCore used s p c = IsProcess used s p c
+
+-- the cores c and d have one state, group and roster, whoever signs for them
+pub record IsSameBut {G H : Type 0} (c : Core G) (d : Core H) : Type 0 where
+  pub state : d.state ≡ c.state
+  pub group : d.group ≡ c.group
+  pub roster : d.roster ≡ c.roster
 
 -- the turn of this event: the signatures that the signer has left may be made, and it makes them
 abbrev pub turn_of : {G : Type 0} → (G → ℕ) → (G → ℕ) → (G → ℕ → List ℕ → List ℕ) → Core G → defs.Event → defs.Turn

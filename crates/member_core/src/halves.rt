@@ -26,8 +26,8 @@ fn is_tick(input: &Input<'_>) -> bool
     matches!(input, Input::Tick)
 }
 
-/// Begins an event that is not refused: it is taken in, what is due is signed, and the Bundle of that is sent. What came of it so far,
-/// with nothing told.
+/// Begins an event that is not refused: it is taken in, what is due is signed, and the Bundle of that is sent. The answer is what came of
+/// it so far, with nothing told.
 pub(crate) fn begin<G: Signer, V: Scheme>(
     state: &mut ProcessState,
     alloc: Global,

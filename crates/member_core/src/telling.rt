@@ -55,7 +55,7 @@ impl<G: Tally + Drop> Core<G> {
         &self.state.account
     }
 
-    /// Its phase in the current view.
+    /// The phase of the process in its current view.
     #[tactic(auto, unfolding(crate::specs::Cores::IsCore))]
     pub fn phase(&self) -> PhaseWord
         ensures { (s : Setting) (p : Process) → IsCore G.used s p self.now → phase_of p ≡ word result }
@@ -63,7 +63,7 @@ impl<G: Tally + Drop> Core<G> {
         self.state.phase.word()
     }
 
-    /// How many signatures it has made.
+    /// How many signatures the process has made.
     #[tactic(auto, unfolding(crate::specs::Cores::IsCore))]
     pub fn used(&self) -> u32
         ensures { (s : Setting) (p : Process) → IsCore G.used s p self.now → length p.signed ≡ result }
@@ -71,7 +71,7 @@ impl<G: Tally + Drop> Core<G> {
         self.signer.used()
     }
 
-    /// The signers of whom it keeps two claims that conflict.
+    /// The signers of whom the process keeps two claims that conflict.
     #[tactic(auto, unfolding(crate::specs::Cores::IsCore))]
     pub fn liars(&self) -> PidSet
         ensures { (s : Setting) (p : Process) → IsCore G.used s p self.now → liars_of p ≡ result }
@@ -79,7 +79,7 @@ impl<G: Tally + Drop> Core<G> {
         self.state.liars()
     }
 
-    /// Where it has halted, how many places it has delivered, and the cut, which is below that.
+    /// Where the process has halted: how many places it has delivered, and the cut, which is below that.
     #[tactic(auto, unfolding(crate::specs::Cores::IsCore))]
     pub fn halted(&self) -> Option<(u16, u16)>
         ensures { (s : Setting) (p : Process) → IsCore G.used s p self.now → halted_at p ≡ result }

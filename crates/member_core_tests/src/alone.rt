@@ -1,20 +1,7 @@
+use crate::members::{after, one_member};
 use member_core::{Core, Event, EventFault, EventVerdict, Note};
-use rp_base::{GroupId, NoMemory, Pid, PlainScheme, PlainSigner, Roster, Signer};
+use rp_base::{Pid, PlainSigner};
 use std::process::Abort;
-use view_table::View;
-
-const KEY: [u8; 32] = [1; 32];
-
-// Process 0 alone, whose key signs so many statements.
-fn one_member(rt: &(impl AllocGlobal + Abort), total: u32) -> Result<Core<PlainSigner>, NoMemory> {
-    let alloc = rt.alloc();
-    let me = Pid::new(0).unwrap();
-    let signer = PlainSigner::new(KEY, total);
-    let mut roster = Roster::new(alloc)?;
-    roster.add(me, signer.public())?;
-    let genesis = View::new(0, &[me]).expect(rt, "a view");
-    Core::new(alloc, GroupId([7; 16]), roster, genesis, me, 1, signer)
-}
 
 // Whether the note tells that the payload was delivered as the first message.
 fn is_first(note: &Note, payload: &[u8]) -> bool {
@@ -46,9 +33,9 @@ fn delivered_at_first(core: &Core<PlainSigner>) -> Option<usize> {
 
 #[test]
 fn one_member_signs_five_statements_and_delivers(rt: HostRuntime) {
-    let core = one_member(&rt, 100).expect(&rt, "memory");
+    let core = one_member(&rt, 100);
     let event = Event::Submit(b"hi");
-    let (core, outcome) = core.step(&PlainScheme, &event).expect(&rt, "memory");
+    let (core, outcome) = after(&rt, core, &event);
     assert!(rt; outcome.verdict == EventVerdict::Taken);
     assert!(rt; outcome.signed.len() == 5);
     assert!(rt; outcome.sends.is_empty());
@@ -61,9 +48,9 @@ fn one_member_signs_five_statements_and_delivers(rt: HostRuntime) {
 
 #[test]
 fn a_key_of_three_is_spent_before_the_place(rt: HostRuntime) {
-    let core = one_member(&rt, 3).expect(&rt, "memory");
+    let core = one_member(&rt, 3);
     let event = Event::Submit(b"hi");
-    let (core, outcome) = core.step(&PlainScheme, &event).expect(&rt, "memory");
+    let (core, outcome) = after(&rt, core, &event);
     assert!(rt; outcome.signed.len() == 3);
     assert!(rt; outcome.spent);
     assert!(rt; outcome.notes.len() == 1);
@@ -74,39 +61,39 @@ fn a_key_of_three_is_spent_before_the_place(rt: HostRuntime) {
 #[test]
 fn a_payload_of_1024_bytes_is_taken_and_one_of_1025_is_too_long(rt: HostRuntime) {
     let bytes = [97; 1025];
-    let core = one_member(&rt, 100).expect(&rt, "memory");
+    let core = one_member(&rt, 100);
     let long = Event::Submit(&bytes);
-    let (core, outcome) = core.step(&PlainScheme, &long).expect(&rt, "memory");
+    let (core, outcome) = after(&rt, core, &long);
     assert!(rt; outcome.verdict == EventVerdict::Refused(EventFault::TooLong));
     assert!(rt; outcome.signed.is_empty());
     assert!(rt; outcome.notes.is_empty());
     assert!(rt; core.used() == 0);
     assert!(rt; core.account().accepted.is_empty());
     let short = Event::Submit(&bytes[..1024]);
-    let (core, outcome) = core.step(&PlainScheme, &short).expect(&rt, "memory");
+    let (core, outcome) = after(&rt, core, &short);
     assert!(rt; outcome.verdict == EventVerdict::Taken);
     assert!(rt; core.account().accepted.len() == 1);
 }
 
 // The process after so many payloads more, and whether it took each of them.
-fn submitted(first: Core<PlainSigner>, count: u32) -> Result<(Core<PlainSigner>, bool), NoMemory> {
+fn submitted(rt: &impl Abort, first: Core<PlainSigner>, count: u32) -> (Core<PlainSigner>, bool) {
     let mut core = first;
     let mut each = true;
     'payloads: for _ in 0..count {
-        let (next, outcome) = core.step(&PlainScheme, &Event::Submit(b"hi"))?;
+        let (next, outcome) = after(rt, core, &Event::Submit(b"hi"));
         core = next;
         each = each && outcome.verdict == EventVerdict::Taken;
     }
-    Ok((core, each))
+    (core, each)
 }
 
 #[test]
 fn a_key_that_signs_nothing_takes_256_payloads_and_no_more(rt: HostRuntime) {
-    let core = one_member(&rt, 0).expect(&rt, "memory");
-    let (core, each) = submitted(core, 256).expect(&rt, "memory");
+    let core = one_member(&rt, 0);
+    let (core, each) = submitted(&rt, core, 256);
     assert!(rt; each);
     let event = Event::Submit(b"hi");
-    let (core, outcome) = core.step(&PlainScheme, &event).expect(&rt, "memory");
+    let (core, outcome) = after(&rt, core, &event);
     assert!(rt; outcome.verdict == EventVerdict::Refused(EventFault::Backlog));
     assert!(rt; !outcome.spent);
     assert!(rt; core.account().accepted.len() == 256);
@@ -114,9 +101,9 @@ fn a_key_that_signs_nothing_takes_256_payloads_and_no_more(rt: HostRuntime) {
 
 #[test]
 fn one_without_a_key_cannot_join(rt: HostRuntime) {
-    let core = one_member(&rt, 100).expect(&rt, "memory");
+    let core = one_member(&rt, 100);
     let event = Event::Join(Pid::new(1).unwrap());
-    let (core, outcome) = core.step(&PlainScheme, &event).expect(&rt, "memory");
+    let (core, outcome) = after(&rt, core, &event);
     assert!(rt; outcome.verdict == EventVerdict::Refused(EventFault::NoKey));
     assert!(rt; core.account().perceived.is_empty());
 }

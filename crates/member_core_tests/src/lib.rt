@@ -2,4 +2,8 @@
 #![tactic(auto)]
 
 #[cfg(test)]
+mod absorbed;
+#[cfg(test)]
 mod alone;
+#[cfg(test)]
+mod members;

@@ -24,12 +24,12 @@ HearingTells = (s : Setting) (p : Process) (h : Pool) (own : Own) (c : Claim) �
 abbrev pub DeliveredIsCounted : Type 0
 DeliveredIsCounted = (v : View) (ds : List Delivered) → map (λ m. delivered_from m ds) v.members ≡ counts_in v (messages_of ds)
 
--- one place more, with the counts of its messages
+-- `own'` is `own` with one place more delivered, and with the messages of its batch b counted
 pub record OnePlaceMore (v : View) (b : Batch) (delivered : List Delivered) (own own' : Own) : Type 0 where
   pub rest : own' ≡ record own { delivered = own.delivered + 1; counts = own'.counts }
   pub counts : own.counts.items ≡ counts_in v (messages_of delivered) → own'.counts.items ≡ counts_in v (messages_of delivered ++ b)
 
--- after it delivered the next place
+-- the own place of p, with the next place delivered and its messages counted, is that of p after it delivered the next place
 abbrev pub DeliveringTells : Type 0
 DeliveringTells = (s : Setting) (p : Process) (h : Pool) (own own' : Own) (b : Batch) (ds : List Delivered) → 1 ≤ length b → delivery p.pool (places_in p.delivered) b ≡ Some ds
     → OnePlaceMore p.pool.view b p.delivered own own' → Tells s p h own → Tells s (record p { delivered = p.delivered ++ ds }) h own'
@@ -49,7 +49,7 @@ pub record Begins (v : View) (own own' : Own) (delivered : ℕ) : Type 0 where
   pub counts : own'.counts.items ≡ counts_in v []
   pub before : own'.earlier ≡ own.earlier + delivered
 
--- after it installed the view
+-- an own place that begins in the next view is that of p after it installed the next view
 abbrev pub InstallingTells : Type 0
 InstallingTells = (s : Setting) (p : Process) (h : Pool) (own own' : Own) (d : ℕ × Value) → IsLawful p → Begins (next_view p.pool.view d.1.update) own own' (delivered_from p.me p.delivered)
     → Tells s p h own → Tells s (install d p) (record { view = next_view p.pool.view d.1.update; heard = [] }) own'

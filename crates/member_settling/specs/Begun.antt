@@ -2,7 +2,7 @@
 use Rattle.std.specs.Prelude.{◌≡◌, ◌≤◌, List, [], ◌∷◌, ◌++◌, length}
 use Rattle.group_defs.specs.Process.{Delivered}
 
--- the last list
+-- `ds` is the last of the lists
 pub record IsLast (lists : List (List Delivered)) (ds : List Delivered) : Type 0 where
   pub before : List (List Delivered)
   pub is : lists ≡ before ++ ds ∷ []
@@ -13,6 +13,6 @@ pub record HasLast (lists : List (List Delivered)) : Type 0 where
   pub is : IsLast lists last
   pub short : length last ≤ 65535
 
--- there is such a list
+-- there is a last list, with a length of at most 65,535; which one is left open
 abbrev pub HasShortLast : List (List Delivered) → Type 0
 HasShortLast lists = ∥ HasLast lists ∥₁

@@ -39,13 +39,13 @@ pub record IsLeaving (s : Setting) (p : Process) (d : ℕ × Value) (st : Proces
   pub decision : p.decision ≡ Some d
   pub runs : p.halted ≡ false
 
--- such a process, and its setting
+-- a process whose view is decided as d, with its setting, of which this is the state, but for its phase
 pub record HasLeaving (d : ℕ × Value) (st : ProcessState) : Type 0 where
   pub setting : Setting
   pub process : Process
   pub leaving : IsLeaving setting process d st
 
--- there is such a process
+-- the state is, but for its phase, that of some process whose view is decided as d
 abbrev pub CanLeave : ℕ × Value → ProcessState → Type 0
 CanLeave d st = ∥ HasLeaving d st ∥₁
 

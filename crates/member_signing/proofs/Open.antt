@@ -10,7 +10,7 @@ use Rattle.group_defs.specs.Values.{length_said}
 use Rattle.group_defs.specs.Settle as defs
 use Rattle.rule_laws.proofs.Signable.{may-parts}
 use Rattle.own_place.specs.Noting.{is_end}
-use Rattle.view_phases.specs.Phases.{IsIn, IsClosing, word_of}
+use Rattle.view_phases.specs.Phases.{IsIn, IsClosing, as_phase}
 use Rattle.view_phases.specs.declared.phases.Phase.{Phase}
 use Rattle.view_phases.specs.declared.phases.Phase.TheVariants.{Observing, OpenView, ClosingView, DecidedView, HaltedView}
 use Rattle.view_phases.specs.declared.phases.ClosingView.{ClosingView as Closing}
@@ -33,7 +33,7 @@ none-halted (DecidedView d) p before is = absurd before
 none-halted (HaltedView h) p before is = absurd before
 
 -- a view that begins is not decided
-pub begun : (phase : Phase) (b : Bool) → word_of phase ≡ (if b then defs.OpenView else defs.Observing) → IsUndecided phase
+pub begun : (phase : Phase) (b : Bool) → as_phase phase ≡ (if b then defs.OpenView else defs.Observing) → IsUndecided phase
 begun (Observing o) b e = tt
 begun (OpenView o) b e = tt
 begun (ClosingView c) b e = tt

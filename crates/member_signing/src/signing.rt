@@ -74,8 +74,8 @@ fn next<G: Signer>(
     Ok(Some(own))
 }
 
-// Signs the least statement of the kind that is due, again and again, until none is due or no signature is left; and whether one
-// more was due then.
+// Signs the least statement of the kind that is due, again and again, until none is due or no signature is left. The answer
+// is whether one more was due then.
 fn sign_kind<G: Signer>(
     state: &mut ProcessState,
     alloc: Global,
@@ -105,7 +105,7 @@ fn sign_kind<G: Signer>(
     Ok(is_due(state, kind))
 }
 
-// Signs what is due of these kinds, one kind after the other, until a signature is wanting; and whether one was.
+// Signs what is due of these kinds, one kind after the other, until a signature is wanting. The answer is whether one was.
 fn sign_kinds<G: Signer>(
     state: &mut ProcessState,
     alloc: Global,
@@ -130,9 +130,9 @@ fn sign_kinds<G: Signer>(
     Ok(false)
 }
 
-/// Signs what is due, kind after kind, in each the least statement again and again, until none is due or a signature is wanting;
-/// and whether one was. Each claim is heard, noted and kept in the state, and stands behind `signed`. In a decided view nothing is
-/// signed. Without memory the state is to be given up: of what was signed, a part stands in it.
+/// Signs what is due, kind after kind, in each the least statement again and again, until none is due or a signature is wanting.
+/// The answer is whether one was. Each claim is heard, noted and kept in the state, and stands behind `signed`. In a decided view
+/// nothing is signed. Without memory the state is to be given up: of what was signed, a part stands in it.
 pub fn sign_all<G: Signer>(
     state: &mut ProcessState,
     alloc: Global,

@@ -30,9 +30,10 @@ pub record ArePairs (pairs : List (Claim × Claim)) : Type 0 where
   pub same : All (λ pair. pair.0.signer ≡ pair.1.signer) pairs
   pub once : AllPairs (λ a b. a.1.signer ≢ b.1.signer) pairs
 
--- The state is this process's, in this setting: each part of it keeps what is the process's. And so it is with every process
--- that came to be by events: it is lawful and bounded, its view has as number how many views it left, what it decided is certified, its
--- conflicts are one pair of a signer, what it perceived is of views up to its own, and it has halted only as a member, beyond its cut.
+-- The state st is that of process p in this setting: each part of it keeps what is the process's. And of p holds what holds of
+-- every process that came to be by events: it is lawful and bounded, its view has as number how many views it left, what it
+-- decided is certified, its conflicts are one pair of a signer, what it perceived is of views up to its own, and it has halted
+-- only as a member, beyond its cut.
 pub record IsStateOf (s : Setting) (p : Process) (st : ProcessState) : Type 0 where
   pub lawful : IsLawful p
   pub bounded : IsBounded p

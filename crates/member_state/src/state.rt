@@ -24,28 +24,28 @@ pub struct ProcessState {
     /// The most messages of an own Order, 1 to 16.
     pub batch_limit: u8,
 
-    /// Its own place in its current view.
+    /// The process's own place in its current view.
     pub own: Own,
 
-    /// What it has heard there.
+    /// What the process has heard in its current view.
     pub pool: Pool,
 
-    /// How far it is there.
+    /// How far the process is in its current view.
     pub phase: Phase,
 
-    /// The updates that were asked for there.
+    /// The updates that were asked for in the current view.
     pub perceived: Perceived,
 
-    /// What it has signed there, in order of signing.
+    /// What the process has signed in its current view, in order of signing.
     pub said: ClaimList,
 
     /// The first two conflicting claims of each signer, over all views.
     pub conflicts: Conflicts,
 
-    /// What is kept of the views that it left.
+    /// What is kept of the views that the process left.
     pub archive: Archive,
 
-    /// What it tells of itself.
+    /// What the process tells of itself.
     pub account: Account,
 }
 
@@ -140,14 +140,14 @@ impl ProcessState {
         })
     }
 
-    /// The signers of whom it keeps two claims that conflict.
+    /// The signers of whom the process keeps two claims that conflict.
     pub fn liars(&self) -> PidSet
         ensures { (s : Setting) (p : Process) → IsStateOf s p self.now → liars_of p ≡ result }
     {
         liars_in(&self.conflicts)
     }
 
-    /// Where it has halted, how many places it has delivered, and the cut, which is below that.
+    /// Where the process has halted: how many places it has delivered, and the cut, which is below that.
     pub fn halted(&self) -> Option<(u16, u16)>
         ensures { (s : Setting) (p : Process) → IsStateOf s p self.now → halted_at p ≡ result }
     {

@@ -121,8 +121,8 @@ fn ask(state: &mut ProcessState, update: &Update) -> Result<(), NoMemory>
 }
 
 /// Takes in what is handed to the process: a payload is accepted, claims are heard one by one, and an update is perceived in the
-/// current view. How many claims were newly heard. The process does not refuse the input. Without memory, the state is that of no
-/// process.
+/// current view. The answer is how many claims were newly heard. The process does not refuse the input. Without memory, the state
+/// is that of no process.
 pub fn take_in<V: Scheme>(
     state: &mut ProcessState,
     judge: &Judge<'_, V>,

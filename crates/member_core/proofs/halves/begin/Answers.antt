@@ -1,5 +1,4 @@
-use Rattle.std.proofs.Common.{◌≡◌, ◌-◌, ◌∙◌, [], map, length, refl, ap}
-use Rattle.group_defs.specs.Process.{Process}
+use Rattle.std.proofs.Common.{◌-◌, ◌∙◌, map, length, refl, ap}
 use Rattle.group_defs.specs.Events.{Event, Turn, take_in, signing}
 use Rattle.stmt_codec.specs.Views.{signed}
 use Rattle.member_state.specs.Events.{frame_to, note}

@@ -1,10 +1,9 @@
-use Rattle.std.proofs.Common.{◌≡◌, ◌-◌, ◌∙◌, length, refl, sym, ap}
-use Rattle.group_defs.specs.Process.{Process}
+use Rattle.std.proofs.Common.{◌-◌, ◌∙◌, length, refl, sym, ap}
 use Rattle.group_defs.specs.Events.{Event, Turn, signing}
 use Rattle.claim_hearing.specs.Hearing.{Shares}
 use Rattle.member_taking.specs.Inputs.{handed}
 use Rattle.member_core.specs.Outcomes.{HasBegun}
-use Rattle.member_core.specs.Cores.{IsCore, turn_of}
+use Rattle.member_core.specs.Cores.{IsCore}
 use Rattle.member_core.proofs.Joined.{taken-so}
 use Rattle.member_core.proofs.member.Core.take.Goals as goal
 
