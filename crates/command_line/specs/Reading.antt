@@ -5,7 +5,7 @@ use Rattle.byte_defs.specs.Equality.{same_bytes}
 use Rattle.byte_defs.specs.Choices.{and_then}
 use Rattle.signature_defs.specs.declared.OtsType.{OtsType}
 use Rattle.signature_defs.specs.LmOts.{ots_type_of}
-use Rattle.secret_defs.specs.Secrets.{levels_are_built}
+use Rattle.signature_defs.specs.Secrets.{levels_are_built}
 use Rattle.kit_defs.specs.declared.KeyPlan.{KeyPlan}
 use Rattle.kit_defs.specs.declared.KeyPlan.TheVariants.{Plain, Lms, Hss}
 use Rattle.text_defs.specs.Words.{number_within, bytes_of}

@@ -11,7 +11,7 @@ use Rattle.replay_defs.specs.Reading.{schedule_of}
 use Rattle.replay_defs.specs.Worlds.{World, WorldFault, world_of}
 use Rattle.replay_defs.specs.Reports.{ReplayFault, Stops, report_of, report_if_read, report_if_run}
 use Rattle.schedule_laws.proofs.Wholes.{schedule_takes, schedule_again}
-use Rattle.rp_streams.specs.Streams.{AppendsPrefix, Says}
+use Rattle.rp_base.specs.Streams.{AppendsPrefix, Says}
 use Rattle.rampart_cli.specs.Top.{Runs, HasNoRun, Replayed, Refused, Reported, ReportedInPart, Stopped, report_of_run, stop_line}
 use Rattle.rampart_cli.proofs.Headline.{headline}
 

@@ -7,7 +7,7 @@ use Rattle.std.specs.Io.KnownBytes.{Appends}
 use Rattle.rampart_cli.specs.declared.stops.Stop.{Stop}
 use Rattle.rampart_cli.specs.declared.stops.Stop.TheVariants.{NoMemory, Words, Read, Write}
 use Rattle.rampart_cli.specs.Statuses.{status_of, line_of}
-use Rattle.rp_streams.specs.Streams.{AppendsPrefix, Says}
+use Rattle.rp_base.specs.Streams.{AppendsPrefix, Says}
 
 pub at_write : (stop : Stop) → status_of stop ≡ 4 → stop ≡ Write
 at_write NoMemory e = absurd (omega arith)

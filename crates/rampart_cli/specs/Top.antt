@@ -1,4 +1,11 @@
 -- What the program answers.
+--
+-- A stream tells what it holds where its `left` or `written` is `Some bytes`, as streams in memory do. Standard input and output do not
+-- tell: theirs is `None`. Of a stream that does not tell, `Consumes`, `IsAtEnd`, `Appends`, `AppendsPrefix` and `Keeps` hold whatever the
+-- bytes. So where the source does not tell, `Replayed` and `Refused` say that there is an input that runs, or one that has no run, and not
+-- that it is the one that was read; and where the sink does not tell, `Reported`, `ReportedInPart` and `Stopped` say nothing of what was
+-- written. The program is one for all streams and does not see which it was handed (README, «What is trusted»). What is said by words,
+-- statuses and counts of faults holds of every stream.
 use Rattle.std.specs.Prelude.{◌≡◌, ℕ, Bool, ◌≤◌, List, ◌∷◌, ◌++◌, length, map, Option, IfSome, Ok, Err, codes, String, string_bytes}
 use Rattle.std.specs.Io.KnownBytes.{Appends, Consumes, IsAtEnd}
 use Rattle.std.specs.declared.alloc.Global.{Global}
@@ -15,7 +22,7 @@ use Rattle.kit_defs.specs.Kits.{kit_text}
 use Rattle.kit_defs.specs.KitMaking.{made_kit}
 use Rattle.command_line.specs.Commands as commands
 use Rattle.command_line.specs.Commands.{KitOrder, Command}
-use Rattle.rp_streams.specs.Streams.{AppendsPrefix, Says}
+use Rattle.rp_base.specs.Streams.{AppendsPrefix, Says}
 
 -- ---- the words
 

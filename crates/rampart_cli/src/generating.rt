@@ -1,12 +1,11 @@
 ghost use Rattle.std.specs.Prelude.{◌≡◌, ◌⊎◌, OnOk, IfOk, IfErr, IsErrOf};
 ghost use Rattle.std.specs.Io.KnownBytes.{Appends};
 ghost use Rattle.rp_base.specs.Causes.{Rose};
-ghost use Rattle.rp_streams.specs.Streams.{AppendsPrefix};
+ghost use Rattle.rp_base.specs.Streams.{AppendsPrefix};
 ghost use Rattle.rampart_cli.specs.Top.{schedule_of_number};
 
 use crate::stops::Stop;
-use rp_base::{NoMemory, Sink};
-use rp_streams::write_all;
+use rp_base::{NoMemory, Sink, write_all};
 use schedule_file::write_schedule;
 use schedule_making::generate;
 use std::alloc::Global;

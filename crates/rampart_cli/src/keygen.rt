@@ -3,15 +3,14 @@ ghost use Rattle.std.specs.Io.KnownBytes.{Appends};
 ghost use Rattle.rp_base.specs.Causes.{Rose};
 ghost use Rattle.command_line.specs.Commands.{IsOrder};
 ghost use Rattle.command_line.specs.Views.{order};
-ghost use Rattle.rp_streams.specs.Streams.{AppendsPrefix};
+ghost use Rattle.rp_base.specs.Streams.{AppendsPrefix};
 ghost use Rattle.rampart_cli.specs.Top.{kit_of_order};
 
 use crate::stops::Stop;
 use command_line::KitOrder;
 use kit_file::write_kit;
 use kit_making::make_kit;
-use rp_base::{NoMemory, Sink};
-use rp_streams::write_all;
+use rp_base::{NoMemory, Sink, write_all};
 use std::alloc::Global;
 
 /// The text of the kit that is ordered, with the line that ends it.

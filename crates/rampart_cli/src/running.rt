@@ -6,7 +6,7 @@ ghost use Rattle.replay_defs.specs.Reports.{report_of};
 ghost use Rattle.command_line.specs.Commands.{IsOrder};
 ghost use Rattle.command_line.specs.Views.{order};
 ghost use Rattle.rampart_cli.specs.Statuses.{status_of, line_of};
-ghost use Rattle.rp_streams.specs.Streams.{AppendsPrefix, Says};
+ghost use Rattle.rp_base.specs.Streams.{AppendsPrefix, Says};
 ghost use Rattle.rampart_cli.specs.Top.{Reported, ReportedInPart, Stopped, kit_of_order, schedule_of_number};
 
 use crate::generating::write_generated;
@@ -14,8 +14,7 @@ use crate::keygen::keygen;
 use crate::replaying::replay_input;
 use crate::stops::Stop;
 use command_line::KitOrder;
-use rp_base::{Sink, Source};
-use rp_streams::write_all;
+use rp_base::{Sink, Source, write_all};
 use std::alloc::Global;
 
 /// The status of an input that has no report.

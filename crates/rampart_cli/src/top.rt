@@ -3,7 +3,7 @@ ghost use Rattle.std.specs.Io.KnownBytes.{Appends, Keeps};
 ghost use Rattle.rp_base.specs.Causes.{Rose};
 ghost use Rattle.replay_defs.specs.Reports.{report_of};
 ghost use Rattle.command_line.specs.Commands.{KitOrder, Replay, Gen, Keygen};
-ghost use Rattle.rp_streams.specs.Streams.{AppendsPrefix, Says};
+ghost use Rattle.rp_base.specs.Streams.{AppendsPrefix, Says};
 ghost use Rattle.rampart_cli.specs.Top.{Asks, AskAny, Reported, ReportedInPart, Stopped, kit_of_order, schedule_of_number};
 
 use crate::running::{run_gen, run_keygen, run_replay, tell};
@@ -38,7 +38,8 @@ pub fn rampart<S: Source, K: Sink, D: Disk, L: Link>(
     ensures steady { result ≡ 0
         → (S.faults input.new ≡ S.faults input.old) × (K.faults output.new ≡ K.faults output.old) }
 
-    // 1: no memory is left; nothing was written.
+    // 1: no memory is left; nothing was written. No clause says when memory is left: a body that always answered 1 would meet this contract,
+    // and tests show otherwise (README, «What is only tested»).
     ensures silent { result ≡ 1 → Keeps (K.written output.old) (K.written output.new) }
 
     // 2: exactly where the words are no command; nothing was read.

@@ -1,7 +1,7 @@
 -- Who takes part in a run of a schedule.
 use Rattle.std.specs.Prelude.{◌≡◌, List, [], ◌∷◌, ◌++◌, filter}
 use Rattle.std.specs.List.{filter_map}
-use Rattle.secret_defs.specs.Schemes.{is_valid}
+use Rattle.signature_defs.specs.Schemes.{is_valid}
 use Rattle.sig_scheme.specs.Views.{scheme}
 use Rattle.replay_defs.specs.Signers.{scheme_valid}
 use Rattle.replay_defs.specs.Schedules.{Header, Listed}
@@ -17,16 +17,16 @@ pub record IsEmpty (c : Cast) : Type 0 where
   pub players : c.players.items ≡ []
   pub liars : c.liars.items ≡ []
 
--- the processes that are listed so take part
+-- the processes that are listed in `ls` take part, each as it begins
 pub record TakePart (h : Header) (ls : List Listed) (c : Cast) : Type 0 where
   pub players : ArePlayers (setting_of h) c.players.items (filter_map (begins h) ls)
   pub liars : AreLiars [] c.liars.items (filter (λ l. l.corrupt) ls)
 
--- one process more does
+-- the new cast is the old one with one process more, which has this signer
 abbrev pub Adds : Header → Keyed → Cast → Cast → Type 0
 Adds h k old new = (ls : List Listed) (l : Listed) → IsKeyed l k → TakePart h ls old → TakePart h (ls ++ l ∷ []) new
 
--- all of the header do
+-- all processes of the header take part
 abbrev pub AllTakePart : Header → Cast → Type 0
 AllTakePart h c = TakePart h h.processes c
 

@@ -14,29 +14,29 @@ use Rattle.replay_cast.specs.declared.liar.Liar.{Liar}
 abbrev pub bundle_of : Signed → List ℕ
 bundle_of c = frame_bytes (Bundle (group_of c ∷ []))
 
--- its claim on the statement, by its next signature
+-- the claim of the corrupt process x on the statement, with the next signature of its key
 abbrev pub lie_of : List ℕ → Statement → Liar → Signed
 lie_of group st x = signed (spelling st) x.process (signature x.signer (used x.signer) (body group x.process st))
 
--- it had a signature left, and made it
+-- the corrupt process had a signature left, and made it: `bytes` is the Bundle of its claim on the statement
 pub record Told (group : List ℕ) (st : Statement) (old new : Liar) (bytes : List ℕ) : Type 0 where
   pub able : used old.signer < total old.signer
   pub used : used new.signer ≡ used old.signer + 1
   pub frame : bytes ≡ bundle_of (lie_of group st old)
 
--- its key is spent
+-- the key of the corrupt process is spent, and nothing changed
 pub record Silent (old new : Liar) : Type 0 where
   pub spent : used old.signer ≡ total old.signer
   pub same : new ≡ old
 
--- it signs the lies of the process that is listed so, and has signed a lie for each of its frames
+-- x is the corrupt process that is listed as l: it has the signer of that key, which has signed a lie for each of its frames
 pub record Lies (frames : List Sent) (x : Liar) (l : Listed) : Type 0 where
   pub process : x.process ≡ l.process
   pub used : used x.signer ≡ count_by (λ f. f.sender == l.process) frames
   pub total : total x.signer ≡ key_total l.key
   pub signs : signature x.signer ≡ key_signature l.key
 
--- one by one
+-- each corrupt process of the code is the one that is listed at its place
 abbrev pub AreLiars : List Sent → List Liar → List Listed → Type 0
 AreLiars frames [] [] = Unit {0}
 AreLiars frames (x ∷ xs) (l ∷ ls) = Lies frames x l × AreLiars frames xs ls

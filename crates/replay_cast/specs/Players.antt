@@ -13,15 +13,16 @@ use Rattle.sig_scheme.specs.declared.any_signer.AnySigner.{AnySigner}
 use Rattle.stmt_codec.specs.declared.events.Event.{Event}
 use Rattle.stmt_codec.specs.declared.events.Outcome.{Outcome}
 use Rattle.member_state.specs.Events.{event, IsOutcome}
-use Rattle.member_core.specs.declared.member.Core.{Core}
-use Rattle.member_core.specs.Cores.{IsCore, signer_of}
+pub use Rattle.member_core.specs.declared.member.Core.{Core}
+pub use Rattle.member_core.specs.Cores.{IsCore}
+use Rattle.member_core.specs.Cores.{signer_of}
 use Rattle.said_index.specs.declared.index.SaidIndex.{SaidIndex}
 use Rattle.said_index.specs.Said.{is_said}
-use Rattle.replay_cast.specs.declared.player.Seat.{Seat}
-use Rattle.replay_cast.specs.declared.player.Seat.TheVariants.{Taken, Lost}
-use Rattle.replay_cast.specs.declared.player.Player.{Player}
+pub use Rattle.replay_cast.specs.declared.player.Seat.{Seat}
+pub use Rattle.replay_cast.specs.declared.player.Seat.TheVariants.{Taken, Lost}
+pub use Rattle.replay_cast.specs.declared.player.Player.{Player}
 
--- its number
+-- the number of the player's process
 abbrev pub process_of : Player → ℕ
 process_of p = p.process
 
@@ -31,7 +32,7 @@ pub record HasCore (s : Setting) (c : plain.Player) (core : Core AnySigner) : Ty
   pub total : total (signer_of core) ≡ key_total c.listed.key
   pub signs : signature (signer_of core) ≡ key_signature c.listed.key
 
--- such a core stands in the seat
+-- the player's process sits there: a core in this setting, with its key; memory has not run out
 abbrev pub Sits : Setting → plain.Player → Seat → Type 0
 Sits s c (Taken core) = HasCore s c core
 Sits s c Lost = ⊥
@@ -40,19 +41,19 @@ Sits s c Lost = ⊥
 abbrev pub HasSaid : Process → SaidIndex → Type 0
 HasSaid p said = (x : List ℕ) → is_said x said ≡ list_any (λ c. bytes_eq x (spelling c.statement)) p.signed
 
--- the code's process is this player
+-- p, of the code, is the player c of the definitions
 pub record Plays (s : Setting) (p : Player) (c : plain.Player) : Type 0 where
   pub process : p.process ≡ c.listed.process
   pub seat : Sits s c p.seat
   pub said : HasSaid c.now p.said
 
--- one by one
+-- each player of the code is the one of the definitions at its place
 abbrev pub ArePlayers : Setting → List Player → List plain.Player → Type 0
 ArePlayers s [] [] = Unit {0}
 ArePlayers s (p ∷ ps) (c ∷ cs) = Plays s p c × ArePlayers s ps cs
 ArePlayers s _ _ = ⊥
 
--- it has taken one turn more, of this event, and this came of it
+-- the player c has taken one turn more, of event e, is `new` after it, and r came of the event
 pub record Stepped (s : Setting) (c : plain.Player) (new : Player) (e : Event) (r : Outcome) : Type 0 where
   pub plays : Plays s new (with_turn s (turn_of c (event e)) c)
   pub outcome : IsOutcome (outcome s c.now (turn_of c (event e))) r

@@ -9,10 +9,10 @@ use Rattle.replay_cast.specs.Keyed.{IsKeyed}
 use Rattle.replay_cast.specs.declared.keyed.Keyed.{Keyed}
 use Rattle.replay_cast.specs.declared.player.Player.{Player}
 
--- the player of a process that is listed so, before its first turn
+-- the player of the process that is listed as l, before its first turn
 abbrev pub starting : Header → Listed → plain.Player
 starting h l = record { listed = l; now = start (setting_of h) l.process h.batch_limit; turns = [] }
 
--- the code's process is that player
+-- p, of the code, is the player of the process that has this signer, before its first turn
 abbrev pub Starts : Header → Keyed → Player → Type 0
 Starts h k p = (l : Listed) → IsKeyed l k → Plays (setting_of h) p (starting h l)

@@ -1,7 +1,7 @@
 //! The processes of a schedule as they begin.
 ghost use Rattle.std.specs.Prelude.{◌≡◌, map, IfOk, OnOk};
 ghost use Rattle.sig_scheme.specs.Signers.{used};
-ghost use Rattle.secret_defs.specs.Schemes.{is_valid};
+ghost use Rattle.signature_defs.specs.Schemes.{is_valid};
 ghost use Rattle.sig_scheme.specs.Views.{scheme as scheme_in};
 ghost use Rattle.replay_defs.specs.Signers.{scheme_valid};
 ghost use Rattle.replay_defs.specs.Worlds.{setting_of};
@@ -29,13 +29,13 @@ pub struct Cast {
     pub group: GroupId,
     pub scheme: AnyScheme,
 
-    /// The public keys of all.
+    /// The public keys of all processes.
     pub roster: Roster,
 
     /// The correct processes, by rising numbers, each as it starts.
     pub players: Vec<Player>,
 
-    /// The corrupt ones, by rising numbers.
+    /// The corrupt processes, by rising numbers.
     pub liars: Vec<Liar>,
 }
 

@@ -27,7 +27,8 @@ impl Liar {
     ghost use Rattle.stmt_codec.specs.Views.{stmt};
     ghost use Rattle.replay_cast.specs.Liars.{Told, Silent, lie_of};
 
-    /// It signs a statement: the claim in a Bundle of its own. None comes exactly where its key is spent, and changes nothing.
+    /// The process signs a statement, and the answer is the Bundle of this one claim. None comes exactly where its key is spent, and
+    /// changes nothing.
     pub fn lie(
         &mut self,
         alloc: Global,

@@ -29,11 +29,11 @@ impl Player {
     ghost use Rattle.std.specs.Prelude.{◌≡◌, IfOk, IsSomeAnd};
     ghost use Rattle.group_defs.specs.Process.{Setting};
     ghost use Rattle.replay_defs.specs.Worlds as plain;
-    ghost use Rattle.secret_defs.specs.Schemes.{is_valid};
+    ghost use Rattle.signature_defs.specs.Schemes.{is_valid};
     ghost use Rattle.sig_scheme.specs.Views.{scheme as scheme_of};
     ghost use Rattle.replay_cast.specs.Players.{Plays, HasCore, Stepped};
 
-    /// It takes an event, with as many signatures as its key has left. Where memory is wanting it is lost.
+    /// The process takes an event, with as many signatures as its key has left. Where memory is wanting, the process is lost.
     pub fn step(&mut self, scheme: &AnyScheme, event: &Event<'_>) -> Result<Outcome, NoMemory>
         ensures { (s : Setting) (c : plain.Player) → Plays s self.old c → s.valid ≡ is_valid (scheme_of scheme.now) → IfOk result (Stepped s c self.new event.now) }
     {

@@ -15,7 +15,7 @@ pub struct Entry {
     pub key: Vec<u8>,
 }
 
-/// The public keys of these.
+/// The public keys of these processes, each with its process.
 pub fn entries_of(alloc: Global, all: &[Keyed]) -> Result<Vec<Entry>, NoMemory>
     ensures { IfOk result (λ entries. map entry entries.items ≡ map key_of all.now) }
 {
@@ -30,7 +30,7 @@ pub fn entries_of(alloc: Global, all: &[Keyed]) -> Result<Vec<Entry>, NoMemory>
     Ok(entries)
 }
 
-/// A roster of these.
+/// The roster of these processes and public keys.
 pub fn roster_of(alloc: Global, entries: &[Entry]) -> Result<Roster, NoMemory>
     requires { IsRising (map entry entries.now) }
     ensures { IfOk result (λ roster. roster ≡ map entry entries.now) }

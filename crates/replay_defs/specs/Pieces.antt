@@ -34,7 +34,7 @@ AreRead roles left bytes (e ∷ es) steps rest =
 abbrev pub within_limit : List ℕ → List ℕ
 within_limit fed = take most_bytes fed
 
--- and the part of those that wait
+-- the part of the waiting bytes that is read: those past the limit are not
 abbrev pub readable : Reading → List ℕ
 readable r = take (most_bytes - r.taken) r.waiting
 

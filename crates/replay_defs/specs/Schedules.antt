@@ -67,7 +67,7 @@ pub record Header : Type 0 where
   -- in rank order
   pub genesis : List ℕ
 
--- and what happens to them
+-- who takes part, and the events that happen to them, in order
 pub record Schedule : Type 0 where
   pub header : Header
   pub events : List ScheduleEvent

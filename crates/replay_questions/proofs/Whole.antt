@@ -5,7 +5,7 @@ use Rattle.std.proofs.lemmas.List.Folds.{list_all-append}
 use Rattle.std.proofs.lemmas.List.Concat.{flat_map-append}
 use Rattle.message_defs.specs.Statements.{Claim}
 use Rattle.message_defs.specs.Spelling.{IsClaim}
-use Rattle.secret_defs.specs.Schemes as schemes
+use Rattle.signature_defs.specs.Schemes as schemes
 use Rattle.sig_scheme.specs.Views.{scheme as scheme_in}
 use Rattle.group_defs.specs.Hearing.{is_valid}
 use Rattle.group_defs.specs.Family.{ends, honest}

@@ -17,7 +17,7 @@ agree yes
 sound yes
 ";
 
-/// And of `ONE_MEMBER` with a payload of 65,535 bytes, the most that a schedule can tell.
+/// What another program, in Python, writes of `ONE_MEMBER` with a payload of 65,535 bytes, the most that a schedule can tell.
 const LONGEST_PAYLOAD: &[u8] = b"rampart report 1
 events 1
 refused 0 0 toolong
@@ -29,7 +29,8 @@ agree yes
 sound yes
 ";
 
-/// And of a group of one that renews its view as often as it can, and once more. A view takes a Renew and a Tick.
+/// What another program, in Python, writes of a group of one that renews its view as often as it can, and once more. A view takes a Renew
+/// and a Tick.
 const ALL_VIEWS: &[u8] = b"rampart report 1
 events 2047
 refused 1

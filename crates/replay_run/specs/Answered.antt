@@ -5,7 +5,7 @@ use Rattle.group_defs.specs.Accounts.{bounded, agree, sound}
 use Rattle.group_defs.specs.Family.{Family, accounts, numbers, honest}
 use Rattle.report_lines.specs.declared.answers.Answers.{Answers}
 
--- these are the family's
+-- a report's four answers are those of the family
 pub record AreAnswers (f : Family) (a : Answers) : Type 0 where
   pub honest : a.honest ≡ honest f
   pub bounded : a.bounded ≡ bounded (accounts f) (numbers f)

@@ -12,27 +12,27 @@ use Rattle.replay_run.specs.declared.fault.ReplayFault.TheVariants.{Schedule, No
 use Rattle.replay_run.specs.declared.fault.Stop.{Stop}
 use Rattle.replay_run.specs.declared.fault.Stop.TheVariants.{Fault, NoMemory}
 
--- the fault
+-- why bytes have no report
 abbrev pub fault : ReplayFault → plain.ReplayFault
 fault (Schedule f) = plain.NoSchedule f
 fault (NoSuchFrame event frame sent) = plain.Stops (worlds.NoSuchFrame event frame sent)
 fault (TooMuchSent event bytes) = plain.Stops (worlds.TooMuchSent event bytes)
 
--- the fault that it tells; where memory ran out, none
+-- the fault that the end of a replay tells; none where memory ran out
 abbrev pub fault_in : Stop → Option plain.ReplayFault
 fault_in (Fault f) = Some (fault f)
 fault_in NoMemory = None
 
--- of a run
+-- the fault that the end of a run tells; none where memory ran out
 abbrev pub fault_of_run : WorldFault → Option worlds.WorldFault
 fault_of_run (stops.NoSuchFrame event frame sent) = Some (worlds.NoSuchFrame event frame sent)
 fault_of_run (stops.TooMuchSent event bytes) = Some (worlds.TooMuchSent event bytes)
 fault_of_run stops.NoMemory = None
 
--- the same fault of a run, or want of memory
+-- the replay ends with the fault f of its run, which may be want of memory
 abbrev pub IsOfRun : WorldFault → Stop → Type 0
 IsOfRun f s = fault_in s ≡ option_map plain.Stops (fault_of_run f)
 
--- the same fault of the bytes, or want of memory
+-- the replay ends with the fault f of the bytes, which may be want of memory
 abbrev pub IsOfBytes : ScheduleFault → Stop → Type 0
 IsOfBytes f s = fault_in s ≡ option_map plain.NoSchedule (fault_of f)

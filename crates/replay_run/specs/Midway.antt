@@ -19,16 +19,17 @@ pub record IsMidway (r : Reading) (run : Run) (fed : List ℕ) : Type 0 where
   pub ranges : IfSome r.header IsHeader
   pub holds : Holds r.fault r run fed
 
--- they all were
+-- these bytes were fed, all events that are whole were run, and a piece more has room
 pub record IsAfter (r : Reading) (run : Run) (fed : List ℕ) : Type 0 where
   pub midway : IsMidway r run fed
   pub none_whole : r.fault ≡ None → NoneWhole r.header r
   pub room : length r.waiting + 65536 ≤ most_waiting
 
--- of some bytes
+-- some bytes were fed, and some of the events that are whole were run; which bytes is left open
 abbrev pub IsMidwayThere : Reading → Run → Type 0
 IsMidwayThere r run = ∥ ((fed : List ℕ) × IsMidway r run fed) ∥₁
 
+-- some bytes were fed, and all events that are whole were run; which bytes is left open
 abbrev pub IsReal : Reading → Run → Type 0
 IsReal r run = ∥ ((fed : List ℕ) × IsAfter r run fed) ∥₁
 

@@ -24,7 +24,7 @@ IsRunOf h es (Runs w) = IsWorldAfter h es w
 IsRunOf h es (Stops f) = (why : WorldFault) × (run_events h (start_of h) es ≡ Err why) × (fault f ≡ plain.Stops why)
 IsRunOf h es Waits = ⊥
 
--- the same, where the header may not be whole yet
+-- the run of the events behind the header, or a run that waits while the header is not whole
 abbrev pub HasRun : Option Header → List ScheduleEvent → Run → Type 0
 HasRun (Some h) es run = IsRunOf h es run
 HasRun None es run = run ≡ Waits
@@ -37,7 +37,7 @@ Begins o Waits now = HasRun o [] now
 Begins o (Runs w) now = now ≡ Runs w
 Begins o (Stops f) now = now ≡ Stops f
 
--- one event more
+-- of whichever events `run` was, `now` is the run of these and of e behind them
 abbrev pub RunsOn : ScheduleEvent → Run → Run → Type 0
 RunsOn e run now = (h : Header) (es : List ScheduleEvent) → IsRunOf h es run → IsEvent h.processes e → IsRunOf h (es ++ e ∷ []) now
 
@@ -47,7 +47,7 @@ CanCount (Runs w) = count_of w < 2 ^ 64 - 1
 CanCount (Stops f) = Unit {0}
 CanCount Waits = Unit {0}
 
--- this fault stopped it
+-- the run was stopped by fault f
 abbrev pub IsStoppedBy : CodeFault → Run → Type 0
 IsStoppedBy f (Stops g) = option_map plain.Stops (fault_of_run f) ≡ Some (fault g)
 IsStoppedBy f (Runs w) = ⊥

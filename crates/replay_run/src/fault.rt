@@ -14,17 +14,17 @@ pub enum ReplayFault {
     /// The bytes are no schedule: the first fault from the left. It comes before any fault of the run.
     Schedule(Fault),
 
-    /// A Pass names a frame that is not sent yet: so many were.
+    /// A Pass names a frame that is not sent yet: `sent` frames were.
     NoSuchFrame { event: u64, frame: u32, sent: usize },
 
-    /// The bytes of all frames pass 1,073,741,824: with the first frame above they are so many.
+    /// The bytes of all frames pass 1,073,741,824: with the first frame that passes it they are `bytes`.
     TooMuchSent { event: u64, bytes: u64 },
 }
 
 /// Why a replay ends without a report.
 #[derive(Clone, Copy, Debug)]
 pub(crate) enum Stop {
-    /// There is none.
+    /// The bytes have no report, for this reason.
     Fault(ReplayFault),
 
     /// Memory ran out, which is nobody's fault.

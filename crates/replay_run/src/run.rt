@@ -14,13 +14,13 @@ use std::alloc::Global;
 /// How far the run of a schedule is.
 #[derive(Drop)]
 pub enum Run {
-    /// It has not begun: the header is not whole yet.
+    /// The run has not begun: the header is not whole yet.
     Waits,
 
     /// All events so far were run.
     Runs(World),
 
-    /// An event stopped it, for this reason. Those behind it are not run.
+    /// An event stopped the run, for this reason. The events behind it are not run.
     Stops(ReplayFault),
 }
 
@@ -47,7 +47,7 @@ fn first(alloc: Global, reader: &ScheduleReader) -> Result<Run, NoMemory>
     }
 }
 
-/// One event more. A run that has stopped stays so.
+/// Runs one event more. A run that has stopped stays as it is.
 pub(crate) fn run_event(alloc: Global, run: Run, event: &ScheduleEvent) -> Result<Run, NoMemory>
     requires { CanCount run }
     ensures { IfOk result (RunsOn (views.event event.now) run) }

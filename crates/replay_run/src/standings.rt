@@ -29,7 +29,7 @@ pub(crate) fn standing_of(player: &Player) -> Option<Standing<'_>>
     })
 }
 
-/// What each of them tells of itself, copied.
+/// What each of these processes tells of itself, copied.
 pub(crate) fn accounts_of(alloc: Global, players: &[Player]) -> Result<Vec<Account>, NoMemory>
     ensures { (s : Setting) (cs : List plain.Player) → ArePlayers s players.now cs → IfOk result (λ all. map account all.items ≡ map (λ c. account_of c.now) cs) }
 {
@@ -44,7 +44,7 @@ pub(crate) fn accounts_of(alloc: Global, players: &[Player]) -> Result<Vec<Accou
     Ok(all)
 }
 
-/// Their numbers.
+/// The numbers of these processes.
 pub(crate) fn numbers_of(players: &[Player]) -> PidSet
     ensures { (p : ℕ) → has result p ≡ has (map process_of players.now) p }
 {

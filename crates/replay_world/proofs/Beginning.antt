@@ -14,7 +14,7 @@ use Rattle.replay_cast.specs.declared.player.Player.{Player}
 use Rattle.replay_cast.specs.declared.liar.Liar.{Liar}
 use Rattle.replay_cast.specs.Players.{ArePlayers}
 use Rattle.replay_cast.specs.Liars.{AreLiars}
-use Rattle.secret_defs.specs.Schemes.{is_valid}
+use Rattle.signature_defs.specs.Schemes.{is_valid}
 use Rattle.sig_scheme.specs.Views.{scheme as scheme_of}
 use Rattle.replay_world.specs.Handing.{handed_frames}
 use Rattle.replay_world.specs.Stepping.{refused}

@@ -3,7 +3,7 @@ use Rattle.std.proofs.Common.{◌≡◌, ℕ, zero, suc, ◌+◌, ◌<◌, Bool,
 use Rattle.std.specs.List.{position_from}
 use Rattle.std.specs.Prelude.{IfOk, IfSome, IfNone, slice_get, slice_set}
 use Rattle.std.proofs.lemmas.Option.{slice_get-get_or}
-use Rattle.secret_defs.specs.Schemes.{is_valid}
+use Rattle.signature_defs.specs.Schemes.{is_valid}
 use Rattle.sig_scheme.specs.Views.{scheme as scheme_of}
 use Rattle.sig_scheme.specs.Signers.{total, signature}
 use Rattle.sig_scheme.specs.declared.any_scheme.AnyScheme.{AnyScheme}

@@ -20,7 +20,7 @@ use Rattle.replay_cast.specs.declared.liar.Liar.{Liar}
 use Rattle.replay_cast.specs.Liars.{Lies, AreLiars, Told, bundle_of, lie_of}
 use Rattle.replay_world.specs.Lying.{SameLiar, LiesAt}
 use Rattle.replay_world.proofs.Seats.{Rises, listed_rise}
-use Rattle.secret_defs.specs.Schemes.{is_valid}
+use Rattle.signature_defs.specs.Schemes.{is_valid}
 use Rattle.sig_scheme.specs.Views.{scheme as scheme_of}
 use Rattle.std.specs.List.{flat_map, list_all}
 use Rattle.replay_defs.specs.Worlds.{setting_of}

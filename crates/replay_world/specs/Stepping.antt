@@ -1,6 +1,6 @@
 -- What one process's event leaves.
 use Rattle.std.specs.Prelude.{◌≡◌, ℕ, Bool, if◌then◌else◌, List, [], ◌∷◌, ◌++◌, Some, slice_get, slice_set}
-use Rattle.secret_defs.specs.Schemes.{is_valid}
+use Rattle.signature_defs.specs.Schemes.{is_valid}
 use Rattle.group_defs.specs.Process.{Setting}
 use Rattle.group_defs.specs.Events.{outcome}
 use Rattle.replay_defs.specs.Worlds as plain

@@ -23,7 +23,7 @@ noted p o v = fold (plain.send_all p) (record v {
 abbrev pub Notes : World → World → ℕ → Outcome → Type 0
 Notes old new p r = (h : Header) (v : plain.World) (o : group.Outcome) → Shows h old v → has (numbers v) p ≡ true → IsOutcome o r → Shows h new (noted p o v)
 
--- or too much is sent
+-- where the old world shows one with this player, what it sends by this outcome is too much
 abbrev pub NotesTooMuch : World → ℕ → Outcome → WorldFault → Type 0
 NotesTooMuch old p r fault = (h : Header) (v : plain.World) (o : group.Outcome) → Shows h old v → has (numbers v) p ≡ true → IsOutcome o r → IsTooMuch fault (noted p o v)
 

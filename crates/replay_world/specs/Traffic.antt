@@ -40,10 +40,10 @@ IsTooMuch NoMemory v = Unit {0}
 IsTooMuch (TooMuchSent event bytes) v = (event ≡ v.count) × ((more : List plain.Sent) → sum_above 0 (v.frames ++ more) ≡ Some bytes)
 IsTooMuch (NoSuchFrame event frame sent) v = ⊥
 
--- sending makes this of the world whose traffic it is
+-- where the old traffic is a world's, the new one is that of the changed world
 abbrev pub Sends : List Player → Traffic → Traffic → (plain.World → plain.World) → Type 0
 Sends players old new change = (v : plain.World) → Carries old v → map process_of players ≡ numbers v → Carries new (change v)
 
--- sending makes too much of it, in the event of this number
+-- where the old traffic is that of a world in its event of this number, the changed world has sent too much
 abbrev pub SendsTooMuch : List Player → ℕ → Traffic → (plain.World → plain.World) → WorldFault → Type 0
 SendsTooMuch players event old change fault = (v : plain.World) → Carries old v → map process_of players ≡ numbers v → event ≡ v.count → IsTooMuch fault (change v)

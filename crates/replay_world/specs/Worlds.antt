@@ -1,7 +1,7 @@
 -- Which world of the definitions a world of the code is.
 use Rattle.std.specs.Prelude.{◌≡◌, ℕ, not, List, ◌++◌, map, filter, Result, Ok, Err}
 use Rattle.std.specs.List.{AllByRecursion}
-use Rattle.secret_defs.specs.Schemes.{is_valid}
+use Rattle.signature_defs.specs.Schemes.{is_valid}
 use Rattle.group_defs.specs.Process.{start}
 use Rattle.group_defs.specs.Events.{run}
 use Rattle.replay_defs.specs.Signers.{scheme_valid}
@@ -60,7 +60,7 @@ pub record Shows (h : Header) (w : World) (v : plain.World) : Type 0 where
 abbrev pub Becomes : (Header → plain.World → plain.World) → World → World → Type 0
 Becomes change old new = (h : Header) (v : plain.World) → Shows h old v → Shows h new (change h v)
 
--- the change sends too much
+-- what the change makes of a world that the old one shows has sent too much
 abbrev pub Exceeds : (Header → plain.World → plain.World) → World → WorldFault → Type 0
 Exceeds change old fault = (h : Header) (v : plain.World) → Shows h old v → IsTooMuch fault (change h v)
 
@@ -78,7 +78,7 @@ IsFault (TooMuchSent event bytes) r = r ≡ Err (plain.TooMuchSent event bytes)
 abbrev pub Stops : World → ScheduleEvent → WorldFault → Type 0
 Stops old e fault = (h : Header) (v : plain.World) → Shows h old v → IsEvent h.processes e → IsFault fault (after_event h v e)
 
--- the same, without its being counted
+-- what the event makes of a world that the old one shows, before the event is counted, the new one shows
 abbrev pub HappensYet : World → World → ScheduleEvent → Type 0
 HappensYet old new e = (h : Header) (v : plain.World) → Shows h old v → IsEvent h.processes e → (x : plain.World) × (happens h v e ≡ Ok x) × Shows h new x
 
@@ -101,7 +101,7 @@ frames_of w = w.traffic.frames.items
 abbrev pub raws_of : World → List (List ℕ)
 raws_of w = w.raws.items
 
--- what the processes share
+-- the name of the group, the public keys of all its processes, and its scheme: what the processes share
 abbrev pub group_of : World → List ℕ
 group_of w = w.group
 

@@ -7,10 +7,11 @@ use std::alloc::AllocFailed;
 /// Why a schedule was not run to its end. Events are numbered from 0.
 #[derive(Clone, Copy, Debug, PartialEq, Eq)]
 pub enum WorldFault {
-    /// A Pass names a frame that is not sent yet: so many were. The schedule's author is to blame.
+    /// A Pass names a frame that is not sent yet: `sent` frames were. The schedule's author is to blame.
     NoSuchFrame { event: u64, frame: u32, sent: usize },
 
-    /// The bytes of all frames pass 1,073,741,824: with the first frame above they are so many. The author is to blame.
+    /// The bytes of all frames pass 1,073,741,824: with the first frame that passes it they are `bytes`. The
+    /// schedule's author is to blame.
     TooMuchSent { event: u64, bytes: u64 },
 
     /// Memory ran out, which is nobody's fault.

@@ -40,7 +40,7 @@ fn lie_at(
 impl World {
     ghost use Rattle.replay_world.specs.Worlds.{Stops, HappensYet, count_of};
 
-    /// A corrupt process signs a statement, and sends it to these; a spent key sends nothing.
+    /// A corrupt process signs a statement, and sends it to the processes of the mask; one whose key is spent sends nothing.
     pub(crate) fn lie(
         &mut self,
         alloc: Global,

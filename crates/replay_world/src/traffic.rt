@@ -39,7 +39,7 @@ pub struct Delivery {
 pub struct Traffic {
     pub frames: Vec<Sent>,
 
-    /// The oldest first.
+    /// The deliveries that wait, the oldest first.
     pub pending: VecDeque<Delivery>,
 
     /// How many bytes the frames have.

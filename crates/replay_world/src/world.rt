@@ -35,7 +35,7 @@ pub struct World {
     pub(crate) scheme: AnyScheme,
     pub(crate) roster: Roster,
 
-    /// By rising numbers.
+    /// The correct processes, by rising numbers.
     pub(crate) players: Vec<Player>,
     pub(crate) liars: Vec<Liar>,
     pub(crate) traffic: Traffic,
@@ -132,7 +132,7 @@ impl World {
     ghost use Rattle.replay_world.specs.Steps.{Notes, NotesTooMuch, arrives, oldest_arrives};
     ghost use Rattle.std.specs.Prelude.{is_some, slice_get};
 
-    /// One event of the schedule.
+    /// Runs one event of the schedule.
     pub fn event(&mut self, alloc: Global, what: &ScheduleEvent) -> Result<(), WorldFault>
         requires { count_of self.old < 2 ^ 64 - 1 }
 

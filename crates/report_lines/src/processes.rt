@@ -50,7 +50,7 @@ fn push_name(out: &mut Vec<u8>, me: Pid, phase: PhaseWord) -> Result<(), NoMemor
     push_word(out, phase_word(phase))
 }
 
-// Its counts, and the line feed.
+// The counts of a process's first line, and the line feed.
 fn push_counts(out: &mut Vec<u8>, views: u64, delivered: u64, signed: u64) -> Result<(), NoMemory>
     ensures { OnOk result (out.new.items ≡ out.old.items ++ space ∷ line_text (decimal views ∷ decimal delivered ∷ decimal signed ∷ [])) }
 {

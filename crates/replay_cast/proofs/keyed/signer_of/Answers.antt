@@ -1,5 +1,5 @@
 use Rattle.std.proofs.Common.{subst}
-use Rattle.secret_defs.specs.Secrets.{Secret}
+use Rattle.signature_defs.specs.Secrets.{Secret}
 use Rattle.sig_scheme.specs.Signers.{IsSignerOf}
 use Rattle.schedule_file.specs.Views as views
 use Rattle.replay_cast.proofs.Listing.{signer_of_key}

@@ -2,7 +2,7 @@ use Rattle.std.proofs.Common.{Bool, not, ◌||◌, refl, sym, ap, ◌∙◌}
 use Rattle.std.proofs.Math.Bool.{not-not}
 use Rattle.std.specs.Prelude.{is_some}
 use Rattle.std.specs.List.{list_all}
-use Rattle.secret_defs.specs.Schemes as schemes
+use Rattle.signature_defs.specs.Schemes as schemes
 use Rattle.sig_scheme.specs.Views.{scheme as scheme_in}
 use Rattle.group_defs.specs.Hearing.{is_valid}
 use Rattle.claim_pool.specs.Settings.{as_setting}

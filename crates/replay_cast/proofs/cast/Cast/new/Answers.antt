@@ -1,5 +1,5 @@
 use Rattle.std.proofs.Common.{◌≡◌, ℕ, List, map, ap, sym, subst, ◌∙◌}
-use Rattle.secret_defs.specs.Schemes.{is_valid}
+use Rattle.signature_defs.specs.Schemes.{is_valid}
 use Rattle.rp_base.specs.Rosters.{IsRising}
 use Rattle.sig_scheme.specs.Views.{scheme}
 use Rattle.replay_defs.specs.Worlds.{setting_of}
