@@ -5,23 +5,15 @@
 # a claim takes in all.
 # Run it from any folder, with `rt` in the path.
 set -eu
-cd "$(dirname "$0")/../crates/bench_pool"
+here=$(cd "$(dirname "$0")" && pwd)
+cd "$here/../crates/bench_pool"
 rt run >/dev/null 2>&1 || { echo 'bench_pool is not built' >&2; exit 1; }
-python3 - <<'PY'
+PYTHONPATH=$here python3 - <<'PY'
 import subprocess
-import time
+
+from memory import most_memory
 
 SIZES = [1000, 10000, 100000]
-
-
-def most_memory(child):
-    """The most memory that a process had until it ended, in bytes, looked at a hundred times a second."""
-    most = 0
-    while child.poll() is None:
-        with open(f"/proc/{child.pid}/status") as status:
-            most = max([most] + [int(line.split()[1]) for line in status if line.startswith("VmHWM:")])
-        time.sleep(0.01)
-    return most * 1024
 
 
 def run(claims):

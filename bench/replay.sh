@@ -8,25 +8,17 @@ rt run >/dev/null 2>&1 || { echo 'bench_replay is not built' >&2; exit 1; }
 work=$(mktemp -d)
 trap 'rm -rf "$work"' EXIT
 "$top/rampart" gen 1 >"$work/once"
-python3 - "$top/crates/rampart/out/rampart" "$work" <<'PY'
+PYTHONPATH=$top/bench python3 - "$top/crates/rampart/out/rampart" "$work" <<'PY'
 import subprocess
 import sys
 import time
+
+from memory import most_memory
 
 program, work = sys.argv[1:]
 
 # The header of four processes with plain keys, all of them members: the letters and the scheme, the group, the processes, the members.
 HEADER = 5 + 16 + 1 + 4 * (1 + 1 + 32 + 4) + 1 + 4
-
-
-def most_memory(child):
-    """The most memory that a process had until it ended, in bytes, looked at a hundred times a second."""
-    most = 0
-    while child.poll() is None:
-        with open(f"/proc/{child.pid}/status") as status:
-            most = max([most] + [int(line.split()[1]) for line in status if line.startswith("VmHWM:")])
-        time.sleep(0.01)
-    return most * 1024
 
 
 def replay(path):

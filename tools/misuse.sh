@@ -1,23 +1,40 @@
 #!/bin/bash
 # Programs that must not compile: each makes or changes by itself what only its own crate may make, or hands one phase of a view where
-# another is wanted. Run by hand.
+# another is wanted. Beside them, programs that do the same as it is meant to be done, which must compile and run. Run by hand.
 #
 #     tools/misuse.sh
 #
-# prints a line for each, and ends with status 1 where one of them compiles, or fails for another reason.
+# prints a line for each, and ends with status 1 where a program of the first kind compiles, or fails for another reason, or where one
+# of the second kind fails.
 set -u
 top=$(git rev-parse --show-toplevel)
 work=$(mktemp -d)
 trap 'rm -rf "$work"' EXIT
 git -C "$top" archive HEAD crates crates.txt HANDLES | tar -x -C "$work"
-echo 'misuse: rp_base stmt_codec view_table claim_index claim_pool view_phases' >> "$work/crates.txt"
+echo 'misuse: rp_base stmt_codec view_table claim_index pool_values claim_pool view_phases' >> "$work/crates.txt"
 mkdir -p "$work/crates/misuse/src"
 failed=0
 
+# tries PROGRAM: `said` is what the try said, and the status is its status
+tries() {
+    printf '#![tactic(auto)]\n\n%s\n' "$1" > "$work/crates/misuse/src/main.rt"
+    said=$(cd "$work/crates/misuse" && rt try 2>&1)
+}
+
+# use WHAT PROGRAM: as it is meant
+use() {
+    if tries "$2"; then
+        echo "compiles: $1"
+    else
+        echo "does NOT compile or run as it should: $1"
+        grep -m 3 'error\|run=' <<< "$said"
+        failed=1
+    fi
+}
+
 # misuse WHAT PROGRAM [REASON]: the reason is that of what is private, where none is given
 misuse() {
-    printf '#![tactic(auto)]\n\n%s\n' "$2" > "$work/crates/misuse/src/main.rt"
-    said=$(cd "$work/crates/misuse" && rt try 2>&1)
+    tries "$2"
     if grep -q "error\[${3:-private}" <<< "$said"; then
         echo "refused: $1"
     else
@@ -25,6 +42,18 @@ misuse() {
         grep -m 3 'error\|run=' <<< "$said"
         failed=1
     fi
+}
+
+# asks PHASE CALL: a program that asks a view in this phase
+asks() {
+    printf 'use claim_pool::{Own, Pool};
+use view_phases::%s;
+
+fn asked(view: &%s, pool: &Pool, own: &Own) {
+    let _due = view.%s;
+}
+
+fn main() {}' "$1" "$1" "$2"
 }
 
 misuse 'a checked claim that nobody checked' 'use claim_pool::Checked;
@@ -59,6 +88,102 @@ fn changed(pool: &mut Pool) {
 
 fn main() {}'
 
+use 'a claim that is checked by its signature' 'use claim_pool::check;
+use rp_base::{GroupId, Pid, PlainScheme, Roster};
+use stmt_codec::{Claim, Statement};
+
+fn main(rt: HostRuntime) {
+    let Ok(roster) = Roster::new(rt.alloc()) else {
+        return;
+    };
+    let claim = Claim {
+        signer: Pid::default(),
+        statement: Statement::End { view: 0, length: 0 },
+        signature: b"",
+    };
+    if let Some(checked) = check(&PlainScheme, &roster, &GroupId([0; 16]), &claim) {
+        let _claim = checked.claim();
+    }
+}'
+
+misuse 'another claim in place of the one that was checked' 'use claim_pool::Checked;
+use stmt_codec::Claim;
+
+fn exchanged<'"'"'a, '"'"'c>(checked: &mut Checked<'"'"'a, '"'"'c>, other: &'"'"'a Claim<'"'"'c>) {
+    checked.claim = other;
+}
+
+fn main() {}'
+
+use 'a certificate that a pool is asked for' 'use claim_pool::{Commit, Pool};
+use rp_base::Pid;
+use stmt_codec::Slot;
+use view_table::View;
+
+fn main(rt: HostRuntime) {
+    let Some(view) = View::new(0, &[Pid::default()]) else {
+        return;
+    };
+    let Ok(pool) = Pool::new(rt.alloc(), view) else {
+        return;
+    };
+    if let Some(certificate) = pool.certificate::<Commit>(Slot::Rank { view: 0, rank: 0 }) {
+        let _signers = certificate.signers();
+    }
+}'
+
+misuse 'a certificate with signers more' 'use claim_pool::{Certificate, Commit};
+use rp_base::PidSet;
+
+fn signed_by_all(certificate: &mut Certificate<'"'"'_, Commit>) {
+    certificate.signers = PidSet::from_mask(u64::MAX);
+}
+
+fn main() {}'
+
+use 'a pool that is changed by its calls' 'use claim_pool::Pool;
+use rp_base::Pid;
+use stmt_codec::{Claim, Statement};
+use view_table::View;
+
+fn main(rt: HostRuntime) {
+    let Some(view) = View::new(0, &[Pid::default()]) else {
+        return;
+    };
+    let Ok(mut pool) = Pool::new(rt.alloc(), view) else {
+        return;
+    };
+    let claim = Claim {
+        signer: Pid::default(),
+        statement: Statement::End { view: 0, length: 0 },
+        signature: b"",
+    };
+    if pool.reserve(1, 100).is_ok() {
+        pool.hear_own(&claim);
+    }
+}'
+
+misuse 'a pool that is handed other claims' 'use claim_pool::Pool;
+use pool_values::Places;
+
+fn exchanged(pool: &mut Pool, heard: Places) {
+    pool.heard = heard;
+}
+
+fn main() {}'
+
+use 'an open view that is asked what is due, and closed by its End' 'use claim_pool::{Own, Pool};
+use view_phases::{ClosingView, OpenView};
+
+fn asks_before_the_end(view: OpenView, pool: &Pool, own: &Own) -> ClosingView {
+    let _echo = view.echo_due(pool, own);
+    let _place = view.place_due(pool, own);
+    let _keep = view.keep_due(pool, own);
+    view.close(0)
+}
+
+fn main() {}'
+
 misuse 'an open view from nothing' 'use view_phases::OpenView;
 
 fn main() {
@@ -87,15 +212,9 @@ fn echoes_behind_the_end(view: OpenView) {
 
 fn main() {}' borrow-e0382
 
-for call in echo_due order_due place_due keep_due; do
-    misuse "a closing view that is asked for its $call" "use claim_pool::{Own, Pool};
-use view_phases::ClosingView;
-
-fn asks_behind_the_end(view: &ClosingView, pool: &Pool, own: &Own) {
-    let _due = view.$call(pool, own);
-}
-
-fn main() {}" unknown-method
+for call in 'echo_due(pool, own)' 'order_due(pool, own, 1)' 'place_due(pool, own)' 'keep_due(pool, own)'; do
+    misuse "a closing view that is asked: $call" "$(asks ClosingView "$call")" unknown-method
+    use "an open view that is asked: $call" "$(asks OpenView "$call")"
 done
 
 exit $failed

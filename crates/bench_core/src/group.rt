@@ -1,6 +1,6 @@
 //! A group whose cores hand each other their frames.
 use anyhow::{Result, anyhow};
-use bench_parts::{Counted, blocks_to_sign, key_of, plain_roster};
+use bench_parts::{Counted, Work, key_of, plain_roster};
 use member_core::{Core, Event, Outcome, OwnClaim, Payload, Sending};
 use rp_base::{GroupId, Pid, PidSet, PlainScheme, PlainSigner};
 use std::alloc::Global;
@@ -22,17 +22,14 @@ struct Waiting {
 
 /// The cores of processes 0, 1, 2 and so on, of which one that steps is taken out; and what happened between them.
 #[derive(Drop)]
-pub struct Group {
+pub(crate) struct Group {
     cores: Vec<Option<Core<PlainSigner>>>,
     scheme: Counted<PlainScheme>,
     waiting: VecDeque<Waiting>,
 
-    /// How many claims were signed, and how often one was heard.
-    signed: u64,
+    /// The claims that were signed, and how often one was heard.
+    signed: Work,
     heard: u64,
-
-    /// How many blocks were hashed to sign.
-    blocks: u64,
 }
 
 // The process of this number.
@@ -65,17 +62,18 @@ fn core_of(alloc: Global, members: &[Pid], me: Pid) -> Result<Core<PlainSigner>>
     }
 }
 
-fn blocks_signed(signed: &[OwnClaim]) -> u64 {
-    let mut blocks = 0u64;
+// And these claims.
+fn and_signed(work: Work, signed: &[OwnClaim]) -> Work {
+    let mut work = work;
     for claim in signed {
-        blocks = blocks.wrapping_add(blocks_to_sign(claim.statement.bytes().len()));
+        work = work.and_signed(claim.statement.bytes());
     }
-    blocks
+    work
 }
 
 impl Group {
     /// A group of so many members, as it starts.
-    pub fn new(alloc: Global, members: usize) -> Result<Group> {
+    pub(crate) fn new(alloc: Global, members: usize) -> Result<Group> {
         let members = processes(alloc, members)?;
         let mut cores = Vec::new(alloc);
         for me in &members {
@@ -85,34 +83,35 @@ impl Group {
             cores,
             scheme: Counted::new(PlainScheme),
             waiting: VecDeque::new(alloc),
-            signed: 0,
+            signed: Work::none(),
             heard: 0,
-            blocks: 0,
         })
     }
 
     /// How many claims were signed, and how often one was heard, together.
-    pub fn claims(&self) -> u64 {
-        self.signed.wrapping_add(self.heard)
+    pub(crate) fn claims(&self) -> u64 {
+        self.signed.signatures.wrapping_add(self.heard)
     }
 
     /// How many claims were signed.
-    pub fn signed(&self) -> u64 {
-        self.signed
+    pub(crate) fn signed(&self) -> u64 {
+        self.signed.signatures
     }
 
     /// How many signatures were checked.
-    pub fn checks(&self) -> u64 {
-        self.scheme.checks()
+    pub(crate) fn checks(&self) -> u64 {
+        self.scheme.checked().signatures
     }
 
     /// How many blocks were hashed to sign and to check signatures.
-    pub fn blocks(&self) -> u64 {
-        self.blocks.wrapping_add(self.scheme.blocks())
+    pub(crate) fn blocks(&self) -> u64 {
+        self.signed
+            .blocks
+            .wrapping_add(self.scheme.checked().blocks)
     }
 
     /// The fewest messages that a member has delivered in the first view.
-    pub fn delivered(&self) -> usize {
+    pub(crate) fn delivered(&self) -> usize {
         let mut fewest = usize::MAX;
         for core in &self.cores {
             fewest = fewest.min(delivered_by(core));
@@ -121,7 +120,7 @@ impl Group {
     }
 
     /// Hands a payload to a member, and then all frames to those that they go to.
-    pub fn submit(&mut self, member: usize, payload: &[u8]) -> Result<()> {
+    pub(crate) fn submit(&mut self, member: usize, payload: &[u8]) -> Result<()> {
         self.step(member, &Event::Submit(payload))?;
         self.hand_over()
     }
@@ -164,9 +163,8 @@ impl Group {
 
     // Counts what a member signed and heard, and keeps the frames that it sends.
     fn note(&mut self, from: Pid, outcome: Outcome) -> Result<()> {
-        self.signed = self.signed.wrapping_add(outcome.signed.len() as u64);
+        self.signed = and_signed(self.signed, &outcome.signed);
         self.heard = self.heard.wrapping_add(u64::from(outcome.heard));
-        self.blocks = self.blocks.wrapping_add(blocks_signed(&outcome.signed));
         self.keep(from, outcome.sends)
     }
 

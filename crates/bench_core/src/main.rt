@@ -7,7 +7,7 @@
 mod group;
 
 use anyhow::{Result, anyhow};
-use bench_parts::block_nanos;
+use bench_parts::time_blocks;
 use group::Group;
 use std::env;
 use std::num::nearest_u64_to_f64;
@@ -17,6 +17,9 @@ const PAYLOAD: &[u8] = &[5; 32];
 
 /// The places are timed by the hundred.
 const HUNDRED: u32 = 100;
+
+/// So many blocks are hashed alone.
+const BLOCKS: u32 = 1_000_000;
 
 /// A hundred places: the seconds, and the claims that were signed or heard.
 #[derive(Clone, Copy)]
@@ -69,7 +72,8 @@ fn once(rt: &(impl Print + AllocGlobal)) -> Result<()> {
 }
 
 fn times(rt: &(impl Print + AllocGlobal + CpuClock), members: u32, hundreds: u32) -> Result<()> {
-    let block = block_nanos(rt)?;
+    let hashed = time_blocks(rt, BLOCKS)?;
+    let block = hashed.seconds * 1e9 / f64::from(BLOCKS);
     let mut group = Group::new(rt.alloc(), members as usize)?;
     let first = deliver_hundred(rt, &mut group, members)?;
     let mut last = first;

@@ -9,19 +9,19 @@ use bench_parts::process;
 use stmt_codec::{Batch, Statement};
 
 /// How many members the view has.
-pub const MEMBERS: u8 = 16;
+pub(crate) const MEMBERS: u8 = 16;
 
 /// How many claims there are of a place.
-pub const CLAIMS: u32 = 101;
+pub(crate) const CLAIMS: u32 = 101;
 
 /// How many places a view has.
-pub const PLACES: u16 = 1_024;
+pub(crate) const PLACES: u16 = 1_024;
 
 /// How many bytes a claim's statement and signature have at most.
-pub const CLAIM_BYTES: usize = 1_064;
+pub(crate) const CLAIM_BYTES: usize = 1_064;
 
 /// The text of which payloads and signatures are pieces. Payloads begin at different letters where members say different things.
-pub const TEXT: [u8; 48] = *b"0123456789abcdefghijklmnopqrstuvwxyzABCDEFGHIJKL";
+pub(crate) const TEXT: [u8; 48] = *b"0123456789abcdefghijklmnopqrstuvwxyzABCDEFGHIJKL";
 
 /// The members below this one all say the same, and each other one something else.
 const HONEST: u8 = 11;
@@ -42,7 +42,7 @@ fn said_by(member: u8) -> u8
 }
 
 /// 32 bytes of the text, from this one on.
-pub fn piece(text: &[u8], start: u8) -> &[u8]
+pub(crate) fn piece(text: &[u8], start: u8) -> &[u8]
     requires text { length text.now ≡ 48 }
     requires start { start < 16 }
     ensures { length result.now ≡ 32 }
@@ -65,14 +65,14 @@ fn batch(first: u8, number: u16) -> Batch
 }
 
 /// The sender of one of the four messages of this number that are echoed.
-pub fn sender(number: u16, index: u32) -> u8
+pub(crate) fn sender(number: u16, index: u32) -> u8
     ensures { result < 16 }
 {
     (number % 4) as u8 * 4 + (index % 4) as u8
 }
 
 /// Who signs the claim of this index, 0 to 100, of a place.
-pub fn signer(number: u16, index: u32) -> u8
+pub(crate) fn signer(number: u16, index: u32) -> u8
     ensures { result < 16 }
 {
     match index {
@@ -83,7 +83,7 @@ pub fn signer(number: u16, index: u32) -> u8
 }
 
 /// What it says: at most 1,032 bytes.
-pub fn statement(text: &[u8], number: u16, index: u32) -> Statement<'_>
+pub(crate) fn statement(text: &[u8], number: u16, index: u32) -> Statement<'_>
     requires text { length text.now ≡ 48 }
     requires number { number ≤ 1023 }
     ensures { IsStatement (stmt result) }

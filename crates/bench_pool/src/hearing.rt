@@ -13,10 +13,10 @@ const GROUP: GroupId = GroupId([7; 16]);
 
 /// By what claims are judged.
 #[derive(Drop)]
-pub struct Judge {
-    pub scheme: Summing,
-    pub roster: Roster,
-    pub own: Own,
+pub(crate) struct Judge {
+    pub(crate) scheme: Summing,
+    pub(crate) roster: Roster,
+    pub(crate) own: Own,
 }
 
 // Takes in a claim of a place, for which there is room; whether it is heard.
@@ -42,7 +42,7 @@ fn is_heard(pool: &mut Pool, judge: &Judge, text: &[u8], place: u16, index: u32)
 }
 
 /// Takes in so many claims of a place, for which there is room, and answers how many of them are heard.
-pub fn hear(pool: &mut Pool, judge: &Judge, text: &[u8], place: u16, count: u32) -> u32
+pub(crate) fn hear(pool: &mut Pool, judge: &Judge, text: &[u8], place: u16, count: u32) -> u32
     requires text { length text.now ≡ 48 }
     requires place { place ≤ 1023 }
     requires members { length judge.now.own.counts.items ≡ number_of_members pool.old.pool }
@@ -74,7 +74,7 @@ fn is_valid(judge: &Judge, text: &[u8], place: u16, index: u32) -> bool
 }
 
 /// Makes the same claims, checks their signatures alone, and answers how many are valid.
-pub fn check_all(judge: &Judge, text: &[u8], place: u16, count: u32) -> u32
+pub(crate) fn check_all(judge: &Judge, text: &[u8], place: u16, count: u32) -> u32
     requires text { length text.now ≡ 48 }
     requires place { place ≤ 1023 }
 {
@@ -104,7 +104,7 @@ fn certificates(pool: &Pool, number: u16, index: u32) -> u32 {
 }
 
 /// Asks so many times for two certificates, of a message and of a place below this one, and answers how many there were.
-pub fn certify(pool: &Pool, places: u32, times: u32) -> u32 {
+pub(crate) fn certify(pool: &Pool, places: u32, times: u32) -> u32 {
     let mut found = 0u32;
     for n in 0..times {
         let number = n.wrapping_mul(7919) % places.max(1) % 1_024;
@@ -122,7 +122,7 @@ fn messages_at(pool: &Pool, place: u16) -> u32 {
 }
 
 /// Asks so many times for the placed length, and for the batch of the next of these places, and answers how many messages these have.
-pub fn walk_placed(pool: &Pool, times: u32) -> u32 {
+pub(crate) fn walk_placed(pool: &Pool, times: u32) -> u32 {
     let mut messages = 0u32;
     let mut place = 0;
     for _ in 0..times {

@@ -3,18 +3,18 @@ use std::cell::Cell;
 
 /// Every signature is valid. In place of a hash it sums up the body's bytes, so that each body is spelled.
 #[derive(Drop)]
-pub struct Summing {
+pub(crate) struct Summing {
     sum: Cell<u8>,
 }
 
 impl Summing {
     /// No body is summed up yet.
-    pub fn new() -> Summing {
+    pub(crate) fn new() -> Summing {
         Summing { sum: Cell::new(0) }
     }
 
     /// The sum of all bytes so far.
-    pub fn sum(&self) -> u8 {
+    pub(crate) fn sum(&self) -> u8 {
         self.sum.get()
     }
 }

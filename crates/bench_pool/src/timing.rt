@@ -26,15 +26,15 @@ const QUESTIONS: u32 = 100_000;
 
 /// Who hears: the pool, and what `take` looks at beside it.
 #[derive(Drop)]
-pub struct Hearer {
+pub(crate) struct Hearer {
     pool: Pool,
     judge: Judge,
 }
 
 /// How many claims were heard, and the seconds of taking them and of checking their signatures alone.
 #[derive(Clone, Copy)]
-pub struct Heard {
-    pub claims: u32,
+pub(crate) struct Heard {
+    pub(crate) claims: u32,
     take: f64,
     check: f64,
 }
@@ -101,7 +101,7 @@ fn places_of(claims: u32) -> u32 {
 
 impl Hearer {
     /// Nothing is heard yet.
-    pub fn new(alloc: Global) -> Result<Hearer> {
+    pub(crate) fn new(alloc: Global) -> Result<Hearer> {
         let Ok(pool) = Pool::new(alloc, view()?) else {
             return Err(anyhow!("no memory"));
         };
@@ -144,7 +144,7 @@ impl Hearer {
     }
 
     /// Forgets what is heard, and hears the first so many claims.
-    pub fn hear_all(&mut self, rt: &impl CpuClock, claims: u32) -> Result<Heard> {
+    pub(crate) fn hear_all(&mut self, rt: &impl CpuClock, claims: u32) -> Result<Heard> {
         self.pool.turn_to(view()?);
         let mut heard = NOTHING;
         let mut left = claims;
@@ -177,7 +177,7 @@ impl Hearer {
     }
 
     /// How many of so many pairs of certificates there are, after so many claims are heard.
-    pub fn certificates(&self, claims: u32, times: u32) -> u32 {
+    pub(crate) fn certificates(&self, claims: u32, times: u32) -> u32 {
         certify(&self.pool, places_of(claims), times)
     }
 
@@ -193,7 +193,7 @@ impl Hearer {
     }
 
     /// How many places are certified from the first on.
-    pub fn places(&self) -> u16 {
+    pub(crate) fn places(&self) -> u16 {
         self.pool.placed_len()
     }
 
@@ -216,7 +216,7 @@ impl Hearer {
 }
 
 /// Prints the times of a pool that hears so many claims, in nanoseconds, and its bytes a claim.
-pub fn times(rt: &(impl Print + CpuClock + AllocGlobal), claims: u32) -> Result<()> {
+pub(crate) fn times(rt: &(impl Print + CpuClock + AllocGlobal), claims: u32) -> Result<()> {
     let mut hearer = Hearer::new(rt.alloc())?;
     let heard = hearer.quickest(rt, claims)?;
     let take = heard.take * 1e9 / f64::from(heard.claims);

@@ -6,12 +6,15 @@
 mod running;
 
 use anyhow::{Result, anyhow};
-use bench_parts::block_nanos;
+use bench_parts::time_blocks;
 use running::Run;
 use schedule_reading::read_schedule;
 use std::alloc::Global;
 use std::rt::Files;
 use std::{env, fs};
+
+/// So many blocks are hashed alone.
+const BLOCKS: u32 = 1_000_000;
 
 // The run of the schedule that the bytes spell.
 fn run_of(alloc: Global, bytes: &[u8]) -> Result<Run> {
@@ -42,7 +45,8 @@ fn main(rt: HostRuntime) -> Result<()> {
     };
     count(&rt, path.as_str())?;
     if words.next().is_some() {
-        let block = block_nanos(&rt)?;
+        let hashed = time_blocks(&rt, BLOCKS)?;
+        let block = hashed.seconds * 1e9 / f64::from(BLOCKS);
         println!(rt; "block {block:.1}")?;
     }
     Ok(())

@@ -4,7 +4,7 @@ ghost use Rattle.replay_defs.specs.Schedules.{IsSchedule};
 ghost use Rattle.schedule_file.specs.Views as views;
 
 use anyhow::{Result, anyhow};
-use bench_parts::{Counted, blocks_to_sign};
+use bench_parts::{Counted, Work};
 use member_core::{Core, Event, Outcome, OwnClaim, Payload, Sending};
 use replay_cast::{Cast, Liar, Player, Seat};
 use rp_base::{GroupId, Pid, PidSet};
@@ -35,16 +35,9 @@ struct Delivery {
     to: Pid,
 }
 
-/// How many claims were signed, lies among them, and how many blocks were hashed for that.
-#[derive(Clone, Copy)]
-struct Signed {
-    claims: u64,
-    blocks: u64,
-}
-
 /// What takes part in a run, and what happened so far.
 #[derive(Drop)]
-pub struct Run {
+pub(crate) struct Run {
     group: GroupId,
     scheme: Counted<AnyScheme>,
     processes: Vec<Process>,
@@ -54,7 +47,9 @@ pub struct Run {
     /// The oldest first.
     pending: VecDeque<Delivery>,
     deliveries: u64,
-    signed: Signed,
+
+    /// The claims that were signed, lies among them.
+    signed: Work,
 }
 
 // The processes of these players.
@@ -104,26 +99,18 @@ fn step(
     Ok(Some(outcome))
 }
 
-fn blocks_signed(claims: &[OwnClaim]) -> u64 {
-    let mut blocks = 0u64;
+// And these claims.
+fn and_signed(work: Work, claims: &[OwnClaim]) -> Work {
+    let mut work = work;
     for claim in claims {
-        blocks = blocks.wrapping_add(blocks_to_sign(claim.statement.bytes().len()));
+        work = work.and_signed(claim.statement.bytes());
     }
-    blocks
-}
-
-impl Signed {
-    fn and(self, claims: u64, blocks: u64) -> Signed {
-        Signed {
-            claims: self.claims.wrapping_add(claims),
-            blocks: self.blocks.wrapping_add(blocks),
-        }
-    }
+    work
 }
 
 impl Run {
     /// Runs a schedule to its end.
-    pub fn of(alloc: Global, what: &Schedule) -> Result<Run>
+    pub(crate) fn of(alloc: Global, what: &Schedule) -> Result<Run>
         requires { IsSchedule (views.schedule what.now) }
     {
         let Ok(cast) = Cast::new(alloc, &what.header) else {
@@ -156,36 +143,35 @@ impl Run {
             frames: Vec::new(alloc),
             pending: VecDeque::new(alloc),
             deliveries: 0,
-            signed: Signed {
-                claims: 0,
-                blocks: 0,
-            },
+            signed: Work::none(),
         })
     }
 
     /// How many frames were sent, each counted once for all that it went to.
-    pub fn frames(&self) -> usize {
+    pub(crate) fn frames(&self) -> usize {
         self.frames.len()
     }
 
     /// How many frames correct processes took that were sent.
-    pub fn deliveries(&self) -> u64 {
+    pub(crate) fn deliveries(&self) -> u64 {
         self.deliveries
     }
 
     /// How many claims were signed, lies among them.
-    pub fn claims(&self) -> u64 {
-        self.signed.claims
+    pub(crate) fn claims(&self) -> u64 {
+        self.signed.signatures
     }
 
     /// How many signatures were checked.
-    pub fn checks(&self) -> u64 {
-        self.scheme.checks()
+    pub(crate) fn checks(&self) -> u64 {
+        self.scheme.checked().signatures
     }
 
     /// How many blocks of SHA-256 were hashed to sign and to check signatures.
-    pub fn blocks(&self) -> u64 {
-        self.signed.blocks.wrapping_add(self.scheme.blocks())
+    pub(crate) fn blocks(&self) -> u64 {
+        self.signed
+            .blocks
+            .wrapping_add(self.scheme.checked().blocks)
     }
 
     fn event(&mut self, alloc: Global, what: &ScheduleEvent) -> Result<()> {
@@ -271,14 +257,13 @@ impl Run {
         let Some(frame) = lie else {
             return Ok(());
         };
-        self.signed = self.signed.and(1, blocks_to_sign(spelled.len()));
+        self.signed = self.signed.and_signed(spelled);
         self.send(signer, to, frame)
     }
 
     // Counts what a process signed, and sends its frames.
     fn note(&mut self, sender: Pid, outcome: Outcome) -> Result<()> {
-        let claims = outcome.signed.len() as u64;
-        self.signed = self.signed.and(claims, blocks_signed(&outcome.signed));
+        self.signed = and_signed(self.signed, &outcome.signed);
         self.send_all(sender, outcome.sends)
     }
 

@@ -18,7 +18,7 @@ use stmt_codec::{
 };
 use text_codec::{push_byte_list, push_number};
 
-fn word_of(fault: FrameFault) -> &'static [u8]
+fn fault_word(fault: FrameFault) -> &'static [u8]
     ensures { result.now ≡ fault_word fault }
 {
     match fault {
@@ -94,7 +94,7 @@ fn frame_words(alloc: Global, frame: &FrameView<'_>) -> Result<Vec<u8>, NoMemory
 {
     let claims = match claims_of(frame) {
         Ok(claims) => claims,
-        Err(fault) => return Ok(word_of(fault).to_vec(alloc)?),
+        Err(fault) => return Ok(fault_word(fault).to_vec(alloc)?),
     };
     match *frame {
         FrameView::Bundle(_) => with_claims(alloc, b"bundle", claims),
@@ -110,7 +110,7 @@ fn answer_frame(alloc: Global, bytes: &[u8]) -> Result<Vec<u8>, NoMemory>
 {
     match split_frame(bytes) {
         Ok(frame) => frame_words(alloc, &frame),
-        Err(fault) => Ok(word_of(fault).to_vec(alloc)?),
+        Err(fault) => Ok(fault_word(fault).to_vec(alloc)?),
     }
 }
 
@@ -130,7 +130,7 @@ fn answer_statement(alloc: Global, bytes: &[u8]) -> Result<Vec<u8>, NoMemory>
 {
     match read_statement(bytes) {
         Ok(st) => ok_words(alloc, &st),
-        Err(fault) => Ok(word_of(fault).to_vec(alloc)?),
+        Err(fault) => Ok(fault_word(fault).to_vec(alloc)?),
     }
 }
 

@@ -4,7 +4,7 @@ use Rattle.std.specs.Prelude.{IsErrOf}
 use Rattle.std.proofs.KnownBytes.{Appends-nil, Appends-trans, Appends-kept, Consumes-nil, Consumes-trans}
 use Rattle.std.proofs.lemmas.List.{append-nil}
 use Rattle.std.specs.Io.KnownBytes.{Appends, Consumes, IsAtEnd, Keeps}
-use Rattle.rp_streams.specs.Streams.{AppendsPrefix, Says}
+use Rattle.rp_base.specs.Streams.{AppendsPrefix, Says}
 use Rattle.interop_lines.specs.declared.stops.Stop.{Stop}
 use Rattle.interop_lines.specs.declared.stops.Stop.TheVariants.{NoMemory, Read, Write, Line}
 use Rattle.interop_lines.specs.Stops.{line_of, status_of}

@@ -2,7 +2,7 @@
 use Rattle.std.specs.Prelude.{◌≡◌, ◌⊎◌, ℕ, suc, ◌<◌, ◌≤◌, ◌==◌, false, List, [], ◌++◌, length, Option, codes}
 use Rattle.std.specs.List.{list_any}
 use Rattle.std.specs.Io.KnownBytes.{Appends, Consumes, IsAtEnd}
-use Rattle.rp_streams.specs.Streams.{AppendsPrefix, Says}
+use Rattle.rp_base.specs.Streams.{AppendsPrefix, Says}
 use Rattle.interop_lines.specs.Stops.{line_of}
 use Rattle.interop_lines.specs.declared.stops.Stop.{Stop}
 use Rattle.interop_lines.specs.declared.stops.Stop.TheVariants.{Line}

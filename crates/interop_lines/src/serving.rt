@@ -1,7 +1,7 @@
 ghost use Rattle.std.specs.Prelude.{◌≡◌, ◌≢◌, ◌⊎◌, ℕ, suc, List, IfErr, IsErrOf, OnErr, OnOk};
 ghost use Rattle.std.specs.Io.KnownBytes.{Appends, Keeps};
 ghost use Rattle.rp_base.specs.Causes.{Rose};
-ghost use Rattle.rp_streams.specs.Streams.{AppendsPrefix, Says};
+ghost use Rattle.rp_base.specs.Streams.{AppendsPrefix, Says};
 ghost use Rattle.interop_lines.specs.Lines.{Answers};
 ghost use Rattle.interop_lines.specs.Stops.{line_of, status_of};
 ghost use Rattle.interop_lines.specs.Serving.{AllServed, HasNoQuestion, HasServed, Refused, ServedAndSays, ServedInPart, SomeServed, ended};
@@ -10,8 +10,7 @@ use crate::answers::answer;
 use crate::line_reader::{read_on, take_line};
 use crate::stops::Stop;
 use interop_words::LineFault;
-use rp_base::{Sink, Source};
-use rp_streams::write_all;
+use rp_base::{Sink, Source, write_all};
 use std::alloc::Global;
 
 /// Writes the answer to a line, which is given without its line feed.

@@ -28,7 +28,7 @@ fn keys_with(key: &[u8; 32]) -> LinkKeys
     keys
 }
 
-fn word_of(fault: LinkFault) -> &'static [u8]
+fn fault_word(fault: LinkFault) -> &'static [u8]
     ensures { result.now ≡ fault_word fault }
 {
     match fault {
@@ -64,6 +64,6 @@ pub(crate) fn answer_datagram(
     let keys = keys_with(key);
     match unseal(&keys, bytes) {
         Ok(found) => opened_words(alloc, &found),
-        Err(fault) => Ok(word_of(fault).to_vec(alloc)?),
+        Err(fault) => Ok(fault_word(fault).to_vec(alloc)?),
     }
 }

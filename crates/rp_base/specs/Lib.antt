@@ -9,4 +9,5 @@ pub mod Pids
 pub mod PidsLeft
 pub mod Rosters
 pub mod Signer
+pub mod Streams
 pub mod Views

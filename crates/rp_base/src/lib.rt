@@ -17,6 +17,7 @@ mod roster;
 mod scheme;
 mod streams;
 mod updates;
+mod writes;
 
 pub use absent::{NoDisk, NoLink};
 pub use disk::Disk;
@@ -32,3 +33,4 @@ pub use roster::Roster;
 pub use scheme::{Count, PlainScheme, PlainSigner, Scheme, Signer, Spent, Tally};
 pub use streams::{Sink, Source};
 pub use updates::{Update, UpdateFault, Value};
+pub use writes::write_all;

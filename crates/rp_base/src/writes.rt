@@ -1,9 +1,10 @@
 ghost use Rattle.std.specs.Prelude.{◌≡◌, OnOk, OnErr};
 ghost use Rattle.std.specs.Io.KnownBytes.{Appends};
 ghost use Rattle.rp_base.specs.Causes.{Rose};
-ghost use Rattle.rp_streams.specs.Streams.{AppendsPrefix};
+ghost use Rattle.rp_base.specs.Streams.{AppendsPrefix};
 
-use rp_base::{Failed, Sink};
+use crate::failed::Failed;
+use crate::streams::Sink;
 
 /// Writes all the bytes.
 ///

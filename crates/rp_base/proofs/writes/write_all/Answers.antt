@@ -1,7 +1,7 @@
 use Rattle.std.proofs.Common.{◌∙◌}
 use Rattle.std.proofs.lemmas.Result.{err_from_is_err_and}
-use Rattle.rp_streams.proofs.Known.{written_more, part_written}
-use Rattle.rp_streams.proofs.writes.write_all.Goals as goal
+use Rattle.rp_base.proofs.Written.{written_more, part_written}
+use Rattle.rp_base.proofs.writes.write_all.Goals as goal
 
 pub returns-in_err-n-clause-part : goal.returns-in_err-n-clause-part
 returns-in_err-n-clause-part g c =

@@ -1,6 +1,6 @@
 use Rattle.std.proofs.Common.{◌≡◌, length}
-use Rattle.rp_streams.proofs.Known.{IsWritten}
-use Rattle.rp_streams.proofs.writes.write_all.Given as goal
+use Rattle.rp_base.proofs.Written.{IsWritten}
+use Rattle.rp_base.proofs.writes.write_all.Given as goal
 
 abbrev pub invariant-pieces : goal.invariant-pieces
 invariant-pieces g l = record {

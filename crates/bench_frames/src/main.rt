@@ -1,0 +1,52 @@
+//! Splits one Bundle again and again, to be timed from outside. The words are its number of groups, 1 to 255, and the
+//! number of times.
+#![tactic(auto)]
+
+use frame_codec::{FrameView, split_frame};
+use std::alloc::{AllocError, Global};
+use std::{env, io};
+
+// A statement of 16 bytes with one signature of 32.
+const GROUP: [u8; 54] = [
+    0, 16, 2, 2, 2, 2, 2, 2, 2, 2, 2, 2, 2, 2, 2, 2, 2, 2, 1, 3, 0, 32, 4, 4, 4, 4, 4, 4, 4, 4, 4,
+    4, 4, 4, 4, 4, 4, 4, 4, 4, 4, 4, 4, 4, 4, 4, 4, 4, 4, 4, 4, 4, 4, 4,
+];
+
+fn bundle(alloc: Global, groups: u8) -> Result<Vec<u8>, AllocError> {
+    let mut frame = vec![in alloc; 1, 1, groups]?;
+    for _ in 0..groups {
+        frame.extend_from_slice(&GROUP)?;
+    }
+    Ok(frame)
+}
+
+// How many times the frame was read. A byte of it changes each time.
+fn split_again(frame: &mut [u8], times: u32) -> u32 {
+    let mut read = 0u32;
+    for _ in 0..times {
+        if let Some(last) = frame.last_mut() {
+            *last = last.wrapping_add(1);
+        }
+        if let Ok(FrameView::Bundle(_)) = split_frame(frame) {
+            read = read.wrapping_add(1);
+        }
+    }
+    read
+}
+
+fn main(rt: HostRuntime) -> io::Result<()> {
+    let mut words = env::args(&rt)?.skip(1);
+    let groups: u8 = words
+        .next()
+        .and_then(|word| word.parse().ok())
+        .unwrap_or(16);
+    let times: u32 = words
+        .next()
+        .and_then(|word| word.parse().ok())
+        .unwrap_or(10);
+    let mut frame = bundle(rt.alloc(), groups)?;
+    let read = split_again(&mut frame, times);
+    let len = frame.len();
+    println!(rt; "{groups} groups in {len} bytes, read {read} times")?;
+    Ok(())
+}

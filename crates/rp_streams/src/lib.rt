@@ -1,6 +1,0 @@
-//! Whole pieces of bytes over the streams of the outside.
-#![tactic(auto)]
-
-mod writes;
-
-pub use writes::write_all;
