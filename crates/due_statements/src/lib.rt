@@ -5,4 +5,4 @@ mod kind;
 mod standing;
 
 pub use kind::{KINDS, Kind};
-pub use standing::{Standing, due};
+pub use standing::{Standing, due, is_due};

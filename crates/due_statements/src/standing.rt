@@ -1,5 +1,5 @@
 //! Of each kind the statement that is due, made of what its rule answers.
-ghost use Rattle.std.specs.Prelude.{◌≡◌, ◌≤◌, ◌<◌, length};
+ghost use Rattle.std.specs.Prelude.{◌≡◌, ◌≤◌, ◌<◌, length, is_some};
 ghost use Rattle.std.specs.Option.{option_map};
 ghost use Rattle.message_defs.specs.Statements as plain;
 ghost use Rattle.group_defs.specs.Process as defs;
@@ -174,6 +174,28 @@ fn ack<'a>(of: &Standing<'a>) -> Option<Statement<'a>>
     let (rank, value) = next_ack(of.pool, of.own)?;
     let view = view_of(of);
     Some(Statement::Ack { view, rank, value })
+}
+
+/// Whether a statement of the kind is due. None is made.
+pub fn is_due(of: &Standing<'_>, kind: Kind) -> bool
+    requires { IsSeated of.now }
+    ensures { (s : Setting) (p : Process) → Stands s p of.now → result ≡ is_some (least_due s p (kind_of kind)) }
+{
+    let pool = of.pool;
+    let own = of.own;
+    match kind {
+        Kind::Init => init_due(pool, own, accepted(of)).is_some(),
+        Kind::Echo => echo_due(pool, own).is_some(),
+        Kind::Order => order_due(pool, own, of.batch_limit).is_some(),
+        Kind::Place => place_due(pool, own).is_some(),
+        Kind::Keep => keep_due(pool, own).is_some(),
+        Kind::Notify => notify_due(pool, own, of.perceived).is_some(),
+        Kind::End => end_due(pool, own).is_some(),
+        Kind::Ready => ready_due(pool, own).is_some(),
+        Kind::Last => last_due(pool, own).is_some(),
+        Kind::Suggest => next_suggest(pool, own).is_some(),
+        Kind::Ack => next_ack(pool, own).is_some(),
+    }
 }
 
 /// Of the kind, the least statement that is due to the process that stands so; None exactly where none is due. `own` has an

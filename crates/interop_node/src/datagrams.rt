@@ -52,8 +52,8 @@ fn opened_words(alloc: Global, found: &Opened<'_>) -> Result<Vec<u8>, NoMemory>
     Ok(told)
 }
 
-/// What process 2 of the group 000102..0f opens of the bytes as a datagram, which shares the key with process 1: `opened FROM FRAME`, or the
-/// word of the first fault.
+/// What process 2 of the group 000102..0f opens of the bytes as a datagram, which shares the key with process 1: `opened FROM FRAME`, or
+/// the word of the first fault.
 pub(crate) fn answer_datagram(
     alloc: Global,
     key: &[u8; 32],

@@ -1,8 +1,8 @@
 -- Reading a kit line by line, with the first fault. A line has one fault, the first of this table that holds:
 --   Line         it has more than 70,000 bytes
 --   Repeated     a line that begins with the same word, and with the same process numbers behind key, port, host and pair, stands before
---   Line         it is no line of a kit of the version and scheme that stand, or it names a process outside the roster, once the genesis stands, or it belongs
---                before a line that stands
+--   Line         it is no line of a kit of the version and scheme that stand, or it names a process outside the roster, once the genesis
+--                stands, or it belongs before a line that stands
 --   Missing      a line that belongs before it does not stand
 --   Line         a genesis line names a process outside the roster
 --   KeyMismatch  the public key of a host's secret is not the one of its key line

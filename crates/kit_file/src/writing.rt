@@ -183,8 +183,8 @@ fn push_tree(
     id: &[u8; 16],
     seed: &[u8; 32],
 ) -> Result<(), NoMemory>
-    ensures { OnOk result (out.new.items
-        ≡ out.old.items ++ space ∷ line_text (decimal height ∷ decimal (ots_typecode ots) ∷ encode_lower id.now ∷ encode_lower seed.now ∷ [])) }
+    ensures { OnOk result (out.new.items ≡ out.old.items
+        ++ space ∷ line_text (decimal height ∷ decimal (ots_typecode ots) ∷ encode_lower id.now ∷ encode_lower seed.now ∷ [])) }
 {
     push_number_word(out, height.into())?;
     push_number_word(out, ots_typecode(ots).into())?;

@@ -78,7 +78,7 @@ module _ (s : Setting) (p : Process) (e : Event) (signatures : List (List ℕ)) 
 
       -- whether each signature is valid
       pub judged-so : (valid : List ℕ → List ℕ → List ℕ → Bool) (result : Bool) → s.valid ≡ valid
-          → ((s : Setting) (cs : List Claim) → Shares s valid new.group new.roster → All (λ (c : Claim). IsStatement c.statement) cs → map signed r.signed.items ≡ map signed_of cs → result ≡ list_all (is_valid s) cs)
+          → ((s : Setting) (cs : List Claim) → Shares s valid new.keyless.group new.keyless.roster → All (λ (c : Claim). IsStatement c.statement) cs → map signed r.signed.items ≡ map signed_of cs → result ≡ list_all (is_valid s) cs)
           → result ≡ list_all (is_valid s) (outcome s p turn).signed
       unfolding IsCore
       judged-so valid result rule judge =

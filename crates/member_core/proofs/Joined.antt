@@ -202,8 +202,8 @@ signed-more s p t = go (refusal s p t.event) refl
 
 module _ {G : Type 0} (used total : G → ℕ) (signature : G → ℕ → List ℕ → List ℕ) (s : Setting) (p : Process) (old : Core G) (e : Event) where
   -- the process after the event
-  settled-so : (new : Core G) (was r : Came) (st : ProcessState) (many pairs : ℕ) → IsCore used s p old → many ≡ used new.signer → old.group ≡ new.group → old.roster ≡ new.roster
-      → HasBegun s p (turn_of used total signature old e) st many was → HasEnded s (signing s p (turn_of used total signature old e)).now e pairs new.state was r → IsCore used s (settle s (signing s p (turn_of used total signature old e)).now) new
+  settled-so : (new : Core G) (was r : Came) (st : ProcessState) (many pairs : ℕ) → IsCore used s p old → many ≡ used new.signer → old.keyless.group ≡ new.keyless.group → old.keyless.roster ≡ new.keyless.roster
+      → HasBegun s p (turn_of used total signature old e) st many was → HasEnded s (signing s p (turn_of used total signature old e)).now e pairs new.keyless.state.value was r → IsCore used s (settle s (signing s p (turn_of used total signature old e)).now) new
   unfolding IsCore
   settled-so new was r st many pairs is count group roster begun ended = record {
     state = ended.state;
@@ -214,11 +214,11 @@ module _ {G : Type 0} (used total : G → ℕ) (signature : G → ℕ → List �
   }
 
   -- an event that is taken
-  pub taken-so : (new : Core G) (was r : Came) (st : ProcessState) (many pairs : ℕ) → refusal s p e ≡ None → pairs ≡ length p.conflicts → IsCore used s p old → many ≡ used new.signer → old.group ≡ new.group → old.roster ≡ new.roster
-      → HasBegun s p (turn_of used total signature old e) st many was → HasEnded s (signing s p (turn_of used total signature old e)).now e pairs new.state was r → Steps used total signature s p old new e r
+  pub taken-so : (new : Core G) (was r : Came) (st : ProcessState) (many pairs : ℕ) → refusal s p e ≡ None → pairs ≡ length p.conflicts → IsCore used s p old → many ≡ used new.signer → old.keyless.group ≡ new.keyless.group → old.keyless.roster ≡ new.keyless.roster
+      → HasBegun s p (turn_of used total signature old e) st many was → HasEnded s (signing s p (turn_of used total signature old e)).now e pairs new.keyless.state.value was r → Steps used total signature s p old new e r
   taken-so new was r st many pairs none first is count group roster begun ended = record {
     core = subst (λ (q : Process). IsCore used s q new) (sym (after-taken s p (turn_of used total signature old e) none)) (settled-so new was r st many pairs is count group roster begun ended);
-    outcome = outcome-taken s p (turn_of used total signature old e) r none (answered-so s p (turn_of used total signature old e) st new.state many pairs was r first begun ended);
+    outcome = outcome-taken s p (turn_of used total signature old e) r none (answered-so s p (turn_of used total signature old e) st new.keyless.state.value many pairs was r first begun ended);
   }
 
   -- one that is refused

@@ -22,10 +22,10 @@ signer_of c = c.signer
 -- The core is this process in this setting: its state is, and it has made as many signatures as the process has signed statements. `used`
 -- tells how many signatures a signer has made.
 pub record IsProcess {G : Type 0} (used : G → ℕ) (s : Setting) (p : Process) (c : Core G) : Type 0 where
-  pub state : IsStateOf s p c.state
+  pub state : IsStateOf s p c.keyless.state.value
   pub signed : length p.signed ≡ used c.signer
-  pub group : s.group ≡ c.group
-  pub roster : s.roster ≡ c.roster
+  pub group : s.group ≡ c.keyless.group
+  pub roster : s.roster ≡ c.keyless.roster
   pub kinds : s.signs ≡ all_kinds
 
 -- the core is this process in this setting (`IsProcess`), as one word that proofs leave closed
@@ -34,9 +34,9 @@ IsCore used s p c = IsProcess used s p c
 
 -- the cores c and d have one state, group and roster, whoever signs for them
 pub record IsSameBut {G H : Type 0} (c : Core G) (d : Core H) : Type 0 where
-  pub state : d.state ≡ c.state
-  pub group : d.group ≡ c.group
-  pub roster : d.roster ≡ c.roster
+  pub state : d.keyless.state.value ≡ c.keyless.state.value
+  pub group : d.keyless.group ≡ c.keyless.group
+  pub roster : d.keyless.roster ≡ c.keyless.roster
 
 -- the turn of this event: the signatures that the signer has left may be made, and it makes them
 abbrev pub turn_of : {G : Type 0} → (G → ℕ) → (G → ℕ) → (G → ℕ → List ℕ → List ℕ) → Core G → defs.Event → defs.Turn

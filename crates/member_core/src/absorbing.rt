@@ -105,8 +105,8 @@ fn retake<'a, V: Scheme>(
     }
     let judge = Judge {
         scheme,
-        roster: &core.roster,
-        group: &core.group,
+        roster: &core.keyless.roster,
+        group: &core.keyless.group,
     };
     if !are_valid(&judge, &outcome.signed) {
         return Err(AbsorbFault::Differs);
@@ -122,22 +122,10 @@ impl<G> Core<G> {
         ensures given { result.1 ≡ signer_of self }
     {
         let Core {
-            alloc,
-            group,
-            roster,
-            state,
-            frames,
+            keyless,
             signer: own,
         } = self;
-        let core = Core {
-            alloc,
-            group,
-            roster,
-            state,
-            frames,
-            signer,
-        };
-        (core, own)
+        (Core { keyless, signer }, own)
     }
 }
 

@@ -34,38 +34,40 @@ impl<G: Signer + Drop> Core<G> {
     // An event that is not refused.
     fn take<V: Scheme>(self, scheme: &V, input: &Input<'_>) -> Result<(Core<G>, Outcome), NoMemory>
         requires range { InRange input.now }
-        requires admitted { (s : Setting) (p : Process) → IsStateOf s p self.state → defs.refusal s p (handed input.now) ≡ None }
+        requires admitted { (s : Setting) (p : Process) → IsStateOf s p self.keyless.state.value → defs.refusal s p (handed input.now) ≡ None }
         ensures steps { (s : Setting) (p : Process) → IsCore G.Tally.used s p self → s.valid ≡ V.valid scheme.now → IfOk result (λ r. Steps G.Tally.used G.Tally.total G.signature s p self r.0 (handed input.now) r.1) }
         ensures total { IfOk result (λ r. G.Tally.total (signer_of r.0) ≡ G.Tally.total (signer_of self)) }
         ensures secret { IfOk result (λ r. G.signature (signer_of r.0) ≡ G.signature (signer_of self)) }
     {
         let Core {
-            alloc,
-            group,
-            roster,
-            mut state,
-            mut frames,
+            mut keyless,
             mut signer,
         } = self;
-        let pairs = state.conflicts.len();
+        let alloc = keyless.alloc;
+        let pairs = keyless.state.conflicts.len();
         let judge = Judge {
             scheme,
-            roster: &roster,
-            group: &group,
+            roster: &keyless.roster,
+            group: &keyless.group,
         };
-        let mut outcome = begin(&mut state, alloc, &judge, &mut signer, &mut frames, input)?;
-        end(&mut state, alloc, pairs, &mut frames, input, &mut outcome)?;
-        Ok((
-            Core {
-                alloc,
-                group,
-                roster,
-                state,
-                frames,
-                signer,
-            },
-            outcome,
-        ))
+        let frames = &mut keyless.frames;
+        let mut outcome = begin(
+            &mut keyless.state,
+            alloc,
+            &judge,
+            &mut signer,
+            frames,
+            input,
+        )?;
+        end(
+            &mut keyless.state,
+            alloc,
+            pairs,
+            frames,
+            input,
+            &mut outcome,
+        )?;
+        Ok((Core { keyless, signer }, outcome))
     }
 
     /// One event, taken whole: the process after it and what comes of it are the definitions', with as many signatures as the
@@ -79,10 +81,10 @@ impl<G: Signer + Drop> Core<G> {
         ensures total { IfOk result (λ r. G.Tally.total (signer_of r.0) ≡ G.Tally.total (signer_of self)) }
         ensures secret { IfOk result (λ r. G.signature (signer_of r.0) ≡ G.signature (signer_of self)) }
     {
-        match admit(&self.state, event) {
+        match admit(&self.keyless.state, event) {
             Ok(input) => self.take(scheme, &input),
             Err(fault) => {
-                let outcome = refused(self.alloc, fault);
+                let outcome = refused(self.keyless.alloc, fault);
                 Ok((self, outcome))
             }
         }

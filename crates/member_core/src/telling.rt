@@ -8,7 +8,7 @@ ghost use Rattle.view_phases.specs.Phases.{word};
 ghost use Rattle.member_state.specs.States.{liars_of, halted_at};
 ghost use Rattle.member_core.specs.Cores.{IsCore, Shares, signer_of};
 
-use crate::member::Core;
+use crate::member::{Core, Keyless};
 use member_state::{Account, ProcessState};
 use reliable_mcast::Frames;
 use rp_base::{GroupId, NoMemory, Pid, PidSet, Roster, Tally};
@@ -35,16 +35,17 @@ impl<G: Tally + Drop> Core<G> {
         ensures starts { IfOk result (λ c. (s : Setting) → Shares s group roster genesis → IsCore G.used s (start s me batch_limit) c) }
         ensures signer { IfOk result (λ c. signer_of c ≡ signer) }
     {
-        let state = ProcessState::new(alloc, &roster, &genesis, me, batch_limit)?;
         let frames = Frames::new(alloc)?;
-        Ok(Core {
+        let state = ProcessState::new(alloc, &roster, &genesis, me, batch_limit)?;
+        let kept = Box::new(alloc, state)?;
+        let keyless = Keyless {
             alloc,
             group,
             roster,
-            state,
+            state: kept,
             frames,
-            signer,
-        })
+        };
+        Ok(Core { keyless, signer })
     }
 
     /// What the process tells of itself.
@@ -52,7 +53,7 @@ impl<G: Tally + Drop> Core<G> {
     pub fn account(&self) -> &Account
         ensures { (s : Setting) (p : Process) → IsCore G.used s p self.now → account_of p ≡ account result.now }
     {
-        &self.state.account
+        &self.keyless.state.account
     }
 
     /// The phase of the process in its current view.
@@ -60,7 +61,7 @@ impl<G: Tally + Drop> Core<G> {
     pub fn phase(&self) -> PhaseWord
         ensures { (s : Setting) (p : Process) → IsCore G.used s p self.now → phase_of p ≡ word result }
     {
-        self.state.phase.word()
+        self.keyless.state.phase.word()
     }
 
     /// How many signatures the process has made.
@@ -76,7 +77,7 @@ impl<G: Tally + Drop> Core<G> {
     pub fn liars(&self) -> PidSet
         ensures { (s : Setting) (p : Process) → IsCore G.used s p self.now → liars_of p ≡ result }
     {
-        self.state.liars()
+        self.keyless.state.liars()
     }
 
     /// Where the process has halted: how many places it has delivered, and the cut, which is below that.
@@ -84,6 +85,6 @@ impl<G: Tally + Drop> Core<G> {
     pub fn halted(&self) -> Option<(u16, u16)>
         ensures { (s : Setting) (p : Process) → IsCore G.used s p self.now → halted_at p ≡ result }
     {
-        self.state.halted()
+        self.keyless.state.halted()
     }
 }

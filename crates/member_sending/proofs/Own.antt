@@ -1,6 +1,6 @@
 -- What a process with this state signed and delivered in its view.
 use Rattle.std.proofs.Common.{◌≡◌, ℕ, ◌-◌, List, [], ◌∷◌, ◌++◌, length, map, drop, Some, slice_get, Bool, true, false, refl, sym, ap, ◌∙◌, subst, arith, length-append}
-use Rattle.std.specs.Prelude.{if◌then◌else◌, ◌&&◌, ◌==◌, not, filter, All}
+use Rattle.std.specs.Prelude.{if◌then◌else◌, ◌&&◌, ◌==◌, not, filter, All, flat_map}
 use Rattle.std.specs.List.{AllByRecursion}
 use Rattle.std.proofs.lemmas.List.{length-map}
 use Rattle.std.proofs.Math.Logic.{∥∥₁_elim}
@@ -13,13 +13,14 @@ use Rattle.message_defs.specs.Claims.{Wants}
 use Rattle.byte_defs.specs.Members.{has}
 use Rattle.group_defs.specs.Events.{Hand, answers}
 use Rattle.group_defs.specs.Accounts.{Account}
-use Rattle.group_defs.specs.Sending.{was_delivered, repeated, newly_signed, with_what_goes_beside, bundle, others, answer, Proof, unless_empty}
+use Rattle.group_defs.specs.Sending.{Bundle, was_delivered, repeated, newly_signed, with_what_goes_beside, bundle, others, answer, Proof, unless_empty}
 use Rattle.accounts.specs.Views.{delivery}
 use Rattle.pool_laws.proofs.Members.{All-mem, filter-mem}
 use Rattle.reliable_mcast.specs.Certificates.{IsRanged}
 use Rattle.reliable_mcast.proofs.Listed.{mem-all}
 use Rattle.member_state.specs.declared.state.ProcessState.{ProcessState}
-use Rattle.member_state.specs.States.{IsStateOf, IsReal}
+use Rattle.member_state.specs.States.{IsStateOf, IsReal, signed_here}
+use Rattle.member_state.specs.Events.{frames_to}
 use Rattle.member_state.proofs.Ranges.{claims-once}
 use Rattle.member_sending.specs.Began.{Began, HasDone}
 
@@ -79,6 +80,17 @@ others-are began v w me number view = λ i. sorted (λ m. m ∷ []) (filter (λ 
 pub bundle-is : (tick : Bool) (newly : ℕ) (s : Setting) (p began : Process) (st : ProcessState) (base : List Claim) → Began newly began p → IsStateOf s p st
     → base ≡ (if tick then filter (λ c. not (was_delivered began c.statement)) st.said.claims else drop (length st.said.claims - newly) st.said.claims) → with_what_goes_beside began st.pool.pool base ≡ bundle tick began p
 bundle-is tick newly s p began st base begin is e = λ i. with_what_goes_beside began (sym is.place.pool i) (base-is tick newly s p began st base begin is e i)
+
+drop-length : {A : Type 0} (xs : List A) → drop (length xs) xs ≡ []
+drop-length [] = refl
+drop-length (x ∷ xs) = drop-length xs
+
+-- where nothing is repeated and nothing is new, there is no frame
+pub bundle-silent : (tick : Bool) (newly : ℕ) (began p : Process) (to : List ℕ) → tick ≡ false → newly ≡ 0 → Began newly began p → flat_map frames_to (unless_empty (bundle tick began p) Bundle to) ≡ []
+bundle-silent tick newly began p to once none begin =
+    let all : length (signed_here p) - 0 ≡ length (signed_here p) = omega arith in
+    let nothing : newly_signed began p ≡ [] = begin.signed ∙ ap (λ n. drop (length (signed_here p) - n) (signed_here p)) none ∙ ap (λ n. drop n (signed_here p)) all ∙ drop-length (signed_here p) in
+    ap (λ b. flat_map frames_to (unless_empty (bundle b began p) Bundle to)) once ∙ ap (λ cs. flat_map frames_to (unless_empty (with_what_goes_beside began p.pool cs) Bundle to)) nothing
 
 -- the answer to a Want, by whether who asks has a key
 pub wanted : (s : Setting) (q : Process) (from x k : ℕ) (keyed' : List ℕ) (t : Bool) → has (keyed s) from ≡ has keyed' from → has keyed' from ≡ t → answers s q (Hand from (Wants x k)) ≡ (if t then unless_empty (answer q x k) Proof (from ∷ []) else [])

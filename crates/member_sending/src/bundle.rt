@@ -1,4 +1,5 @@
-ghost use Rattle.std.specs.Prelude.{◌≡◌, ◌++◌, map, OnOk};
+ghost use Rattle.std.specs.Prelude.{◌≡◌, ◌++◌, map, false, OnOk};
+ghost use Rattle.std.specs.Bool.{OnTrue};
 ghost use Rattle.std.specs.List.{flat_map};
 ghost use Rattle.group_defs.specs.Process.{Setting, Process};
 ghost use Rattle.group_defs.specs.Sending.{Bundle, bundle, others, unless_empty};
@@ -13,6 +14,14 @@ use member_state::ProcessState;
 use reliable_mcast::Frames;
 use rp_base::NoMemory;
 use stmt_codec::Sending;
+
+// Whether nothing is to be sent: nothing is new, and nothing is to be repeated.
+fn is_silent(tick: bool, newly: usize) -> bool
+    ensures once { OnTrue result (tick ≡ false) }
+    ensures none { OnTrue result (newly ≡ 0) }
+{
+    !tick && newly == 0
+}
 
 /// Sends the Bundle of a process that has signed, and not settled yet: on a Tick what it signed in its view, but of messages and
 /// places that were delivered; else what it signed in this event, the last `newly` claims. It goes to the other members of the
@@ -29,6 +38,9 @@ pub fn send_bundle(
     ensures sent { (s : Setting) (began p : Process) → Began newly began p → IsStateOf s p state.now → OnOk result (map frame_to sends.new.items ≡ map frame_to sends.old.items ++ flat_map frames_to (unless_empty (bundle tick began p) Bundle (others began began.pool.view))) }
     ensures empty { OnOk result (IsEmpty frames.new) }
 {
+    if is_silent(tick, newly) {
+        return Ok(());
+    }
     let to = others(state.pool.view(), state.own.me);
     if is_nobody(to) {
         return Ok(());

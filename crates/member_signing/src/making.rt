@@ -1,5 +1,5 @@
 //! The own claim on a statement: its bytes, and the signature that comes next.
-ghost use Rattle.std.specs.Prelude.{◌≡◌, ◌+◌, ◌≤◌, ◌<◌, length, IfOk};
+ghost use Rattle.std.specs.Prelude.{◌≡◌, ◌+◌, ◌≤◌, ◌<◌, length, IfOk, OnOk};
 ghost use Rattle.message_defs.specs.Spelling.{IsStatement, spelling, body};
 ghost use Rattle.message_defs.specs.Packing.{signed as signed_by};
 ghost use Rattle.stmt_codec.specs.Views.{stmt, signed};
@@ -10,9 +10,6 @@ use stmt_codec::{OwnClaim, Payload, STATEMENT_BYTES, Statement, body_into, spell
 
 /// The room for a body: it has at most 1,053 bytes.
 const BODY_ROOM: usize = 1_100;
-
-/// The most bytes of a signature.
-const SIGNATURE_BYTES: usize = 16_384;
 
 // The bytes, as bytes of one's own: as much memory as they take.
 fn owned(alloc: Global, bytes: &[u8]) -> Result<Payload, NoMemory>
@@ -36,17 +33,18 @@ fn sign_body<G: Signer>(alloc: Global, body: &[u8], signer: &mut G) -> Result<Pa
     requires { G.Tally.used signer.old < G.Tally.total signer.old }
     ensures made { IfOk result (λ own. own ≡ G.signature signer.old (G.Tally.used signer.old) body.now) }
     ensures short { IfOk result (λ own. length own ≤ 16384) }
-    ensures used { G.Tally.used signer.new ≡ G.Tally.used signer.old + 1 }
+    ensures used { OnOk result (G.Tally.used signer.new ≡ G.Tally.used signer.old + 1) }
     ensures total { G.Tally.total signer.new ≡ G.Tally.total signer.old }
     ensures secret { G.signature signer.new ≡ G.signature signer.old }
 {
-    // Its clause says that the room is enough.
-    let _most = signer.sig_len();
-    let mut room = [0; SIGNATURE_BYTES];
-    let Ok(len) = signer.sign(body, &mut room) else {
+    let most = signer.sig_len();
+    let mut signature = Vec::new(alloc);
+    signature.resize(most, 0)?;
+    let Ok(len) = signer.sign(body, &mut signature) else {
         unreachable!()
     };
-    owned(alloc, &room[..len])
+    signature.truncate(len);
+    Ok(Payload::from_vec(signature))
 }
 
 // The next signature on the statement's body, where one is left.
@@ -61,7 +59,7 @@ fn sign_statement<G: Signer>(
     requires left { G.Tally.used signer.old < G.Tally.total signer.old }
     ensures made { IfOk result (λ own. own ≡ G.signature signer.old (G.Tally.used signer.old) (body group.now me (stmt statement.now))) }
     ensures short { IfOk result (λ own. length own ≤ 16384) }
-    ensures used { G.Tally.used signer.new ≡ G.Tally.used signer.old + 1 }
+    ensures used { OnOk result (G.Tally.used signer.new ≡ G.Tally.used signer.old + 1) }
     ensures total { G.Tally.total signer.new ≡ G.Tally.total signer.old }
     ensures secret { G.signature signer.new ≡ G.signature signer.old }
 {

@@ -48,7 +48,7 @@ fn is_due(state: &ProcessState, kind: Kind) -> bool
     requires { IsReal state.now }
     ensures { (s : defs.Setting) (p : defs.Process) → IsStateOf s p state.now → result ≡ is_some (least_due s p (kind_of kind)) }
 {
-    due(&standing(state), kind).is_some()
+    due_statements::is_due(&standing(state), kind)
 }
 
 // The own claim on the least statement of the kind that is due, where one is. A signature is left.
@@ -105,6 +105,29 @@ fn sign_kind<G: Signer>(
     Ok(is_due(state, kind))
 }
 
+// The same, which looks first whether one is due at all: mostly none is.
+fn sign_any<G: Signer>(
+    state: &mut ProcessState,
+    alloc: Global,
+    group: &GroupId,
+    signer: &mut G,
+    signed: &mut Vec<OwnClaim>,
+    kind: Kind,
+) -> Result<bool, NoMemory>
+    requires real { IsReal state.old }
+    requires undecided { IsUndecided state.old.phase }
+    ensures signs { (s : defs.Setting) (p : defs.Process) → s.group ≡ group.now → length p.signed ≡ G.Tally.used signer.old → IsStateOf s p state.old → IfOk result (IsSigned s p (signing.sign_kind s (G.signature signer.old) (kind_of kind) (G.Tally.total signer.old - G.Tally.used signer.old) p) state.new (G.Tally.total signer.old) (G.Tally.used signer.new) (map signed_by signed.old.items) (map signed_by signed.new.items)) }
+    ensures real { OnOk result (IsReal state.new) }
+    ensures undecided { OnOk result (IsUndecided state.new.phase) }
+    ensures total { G.Tally.total signer.new ≡ G.Tally.total signer.old }
+    ensures secret { G.signature signer.new ≡ G.signature signer.old }
+{
+    if is_due(state, kind) {
+        return sign_kind(state, alloc, group, signer, signed, kind);
+    }
+    Ok(false)
+}
+
 // Signs what is due of these kinds, one kind after the other, until a signature is wanting. The answer is whether one was.
 fn sign_kinds<G: Signer>(
     state: &mut ProcessState,
@@ -122,7 +145,7 @@ fn sign_kinds<G: Signer>(
     ensures secret { G.signature signer.new ≡ G.signature signer.old }
 {
     'kinds: for kind in kinds {
-        let lacks = sign_kind(state, alloc, group, signer, signed, *kind)?;
+        let lacks = sign_any(state, alloc, group, signer, signed, *kind)?;
         if lacks {
             return Ok(true);
         }

@@ -7,7 +7,7 @@ use claim_pool::Pool;
 use own_place::SignedSlots;
 use pool_questions::ordered_batch;
 use rp_base::Pid;
-use statements::{LAST_NUMBER, MOST_PLACES};
+use statements::LAST_NUMBER;
 use stmt_codec::Slot;
 
 // Whether the sender's Init of this number is heard, and the own Echo of its message is not signed.
@@ -29,11 +29,7 @@ fn is_init_waiting(pool: &Pool, signed: &SignedSlots, sender: Pid, number: u16) 
 fn echoed(pool: &Pool, signed: &SignedSlots, sender: Pid) -> u16
     ensures { (l : ℕ) → l < result → IsFalse (is_init_waiting pool.now.pool signed.now sender l) }
 {
-    let view = pool.view().number();
-    match signed.first_unsigned_echo(view, sender) {
-        Some(number) => number,
-        None => MOST_PLACES,
-    }
+    signed.echoed_below(pool.view().number(), sender)
 }
 
 // The sender's least heard Init whose own Echo is not signed.
@@ -75,11 +71,7 @@ fn is_order_waiting(pool: &Pool, signed: &SignedSlots, place: u16) -> bool
 fn answered(pool: &Pool, signed: &SignedSlots) -> u16
     ensures { (k : ℕ) → k < result → IsFalse (is_order_waiting pool.now.pool signed.now k) }
 {
-    let view = pool.view().number();
-    match signed.first_unsigned_place(view) {
-        Some(place) => place,
-        None => MOST_PLACES,
-    }
+    signed.placed_below(pool.view().number())
 }
 
 /// The least place from this one on that waits so.

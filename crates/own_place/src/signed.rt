@@ -182,6 +182,20 @@ impl SignedSlots {
         }
     }
 
+    /// A number below which the Echo of each of the sender's messages is signed in the view of this number. No slot is looked up.
+    pub fn echoed_below(&self, view: u16, sender: Pid) -> u16
+        ensures { (l : ℕ) → l < result → has_slot self.now (EchoAt view (message sender l)) ≡ true }
+    {
+        self.reached(&Row::Echoes(sender), view)
+    }
+
+    /// A number below which the Place of each place is signed in the view of this number. No slot is looked up.
+    pub fn placed_below(&self, view: u16) -> u16
+        ensures { (k : ℕ) → k < result → has_slot self.now (PlaceAt view k) ≡ true }
+    {
+        self.reached(&Row::Places, view)
+    }
+
     /// The least number whose Init is not signed in the view of this number; None exactly where all 1,024 are.
     pub fn first_unsigned_init(&self, view: u16) -> Option<u16>
         ensures { IsLeastBelow most_places (λ l. not (has_slot self.now (InitAt view l))) result }

@@ -14,7 +14,8 @@ use view_table::View;
 
 // The words of a view's line before its members.
 fn push_view_name(out: &mut Vec<u8>, me: Pid, view: &View) -> Result<(), NoMemory>
-    ensures { OnOk result (out.new.items ≡ out.old.items ++ join_with_byte space (codes "view" ∷ decimal me ∷ decimal view.now.number ∷ codes ":" ∷ [])) }
+    ensures { OnOk result (out.new.items
+        ≡ out.old.items ++ join_with_byte space (codes "view" ∷ decimal me ∷ decimal view.now.number ∷ codes ":" ∷ [])) }
 {
     out.extend_from_slice(b"view")?;
     push_number_word(out, me.get().into())?;
@@ -54,7 +55,8 @@ pub(crate) fn push_views(out: &mut Vec<u8>, me: Pid, views: &[View]) -> Result<(
 
 // The words of a message's line before its sender.
 fn push_place(out: &mut Vec<u8>, me: Pid, x: u64, place: u16) -> Result<(), NoMemory>
-    ensures { OnOk result (out.new.items ≡ out.old.items ++ join_with_byte space (codes "message" ∷ decimal me ∷ decimal x ∷ decimal place ∷ [])) }
+    ensures { OnOk result (out.new.items
+        ≡ out.old.items ++ join_with_byte space (codes "message" ∷ decimal me ∷ decimal x ∷ decimal place ∷ [])) }
 {
     out.extend_from_slice(b"message")?;
     push_number_word(out, me.get().into())?;

@@ -43,7 +43,8 @@ fn delivered_in_all(delivered: &[Vec<Delivered>]) -> Result<u64, NoMemory>
 
 // The words of a process's line before its counts.
 fn push_name(out: &mut Vec<u8>, me: Pid, phase: PhaseWord) -> Result<(), NoMemory>
-    ensures { OnOk result (out.new.items ≡ out.old.items ++ join_with_byte space (codes "process" ∷ decimal me ∷ phase_name (word phase) ∷ [])) }
+    ensures { OnOk result (out.new.items
+        ≡ out.old.items ++ join_with_byte space (codes "process" ∷ decimal me ∷ phase_name (word phase) ∷ [])) }
 {
     out.extend_from_slice(b"process")?;
     push_number_word(out, me.get().into())?;

@@ -78,8 +78,8 @@ ChooseIs = (s : Setting) (h : Pool) (r : ℕ) (o : Option ℕ) → IsPool h → 
 abbrev pub AnyIsFound : Type 0
 AnyIsFound = (n : ℕ) (test : ℕ → Bool) (o : Option ℕ) → IsLeastBelow n test o → list_any test (range_with_len 0 n) ≡ is_some o
 
--- candidates from a on are looked at one by one, where none below a passes both tests: without another, none does; the next one is the least
--- that does, or none below the number behind it does
+-- candidates from a on are looked at one by one, where none below a passes both tests: without another, none does; the next one is the
+-- least that does, or none below the number behind it does
 abbrev pub NextCandidate : Type 0
 NextCandidate = (a n : ℕ) (test more : ℕ → Bool) (o : Option ℕ) → ((j : ℕ) → j < a → IsFalse (test j && more j)) → IsLeastFrom a n test o
     → (elim o [

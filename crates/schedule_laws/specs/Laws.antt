@@ -1,4 +1,5 @@
--- That reading a schedule and spelling it undo each other, and that an input cut anywhere is read as the whole is, as laws of the definitions.
+-- That reading a schedule and spelling it undo each other, and that an input cut anywhere is read as the whole is, as laws of the
+-- definitions.
 use Rattle.std.specs.Prelude.{◌≡◌, ℕ, ◌+◌, ◌-◌, ◌≤◌, List, ◌++◌, length, Some, Ok, Err}
 use Rattle.byte_defs.proofs.Fields.{IsBytes}
 use Rattle.replay_defs.specs.declared.FaultKind.TheVariants as faults

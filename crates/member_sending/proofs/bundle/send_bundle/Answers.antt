@@ -1,5 +1,6 @@
-use Rattle.std.proofs.Common.{◌≡◌, ◌++◌, List, map, sym, ap, ◌∙◌}
+use Rattle.std.proofs.Common.{◌≡◌, ◌++◌, List, map, false, sym, ap, subst, ◌∙◌}
 use Rattle.std.specs.Prelude.{flat_map}
+use Rattle.std.specs.Bool.{OnTrue}
 use Rattle.std.proofs.lemmas.List.{append-nil}
 use Rattle.std.proofs.lemmas.Result.{on_ok_weaker}
 use Rattle.message_defs.specs.Statements.{Claim}
@@ -9,7 +10,7 @@ use Rattle.reliable_mcast.specs.Beside.{chosen}
 use Rattle.member_state.specs.Events.{frame_to, frames_to}
 use Rattle.member_sending.specs.Sends.{each_to}
 use Rattle.member_sending.proofs.Parcels.{bundle-to, bundle-none}
-use Rattle.member_sending.proofs.Own.{real-ranged, real-said, has-done, others-are, bundle-is}
+use Rattle.member_sending.proofs.Own.{real-ranged, real-said, has-done, others-are, bundle-is, bundle-silent}
 use Rattle.member_sending.proofs.bundle.send_bundle.Goals as goal
 
 pub resend-requires-clause-range : goal.resend-requires-clause-range
@@ -36,3 +37,9 @@ returns-clause-sent c = λ s began p begin is.
     let made = c.in_ok-resend.ensures.bundle began done.places ∙ ap (λ fs. fs ++ frames_of (Bundle cs)) c.requires.empty.frames in
     let each = ap (each_to c.others-to.result) made ∙ bundle-to cs c.others-to.result (c.is_nobody.ensures.somebody c.if-is_nobody.false) ∙ (λ i. flat_map frames_to (unless_empty (same i) Bundle (to i))) in
     on_ok_weaker c.hand_over.result (λ handed. handed ∙ ap (λ es. map frame_to c.args.sends.now.items ++ es) each) c.hand_over.ensures.sends
+
+pub returns-then-is_silent-clause-sent : goal.returns-then-is_silent-clause-sent
+returns-then-is_silent-clause-sent c = λ s began p begin is.
+    sym (append-nil (map frame_to c.args.sends.now.items))
+    ∙ ap (λ es. map frame_to c.args.sends.now.items ++ es) (sym (bundle-silent c.args.tick c.args.newly began p (others began began.pool.view)
+    (subst (λ b. OnTrue b (c.args.tick ≡ false)) c.if-is_silent.true c.is_silent.ensures.once) (subst (λ b. OnTrue b (c.args.newly ≡ 0)) c.if-is_silent.true c.is_silent.ensures.none) begin))

@@ -29,17 +29,17 @@ kinds-preserved g c =
       (λ s p group used is.
           let so = inv.0 s p group used is in
           let kind = kind_of (get_or c.args.kinds.now c.kinds.kind-index Init) in
-          let signs = as-at-first s so.0 kind c.sign_kind.new.state (g.G.Signer.signature c.kinds.signer) (g.G.Signer.signature c.args.signer.now) (g.G.Tally.total c.kinds.signer) (g.G.Tally.total c.args.signer.now) (g.G.Tally.used c.kinds.signer) (g.G.Tally.used c.sign_kind.new.signer) (map signed c.kinds.signed.items) (map signed c.sign_kind.new.signed.items) c.in_ok-lacks.lacks false inv.4 inv.3 c.if-lacks.false
+          let signs = as-at-first s so.0 kind c.sign_any.new.state (g.G.Signer.signature c.kinds.signer) (g.G.Signer.signature c.args.signer.now) (g.G.Tally.total c.kinds.signer) (g.G.Tally.total c.args.signer.now) (g.G.Tally.used c.kinds.signer) (g.G.Tally.used c.sign_any.new.signer) (map signed c.kinds.signed.items) (map signed c.sign_any.new.signed.items) c.in_ok-lacks.lacks false inv.4 inv.3 c.if-lacks.false
           (c.in_ok-lacks.ensures.signs s so.0 group so.1.used so.1.state) in
-          let more = kind-more s (g.G.Signer.signature c.args.signer.now) kind (map kind_of (drop (c.kinds.kind-index + 1) c.args.kinds.now)) p so.0 c.kinds.state c.sign_kind.new.state (g.G.Tally.total c.args.signer.now) (g.G.Tally.used c.kinds.signer) (g.G.Tally.used c.sign_kind.new.signer) (map signed c.args.signed.now.items) (map signed c.kinds.signed.items) (map signed c.sign_kind.new.signed.items) so.1 signs in (
+          let more = kind-more s (g.G.Signer.signature c.args.signer.now) kind (map kind_of (drop (c.kinds.kind-index + 1) c.args.kinds.now)) p so.0 c.kinds.state c.sign_any.new.state (g.G.Tally.total c.args.signer.now) (g.G.Tally.used c.kinds.signer) (g.G.Tally.used c.sign_any.new.signer) (map signed c.args.signed.now.items) (map signed c.kinds.signed.items) (map signed c.sign_any.new.signed.items) so.1 signs in (
             (sign_kind s (g.G.Signer.signature c.args.signer.now) kind (g.G.Tally.total c.args.signer.now - g.G.Tally.used c.kinds.signer) so.0).now,
             more.0,
             more.1 ∙ ap (λ (ks : List defs.Kind). sign_kinds s (g.G.Signer.signature c.args.signer.now) ks (g.G.Tally.total c.args.signer.now - g.G.Tally.used c.kinds.signer) so.0) (next-kind c.args.kinds.now c.kinds.kind-index c.kinds-test.true) ∙ so.2,
           )),
       c.in_ok-lacks.ensures.real,
       c.in_ok-lacks.ensures.undecided,
-      c.sign_kind.ensures.total ∙ inv.3,
-      c.sign_kind.ensures.secret ∙ inv.4,
+      c.sign_any.ensures.total ∙ inv.3,
+      c.sign_any.ensures.secret ∙ inv.4,
     )
 
 pub returns-then-lacks-clause-signs : goal.returns-then-lacks-clause-signs
@@ -47,11 +47,11 @@ returns-then-lacks-clause-signs g c s p group used is =
     let inv = c.kinds.invariant in
     let so = inv.0 s p group used is in
     let kind = kind_of (get_or c.args.kinds.now c.kinds.kind-index Init) in
-    let signs = as-at-first s so.0 kind c.sign_kind.new.state (g.G.Signer.signature c.kinds.signer) (g.G.Signer.signature c.args.signer.now) (g.G.Tally.total c.kinds.signer) (g.G.Tally.total c.args.signer.now) (g.G.Tally.used c.kinds.signer) (g.G.Tally.used c.sign_kind.new.signer) (map signed c.kinds.signed.items) (map signed c.sign_kind.new.signed.items) c.in_ok-lacks.lacks true inv.4 inv.3 c.if-lacks.true
+    let signs = as-at-first s so.0 kind c.sign_any.new.state (g.G.Signer.signature c.kinds.signer) (g.G.Signer.signature c.args.signer.now) (g.G.Tally.total c.kinds.signer) (g.G.Tally.total c.args.signer.now) (g.G.Tally.used c.kinds.signer) (g.G.Tally.used c.sign_any.new.signer) (map signed c.kinds.signed.items) (map signed c.sign_any.new.signed.items) c.in_ok-lacks.lacks true inv.4 inv.3 c.if-lacks.true
     (c.in_ok-lacks.ensures.signs s so.0 group so.1.used so.1.state) in
-    subst (λ (one : Signing). IsSigned s p one c.sign_kind.new.state (g.G.Tally.total c.args.signer.now) (g.G.Tally.used c.sign_kind.new.signer) (map signed c.args.signed.now.items) (map signed c.sign_kind.new.signed.items) true)
+    subst (λ (one : Signing). IsSigned s p one c.sign_any.new.state (g.G.Tally.total c.args.signer.now) (g.G.Tally.used c.sign_any.new.signer) (map signed c.args.signed.now.items) (map signed c.sign_any.new.signed.items) true)
     (ap (λ (ks : List defs.Kind). sign_kinds s (g.G.Signer.signature c.args.signer.now) ks (g.G.Tally.total c.args.signer.now - g.G.Tally.used c.kinds.signer) so.0) (next-kind c.args.kinds.now c.kinds.kind-index c.kinds-test.true) ∙ so.2)
-    (kind-lacks s (g.G.Signer.signature c.args.signer.now) kind (map kind_of (drop (c.kinds.kind-index + 1) c.args.kinds.now)) p so.0 c.kinds.state c.sign_kind.new.state (g.G.Tally.total c.args.signer.now) (g.G.Tally.used c.kinds.signer) (g.G.Tally.used c.sign_kind.new.signer) (map signed c.args.signed.now.items) (map signed c.kinds.signed.items) (map signed c.sign_kind.new.signed.items) so.1 signs)
+    (kind-lacks s (g.G.Signer.signature c.args.signer.now) kind (map kind_of (drop (c.kinds.kind-index + 1) c.args.kinds.now)) p so.0 c.kinds.state c.sign_any.new.state (g.G.Tally.total c.args.signer.now) (g.G.Tally.used c.kinds.signer) (g.G.Tally.used c.sign_any.new.signer) (map signed c.args.signed.now.items) (map signed c.kinds.signed.items) (map signed c.sign_any.new.signed.items) so.1 signs)
 
 pub returns-clause-signs : goal.returns-clause-signs
 returns-clause-signs g c s p group used is =

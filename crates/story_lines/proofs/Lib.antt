@@ -1,0 +1,3 @@
+pub mod ByteLoop
+pub mod Named
+pub mod HexRead
