@@ -15,7 +15,8 @@ refuse_if b fault = if b then Err fault else Ok tt
 
 -- a number of this width, and the bytes after it
 abbrev pub number_at : {E : Type 0} → E → Width → List ℕ → Result (ℕ × List ℕ) E
-number_at fault w bytes = if nat_lt (length bytes) (byte_len w) then Err fault else Ok (from_be_bytes w (take (byte_len w) bytes), drop (byte_len w) bytes)
+number_at fault w bytes = if nat_lt (length bytes) (byte_len w) then Err fault
+    else Ok (from_be_bytes w (take (byte_len w) bytes), drop (byte_len w) bytes)
 
 -- so many bytes, and those after them
 abbrev pub bytes_at : {E : Type 0} → E → ℕ → List ℕ → Result (List ℕ × List ℕ) E

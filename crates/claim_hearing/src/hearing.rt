@@ -44,7 +44,8 @@ fn bytes_of(claim: &Claim<'_>) -> usize
 // Keeps the claim beside the heard one of its signer and slot, which says something else.
 fn keep_conflict(pool: &Pool, conflicts: &mut Conflicts, claim: &Claim<'_>) -> Result<(), NoMemory>
     requires { IsClaim (claim_of claim.now) }
-    ensures { (p : Process) → IsPool pool.now.pool → p.pool ≡ pool.now.pool → p.conflicts ≡ conflicts.old.pairs → OnOk result (conflicts.new.pairs ≡ defs.kept_conflicts p (claim_of claim.now)) }
+    ensures { (p : Process) → IsPool pool.now.pool → p.pool ≡ pool.now.pool → p.conflicts ≡ conflicts.old.pairs
+        → OnOk result (conflicts.new.pairs ≡ defs.kept_conflicts p (claim_of claim.now)) }
 {
     let kind = claim.statement.kind();
     let slot = slot_of(&claim.statement);
@@ -69,7 +70,9 @@ fn hear<V: Scheme>(
 ) -> Result<(), NoMemory>
     requires range { IsClaim (claim_of claim.now) }
     requires own { length own.now.counts.items ≡ number_of_members pool.old.pool }
-    ensures heard { (s : Setting) (p : Process) → Shares s (V.valid judge.now.scheme.now) judge.now.group.now judge.now.roster.now → IsPool pool.old.pool → HasDelivered own.now p → p.pool ≡ pool.old.pool → p.conflicts ≡ conflicts.old.pairs → OnOk result (IsHeard (defs.hear s p (claim_of claim.now)) pool.new.pool conflicts.new.pairs) }
+    ensures heard { (s : Setting) (p : Process) → Shares s (V.valid judge.now.scheme.now) judge.now.group.now judge.now.roster.now
+        → IsPool pool.old.pool → HasDelivered own.now p → p.pool ≡ pool.old.pool → p.conflicts ≡ conflicts.old.pairs
+        → OnOk result (IsHeard (defs.hear s p (claim_of claim.now)) pool.new.pool conflicts.new.pairs) }
     ensures view { pool.new.pool.view ≡ pool.old.pool.view }
 {
     pool.reserve(1, bytes_of(claim))?;
@@ -90,7 +93,9 @@ pub fn hear_all<V: Scheme>(
 ) -> Result<(), NoMemory>
     requires range { AllByRecursion IsClaim (claims_left claims) }
     requires own { length own.now.counts.items ≡ number_of_members pool.old.pool }
-    ensures heard { (s : Setting) (p : Process) → Shares s (V.valid judge.now.scheme.now) judge.now.group.now judge.now.roster.now → IsPool pool.old.pool → HasDelivered own.now p → p.pool ≡ pool.old.pool → p.conflicts ≡ conflicts.old.pairs → OnOk result (IsHeard (defs.hear_all s p (claims_left claims.entry)) pool.new.pool conflicts.new.pairs) }
+    ensures heard { (s : Setting) (p : Process) → Shares s (V.valid judge.now.scheme.now) judge.now.group.now judge.now.roster.now
+        → IsPool pool.old.pool → HasDelivered own.now p → p.pool ≡ pool.old.pool → p.conflicts ≡ conflicts.old.pairs
+        → OnOk result (IsHeard (defs.hear_all s p (claims_left claims.entry)) pool.new.pool conflicts.new.pairs) }
     ensures view { pool.new.pool.view ≡ pool.old.pool.view }
 {
     let mut left = claims;

@@ -58,7 +58,11 @@ statement_bytes bytes k = slice_range bytes k.start (middle k)
 
 -- the signer's claim whose bytes stand there
 abbrev pub claim_with : List ℕ → ℕ → Kept → Claim
-claim_with bytes signer k = record { signer = signer; statement = spelled (statement_bytes bytes k); signature = slice_range bytes (middle k) (past k) }
+claim_with bytes signer k = record {
+  signer = signer;
+  statement = spelled (statement_bytes bytes k);
+  signature = slice_range bytes (middle k) (past k);
+}
 
 -- the claim of an entry
 abbrev pub claim_at : List ℕ → Key × Kept → Claim

@@ -50,7 +50,11 @@ impl Model for ClaimIndex {
 
     ghost Value = { Holding };
 
-    ghost view = { λ p. record { pool = pool_of p.view p.bytes.items p.kept.entries; claims_left = spare p.kept; bytes_left = vec_capacity p.bytes - length p.bytes.items } };
+    ghost view = { λ p. record {
+      pool = pool_of p.view p.bytes.items p.kept.entries;
+      claims_left = spare p.kept;
+      bytes_left = vec_capacity p.bytes - length p.bytes.items;
+    } };
 
     ghost invariant = { λ p. IsIndex p.bytes.items p.kept.entries p.kinds };
 }
@@ -102,7 +106,8 @@ fn claim_under<'a>(
 pub fn store(bytes: &mut Vec<u8>, claim: &Claim<'_>) -> Kept
     requires range { IsStatement (stmt claim.now.statement) }
     requires short { length claim.now.signature.now ≤ 16384 }
-    requires room { vec_len bytes.old + (length (spelling (stmt claim.now.statement)) + length claim.now.signature.now) ≤ vec_capacity bytes.old }
+    requires room { vec_len bytes.old + (length (spelling (stmt claim.now.statement)) + length claim.now.signature.now)
+        ≤ vec_capacity bytes.old }
     ensures items { bytes.new.items ≡ bytes.old.items ++ (spelling (stmt claim.now.statement) ++ claim.now.signature.now) }
     ensures capacity { vec_capacity bytes.old ≤ vec_capacity bytes.new }
     ensures start { result.start ≡ length bytes.old.items }
@@ -248,7 +253,8 @@ impl ClaimIndex {
     /// Whether the signer's heard claim on the statement's slot says the same; None where there is none.
     pub fn repeats(&self, signer: Pid, statement: &Statement<'_>) -> Option<bool>
         requires { IsStatement (stmt statement.now) }
-        ensures { result ≡ option_map (plain.same_statement (stmt statement.now)) (defs.heard_on self.now.pool signer (plain.slot_of (stmt statement.now))) }
+        ensures { result ≡ option_map (plain.same_statement (stmt statement.now))
+            (defs.heard_on self.now.pool signer (plain.slot_of (stmt statement.now))) }
     {
         let mut spelled = [0; STATEMENT_BYTES];
         let said = spell_into(statement, &mut spelled);
@@ -346,7 +352,8 @@ impl ClaimIndex {
     pub fn says_at(&self, place: usize, statement: &Statement<'_>, spelled: &[u8]) -> bool
         requires range { IsStatement (stmt statement.now) }
         requires spelled { spelled.now ≡ spelling (stmt statement.now) }
-        ensures { result ≡ is_some_and (option_map (λ c. c.statement) (slice_get self.now.pool.heard place)) (plain.same_statement (stmt statement.now)) }
+        ensures { result ≡ is_some_and (option_map (λ c. c.statement) (slice_get self.now.pool.heard place))
+            (plain.same_statement (stmt statement.now)) }
     {
         match self.kept.get_index(place) {
             Some((_, kept)) => is_said(&self.bytes, *kept, spelled),

@@ -31,7 +31,11 @@ impl Model for Conflicts {
 
     ghost Value = { Pairing };
 
-    ghost view = { λ p. record { pairs = zip p.heard.claims p.others.claims; pairs_left = min p.heard.claims_left p.others.claims_left; bytes_left = min p.heard.bytes_left p.others.bytes_left } };
+    ghost view = { λ p. record {
+      pairs = zip p.heard.claims p.others.claims;
+      pairs_left = min p.heard.claims_left p.others.claims_left;
+      bytes_left = min p.heard.bytes_left p.others.bytes_left;
+    } };
 
     ghost invariant = { λ p. ArePaired p.heard.claims p.others.claims p.signers };
 }
@@ -100,9 +104,12 @@ impl Conflicts {
 
         // What hearing the other claim as a Conflict does, for a process with these conflicts whose pool has the heard claim
         // on the other's slot.
-        ensures conflicts { (p : defs.Process) → p.conflicts ≡ self.old.pairs → claim_on p.pool.heard other.now.signer (plain.slot_of (stmt other.now.statement)) ≡ Some (claim_of heard.now) → self.new.pairs ≡ kept_conflicts p (claim_of other.now) }
+        ensures conflicts { (p : defs.Process) → p.conflicts ≡ self.old.pairs
+            → claim_on p.pool.heard other.now.signer (plain.slot_of (stmt other.now.statement)) ≡ Some (claim_of heard.now)
+            → self.new.pairs ≡ kept_conflicts p (claim_of other.now) }
         ensures pairs_left { self.old.pairs_left ≤ self.new.pairs_left + 1 }
-        ensures bytes_left { self.old.bytes_left ≤ self.new.bytes_left + (claim_bytes (claim_of heard.now) + claim_bytes (claim_of other.now)) }
+        ensures bytes_left { self.old.bytes_left
+            ≤ self.new.bytes_left + (claim_bytes (claim_of heard.now) + claim_bytes (claim_of other.now)) }
     {
         if self.signers.contains(other.signer) {
             return;

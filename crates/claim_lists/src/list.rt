@@ -25,7 +25,11 @@ impl Model for ClaimList {
 
     ghost Value = { Listing };
 
-    ghost view = { λ p. record { claims = heard_in p.bytes.items p.kept.items; claims_left = vec_capacity p.kept - length p.kept.items; bytes_left = vec_capacity p.bytes - length p.bytes.items } };
+    ghost view = { λ p. record {
+      claims = heard_in p.bytes.items p.kept.items;
+      claims_left = vec_capacity p.kept - length p.kept.items;
+      bytes_left = vec_capacity p.bytes - length p.bytes.items;
+    } };
 
     ghost invariant = { λ p. AreKept p.bytes.items p.kept.items };
 }

@@ -93,7 +93,8 @@ fn is_ahead(number: u16, have: u16) -> bool
 // Whether the place, the number or the rank is too far ahead.
 fn is_beyond(view: &View, own: &Own, claim: &Claim<'_>) -> bool
     requires { length own.now.counts.items ≡ length view.now.members }
-    ensures { (p : defs.Process) → HasDelivered own.now p → p.pool.view ≡ view.now → hearing.is_strange p (claim_of claim.now) ≡ false → result ≡ hearing.is_beyond p claim.now.signer (stmt claim.now.statement) }
+    ensures { (p : defs.Process) → HasDelivered own.now p → p.pool.view ≡ view.now → hearing.is_strange p (claim_of claim.now) ≡ false
+        → result ≡ hearing.is_beyond p claim.now.signer (stmt claim.now.statement) }
 {
     match claim.statement {
         Statement::Init { number, .. } => is_ahead(number, count_of(view, own, claim.signer)),
@@ -112,7 +113,8 @@ fn is_beyond(view: &View, own: &Own, claim: &Claim<'_>) -> bool
 /// The verdict that looks at no heard claim; None where the heard claims and the signature decide.
 pub(crate) fn turned_away(view: &View, own: &Own, claim: &Claim<'_>) -> Option<Verdict>
     requires { length own.now.counts.items ≡ length view.now.members }
-    ensures first { (p : defs.Process) → HasDelivered own.now p → p.pool.view ≡ view.now → option_map verdict result ≡ first_that_holds (early_tests p (claim_of claim.now)) }
+    ensures first { (p : defs.Process) → HasDelivered own.now p → p.pool.view ≡ view.now
+        → option_map verdict result ≡ first_that_holds (early_tests p (claim_of claim.now)) }
     ensures unheard { IfSome result (λ v. verdict v ≢ hearing.Heard) }
 {
     let number = view_of(&claim.statement);

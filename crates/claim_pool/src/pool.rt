@@ -59,8 +59,11 @@ fn heard_verdict<V: Scheme>(
     claim: &Claim<'_>,
 ) -> Verdict
     requires { IsStatement (stmt claim.now.statement) }
-    ensures value { verdict result ≡ unwrap_or (first_that_holds (late_tests (as_setting (V.valid scheme.now) group.now roster.now) quorums.now.pool (claim_of claim.now))) hearing.Heard }
-    ensures fresh { verdict result ≡ hearing.Heard → certified.claim_on quorums.now.pool.heard claim.now.signer (plain.slot_of (stmt claim.now.statement)) ≡ None }
+    ensures value { verdict result
+        ≡ unwrap_or (first_that_holds (late_tests (as_setting (V.valid scheme.now) group.now roster.now) quorums.now.pool
+        (claim_of claim.now))) hearing.Heard }
+    ensures fresh { verdict result ≡ hearing.Heard
+        → certified.claim_on quorums.now.pool.heard claim.now.signer (plain.slot_of (stmt claim.now.statement)) ≡ None }
 {
     match quorums.repeats(claim.signer, &claim.statement) {
         Some(true) => Verdict::Known,
@@ -84,7 +87,8 @@ fn heard_verdict<V: Scheme>(
 // Whether a claim of the signer on the claim's slot is heard.
 fn is_heard(claims: &ClaimIndex, claim: &Claim<'_>) -> bool
     ensures value { result ≡ is_some (certified.heard_on claims.now.pool claim.now.signer (plain.slot_of (stmt claim.now.statement))) }
-    ensures fresh { OnFalse result (certified.claim_on claims.now.pool.heard claim.now.signer (plain.slot_of (stmt claim.now.statement)) ≡ None) }
+    ensures fresh { OnFalse result
+        (certified.claim_on claims.now.pool.heard claim.now.signer (plain.slot_of (stmt claim.now.statement)) ≡ None) }
 {
     match claims.claim_on(claim.signer, &claim.statement) {
         Some(_) => true,
@@ -151,7 +155,8 @@ impl Pool {
         requires bytes { claim_bytes (claim_of claim.now) ≤ self.old.bytes_left }
 
         // The first that holds in the table, for a process that has delivered so much and holds this pool.
-        ensures first { (p : defs.Process) → HasDelivered own.now p → p.pool ≡ self.old.pool → verdict result ≡ hearing.verdict (as_setting (V.valid scheme.now) group.now roster.now) p (claim_of claim.now) }
+        ensures first { (p : defs.Process) → HasDelivered own.now p → p.pool ≡ self.old.pool
+            → verdict result ≡ hearing.verdict (as_setting (V.valid scheme.now) group.now roster.now) p (claim_of claim.now) }
         ensures heard { self.new.pool ≡ after (verdict result) self.old.pool (claim_of claim.now) }
         ensures claims_left { self.old.claims_left ≤ self.new.claims_left + 1 }
         ensures bytes_left { self.old.bytes_left ≤ self.new.bytes_left + claim_bytes (claim_of claim.now) }
@@ -174,8 +179,10 @@ impl Pool {
     ) -> Verdict
         requires range { IsStatement (stmt claim.now.statement) }
         requires own { length own.now.counts.items ≡ certified.number_of_members self.now.pool }
-        ensures first { (p : defs.Process) → HasDelivered own.now p → p.pool ≡ self.now.pool → verdict result ≡ hearing.verdict (as_setting (V.valid scheme.now) group.now roster.now) p (claim_of claim.now) }
-        ensures fresh { verdict result ≡ hearing.Heard → certified.claim_on self.now.pool.heard claim.now.signer (plain.slot_of (stmt claim.now.statement)) ≡ None }
+        ensures first { (p : defs.Process) → HasDelivered own.now p → p.pool ≡ self.now.pool
+            → verdict result ≡ hearing.verdict (as_setting (V.valid scheme.now) group.now roster.now) p (claim_of claim.now) }
+        ensures fresh { verdict result ≡ hearing.Heard
+            → certified.claim_on self.now.pool.heard claim.now.signer (plain.slot_of (stmt claim.now.statement)) ≡ None }
     {
         let quorums = self.heard.quorums();
         match turned_away(quorums.claims().view(), own, claim) {
@@ -193,7 +200,9 @@ impl Pool {
         ensures heard { self.new.pool ≡ with_own self.old.pool (claim_of claim.now) }
 
         // The pool of a process that holds this pool, after it has signed the claim's statement.
-        ensures signs { (s : defs.Setting) (signer : Signer) (p : defs.Process) → p.pool ≡ self.old.pool → own_claim s signer p (stmt claim.now.statement) ≡ claim_of claim.now → (signs s signer p (stmt claim.now.statement)).pool ≡ self.new.pool }
+        ensures signs { (s : defs.Setting) (signer : Signer) (p : defs.Process) → p.pool ≡ self.old.pool
+            → own_claim s signer p (stmt claim.now.statement) ≡ claim_of claim.now
+            → (signs s signer p (stmt claim.now.statement)).pool ≡ self.new.pool }
         ensures claims_left { self.old.claims_left ≤ self.new.claims_left + 1 }
         ensures bytes_left { self.old.bytes_left ≤ self.new.bytes_left + claim_bytes (claim_of claim.now) }
     {
@@ -306,7 +315,8 @@ impl Pool {
     /// at most the placed length.
     pub fn names_before(&self, place: u16) -> &[u16]
         requires { place ≤ length (certified.placed self.now.pool) }
-        ensures { result.now ≡ map (λ m. certified.named m (certified.messages (take place (certified.placed self.now.pool)))) self.now.pool.view.members }
+        ensures { result.now ≡ map (λ m. certified.named m
+            (certified.messages (take place (certified.placed self.now.pool)))) self.now.pool.view.members }
     {
         self.heard.names_before(place)
     }

@@ -46,7 +46,8 @@ abbrev pub command_words : Command → List (List ℕ)
 command_words (Replay false) = codes "replay" ∷ []
 command_words (Replay true) = codes "replay" ∷ codes "short" ∷ []
 command_words (Gen number) = codes "gen" ∷ decimal number ∷ []
-command_words (Keygen order) = codes "keygen" ∷ decimal order.members ∷ decimal order.roster ∷ plan_word order.keys ∷ encode_lower order.seed ∷ []
+command_words (Keygen order) = codes "keygen" ∷ decimal order.members ∷ decimal order.roster ∷ plan_word order.keys
+    ∷ encode_lower order.seed ∷ []
 
 -- ---- the ranges
 

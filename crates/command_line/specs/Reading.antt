@@ -26,7 +26,8 @@ is_colon_behind n word = (length word == n) && (slice_index word 1 == 58)
 -- two digits with a colon between them: the typecodes of a tree
 abbrev pub tree_by : List ℕ → Option (ℕ × OtsType)
 tree_by word =
-    if is_colon_behind 3 word then and_then (number_within 5 7 (take 1 word)) (λ code. option_map (λ kind. (code, kind)) (option_and_then ots_type_of (number_within 1 4 (drop 2 word)))) else None
+    if is_colon_behind 3 word then and_then (number_within 5 7 (take 1 word))
+    (λ code. option_map (λ kind. (code, kind)) (option_and_then ots_type_of (number_within 1 4 (drop 2 word)))) else None
 
 -- the plan of one tree for each process
 abbrev pub lms_by : List ℕ → Option KeyPlan
@@ -56,5 +57,6 @@ command_of (word ∷ []) = if same_bytes word (codes "replay") then Some (Replay
 command_of (word ∷ further ∷ []) =
     if same_bytes word (codes "gen") then option_map Gen (number_within 0 (2 ^ 32 - 1) further) else
     (if same_bytes word (codes "replay") && same_bytes further (codes "short") then Some (Replay true) else None)
-command_of (word ∷ members ∷ roster ∷ keys ∷ seed ∷ []) = if same_bytes word (codes "keygen") then option_map Keygen (order_of members roster keys seed) else None
+command_of (word ∷ members ∷ roster ∷ keys ∷ seed ∷ []) = if same_bytes word (codes "keygen")
+    then option_map Keygen (order_of members roster keys seed) else None
 command_of _ = None

@@ -55,4 +55,5 @@ asking_fault keyed v u = if has_keys keyed u then option_map defs.NoNext (next_f
 
 -- the update of this number is perceived and possible, and its Notify is not signed
 abbrev pub is_notify_open : Pool → Own → Perceived → ℕ → Bool
-is_notify_open h own set i = has_update set (update_at i) && is_possible own.keyed h.view (update_at i) && not (has_slot own.signed (NotifyAt h.view.number (update_at i)))
+is_notify_open h own set i = has_update set (update_at i) && is_possible own.keyed h.view (update_at i)
+    && not (has_slot own.signed (NotifyAt h.view.number (update_at i)))

@@ -13,7 +13,8 @@ use pool_questions::has_notified;
 
 // Whether the process is a member that has not signed its End, and an update is notified.
 fn may_end(pool: &Pool, own: &Own) -> bool
-    ensures { IsPool pool.now.pool → result ≡ (is_some own.now.position && nat_lt 0 (length (notified_updates pool.now.pool)) && not own.now.ended) }
+    ensures { IsPool pool.now.pool
+        → result ≡ (is_some own.now.position && nat_lt 0 (length (notified_updates pool.now.pool)) && not own.now.ended) }
 {
     own.position.is_some() && has_notified(pool) && !own.ended
 }

@@ -108,7 +108,9 @@ pub fn perceive(
     keyed: PidSet,
     update: Update,
 ) -> Result<(), EventFault>
-    ensures exactly { (s : Setting) (p : Process) → ((q : ℕ) → has (keyed_by s) q ≡ has keyed q) → p.pool.view ≡ view.now → IsTrue (is_member p.pool.view p.me) → p.halted ≡ false → refusal s p (asking (update_of update)) ≡ option_map fault_of (result_err result) }
+    ensures exactly { (s : Setting) (p : Process) → ((q : ℕ) → has (keyed_by s) q ≡ has keyed q) → p.pool.view ≡ view.now
+        → IsTrue (is_member p.pool.view p.me) → p.halted ≡ false
+        → refusal s p (asking (update_of update)) ≡ option_map fault_of (result_err result) }
     ensures taken { OnOk result ((p : Process) → TellsPerceived set.old p → TellsPerceived set.new (perceives p (update_of update))) }
     ensures same { OnErr result (set.new ≡ set.old) }
 {
@@ -154,7 +156,8 @@ fn open_number(pool: &Pool, own: &Own, set: &Perceived) -> Option<u8>
 /// The update of the least Notify that is due: the least one that is asked for and possible, and whose Notify is not signed.
 /// None exactly where none is due.
 pub fn notify_due(pool: &Pool, own: &Own, set: &Perceived) -> Option<Update>
-    ensures { (s : Setting) (p : Process) → Tells s p pool.now.pool own.now → TellsPerceived set.now p → least_due s p Notifies ≡ option_map (λ u. Notify pool.now.pool.view.number (update_of u)) result }
+    ensures { (s : Setting) (p : Process) → Tells s p pool.now.pool own.now → TellsPerceived set.now p
+        → least_due s p Notifies ≡ option_map (λ u. Notify pool.now.pool.view.number (update_of u)) result }
 {
     own.position?;
     if set.is_empty() {

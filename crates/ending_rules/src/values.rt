@@ -104,7 +104,8 @@ fn lesser_cut(pool: &Pool, found: Option<u16>, length: u16) -> Option<u16>
 
 // The least cut that may end the view, with one member's End more.
 fn cut_with(pool: &Pool, found: Option<u16>, member: Pid) -> Option<u16>
-    ensures { (r : ℕ) → slice_get pool.now.pool.view.members r ≡ Some member → IsLeastCut pool.now.pool r found → IsLeastCut pool.now.pool (r + 1) result }
+    ensures { (r : ℕ) → slice_get pool.now.pool.view.members r ≡ Some member → IsLeastCut pool.now.pool r found
+        → IsLeastCut pool.now.pool (r + 1) result }
 {
     match end_of(pool, member) {
         Some(length) => lesser_cut(pool, found, length),

@@ -8,7 +8,12 @@ use Rattle.group_defs.specs.Events.{Event, take_in}
 
 -- q is p but for what was heard in the same view, the conflicts, what was accepted and what was perceived
 abbrev pub HasTakenIn : Process → Process → Type 0
-HasTakenIn p q = q ≡ record p { pool = record { view = p.pool.view; heard = q.pool.heard }; conflicts = q.conflicts; accepted = q.accepted; perceived = q.perceived }
+HasTakenIn p q = q ≡ record p {
+  pool = record { view = p.pool.view; heard = q.pool.heard };
+  conflicts = q.conflicts;
+  accepted = q.accepted;
+  perceived = q.perceived;
+}
 
 -- taking in changes nothing else
 abbrev pub TakingInLeaves : Type 0

@@ -74,8 +74,10 @@ impl FrameWriter {
     pub fn add(&mut self, statement: &[u8], signer: u8, signature: &[u8]) -> bool
         requires statement { length statement.now < 65536 }
         requires signature { length signature.now ≤ 16384 }
-        ensures fits { let groups = packing.add self.old.groups (signed statement.now signer signature.now) in result ≡ fits self.old.room groups }
-        ensures added { let groups = packing.add self.old.groups (signed statement.now signer signature.now) in self.new ≡ (if result then record self.old { groups = groups } else self.old) }
+        ensures fits { let groups = packing.add self.old.groups (signed statement.now signer signature.now) in
+            result ≡ fits self.old.room groups }
+        ensures added { let groups = packing.add self.old.groups (signed statement.now signer signature.now) in
+            self.new ≡ (if result then record self.old { groups = groups } else self.old) }
     {
         let left = self.room - self.bytes.len();
         match joined(&self.bytes, self.last, statement, signer) {
@@ -118,7 +120,9 @@ impl FrameWriter {
 // The last group, where a claim joins it.
 fn joined(bytes: &[u8], last: Option<Last>, statement: &[u8], signer: u8) -> Option<Last>
     requires { IsWithin bytes.now last }
-    ensures { result ≡ (if is_some_and last (λ l. same_bytes (slice_range bytes.now l.statement_at l.count_at) statement.now && nat_lt (slice_index bytes.now l.count_at) 16 && nat_lt l.signer signer) then last else None) }
+    ensures { result ≡ (if is_some_and last
+        (λ l. same_bytes (slice_range bytes.now l.statement_at l.count_at) statement.now && nat_lt (slice_index bytes.now l.count_at) 16
+        && nat_lt l.signer signer) then last else None) }
 {
     let last = last?;
     let same = &bytes[last.statement_at..last.count_at] == statement;
@@ -135,7 +139,8 @@ fn join(bytes: &mut Vec<u8>, count_at: usize, signer: u8, signature: &[u8])
     requires few { slice_index bytes.old.items count_at < 255 }
     requires signature { length signature.now < 65536 }
     requires room { vec_len bytes.old + (3 + length signature.now) ≤ vec_capacity bytes.old }
-    ensures items { bytes.new.items ≡ slice_set bytes.old.items count_at (slice_index bytes.old.items count_at + 1) ++ signature_bytes (signer, signature.now) }
+    ensures items { bytes.new.items ≡ slice_set bytes.old.items count_at (slice_index bytes.old.items count_at + 1)
+        ++ signature_bytes (signer, signature.now) }
     ensures capacity { vec_capacity bytes.old ≤ vec_capacity bytes.new }
 {
     bytes[count_at] += 1;
@@ -150,7 +155,8 @@ fn begin(bytes: &mut Vec<u8>, statement: &[u8], signer: u8, signature: &[u8])
     requires statement { length statement.now < 65536 }
     requires signature { length signature.now < 65536 }
     requires room { vec_len bytes.old + (6 + length statement.now + length signature.now) ≤ vec_capacity bytes.old }
-    ensures items { bytes.new.items ≡ slice_set bytes.old.items 2 (slice_index bytes.old.items 2 + 1) ++ group_bytes (group_of (signed statement.now signer signature.now)) }
+    ensures items { bytes.new.items ≡ slice_set bytes.old.items 2 (slice_index bytes.old.items 2 + 1)
+        ++ group_bytes (group_of (signed statement.now signer signature.now)) }
     ensures capacity { vec_capacity bytes.old ≤ vec_capacity bytes.new }
 {
     bytes[2] += 1;

@@ -130,7 +130,8 @@ pub record ArePlaced (accounts : List Account) : Type 0 where
 -- what was delivered of a correct process, over all views, is a prefix of the payloads that it accepted; and a place is delivered whole,
 -- with the same messages by all
 pub record Sound (accounts : List Account) (keyed : List ℕ) : Type 0 where
-  pub causes : (x : ℕ) (v w : View) → slice_get (group_of accounts).views x ≡ Some v → slice_get (group_of accounts).views (x + 1) ≡ Some w → HasCause accounts keyed v w
+  pub causes : (x : ℕ) (v w : View) → slice_get (group_of accounts).views x ≡ Some v → slice_get (group_of accounts).views (x + 1) ≡ Some w
+      → HasCause accounts keyed v w
   pub once : (x : ℕ) → IsOnce ((group_of accounts).sequence x)
   pub in_order : (x sender : ℕ) → IsInOrder sender ((group_of accounts).sequence x)
   pub accepted : All (λ a. IsPrefixOf (map (λ d. d.payload) (of_sender a.me (history (group_of accounts)))) a.accepted) accounts
@@ -155,7 +156,8 @@ abbrev pub agrees_in : Group → Account → ℕ → Bool
 agrees_in g a x =
     let ds = messages_in a x in
     same_sequence ds (take (length ds) (g.sequence x))
-    && (not (list_any (λ v. is_member v a.me) (take 1 (drop x a.views))) || not (nat_lt (x + 1) (length a.views)) || same_sequence ds (g.sequence x))
+    && (not (list_any (λ v. is_member v a.me) (take 1 (drop x a.views))) || not (nat_lt (x + 1) (length a.views))
+    || same_sequence ds (g.sequence x))
 
 -- as `AgreesWith`
 abbrev pub agrees_with : Group → Account → Bool
@@ -169,11 +171,13 @@ agree accounts = list_all (agrees_with (group_of accounts)) accounts
 
 -- the updates that some account perceived in a view
 abbrev pub perceived_in : List Account → View → List Update
-perceived_in accounts v = flat_map (λ a. if is_member v a.me then map (λ e. e.1) (filter (λ e. e.0 == v.number) a.perceived) else []) accounts
+perceived_in accounts v = flat_map
+    (λ a. if is_member v a.me then map (λ e. e.1) (filter (λ e. e.0 == v.number) a.perceived) else []) accounts
 
 -- as `HasCause`, of a view and the one behind it
 abbrev pub has_cause : List Account → List ℕ → View × View → Bool
-has_cause accounts keyed e = list_any (λ u. is_possible keyed e.0 u && same_views (e.1 ∷ []) (next_view e.0 u ∷ [])) (perceived_in accounts e.0)
+has_cause accounts keyed e = list_any (λ u. is_possible keyed e.0 u && same_views (e.1 ∷ []) (next_view e.0 u ∷ []))
+    (perceived_in accounts e.0)
 
 -- the numbers of the sender are 0, 1, 2 and so on
 abbrev pub is_in_order : List Letter → ℕ → Bool
@@ -203,7 +207,8 @@ stands_by_place ds =
 
 -- as `HaveSameBatches`
 abbrev pub have_same_batches : List Delivered → List Delivered → Bool
-have_same_batches ds es = list_all (λ k. is_yes (Batch-discrete (batch_at k ds) (batch_at k es))) (range_with_len 0 (min (places_in ds) (places_in es)))
+have_same_batches ds es = list_all (λ k. is_yes (Batch-discrete (batch_at k ds) (batch_at k es)))
+    (range_with_len 0 (min (places_in ds) (places_in es)))
 
 -- as `ArePlaced`, in the view of this number
 abbrev pub are_placed_in : List Account → ℕ → Bool
@@ -247,4 +252,5 @@ AgreeIsTested = (accounts : List Account) → All HasListOfEachView accounts →
 
 -- of accounts with these lists the test of soundness and soundness say the same
 abbrev pub SoundIsTested : Type 0
-SoundIsTested = (accounts : List Account) (keyed : List ℕ) → All HasListOfEachView accounts → IsTrue (sound accounts keyed) ↔ Sound accounts keyed
+SoundIsTested = (accounts : List Account) (keyed : List ℕ) → All HasListOfEachView accounts
+    → IsTrue (sound accounts keyed) ↔ Sound accounts keyed

@@ -54,7 +54,9 @@ value_at h slot = option_and_then value_of (certified_on h slot)
 
 -- the claims of the first Q backers by process number; none where that is not certified
 abbrev pub certificate : Pool → Statement → List Claim
-certificate h st = if is_certified h st then filter_map (λ m. claim_on h.heard m (slot_of st)) (take (quorum (number_of_members h)) (sorted (λ m. m ∷ []) (backers h st))) else []
+certificate h st = if is_certified h st
+    then filter_map (λ m. claim_on h.heard m (slot_of st)) (take (quorum (number_of_members h)) (sorted (λ m. m ∷ []) (backers h st)))
+    else []
 
 -- the certificate of what is certified on the slot
 abbrev pub certificate_on : Pool → Slot → List Claim

@@ -180,7 +180,8 @@ last s p = Last p.pool.view.number (removed_rank p.pool) (own_ready p) ∷ []
 
 -- the Suggest at the own rank of the value that is chosen there
 abbrev pub suggests : Setting → Process → List Statement
-suggests s p = option_to_list (option_and_then (λ r. option_map (Suggest p.pool.view.number r) (choose s p.pool r)) (rank_of p.pool.view p.me))
+suggests s p = option_to_list (option_and_then (λ r. option_map (Suggest p.pool.view.number r) (choose s p.pool r))
+    (rank_of p.pool.view p.me))
 
 -- an Ack for each heard Suggest
 abbrev pub acks : Setting → Process → List Statement
@@ -238,4 +239,5 @@ SomeIsLeast = (s : Setting) (p : Process) (st : Statement) → IsTrue (may_sign 
 -- it is due, and none of its kind that is due stands before it
 abbrev pub LeastIsDue : Type 0
 LeastIsDue = (s : Setting) (p : Process) (st : Statement) → least_due s p (kind_of st) ≡ Some st
-    → IsTrue (may_sign s p st) × ((other : Statement) → Contains (offers (kind_of st) s p) other → IsTrue (may_sign s p other) → IsFalse (numbers_below (due_numbers p.pool.view other) (due_numbers p.pool.view st)))
+    → IsTrue (may_sign s p st) × ((other : Statement) → Contains (offers (kind_of st) s p) other → IsTrue (may_sign s p other)
+    → IsFalse (numbers_below (due_numbers p.pool.view other) (due_numbers p.pool.view st)))

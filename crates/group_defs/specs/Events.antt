@@ -70,7 +70,8 @@ refusals s p Tick = []
 
 -- the first refusal that holds; a process that has halted, beyond its cut, refuses every event
 abbrev pub refusal : Setting → Process → Event → Option EventFault
-refusal s p e = first_that_holds ((p.halted, HaltedNow (places_in p.delivered) (option_map_or (λ d. d.1.cut) p.decision 0)) ∷ refusals s p e)
+refusal s p e = first_that_holds
+    ((p.halted, HaltedNow (places_in p.delivered) (option_map_or (λ d. d.1.cut) p.decision 0)) ∷ refusals s p e)
 
 -- ---- taking in
 
@@ -178,7 +179,11 @@ outcome s p t = elim (refusal s p t.event) [
 
 -- the same event with an entry's signatures
 abbrev pub journalled : Process → Event → List (List ℕ) → Turn
-journalled p e signatures = record { event = e; allowance = length signatures; signer = λ used body. slice_index_or signatures (used - length p.signed) [] }
+journalled p e signatures = record {
+  event = e;
+  allowance = length signatures;
+  signer = λ used body. slice_index_or signatures (used - length p.signed) [];
+}
 
 -- all of the entry's signatures are used, and another was due exactly where it says so
 abbrev pub Fits : Setting → Process → Event → List (List ℕ) → Bool → Type 0
@@ -192,5 +197,6 @@ read_again s p t = journalled p t.event (map (λ c. c.signature) (outcome s p t)
 
 -- it fits, and gives the process and the outcome of the live one
 abbrev pub JournalGivesTheTurn : Type 0
-JournalGivesTheTurn = (s : Setting) (p : Process) (t : Turn) → (after s p (read_again s p t) ≡ after s p t) × (outcome s p (read_again s p t) ≡ outcome s p t)
+JournalGivesTheTurn = (s : Setting) (p : Process) (t : Turn)
+    → (after s p (read_again s p t) ≡ after s p t) × (outcome s p (read_again s p t) ≡ outcome s p t)
     × Fits s p t.event (map (λ c. c.signature) (outcome s p t).signed) (outcome s p t).spent

@@ -64,7 +64,8 @@ Honest f = All (IsOwned f) (handed f)
 
 -- as `Honest`, as the report computes it
 abbrev pub honest : Family → Bool
-honest f = list_all (λ c. not (is_valid f.setting c) || list_all (λ p. not (p.me == c.signer) || list_any (same_statement c.statement) (statements_of p)) (ends f)) (handed f)
+honest f = list_all (λ c. not (is_valid f.setting c)
+    || list_all (λ p. not (p.me == c.signer) || list_any (same_statement c.statement) (statements_of p)) (ends f)) (handed f)
 
 -- the two say the same
 abbrev pub HonestIsTested : Type 0

@@ -31,15 +31,18 @@ OnePerSlot = EachRun (λ s me turns p. AllPairs (λ c d. slot_of c.statement ≢
 
 -- 2. in the signed list a Keep of place k stands before the End of its view, and the End's number n is above k
 abbrev pub KeepsBeforeEnd : Type 0
-KeepsBeforeEnd = EachRun (λ s me turns p. (i j x k n : ℕ) (b : Batch) → SignsAt p i (Keep x k b) → SignsAt p j (End x n) → (i < j) × (k < n))
+KeepsBeforeEnd = EachRun (λ s me turns p. (i j x k n : ℕ) (b : Batch) → SignsAt p i (Keep x k b) → SignsAt p j (End x n)
+    → (i < j) × (k < n))
 
 -- a signed Ready of rank r or above, and below r'
 abbrev pub ReportsReady : Process → ℕ → ℕ → ℕ → Option (ℕ × Value) → Type 0
-ReportsReady p x r r' ready = (r1 : ℕ) × (v : Value) × (ready ≡ Some (r1, v)) × (r ≤ r1) × (r1 < r') × Contains (statements_of p) (Ready x r1 v)
+ReportsReady p x r r' ready = (r1 : ℕ) × (v : Value) × (ready ≡ Some (r1, v)) × (r ≤ r1) × (r1 < r')
+    × Contains (statements_of p) (Ready x r1 v)
 
 -- 3. a Ready stands before a Last of a greater rank, which reports one as late
 abbrev pub ReadyBeforeLast : Type 0
-ReadyBeforeLast = EachRun (λ s me turns p. (i j x r r' : ℕ) (v : Value) (ready : Option (ℕ × Value)) → SignsAt p i (Ready x r v) → SignsAt p j (Last x r' ready) → r < r'
+ReadyBeforeLast = EachRun (λ s me turns p. (i j x r r' : ℕ) (v : Value) (ready : Option (ℕ × Value)) → SignsAt p i (Ready x r v)
+    → SignsAt p j (Last x r' ready) → r < r'
     → (i < j) × ReportsReady p x r r' ready)
 
 -- what a process keeps as it goes on
@@ -73,7 +76,8 @@ SignsItsKinds = EachRun (λ s me turns p. All (λ c. Contains s.signs (kind_of c
 
 -- an own Order has at least one message, and no more than the process may order at once
 abbrev pub OrdersWithinLimit : Type 0
-OrdersWithinLimit = (s : Setting) (me batch_limit : ℕ) (turns : List Turn) (x k : ℕ) (b : Batch) → Contains (statements_of (run s (start s me batch_limit) turns)) (Order x k b) → (1 ≤ length b) × (length b ≤ batch_limit)
+OrdersWithinLimit = (s : Setting) (me batch_limit : ℕ) (turns : List Turn) (x k : ℕ) (b : Batch)
+    → Contains (statements_of (run s (start s me batch_limit) turns)) (Order x k b) → (1 ≤ length b) × (length b ≤ batch_limit)
 
 -- a claim of the view: a member's, and of no sender outside it
 pub record IsOfView (v : View) (c : Claim) : Type 0 where
@@ -110,7 +114,8 @@ ViewsInARow = EachRun (λ s me turns p. AreInARow s (views_of p))
 
 -- while a decision stands, the Ready that gave it is certified
 abbrev pub DecisionStands : Type 0
-DecisionStands = EachRun (λ s me turns p. (d : ℕ × Value) → p.decision ≡ Some d → IsTrue (is_certified p.pool (Ready p.pool.view.number d.0 d.1)))
+DecisionStands = EachRun (λ s me turns p. (d : ℕ × Value) → p.decision ≡ Some d
+    → IsTrue (is_certified p.pool (Ready p.pool.view.number d.0 d.1)))
 
 -- ---- of one heard list: what a deputy chooses
 
@@ -131,7 +136,8 @@ DeputyChooses = (s : Setting) (h : Pool) (r : ℕ) (v : Value) → IsTrue (is_ju
 
 -- two quorums share more than f members
 abbrev pub QuorumsMeet : Type 0
-QuorumsMeet = (members : List ℕ) (p q : ℕ → Bool) → 1 ≤ length members → quorum (length members) ≤ count_by p members → quorum (length members) ≤ count_by q members
+QuorumsMeet = (members : List ℕ) (p q : ℕ → Bool) → 1 ≤ length members → quorum (length members) ≤ count_by p members
+    → quorum (length members) ≤ count_by q members
     → faulty (length members) < count_by (λ m. p m && q m) members
 
 -- the processes stand by rising number, and begin in a view 0 of 1 to 16 members; what was handed over of them is their own word; and in
@@ -208,15 +214,18 @@ InstalledIsOne = (f : Family) → Premises f → All (λ p. All (IsOneView f) (v
 
 -- what is certified at a correct process of the view is backed; the laws below speak of backed statements, not of heard claims
 abbrev pub CertifiedIsBacked : Type 0
-CertifiedIsBacked = (f : Family) (v : View) (q : Process) (st : Statement) → IsOneView f v → StoodSo f q → q.pool.view ≡ v → IsTrue (is_certified q.pool st) → IsBacked f v st
+CertifiedIsBacked = (f : Family) (v : View) (q : Process) (st : Statement) → IsOneView f v → StoodSo f q → q.pool.view ≡ v
+    → IsTrue (is_certified q.pool st) → IsBacked f v st
 
 -- of a slot at most one content is backed
 abbrev pub OneContent : Type 0
-OneContent = (f : Family) (v : View) (st other : Statement) → IsOneView f v → IsBacked f v st → IsBacked f v other → slot_of st ≡ slot_of other → st ≡ other
+OneContent = (f : Family) (v : View) (st other : Statement) → IsOneView f v → IsBacked f v st → IsBacked f v other
+    → slot_of st ≡ slot_of other → st ≡ other
 
 -- 5. a backed Ready fixes the value of every backed Ack from its rank on
 abbrev pub ReadyFixesValue : Type 0
-ReadyFixesValue = (f : Family) (v : View) (r r' : ℕ) (w w' : Value) → IsOneView f v → IsBacked f v (Ready v.number r w) → IsBacked f v (Ack v.number r' w') → r ≤ r' → w' ≡ w
+ReadyFixesValue = (f : Family) (v : View) (r r' : ℕ) (w w' : Value) → IsOneView f v → IsBacked f v (Ready v.number r w)
+    → IsBacked f v (Ack v.number r' w') → r ≤ r' → w' ≡ w
 
 -- 6. a backed Ack's value was free at a correct member
 abbrev pub AckedWasFree : Type 0
@@ -225,7 +234,8 @@ AckedWasFree = (f : Family) (v : View) (r : ℕ) (w : Value) → IsOneView f v �
 
 -- where a Keep of place k is backed and an Ack of value w is, k is below the cut of w
 abbrev pub KeptBelowCut : Type 0
-KeptBelowCut = (f : Family) (v : View) (r k : ℕ) (w : Value) (b : Batch) → IsOneView f v → IsBacked f v (Keep v.number k b) → IsBacked f v (Ack v.number r w) → k < w.cut
+KeptBelowCut = (f : Family) (v : View) (r k : ℕ) (w : Value) (b : Batch) → IsOneView f v → IsBacked f v (Keep v.number k b)
+    → IsBacked f v (Ack v.number r w) → k < w.cut
 
 -- where an event settles in this view: what is decided, and how far it delivers
 abbrev pub Decides : Family → View → Process → Value → Type 0
@@ -237,7 +247,8 @@ OneDecision = (f : Family) (v : View) (q q' : Process) (w w' : Value) → IsOneV
 
 -- where value w is decided in the view, no correct process delivers in it at a place of w's cut or behind it
 abbrev pub DeliversWithinCut : Type 0
-DeliversWithinCut = (f : Family) (v : View) (q q' : Process) (w : Value) → IsOneView f v → Decides f v q w → SettledSo f q' → q'.pool.view ≡ v → places_in (deliver (decide f.setting q')).delivered ≤ w.cut
+DeliversWithinCut = (f : Family) (v : View) (q q' : Process) (w : Value) → IsOneView f v → Decides f v q w → SettledSo f q'
+    → q'.pool.view ≡ v → places_in (deliver (decide f.setting q')).delivered ≤ w.cut
 
 -- no correct process halts
 abbrev pub NobodyHalts : Type 0
@@ -248,7 +259,8 @@ NobodyHalts = (f : Family) → Premises f → All (λ p. p.halted ≡ false) (en
 pub record AgreeUpTo (x : ℕ) (a b : Account) : Type 0 where
   pub views : (y : ℕ) (v w : View) → y ≤ x → slice_get a.views y ≡ Some v → slice_get b.views y ≡ Some w → v ≡ w
   pub prefixes : (y : ℕ) → y < x → IsPrefixOf (messages_in a y) (messages_in b y) ⊎ IsPrefixOf (messages_in b y) (messages_in a y)
-  pub whole : (y : ℕ) (v : View) → y < x → slice_get a.views y ≡ Some v → IsTrue (is_member v a.me) → HasLeft a y → IsPrefixOf (messages_in b y) (messages_in a y)
+  pub whole : (y : ℕ) (v : View) → y < x → slice_get a.views y ≡ Some v → IsTrue (is_member v a.me) → HasLeft a y
+      → IsPrefixOf (messages_in b y) (messages_in a y)
 
 -- any two accounts of the family agree up to view x
 abbrev pub AllAgreeUpTo : Family → ℕ → Type 0
@@ -285,7 +297,8 @@ pub record IsFrontOf (early late : Family) : Type 0 where
 pub record GrowsTo (early late : List Account) : Type 0 where
   pub views : IsPrefixOf (group_of early).views (group_of late).views
   pub sequences : (x : ℕ) → IsPrefixOf ((group_of early).sequence x) ((group_of late).sequence x)
-  pub whole : All (λ a. (x : ℕ) (v : View) → slice_get a.views x ≡ Some v → IsTrue (is_member v a.me) → HasLeft a x → (group_of early).sequence x ≡ (group_of late).sequence x) early
+  pub whole : All (λ a. (x : ℕ) (v : View) → slice_get a.views x ≡ Some v → IsTrue (is_member v a.me) → HasLeft a x
+      → (group_of early).sequence x ≡ (group_of late).sequence x) early
 
 -- under the premises at the end, the group at an earlier moment is a front of the group at the end (`GrowsTo`)
 abbrev pub Growth : Type 0
@@ -296,12 +309,14 @@ Growth = (early late : Family) → IsFrontOf early late → Premises late → Gr
 pub record LawsOfViewThen (early late : Family) (v : View) : Type 0 where
   pub one_view : IsOneView late v
   pub backed : (q : Process) (st : Statement) → SettledSo early q → q.pool.view ≡ v → IsTrue (is_certified q.pool st) → IsBacked late v st
-  pub one_payload : (q q' : Process) (m : Message) (b b' : List ℕ) → SettledSo early q → SettledSo early q' → q.pool.view ≡ v → q'.pool.view ≡ v
+  pub one_payload : (q q' : Process) (m : Message) (b b' : List ℕ) → SettledSo early q → SettledSo early q' → q.pool.view ≡ v
+      → q'.pool.view ≡ v
       → payload_at q.pool m ≡ Some b → payload_at q'.pool m ≡ Some b' → b ≡ b'
   pub one_batch : (q q' : Process) (k : ℕ) (b b' : Batch) → SettledSo early q → SettledSo early q' → q.pool.view ≡ v → q'.pool.view ≡ v
       → place_at q.pool k ≡ Some b → place_at q'.pool k ≡ Some b' → b ≡ b'
   pub one_decision : (q q' : Process) (w w' : Value) → Decides early v q w → Decides early v q' w' → w ≡ w'
-  pub within_cut : (q q' : Process) (w : Value) → Decides early v q w → SettledSo early q' → q'.pool.view ≡ v → places_in (deliver (decide early.setting q')).delivered ≤ w.cut
+  pub within_cut : (q q' : Process) (w : Value) → Decides early v q w → SettledSo early q' → q'.pool.view ≡ v
+      → places_in (deliver (decide early.setting q')).delivered ≤ w.cut
 
 -- What holds at an earlier moment under the premises at the end: what settled or stood then settled or stood in the whole family, the
 -- laws of each view that was installed then, and of the theorems all but two parts: that views have causes, and that what was delivered
@@ -328,17 +343,20 @@ NoConflict = EachRun (λ s me turns p. AllPairs (λ c d. ¬ Conflicts c d) p.sig
 
 -- in views of one number no two payloads of a message are certified at correct processes, each as an event settles
 abbrev pub OnePayload : Type 0
-OnePayload = (f : Family) (q q' : Process) (m : Message) (b b' : List ℕ) → Premises f → SettledSo f q → SettledSo f q' → q.pool.view.number ≡ q'.pool.view.number
+OnePayload = (f : Family) (q q' : Process) (m : Message) (b b' : List ℕ) → Premises f → SettledSo f q → SettledSo f q'
+    → q.pool.view.number ≡ q'.pool.view.number
     → payload_at q.pool m ≡ Some b → payload_at q'.pool m ≡ Some b' → b ≡ b'
 
 -- in views of one number no two payloads of a message are certified at correct processes, each after its last event
 abbrev pub OnePayloadAtTheEnd : Type 0
-OnePayloadAtTheEnd = (f : Family) (p q : Process) (m : Message) (b c : List ℕ) → Premises f → Contains (ends f) p → Contains (ends f) q → p.pool.view.number ≡ q.pool.view.number
+OnePayloadAtTheEnd = (f : Family) (p q : Process) (m : Message) (b c : List ℕ) → Premises f → Contains (ends f) p → Contains (ends f) q
+    → p.pool.view.number ≡ q.pool.view.number
     → payload_at p.pool m ≡ Some b → payload_at q.pool m ≡ Some c → b ≡ c
 
 -- in views of one number no two batches of a place are certified at correct processes, each as an event settles
 abbrev pub OneBatch : Type 0
-OneBatch = (f : Family) (q q' : Process) (k : ℕ) (b b' : Batch) → Premises f → SettledSo f q → SettledSo f q' → q.pool.view.number ≡ q'.pool.view.number
+OneBatch = (f : Family) (q q' : Process) (k : ℕ) (b b' : Batch) → Premises f → SettledSo f q → SettledSo f q'
+    → q.pool.view.number ≡ q'.pool.view.number
     → place_at q.pool k ≡ Some b → place_at q'.pool k ≡ Some b' → b ≡ b'
 
 -- in the genesis view the messages that correct processes delivered are prefixes of one sequence

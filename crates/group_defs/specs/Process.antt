@@ -53,7 +53,8 @@ pub record Letter : Type 0 where
 
 -- letters are equal where message and payload are
 unfoldable pub Letter-discrete : Discrete Letter
-Letter-discrete d e = both (λ m b. λ i. record { message = m i; payload = b i }) (λ q. λ i. (q i).message) (λ q. λ i. (q i).payload) (Message-discrete d.message e.message) (bytes_discrete d.payload e.payload)
+Letter-discrete d e = both (λ m b. λ i. record { message = m i; payload = b i }) (λ q. λ i. (q i).message) (λ q. λ i. (q i).payload)
+    (Message-discrete d.message e.message) (bytes_discrete d.payload e.payload)
 
 -- what a member delivers: a message that the batch of the place names, and its payload
 pub record Delivered : Type 0 where
@@ -67,7 +68,8 @@ letter_of d = record { message = d.message; payload = d.payload }
 
 -- deliveries are equal where place, message and payload are
 unfoldable pub Delivered-discrete : Discrete Delivered
-Delivered-discrete d e = both (λ k s. λ i. record { place = k i; message = (s i).message; payload = (s i).payload }) (λ q. λ i. (q i).place) (λ q. λ i. letter_of (q i)) (ℕ_discrete d.place e.place) (Letter-discrete (letter_of d) (letter_of e))
+Delivered-discrete d e = both (λ k s. λ i. record { place = k i; message = (s i).message; payload = (s i).payload }) (λ q. λ i. (q i).place)
+    (λ q. λ i. letter_of (q i)) (ℕ_discrete d.place e.place) (Letter-discrete (letter_of d) (letter_of e))
 
 -- the messages of a delivered list, in order: its entries without their places
 abbrev pub without_places : List Delivered → List Letter

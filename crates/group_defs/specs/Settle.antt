@@ -32,7 +32,8 @@ phase_of p = unwrap_or (first_that_holds (
 
 -- the certified Ready value of a rank, where its update is possible
 abbrev pub decided_at : Setting → Pool → ℕ → Option (ℕ × Value)
-decided_at s h r = option_and_then (λ v. if is_possible (keyed s) h.view v.update then Some (r, v) else None) (value_at h (ReadyAt h.view.number r))
+decided_at s h r = option_and_then (λ v. if is_possible (keyed s) h.view v.update then Some (r, v) else None)
+    (value_at h (ReadyAt h.view.number r))
 
 -- of the certified Ready values whose update is possible, the one of the least rank
 abbrev pub decided_by : Setting → Pool → Option (ℕ × Value)
@@ -51,7 +52,8 @@ limit p = option_map_or (λ d. d.1.cut) p.decision (fixed_length p.pool)
 -- what place k delivers by this batch: each message with its payload, in order, where all of them are certified
 abbrev pub delivery : Pool → ℕ → Batch → Option (List Delivered)
 delivery h k [] = Some []
-delivery h k (m ∷ ms) = option_and_then (λ payload. option_map (λ ds. record { place = k; message = m; payload = payload } ∷ ds) (delivery h k ms)) (payload_at h m)
+delivery h k (m ∷ ms) = option_and_then
+    (λ payload. option_map (λ ds. record { place = k; message = m; payload = payload } ∷ ds) (delivery h k ms)) (payload_at h m)
 
 -- what the next place delivers, where it is certified and its messages are
 abbrev pub deliverable : Process → Option (List Delivered)
@@ -74,7 +76,8 @@ deliver p = if is_member p.pool.view p.me then deliver_more (limit p - places_in
 -- the next view is installed; of the one before it the claims, the deliveries and the commit certificate are kept
 abbrev pub install : ℕ × Value → Process → Process
 install d p = record p {
-  left = p.left ++ record { view = p.pool.view; delivered = p.delivered; commit = certificate p.pool (Ready p.pool.view.number d.0 d.1) } ∷ [];
+  left = p.left ++ record { view = p.pool.view; delivered = p.delivered; commit = certificate p.pool (Ready p.pool.view.number d.0 d.1) }
+      ∷ [];
   previous = Some p.pool;
   pool = record { view = next_view p.pool.view d.1.update; heard = [] };
   delivered = [];

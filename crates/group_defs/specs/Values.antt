@@ -39,7 +39,8 @@ is_free s h v =
 
 -- the free value of the least update, and then of the least cut
 abbrev pub free_value : Setting → Pool → Option Value
-free_value s h = least value_numbers (filter (is_free s h) (flat_map (λ u. map (λ k. record { update = u; cut = k }) (ends h)) (notified_updates h)))
+free_value s h = least value_numbers
+    (filter (is_free s h) (flat_map (λ u. map (λ k. record { update = u; cut = k }) (ends h)) (notified_updates h)))
 
 -- ---- values that an earlier rank may have decided
 

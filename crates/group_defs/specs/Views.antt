@@ -15,7 +15,8 @@ pub record View : Type 0 where
 
 -- views are equal where number and members are
 unfoldable pub View-discrete : Discrete View
-View-discrete v w = both (λ x m. λ i. record { number = x i; members = m i }) (λ e. λ i. (e i).number) (λ e. λ i. (e i).members) (ℕ_discrete v.number w.number) (bytes_discrete v.members w.members)
+View-discrete v w = both (λ x m. λ i. record { number = x i; members = m i }) (λ e. λ i. (e i).number) (λ e. λ i. (e i).members)
+    (ℕ_discrete v.number w.number) (bytes_discrete v.members w.members)
 
 -- a view has 1 to 16 members, each once
 pub record IsView (v : View) : Type 0 where

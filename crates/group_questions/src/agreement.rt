@@ -61,7 +61,8 @@ fn has_left(a: &Account, x: usize) -> bool
 
 // Whether it may lack what the group delivered in the view: it was no member there, or has not left it.
 fn may_lack(a: &Account, x: usize) -> bool
-    ensures { result ≡ (not (list_any (λ v. defs.is_member v a.now.me) (take 1 (drop x a.now.views.items))) || not (nat_lt (x + 1) (length a.now.views.items))) }
+    ensures { result ≡ (not (list_any (λ v. defs.is_member v a.now.me) (take 1 (drop x a.now.views.items)))
+        || not (nat_lt (x + 1) (length a.now.views.items))) }
 {
     !is_member_in(a, x) || !has_left(a, x)
 }
@@ -94,7 +95,8 @@ fn agrees_in(accounts: &[Account], a: &Account, x: usize) -> bool
 
 // Whether it agrees in each of its views.
 fn agrees_throughout(accounts: &[Account], a: &Account) -> bool
-    ensures { result ≡ list_all (plain.agrees_in (plain.group_of (map account accounts.now)) (account a.now)) (range_with_len 0 (length a.now.views.items)) }
+    ensures { result ≡ list_all (plain.agrees_in (plain.group_of (map account accounts.now)) (account a.now))
+        (range_with_len 0 (length a.now.views.items)) }
 {
     let views = a.views.as_slice();
     (0..views.len()).all(|x| agrees_in(accounts, a, x))

@@ -34,7 +34,8 @@ fn are_bounded(views: &[View], correct: PidSet) -> bool
 
 // Whether each view of each of these is bounded.
 fn all_bounded(accounts: &[Account], correct: PidSet) -> bool
-    ensures { result ≡ list_all (λ a. list_all (λ v. nat_le (plain.corrupt_in correct v) (defs.faulty (length v.members))) a.views.items) accounts.now }
+    ensures { result ≡ list_all (λ a. list_all
+        (λ v. nat_le (plain.corrupt_in correct v) (defs.faulty (length v.members))) a.views.items) accounts.now }
 {
     accounts.iter().all(|a| are_bounded(&a.views, correct))
 }

@@ -26,7 +26,8 @@ fault_word Misplaced = codes "misplaced"
 
 -- `SIGNER STATEMENT SIGNATURE`, each behind a space
 abbrev pub claim_words : Claim → List ℕ
-claim_words c = codes " " ++ (decimal c.signer ++ (codes " " ++ (bytes_word (spelling c.statement) ++ (codes " " ++ bytes_word c.signature))))
+claim_words c = codes " " ++ (decimal c.signer
+    ++ (codes " " ++ (bytes_word (spelling c.statement) ++ (codes " " ++ bytes_word c.signature))))
 
 -- `bundle` or `proof` and the claims, or `want VIEW PLACE`, where the claims have no fault
 abbrev pub said : FrameView → Result (List Claim) FrameFault → List ℕ

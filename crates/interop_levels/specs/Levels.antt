@@ -51,7 +51,8 @@ IsQuestion (Sign s) = IsSpelled s × IsMade s
 -- L H W I SEED C BODY
 abbrev pub signing_words : Signing → List (List ℕ)
 signing_words s =
-    decimal s.levels ∷ decimal s.typecode ∷ decimal (ots_typecode s.ots) ∷ encode_lower s.id ∷ encode_lower s.seed ∷ decimal s.number ∷ bytes_word s.body ∷ []
+    decimal s.levels ∷ decimal s.typecode ∷ decimal (ots_typecode s.ots) ∷ encode_lower s.id ∷ encode_lower s.seed ∷ decimal s.number
+    ∷ bytes_word s.body ∷ []
 
 -- `verify hss KEY BODY SIG` and `hss L H W I SEED C BODY`
 abbrev pub spelled : Question → List (List ℕ)

@@ -7,7 +7,15 @@ use Rattle.interop_levels.specs.Levels.{IsMade, Signing, secret}
 use Rattle.interop_levels.specs.declared.levels.Signing as code
 
 abbrev pub signing : code.Signing → Signing
-signing s = record { levels = s.levels; typecode = s.typecode; ots = s.ots; id = s.id; seed = s.seed; number = s.number; body = s.body.items }
+signing s = record {
+  levels = s.levels;
+  typecode = s.typecode;
+  ots = s.ots;
+  id = s.id;
+  seed = s.seed;
+  number = s.number;
+  body = s.body.items;
+}
 
 -- the key is the asked one, and its next signature is that of the asked number
 pub record IsReady (s : Signing) (key : HssKey) : Type 0 where

@@ -11,7 +11,8 @@ use Rattle.interop_node.specs.Questions as nodes
 -- the line's words are those of a question, and this is what is answered
 abbrev pub Answers : List ℕ → List ℕ → Type 0
 Answers line told =
-    signatures.Answers (words_of line) told ⊎ levels.Answers (words_of line) told ⊎ frames.Answers (words_of line) told ⊎ kits.Answers (words_of line) told
+    signatures.Answers (words_of line) told ⊎ levels.Answers (words_of line) told ⊎ frames.Answers (words_of line) told
+    ⊎ kits.Answers (words_of line) told
     ⊎ schedules.Answers (words_of line) told ⊎ nodes.Answers (words_of line) told
 
 -- no line has two answers

@@ -26,7 +26,8 @@ signature_words signature = codes " " ++ bytes_word signature
 
 -- `entry PROCESS EVENT SPENT` and the signatures in order, each behind a space
 abbrev pub entry_words : Entry → List ℕ
-entry_words e = codes " entry " ++ (decimal e.process ++ (codes " " ++ (event_words e.event ++ (spent_word e.spent ++ flat_map signature_words e.signatures))))
+entry_words e = codes " entry "
+    ++ (decimal e.process ++ (codes " " ++ (event_words e.event ++ (spent_word e.spent ++ flat_map signature_words e.signatures))))
 
 -- ---- what the bytes are
 

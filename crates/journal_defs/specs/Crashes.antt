@@ -61,7 +61,8 @@ staged e = behind_gate e ++ closed_gate ∷ []
 
 -- a write behind the closed gate leaves the journal at rest, wherever it is torn
 abbrev pub TornBehindTheGate : Type 0
-TornBehindTheGate = (head : List ℕ) (es : List Entry) (n : ℕ) (old new : List ℕ) → IsAtRest head es old → Torn (length (up_to_gate head es) + 1) n old new → IsAtRest head es new
+TornBehindTheGate = (head : List ℕ) (es : List Entry) (n : ℕ) (old new : List ℕ) → IsAtRest head es old
+    → Torn (length (up_to_gate head es) + 1) n old new → IsAtRest head es new
 
 -- once it is made, the entry stands behind the gate
 abbrev pub WrittenBehindTheGate : Type 0
@@ -71,19 +72,23 @@ WrittenBehindTheGate = (head : List ℕ) (es : List Entry) (e : Entry) (old new 
 
 -- a write of the gate changes the gate alone
 abbrev pub TornGate : Type 0
-TornGate = (head : List ℕ) (es : List Entry) (e : Entry) (more old new : List ℕ) → IsOpening head es e more old → Torn (length (up_to_gate head es)) 1 old new → IsOpening head es e more new
+TornGate = (head : List ℕ) (es : List Entry) (e : Entry) (more old new : List ℕ) → IsOpening head es e more old
+    → Torn (length (up_to_gate head es)) 1 old new → IsOpening head es e more new
 
 -- at rest it reads as its entries, well formed
 abbrev pub AtRestIsImage : Type 0
-AtRestIsImage = (head : List ℕ) (es : List Entry) (bytes : List ℕ) → AllByRecursion IsEntry es → IsAtRest head es bytes → IsImageOf head bytes es
+AtRestIsImage = (head : List ℕ) (es : List Entry) (bytes : List ℕ) → AllByRecursion IsEntry es → IsAtRest head es bytes
+    → IsImageOf head bytes es
 
 -- while the gate is opened it reads as its entries or as one more, well formed
 abbrev pub OpeningIsImage : Type 0
-OpeningIsImage = (head : List ℕ) (es : List Entry) (e : Entry) (more bytes : List ℕ) → AllByRecursion IsEntry es → IsEntry e → IsOpening head es e more bytes → IsWithOrWithout head es e bytes
+OpeningIsImage = (head : List ℕ) (es : List Entry) (e : Entry) (more bytes : List ℕ) → AllByRecursion IsEntry es → IsEntry e
+    → IsOpening head es e more bytes → IsWithOrWithout head es e bytes
 
 -- the journal is at rest again with the entry, once the gate reads 1
 abbrev pub OpenedIsAtRest : Type 0
-OpenedIsAtRest = (head : List ℕ) (es : List Entry) (e : Entry) (more : List ℕ) → IsAtRest head (es ++ e ∷ []) (up_to_gate head es ++ open_gate ∷ (behind_gate e ++ closed_gate ∷ more))
+OpenedIsAtRest = (head : List ℕ) (es : List Entry) (e : Entry) (more : List ℕ)
+    → IsAtRest head (es ++ e ∷ []) (up_to_gate head es ++ open_gate ∷ (behind_gate e ++ closed_gate ∷ more))
 
 -- one image that is well formed is what a run may find: so is what a crash leaves of a run
 abbrev pub OneImageStands : Type 0

@@ -117,7 +117,8 @@ record_at bytes = do
 
 -- what is read behind an open gate is spelled so, and a byte stands behind it
 abbrev pub RecordIsSpelled : Type 0
-RecordIsSpelled = (bytes rest : List ℕ) (e : Entry) → AreBytes bytes → record_at bytes ≡ Ok (e, rest) → (bytes ≡ behind_gate e ++ rest) × (1 ≤ length rest) × IsEntry e
+RecordIsSpelled = (bytes rest : List ℕ) (e : Entry) → AreBytes bytes → record_at bytes ≡ Ok (e, rest)
+    → (bytes ≡ behind_gate e ++ rest) × (1 ≤ length rest) × IsEntry e
 
 -- what is spelled behind a gate is read as the entry, if a byte stands behind it
 abbrev pub RecordIsRead : Type 0
@@ -125,19 +126,23 @@ RecordIsRead = (e : Entry) (rest : List ℕ) → IsEntry e → 1 ≤ length rest
 
 -- where entries stand before a place and e stands at it, the entries and then e stand before the gate behind e
 abbrev pub EntryGoesOn : Type 0
-EntryGoesOn = (head bytes : List ℕ) (es : List Entry) (place : ℕ) (e : Entry) (next : ℕ) → StandsBefore head bytes es place → HasEntryAt bytes place e next → StandsBefore head bytes (es ++ e ∷ []) next
+EntryGoesOn = (head bytes : List ℕ) (es : List Entry) (place : ℕ) (e : Entry) (next : ℕ) → StandsBefore head bytes es place
+    → HasEntryAt bytes place e next → StandsBefore head bytes (es ++ e ∷ []) next
 
 -- where entries stand before a place and the gate there is closed, the bytes read as the entries
 abbrev pub ClosedGateEnds : Type 0
-ClosedGateEnds = (head bytes : List ℕ) (es : List Entry) (place : ℕ) → StandsBefore head bytes es place → IsClosedAt bytes place → ReadsAs head bytes es
+ClosedGateEnds = (head bytes : List ℕ) (es : List Entry) (place : ℕ) → StandsBefore head bytes es place → IsClosedAt bytes place
+    → ReadsAs head bytes es
 
 -- where the gate behind the entries is open and no whole entry and next gate stand behind it, the reading breaks at that gate
 abbrev pub BrokenGateBreaks : Type 0
-BrokenGateBreaks = (head bytes : List ℕ) (es : List Entry) (place : ℕ) → StandsBefore head bytes es place → IsBrokenAt bytes place → BreaksAt head bytes place
+BrokenGateBreaks = (head bytes : List ℕ) (es : List Entry) (place : ℕ) → StandsBefore head bytes es place → IsBrokenAt bytes place
+    → BreaksAt head bytes place
 
 -- bytes that read as entries have each of them at its place
 abbrev pub EntryIsThere : Type 0
-EntryIsThere = (head bytes : List ℕ) (es fs : List Entry) (e : Entry) → ReadsAs head bytes (es ++ e ∷ fs) → HasEntryAt bytes (length (up_to_gate head es)) e (length (up_to_gate head (es ++ e ∷ [])))
+EntryIsThere = (head bytes : List ℕ) (es fs : List Entry) (e : Entry) → ReadsAs head bytes (es ++ e ∷ fs)
+    → HasEntryAt bytes (length (up_to_gate head es)) e (length (up_to_gate head (es ++ e ∷ [])))
 
 -- bytes that read as entries have a closed gate behind the last of them
 abbrev pub GateIsThere : Type 0

@@ -16,7 +16,8 @@ pub record HasRest (seen : Option (List ℕ)) (may_leave : List ℕ → Type 0) 
   pub each : AllByRecursion IsEntry es
 
 -- an entry is staged behind the closed gate at this place, and every crash leaves it so
-pub record HasStaged (seen : Option (List ℕ)) (may_leave : List ℕ → Type 0) (head : List ℕ) (es : List Entry) (e : Entry) (gate : ℕ) : Type 0 where
+pub record HasStaged (seen : Option (List ℕ)) (may_leave : List ℕ → Type 0) (head : List ℕ) (es : List Entry) (e : Entry)
+    (gate : ℕ) : Type 0 where
   pub file : List ℕ
   pub told : seen ≡ Some file
   pub more : List ℕ
@@ -51,20 +52,26 @@ abbrev pub LeavesStaged : List ℕ → List Entry → (List ℕ → Type 0) → 
 LeavesStaged head es images c = IsImageOf head c es ⊎ ((e : Entry) × AllOpening head es e images × IsImageOf head c (es ++ e ∷ []))
 
 -- a crash at any moment since old leaves an image that has P
-pub record LeavesOnly {D : Type 0} (moment : D → ℕ) (left_since : D → ℕ → List ℕ → Type 0) (old new : D) (P : List ℕ → Type 0) : Type 0 where
+pub record LeavesOnly {D : Type 0} (moment : D → ℕ) (left_since : D → ℕ → List ℕ → Type 0) (old new : D)
+    (P : List ℕ → Type 0) : Type 0 where
   pub later : moment old ≤ moment new
   pub each : (c : List ℕ) → left_since new (moment old) c → P c
   -- for a run that began earlier
   pub before : (t : ℕ) (c : List ℕ) → t ≤ moment old → left_since new t c → left_since old t c ⊎ P c
 
 -- The disk was only read: it reads as it did, its images are those that there were, and so they were at each moment since.
-pub record OnlyReads {D : Type 0} (seen : D → Option (List ℕ)) (may_leave : D → List ℕ → Type 0) (moment : D → ℕ) (left_since : D → ℕ → List ℕ → Type 0) (old new : D) : Type 0 where
+pub record OnlyReads {D : Type 0} (seen : D → Option (List ℕ)) (may_leave : D → List ℕ → Type 0) (moment : D → ℕ)
+    (left_since : D → ℕ → List ℕ → Type 0) (old new : D) : Type 0 where
   pub reads : seen new ≡ seen old
   pub images : SameImages (may_leave old) (may_leave new)
   pub moments : LeavesOnly moment left_since old new (may_leave old)
 
 -- An entry is appended in this order. Until it is staged whole, a crash leaves the entries that there were; from then on these or one
 -- more.
-abbrev pub StagesThenOpens : {D : Type 0} → (D → Option (List ℕ)) → (D → List ℕ → Type 0) → (D → ℕ) → (D → ℕ → List ℕ → Type 0) → D → D → List ℕ → List Entry → Entry → ℕ → Type 0
-StagesThenOpens {D} seen may_leave moment left_since old new head es e gate = LeavesOnly moment left_since old new (λ image. IsImageOf head image es)
-    ⊎ ((mid : D) × HasStaged (seen mid) (may_leave mid) head es e gate × LeavesOnly moment left_since old mid (λ image. IsImageOf head image es) × LeavesOnly moment left_since mid new (IsWithOrWithout head es e))
+abbrev pub StagesThenOpens : {D : Type 0} → (D → Option (List ℕ)) → (D → List ℕ → Type 0) → (D → ℕ) → (D → ℕ → List ℕ → Type 0) → D → D
+    → List ℕ → List Entry → Entry → ℕ → Type 0
+StagesThenOpens {D} seen may_leave moment left_since old new head es e gate = LeavesOnly moment left_since old new
+    (λ image. IsImageOf head image es)
+    ⊎ ((mid : D) × HasStaged (seen mid) (may_leave mid) head es e gate
+    × LeavesOnly moment left_since old mid (λ image. IsImageOf head image es)
+    × LeavesOnly moment left_since mid new (IsWithOrWithout head es e))

@@ -22,7 +22,8 @@ pub fn close_gate<D: Disk>(disk: &mut D, gate: u64) -> Result<(), Failed>
         → HasRest (D.seen disk.new) (D.may_leave disk.new) head fs gate) }
 
     // A crash at any moment leaves a well formed journal with the entries that the run found, or with the staged one too.
-    ensures any_moment { (head : List ℕ) (es fs : List Entry) → Stands head es (D.may_leave disk.old) → EndsAt (D.seen disk.old) head fs gate
+    ensures any_moment { (head : List ℕ) (es fs : List Entry) → Stands head es (D.may_leave disk.old)
+        → EndsAt (D.seen disk.old) head fs gate
         → LeavesOnly D.moment D.left_since disk.old disk.new (LeavesStaged head es (D.may_leave disk.old)) }
 
     // And where the gate is closed as it is written, only what a crash could leave before.
@@ -60,9 +61,11 @@ fn shut_gate<D: Disk>(disk: &mut D, gate: u64) -> Result<(), Failed>
     requires { IfSome (D.seen disk.old) (λ file. gate + 1 ≤ length file) }
     ensures ok { OnOk result ((head : List ℕ) (fs : List Entry) → EndsAt (D.seen disk.old) head fs gate
         → HasRest (D.seen disk.new) (D.may_leave disk.new) head fs gate) }
-    ensures any_moment { (head : List ℕ) (es : List Entry) (e : Entry) → AllByRecursion IsEntry es → IsEntry e → AllOpening head es e (D.may_leave disk.old) → gate ≡ length (up_to_gate head es)
+    ensures any_moment { (head : List ℕ) (es : List Entry) (e : Entry) → AllByRecursion IsEntry es → IsEntry e
+        → AllOpening head es e (D.may_leave disk.old) → gate ≡ length (up_to_gate head es)
         → LeavesOnly D.moment D.left_since disk.old disk.new (IsWithOrWithout head es e) }
-    ensures stands { (head : List ℕ) (es : List Entry) (e : Entry) → AllOpening head es e (D.may_leave disk.old) → gate ≡ length (up_to_gate head es)
+    ensures stands { (head : List ℕ) (es : List Entry) (e : Entry) → AllOpening head es e (D.may_leave disk.old)
+        → gate ≡ length (up_to_gate head es)
         → AllOpening head es e (D.may_leave disk.new) }
     ensures length { (len : ℕ) → HasLength (D.seen disk.old) len → OnOk result (HasLength (D.seen disk.new) len) }
     ensures cause { HasCause (D.faults disk.old) (D.faults disk.new) result }

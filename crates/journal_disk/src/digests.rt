@@ -31,7 +31,8 @@ pub fn digest_before<D: Disk>(disk: &mut D, end: u64) -> Result<[u8; 32], Failed
 fn hash_chunk<D: Disk>(disk: &mut D, hasher: &mut Sha256, at: u64, n: u64) -> Result<(), Failed>
     requires within { IfSome (D.seen disk.old) (λ file. at + n ≤ length file) }
     requires short { n ≤ 4096 }
-    ensures hashed { OnOk result (IfSome (D.seen disk.old) (λ file. (m : List ℕ) → Holds256 hasher.old m → Holds256 hasher.new (m ++ take n (drop at file)))) }
+    ensures hashed { OnOk result (IfSome (D.seen disk.old)
+        (λ file. (m : List ℕ) → Holds256 hasher.old m → Holds256 hasher.new (m ++ take n (drop at file)))) }
     ensures disk { OnlyReads D.seen D.may_leave D.moment D.left_since disk.old disk.new }
     ensures cause { HasCause (D.faults disk.old) (D.faults disk.new) result }
 {

@@ -16,21 +16,26 @@ pub fn append<D: Disk>(disk: &mut D, gate: u64, bytes: &[u8]) -> Result<(), Fail
     requires limit { gate < 2 ^ 30 }
 
     // At Ok the journal is at rest with the entry, whatever crash comes.
-    ensures ok { OnOk result ((head : List ℕ) (es : List Entry) (e : Entry) → HasRest (D.seen disk.old) (D.may_leave disk.old) head es gate → IsEntry e → bytes.now ≡ staged e
+    ensures ok { OnOk result ((head : List ℕ) (es : List Entry) (e : Entry) → HasRest (D.seen disk.old) (D.may_leave disk.old) head es gate
+        → IsEntry e → bytes.now ≡ staged e
         → HasRest (D.seen disk.new) (D.may_leave disk.new) head (es ++ e ∷ []) (gate + length bytes.now)) }
 
     // A crash at any moment leaves a well formed journal with the entry or without it.
-    ensures any_moment { (head : List ℕ) (es : List Entry) (e : Entry) → HasRest (D.seen disk.old) (D.may_leave disk.old) head es gate → IsEntry e → bytes.now ≡ staged e
+    ensures any_moment { (head : List ℕ) (es : List Entry) (e : Entry) → HasRest (D.seen disk.old) (D.may_leave disk.old) head es gate
+        → IsEntry e → bytes.now ≡ staged e
         → LeavesOnly D.moment D.left_since disk.old disk.new (IsWithOrWithout head es e) }
 
     // Before the gate is written, with the old entries.
-    ensures in_order { (head : List ℕ) (es : List Entry) (e : Entry) → HasRest (D.seen disk.old) (D.may_leave disk.old) head es gate → IsEntry e → bytes.now ≡ staged e
+    ensures in_order { (head : List ℕ) (es : List Entry) (e : Entry) → HasRest (D.seen disk.old) (D.may_leave disk.old) head es gate
+        → IsEntry e → bytes.now ≡ staged e
         → StagesThenOpens D.seen D.may_leave D.moment D.left_since disk.old disk.new head es e gate }
 
     // What the next run may find.
-    ensures stands { (head : List ℕ) (es : List Entry) (e : Entry) → HasRest (D.seen disk.old) (D.may_leave disk.old) head es gate → IsEntry e → bytes.now ≡ staged e
+    ensures stands { (head : List ℕ) (es : List Entry) (e : Entry) → HasRest (D.seen disk.old) (D.may_leave disk.old) head es gate
+        → IsEntry e → bytes.now ≡ staged e
         → Stands head es (D.may_leave disk.new) }
-    ensures length { (len : ℕ) → HasLength (D.seen disk.old) len → OnOk result (HasLength (D.seen disk.new) (max len (gate + 1 + length bytes.now))) }
+    ensures length { (len : ℕ) → HasLength (D.seen disk.old) len
+        → OnOk result (HasLength (D.seen disk.new) (max len (gate + 1 + length bytes.now))) }
     ensures cause { HasCause (D.faults disk.old) (D.faults disk.new) result }
 {
     stage(disk, gate, bytes)?;
@@ -41,14 +46,17 @@ pub fn append<D: Disk>(disk: &mut D, gate: u64, bytes: &[u8]) -> Result<(), Fail
 pub fn stage<D: Disk>(disk: &mut D, gate: u64, bytes: &[u8]) -> Result<(), Failed>
     requires within { IfSome (D.seen disk.old) (λ file. gate + 1 ≤ length file) }
     requires limit { gate < 2 ^ 30 }
-    ensures ok { OnOk result ((head : List ℕ) (es : List Entry) (e : Entry) → HasRest (D.seen disk.old) (D.may_leave disk.old) head es gate → IsEntry e → bytes.now ≡ staged e
+    ensures ok { OnOk result ((head : List ℕ) (es : List Entry) (e : Entry) → HasRest (D.seen disk.old) (D.may_leave disk.old) head es gate
+        → IsEntry e → bytes.now ≡ staged e
         → HasStaged (D.seen disk.new) (D.may_leave disk.new) head es e gate) }
 
     // A crash at any moment leaves the entries that there were.
     ensures any_moment { (head : List ℕ) (es : List Entry) → HasRest (D.seen disk.old) (D.may_leave disk.old) head es gate
         → LeavesOnly D.moment D.left_since disk.old disk.new (λ image. IsImageOf head image es) }
-    ensures rests { (head : List ℕ) (es : List Entry) → HasRest (D.seen disk.old) (D.may_leave disk.old) head es gate → AllAtRest head es (D.may_leave disk.new) }
-    ensures length { (len : ℕ) → HasLength (D.seen disk.old) len → OnOk result (HasLength (D.seen disk.new) (max len (gate + 1 + length bytes.now))) }
+    ensures rests { (head : List ℕ) (es : List Entry) → HasRest (D.seen disk.old) (D.may_leave disk.old) head es gate
+        → AllAtRest head es (D.may_leave disk.new) }
+    ensures length { (len : ℕ) → HasLength (D.seen disk.old) len
+        → OnOk result (HasLength (D.seen disk.new) (max len (gate + 1 + length bytes.now))) }
     ensures within { OnOk result (IfSome (D.seen disk.new) (λ file. gate ≤ length file)) }
     ensures cause { HasCause (D.faults disk.old) (D.faults disk.new) result }
 {
@@ -59,13 +67,15 @@ pub fn stage<D: Disk>(disk: &mut D, gate: u64, bytes: &[u8]) -> Result<(), Faile
 /// Opens the gate before a staged entry, and makes that last.
 pub fn open_gate<D: Disk>(disk: &mut D, gate: u64) -> Result<(), Failed>
     requires { IfSome (D.seen disk.old) (λ file. gate ≤ length file) }
-    ensures ok { OnOk result ((head : List ℕ) (es : List Entry) (e : Entry) → HasStaged (D.seen disk.old) (D.may_leave disk.old) head es e gate
+    ensures ok { OnOk result ((head : List ℕ) (es : List Entry) (e : Entry)
+        → HasStaged (D.seen disk.old) (D.may_leave disk.old) head es e gate
         → HasRest (D.seen disk.new) (D.may_leave disk.new) head (es ++ e ∷ []) (gate + length (staged e))) }
 
     // A crash at any moment leaves a well formed journal with the entry or without it.
     ensures any_moment { (head : List ℕ) (es : List Entry) (e : Entry) → HasStaged (D.seen disk.old) (D.may_leave disk.old) head es e gate
         → LeavesOnly D.moment D.left_since disk.old disk.new (IsWithOrWithout head es e) }
-    ensures opening { (head : List ℕ) (es : List Entry) (e : Entry) → HasStaged (D.seen disk.old) (D.may_leave disk.old) head es e gate → AllOpening head es e (D.may_leave disk.new) }
+    ensures opening { (head : List ℕ) (es : List Entry) (e : Entry) → HasStaged (D.seen disk.old) (D.may_leave disk.old) head es e gate
+        → AllOpening head es e (D.may_leave disk.new) }
     ensures length { (len : ℕ) → gate + 1 ≤ len → HasLength (D.seen disk.old) len → OnOk result (HasLength (D.seen disk.new) len) }
     ensures cause { HasCause (D.faults disk.old) (D.faults disk.new) result }
 {

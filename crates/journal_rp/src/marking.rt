@@ -38,9 +38,12 @@ impl Journal<Reading> {
     ) -> Result<(), JournalFault>
         requires as_left { HasLength (D.seen disk.old) (len_of self.old) }
         requires unread { gate_of self.old ≡ 60 }
-        ensures ok { OnOk result ((60 ≤ place) × IfSome (D.seen disk.old) (λ file. (place < length file) × (sha256 (take place file) ≡ digest.now))) }
+        ensures ok { OnOk result ((60 ≤ place)
+            × IfSome (D.seen disk.old) (λ file. (place < length file) × (sha256 (take place file) ≡ digest.now))) }
         ensures gate { OnOk result (gate_of self.new ≡ place) }
-        ensures other { IfOther result (λ at. (at ≡ place) × IfSome (D.seen disk.old) (λ file. 60 ≤ place → place < length file → sha256 (take place file) ≢ digest.now)) }
+        ensures other { IfOther result
+            (λ at. (at ≡ place) × IfSome (D.seen disk.old)
+            (λ file. 60 ≤ place → place < length file → sha256 (take place file) ≢ digest.now)) }
         ensures err { OnErr result (self.new ≡ self.old) }
         ensures as_left { HasLength (D.seen disk.new) (len_of self.new) }
         ensures kind { version_of self.new ≡ version_of self.old }

@@ -92,7 +92,8 @@ impl Journal<Reading> {
         disk: &mut D,
     ) -> Result<Option<EntryBytes>, JournalFault>
         requires { HasLength (D.seen disk.old) (len_of self.old) }
-        ensures found { IfOk result (λ o. IfSome o (λ e. IfSome (D.seen disk.old) (λ file. HasEntryAt file (gate_of self.old) (kept e) (gate_of self.new)))) }
+        ensures found { IfOk result (λ o. IfSome o
+            (λ e. IfSome (D.seen disk.old) (λ file. HasEntryAt file (gate_of self.old) (kept e) (gate_of self.new)))) }
         ensures closed { IfOk result (λ o. IfNone o (IfSome (D.seen disk.old) (λ file. IsClosedAt file (gate_of self.old)))) }
         ensures broken { IfEntry result (λ place. (place ≡ gate_of self.old) × IfSome (D.seen disk.old) (λ file. IsBrokenAt file place)) }
 

@@ -23,7 +23,8 @@ fn begun<D: Disk>(disk: &mut D, header: &Header) -> Result<Journal<Reading>, Jou
     requires { HasLength (D.seen disk.old) 0 }
 
     // It is at rest without entries, whatever crash comes.
-    ensures ok { IfOk result (λ j. IsSomeAnd (D.seen disk.old) (λ file. file ≡ []) → HasRest (D.seen disk.new) (D.may_leave disk.new) (header_bytes Two (header_of header.now)) [] (gate_of j)) }
+    ensures ok { IfOk result (λ j. IsSomeAnd (D.seen disk.old) (λ file. file ≡ [])
+        → HasRest (D.seen disk.new) (D.may_leave disk.new) (header_bytes Two (header_of header.now)) [] (gate_of j)) }
     ensures kind { IfOk result (λ j. version_in j ≡ Two) }
     ensures gate { IfOk result (λ j. gate_of j ≡ 60) }
     ensures length { IfOk result (λ j. HasLength (D.seen disk.new) (len_of j)) }
@@ -47,7 +48,8 @@ fn opened<D: Disk>(
 ) -> Result<Journal<Reading>, JournalFault>
     requires { HasLength (D.seen disk.old) len }
     ensures found { IfOk result (λ j. IfSome (D.seen disk.old) (IsJournal (version_in j) (header_of header.now))) }
-    ensures first { IfOk result (λ j. IfSome (D.seen disk.old) (λ file. StandsBefore (header_bytes (version_in j) (header_of header.now)) file [] (gate_of j))) }
+    ensures first { IfOk result (λ j. IfSome (D.seen disk.old)
+        (λ file. StandsBefore (header_bytes (version_in j) (header_of header.now)) file [] (gate_of j))) }
     ensures refused { IfNotAJournal result (IfSome (D.seen disk.old) (λ file. (v : Kind) → ¬ IsJournal v (header_of header.now) file)) }
     ensures gate { IfOk result (λ j. gate_of j ≡ 60) }
     ensures length { IfOk result (λ j. HasLength (D.seen disk.new) (len_of j)) }
@@ -79,16 +81,21 @@ impl Journal<Reading> {
     ///
     /// `NotAJournal` comes exactly where the disk has 1 to 60 bytes or begins with another header.
     pub fn start<D: Disk>(disk: &mut D, header: &Header) -> Result<Journal<Reading>, JournalFault>
-        ensures begun { IfOk result (λ j. IsSomeAnd (D.seen disk.old) (λ file. file ≡ []) → HasRest (D.seen disk.new) (D.may_leave disk.new) (header_bytes Two (header_of header.now)) [] (gate_of j)) }
+        ensures begun { IfOk result (λ j. IsSomeAnd (D.seen disk.old) (λ file. file ≡ [])
+            → HasRest (D.seen disk.new) (D.may_leave disk.new) (header_bytes Two (header_of header.now)) [] (gate_of j)) }
         ensures new_kind { IfOk result (λ j. IsSomeAnd (D.seen disk.old) (λ file. file ≡ []) → version_in j ≡ Two) }
-        ensures found { IfOk result (λ j. IfSome (D.seen disk.old) (λ file. file ≢ [] → IsJournal (version_in j) (header_of header.now) file)) }
-        ensures first { IfOk result (λ j. IfSome (D.seen disk.old) (λ file. file ≢ [] → StandsBefore (header_bytes (version_in j) (header_of header.now)) file [] (gate_of j))) }
-        ensures refused { IfNotAJournal result (IfSome (D.seen disk.old) (λ file. (file ≢ []) × ((v : Kind) → ¬ IsJournal v (header_of header.now) file))) }
+        ensures found { IfOk result (λ j. IfSome (D.seen disk.old)
+            (λ file. file ≢ [] → IsJournal (version_in j) (header_of header.now) file)) }
+        ensures first { IfOk result (λ j. IfSome (D.seen disk.old)
+            (λ file. file ≢ [] → StandsBefore (header_bytes (version_in j) (header_of header.now)) file [] (gate_of j))) }
+        ensures refused { IfNotAJournal result
+            (IfSome (D.seen disk.old) (λ file. (file ≢ []) × ((v : Kind) → ¬ IsJournal v (header_of header.now) file))) }
         ensures gate { IfOk result (λ j. gate_of j ≡ 60) }
         ensures length { IfOk result (λ j. HasLength (D.seen disk.new) (len_of j)) }
 
         // A disk that is not empty is only read: a crash at any moment leaves what it might have left before.
-        ensures only_read { IsSomeAnd (D.seen disk.old) (λ file. file ≢ []) → OnlyReads D.seen D.may_leave D.moment D.left_since disk.old disk.new }
+        ensures only_read { IsSomeAnd (D.seen disk.old) (λ file. file ≢ [])
+            → OnlyReads D.seen D.may_leave D.moment D.left_since disk.old disk.new }
         ensures cause { HasCauses of_start (D.faults disk.old) (D.faults disk.new) result }
     {
         let len = length_of(disk)?;

@@ -32,7 +32,8 @@ impl Journal<Reading> {
             → HasRest (D.seen disk.new) (D.may_leave disk.new) head fs (gate_of self)) }
 
         // A crash at any moment leaves a well formed journal with the entries that the run found, or with the staged one too.
-        ensures any_moment { (head : List ℕ) (es fs : List Entry) → Stands head es (D.may_leave disk.old) → EndsAt (D.seen disk.old) head fs (gate_of self)
+        ensures any_moment { (head : List ℕ) (es fs : List Entry) → Stands head es (D.may_leave disk.old)
+            → EndsAt (D.seen disk.old) head fs (gate_of self)
             → LeavesOnly D.moment D.left_since disk.old disk.new (LeavesStaged head es (D.may_leave disk.old)) }
 
         // And where the gate is closed as it is written, only what a crash could leave before.
@@ -40,7 +41,8 @@ impl Journal<Reading> {
             → LeavesOnly D.moment D.left_since disk.old disk.new (D.may_leave disk.old) }
 
         // What the next run may find.
-        ensures stands { (head : List ℕ) (es fs : List Entry) → Stands head es (D.may_leave disk.old) → EndsAt (D.seen disk.old) head fs (gate_of self)
+        ensures stands { (head : List ℕ) (es fs : List Entry) → Stands head es (D.may_leave disk.old)
+            → EndsAt (D.seen disk.old) head fs (gate_of self)
             → Stands head es (D.may_leave disk.new) }
         ensures place { IfOk result (λ j. (gate_of j ≡ gate_of self) × (version_of j ≡ version_of self)) }
         ensures length { IfOk result (λ j. HasLength (D.seen disk.new) (len_of j)) }
@@ -76,19 +78,23 @@ impl Journal<Writing> {
         requires as_left { HasLength (D.seen disk.old) (len_of self) }
 
         // At Ok every crash leaves the entry too.
-        ensures ok { IfOk result (λ x. (head : List ℕ) (es : List Entry) (e : Entry) → HasRest (D.seen disk.old) (D.may_leave disk.old) head es (gate_of self) → IsEntry e → staged_of turn ≡ staged e
+        ensures ok { IfOk result (λ x. (head : List ℕ) (es : List Entry) (e : Entry)
+            → HasRest (D.seen disk.old) (D.may_leave disk.old) head es (gate_of self) → IsEntry e → staged_of turn ≡ staged e
             → HasRest (D.seen disk.new) (D.may_leave disk.new) head (es ++ e ∷ []) (gate_of x.0)) }
 
         // A crash at any moment leaves a well formed journal with the entry or without it.
-        ensures any_moment { (head : List ℕ) (es : List Entry) (e : Entry) → HasRest (D.seen disk.old) (D.may_leave disk.old) head es (gate_of self) → IsEntry e → staged_of turn ≡ staged e
+        ensures any_moment { (head : List ℕ) (es : List Entry) (e : Entry)
+            → HasRest (D.seen disk.old) (D.may_leave disk.old) head es (gate_of self) → IsEntry e → staged_of turn ≡ staged e
             → LeavesOnly D.moment D.left_since disk.old disk.new (IsWithOrWithout head es e) }
 
         // Before the gate is written, without it.
-        ensures in_order { (head : List ℕ) (es : List Entry) (e : Entry) → HasRest (D.seen disk.old) (D.may_leave disk.old) head es (gate_of self) → IsEntry e → staged_of turn ≡ staged e
+        ensures in_order { (head : List ℕ) (es : List Entry) (e : Entry)
+            → HasRest (D.seen disk.old) (D.may_leave disk.old) head es (gate_of self) → IsEntry e → staged_of turn ≡ staged e
             → StagesThenOpens D.seen D.may_leave D.moment D.left_since disk.old disk.new head es e (gate_of self) }
 
         // What the next run may find.
-        ensures stands { (head : List ℕ) (es : List Entry) (e : Entry) → HasRest (D.seen disk.old) (D.may_leave disk.old) head es (gate_of self) → IsEntry e → staged_of turn ≡ staged e
+        ensures stands { (head : List ℕ) (es : List Entry) (e : Entry)
+            → HasRest (D.seen disk.old) (D.may_leave disk.old) head es (gate_of self) → IsEntry e → staged_of turn ≡ staged e
             → Stands head es (D.may_leave disk.new) }
 
         // The turn that was handed in is the one that is lent.
@@ -96,7 +102,8 @@ impl Journal<Writing> {
         ensures entry { IfOk result (λ x. staged_of x.1 ≡ staged_of turn) }
 
         // `Full` tells the bytes up to and with the closed gate, and those of the entry.
-        ensures full { IfFull result (λ whole entry. (whole ≡ gate_of self + 1) × (entry ≡ length (staged_of turn) - 5) × (2 ^ 30 < gate_of self + 1 + length (staged_of turn)) × (disk.new ≡ disk.old)) }
+        ensures full { IfFull result (λ whole entry. (whole ≡ gate_of self + 1) × (entry ≡ length (staged_of turn) - 5)
+            × (2 ^ 30 < gate_of self + 1 + length (staged_of turn)) × (disk.new ≡ disk.old)) }
         ensures room { 2 ^ 30 < gate_of self + 1 + length (staged_of turn) → IsFull result }
         ensures kind { IfOk result (λ x. version_of x.0 ≡ version_of self) }
         ensures length { IfOk result (λ x. HasLength (D.seen disk.new) (len_of x.0)) }

@@ -38,7 +38,8 @@ pub data KitFault : Type 0 where
 -- what the words behind `rampart` say
 abbrev pub version_by : List (List ℕ) → Option KitLine
 version_by (kit ∷ number ∷ []) =
-    if same_bytes kit (codes "kit") then first_that_holds ((same_bytes number (codes "1"), Version One) ∷ (same_bytes number (codes "2"), Version Two) ∷ []) else None
+    if same_bytes kit (codes "kit")
+    then first_that_holds ((same_bytes number (codes "1"), Version One) ∷ (same_bytes number (codes "2"), Version Two) ∷ []) else None
 version_by _ = None
 
 -- kits of the scheme are spelled in the version
@@ -308,7 +309,8 @@ listed_key d p = unwrap_or (key_of d.keys p) []
 
 -- the public key of this secret is the one of the process's key line
 abbrev pub matching : ℕ → Draft → ℕ → Secret → Result (Unit {0}) KitFault
-matching n d p secret = refuse_if (not (same_bytes (public_key_of secret) (listed_key d p))) (KeyMismatch n (public_key_of secret) (listed_key d p))
+matching n d p secret = refuse_if (not (same_bytes (public_key_of secret) (listed_key d p)))
+    (KeyMismatch n (public_key_of secret) (listed_key d p))
 
 -- ---- a line that is taken
 

@@ -100,9 +100,11 @@ line_words (Key process key) = codes "key" ∷ decimal process ∷ encode_lower 
 line_words (Genesis members) = codes "genesis" ∷ map decimal members
 line_words (Port process port) = codes "port" ∷ decimal process ∷ decimal port ∷ []
 line_words (PlainHost process total) = codes "host" ∷ decimal process ∷ codes "plain" ∷ decimal total ∷ []
-line_words (LmsHost process code kind id seed) = codes "host" ∷ decimal process ∷ codes "lms" ∷ decimal code ∷ decimal (ots_typecode kind) ∷ encode_lower id ∷ encode_lower seed ∷ []
+line_words (LmsHost process code kind id seed) = codes "host" ∷ decimal process ∷ codes "lms" ∷ decimal code ∷ decimal (ots_typecode kind)
+    ∷ encode_lower id ∷ encode_lower seed ∷ []
 line_words (HssHost process levels code kind id seed) =
-    codes "host" ∷ decimal process ∷ codes "hss" ∷ decimal levels ∷ decimal code ∷ decimal (ots_typecode kind) ∷ encode_lower id ∷ encode_lower seed ∷ []
+    codes "host" ∷ decimal process ∷ codes "hss" ∷ decimal levels ∷ decimal code ∷ decimal (ots_typecode kind) ∷ encode_lower id
+    ∷ encode_lower seed ∷ []
 line_words (Pair process other key) = codes "pair" ∷ decimal process ∷ decimal other ∷ encode_lower key ∷ []
 
 -- the line of a process and its public key
@@ -129,7 +131,8 @@ host_lines h = secret_line h.process h.secret ∷ map (pair_line h.process) h.pa
 
 -- the lines that all may know
 abbrev pub public_lines : Kit → List KitLine
-public_lines kit = Version (version_of kit.scheme) ∷ SchemeIs kit.scheme ∷ GroupIs kit.group ∷ (map key_line kit.keys ++ Genesis kit.genesis ∷ map port_line kit.ports)
+public_lines kit = Version (version_of kit.scheme) ∷ SchemeIs kit.scheme ∷ GroupIs kit.group
+    ∷ (map key_line kit.keys ++ Genesis kit.genesis ∷ map port_line kit.ports)
 
 -- the lines of a kit, the secret ones last
 abbrev pub kit_lines : Kit → List KitLine

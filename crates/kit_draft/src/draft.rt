@@ -160,7 +160,9 @@ impl Draft {
 
     // The pair line of the processes that the first two words name stands.
     fn is_pair_again(&self, mut words: Words<'_>) -> bool
-        ensures { result ≡ is_some_and (first_process (parts_left words.entry)) (λ p. is_some_and (first_process (drop 1 (parts_left words.entry))) (λ q. list_any (λ host. (host.process == p) && list_any (λ pair. pair.0 == q) host.pairs) self.now.hosts)) }
+        ensures { result ≡ is_some_and (first_process (parts_left words.entry))
+            (λ p. is_some_and (first_process (drop 1 (parts_left words.entry)))
+            (λ q. list_any (λ host. (host.process == p) && list_any (λ pair. pair.0 == q) host.pairs) self.now.hosts)) }
     {
         let Some(p) = next_process(&mut words) else {
             return false;
@@ -308,7 +310,8 @@ impl Draft {
 
 // The two processes whose pair line comes next behind those of a host.
 fn next_behind(last: &Host, set: PidSet) -> Option<(Pid, Pid)>
-    ensures { result ≡ option_map (λ q. (last.now.process, q)) (plain.first_of (drop (length last.now.pairs.items) (others_than last.now.process set))) }
+    ensures { result ≡ option_map (λ q. (last.now.process, q))
+        (plain.first_of (drop (length last.now.pairs.items) (others_than last.now.process set))) }
 {
     let other = nth_other(set, last.process, last.pairs.len())?;
     Some((last.process, other))

@@ -126,13 +126,15 @@ impl Kit {
     /// The secret of a process; None exactly where it is not hosted here.
     pub fn secret(&self, p: Pid) -> Option<&Secret>
         ensures hosted { IsSome result ↔ IsTrue (has (map (λ host. host.process) self.now.hosts) p) }
-        ensures value { option_map secret (option_copied result) ≡ option_map (λ host. host.secret) (find (λ host. host.process == p) self.now.hosts) }
+        ensures value { option_map secret (option_copied result)
+            ≡ option_map (λ host. host.secret) (find (λ host. host.process == p) self.now.hosts) }
     {
         self.find_secret(p)
     }
 
     fn find_secret(&self, p: Pid) -> Option<&Secret>
-        ensures { option_map secret (option_copied result) ≡ option_map (λ host. host.secret) (find (λ host. host.process == p) self.now.hosts) }
+        ensures { option_map secret (option_copied result)
+            ≡ option_map (λ host. host.secret) (find (λ host. host.process == p) self.now.hosts) }
     {
         for host in &self.parts.hosts {
             if host.process == p {
@@ -147,7 +149,8 @@ impl Kit {
     pub fn pair(&self, p: Pid, q: Pid) -> Option<&[u8; 32]>
         ensures shared { IsSome result
             ↔ (IsTrue (has (map (λ host. host.process) self.now.hosts) p) × IsTrue (has (roster_of self.now.keys) q) × (p ≢ q)) }
-        ensures value { option_copied result ≡ option_and_then (λ host. key_of host.pairs q) (find (λ host. host.process == p) self.now.hosts) }
+        ensures value { option_copied result
+            ≡ option_and_then (λ host. key_of host.pairs q) (find (λ host. host.process == p) self.now.hosts) }
     {
         let _ = &self.parts; // for the proof: what holds of a kit's parts
         self.find_pair(p, q)

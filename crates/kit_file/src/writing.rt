@@ -44,7 +44,8 @@ pub(crate) fn push_public(out: &mut Vec<u8>, parts: &Parts) -> Result<(), NoMemo
 
 // The lines before the first key.
 fn push_head(out: &mut Vec<u8>, of: AnyScheme, group: GroupId) -> Result<(), NoMemory>
-    ensures { OnOk result (out.new.items ≡ out.old.items ++ text_of_lines (Version (version_of (scheme of)) ∷ SchemeIs (scheme of) ∷ GroupIs group ∷ [])) }
+    ensures { OnOk result (out.new.items ≡ out.old.items
+        ++ text_of_lines (Version (version_of (scheme of)) ∷ SchemeIs (scheme of) ∷ GroupIs group ∷ [])) }
 {
     out.extend_from_slice(match of {
         AnyScheme::Plain => b"rampart kit 1\nscheme plain\n",

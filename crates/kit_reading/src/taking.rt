@@ -49,7 +49,8 @@ fn like(key: PublicKey, bytes: &[u8]) -> PublicKey
 
 // A host with no pair line behind those that stand.
 fn push_host(all: &mut Vec<Host>, alloc: Global, process: Pid, of: Secret) -> Result<(), NoMemory>
-    ensures pushed { OnOk result (hosts all.new.items ≡ hosts all.old.items ++ record { process = process; secret = secret of; pairs = [] } ∷ []) }
+    ensures pushed { OnOk result (hosts all.new.items ≡ hosts all.old.items
+        ++ record { process = process; secret = secret of; pairs = [] } ∷ []) }
     ensures unchanged { OnErr result (all.new.items ≡ all.old.items) }
 {
     all.push(Host {

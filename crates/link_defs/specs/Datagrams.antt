@@ -84,8 +84,10 @@ to_me known from frame = record { group = known.group; from = from; to = known.m
 
 -- what is opened came, as its spelling
 abbrev pub OpenedCame : Type 0
-OpenedCame = (known : Known) (bytes : List ℕ) (from : ℕ) (frame : List ℕ) → opened known bytes ≡ Ok (from, frame) → Comes known bytes (to_me known from frame)
+OpenedCame = (known : Known) (bytes : List ℕ) (from : ℕ) (frame : List ℕ) → opened known bytes ≡ Ok (from, frame)
+    → Comes known bytes (to_me known from frame)
 
 -- what comes is opened
 abbrev pub ComingIsOpened : Type 0
-ComingIsOpened = (known : Known) (bytes : List ℕ) (d : Datagram) → length known.group ≡ 16 → Comes known bytes d → opened known bytes ≡ Ok (d.from, d.frame)
+ComingIsOpened = (known : Known) (bytes : List ℕ) (d : Datagram) → length known.group ≡ 16 → Comes known bytes d
+    → opened known bytes ≡ Ok (d.from, d.frame)

@@ -10,4 +10,5 @@ use Rattle.lms_hss.specs.declared.faults.KeyFault.TheVariants.{Levels, TooTall, 
 abbrev pub refusal : ℕ → ℕ → OtsType → Option KeyFault
 refusal levels code kind =
     first_that_holds
-    ((not (levels_in_range levels), Levels) ∷ (not (height_in_range levels code), TooTall) ∷ (not (length_in_range levels kind), TooLong) ∷ [])
+    ((not (levels_in_range levels), Levels) ∷ (not (height_in_range levels code), TooTall) ∷ (not (length_in_range levels kind), TooLong)
+    ∷ [])

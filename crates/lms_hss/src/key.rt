@@ -128,7 +128,8 @@ impl Tally for HssKey {
 
     ghost total = { λ k. total_of k };
 
-    ghost same_key = { λ s t. KeyKeeps (public_of s) (public_of t) (length_of s) (length_of t) (signature_of s) (signature_of t) hss_valid hss_valid };
+    ghost same_key = { λ s t. KeyKeeps (public_of s) (public_of t) (length_of s) (length_of t) (signature_of s)
+        (signature_of t) hss_valid hss_valid };
 
     fn used(&self) -> u32 {
         self.used

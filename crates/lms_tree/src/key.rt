@@ -46,7 +46,8 @@ impl Tally for LmsKey {
 
     ghost total = { λ k. 2 ^ k.tree.height };
 
-    ghost same_key = { λ s t. KeyKeeps (public_of s) (public_of t) (length_of s) (length_of t) (signature_of s) (signature_of t) lms_valid lms_valid };
+    ghost same_key = { λ s t. KeyKeeps (public_of s) (public_of t) (length_of s) (length_of t) (signature_of s)
+        (signature_of t) lms_valid lms_valid };
 
     fn used(&self) -> u32 {
         self.used

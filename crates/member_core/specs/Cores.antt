@@ -43,6 +43,7 @@ abbrev pub turn_of : {G : Type 0} → (G → ℕ) → (G → ℕ) → (G → ℕ
 turn_of used total signature c e = record { event = e; allowance = total c.signer - used c.signer; signer = signature c.signer }
 
 -- the new core is the process after the turn, and the outcome is that of the turn
-pub record Steps {G : Type 0} (used total : G → ℕ) (signature : G → ℕ → List ℕ → List ℕ) (s : Setting) (p : Process) (old new : Core G) (e : defs.Event) (r : Outcome) : Type 0 where
+pub record Steps {G : Type 0} (used total : G → ℕ) (signature : G → ℕ → List ℕ → List ℕ) (s : Setting) (p : Process) (old new : Core G)
+    (e : defs.Event) (r : Outcome) : Type 0 where
   pub core : IsCore used s (defs.after s p (turn_of used total signature old e)) new
   pub outcome : IsOutcome (defs.outcome s p (turn_of used total signature old e)) r

@@ -17,7 +17,8 @@ pub record Agrees (s : Setting) (p : Process) (left : ℕ) (e : defs.Event) (sig
   pub few : length signatures ≤ left
 
 -- The entry agrees, the new core is the process after the turn that the entry tells of, and the outcome is that of the turn.
-pub record Absorbs {G : Type 0} (used : G → ℕ) (s : Setting) (p : Process) (left : ℕ) (new : Core G) (e : defs.Event) (signatures : List (List ℕ)) (spent : Bool) (r : Outcome) : Type 0 where
+pub record Absorbs {G : Type 0} (used : G → ℕ) (s : Setting) (p : Process) (left : ℕ) (new : Core G) (e : defs.Event)
+    (signatures : List (List ℕ)) (spent : Bool) (r : Outcome) : Type 0 where
   pub agrees : Agrees s p left e signatures spent
   pub core : IsCore used s (defs.after s p (defs.journalled p e signatures)) new
   pub outcome : IsOutcome (defs.outcome s p (defs.journalled p e signatures)) r

@@ -23,5 +23,6 @@ pub record HandsOut (j : Journalled) (signatures : List (List ℕ)) : Type 0 whe
   pub many : j.total ≡ j.used + length signatures
 
 -- where j and k hand out the same signatures, they are one signer without a key
-pub keeps_all : (j k : Journalled) → handed_out k ≡ handed_out j → KeyKeeps [] [] 16384 16384 (handed_out j) (handed_out k) (λ key body sig. true) (λ key body sig. true)
+pub keeps_all : (j k : Journalled) → handed_out k ≡ handed_out j
+    → KeyKeeps [] [] 16384 16384 (handed_out j) (handed_out k) (λ key body sig. true) (λ key body sig. true)
 keeps_all j k same = record { public_key = refl; length = refl; signatures = same; rule = refl }

@@ -40,7 +40,8 @@ pub record HasBegun (s : Setting) (p : Process) (t : defs.Turn) (st : ProcessSta
   pub heard : r.heard ≡ length (defs.take_in s p t.event).pool.heard - length p.pool.heard
   pub signed_now : map signed r.signed.items ≡ map signed_of (drop (length p.signed) (defs.signing s p t).now.signed)
   pub spent : (defs.signing s p t).spent ≡ r.spent
-  pub sends : map frame_to r.sends.items ≡ flat_map frames_to (unless_empty (bundle (defs.is_tick t.event) p (defs.signing s p t).now) Bundle (others p p.pool.view))
+  pub sends : map frame_to r.sends.items
+      ≡ flat_map frames_to (unless_empty (bundle (defs.is_tick t.event) p (defs.signing s p t).now) Bundle (others p p.pool.view))
   pub notes : map note r.notes.items ≡ []
 
 -- Process p, which has signed, has settled: this is its state then, the outcome has more frames that answer the event, and more notes, of

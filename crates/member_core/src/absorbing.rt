@@ -34,7 +34,8 @@ pub enum AbsorbFault {
 
 // Whether the claim's signature is valid under its signer's key in the roster. Bytes that are no statement nobody has signed.
 fn is_valid<V: Scheme>(judge: &Judge<'_, V>, own: &OwnClaim) -> bool
-    ensures { (s : Setting) (c : plain.Claim) → Shares s (V.valid judge.now.scheme.now) judge.now.group.now judge.now.roster.now → IsStatement c.statement → signed own.now ≡ signed_of c → result ≡ hearing.is_valid s c }
+    ensures { (s : Setting) (c : plain.Claim) → Shares s (V.valid judge.now.scheme.now) judge.now.group.now judge.now.roster.now
+        → IsStatement c.statement → signed own.now ≡ signed_of c → result ≡ hearing.is_valid s c }
 {
     let bytes = own.statement.bytes();
     let Ok(statement) = read_statement(bytes) else {
@@ -52,7 +53,8 @@ fn is_valid<V: Scheme>(judge: &Judge<'_, V>, own: &OwnClaim) -> bool
 
 // Whether the signature of each claim is valid.
 fn are_valid<V: Scheme>(judge: &Judge<'_, V>, claims: &[OwnClaim]) -> bool
-    ensures { (s : Setting) (cs : List plain.Claim) → Shares s (V.valid judge.now.scheme.now) judge.now.group.now judge.now.roster.now → All (λ c. IsStatement c.statement) cs → map signed claims.now ≡ map signed_of cs → result ≡ list_all (hearing.is_valid s) cs }
+    ensures { (s : Setting) (cs : List plain.Claim) → Shares s (V.valid judge.now.scheme.now) judge.now.group.now judge.now.roster.now
+        → All (λ c. IsStatement c.statement) cs → map signed claims.now ≡ map signed_of cs → result ≡ list_all (hearing.is_valid s) cs }
 {
     'claims: for own in claims {
         if !is_valid(judge, own) {
@@ -93,8 +95,12 @@ fn retake<'a, V: Scheme>(
 ) -> Result<(Core<Journalled<'a>>, Outcome), AbsorbFault>
     requires hands { HandsOut (signer_of core) (signatures_left entry.now.signatures) }
     requires count { length (signatures_left entry.now.signatures) ≡ count }
-    ensures absorbs { (s : Setting) (p : Process) (left : ℕ) → IsCore used_of s p core.entry → s.valid ≡ V.valid scheme.now → count ≤ left → IfOk result (λ r. Absorbs used_of s p left r.0 (event_of entry.now.event) (signatures_left entry.now.signatures) entry.now.spent r.1) }
-    ensures only { (s : Setting) (p : Process) (left : ℕ) → IsCore used_of s p core.entry → s.valid ≡ V.valid scheme.now → Agrees s p left (event_of entry.now.event) (signatures_left entry.now.signatures) entry.now.spent → IsOkUnless result AbsorbFault.NoMemory }
+    ensures absorbs { (s : Setting) (p : Process) (left : ℕ) → IsCore used_of s p core.entry → s.valid ≡ V.valid scheme.now → count ≤ left
+        → IfOk result (λ r. Absorbs used_of s p left r.0 (event_of entry.now.event)
+        (signatures_left entry.now.signatures) entry.now.spent r.1) }
+    ensures only { (s : Setting) (p : Process) (left : ℕ) → IsCore used_of s p core.entry → s.valid ≡ V.valid scheme.now
+        → Agrees s p left (event_of entry.now.event) (signatures_left entry.now.signatures) entry.now.spent
+        → IsOkUnless result AbsorbFault.NoMemory }
 {
     let (core, outcome) = match core.step(scheme, &entry.event) {
         Ok(stepped) => stepped,
@@ -154,8 +160,12 @@ impl<G: Tally + Drop> Core<G> {
     ) -> Result<(Core<G>, Outcome), AbsorbFault>
         requires counts { used ≡ G.used (signer_of self) + length (signatures_left entry.now.signatures) }
         requires within { used ≤ G.total (signer_of self) }
-        ensures absorbs { (s : Setting) (p : Process) → IsCore G.used s p self → s.valid ≡ V.valid scheme.now → IfOk result (λ r. Absorbs G.used s p (G.total (signer_of self) - G.used (signer_of self)) r.0 (event_of entry.now.event) (signatures_left entry.now.signatures) entry.now.spent r.1) }
-        ensures only { (s : Setting) (p : Process) → IsCore G.used s p self → s.valid ≡ V.valid scheme.now → Agrees s p (G.total (signer_of self) - G.used (signer_of self)) (event_of entry.now.event) (signatures_left entry.now.signatures) entry.now.spent → IsOkUnless result AbsorbFault.NoMemory }
+        ensures absorbs { (s : Setting) (p : Process) → IsCore G.used s p self → s.valid ≡ V.valid scheme.now
+            → IfOk result (λ r. Absorbs G.used s p (G.total (signer_of self) - G.used (signer_of self)) r.0 (event_of entry.now.event)
+            (signatures_left entry.now.signatures) entry.now.spent r.1) }
+        ensures only { (s : Setting) (p : Process) → IsCore G.used s p self → s.valid ≡ V.valid scheme.now
+            → Agrees s p (G.total (signer_of self) - G.used (signer_of self)) (event_of entry.now.event)
+            (signatures_left entry.now.signatures) entry.now.spent → IsOkUnless result AbsorbFault.NoMemory }
         ensures used { IfOk result (λ r. G.used (signer_of r.0) ≡ used) }
         ensures total { IfOk result (λ r. G.total (signer_of r.0) ≡ G.total (signer_of self)) }
         ensures key { IfOk result (λ r. G.same_key (signer_of self) (signer_of r.0)) }
@@ -184,8 +194,12 @@ impl<G: Tally + Drop> Core<G> {
         scheme: &V,
         entry: &Entry<'_>,
     ) -> Result<(Core<G>, Outcome), AbsorbFault>
-        ensures absorbs { (s : Setting) (p : Process) → IsCore G.used s p self → s.valid ≡ V.valid scheme.now → IfOk result (λ r. Absorbs G.used s p (G.total (signer_of self) - G.used (signer_of self)) r.0 (event_of entry.now.event) (signatures_left entry.now.signatures) entry.now.spent r.1) }
-        ensures only { (s : Setting) (p : Process) → IsCore G.used s p self → s.valid ≡ V.valid scheme.now → Agrees s p (G.total (signer_of self) - G.used (signer_of self)) (event_of entry.now.event) (signatures_left entry.now.signatures) entry.now.spent → IsOkUnless result AbsorbFault.NoMemory }
+        ensures absorbs { (s : Setting) (p : Process) → IsCore G.used s p self → s.valid ≡ V.valid scheme.now
+            → IfOk result (λ r. Absorbs G.used s p (G.total (signer_of self) - G.used (signer_of self)) r.0 (event_of entry.now.event)
+            (signatures_left entry.now.signatures) entry.now.spent r.1) }
+        ensures only { (s : Setting) (p : Process) → IsCore G.used s p self → s.valid ≡ V.valid scheme.now
+            → Agrees s p (G.total (signer_of self) - G.used (signer_of self)) (event_of entry.now.event)
+            (signatures_left entry.now.signatures) entry.now.spent → IsOkUnless result AbsorbFault.NoMemory }
         ensures used { IfOk result (λ r. G.used (signer_of r.0) ≡ G.used (signer_of self) + length (signatures_left entry.now.signatures)) }
         ensures total { IfOk result (λ r. G.total (signer_of r.0) ≡ G.total (signer_of self)) }
         ensures key { IfOk result (λ r. G.same_key (signer_of self) (signer_of r.0)) }

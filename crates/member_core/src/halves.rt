@@ -40,7 +40,13 @@ pub(crate) fn begin<G: Signer, V: Scheme>(
     requires empty { IsEmpty frames.old }
     requires range { InRange input.now }
     requires admitted { (s : Setting) (p : Process) → IsStateOf s p state.old → defs.refusal s p (handed input.now) ≡ None }
-    ensures begins { (s : Setting) (p : Process) → Shares s (V.valid judge.now.scheme.now) judge.now.group.now judge.now.roster.now → s.signs ≡ all_kinds → length p.signed ≡ G.Tally.used signer.old → IsStateOf s p state.old → IfOk result (HasBegun s p (record { event = handed input.now; allowance = G.Tally.total signer.old - G.Tally.used signer.old; signer = G.signature signer.old }) state.new (G.Tally.used signer.new)) }
+    ensures begins { (s : Setting) (p : Process) → Shares s (V.valid judge.now.scheme.now) judge.now.group.now judge.now.roster.now
+        → s.signs ≡ all_kinds → length p.signed ≡ G.Tally.used signer.old → IsStateOf s p state.old
+        → IfOk result (HasBegun s p (record {
+          event = handed input.now;
+          allowance = G.Tally.total signer.old - G.Tally.used signer.old;
+          signer = G.signature signer.old;
+        }) state.new (G.Tally.used signer.new)) }
     ensures real { OnOk result (IsReal state.new) }
     ensures empty { OnOk result (IsEmpty frames.new) }
     ensures total { G.Tally.total signer.new ≡ G.Tally.total signer.old }
@@ -73,7 +79,8 @@ pub(crate) fn end(
     requires real { IsReal state.old }
     requires empty { IsEmpty frames.old }
     requires range { InRange input.now }
-    ensures ends { (s : Setting) (p : Process) → IsStateOf s p state.old → OnOk result (HasEnded s p (handed input.now) pairs state.new outcome.old outcome.new) }
+    ensures ends { (s : Setting) (p : Process) → IsStateOf s p state.old
+        → OnOk result (HasEnded s p (handed input.now) pairs state.new outcome.old outcome.new) }
     ensures real { OnOk result (IsReal state.new) }
     ensures empty { OnOk result (IsEmpty frames.new) }
 {

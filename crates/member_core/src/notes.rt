@@ -35,7 +35,8 @@ fn tell_spent(spent: bool, notes: &mut Vec<Note>) -> Result<(), NoMemory>
 
 // Tells that the process has halted, where it has.
 fn tell_halted(state: &ProcessState, notes: &mut Vec<Note>) -> Result<(), NoMemory>
-    ensures { (s : Setting) (p : Process) → IsStateOf s p state.now → OnOk result (map note notes.new.items ≡ map note notes.old.items ++ halts p) }
+    ensures { (s : Setting) (p : Process) → IsStateOf s p state.now
+        → OnOk result (map note notes.new.items ≡ map note notes.old.items ++ halts p) }
 {
     if let Some((delivered, cut)) = state.halted() {
         notes.push(Note::Halted { delivered, cut })?;
@@ -51,7 +52,9 @@ pub(crate) fn tell(
     spent: bool,
     notes: &mut Vec<Note>,
 ) -> Result<(), NoMemory>
-    ensures { (s : Setting) (p : Process) → IsStateOf s p state.now → OnOk result (map note notes.new.items ≡ map note notes.old.items ++ liars_from pairs p.conflicts ++ defs.note_if spent defs.Spent ++ halts p) }
+    ensures { (s : Setting) (p : Process) → IsStateOf s p state.now
+        → OnOk result (map note notes.new.items ≡ map note notes.old.items ++ liars_from pairs p.conflicts ++ defs.note_if spent defs.Spent
+        ++ halts p) }
 {
     tell_liars(&state.conflicts, pairs, notes)?;
     tell_spent(spent, notes)?;

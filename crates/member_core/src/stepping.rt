@@ -34,8 +34,10 @@ impl<G: Signer + Drop> Core<G> {
     // An event that is not refused.
     fn take<V: Scheme>(self, scheme: &V, input: &Input<'_>) -> Result<(Core<G>, Outcome), NoMemory>
         requires range { InRange input.now }
-        requires admitted { (s : Setting) (p : Process) → IsStateOf s p self.keyless.state.value → defs.refusal s p (handed input.now) ≡ None }
-        ensures steps { (s : Setting) (p : Process) → IsCore G.Tally.used s p self → s.valid ≡ V.valid scheme.now → IfOk result (λ r. Steps G.Tally.used G.Tally.total G.signature s p self r.0 (handed input.now) r.1) }
+        requires admitted { (s : Setting) (p : Process) → IsStateOf s p self.keyless.state.value
+            → defs.refusal s p (handed input.now) ≡ None }
+        ensures steps { (s : Setting) (p : Process) → IsCore G.Tally.used s p self → s.valid ≡ V.valid scheme.now
+            → IfOk result (λ r. Steps G.Tally.used G.Tally.total G.signature s p self r.0 (handed input.now) r.1) }
         ensures total { IfOk result (λ r. G.Tally.total (signer_of r.0) ≡ G.Tally.total (signer_of self)) }
         ensures secret { IfOk result (λ r. G.signature (signer_of r.0) ≡ G.signature (signer_of self)) }
     {
@@ -77,7 +79,8 @@ impl<G: Signer + Drop> Core<G> {
         scheme: &V,
         event: &Event<'_>,
     ) -> Result<(Core<G>, Outcome), NoMemory>
-        ensures steps { (s : Setting) (p : Process) → IsCore G.Tally.used s p self → s.valid ≡ V.valid scheme.now → IfOk result (λ r. Steps G.Tally.used G.Tally.total G.signature s p self r.0 (event_of event.now) r.1) }
+        ensures steps { (s : Setting) (p : Process) → IsCore G.Tally.used s p self → s.valid ≡ V.valid scheme.now
+            → IfOk result (λ r. Steps G.Tally.used G.Tally.total G.signature s p self r.0 (event_of event.now) r.1) }
         ensures total { IfOk result (λ r. G.Tally.total (signer_of r.0) ≡ G.Tally.total (signer_of self)) }
         ensures secret { IfOk result (λ r. G.signature (signer_of r.0) ≡ G.signature (signer_of self)) }
     {

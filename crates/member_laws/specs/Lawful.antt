@@ -26,7 +26,8 @@ pub record IsLawful (p : Process) : Type 0 where
 
 -- a process is lawful as it starts
 abbrev pub StartIsLawful : Type 0
-StartIsLawful = (s : Setting) (me limit : ℕ) → limit ≤ most_messages → IsViewNumber s.genesis.number → IsView s.genesis → IsLawful (start s me limit)
+StartIsLawful = (s : Setting) (me limit : ℕ) → limit ≤ most_messages → IsViewNumber s.genesis.number → IsView s.genesis
+    → IsLawful (start s me limit)
 
 -- a lawful process is lawful after it heard a claim that is in range
 abbrev pub HearingIsLawful : Type 0
@@ -34,15 +35,18 @@ HearingIsLawful = (s : Setting) (p : Process) (c : Claim) → IsClaim c → IsLa
 
 -- a lawful process is lawful after it signed a statement that it may sign, in a claim that is in range
 abbrev pub SigningIsLawful : Type 0
-SigningIsLawful = (s : Setting) (signer : Signer) (p : Process) (st : Statement) → IsTrue (may_sign s p st) → IsClaim (own_claim s signer p st) → IsLawful p → IsLawful (signs s signer p st)
+SigningIsLawful = (s : Setting) (signer : Signer) (p : Process) (st : Statement) → IsTrue (may_sign s p st)
+    → IsClaim (own_claim s signer p st) → IsLawful p → IsLawful (signs s signer p st)
 
 -- a lawful process is lawful after it accepted a payload that is not too long
 abbrev pub AcceptingIsLawful : Type 0
-AcceptingIsLawful = (p : Process) (payload : List ℕ) → length payload ≤ most_payload_bytes → IsLawful p → IsLawful (record p { accepted = p.accepted ++ payload ∷ [] })
+AcceptingIsLawful = (p : Process) (payload : List ℕ) → length payload ≤ most_payload_bytes → IsLawful p
+    → IsLawful (record p { accepted = p.accepted ++ payload ∷ [] })
 
 -- a lawful process is lawful after it installed a view that there can be
 abbrev pub InstallingIsLawful : Type 0
-InstallingIsLawful = (p : Process) (d : ℕ × Value) → IsViewNumber (p.pool.view.number + 1) → IsView (next_view p.pool.view d.1.update) → IsLawful p → IsLawful (install d p)
+InstallingIsLawful = (p : Process) (d : ℕ × Value) → IsViewNumber (p.pool.view.number + 1) → IsView (next_view p.pool.view d.1.update)
+    → IsLawful p → IsLawful (install d p)
 
 -- what a lawful process may sign is in range
 abbrev pub DueIsInRange : Type 0

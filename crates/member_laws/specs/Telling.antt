@@ -31,7 +31,8 @@ pub record OnePlaceMore (v : View) (b : Batch) (delivered : List Delivered) (own
 
 -- the own place of p, with the next place delivered and its messages counted, is that of p after it delivered the next place
 abbrev pub DeliveringTells : Type 0
-DeliveringTells = (s : Setting) (p : Process) (h : Pool) (own own' : Own) (b : Batch) (ds : List Delivered) → 1 ≤ length b → delivery p.pool (places_in p.delivered) b ≡ Some ds
+DeliveringTells = (s : Setting) (p : Process) (h : Pool) (own own' : Own) (b : Batch) (ds : List Delivered) → 1 ≤ length b
+    → delivery p.pool (places_in p.delivered) b ≡ Some ds
     → OnePlaceMore p.pool.view b p.delivered own own' → Tells s p h own → Tells s (record p { delivered = p.delivered ++ ds }) h own'
 
 -- in a view that begins nothing is signed or delivered, and the own messages that were delivered are all of earlier views
@@ -51,5 +52,6 @@ pub record Begins (v : View) (own own' : Own) (delivered : ℕ) : Type 0 where
 
 -- an own place that begins in the next view is that of p after it installed the next view
 abbrev pub InstallingTells : Type 0
-InstallingTells = (s : Setting) (p : Process) (h : Pool) (own own' : Own) (d : ℕ × Value) → IsLawful p → Begins (next_view p.pool.view d.1.update) own own' (delivered_from p.me p.delivered)
+InstallingTells = (s : Setting) (p : Process) (h : Pool) (own own' : Own) (d : ℕ × Value) → IsLawful p
+    → Begins (next_view p.pool.view d.1.update) own own' (delivered_from p.me p.delivered)
     → Tells s p h own → Tells s (install d p) (record { view = next_view p.pool.view d.1.update; heard = [] }) own'

@@ -18,4 +18,5 @@ pub record Began (newly : ℕ) (began p : Process) : Type 0 where
 pub record HasDone (st : ProcessState) (began : Process) : Type 0 where
   pub number : began.me ≡ st.own.me
   pub places : places_in began.delivered ≡ st.own.delivered
-  pub delivered : slice_get (map (λ ds. map delivery ds.items) st.account.delivered.items) (length st.account.delivered.items - 1) ≡ Some began.delivered
+  pub delivered : slice_get (map (λ ds. map delivery ds.items) st.account.delivered.items) (length st.account.delivered.items - 1)
+      ≡ Some began.delivered

@@ -27,7 +27,9 @@ fn answer(
     requires real { IsReal state.now }
     requires place { place ≤ 1024 }
     requires empty { IsEmpty frames.old }
-    ensures sent { (s : Setting) (q : Process) → IsStateOf s q state.now → OnOk result (map frame_to sends.new.items ≡ map frame_to sends.old.items ++ flat_map frames_to (answers s q (Hand from (Wants view place)))) }
+    ensures sent { (s : Setting) (q : Process) → IsStateOf s q state.now
+        → OnOk result (map frame_to sends.new.items ≡ map frame_to sends.old.items
+        ++ flat_map frames_to (answers s q (Hand from (Wants view place)))) }
     ensures empty { OnOk result (IsEmpty frames.new) }
 {
     if !state.own.keyed.contains(from) {
@@ -42,7 +44,8 @@ fn answer(
 // Asks the other members for the places that come next.
 fn ask(state: &ProcessState, frames: &mut Frames, sends: &mut Vec<Sending>) -> Result<(), NoMemory>
     requires { IsEmpty frames.old }
-    ensures sent { (s : Setting) (q : Process) → IsStateOf s q state.now → OnOk result (map frame_to sends.new.items ≡ map frame_to sends.old.items ++ flat_map frames_to (answers s q Tick)) }
+    ensures sent { (s : Setting) (q : Process) → IsStateOf s q state.now
+        → OnOk result (map frame_to sends.new.items ≡ map frame_to sends.old.items ++ flat_map frames_to (answers s q Tick)) }
     ensures empty { OnOk result (IsEmpty frames.new) }
 {
     let view = state.pool.view();
@@ -65,7 +68,8 @@ pub fn send_answers(
     requires real { IsReal state.now }
     requires range { InRange input.now }
     requires empty { IsEmpty frames.old }
-    ensures sent { (s : Setting) (q : Process) → IsStateOf s q state.now → OnOk result (map frame_to sends.new.items ≡ map frame_to sends.old.items ++ flat_map frames_to (answers s q (handed input.now))) }
+    ensures sent { (s : Setting) (q : Process) → IsStateOf s q state.now
+        → OnOk result (map frame_to sends.new.items ≡ map frame_to sends.old.items ++ flat_map frames_to (answers s q (handed input.now))) }
     ensures empty { OnOk result (IsEmpty frames.new) }
 {
     match *input {

@@ -35,7 +35,8 @@ fn is_among(delivered: &[Delivered], sender: Pid, number: u16) -> bool
 
 // Whether the message was delivered in the view.
 fn has_delivered(state: &ProcessState, sender: Pid, number: u16) -> bool
-    ensures { (began : Process) → HasDone state.now began → result ≡ list_any (λ d. same_message d.message (message sender number)) began.delivered }
+    ensures { (began : Process) → HasDone state.now began
+        → result ≡ list_any (λ d. same_message d.message (message sender number)) began.delivered }
 {
     match state.account.delivered.last() {
         Some(delivered) => is_among(delivered, sender, number),
@@ -59,7 +60,9 @@ fn was_delivered(state: &ProcessState, statement: &Statement<'_>) -> bool
 
 // Puts the place behind the others, where its claim is not of what was delivered.
 fn put_repeated(places: &mut Vec<usize>, state: &ProcessState, place: usize) -> Result<(), NoMemory>
-    ensures { OnOk result ((began : Process) → HasDone state.now began → chosen state.now.said.claims places.new.items ≡ chosen state.now.said.claims places.old.items ++ filter (λ c. not (sending.was_delivered began c.statement)) (chosen state.now.said.claims (place ∷ []))) }
+    ensures { OnOk result ((began : Process) → HasDone state.now began
+        → chosen state.now.said.claims places.new.items ≡ chosen state.now.said.claims places.old.items
+        ++ filter (λ c. not (sending.was_delivered began c.statement)) (chosen state.now.said.claims (place ∷ []))) }
 {
     let Some(claim) = state.said.get(place) else {
         return Ok(());
@@ -73,7 +76,8 @@ fn put_repeated(places: &mut Vec<usize>, state: &ProcessState, place: usize) -> 
 
 // The places of the claims that a Tick repeats: all but those of messages and places that were delivered.
 fn repeated(alloc: Global, state: &ProcessState) -> Result<Vec<usize>, NoMemory>
-    ensures { IfOk result (λ places. (began : Process) → HasDone state.now began → chosen state.now.said.claims places.items ≡ filter (λ c. not (sending.was_delivered began c.statement)) state.now.said.claims) }
+    ensures { IfOk result (λ places. (began : Process) → HasDone state.now began
+        → chosen state.now.said.claims places.items ≡ filter (λ c. not (sending.was_delivered began c.statement)) state.now.said.claims) }
 {
     let mut places = Vec::new(alloc);
     'claims: for place in 0..state.said.len() {
@@ -84,7 +88,8 @@ fn repeated(alloc: Global, state: &ProcessState) -> Result<Vec<usize>, NoMemory>
 
 // The places of the last so many claims.
 fn last_places(alloc: Global, state: &ProcessState, newly: usize) -> Result<Vec<usize>, NoMemory>
-    ensures { IfOk result (λ places. chosen state.now.said.claims places.items ≡ drop (length state.now.said.claims - newly) state.now.said.claims) }
+    ensures { IfOk result (λ places. chosen state.now.said.claims places.items
+        ≡ drop (length state.now.said.claims - newly) state.now.said.claims) }
 {
     let count = state.said.len();
     let mut places = Vec::new(alloc);
@@ -101,7 +106,10 @@ pub(crate) fn base_places(
     tick: bool,
     newly: usize,
 ) -> Result<Vec<usize>, NoMemory>
-    ensures { IfOk result (λ places. (began : Process) → HasDone state.now began → chosen state.now.said.claims places.items ≡ (if tick then filter (λ c. not (sending.was_delivered began c.statement)) state.now.said.claims else drop (length state.now.said.claims - newly) state.now.said.claims)) }
+    ensures { IfOk result (λ places. (began : Process) → HasDone state.now began
+        → chosen state.now.said.claims places.items
+        ≡ (if tick then filter (λ c. not (sending.was_delivered began c.statement)) state.now.said.claims
+        else drop (length state.now.said.claims - newly) state.now.said.claims)) }
 {
     if tick {
         repeated(alloc, state)

@@ -35,7 +35,9 @@ pub fn send_bundle(
 ) -> Result<(), NoMemory>
     requires real { IsReal state.now }
     requires empty { IsEmpty frames.old }
-    ensures sent { (s : Setting) (began p : Process) → Began newly began p → IsStateOf s p state.now → OnOk result (map frame_to sends.new.items ≡ map frame_to sends.old.items ++ flat_map frames_to (unless_empty (bundle tick began p) Bundle (others began began.pool.view))) }
+    ensures sent { (s : Setting) (began p : Process) → Began newly began p → IsStateOf s p state.now
+        → OnOk result (map frame_to sends.new.items ≡ map frame_to sends.old.items
+        ++ flat_map frames_to (unless_empty (bundle tick began p) Bundle (others began began.pool.view))) }
     ensures empty { OnOk result (IsEmpty frames.new) }
 {
     if is_silent(tick, newly) {

@@ -14,7 +14,8 @@ pub record ArePut (view : ℕ) (ds : List defs.Delivered) (was now : List Delive
   pub told : map note notes_now ≡ map note notes_was ++ map (Delivers view) ds
 
 -- the same, where what was delivered in the current view is the last of the lists by views, behind these
-pub record ArePutLast (view : ℕ) (ds : List defs.Delivered) (before : List (List defs.Delivered)) (last : List defs.Delivered) (now : List (List defs.Delivered)) (notes_was notes_now : List Note) : Type 0 where
+pub record ArePutLast (view : ℕ) (ds : List defs.Delivered) (before : List (List defs.Delivered)) (last : List defs.Delivered)
+    (now : List (List defs.Delivered)) (notes_was notes_now : List Note) : Type 0 where
   pub delivered : now ≡ before ++ (last ++ ds) ∷ []
   pub told : map note notes_now ≡ map note notes_was ++ map (Delivers view) ds
 

@@ -22,7 +22,8 @@ fn phase_behind(phase: Phase, view: &View, keyed: PidSet, ready: &Certificate<'_
     requires { IsSome (readied (content_of ready.now)) }
 
     // So is the process that decides, where the Ready's rank is the one that decides.
-    ensures { (s : Setting) (p : Process) → defs.decided_by s p.pool ≡ decides keyed view.now (content_of ready.now) → IsIn phase p → IsIn result (defs.decide s p) }
+    ensures { (s : Setting) (p : Process) → defs.decided_by s p.pool ≡ decides keyed view.now (content_of ready.now) → IsIn phase p
+        → IsIn result (defs.decide s p) }
 {
     match phase {
         Phase::Observing(observing) => match observing.decide(view, keyed, ready) {

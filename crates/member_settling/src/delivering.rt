@@ -41,7 +41,10 @@ fn put_message(
     delivered: &mut Vec<Delivered>,
     notes: &mut Vec<Note>,
 ) -> Result<(), NoMemory>
-    ensures { (payload : List ℕ) → payload_at pool.now.pool (message_of message.now) ≡ Some payload → OnOk result (ArePut pool.now.pool.view.number (record { place = place; message = message_of message.now; payload = payload } ∷ []) delivered.old.items delivered.new.items notes.old.items notes.new.items) }
+    ensures { (payload : List ℕ) → payload_at pool.now.pool (message_of message.now) ≡ Some payload
+        → OnOk result (ArePut pool.now.pool.view.number
+        (record { place = place; message = message_of message.now; payload = payload }
+        ∷ []) delivered.old.items delivered.new.items notes.old.items notes.new.items) }
 {
     let (sender, number) = *message;
     let Some(payload) = certified_payload(pool, sender, number) else {
@@ -72,7 +75,8 @@ fn put_messages(
     delivered: &mut Vec<Delivered>,
     notes: &mut Vec<Note>,
 ) -> Result<(), NoMemory>
-    ensures { (ds : List defs.Delivered) → settle.delivery pool.now.pool place (map message_of messages.now) ≡ Some ds → OnOk result (ArePut pool.now.pool.view.number ds delivered.old.items delivered.new.items notes.old.items notes.new.items) }
+    ensures { (ds : List defs.Delivered) → settle.delivery pool.now.pool place (map message_of messages.now) ≡ Some ds
+        → OnOk result (ArePut pool.now.pool.view.number ds delivered.old.items delivered.new.items notes.old.items notes.new.items) }
 {
     'messages: for message in messages {
         put_message(pool, alloc, place, message, delivered, notes)?;
@@ -89,7 +93,11 @@ fn put_batch(
     lists: &mut Vec<Vec<Delivered>>,
     notes: &mut Vec<Note>,
 ) -> Result<(), NoMemory>
-    ensures { (ds : List defs.Delivered) → settle.delivery pool.now.pool place batch.now ≡ Some ds → (before : List (List defs.Delivered)) (last : List defs.Delivered) → map (λ ds. map delivery ds.items) lists.old.items ≡ before ++ last ∷ [] → OnOk result (ArePutLast pool.now.pool.view.number ds before last (map (λ ds. map delivery ds.items) lists.new.items) notes.old.items notes.new.items) }
+    ensures { (ds : List defs.Delivered) → settle.delivery pool.now.pool place batch.now ≡ Some ds
+        → (before : List (List defs.Delivered)) (last : List defs.Delivered)
+        → map (λ ds. map delivery ds.items) lists.old.items ≡ before ++ last ∷ []
+        → OnOk result (ArePutLast pool.now.pool.view.number ds before last
+        (map (λ ds. map delivery ds.items) lists.new.items) notes.old.items notes.new.items) }
 {
     match lists.last_mut() {
         Some(delivered) => put_messages(pool, alloc, place, batch.messages(), delivered, notes),
@@ -105,7 +113,8 @@ fn deliver_place(
     notes: &mut Vec<Note>,
 ) -> Result<(), NoMemory>
     requires { IsReal state.old }
-    ensures { (s : Setting) (p : Process) → IsStateOf s p state.old → (ds : List defs.Delivered) → ComesNext p ds batch.now → OnOk result (Delivers s p (record p { delivered = p.delivered ++ ds }) state.new notes.old.items notes.new.items) }
+    ensures { (s : Setting) (p : Process) → IsStateOf s p state.old → (ds : List defs.Delivered) → ComesNext p ds batch.now
+        → OnOk result (Delivers s p (record p { delivered = p.delivered ++ ds }) state.new notes.old.items notes.new.items) }
 {
     let place = state.own.delivered;
     put_batch(
@@ -129,7 +138,8 @@ fn deliver_below(
 ) -> Result<(), NoMemory>
     requires real { IsReal state.old }
     requires limit { (s : Setting) (p : Process) → IsStateOf s p state.old → limit ≡ settle.limit p }
-    ensures { (s : Setting) (p : Process) → IsStateOf s p state.old → OnOk result (Delivers s p (settle.deliver_more (limit - places_in p.delivered) p) state.new notes.old.items notes.new.items) }
+    ensures { (s : Setting) (p : Process) → IsStateOf s p state.old
+        → OnOk result (Delivers s p (settle.deliver_more (limit - places_in p.delivered) p) state.new notes.old.items notes.new.items) }
 {
     'places: for _place in state.own.delivered..limit {
         let Some(batch) = deliverable(&state.pool, &state.own, limit) else {
@@ -148,7 +158,8 @@ pub(crate) fn deliver(
     notes: &mut Vec<Note>,
 ) -> Result<(), NoMemory>
     requires { IsReal state.old }
-    ensures { (s : Setting) (p : Process) → IsStateOf s p state.old → OnOk result (Delivers s p (settle.deliver p) state.new notes.old.items notes.new.items) }
+    ensures { (s : Setting) (p : Process) → IsStateOf s p state.old
+        → OnOk result (Delivers s p (settle.deliver p) state.new notes.old.items notes.new.items) }
 {
     if !state.pool.view().is_member(state.own.me) {
         return Ok(());

@@ -75,11 +75,13 @@ fn keep_left(
     alloc: Global,
 ) -> Result<(), NoMemory>
     requires range { IsRanged state.old.pool.pool }
-    requires certified { value_at state.old.pool.pool (ReadyAt state.old.pool.pool.view.number decision.rank) ≡ Some (value decision.value) }
+    requires certified { value_at state.old.pool.pool (ReadyAt state.old.pool.pool.view.number decision.rank)
+        ≡ Some (value decision.value) }
     requires order { state.old.pool.pool.view.number ≡ length state.old.archive.commits }
     ensures begins { OnOk result (state.new.pool.pool ≡ empty_pool view.now) }
     ensures previous { OnOk result (state.new.archive.previous ≡ Some state.old.pool.pool) }
-    ensures commits { OnOk result (state.new.archive.commits ≡ state.old.archive.commits ++ all_signed (certificate state.old.pool.pool (Ready state.old.pool.pool.view.number decision.rank (value decision.value))) ∷ []) }
+    ensures commits { OnOk result (state.new.archive.commits ≡ state.old.archive.commits
+        ++ all_signed (certificate state.old.pool.pool (Ready state.old.pool.pool.view.number decision.rank (value decision.value))) ∷ []) }
     ensures rest { state.new ≡ record state.old { pool = state.new.pool; archive = state.new.archive } }
 {
     let begun = Pool::new(alloc, view.clone()?)?;
@@ -95,8 +97,14 @@ fn begin(state: &mut ProcessState, view: &View, mine: u16)
     ensures own { Begins view.now state.old.own state.new.own mine }
     ensures asked { (u : plain.Update) → has_update state.new.perceived u ≡ false }
     ensures said { state.new.said.claims ≡ [] }
-    ensures phase { (p : Process) → p.pool.view ≡ view.now → p.me ≡ state.old.own.me → p.halted ≡ false → p.decision ≡ None → is_ended p ≡ false → IsIn state.new.phase p }
-    ensures rest { state.new ≡ record state.old { own = state.new.own; perceived = state.new.perceived; said = state.new.said; phase = state.new.phase } }
+    ensures phase { (p : Process) → p.pool.view ≡ view.now → p.me ≡ state.old.own.me → p.halted ≡ false → p.decision ≡ None
+        → is_ended p ≡ false → IsIn state.new.phase p }
+    ensures rest { state.new ≡ record state.old {
+      own = state.new.own;
+      perceived = state.new.perceived;
+      said = state.new.said;
+      phase = state.new.phase;
+    } }
 {
     state.phase = Phase::begin(view, state.own.me);
     state.perceived = Perceived::new();
@@ -106,7 +114,11 @@ fn begin(state: &mut ProcessState, view: &View, mine: u16)
 
 // Puts the view, in which nothing is delivered yet, behind those of the account.
 fn put_view(account: &mut Account, view: &View, alloc: Global) -> Result<(), NoMemory>
-    ensures { OnOk result (told account.new ≡ record (told account.old) { views = (told account.old).views ++ view.now ∷ []; delivered = (told account.old).delivered ++ [] ∷ [] }) }
+    ensures { OnOk result (told account.new
+        ≡ record (told account.old) {
+          views = (told account.old).views ++ view.now ∷ [];
+          delivered = (told account.old).delivered ++ [] ∷ [];
+        }) }
 {
     account.views.push(view.clone()?)?;
     account.delivered.push(Vec::new(alloc))?;
@@ -132,7 +144,9 @@ fn enter(
     notes: &mut Vec<Note>,
 ) -> Result<(), NoMemory>
     requires { CanLeave (decision_of decision) state.old }
-    ensures { (s : Setting) (p : Process) → IsLeaving s p (decision_of decision) state.old → view ≡ next_view p.pool.view (value decision.value).update → OnOk result (Leaves s p (settle.install (decision_of decision) p) state.new notes.old.items notes.new.items) }
+    ensures { (s : Setting) (p : Process) → IsLeaving s p (decision_of decision) state.old
+        → view ≡ next_view p.pool.view (value decision.value).update
+        → OnOk result (Leaves s p (settle.install (decision_of decision) p) state.new notes.old.items notes.new.items) }
 {
     let mine = own_delivered(&state.account);
     keep_left(state, &view, decision, alloc)?;
@@ -162,7 +176,8 @@ fn install(
 ) -> Result<(), NoMemory>
     requires real { CanLeave (decision_of decision) state.old }
     requires same { update ≡ decision.value.update }
-    ensures { (s : Setting) (p : Process) → IsLeaving s p (decision_of decision) state.old → OnOk result (Leaves s p (settle.install (decision_of decision) p) state.new notes.old.items notes.new.items) }
+    ensures { (s : Setting) (p : Process) → IsLeaving s p (decision_of decision) state.old
+        → OnOk result (Leaves s p (settle.install (decision_of decision) p) state.new notes.old.items notes.new.items) }
 {
     let behind = view_behind(&state.pool, update);
     match behind {
@@ -179,7 +194,8 @@ fn leave_decided(
     notes: &mut Vec<Note>,
 ) -> Result<(), NoMemory>
     requires { IsReal (in_phase (Phase.DecidedView decided) state.old) }
-    ensures { (s : Setting) (p : Process) → IsStateOf s p (in_phase (Phase.DecidedView decided) state.old) → OnOk result (Leaves s p (settle.leave p) state.new notes.old.items notes.new.items) }
+    ensures { (s : Setting) (p : Process) → IsStateOf s p (in_phase (Phase.DecidedView decided) state.old)
+        → OnOk result (Leaves s p (settle.leave p) state.new notes.old.items notes.new.items) }
 {
     let decision = decided.decision();
     let delivered = counted(&state.pool, &state.own, &decided);
@@ -204,7 +220,8 @@ pub(crate) fn leave(
     notes: &mut Vec<Note>,
 ) -> Result<(), NoMemory>
     requires { IsReal state.old }
-    ensures { (s : Setting) (p : Process) → IsStateOf s p state.old → OnOk result (Leaves s p (settle.leave p) state.new notes.old.items notes.new.items) }
+    ensures { (s : Setting) (p : Process) → IsStateOf s p state.old
+        → OnOk result (Leaves s p (settle.leave p) state.new notes.old.items notes.new.items) }
 {
     let begun = Phase::begin(state.pool.view(), state.own.me);
     match take_phase(&mut state.phase, begun) {

@@ -22,7 +22,10 @@ pub fn settle(
 ) -> Result<(), NoMemory>
     requires real { IsReal state.old }
     ensures settles { (s : Setting) (p : Process) → IsStateOf s p state.old → OnOk result (IsStateOf s (defs.settle s p) state.new) }
-    ensures told { (s : Setting) (p : Process) → IsStateOf s p state.old → OnOk result (map note notes.new.items ≡ map note notes.old.items ++ map (Delivers p.pool.view.number) (drop (length p.delivered) (defs.deliver (defs.decide s p)).delivered) ++ note_if (nat_lt (length p.left) (length (defs.settle s p).left)) (Installs (defs.settle s p).pool.view)) }
+    ensures told { (s : Setting) (p : Process) → IsStateOf s p state.old
+        → OnOk result (map note notes.new.items ≡ map note notes.old.items
+        ++ map (Delivers p.pool.view.number) (drop (length p.delivered) (defs.deliver (defs.decide s p)).delivered)
+        ++ note_if (nat_lt (length p.left) (length (defs.settle s p).left)) (Installs (defs.settle s p).pool.view)) }
     ensures real { OnOk result (IsReal state.new) }
 {
     decide(state);

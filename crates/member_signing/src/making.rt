@@ -78,7 +78,9 @@ pub fn make<G: Signer>(
 ) -> Result<OwnClaim, NoMemory>
     requires range { IsStatement (stmt statement.now) }
     requires left { G.Tally.used signer.old < G.Tally.total signer.old }
-    ensures made { IfOk result (λ own. signed own ≡ signed_by (spelling (stmt statement.now)) me (G.signature signer.old (G.Tally.used signer.old) (body group.now me (stmt statement.now)))) }
+    ensures made { IfOk result (λ own. signed own
+        ≡ signed_by (spelling (stmt statement.now)) me
+        (G.signature signer.old (G.Tally.used signer.old) (body group.now me (stmt statement.now)))) }
     ensures short { IfOk result (λ own. length own.signature ≤ 16384) }
     ensures used { IfOk result (λ _. G.Tally.used signer.new ≡ G.Tally.used signer.old + 1) }
     ensures total { G.Tally.total signer.new ≡ G.Tally.total signer.old }

@@ -57,7 +57,9 @@ fn bytes_of(claim: &Claim<'_>) -> usize
 // Hears the own claim.
 fn hear(pool: &mut Pool, claim: &Claim<'_>) -> Result<(), NoMemory>
     requires { IsClaim (claim_of claim.now) }
-    ensures { (s : defs.Setting) (signer : Signer) (p : defs.Process) → p.pool ≡ pool.old.pool → own_claim s signer p (stmt claim.now.statement) ≡ claim_of claim.now → OnOk result ((signs s signer p (stmt claim.now.statement)).pool ≡ pool.new.pool) }
+    ensures { (s : defs.Setting) (signer : Signer) (p : defs.Process) → p.pool ≡ pool.old.pool
+        → own_claim s signer p (stmt claim.now.statement) ≡ claim_of claim.now
+        → OnOk result ((signs s signer p (stmt claim.now.statement)).pool ≡ pool.new.pool) }
 {
     pool.reserve(1, bytes_of(claim))?;
     pool.hear_own(claim);
@@ -69,7 +71,9 @@ fn note(own: &mut Own, view: &View, statement: &Statement<'_>) -> Result<(), NoM
     requires range { IsStatement (stmt statement.now) }
     requires members { length own.old.orders.items ≡ length view.now.members }
     requires fresh { has_slot own.old.signed (slot_of (stmt statement.now)) ≡ false }
-    ensures { (s : defs.Setting) (signer : Signer) (p : defs.Process) (g h : defs.Pool) → Tells s p g own.old → g.view ≡ view.now → IsTrue (may_sign s p (stmt statement.now)) → (signs s signer p (stmt statement.now)).pool ≡ h → OnOk result (Tells s (signs s signer p (stmt statement.now)) h own.new) }
+    ensures { (s : defs.Setting) (signer : Signer) (p : defs.Process) (g h : defs.Pool) → Tells s p g own.old → g.view ≡ view.now
+        → IsTrue (may_sign s p (stmt statement.now)) → (signs s signer p (stmt statement.now)).pool ≡ h
+        → OnOk result (Tells s (signs s signer p (stmt statement.now)) h own.new) }
 {
     own.signed.reserve(1)?;
     own.note_signed(view, statement);
@@ -99,7 +103,8 @@ fn length_said(statement: &Statement<'_>) -> Option<u16>
 // The phase behind the own End of this length.
 fn closed(phase: Phase, length: u16) -> Phase
     requires { IsUndecided phase }
-    ensures closes { (s : defs.Setting) (signer : Signer) (p : defs.Process) (x : ℕ) → IsTrue (may_sign s p (plain.End x length)) → IsIn phase p → IsIn result (signs s signer p (plain.End x length)) }
+    ensures closes { (s : defs.Setting) (signer : Signer) (p : defs.Process) (x : ℕ) → IsTrue (may_sign s p (plain.End x length))
+        → IsIn phase p → IsIn result (signs s signer p (plain.End x length)) }
     ensures undecided { IsUndecided result }
 {
     match phase {
@@ -111,7 +116,8 @@ fn closed(phase: Phase, length: u16) -> Phase
 // The phase behind the statement: an End closes the view. The process is `me`, in this view, and before its End the view is open.
 fn close(phase: &mut Phase, view: &View, me: Pid, statement: &Statement<'_>)
     requires { IsUndecided phase.old }
-    ensures closes { (s : defs.Setting) (signer : Signer) (p : defs.Process) → p.pool.view ≡ view.now → p.me ≡ me → IsTrue (may_sign s p (stmt statement.now)) → IsIn phase.old p → IsIn phase.new (signs s signer p (stmt statement.now)) }
+    ensures closes { (s : defs.Setting) (signer : Signer) (p : defs.Process) → p.pool.view ≡ view.now → p.me ≡ me
+        → IsTrue (may_sign s p (stmt statement.now)) → IsIn phase.old p → IsIn phase.new (signs s signer p (stmt statement.now)) }
     ensures undecided { IsUndecided phase.new }
 {
     let Some(length) = length_said(statement) else {
@@ -124,7 +130,9 @@ fn close(phase: &mut Phase, view: &View, me: Pid, statement: &Statement<'_>)
 pub fn put(state: &mut ProcessState, own: &OwnClaim) -> Result<(), NoMemory>
     requires owed { IsOwed state.old own.now }
     requires undecided { IsUndecided state.old.phase }
-    ensures puts { (s : defs.Setting) (signer : Signer) (p : defs.Process) (st : plain.Statement) → IsTrue (may_sign s p st) → signed own.now ≡ signed_of (own_claim s signer p st) → IsStateOf s p state.old → OnOk result (IsStateOf s (signs s signer p st) state.new) }
+    ensures puts { (s : defs.Setting) (signer : Signer) (p : defs.Process) (st : plain.Statement) → IsTrue (may_sign s p st)
+        → signed own.now ≡ signed_of (own_claim s signer p st) → IsStateOf s p state.old
+        → OnOk result (IsStateOf s (signs s signer p st) state.new) }
     ensures real { OnOk result (IsReal state.new) }
     ensures undecided { OnOk result (IsUndecided state.new.phase) }
 {

@@ -61,9 +61,13 @@ fn next<G: Signer>(
 ) -> Result<Option<OwnClaim>, NoMemory>
     requires real { IsReal state.now }
     requires left { G.Tally.used signer.old < G.Tally.total signer.old }
-    ensures next { (s : defs.Setting) (p : defs.Process) → s.group ≡ group.now → length p.signed ≡ G.Tally.used signer.old → IsStateOf s p state.now → IfOk result (λ own. option_map signed_by own ≡ option_map (λ st. signed_of (signing.own_claim s (G.signature signer.old) p st)) (least_due s p (kind_of kind))) }
+    ensures next { (s : defs.Setting) (p : defs.Process) → s.group ≡ group.now → length p.signed ≡ G.Tally.used signer.old
+        → IsStateOf s p state.now → IfOk result
+        (λ own. option_map signed_by own
+        ≡ option_map (λ st. signed_of (signing.own_claim s (G.signature signer.old) p st)) (least_due s p (kind_of kind))) }
     ensures owed { IfOk result (λ own. IfSome own (IsOwed state.now)) }
-    ensures used { IfOk result (λ own. MatchOption own (G.Tally.used signer.new ≡ G.Tally.used signer.old) (λ _. G.Tally.used signer.new ≡ G.Tally.used signer.old + 1)) }
+    ensures used { IfOk result (λ own. MatchOption own (G.Tally.used signer.new ≡ G.Tally.used signer.old)
+        (λ _. G.Tally.used signer.new ≡ G.Tally.used signer.old + 1)) }
     ensures total { G.Tally.total signer.new ≡ G.Tally.total signer.old }
     ensures secret { G.signature signer.new ≡ G.signature signer.old }
 {
@@ -86,7 +90,11 @@ fn sign_kind<G: Signer>(
 ) -> Result<bool, NoMemory>
     requires real { IsReal state.old }
     requires undecided { IsUndecided state.old.phase }
-    ensures signs { (s : defs.Setting) (p : defs.Process) → s.group ≡ group.now → length p.signed ≡ G.Tally.used signer.old → IsStateOf s p state.old → IfOk result (IsSigned s p (signing.sign_kind s (G.signature signer.old) (kind_of kind) (G.Tally.total signer.old - G.Tally.used signer.old) p) state.new (G.Tally.total signer.old) (G.Tally.used signer.new) (map signed_by signed.old.items) (map signed_by signed.new.items)) }
+    ensures signs { (s : defs.Setting) (p : defs.Process) → s.group ≡ group.now → length p.signed ≡ G.Tally.used signer.old
+        → IsStateOf s p state.old → IfOk result
+        (IsSigned s p (signing.sign_kind s (G.signature signer.old) (kind_of kind)
+        (G.Tally.total signer.old - G.Tally.used signer.old) p) state.new (G.Tally.total signer.old) (G.Tally.used signer.new)
+        (map signed_by signed.old.items) (map signed_by signed.new.items)) }
     ensures real { OnOk result (IsReal state.new) }
     ensures undecided { OnOk result (IsUndecided state.new.phase) }
     ensures total { G.Tally.total signer.new ≡ G.Tally.total signer.old }
@@ -116,7 +124,11 @@ fn sign_any<G: Signer>(
 ) -> Result<bool, NoMemory>
     requires real { IsReal state.old }
     requires undecided { IsUndecided state.old.phase }
-    ensures signs { (s : defs.Setting) (p : defs.Process) → s.group ≡ group.now → length p.signed ≡ G.Tally.used signer.old → IsStateOf s p state.old → IfOk result (IsSigned s p (signing.sign_kind s (G.signature signer.old) (kind_of kind) (G.Tally.total signer.old - G.Tally.used signer.old) p) state.new (G.Tally.total signer.old) (G.Tally.used signer.new) (map signed_by signed.old.items) (map signed_by signed.new.items)) }
+    ensures signs { (s : defs.Setting) (p : defs.Process) → s.group ≡ group.now → length p.signed ≡ G.Tally.used signer.old
+        → IsStateOf s p state.old → IfOk result
+        (IsSigned s p (signing.sign_kind s (G.signature signer.old) (kind_of kind)
+        (G.Tally.total signer.old - G.Tally.used signer.old) p) state.new (G.Tally.total signer.old) (G.Tally.used signer.new)
+        (map signed_by signed.old.items) (map signed_by signed.new.items)) }
     ensures real { OnOk result (IsReal state.new) }
     ensures undecided { OnOk result (IsUndecided state.new.phase) }
     ensures total { G.Tally.total signer.new ≡ G.Tally.total signer.old }
@@ -139,7 +151,11 @@ fn sign_kinds<G: Signer>(
 ) -> Result<bool, NoMemory>
     requires real { IsReal state.old }
     requires undecided { IsUndecided state.old.phase }
-    ensures signs { (s : defs.Setting) (p : defs.Process) → s.group ≡ group.now → length p.signed ≡ G.Tally.used signer.old → IsStateOf s p state.old → IfOk result (IsSigned s p (signing.sign_kinds s (G.signature signer.old) (map kind_of kinds.now) (G.Tally.total signer.old - G.Tally.used signer.old) p) state.new (G.Tally.total signer.old) (G.Tally.used signer.new) (map signed_by signed.old.items) (map signed_by signed.new.items)) }
+    ensures signs { (s : defs.Setting) (p : defs.Process) → s.group ≡ group.now → length p.signed ≡ G.Tally.used signer.old
+        → IsStateOf s p state.old → IfOk result
+        (IsSigned s p (signing.sign_kinds s (G.signature signer.old) (map kind_of kinds.now)
+        (G.Tally.total signer.old - G.Tally.used signer.old) p) state.new (G.Tally.total signer.old) (G.Tally.used signer.new)
+        (map signed_by signed.old.items) (map signed_by signed.new.items)) }
     ensures real { OnOk result (IsReal state.new) }
     ensures total { G.Tally.total signer.new ≡ G.Tally.total signer.old }
     ensures secret { G.signature signer.new ≡ G.signature signer.old }
@@ -164,7 +180,11 @@ pub fn sign_all<G: Signer>(
     signed: &mut Vec<OwnClaim>,
 ) -> Result<bool, NoMemory>
     requires real { IsReal state.old }
-    ensures signs { (s : defs.Setting) (p : defs.Process) → s.group ≡ group.now → s.signs ≡ defs.all_kinds → length p.signed ≡ G.Tally.used signer.old → IsStateOf s p state.old → IfOk result (IsSigned s p (signing.sign_all s (G.signature signer.old) (G.Tally.total signer.old - G.Tally.used signer.old) p) state.new (G.Tally.total signer.old) (G.Tally.used signer.new) (map signed_by signed.old.items) (map signed_by signed.new.items)) }
+    ensures signs { (s : defs.Setting) (p : defs.Process) → s.group ≡ group.now → s.signs ≡ defs.all_kinds
+        → length p.signed ≡ G.Tally.used signer.old → IsStateOf s p state.old
+        → IfOk result (IsSigned s p (signing.sign_all s (G.signature signer.old)
+        (G.Tally.total signer.old - G.Tally.used signer.old) p) state.new (G.Tally.total signer.old) (G.Tally.used signer.new)
+        (map signed_by signed.old.items) (map signed_by signed.new.items)) }
     ensures real { OnOk result (IsReal state.new) }
     ensures total { G.Tally.total signer.new ≡ G.Tally.total signer.old }
     ensures secret { G.signature signer.new ≡ G.signature signer.old }

@@ -41,7 +41,8 @@ frames_to out = map (λ bytes. (out.to, bytes)) (parcels.frames_of out.parcel)
 
 -- what is told
 abbrev pub note : Note → defs.Note
-note (notes.Delivered view place sender number payload) = defs.Delivers view (record { place = place; message = record { sender = sender; number = number }; payload = payload })
+note (notes.Delivered view place sender number payload) = defs.Delivers view
+    (record { place = place; message = record { sender = sender; number = number }; payload = payload })
 note (notes.Installed view members) = defs.Installs (as_view view members.items)
 note (notes.Liar p) = defs.Liar p
 note notes.Spent = defs.Spent

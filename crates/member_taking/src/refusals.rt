@@ -32,7 +32,8 @@ fn is_member(state: &ProcessState) -> bool
 // How many payloads that a member accepted are not delivered yet.
 fn waiting(state: &ProcessState) -> usize
     requires real { IsReal state.now }
-    ensures { (s : Setting) (p : Process) → IsStateOf s p state.now → IsTrue (views.is_member p.pool.view p.me) → result ≡ length p.accepted - (earlier p + delivered_from p.me p.delivered) }
+    ensures { (s : Setting) (p : Process) → IsStateOf s p state.now → IsTrue (views.is_member p.pool.view p.me)
+        → result ≡ length p.accepted - (earlier p + delivered_from p.me p.delivered) }
 {
     let delivered = state.own.earlier as usize
         + counts_of(&state.pool, &state.own, state.own.me) as usize;
@@ -42,7 +43,8 @@ fn waiting(state: &ProcessState) -> usize
 // Why the payload is refused by a process that has not halted, if it is.
 fn payload_fault(state: &ProcessState, payload: &[u8]) -> Option<EventFault>
     requires real { IsReal state.now }
-    ensures exactly { (s : Setting) (p : Process) → IsStateOf s p state.now → p.halted ≡ false → refusal s p (Submit payload.now) ≡ option_map fault_of result }
+    ensures exactly { (s : Setting) (p : Process) → IsStateOf s p state.now → p.halted ≡ false
+        → refusal s p (Submit payload.now) ≡ option_map fault_of result }
     ensures short { IfNone result (length payload.now ≤ 1024) }
 {
     if !is_member(state) {
@@ -58,7 +60,8 @@ fn payload_fault(state: &ProcessState, payload: &[u8]) -> Option<EventFault>
 
 // Why the update is refused by a process that has not halted, if it is.
 fn update_fault(state: &ProcessState, update: &Update) -> Option<EventFault>
-    ensures { (s : Setting) (p : Process) → IsStateOf s p state.now → p.halted ≡ false → refusal s p (asking (update_of update.now)) ≡ option_map fault_of result }
+    ensures { (s : Setting) (p : Process) → IsStateOf s p state.now → p.halted ≡ false
+        → refusal s p (asking (update_of update.now)) ≡ option_map fault_of result }
 {
     if !is_member(state) {
         return Some(EventFault::Outsider);
@@ -75,7 +78,8 @@ fn admit_payload<'a>(state: &ProcessState, payload: &'a [u8]) -> Result<Input<'a
     requires real { IsReal state.now }
     ensures read { IfOk result (λ i. Submit payload.now ≡ handed i) }
     ensures range { IfOk result InRange }
-    ensures exactly { (s : Setting) (p : Process) → IsStateOf s p state.now → p.halted ≡ false → refusal s p (Submit payload.now) ≡ option_map fault_of (result_err result) }
+    ensures exactly { (s : Setting) (p : Process) → IsStateOf s p state.now → p.halted ≡ false
+        → refusal s p (Submit payload.now) ≡ option_map fault_of (result_err result) }
 {
     match payload_fault(state, payload) {
         Some(fault) => Err(fault),
@@ -87,7 +91,8 @@ fn admit_payload<'a>(state: &ProcessState, payload: &'a [u8]) -> Result<Input<'a
 fn admit_update<'a>(state: &ProcessState, update: Update) -> Result<Input<'a>, EventFault>
     ensures read { IfOk result (λ i. asking (update_of update) ≡ handed i) }
     ensures range { IfOk result InRange }
-    ensures exactly { (s : Setting) (p : Process) → IsStateOf s p state.now → p.halted ≡ false → refusal s p (asking (update_of update)) ≡ option_map fault_of (result_err result) }
+    ensures exactly { (s : Setting) (p : Process) → IsStateOf s p state.now → p.halted ≡ false
+        → refusal s p (asking (update_of update)) ≡ option_map fault_of (result_err result) }
 {
     match update_fault(state, &update) {
         Some(fault) => Err(fault),
@@ -99,7 +104,8 @@ fn admit_update<'a>(state: &ProcessState, update: Update) -> Result<Input<'a>, E
 fn admit_frame<'a>(from: Pid, bytes: &'a [u8]) -> Result<Input<'a>, EventFault>
     ensures read { IfOk result (λ i. Hand from (frame_said bytes.now) ≡ handed i) }
     ensures range { IfOk result InRange }
-    ensures exactly { (s : Setting) (p : Process) → p.halted ≡ false → refusal s p (Hand from (frame_said bytes.now)) ≡ option_map fault_of (result_err result) }
+    ensures exactly { (s : Setting) (p : Process) → p.halted ≡ false
+        → refusal s p (Hand from (frame_said bytes.now)) ≡ option_map fault_of (result_err result) }
 {
     match read_frame(from, bytes) {
         Ok(input) => Ok(input),
@@ -112,7 +118,8 @@ fn admit_running<'a>(state: &ProcessState, event: &Event<'a>) -> Result<Input<'a
     requires real { IsReal state.now }
     ensures read { IfOk result (λ i. event_of event.now ≡ handed i) }
     ensures range { IfOk result InRange }
-    ensures exactly { (s : Setting) (p : Process) → IsStateOf s p state.now → p.halted ≡ false → refusal s p (event_of event.now) ≡ option_map fault_of (result_err result) }
+    ensures exactly { (s : Setting) (p : Process) → IsStateOf s p state.now → p.halted ≡ false
+        → refusal s p (event_of event.now) ≡ option_map fault_of (result_err result) }
 {
     match *event {
         Event::Submit(payload) => admit_payload(state, payload),
@@ -130,7 +137,8 @@ pub fn admit<'a>(state: &ProcessState, event: &Event<'a>) -> Result<Input<'a>, E
     ensures read { IfOk result (λ i. event_of event.now ≡ handed i) }
     ensures range { IfOk result InRange }
     ensures taken { IfOk result (λ i. (s : Setting) (p : Process) → IsStateOf s p state.now → refusal s p (event_of event.now) ≡ None) }
-    ensures refused { IfErr result (λ f. (s : Setting) (p : Process) → IsStateOf s p state.now → refusal s p (event_of event.now) ≡ Some (fault_of f)) }
+    ensures refused { IfErr result
+        (λ f. (s : Setting) (p : Process) → IsStateOf s p state.now → refusal s p (event_of event.now) ≡ Some (fault_of f)) }
 {
     if let Some((delivered, cut)) = state.halted() {
         return Err(EventFault::HaltedNow { delivered, cut });

@@ -27,7 +27,8 @@ use stmt_codec::{Claims, Payload};
 fn accept(state: &mut ProcessState, payload: &[u8]) -> Result<(), NoMemory>
     requires short { length payload.now ≤ 1024 }
     requires admitted { (s : Setting) (p : Process) → IsStateOf s p state.old → refusal s p (Submit payload.now) ≡ None }
-    ensures { (s : Setting) (p : Process) → IsStateOf s p state.old → OnOk result (IsStateOf s (defs.take_in s p (Submit payload.now)) state.new) }
+    ensures { (s : Setting) (p : Process) → IsStateOf s p state.old
+        → OnOk result (IsStateOf s (defs.take_in s p (Submit payload.now)) state.new) }
 {
     let alloc = *state.account.accepted.allocator();
     let bytes = Vec::from_slice(alloc, payload)?;
@@ -44,8 +45,11 @@ fn hear<V: Scheme>(
     requires real { IsReal state.old }
     requires range { AllByRecursion IsClaim (claims_left claims) }
     requires few { length (claims_left claims) ≤ most_claims }
-    ensures taken { (s r : Setting) (p : Process) → Shares r (V.valid judge.now.scheme.now) judge.now.group.now judge.now.roster.now → IsStateOf s p state.old → OnOk result (IsStateOf s (hearing.hear_all r p (claims_left claims.entry)) state.new) }
-    ensures heard { (s r : Setting) (p : Process) → Shares r (V.valid judge.now.scheme.now) judge.now.group.now judge.now.roster.now → IsStateOf s p state.old → IfOk result (λ n. n ≡ length (hearing.hear_all r p (claims_left claims.entry)).pool.heard - length p.pool.heard) }
+    ensures taken { (s r : Setting) (p : Process) → Shares r (V.valid judge.now.scheme.now) judge.now.group.now judge.now.roster.now
+        → IsStateOf s p state.old → OnOk result (IsStateOf s (hearing.hear_all r p (claims_left claims.entry)) state.new) }
+    ensures heard { (s r : Setting) (p : Process) → Shares r (V.valid judge.now.scheme.now) judge.now.group.now judge.now.roster.now
+        → IsStateOf s p state.old → IfOk result
+        (λ n. n ≡ length (hearing.hear_all r p (claims_left claims.entry)).pool.heard - length p.pool.heard) }
 {
     let before = state.pool.size().0;
     hear_all(
@@ -69,7 +73,8 @@ fn stands_before(view: u16, update: &Update, other: &(u16, Update)) -> bool
 // The place in the order where the update is put.
 fn place_among(all: &[(u16, Update)], view: u16, update: &Update) -> usize
     ensures within { result ≤ length all.now }
-    ensures place { map perceived_of (insert all.now result (view, update.now)) ≡ put perceived_numbers (perceived_of (view, update.now)) (map perceived_of all.now) }
+    ensures place { map perceived_of (insert all.now result (view, update.now))
+        ≡ put perceived_numbers (perceived_of (view, update.now)) (map perceived_of all.now) }
 {
     'updates: for (place, other) in all.iter().enumerate() {
         if stands_before(view, update, other) {
@@ -81,7 +86,11 @@ fn place_among(all: &[(u16, Update)], view: u16, update: &Update) -> usize
 
 // Puts the update, with the number of the view, into its place among those that the process tells of.
 fn tell_perceived(account: &mut Account, view: u16, update: &Update) -> Result<(), NoMemory>
-    ensures { OnOk result (account_of account.new ≡ record (account_of account.old) { perceived = put perceived_numbers (perceived_of (view, update.now)) (account_of account.old).perceived }) }
+    ensures { OnOk result (account_of account.new
+        ≡ record (account_of account.old) {
+          perceived = put perceived_numbers (perceived_of (view, update.now))
+              (account_of account.old).perceived;
+        }) }
 {
     let place = place_among(&account.perceived, view, update);
     account.perceived.insert(place, (view, *update))?;
@@ -107,7 +116,8 @@ fn in_range(update: &Update)
 fn ask(state: &mut ProcessState, update: &Update) -> Result<(), NoMemory>
     requires real { IsReal state.old }
     requires admitted { (s : Setting) (p : Process) → IsStateOf s p state.old → refusal s p (asking (update_of update.now)) ≡ None }
-    ensures { (s : Setting) (p : Process) → IsStateOf s p state.old → OnOk result (IsStateOf s (perceives p (update_of update.now)) state.new) }
+    ensures { (s : Setting) (p : Process) → IsStateOf s p state.old
+        → OnOk result (IsStateOf s (perceives p (update_of update.now)) state.new) }
 {
     if state.perceived.contains(*update) {
         return Ok(());
@@ -131,8 +141,10 @@ pub fn take_in<V: Scheme>(
     requires real { IsReal state.old }
     requires range { InRange input.now }
     requires admitted { (s : Setting) (p : Process) → IsStateOf s p state.old → refusal s p (handed input.now) ≡ None }
-    ensures taken { (s : Setting) (p : Process) → Shares s (V.valid judge.now.scheme.now) judge.now.group.now judge.now.roster.now → IsStateOf s p state.old → OnOk result (IsStateOf s (defs.take_in s p (handed input.now)) state.new) }
-    ensures heard { (s : Setting) (p : Process) → Shares s (V.valid judge.now.scheme.now) judge.now.group.now judge.now.roster.now → IsStateOf s p state.old → IfOk result (λ n. n ≡ length (defs.take_in s p (handed input.now)).pool.heard - length p.pool.heard) }
+    ensures taken { (s : Setting) (p : Process) → Shares s (V.valid judge.now.scheme.now) judge.now.group.now judge.now.roster.now
+        → IsStateOf s p state.old → OnOk result (IsStateOf s (defs.take_in s p (handed input.now)) state.new) }
+    ensures heard { (s : Setting) (p : Process) → Shares s (V.valid judge.now.scheme.now) judge.now.group.now judge.now.roster.now
+        → IsStateOf s p state.old → IfOk result (λ n. n ≡ length (defs.take_in s p (handed input.now)).pool.heard - length p.pool.heard) }
     ensures real { OnOk result (IsReal state.new) }
 {
     match input {

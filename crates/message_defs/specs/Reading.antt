@@ -205,10 +205,13 @@ ranked_at kind bytes = valued_at bytes >>= λ v. Ok (kind v.0 v.1 v.2)
 unfoldable pub content_at : ℕ → List ℕ → Result Statement FrameFault
 content_at kind bytes =
     if kind == 1 then init_at bytes else (if kind == 2 then echo_at bytes else
-    (if kind == 3 then place_at Order false bytes else (if kind == 4 then place_at Place false bytes else (if kind == 5 then place_at Keep false bytes else
+    (if kind == 3 then place_at Order false bytes
+    else (if kind == 4 then place_at Place false bytes else (if kind == 5 then place_at Keep false bytes else
     (if kind == 6 then notify_at bytes else (if kind == 7 then end_at bytes else (if kind == 8 then last_at bytes else
-    (if kind == 9 then ranked_at Suggest bytes else (if kind == 10 then ranked_at Ack bytes else (if kind == 11 then ranked_at Ready bytes else
-    (if kind == 12 then place_at Order true bytes else (if kind == 13 then place_at Place true bytes else (if kind == 14 then place_at Keep true bytes else
+    (if kind == 9 then ranked_at Suggest bytes
+    else (if kind == 10 then ranked_at Ack bytes else (if kind == 11 then ranked_at Ready bytes else
+    (if kind == 12 then place_at Order true bytes
+    else (if kind == 13 then place_at Place true bytes else (if kind == 14 then place_at Keep true bytes else
     Err faults.Statement)))))))))))))
 
 -- ---- a statement, all of the bytes, where the frame carries these kinds

@@ -10,7 +10,8 @@ pub record Message : Type 0 where
   pub number : ℕ
 
 unfoldable pub Message-discrete : Discrete Message
-Message-discrete a b = both (λ s n. λ i. record { sender = s i; number = n i }) (λ e. λ i. (e i).sender) (λ e. λ i. (e i).number) (ℕ_discrete a.sender b.sender) (ℕ_discrete a.number b.number)
+Message-discrete a b = both (λ s n. λ i. record { sender = s i; number = n i }) (λ e. λ i. (e i).sender) (λ e. λ i. (e i).number)
+    (ℕ_discrete a.sender b.sender) (ℕ_discrete a.number b.number)
 
 -- what a place holds: messages, in the order in which they are delivered
 abbrev pub Batch : Type 0
@@ -144,7 +145,8 @@ same_slot a b = is_yes (Slot-discrete ℕ_discrete Message-discrete (Update-disc
 
 -- the statements are equal, in kind and in all fields
 abbrev pub same_statement : Statement → Statement → Bool
-same_statement a b = is_yes (Statement-discrete ℕ_discrete bytes_discrete Message-discrete Batch-discrete (Update-discrete ℕ_discrete) (option_discrete (pair_discrete ℕ_discrete Value-discrete)) Value-discrete a b)
+same_statement a b = is_yes (Statement-discrete ℕ_discrete bytes_discrete Message-discrete Batch-discrete (Update-discrete ℕ_discrete)
+    (option_discrete (pair_discrete ℕ_discrete Value-discrete)) Value-discrete a b)
 
 -- ---- claims
 

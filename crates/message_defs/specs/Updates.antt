@@ -22,7 +22,8 @@ pub record Value : Type 0 where
   pub cut : ℕ
 
 unfoldable pub Value-discrete : Discrete Value
-Value-discrete v w = both (λ u c. λ i. record { update = u i; cut = c i }) (λ e. λ i. (e i).update) (λ e. λ i. (e i).cut) (Update-discrete ℕ_discrete v.update w.update) (ℕ_discrete v.cut w.cut)
+Value-discrete v w = both (λ u c. λ i. record { update = u i; cut = c i }) (λ e. λ i. (e i).update) (λ e. λ i. (e i).cut)
+    (Update-discrete ℕ_discrete v.update w.update) (ℕ_discrete v.cut w.cut)
 
 -- values are ordered by update, then by cut
 abbrev pub value_numbers : Value → List ℕ

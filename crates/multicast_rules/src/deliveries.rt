@@ -31,7 +31,8 @@ fn count_of(pool: &Pool, own: &Own, sender: Pid) -> u16
 /// entry for each member.
 pub fn counts_of(pool: &Pool, own: &Own, sender: Pid) -> u16
     requires { length own.now.counts.items ≡ number_of_members pool.now.pool }
-    ensures member { IsTrue (views.is_member pool.now.pool.view sender) → (p : Process) → HasDelivered own.now p → p.pool ≡ pool.now.pool → result ≡ delivered_from sender p.delivered }
+    ensures member { IsTrue (views.is_member pool.now.pool.view sender) → (p : Process) → HasDelivered own.now p → p.pool ≡ pool.now.pool
+        → result ≡ delivered_from sender p.delivered }
     ensures stranger { IsFalse (views.is_member pool.now.pool.view sender) → result ≡ 0 }
 {
     count_of(pool, own, sender)
@@ -54,7 +55,8 @@ fn is_held(pool: &Pool, batch: &Batch) -> bool
 /// The batch of the next place, where that is below the limit, is certified, and so is each message of the batch; else None.
 /// A member delivers it whole.
 pub fn deliverable(pool: &Pool, own: &Own, limit: u16) -> Option<Batch>
-    ensures { (p : Process) → HasDelivered own.now p → p.pool ≡ pool.now.pool → result ≡ (if nat_lt (places_in p.delivered) limit then option_map batch_in (settle.deliverable p) else None) }
+    ensures { (p : Process) → HasDelivered own.now p → p.pool ≡ pool.now.pool
+        → result ≡ (if nat_lt (places_in p.delivered) limit then option_map batch_in (settle.deliverable p) else None) }
 {
     if limit <= own.delivered {
         return None;

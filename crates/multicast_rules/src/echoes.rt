@@ -18,7 +18,8 @@ use stmt_codec::Slot;
 /// heard Init says.
 pub fn echo_due(pool: &Pool, own: &Own) -> Option<(Pid, u16)>
     // The least that is due, for a process that this is the place of, with this pool.
-    ensures least { (s : Setting) (p : Process) → IsPool pool.now.pool → Tells s p pool.now.pool own.now → least_due s p Echoes ≡ option_map (echo_to p) result }
+    ensures least { (s : Setting) (p : Process) → IsPool pool.now.pool → Tells s p pool.now.pool own.now
+        → least_due s p Echoes ≡ option_map (echo_to p) result }
 
     // Its Init is heard.
     ensures heard { IfSome result (λ e. IsSome (defs.heard_on pool.now.pool e.0 (InitAt pool.now.pool.view.number e.1))) }

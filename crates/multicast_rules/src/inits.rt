@@ -26,7 +26,8 @@ pub fn init_due(pool: &Pool, own: &Own, accepted: u32) -> Option<u16>
     requires { length own.now.counts.items ≡ number_of_members pool.now.pool }
 
     // The least that is due, for a process that this is the place of, with this pool.
-    ensures least { (s : Setting) (p : Process) → Tells s p pool.now.pool own.now → length p.accepted ≡ accepted → least_due s p Inits ≡ option_map (own_init p) result }
+    ensures least { (s : Setting) (p : Process) → Tells s p pool.now.pool own.now → length p.accepted ≡ accepted
+        → least_due s p Inits ≡ option_map (own_init p) result }
 
     // Its payload was accepted.
     ensures payload { IfSome result (λ l. own.now.earlier + l < accepted) }

@@ -11,7 +11,8 @@ use stmt_codec::Batch;
 /// The place whose Keep is due, with its batch; None exactly where none is.
 pub fn keep_due(pool: &Pool, own: &Own) -> Option<(u16, Batch)>
     // The least that is due, for a process that this is the place of, with this pool.
-    ensures { (s : Setting) (p : Process) → Tells s p pool.now.pool own.now → least_due s p Keeps ≡ option_map (λ e. plain.Keep pool.now.pool.view.number e.0 e.1) result }
+    ensures { (s : Setting) (p : Process) → Tells s p pool.now.pool own.now
+        → least_due s p Keeps ≡ option_map (λ e. plain.Keep pool.now.pool.view.number e.0 e.1) result }
 {
     own.position?;
     if own.ended {

@@ -70,7 +70,8 @@ fn next_batch(pool: &Pool, counts: &mut [u16], limit: u8) -> Option<Batch>
     requires counts { length counts.old ≡ number_of_members pool.now.pool }
     requires some { 1 ≤ limit }
     requires few { limit ≤ 16 }
-    ensures next { IsPool pool.now.pool → (before : List plain.Message) → counts.old ≡ counts_in pool.now.pool.view before → MatchOption result (next_messages limit pool.now.pool before ≡ []) (λ b. next_messages limit pool.now.pool before ≡ b) }
+    ensures next { IsPool pool.now.pool → (before : List plain.Message) → counts.old ≡ counts_in pool.now.pool.view before
+        → MatchOption result (next_messages limit pool.now.pool before ≡ []) (λ b. next_messages limit pool.now.pool before ≡ b) }
     ensures some { IfSome result (λ b. 1 ≤ length b) }
 {
     let (sender, number) = take_next(pool, counts)?;
@@ -92,7 +93,8 @@ pub fn order_due(pool: &Pool, own: &Own, batch_limit: u8) -> Option<(u16, Batch)
     requires few { batch_limit ≤ 16 }
 
     // The least that is due, for a process that this is the place of, with this pool.
-    ensures { (s : Setting) (p : Process) → IsPool pool.now.pool → Tells s p pool.now.pool own.now → p.batch_limit ≡ batch_limit → least_due s p Orders ≡ option_map (λ e. plain.Order pool.now.pool.view.number e.0 e.1) result }
+    ensures { (s : Setting) (p : Process) → IsPool pool.now.pool → Tells s p pool.now.pool own.now → p.batch_limit ≡ batch_limit
+        → least_due s p Orders ≡ option_map (λ e. plain.Order pool.now.pool.view.number e.0 e.1) result }
 {
     if !may_order(pool, own) {
         return None;

@@ -39,7 +39,8 @@ fn follower(pool: &Pool, counts: &[u16], sender: Pid, number: u16) -> Option<usi
 // Whether each of these messages is its sender's next behind those that are counted and those before it, and certified.
 fn all_follow(pool: &Pool, counts: &mut [u16], messages: &[(Pid, u16)]) -> bool
     requires { length counts.old ≡ number_of_members pool.now.pool }
-    ensures { IsPool pool.now.pool → (before : List plain.Message) → counts.old ≡ counts_in pool.now.pool.view before → result ≡ (follows before (map message_of messages.now) && are_certified pool.now.pool (map message_of messages.now)) }
+    ensures { IsPool pool.now.pool → (before : List plain.Message) → counts.old ≡ counts_in pool.now.pool.view before
+        → result ≡ (follows before (map message_of messages.now) && are_certified pool.now.pool (map message_of messages.now)) }
 {
     'messages: for (sender, number) in messages {
         let Some(rank) = follower(pool, counts, *sender, *number) else {
@@ -63,7 +64,8 @@ fn fits(pool: &Pool, place: u16, batch: &Batch) -> bool
 
 // The least place whose Order fits there, and whose own Place is not signed, with the batch of the Order.
 fn first_fitting(pool: &Pool, signed: &SignedSlots) -> Option<(u16, Batch)>
-    ensures least { IsPool pool.now.pool → IsLeastBelow most_places (is_order_open pool.now.pool signed.now) (option_map (λ e. e.0) result) }
+    ensures least { IsPool pool.now.pool
+        → IsLeastBelow most_places (is_order_open pool.now.pool signed.now) (option_map (λ e. e.0) result) }
     ensures batch { IfSome result (λ e. ordered_at pool.now.pool e.0 ≡ Some e.1) }
 {
     let mut from = 0;
@@ -80,7 +82,8 @@ fn first_fitting(pool: &Pool, signed: &SignedSlots) -> Option<(u16, Batch)>
 /// The place whose Place is due, with its batch; None exactly where none is.
 pub fn place_due(pool: &Pool, own: &Own) -> Option<(u16, Batch)>
     // The least that is due, for a process that this is the place of, with this pool.
-    ensures { (s : Setting) (p : Process) → IsPool pool.now.pool → Tells s p pool.now.pool own.now → least_due s p Places ≡ option_map (λ e. plain.Place pool.now.pool.view.number e.0 e.1) result }
+    ensures { (s : Setting) (p : Process) → IsPool pool.now.pool → Tells s p pool.now.pool own.now
+        → least_due s p Places ≡ option_map (λ e. plain.Place pool.now.pool.view.number e.0 e.1) result }
 {
     own.position?;
     if own.ended {

@@ -38,7 +38,8 @@ pub record ComeNext (v : View) (before : List Message) (b : Batch) : Type 0 wher
 
 -- the counts with these messages more, where they come next
 abbrev pub CountsMore : View → List ℕ → Batch → List ℕ → Type 0
-CountsMore v counts b counts' = (before : List Message) → ComeNext v before b → counts_in v before ≡ counts → counts_in v (before ++ b) ≡ counts'
+CountsMore v counts b counts' = (before : List Message) → ComeNext v before b → counts_in v before ≡ counts
+    → counts_in v (before ++ b) ≡ counts'
 
 -- the slot is signed; the End, the greatest rank, the Ready of greatest rank and the Orders are those with this statement more; and nothing
 -- else changes

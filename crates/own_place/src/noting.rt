@@ -123,7 +123,9 @@ impl Own {
         ensures noted { noting.IsNoted view.now (stmt statement.now) self.old self.new }
 
         // Where a process may sign the statement, this is its place after it has, with the pool `h` that it holds then.
-        ensures tells { (s : Setting) (signer : Signer) (p : Process) (g h : Pool) → Tells s p g self.old → g.view ≡ view.now → IsTrue (may_sign s p (stmt statement.now)) → (signs s signer p (stmt statement.now)).pool ≡ h → Tells s (signs s signer p (stmt statement.now)) h self.new }
+        ensures tells { (s : Setting) (signer : Signer) (p : Process) (g h : Pool) → Tells s p g self.old → g.view ≡ view.now
+            → IsTrue (may_sign s p (stmt statement.now)) → (signs s signer p (stmt statement.now)).pool ≡ h
+            → Tells s (signs s signer p (stmt statement.now)) h self.new }
         ensures left { self.old.signed.left ≤ self.new.signed.left + 1 }
     {
         self.note(view, statement);

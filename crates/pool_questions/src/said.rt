@@ -27,7 +27,8 @@ pub fn end_of(pool: &Pool, member: Pid) -> Option<u16>
 /// What the member's heard Last at the rank says: a Ready's rank and value, or that it signed none. None exactly where no
 /// such Last of its is heard.
 pub fn last_of(pool: &Pool, member: Pid, rank: u8) -> Option<Option<(u8, Value)>>
-    ensures { option_map report result ≡ option_and_then values.ready_said (certified.heard_on pool.now.pool member (LastAt pool.now.pool.view.number rank)) }
+    ensures { option_map report result
+        ≡ option_and_then values.ready_said (certified.heard_on pool.now.pool member (LastAt pool.now.pool.view.number rank)) }
 {
     let view = pool.view().number();
     match pool.first(member, 8, Slot::Rank { view, rank }) {
@@ -38,7 +39,8 @@ pub fn last_of(pool: &Pool, member: Pid, rank: u8) -> Option<Option<(u8, Value)>
 
 // The value that the member's heard Suggest at the rank says.
 fn suggested_by(pool: &Pool, member: Pid, rank: u8) -> Option<Value>
-    ensures { option_map base.value result ≡ option_and_then plain.value_of (certified.heard_on pool.now.pool member (SuggestAt pool.now.pool.view.number rank)) }
+    ensures { option_map base.value result
+        ≡ option_and_then plain.value_of (certified.heard_on pool.now.pool member (SuggestAt pool.now.pool.view.number rank)) }
 {
     let view = pool.view().number();
     match pool.first(member, 9, Slot::Rank { view, rank }) {
@@ -50,7 +52,9 @@ fn suggested_by(pool: &Pool, member: Pid, rank: u8) -> Option<Value>
 /// The value that the member of the rank suggests there; None exactly where there is no such rank, or its Suggest is not
 /// heard.
 pub fn suggestion(pool: &Pool, rank: u8) -> Option<Value>
-    ensures { option_map base.value result ≡ option_and_then (λ m. option_and_then plain.value_of (certified.heard_on pool.now.pool m (SuggestAt pool.now.pool.view.number rank))) (slice_get pool.now.pool.view.members rank) }
+    ensures { option_map base.value result
+        ≡ option_and_then (λ m. option_and_then plain.value_of
+        (certified.heard_on pool.now.pool m (SuggestAt pool.now.pool.view.number rank))) (slice_get pool.now.pool.view.members rank) }
 {
     match pool.view().members().get(rank as usize) {
         Some(member) => suggested_by(pool, *member, rank),
@@ -60,7 +64,8 @@ pub fn suggestion(pool: &Pool, rank: u8) -> Option<Value>
 
 // The batch that the member's heard Order gives the place.
 fn ordered_by(pool: &Pool, member: Pid, place: u16) -> Option<Batch>
-    ensures { result ≡ option_and_then certified.ordered (certified.heard_on pool.now.pool member (OrderAt pool.now.pool.view.number place)) }
+    ensures { result ≡ option_and_then certified.ordered
+        (certified.heard_on pool.now.pool member (OrderAt pool.now.pool.view.number place)) }
 {
     let view = pool.view().number();
     match pool.first(member, 3, Slot::Place { view, place }) {
@@ -71,7 +76,9 @@ fn ordered_by(pool: &Pool, member: Pid, place: u16) -> Option<Batch>
 
 /// The batch that the manager's heard Order gives the place; None exactly where no such Order is heard.
 pub fn ordered_batch(pool: &Pool, place: u16) -> Option<Batch>
-    ensures { result ≡ option_and_then (λ m. option_and_then certified.ordered (certified.heard_on pool.now.pool m (OrderAt pool.now.pool.view.number place))) (slice_get pool.now.pool.view.members 0) }
+    ensures { result ≡ option_and_then
+        (λ m. option_and_then certified.ordered (certified.heard_on pool.now.pool m (OrderAt pool.now.pool.view.number place)))
+        (slice_get pool.now.pool.view.members 0) }
 {
     match pool.view().members().get(0) {
         Some(manager) => ordered_by(pool, *manager, place),

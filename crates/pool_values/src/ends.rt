@@ -29,7 +29,8 @@ fn init_said(view: u16, statement: &Statement<'_>) -> Option<u16>
 /// Notes the claim, the last that was heard of the view of this number, at its signer.
 pub(crate) fn note_init(view: u16, claim: &Claim<'_>, ends: &mut [u16; PROCESSES])
     requires { IsStatement (stmt claim.now.statement) }
-    ensures { (h : Pool) → h.view.number ≡ view → defs.claim_on h.heard claim.now.signer (plain.slot_of (stmt claim.now.statement)) ≡ None → AreInitsEnds h ends.old → AreInitsEnds (with_heard h (claim_of claim.now)) ends.new }
+    ensures { (h : Pool) → h.view.number ≡ view → defs.claim_on h.heard claim.now.signer (plain.slot_of (stmt claim.now.statement)) ≡ None
+        → AreInitsEnds h ends.old → AreInitsEnds (with_heard h (claim_of claim.now)) ends.new }
 {
     let signer = claim.signer.get() as usize;
     if let Some(number) = init_said(view, &claim.statement) {

@@ -93,7 +93,9 @@ fn follow(quorums: &Quorums, prefix: &mut PlacedBatches)
 fn follow_claim(quorums: &Quorums, statement: &Statement<'_>, prefix: &mut PlacedBatches)
     requires view { prefix.old.view ≡ quorums.now.pool.view }
     requires placed { ArePlaced quorums.now.pool prefix.old.batches }
-    ensures { (h : Pool) (c : plain.Claim) → quorums.now.pool ≡ with_heard h c → c.statement ≡ stmt statement.now → defs.claim_on h.heard c.signer (plain.slot_of c.statement) ≡ None → 1 ≤ defs.number_of_members h → prefix.old ≡ placed_in h → prefix.new ≡ placed_in quorums.now.pool }
+    ensures { (h : Pool) (c : plain.Claim) → quorums.now.pool ≡ with_heard h c → c.statement ≡ stmt statement.now
+        → defs.claim_on h.heard c.signer (plain.slot_of c.statement) ≡ None → 1 ≤ defs.number_of_members h → prefix.old ≡ placed_in h
+        → prefix.new ≡ placed_in quorums.now.pool }
 {
     if statement.kind() == PLACE {
         follow(quorums, prefix);
@@ -156,7 +158,9 @@ fn notified_by(quorums: &Quorums, statement: &Statement<'_>) -> Option<Update>
 
 // Notes the update of the claim, the last that was heard, where more than f members notify it now.
 fn note_update(quorums: &Quorums, statement: &Statement<'_>, notified: &mut UpdateSet)
-    ensures { (h : Pool) (c : plain.Claim) → quorums.now.pool ≡ with_heard h c → c.statement ≡ stmt statement.now → defs.claim_on h.heard c.signer (plain.slot_of c.statement) ≡ None → AreNotified h notified.old → AreNotified quorums.now.pool notified.new }
+    ensures { (h : Pool) (c : plain.Claim) → quorums.now.pool ≡ with_heard h c → c.statement ≡ stmt statement.now
+        → defs.claim_on h.heard c.signer (plain.slot_of c.statement) ≡ None → AreNotified h notified.old
+        → AreNotified quorums.now.pool notified.new }
 {
     if let Some(update) = notified_by(quorums, statement) {
         notified.insert(update);

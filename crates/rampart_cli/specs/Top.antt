@@ -57,7 +57,8 @@ report_of_run short run = report_by short run.world (family run)
 pub record HasNoRun (bytes : List ℕ) : Type 0 where
   pub fault : ReplayFault
   pub none : (short : Bool) → report_of short bytes ≡ Err fault
-  pub no_world : (s : Schedule) → IsSchedule s → bytes ≡ schedule_bytes s → (why : WorldFault) × (fault ≡ Stops why) × (world_of s ≡ Err why)
+  pub no_world : (s : Schedule) → IsSchedule s → bytes ≡ schedule_bytes s
+      → (why : WorldFault) × (fault ≡ Stops why) × (world_of s ≡ Err why)
 
 -- ---- the headline
 

@@ -13,7 +13,8 @@ is_ready_open h own r = is_some (acked h r) && nat_le own.rank r && not (has_slo
 
 -- a member's own rank is below the removed one, at which its Last is not signed
 abbrev pub is_last_open : Pool → Own → Bool
-is_last_open h own = is_some own.position && nat_lt own.rank (removed_rank h) && not (has_slot own.signed (LastAt h.view.number (removed_rank h)))
+is_last_open h own = is_some own.position && nat_lt own.rank (removed_rank h)
+    && not (has_slot own.signed (LastAt h.view.number (removed_rank h)))
 
 -- the rank is not below the own one, and its Suggest is not signed
 abbrev pub is_suggest_open : Pool → Own → ℕ → Bool
@@ -21,4 +22,5 @@ is_suggest_open h own r = nat_le own.rank r && not (has_slot own.signed (Suggest
 
 -- to a member: the Suggest of this rank's member is heard, the own rank is not above it, and its Ack is not signed
 abbrev pub is_ack_open : Pool → Own → ℕ → Bool
-is_ack_open h own r = is_some own.position && is_some (suggested h r) && nat_le own.rank r && not (has_slot own.signed (AckAt h.view.number r))
+is_ack_open h own r = is_some own.position && is_some (suggested h r) && nat_le own.rank r
+    && not (has_slot own.signed (AckAt h.view.number r))

@@ -22,14 +22,16 @@ use stmt_codec::Slot;
 /// Whether the value is justified at the rank: it is free, which is handed in, and no lower rank may have decided; or some
 /// lower rank may have decided it.
 pub fn justified(pool: &Pool, rank: u8, value: Value, free: bool) -> bool
-    ensures { IsPool pool.now.pool → (s : Setting) → free ≡ defs.is_free s pool.now.pool (value_of value) → result ≡ defs.is_justified s pool.now.pool rank (value_of value) }
+    ensures { IsPool pool.now.pool → (s : Setting) → free ≡ defs.is_free s pool.now.pool (value_of value)
+        → result ≡ defs.is_justified s pool.now.pool rank (value_of value) }
 {
     (free && is_first_way(pool, rank)) || first_deciding(pool, rank, &value).is_some()
 }
 
 // Whether the value is justified at the rank, which asks whether it is free.
 fn is_justified(pool: &Pool, own: &Own, rank: u8, value: &Value) -> bool
-    ensures { IsPool pool.now.pool → (s : Setting) → HasKeys s own.now → result ≡ defs.is_justified s pool.now.pool rank (value_of value.now) }
+    ensures { IsPool pool.now.pool → (s : Setting) → HasKeys s own.now
+        → result ≡ defs.is_justified s pool.now.pool rank (value_of value.now) }
 {
     let free = cut_justified(pool, own, *value);
     justified(pool, rank, *value, free)

@@ -30,7 +30,8 @@ fn decided_at(pool: &Pool, own: &Own, rank: u8) -> Option<(u8, Value)>
 
 // The least rank that decides; None exactly where none does.
 fn deciding_rank(pool: &Pool, own: &Own) -> Option<u8>
-    ensures { (s : Setting) → HasKeys s own.now → IsLeastBelow (certified.number_of_members pool.now.pool) (λ r. is_some (defs.decided_at s pool.now.pool r)) result }
+    ensures { (s : Setting) → HasKeys s own.now
+        → IsLeastBelow (certified.number_of_members pool.now.pool) (λ r. is_some (defs.decided_at s pool.now.pool r)) result }
 {
     let members = pool.view().members().len() as u8;
     'ranks: for rank in 0..members {

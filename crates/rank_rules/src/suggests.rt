@@ -22,7 +22,8 @@ use stmt_codec::Slot;
 /// What the deputy of the rank chooses: the value of the greatest lower rank that may have decided one; where none may, the
 /// free value, which is handed in, if no lower rank may have decided. None exactly where there is nothing to choose.
 pub fn choose(pool: &Pool, rank: u8, free: Option<Value>) -> Option<Value>
-    ensures { IsPool pool.now.pool → (s : Setting) → option_map value_of free ≡ defs.free_value s pool.now.pool → option_map value_of result ≡ defs.choose s pool.now.pool rank }
+    ensures { IsPool pool.now.pool → (s : Setting) → option_map value_of free ≡ defs.free_value s pool.now.pool
+        → option_map value_of result ≡ defs.choose s pool.now.pool rank }
 {
     match last_deciding(pool, rank) {
         Some(lower) => certified_ack(pool, lower),
@@ -55,7 +56,9 @@ fn is_open(pool: &Pool, own: &Own, rank: u8) -> bool
 /// The rank and the value of the Suggest that is due: at the own position, of what is chosen there, which is handed in. None
 /// exactly where none is due.
 pub fn suggest_due(pool: &Pool, own: &Own, chosen: Option<Value>) -> Option<(u8, Value)>
-    ensures { (s : Setting) (p : Process) → Tells s p pool.now.pool own.now → ((r : ℕ) → own.now.position ≡ Some r → option_map value_of chosen ≡ defs.choose s pool.now.pool r) → least_due s p Suggests ≡ option_map (λ v. Suggest pool.now.pool.view.number v.0 (value_of v.1)) result }
+    ensures { (s : Setting) (p : Process) → Tells s p pool.now.pool own.now
+        → ((r : ℕ) → own.now.position ≡ Some r → option_map value_of chosen ≡ defs.choose s pool.now.pool r)
+        → least_due s p Suggests ≡ option_map (λ v. Suggest pool.now.pool.view.number v.0 (value_of v.1)) result }
 {
     let rank = own.position?;
     if !is_open(pool, own, rank) {

@@ -82,7 +82,8 @@ fn lasts_at_most(pool: &Pool, rank: u8, lower: u8) -> usize
 
 // Whether some member's heard Last at the rank reports the value's Ready of the lower rank.
 fn is_reported(pool: &Pool, rank: u8, lower: u8, value: &Value) -> bool
-    ensures { result ≡ list_any (λ m. is_some_and (plain_last pool.now.pool rank m) (defs.same_ready (Some (lower, value_of value.now)))) pool.now.pool.view.members }
+    ensures { result ≡ list_any (λ m. is_some_and (plain_last pool.now.pool rank m)
+        (defs.same_ready (Some (lower, value_of value.now)))) pool.now.pool.view.members }
 {
     pool.view()
         .members()
@@ -134,7 +135,8 @@ fn may_have_decided(pool: &Pool, rank: u8, lower: u8) -> bool
 
 /// The greatest lower rank that may have decided; None exactly where none may.
 pub(crate) fn last_deciding(pool: &Pool, rank: u8) -> Option<u8>
-    ensures { IsPool pool.now.pool → IsGreatestBelow rank (λ r. is_some_and (acked pool.now.pool r) (defs.is_second_way pool.now.pool rank r)) result }
+    ensures { IsPool pool.now.pool
+        → IsGreatestBelow rank (λ r. is_some_and (acked pool.now.pool r) (defs.is_second_way pool.now.pool rank r)) result }
 {
     // Where no Ack is heard, none is certified.
     if !pool.hears(10) {

@@ -89,7 +89,8 @@ fn put_commit(frames: &mut Frames, commits: &[ClaimList], view: u16) -> Result<(
 fn put_pool(frames: &mut Frames, pool: &Pool, view: u16, place: u16) -> Result<(), NoMemory>
     requires range { IsRanged pool.now.pool }
     requires place { place ≤ 1024 }
-    ensures { OnOk result (Fills frames.old frames.new (extended false frames.old.claims (all_signed (places_kept (filter (λ g. g.view.number == view) (pool.now.pool ∷ [])) place)))) }
+    ensures { OnOk result (Fills frames.old frames.new
+        (extended false frames.old.claims (all_signed (places_kept (filter (λ g. g.view.number == view) (pool.now.pool ∷ [])) place)))) }
 {
     if pool.view().number() == view {
         frames.put_places(pool, place)
@@ -118,7 +119,8 @@ impl Archive {
         requires certified { value_at pool.pool (ReadyAt pool.pool.view.number commit.0) ≡ Some (value commit.1) }
         requires order { pool.pool.view.number ≡ length self.old.commits }
         ensures previous { OnOk result (self.new.previous ≡ Some pool.pool) }
-        ensures commits { OnOk result (self.new.commits ≡ self.old.commits ++ all_signed (certificate pool.pool (Ready pool.pool.view.number commit.0 (value commit.1))) ∷ []) }
+        ensures commits { OnOk result (self.new.commits ≡ self.old.commits
+            ++ all_signed (certificate pool.pool (Ready pool.pool.view.number commit.0 (value commit.1))) ∷ []) }
     {
         let view = pool.view().number();
         let slot = Slot::Rank {
@@ -135,7 +137,9 @@ impl Archive {
     // Puts the certificates of eight places of the previous view, where that is the view of this number.
     fn put_previous(&self, view: u16, place: u16, frames: &mut Frames) -> Result<(), NoMemory>
         requires { place ≤ 1024 }
-        ensures { OnOk result (Fills frames.old frames.new (extended false frames.old.claims (all_signed (places_kept (filter (λ g. g.view.number == view) (option_to_list self.now.previous)) place)))) }
+        ensures { OnOk result (Fills frames.old frames.new
+            (extended false frames.old.claims
+            (all_signed (places_kept (filter (λ g. g.view.number == view) (option_to_list self.now.previous)) place)))) }
     {
         match &self.previous {
             Some(previous) => put_pool(frames, previous, view, place),
@@ -157,7 +161,8 @@ impl Archive {
         requires empty { frames.old.claims ≡ [] }
 
         // The answer of each process that has this pool and keeps this archive.
-        ensures answer { OnOk result ((p : Process) → Keeps self.now p → p.pool ≡ pool.now.pool → frames.new.frames ≡ frames.old.frames ++ frames_of (Proof (answer p view place))) }
+        ensures answer { OnOk result ((p : Process) → Keeps self.now p → p.pool ≡ pool.now.pool
+            → frames.new.frames ≡ frames.old.frames ++ frames_of (Proof (answer p view place))) }
         ensures empty { OnOk result (frames.new.claims ≡ []) }
     {
         put_commit(frames, &self.commits, view)?;
@@ -176,7 +181,8 @@ impl Archive {
     /// The claim of the i-th signer, rising and counted from 0, of the commit certificate of the view of this number; None exactly
     /// where the view was not left, or its commit certificate has no more than i claims.
     pub fn commit_claim(&self, view: u16, i: u8) -> Option<Claim<'_>>
-        ensures claim { option_map (λ c. signed_of (claim_of c)) result ≡ option_and_then (λ cs. slice_get cs i) (slice_get self.now.commits view) }
+        ensures claim { option_map (λ c. signed_of (claim_of c)) result
+            ≡ option_and_then (λ cs. slice_get cs i) (slice_get self.now.commits view) }
         ensures range { IfSome result (λ c. IsStatement (stmt c.statement)) }
     {
         match commit_at(&self.commits, view as usize) {

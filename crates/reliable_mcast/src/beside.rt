@@ -65,7 +65,8 @@ fn put_order(
     delivered: u16,
 ) -> Result<(), NoMemory>
     requires { IsRanged pool.now.pool }
-    ensures { OnOk result ((began : Process) → places_in began.delivered ≡ delivered → list.new ≡ extended true list.old (all_signed (beside_order began pool.now.pool (stmt statement.now)))) }
+    ensures { OnOk result ((began : Process) → places_in began.delivered ≡ delivered
+        → list.new ≡ extended true list.old (all_signed (beside_order began pool.now.pool (stmt statement.now)))) }
 {
     let Statement::Order { place, batch, .. } = *statement else {
         return Ok(());
@@ -85,7 +86,9 @@ fn put_order_at(
     delivered: u16,
 ) -> Result<(), NoMemory>
     requires { IsRanged pool.now.pool }
-    ensures { OnOk result ((began : Process) → places_in began.delivered ≡ delivered → list.new ≡ extended true list.old (all_signed (flat_map (beside_order began pool.now.pool) (statements_at said.now.claims (place ∷ []))))) }
+    ensures { OnOk result ((began : Process) → places_in began.delivered ≡ delivered
+        → list.new ≡ extended true list.old
+        (all_signed (flat_map (beside_order began pool.now.pool) (statements_at said.now.claims (place ∷ []))))) }
 {
     match said.get(place) {
         Some(claim) => put_order(list, pool, &claim.statement, delivered),
@@ -102,7 +105,9 @@ pub(crate) fn put_orders(
     delivered: u16,
 ) -> Result<(), NoMemory>
     requires { IsRanged pool.now.pool }
-    ensures { OnOk result ((began : Process) → places_in began.delivered ≡ delivered → list.new ≡ extended true list.old (all_signed (flat_map (beside_order began pool.now.pool) (statements_at said.now.claims base.now)))) }
+    ensures { OnOk result ((began : Process) → places_in began.delivered ≡ delivered
+        → list.new ≡ extended true list.old
+        (all_signed (flat_map (beside_order began pool.now.pool) (statements_at said.now.claims base.now)))) }
 {
     'places: for place in base {
         put_order_at(list, pool, said, *place, delivered)?;
@@ -213,7 +218,8 @@ fn put_suggest_at(
     place: usize,
 ) -> Result<(), NoMemory>
     requires { IsRanged pool.now.pool }
-    ensures { OnOk result (list.new ≡ extended true list.old (all_signed (flat_map (beside_suggest pool.now.pool) (statements_at said.now.claims (place ∷ []))))) }
+    ensures { OnOk result (list.new
+        ≡ extended true list.old (all_signed (flat_map (beside_suggest pool.now.pool) (statements_at said.now.claims (place ∷ []))))) }
 {
     match said.get(place) {
         Some(claim) => put_suggest(alloc, list, pool, &claim.statement),
@@ -230,7 +236,8 @@ pub(crate) fn put_suggests(
     base: &[usize],
 ) -> Result<(), NoMemory>
     requires { IsRanged pool.now.pool }
-    ensures { OnOk result (list.new ≡ extended true list.old (all_signed (flat_map (beside_suggest pool.now.pool) (statements_at said.now.claims base.now)))) }
+    ensures { OnOk result (list.new
+        ≡ extended true list.old (all_signed (flat_map (beside_suggest pool.now.pool) (statements_at said.now.claims base.now)))) }
 {
     'places: for place in base {
         put_suggest_at(alloc, list, pool, said, *place)?;

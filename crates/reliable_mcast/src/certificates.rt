@@ -62,7 +62,8 @@ fn put_first(
     once: bool,
 ) -> Result<(), NoMemory>
     requires { IsRanged pool.now.pool }
-    ensures { OnOk result (list.new ≡ extended once list.old (all_signed (said_by pool.now.pool (slot_at kind about.now) (take count members)))) }
+    ensures { OnOk result (list.new
+        ≡ extended once list.old (all_signed (said_by pool.now.pool (slot_at kind about.now) (take count members)))) }
 {
     let mut left = members;
     'members: for _done in 0..count {
@@ -162,7 +163,8 @@ fn put_place(list: &mut ClaimList, pool: &Pool, place: u16) -> Result<(), NoMemo
 pub(crate) fn put_places(list: &mut ClaimList, pool: &Pool, place: u16) -> Result<(), NoMemory>
     requires range { IsRanged pool.now.pool }
     requires place { place ≤ 1024 }
-    ensures { OnOk result (list.new ≡ extended false list.old (all_signed (flat_map (place_certificates pool.now.pool) (range_with_len place 8)))) }
+    ensures { OnOk result (list.new
+        ≡ extended false list.old (all_signed (flat_map (place_certificates pool.now.pool) (range_with_len place 8)))) }
 {
     'places: for next in place..place + ANSWERED {
         put_place(list, pool, next)?;

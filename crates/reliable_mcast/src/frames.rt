@@ -66,7 +66,9 @@ fn pack_claim(
     claim: &Lent<'_>,
 ) -> Result<Sheet, NoMemory>
     requires { IsShort (lent_claim claim.now) }
-    ensures { IfOk result (λ next. (cs : _) → done.new.items ++ map (frame_as kind) (pack_from next.writer.groups cs) ≡ done.old.items ++ map (frame_as kind) (pack_from sheet.writer.groups (lent_claim claim.now ∷ cs))) }
+    ensures { IfOk result (λ next. (cs : _)
+        → done.new.items ++ map (frame_as kind) (pack_from next.writer.groups cs) ≡ done.old.items
+        ++ map (frame_as kind) (pack_from sheet.writer.groups (lent_claim claim.now ∷ cs))) }
 {
     let mut sheet = sheet;
     if sheet.add(claim) {
@@ -119,7 +121,8 @@ impl Frames {
     pub(crate) fn put_places(&mut self, pool: &Pool, place: u16) -> Result<(), NoMemory>
         requires range { IsRanged pool.now.pool }
         requires place { place ≤ 1024 }
-        ensures { OnOk result (Fills self.old self.new (extended false self.old.claims (all_signed (flat_map (place_certificates pool.now.pool) (range_with_len place 8))))) }
+        ensures { OnOk result (Fills self.old self.new
+            (extended false self.old.claims (all_signed (flat_map (place_certificates pool.now.pool) (range_with_len place 8))))) }
     {
         put_places(&mut self.list, pool, place)
     }
@@ -148,7 +151,9 @@ impl Frames {
         requires empty { self.old.claims ≡ [] }
 
         // Of each process that has delivered so many places.
-        ensures bundle { OnOk result ((began : Process) → places_in began.delivered ≡ delivered → self.new.frames ≡ self.old.frames ++ frames_of (Bundle (with_what_goes_beside began pool.now.pool (chosen said.now.claims base.now)))) }
+        ensures bundle { OnOk result ((began : Process) → places_in began.delivered ≡ delivered
+            → self.new.frames ≡ self.old.frames
+            ++ frames_of (Bundle (with_what_goes_beside began pool.now.pool (chosen said.now.claims base.now)))) }
         ensures empty { OnOk result (self.new.claims ≡ []) }
     {
         put_base(&mut self.list, said, base)?;
@@ -168,7 +173,8 @@ impl Frames {
 
     /// Takes the first of the frames that are not handed out yet; None exactly where none is left.
     pub fn next_frame(&mut self) -> Option<Payload>
-        ensures first { MatchOption result ((self.old.frames ≡ []) × (self.new.frames ≡ [])) (λ frame. self.old.frames ≡ frame ∷ self.new.frames) }
+        ensures first { MatchOption result ((self.old.frames ≡ []) × (self.new.frames ≡ []))
+            (λ frame. self.old.frames ≡ frame ∷ self.new.frames) }
         ensures claims { self.new.claims ≡ self.old.claims }
     {
         self.done.pop_front()

@@ -78,7 +78,8 @@ impl Sheet {
     pub fn add(&mut self, claim: &Lent<'_>) -> bool
         requires { IsShort (lent_claim claim.now) }
         ensures fits { result ≡ fits 61000 (add self.old.writer.groups (lent_claim claim.now)) }
-        ensures groups { self.new.writer.groups ≡ (if result then add self.old.writer.groups (lent_claim claim.now) else self.old.writer.groups) }
+        ensures groups { self.new.writer.groups
+            ≡ (if result then add self.old.writer.groups (lent_claim claim.now) else self.old.writer.groups) }
     {
         add_claim(&mut self.writer, claim)
     }

@@ -35,7 +35,8 @@ impl Player {
 
     /// The process takes an event, with as many signatures as its key has left. Where memory is wanting, the process is lost.
     pub fn step(&mut self, scheme: &AnyScheme, event: &Event<'_>) -> Result<Outcome, NoMemory>
-        ensures { (s : Setting) (c : plain.Player) → Plays s self.old c → s.valid ≡ is_valid (scheme_of scheme.now) → IfOk result (Stepped s c self.new event.now) }
+        ensures { (s : Setting) (c : plain.Player) → Plays s self.old c → s.valid ≡ is_valid (scheme_of scheme.now)
+            → IfOk result (Stepped s c self.new event.now) }
     {
         let Seat::Taken(core) = mem::replace(&mut self.seat, Seat::Lost) else {
             return Err(NoMemory);

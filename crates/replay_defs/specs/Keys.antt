@@ -42,7 +42,8 @@ key_bytes (Hss levels code kind id seed) = levels ∷ tree_bytes code kind id se
 
 -- the parameters of a tree, in so many levels
 abbrev pub IsTree : ℕ → ℕ → OtsType → List ℕ → List ℕ → Type 0
-IsTree levels code kind id seed = (height_in_range levels code ≡ true) × (length_in_range levels kind ≡ true) × (length id ≡ 16) × (length seed ≡ 32)
+IsTree levels code kind id seed = (height_in_range levels code ≡ true) × (length_in_range levels kind ≡ true) × (length id ≡ 16)
+    × (length seed ≡ 32)
 
 -- a key of this scheme, in its ranges
 abbrev pub IsKey : Scheme → Key → Type 0

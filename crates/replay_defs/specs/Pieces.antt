@@ -42,7 +42,8 @@ readable r = take (most_bytes - r.taken) r.waiting
 abbrev pub HasGiven : Option Header → Reading → List ℕ → List ScheduleEvent → Type 0
 HasGiven None r fed es = (es ≡ []) × (r.waiting ≡ fed) × (r.steps ≡ most_steps) × IsErr (header_at fed)
 HasGiven (Some h) r fed es =
-    (first : List ℕ) × (header_at (within_limit fed) ≡ Ok (h, first)) × AreRead (roles_of h.processes) most_steps first es r.steps (readable r)
+    (first : List ℕ) × (header_at (within_limit fed) ≡ Ok (h, first))
+    × AreRead (roles_of h.processes) most_steps first es r.steps (readable r)
 
 -- this is known where these bytes were fed and these events given, and no fault was found
 pub record Stands (r : Reading) (fed : List ℕ) (es : List ScheduleEvent) : Type 0 where
@@ -66,7 +67,8 @@ NoneWhole (Some h) r = IsShort (event_at (roles_of h.processes) r.steps r.waitin
 abbrev pub GivesNext : List ℕ → List ScheduleEvent → Reading → Result (Option ScheduleEvent) (Option Fault) → Type 0
 GivesNext fed es r (Ok (Some e)) = Stands r fed (es ++ e ∷ [])
 GivesNext fed es r (Ok None) = Stands r fed es × NoneWhole r.header r × (length fed ≤ most_bytes)
-GivesNext fed es r (Err (Some fault)) = ((more : List ℕ) → schedule_of (fed ++ more) ≡ Err fault) × (r.fault ≡ Some fault) × (r.waiting ≡ [])
+GivesNext fed es r (Err (Some fault)) = ((more : List ℕ) → schedule_of (fed ++ more) ≡ Err fault) × (r.fault ≡ Some fault)
+    × (r.waiting ≡ [])
 GivesNext fed es r (Err None) = Stands r fed es
 
 -- The events that still wait, where the input is whole.

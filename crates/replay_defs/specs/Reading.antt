@@ -113,7 +113,8 @@ key_at schemes.Hss bytes = hss_at bytes
 
 -- the version of a schedule that begins so
 abbrev pub version_by : List ℕ → Option ℕ
-version_by bytes = first_that_holds ((same_bytes bytes (magic 1), 1) ∷ (same_bytes bytes (magic 2), 2) ∷ (same_bytes bytes (magic 3), 3) ∷ [])
+version_by bytes = first_that_holds
+    ((same_bytes bytes (magic 1), 1) ∷ (same_bytes bytes (magic 2), 2) ∷ (same_bytes bytes (magic 3), 3) ∷ [])
 
 -- The first version has plain and LMS keys, the second HSS keys, the third all.
 abbrev pub scheme_by : ℕ → ℕ → Option Scheme
@@ -176,7 +177,10 @@ header_at bytes = do
   setting ← setting_at bytes
   processes ← processes_at setting.0.0 setting.1
   genesis ← genesis_at (is_listed processes.0) processes.1
-  Ok (record { scheme = setting.0.0; batch_limit = setting.0.1; group = setting.0.2; processes = processes.0; genesis = genesis.0 }, genesis.1)
+  Ok (
+    record { scheme = setting.0.0; batch_limit = setting.0.1; group = setting.0.2; processes = processes.0; genesis = genesis.0 },
+    genesis.1,
+  )
 
 -- ---- the events, behind their tags
 
@@ -317,4 +321,5 @@ cut_input (Err found) = Err (placed_past_limit found.kind (placed most_bytes fou
 
 -- the schedule that the bytes spell, or the first fault; past the limit they are too long, where no other fault stands before it
 unfoldable pub schedule_of : List ℕ → Result Schedule Fault
-schedule_of bytes = if nat_lt most_bytes (length bytes) then cut_input (whole_of (take most_bytes bytes)) else whole_input (length bytes) (whole_of bytes)
+schedule_of bytes = if nat_lt most_bytes (length bytes) then cut_input (whole_of (take most_bytes bytes))
+    else whole_input (length bytes) (whole_of bytes)

@@ -173,7 +173,8 @@ schedule_bytes s = header_bytes s.header ++ flat_map event_bytes s.events
 -- by rising numbers from this one on, with keys of the scheme
 abbrev pub AreListed : Scheme → ℕ → List Listed → Type 0
 AreListed scheme least [] = Unit {0}
-AreListed scheme least (l ∷ more) = (least ≤ l.process) × (l.process ≤ last_process) × IsKey scheme l.key × AreListed scheme (l.process + 1) more
+AreListed scheme least (l ∷ more) = (least ≤ l.process) × (l.process ≤ last_process) × IsKey scheme l.key
+    × AreListed scheme (l.process + 1) more
 
 -- The event is at a correct process, or is a Lie by a corrupt one, and its fields are in their ranges.
 abbrev pub IsEvent : List Listed → ScheduleEvent → Type 0
@@ -181,7 +182,8 @@ IsEvent ls (Submit at payload) = (is_correct ls at ≡ true) × (length payload 
 IsEvent ls (Raw to from bytes) = (is_correct ls to ≡ true) × (from ≤ last_process) × (length bytes ≤ most_raw_bytes)
 IsEvent ls (Pass frame to) = (frame < 2 ^ 32) × (is_correct ls to ≡ true)
 IsEvent ls (Drain count mask) = (count < 2 ^ 32) × (mask < 2 ^ 64)
-IsEvent ls (Lie signer mask statement) = (is_corrupt ls signer ≡ true) × (mask < 2 ^ 64) × (length statement < 2 ^ 16) × IsOk (statement_of statement)
+IsEvent ls (Lie signer mask statement) = (is_corrupt ls signer ≡ true) × (mask < 2 ^ 64) × (length statement < 2 ^ 16)
+    × IsOk (statement_of statement)
 IsEvent ls (Suspect at other) = (is_correct ls at ≡ true) × (other ≤ last_process)
 IsEvent ls (Join at other) = (is_correct ls at ≡ true) × (other ≤ last_process)
 IsEvent ls (Renew at) = is_correct ls at ≡ true

@@ -164,12 +164,17 @@ lies_of w p = count_by (λ f. f.sender == p) w.frames
 
 -- the process's claim on the statement, by its key
 abbrev pub lie_claim : Header → World → Listed → Statement → Claim
-lie_claim h w l st = record { signer = l.process; statement = st; signature = key_signature l.key (lies_of w l.process) (body h.group l.process st) }
+lie_claim h w l st = record {
+  signer = l.process;
+  statement = st;
+  signature = key_signature l.key (lies_of w l.process) (body h.group l.process st);
+}
 
 -- the claim goes out in a Bundle of its own; a spent key sends nothing
 abbrev pub sends_lie : Header → World → ℕ → Listed → Statement → World
 sends_lie h w mask l st =
-    if nat_lt (lies_of w l.process) (key_total l.key) then fold (send l.process (is_in mask)) w (frames_of (Bundle (lie_claim h w l st ∷ [])))
+    if nat_lt (lies_of w l.process) (key_total l.key)
+    then fold (send l.process (is_in mask)) w (frames_of (Bundle (lie_claim h w l st ∷ [])))
     else w
 
 -- the corrupt process lies, where its statement is one

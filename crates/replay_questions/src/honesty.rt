@@ -30,7 +30,8 @@ fn is_own(world: &World, claim: &Claim<'_>) -> bool
 // Whether each of these claims is its signer's own.
 fn are_own(world: &World, claims: Claims<'_>) -> bool
     requires { AllByRecursion IsClaim (claims_left claims) }
-    ensures { (h : Header) (v : plain.World) → Shows h world.now v → result ≡ list_all (is_owned (family_of h v)) (claims_left claims.entry) }
+    ensures { (h : Header) (v : plain.World) → Shows h world.now v
+        → result ≡ list_all (is_owned (family_of h v)) (claims_left claims.entry) }
 {
     let mut left = claims;
     'claims: while let Some(claim) = left.next() {
@@ -72,7 +73,8 @@ fn are_honest_frames(world: &World, frames: &[Sent]) -> bool
 
 // Whether all of these bytes, each as a frame, are honest.
 fn are_honest(world: &World, raws: &[Payload]) -> bool
-    ensures { (h : Header) (v : plain.World) → Shows h world.now v → result ≡ list_all (λ bytes. list_all (is_owned (family_of h v)) (claims_of bytes)) raws.now }
+    ensures { (h : Header) (v : plain.World) → Shows h world.now v
+        → result ≡ list_all (λ bytes. list_all (is_owned (family_of h v)) (claims_of bytes)) raws.now }
 {
     for bytes in raws {
         if !is_honest(world, bytes.bytes()) {

@@ -27,7 +27,8 @@ fn is_word_of_all(players: &[Player], signer: Pid, spelled: &[u8]) -> bool
 /// Whether the claim's signer is none of these, or said its statement.
 pub(crate) fn is_word(players: &[Player], claim: &Claim<'_>) -> bool
     requires { IsStatement (stmt claim.now.statement) }
-    ensures { result ≡ list_all (λ p. not (p.process == claim.now.signer) || is_said (spelling (stmt claim.now.statement)) p.said) players.now }
+    ensures { result ≡ list_all (λ p. not (p.process == claim.now.signer)
+        || is_said (spelling (stmt claim.now.statement)) p.said) players.now }
 {
     let mut spelled = [0; STATEMENT_BYTES];
     let said = spell_into(&claim.statement, &mut spelled);

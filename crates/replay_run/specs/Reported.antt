@@ -32,4 +32,5 @@ pub record IsReported (short : Bool) (bytes text : List ℕ) : Type 0 where
 
 abbrev pub middle_lines : Bool → World → Family → List ℕ
 middle_lines short w f =
-    if short then plain.refused_count w ++ flat_map plain.process_line (ends f) else flat_map plain.refused_line w.refused ++ flat_map (plain.block w.spent) (ends f)
+    if short then plain.refused_count w ++ flat_map plain.process_line (ends f)
+    else flat_map plain.refused_line w.refused ++ flat_map (plain.block w.spent) (ends f)

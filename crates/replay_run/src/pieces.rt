@@ -24,7 +24,8 @@ pub const PIECE_BYTES: usize = 65_536;
 
 // The next event that is whole, where the input has no fault.
 fn next_event(reader: &mut ScheduleReader) -> Result<Option<ScheduleEvent>, NoMemory>
-    ensures gives { (run : Run) (fed : List ℕ) → IsMidway reader.old run fed → IfOk result (λ next. Gives reader.new run fed (option_map event next)) }
+    ensures gives { (run : Run) (fed : List ℕ) → IsMidway reader.old run fed
+        → IfOk result (λ next. Gives reader.new run fed (option_map event next)) }
     ensures moves { IfOk result (λ next. IfSome next (λ _. length reader.new.waiting < length reader.old.waiting)) }
 {
     match reader.next() {

@@ -32,7 +32,8 @@ fn push_refusals(out: &mut Vec<u8>, refused: &[Refused]) -> Result<(), NoMemory>
 
 // All lines of a process.
 fn push_player(out: &mut Vec<u8>, player: &Player, spent: &[Pid]) -> Result<(), NoMemory>
-    ensures { (s : Setting) (c : worlds.Player) → Plays s player.now c → OnOk result (out.new.items ≡ out.old.items ++ plain.block spent.now c.now) }
+    ensures { (s : Setting) (c : worlds.Player) → Plays s player.now c
+        → OnOk result (out.new.items ≡ out.old.items ++ plain.block spent.now c.now) }
 {
     let Some(standing) = standing_of(player) else {
         return Err(NoMemory);
@@ -42,7 +43,8 @@ fn push_player(out: &mut Vec<u8>, player: &Player, spent: &[Pid]) -> Result<(), 
 }
 
 fn push_players(out: &mut Vec<u8>, players: &[Player], spent: &[Pid]) -> Result<(), NoMemory>
-    ensures { (s : Setting) (cs : List worlds.Player) → ArePlayers s players.now cs → OnOk result (out.new.items ≡ out.old.items ++ flat_map (λ c. plain.block spent.now c.now) cs) }
+    ensures { (s : Setting) (cs : List worlds.Player) → ArePlayers s players.now cs
+        → OnOk result (out.new.items ≡ out.old.items ++ flat_map (λ c. plain.block spent.now c.now) cs) }
 {
     for player in players {
         push_player(out, player, spent)?;
@@ -52,7 +54,8 @@ fn push_players(out: &mut Vec<u8>, players: &[Player], spent: &[Pid]) -> Result<
 
 // The first line of a process.
 fn push_player_short(out: &mut Vec<u8>, player: &Player) -> Result<(), NoMemory>
-    ensures { (s : Setting) (c : worlds.Player) → Plays s player.now c → OnOk result (out.new.items ≡ out.old.items ++ plain.process_line c.now) }
+    ensures { (s : Setting) (c : worlds.Player) → Plays s player.now c
+        → OnOk result (out.new.items ≡ out.old.items ++ plain.process_line c.now) }
 {
     let Some(standing) = standing_of(player) else {
         return Err(NoMemory);
@@ -61,7 +64,8 @@ fn push_player_short(out: &mut Vec<u8>, player: &Player) -> Result<(), NoMemory>
 }
 
 fn push_players_short(out: &mut Vec<u8>, players: &[Player]) -> Result<(), NoMemory>
-    ensures { (s : Setting) (cs : List worlds.Player) → ArePlayers s players.now cs → OnOk result (out.new.items ≡ out.old.items ++ flat_map (λ c. plain.process_line c.now) cs) }
+    ensures { (s : Setting) (cs : List worlds.Player) → ArePlayers s players.now cs
+        → OnOk result (out.new.items ≡ out.old.items ++ flat_map (λ c. plain.process_line c.now) cs) }
 {
     for player in players {
         push_player_short(out, player)?;
@@ -71,7 +75,8 @@ fn push_players_short(out: &mut Vec<u8>, players: &[Player]) -> Result<(), NoMem
 
 // The lines between the head and the answers.
 fn push_world(out: &mut Vec<u8>, world: &World, short: bool) -> Result<(), NoMemory>
-    ensures { (h : Header) (v : worlds.World) → Shows h world.now v → OnOk result (out.new.items ≡ out.old.items ++ middle_lines short v (family_of h v)) }
+    ensures { (h : Header) (v : worlds.World) → Shows h world.now v
+        → OnOk result (out.new.items ≡ out.old.items ++ middle_lines short v (family_of h v)) }
 {
     if short {
         push_refused_count(out, world.refused().len() as u64)?;
@@ -84,7 +89,8 @@ fn push_world(out: &mut Vec<u8>, world: &World, short: bool) -> Result<(), NoMem
 
 /// The report of a world, short or long.
 pub(crate) fn report(alloc: Global, world: &World, short: bool) -> Result<Vec<u8>, NoMemory>
-    ensures { (h : Header) (v : worlds.World) → Shows h world.now v → IfOk result (λ out. out.items ≡ plain.report_by short v (family_of h v)) }
+    ensures { (h : Header) (v : worlds.World) → Shows h world.now v
+        → IfOk result (λ out. out.items ≡ plain.report_by short v (family_of h v)) }
 {
     let answers = answers_of(alloc, world)?;
     let mut out = Vec::new(alloc);

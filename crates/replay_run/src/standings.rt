@@ -31,7 +31,8 @@ pub(crate) fn standing_of(player: &Player) -> Option<Standing<'_>>
 
 /// What each of these processes tells of itself, copied.
 pub(crate) fn accounts_of(alloc: Global, players: &[Player]) -> Result<Vec<Account>, NoMemory>
-    ensures { (s : Setting) (cs : List plain.Player) → ArePlayers s players.now cs → IfOk result (λ all. map account all.items ≡ map (λ c. account_of c.now) cs) }
+    ensures { (s : Setting) (cs : List plain.Player) → ArePlayers s players.now cs
+        → IfOk result (λ all. map account all.items ≡ map (λ c. account_of c.now) cs) }
 {
     let mut all = Vec::new(alloc);
     for player in players {

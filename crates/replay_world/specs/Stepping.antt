@@ -21,13 +21,15 @@ abbrev pub refused : Refused → plain.Refused
 refused r = record { event = r.event; process = r.process; fault = fault_of r.fault }
 
 -- one turn more of the player at a place, and what came of it
-pub record SteppedAt (s : Setting) (cs : List plain.Player) (new : List Player) (i : ℕ) (c : plain.Player) (e : Event) (r : Outcome) : Type 0 where
+pub record SteppedAt (s : Setting) (cs : List plain.Player) (new : List Player) (i : ℕ) (c : plain.Player) (e : Event)
+    (r : Outcome) : Type 0 where
   pub players : ArePlayers s new (slice_set cs i (with_turn s (turn_of c (event e)) c))
   pub outcome : IsOutcome (outcome s c.now (turn_of c (event e))) r
 
 -- the process at this place takes the event
 abbrev pub StepsAt : AnyScheme → List Player → List Player → ℕ → Event → Outcome → Type 0
-StepsAt scheme old new i e r = (s : Setting) (cs : List plain.Player) (c : plain.Player) → s.valid ≡ is_valid (scheme_of scheme) → ArePlayers s old cs → slice_get cs i ≡ Some c → SteppedAt s cs new i c e r
+StepsAt scheme old new i e r = (s : Setting) (cs : List plain.Player) (c : plain.Player) → s.valid ≡ is_valid (scheme_of scheme)
+    → ArePlayers s old cs → slice_get cs i ≡ Some c → SteppedAt s cs new i c e r
 
 -- the refusal, if it is one, stands behind the others
 abbrev pub Refuses : List Refused → ℕ → ℕ → EventVerdict → List Refused → Type 0

@@ -21,11 +21,13 @@ noted p o v = fold (plain.send_all p) (record v {
 
 -- where the old world shows one with this player, the new one shows it with what came of the event
 abbrev pub Notes : World → World → ℕ → Outcome → Type 0
-Notes old new p r = (h : Header) (v : plain.World) (o : group.Outcome) → Shows h old v → has (numbers v) p ≡ true → IsOutcome o r → Shows h new (noted p o v)
+Notes old new p r = (h : Header) (v : plain.World) (o : group.Outcome) → Shows h old v → has (numbers v) p ≡ true → IsOutcome o r
+    → Shows h new (noted p o v)
 
 -- where the old world shows one with this player, what it sends by this outcome is too much
 abbrev pub NotesTooMuch : World → ℕ → Outcome → WorldFault → Type 0
-NotesTooMuch old p r fault = (h : Header) (v : plain.World) (o : group.Outcome) → Shows h old v → has (numbers v) p ≡ true → IsOutcome o r → IsTooMuch fault (noted p o v)
+NotesTooMuch old p r fault = (h : Header) (v : plain.World) (o : group.Outcome) → Shows h old v → has (numbers v) p ≡ true → IsOutcome o r
+    → IsTooMuch fault (noted p o v)
 
 -- a delivery that waits no more is made, or lost
 abbrev pub arrives : Setting → ℕ → plain.World → ℕ × ℕ → plain.World

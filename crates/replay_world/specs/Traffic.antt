@@ -46,4 +46,5 @@ Sends players old new change = (v : plain.World) → Carries old v → map proce
 
 -- where the old traffic is that of a world in its event of this number, the changed world has sent too much
 abbrev pub SendsTooMuch : List Player → ℕ → Traffic → (plain.World → plain.World) → WorldFault → Type 0
-SendsTooMuch players event old change fault = (v : plain.World) → Carries old v → map process_of players ≡ numbers v → event ≡ v.count → IsTooMuch fault (change v)
+SendsTooMuch players event old change fault = (v : plain.World) → Carries old v → map process_of players ≡ numbers v → event ≡ v.count
+    → IsTooMuch fault (change v)

@@ -66,7 +66,8 @@ Exceeds change old fault = (h : Header) (v : plain.World) → Shows h old v → 
 
 -- what the event makes of a world that the old one shows, the new one shows
 abbrev pub Happens : World → World → ScheduleEvent → Type 0
-Happens old new e = (h : Header) (v : plain.World) → Shows h old v → IsEvent h.processes e → (x : plain.World) × (after_event h v e ≡ Ok x) × Shows h new x
+Happens old new e = (h : Header) (v : plain.World) → Shows h old v → IsEvent h.processes e
+    → (x : plain.World) × (after_event h v e ≡ Ok x) × Shows h new x
 
 -- why the definitions' world stops, where it is no want of memory
 abbrev pub IsFault : WorldFault → Result plain.World plain.WorldFault → Type 0
@@ -80,7 +81,8 @@ Stops old e fault = (h : Header) (v : plain.World) → Shows h old v → IsEvent
 
 -- what the event makes of a world that the old one shows, before the event is counted, the new one shows
 abbrev pub HappensYet : World → World → ScheduleEvent → Type 0
-HappensYet old new e = (h : Header) (v : plain.World) → Shows h old v → IsEvent h.processes e → (x : plain.World) × (happens h v e ≡ Ok x) × Shows h new x
+HappensYet old new e = (h : Header) (v : plain.World) → Shows h old v → IsEvent h.processes e
+    → (x : plain.World) × (happens h v e ≡ Ok x) × Shows h new x
 
 -- ---- a whole schedule
 

@@ -53,7 +53,8 @@ fn wait_for(
     to: PidSet,
     process: Pid,
 ) -> Result<(), NoMemory>
-    ensures { OnOk result (map delivery (deque_items pending.new) ≡ map delivery (deque_items pending.old) ++ (if has to process then (frame, process) ∷ [] else [])) }
+    ensures { OnOk result (map delivery (deque_items pending.new) ≡ map delivery (deque_items pending.old)
+        ++ (if has to process then (frame, process) ∷ [] else [])) }
 {
     if !to.contains(process) {
         return Ok(());
@@ -69,7 +70,8 @@ fn wait(
     frame: usize,
     to: PidSet,
 ) -> Result<(), NoMemory>
-    ensures { OnOk result (map delivery (deque_items pending.new) ≡ map delivery (deque_items pending.old) ++ map (λ p. (frame, p)) (filter (has to) (map process_of players.now))) }
+    ensures { OnOk result (map delivery (deque_items pending.new) ≡ map delivery (deque_items pending.old)
+        ++ map (λ p. (frame, p)) (filter (has to) (map process_of players.now))) }
 {
     for player in players {
         wait_for(pending, frame, to, player.process)?;

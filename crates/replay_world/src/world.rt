@@ -244,7 +244,8 @@ impl World {
     fn deliver_next(&mut self, to: PidSet) -> Result<bool, WorldFault>
         ensures becomes { OnOk result (Becomes (λ h v. oldest_arrives (setting_of h) (mask_of to) v) self.old self.new) }
         ensures exceeds { IfErr result (Exceeds (λ h v. oldest_arrives (setting_of h) (mask_of to) v) self.old) }
-        ensures waits { IfOk result (λ more. (h : schedules.Header) (v : plain.World) → Shows h self.old v → more ≡ is_some (slice_get v.pending 0)) }
+        ensures waits { IfOk result (λ more. (h : schedules.Header) (v : plain.World) → Shows h self.old v
+            → more ≡ is_some (slice_get v.pending 0)) }
         ensures count { OnOk result (count_of self.new ≡ count_of self.old) }
     {
         let Some(next) = self.traffic.pending.pop_front() else {

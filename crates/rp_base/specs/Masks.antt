@@ -34,9 +34,13 @@ bit_of m a e = let no : (bit_at m a ≡ 1) → ⊥ = eqb-false _ _ e in omega ar
 mask_of-range : (m a n : ℕ) → mask_of (filter (λ p. bit_at m p == 1) (range_with_len a n)) ≡ (m / 2 ^ a % 2 ^ n) * 2 ^ a
 mask_of-range m a zero = grind arith
 mask_of-range m a (suc n) =
-    elim (bit_at m a == 1) as (λ b. bit_at m a == 1 ≡ b → mask_of (if b then a ∷ filter (λ p. bit_at m p == 1) (range_with_len (a + 1) n) else filter (λ p. bit_at m p == 1) (range_with_len (a + 1) n)) ≡ (m / 2 ^ a % 2 ^ (suc n)) * 2 ^ a) [
-      | true ↦ λ e. rw (mask_of-range m (a + 1) n) (digit_one _ _ _ _ (low_digit m a n ∙ ap (λ b. (m / 2 ^ (a + 1) % 2 ^ n) * 2 + b) (eqb-true _ _ e)) (double a))
-      | false ↦ λ e. rw (mask_of-range m (a + 1) n) (digit_zero _ _ _ _ (low_digit m a n ∙ ap (λ b. (m / 2 ^ (a + 1) % 2 ^ n) * 2 + b) (bit_of m a e)) (double a))
+    elim (bit_at m a == 1) as (λ b. bit_at m a == 1 ≡ b
+    → mask_of (if b then a ∷ filter (λ p. bit_at m p == 1) (range_with_len (a + 1) n)
+    else filter (λ p. bit_at m p == 1) (range_with_len (a + 1) n)) ≡ (m / 2 ^ a % 2 ^ (suc n)) * 2 ^ a) [
+      | true ↦ λ e. rw (mask_of-range m (a + 1) n)
+          (digit_one _ _ _ _ (low_digit m a n ∙ ap (λ b. (m / 2 ^ (a + 1) % 2 ^ n) * 2 + b) (eqb-true _ _ e)) (double a))
+      | false ↦ λ e. rw (mask_of-range m (a + 1) n)
+          (digit_zero _ _ _ _ (low_digit m a n ∙ ap (λ b. (m / 2 ^ (a + 1) % 2 ^ n) * 2 + b) (bit_of m a e)) (double a))
     ] refl
 
 -- all of them

@@ -90,7 +90,8 @@ pub trait Signer: Tally {
         ensures len { sig_len self.new ≡ sig_len self.old };
 
     /// What stays as long as the key does.
-    ghost keeps: { (s t : Self) → Self.same_key s t → KeyKeeps (public s) (public t) (sig_len s) (sig_len t) (signature s) (signature t) (admits s) (admits t) };
+    ghost keeps: { (s t : Self) → Self.same_key s t
+        → KeyKeeps (public s) (public t) (sig_len s) (sig_len t) (signature s) (signature t) (admits s) (admits t) };
 }
 
 /// Plain signatures, for rehearsals: the signature is SHA-256 of key and body, and the public key is the key. Whoever

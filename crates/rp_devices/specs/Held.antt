@@ -26,7 +26,11 @@ put old at piece = take at old ++ piece ++ drop (at + length piece) old
 
 -- after a change
 abbrev pub changed : Held → Change → Held
-changed h (Wrote at piece) = record { file = put h.file at piece.items; kept = h.kept; pending = h.pending ++ (at, length piece.items) ∷ [] }
+changed h (Wrote at piece) = record {
+  file = put h.file at piece.items;
+  kept = h.kept;
+  pending = h.pending ++ (at, length piece.items) ∷ [];
+}
 changed h Synced = record { file = h.file; kept = h.file; pending = [] }
 
 -- after one change behind another
@@ -69,7 +73,8 @@ remains b h = all_smeared b h.pending h.kept
 
 -- a file and what remains of it go on together by a change
 abbrev pub ChangesBoth : Option ℕ → Change → List ℕ → List ℕ → List ℕ → List ℕ → Type 0
-ChangesBoth b change file image file' image' = (h : Held) → file ≡ h.file → image ≡ remains b h → (file' ≡ (changed h change).file) × (image' ≡ remains b (changed h change))
+ChangesBoth b change file image file' image' = (h : Held) → file ≡ h.file → image ≡ remains b h
+    → (file' ≡ (changed h change).file) × (image' ≡ remains b (changed h change))
 
 abbrev pub left_of : Left → Held → List ℕ
 left_of Nothing h = remains None h
@@ -79,8 +84,15 @@ left_of (Each b) h = remains (Some b) h
 -- ---- laws
 
 -- what may be left now counts from each moment on that has come
-pub counts_now : (first : List ℕ) (log : List Change) (t : ℕ) (c : List ℕ) → t ≤ length log → IsImage (after (opened first) log) c → LeftSince first log t c
-counts_now first log t c le now = (length log, le, omega arith, subst (λ (l : List Change). IsImage (after (opened first) l) c) (sym (take_all (length log) log (omega arith))) now)
+pub counts_now : (first : List ℕ) (log : List Change) (t : ℕ) (c : List ℕ) → t ≤ length log → IsImage (after (opened first) log) c
+    → LeftSince first log t c
+counts_now first log t c le now = (
+  length log,
+  le,
+  omega arith,
+  subst (λ (l : List Change). IsImage (after (opened first) l) c)
+      (sym (take_all (length log) log (omega arith))) now,
+)
 
 -- from this moment on nothing else does
 pub only_now : (first : List ℕ) (log : List Change) (c : List ℕ) → LeftSince first log (length log) c → IsImage (after (opened first) log) c

@@ -161,7 +161,8 @@ impl Disk for MemDisk {
         ensures value { IfOk result (λ n. n ≡ length (disk_bytes self.old)) }
         ensures seen { Some (disk_bytes self.new) ≡ Some (disk_bytes self.old) }
         ensures crash { SameImages (IsImage (held self.old)) (IsImage (held self.new)) }
-        ensures time { Elapses (length (log_of self.old)) (length (log_of self.new)) (LeftSince (first_bytes self.old) (log_of self.old)) (LeftSince (first_bytes self.new) (log_of self.new)) (IsImage (held self.new)) }
+        ensures time { Elapses (length (log_of self.old)) (length (log_of self.new)) (LeftSince (first_bytes self.old) (log_of self.old))
+            (LeftSince (first_bytes self.new) (log_of self.new)) (IsImage (held self.new)) }
         ensures cause { HasCause (disk_calls self.old).faults (disk_calls self.new).faults result }
         ensures fails { is_err result ≡ is_to_fail (disk_calls self.old) }
         ensures made { (disk_calls self.new).made ≡ one_more (disk_calls self.old).made }
@@ -177,7 +178,8 @@ impl Disk for MemDisk {
         ensures bytes { OnOk result (Reads (Some (disk_bytes self.old)) at into.new) }
         ensures seen { Some (disk_bytes self.new) ≡ Some (disk_bytes self.old) }
         ensures crash { SameImages (IsImage (held self.old)) (IsImage (held self.new)) }
-        ensures time { Elapses (length (log_of self.old)) (length (log_of self.new)) (LeftSince (first_bytes self.old) (log_of self.old)) (LeftSince (first_bytes self.new) (log_of self.new)) (IsImage (held self.new)) }
+        ensures time { Elapses (length (log_of self.old)) (length (log_of self.new)) (LeftSince (first_bytes self.old) (log_of self.old))
+            (LeftSince (first_bytes self.new) (log_of self.new)) (IsImage (held self.new)) }
         ensures cause { HasCause (disk_calls self.old).faults (disk_calls self.new).faults result }
         ensures fails { is_err result ≡ is_to_fail (disk_calls self.old) }
         ensures made { (disk_calls self.new).made ≡ one_more (disk_calls self.old).made }
@@ -193,12 +195,14 @@ impl Disk for MemDisk {
         requires { at ≤ length (disk_bytes self.old) }
         ensures written { OnOk result (Writes (Some (disk_bytes self.old)) (Some (disk_bytes self.new)) at piece.now) }
         ensures crash { Follows (Torn at (length piece.now)) (IsImage (held self.old)) (IsImage (held self.new)) }
-        ensures time { Elapses (length (log_of self.old)) (length (log_of self.new)) (LeftSince (first_bytes self.old) (log_of self.old)) (LeftSince (first_bytes self.new) (log_of self.new)) (IsImage (held self.new)) }
+        ensures time { Elapses (length (log_of self.old)) (length (log_of self.new)) (LeftSince (first_bytes self.old) (log_of self.old))
+            (LeftSince (first_bytes self.new) (log_of self.new)) (IsImage (held self.new)) }
         ensures cause { HasCause (disk_calls self.old).faults (disk_calls self.new).faults result }
         ensures fails { IsTrue (is_to_fail (disk_calls self.old)) → IsErr result }
 
         // A call that is to fail changes nothing, but for the one at which the disk is stopped.
-        ensures idle { IsTrue (is_to_fail (disk_calls self.old)) → (disk_calls self.old).made ≢ (disk_calls self.old).stop → (log_of self.new ≡ log_of self.old) × (disk_bytes self.new ≡ disk_bytes self.old) }
+        ensures idle { IsTrue (is_to_fail (disk_calls self.old)) → (disk_calls self.old).made ≢ (disk_calls self.old).stop
+            → (log_of self.new ≡ log_of self.old) × (disk_bytes self.new ≡ disk_bytes self.old) }
         ensures made { (disk_calls self.new).made ≡ one_more (disk_calls self.old).made }
     {
         let stops = self.calls.made == self.calls.stop;
@@ -220,7 +224,8 @@ impl Disk for MemDisk {
         ensures durable { OnOk result (Only (disk_bytes self.old) (IsImage (held self.new))) }
         ensures seen { Some (disk_bytes self.new) ≡ Some (disk_bytes self.old) }
         ensures crash { NoNewImage (IsImage (held self.old)) (IsImage (held self.new)) }
-        ensures time { Elapses (length (log_of self.old)) (length (log_of self.new)) (LeftSince (first_bytes self.old) (log_of self.old)) (LeftSince (first_bytes self.new) (log_of self.new)) (IsImage (held self.new)) }
+        ensures time { Elapses (length (log_of self.old)) (length (log_of self.new)) (LeftSince (first_bytes self.old) (log_of self.old))
+            (LeftSince (first_bytes self.new) (log_of self.new)) (IsImage (held self.new)) }
         ensures cause { HasCause (disk_calls self.old).faults (disk_calls self.new).faults result }
         ensures fails { IsTrue (is_to_fail (disk_calls self.old)) → IsErr result }
         ensures idle { IsTrue (is_to_fail (disk_calls self.old)) → log_of self.new ≡ log_of self.old }

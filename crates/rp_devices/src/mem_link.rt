@@ -96,8 +96,10 @@ impl Link for MemLink {
     }
 
     fn send(&mut self, port: u16, bytes: &[u8]) -> Result<(), Failed>
-        ensures ok { OnOk result (Sends (Some (link_sent self.old)) (Some (link_sent self.new)) (Some (link_coming self.old)) (Some (link_coming self.new)) port bytes.now) }
-        ensures err { OnErr result ((Some (link_sent self.new) ≡ Some (link_sent self.old)) × (Some (link_coming self.new) ≡ Some (link_coming self.old))) }
+        ensures ok { OnOk result (Sends (Some (link_sent self.old)) (Some (link_sent self.new)) (Some (link_coming self.old))
+            (Some (link_coming self.new)) port bytes.now) }
+        ensures err { OnErr result ((Some (link_sent self.new) ≡ Some (link_sent self.old))
+            × (Some (link_coming self.new) ≡ Some (link_coming self.old))) }
         ensures comes { OnOk result (all_of self.new.coming ≡ all_of self.old.coming ++ (port, bytes.now) ∷ []) }
         ensures cause { HasCause (link_calls self.old).faults (link_calls self.new).faults result }
         ensures fails { IsTrue (is_to_fail (link_calls self.old)) → IsErr result }
@@ -141,7 +143,8 @@ impl MemLink {
 
     // Sends a datagram, which then comes on its port. Where there is no memory, nothing has changed.
     fn deliver(&mut self, port: u16, bytes: &[u8]) -> Result<(), AllocError>
-        ensures ok { OnOk result ((all_of self.new.sent ≡ all_of self.old.sent ++ (port, bytes.now) ∷ []) × (all_of self.new.coming ≡ all_of self.old.coming ++ (port, bytes.now) ∷ [])) }
+        ensures ok { OnOk result ((all_of self.new.sent ≡ all_of self.old.sent ++ (port, bytes.now) ∷ [])
+            × (all_of self.new.coming ≡ all_of self.old.coming ++ (port, bytes.now) ∷ [])) }
         ensures err { OnErr result ((all_of self.new.sent ≡ all_of self.old.sent) × (all_of self.new.coming ≡ all_of self.old.coming)) }
         ensures calls { link_calls self.new ≡ link_calls self.old }
     {

@@ -24,7 +24,8 @@ may_update s h u = is_notified h u && is_possible (keyed s) h.view u
 -- the cut may end it: a quorum say Ends of at most the cut, and one of them the cut itself; and the last place below it is certified,
 -- unless it is 0
 abbrev pub may_cut : Pool → ℕ → Bool
-may_cut h k = is_quorum h (count_by (λ e. nat_le e k) (ends h)) && list_any (λ e. e == k) (ends h) && ((k == 0) || is_some (place_at h (k - 1)))
+may_cut h k = is_quorum h (count_by (λ e. nat_le e k) (ends h)) && list_any (λ e. e == k) (ends h)
+    && ((k == 0) || is_some (place_at h (k - 1)))
 
 -- a value is free where its update and its cut may end the view
 abbrev pub FreeInParts : Type 0
@@ -42,12 +43,14 @@ EndsByMember = (h : Pool) (test : ℕ → Bool) → (count_by test (ends h) ≡ 
 -- the least cut that the members of the ranks below n say and that may end the view; none where none may
 abbrev pub IsLeastCut : Pool → ℕ → Option ℕ → Type 0
 IsLeastCut h n None = (r m k : ℕ) → r < n → slice_get h.view.members r ≡ Some m → end_of h m ≡ Some k → IsFalse (may_cut h k)
-IsLeastCut h n (Some cut) = ((r : ℕ) × (m : ℕ) × (r < n) × (slice_get h.view.members r ≡ Some m) × (end_of h m ≡ Some cut)) × IsTrue (may_cut h cut)
+IsLeastCut h n (Some cut) = ((r : ℕ) × (m : ℕ) × (r < n) × (slice_get h.view.members r ≡ Some m) × (end_of h m ≡ Some cut))
+    × IsTrue (may_cut h cut)
     × ((r m k : ℕ) → r < n → slice_get h.view.members r ≡ Some m → end_of h m ≡ Some k → IsTrue (may_cut h k) → cut ≤ k)
 
 -- the free value is of the least update and of the least cut that may end the view
 abbrev pub FreeValueIs : Type 0
-FreeValueIs = (s : Setting) (h : Pool) (update cut : Option ℕ) → IsPool h → IsLeastBelow most_updates (λ i. may_update s h (update_at i)) update → IsLeastCut h (number_of_members h) cut
+FreeValueIs = (s : Setting) (h : Pool) (update cut : Option ℕ) → IsPool h
+    → IsLeastBelow most_updates (λ i. may_update s h (update_at i)) update → IsLeastCut h (number_of_members h) cut
     → free_value s h ≡ option_and_then (λ i. option_map (λ k. record { update = update_at i; cut = k }) cut) update
 
 -- ---- values that an earlier rank may have decided
@@ -58,7 +61,8 @@ last_of h r m = option_and_then ready_said (heard_on h m (LastAt h.view.number r
 
 -- so many members' Lasts at r pass a test, and some member's passes it
 abbrev pub LastsByMember : Type 0
-LastsByMember = (h : Pool) (r : ℕ) (test : Option (ℕ × Value) → Bool) → (count_by test (lasts h r) ≡ count_by (λ m. is_some_and (last_of h r m) test) h.view.members)
+LastsByMember = (h : Pool) (r : ℕ) (test : Option (ℕ × Value) → Bool)
+    → (count_by test (lasts h r) ≡ count_by (λ m. is_some_and (last_of h r m) test) h.view.members)
     × (list_any test (lasts h r) ≡ list_any (λ m. is_some_and (last_of h r m) test) h.view.members)
 
 -- an Ack is certified where its value is the one of its rank's certified Ack
@@ -67,11 +71,13 @@ AckedIs = (h : Pool) (r : ℕ) (v : Value) → IsPool h → is_certified h (Ack 
 
 -- the second way at r0 leads to the value of the certified Ack of r0, or to none
 abbrev pub AdoptedIs : Type 0
-AdoptedIs = (h : Pool) (r r0 : ℕ) → IsPool h → adopted h r r0 ≡ option_and_then (λ v. if is_second_way h r r0 v then Some v else None) (acked h r0)
+AdoptedIs = (h : Pool) (r r0 : ℕ) → IsPool h
+    → adopted h r r0 ≡ option_and_then (λ v. if is_second_way h r r0 v then Some v else None) (acked h r0)
 
 -- the value of the greatest such rank is chosen; where there is none, the free value, where no earlier rank may have decided
 abbrev pub ChooseIs : Type 0
-ChooseIs = (s : Setting) (h : Pool) (r : ℕ) (o : Option ℕ) → IsPool h → IsGreatestBelow r (λ r0. is_some_and (acked h r0) (is_second_way h r r0)) o
+ChooseIs = (s : Setting) (h : Pool) (r : ℕ) (o : Option ℕ) → IsPool h
+    → IsGreatestBelow r (λ r0. is_some_and (acked h r0) (is_second_way h r r0)) o
     → choose s h r ≡ (elim o [ None ↦ (if is_first_way h r then free_value s h else None) | Some r0 ↦ acked h r0 ])
 
 -- some number below n passes where the least of them is found
@@ -84,18 +90,21 @@ abbrev pub NextCandidate : Type 0
 NextCandidate = (a n : ℕ) (test more : ℕ → Bool) (o : Option ℕ) → ((j : ℕ) → j < a → IsFalse (test j && more j)) → IsLeastFrom a n test o
     → (elim o [
       | None ↦ IsLeastBelow n (λ j. test j && more j) None
-      | Some k ↦ (IsTrue (more k) → IsLeastBelow n (λ j. test j && more j) (Some k)) × (IsFalse (more k) → (j : ℕ) → j < suc k → IsFalse (test j && more j))
+      | Some k ↦ (IsTrue (more k) → IsLeastBelow n (λ j. test j && more j) (Some k))
+          × (IsFalse (more k) → (j : ℕ) → j < suc k → IsFalse (test j && more j))
     ])
 
 -- each member of a lower rank is to be removed where the removed rank is not below it
 abbrev pub RemovedBelow : Type 0
-RemovedBelow = (h : Pool) (r : ℕ) → r < number_of_members h → nat_le r (removed_rank h) ≡ list_all (λ m. is_notified h (Remove m)) (take r h.view.members)
+RemovedBelow = (h : Pool) (r : ℕ) → r < number_of_members h
+    → nat_le r (removed_rank h) ≡ list_all (λ m. is_notified h (Remove m)) (take r h.view.members)
 
 -- ---- settling
 
 -- the view is decided at the least rank that decides
 abbrev pub DecidedIs : Type 0
-DecidedIs = (s : Setting) (h : Pool) (o : Option ℕ) → IsLeastBelow (number_of_members h) (λ r. is_some (decided_at s h r)) o → decided_by s h ≡ option_and_then (decided_at s h) o
+DecidedIs = (s : Setting) (h : Pool) (o : Option ℕ) → IsLeastBelow (number_of_members h) (λ r. is_some (decided_at s h r)) o
+    → decided_by s h ≡ option_and_then (decided_at s h) o
 
 -- the next place may be delivered where it is certified and each of its messages is
 abbrev pub DeliverableIs : Type 0

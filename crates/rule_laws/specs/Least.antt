@@ -30,27 +30,32 @@ pub record IsWalk (s : Setting) (p : Process) (kind : Kind) (walk : List (Option
 
 -- what the walk finds first is the least that is due
 abbrev pub FirstIsLeast : Type 0
-FirstIsLeast = (s : Setting) (p : Process) (kind : Kind) (walk : List (Option Statement)) → IsWalk s p kind walk → least_due s p kind ≡ first_signable s p walk
+FirstIsLeast = (s : Setting) (p : Process) (kind : Kind) (walk : List (Option Statement)) → IsWalk s p kind walk
+    → least_due s p kind ≡ first_signable s p walk
 
 -- a statement that may be signed, and stands before each other one of its kind that may be, is the least that is due
 abbrev pub LeastOfAll : Type 0
 LeastOfAll = (s : Setting) (p : Process) (st : Statement) → IsTrue (may_sign s p st)
-    → ((other : Statement) → IsTrue (may_sign s p other) → kind_of other ≡ kind_of st → (other ≡ st) ⊎ IsTrue (numbers_below (due_numbers p.pool.view st) (due_numbers p.pool.view other)))
+    → ((other : Statement) → IsTrue (may_sign s p other) → kind_of other ≡ kind_of st
+    → (other ≡ st) ⊎ IsTrue (numbers_below (due_numbers p.pool.view st) (due_numbers p.pool.view other)))
     → least_due s p (kind_of st) ≡ Some st
 
 -- where none of a kind may be signed, none is due
 abbrev pub NoneOfAll : Type 0
-NoneOfAll = (s : Setting) (p : Process) (kind : Kind) → ((st : Statement) → kind_of st ≡ kind → IsFalse (may_sign s p st)) → least_due s p kind ≡ None
+NoneOfAll = (s : Setting) (p : Process) (kind : Kind) → ((st : Statement) → kind_of st ≡ kind → IsFalse (may_sign s p st))
+    → least_due s p kind ≡ None
 
 -- of a kind, the statements that may be signed have each a place of their own in the order of what is due
 abbrev pub EachHasItsPlace : Type 0
-EachHasItsPlace = (s : Setting) (p : Process) (st other : Statement) → IsPool p.pool → IsTrue (may_sign s p st) → IsTrue (may_sign s p other) → kind_of st ≡ kind_of other
+EachHasItsPlace = (s : Setting) (p : Process) (st other : Statement) → IsPool p.pool → IsTrue (may_sign s p st)
+    → IsTrue (may_sign s p other) → kind_of st ≡ kind_of other
     → due_numbers p.pool.view st ≡ due_numbers p.pool.view other → st ≡ other
 
 -- so one that may be signed, and has none of its kind before it that may be, is the least that is due
 abbrev pub LeastIsFirst : Type 0
 LeastIsFirst = (s : Setting) (p : Process) (st : Statement) → IsPool p.pool → IsTrue (may_sign s p st)
-    → ((other : Statement) → IsTrue (may_sign s p other) → kind_of other ≡ kind_of st → IsFalse (numbers_below (due_numbers p.pool.view other) (due_numbers p.pool.view st)))
+    → ((other : Statement) → IsTrue (may_sign s p other) → kind_of other ≡ kind_of st
+    → IsFalse (numbers_below (due_numbers p.pool.view other) (due_numbers p.pool.view st)))
     → least_due s p (kind_of st) ≡ Some st
 
 -- ---- where none is due at all
@@ -85,4 +90,5 @@ pub record IsNumbered (s : Setting) (p : Process) (kind : Kind) (at : ℕ → Op
 
 -- the least that is due is that of the least number whose statement may be signed
 abbrev pub LeastNumber : Type 0
-LeastNumber = (s : Setting) (p : Process) (kind : Kind) (at : ℕ → Option Statement) (n : ℕ) (o : Option ℕ) → IsNumbered s p kind at n → IsLeastBelow n (may_at s p at) o → least_due s p kind ≡ option_and_then at o
+LeastNumber = (s : Setting) (p : Process) (kind : Kind) (at : ℕ → Option Statement) (n : ℕ) (o : Option ℕ) → IsNumbered s p kind at n
+    → IsLeastBelow n (may_at s p at) o → least_due s p kind ≡ option_and_then at o

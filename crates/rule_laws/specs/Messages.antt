@@ -40,7 +40,8 @@ waits p m l = is_some (heard_on p.pool m (InitAt p.pool.view.number l)) && not (
 
 -- the Echo of the member's message of this number, of the payload that its Init says
 abbrev pub echo_to : Process → ℕ × ℕ → Statement
-echo_to p e = Echo p.pool.view.number (message_at e) (unwrap_or (option_and_then payload_of (heard_on p.pool e.0 (InitAt p.pool.view.number e.1))) [])
+echo_to p e = Echo p.pool.view.number (message_at e)
+    (unwrap_or (option_and_then payload_of (heard_on p.pool e.0 (InitAt p.pool.view.number e.1))) [])
 
 -- of the members one of whose Inits waits, the one of least rank, and its least Init that waits
 abbrev pub IsFirstWaiting : Process → Option (ℕ × ℕ) → Type 0
@@ -50,5 +51,6 @@ IsFirstWaiting p (Some e) = (rank : ℕ) × (slice_get p.pool.view.members rank 
 
 -- a member that has not signed its End echoes that one
 abbrev pub EchoIsLeast : Type 0
-EchoIsLeast = (s : Setting) (p : Process) (o : Option (ℕ × ℕ)) → IsPool p.pool → IsTrue (is_member p.pool.view p.me) → IsFalse (is_ended p) → IsFirstWaiting p o
+EchoIsLeast = (s : Setting) (p : Process) (o : Option (ℕ × ℕ)) → IsPool p.pool → IsTrue (is_member p.pool.view p.me) → IsFalse (is_ended p)
+    → IsFirstWaiting p o
     → least_due s p Echoes ≡ option_map (echo_to p) o

@@ -20,7 +20,8 @@ most_updates = 129
 
 -- the update of this number is perceived and possible, and its Notify is not signed
 abbrev pub may_notify : Setting → Process → ℕ → Bool
-may_notify s p i = is_perceived p (p.pool.view.number, update_at i) && is_possible (keyed s) p.pool.view (update_at i) && not (is_signed p (NotifyAt p.pool.view.number (update_at i)))
+may_notify s p i = is_perceived p (p.pool.view.number, update_at i) && is_possible (keyed s) p.pool.view (update_at i)
+    && not (is_signed p (NotifyAt p.pool.view.number (update_at i)))
 
 -- what is perceived in the view is of processes that there can be
 abbrev pub PerceivesInRange : Process → Type 0
@@ -28,7 +29,8 @@ PerceivesInRange p = (u : Update) → IsTrue (is_perceived p (p.pool.view.number
 
 -- a member's least Notify is that of the least such update
 abbrev pub NotifyIsLeast : Type 0
-NotifyIsLeast = (s : Setting) (p : Process) (o : Option ℕ) → IsTrue (is_member p.pool.view p.me) → PerceivesInRange p → IsLeastBelow most_updates (may_notify s p) o
+NotifyIsLeast = (s : Setting) (p : Process) (o : Option ℕ) → IsTrue (is_member p.pool.view p.me) → PerceivesInRange p
+    → IsLeastBelow most_updates (may_notify s p) o
     → least_due s p Notifies ≡ option_map (λ i. Notify p.pool.view.number (update_at i)) o
 
 -- a member may say its End: some update is notified by more than f members, and the End is not signed
@@ -37,8 +39,10 @@ may_end p = is_member p.pool.view p.me && nat_lt 0 (length (notified_updates p.p
 
 -- then it says the placed length
 abbrev pub EndIsLeast : Type 0
-EndIsLeast = (s : Setting) (p : Process) → least_due s p Ends ≡ (if may_end p then Some (End p.pool.view.number (length (placed p.pool))) else None)
+EndIsLeast = (s : Setting) (p : Process)
+    → least_due s p Ends ≡ (if may_end p then Some (End p.pool.view.number (length (placed p.pool))) else None)
 
 -- some update is notified where the least of them is there
 abbrev pub NotifiedIsFound : Type 0
-NotifiedIsFound = (h : Pool) (o : Option ℕ) → IsPool h → IsLeastBelow most_updates (λ i. is_notified h (update_at i)) o → nat_lt 0 (length (notified_updates h)) ≡ is_some o
+NotifiedIsFound = (h : Pool) (o : Option ℕ) → IsPool h → IsLeastBelow most_updates (λ i. is_notified h (update_at i)) o
+    → nat_lt 0 (length (notified_updates h)) ≡ is_some o

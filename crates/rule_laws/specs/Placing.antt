@@ -21,7 +21,9 @@ may_order p =
 
 -- it orders the next batch there, where that has a message
 abbrev pub OrderIsLeast : Type 0
-OrderIsLeast = (s : Setting) (p : Process) → least_due s p Orders ≡ (if may_order p && nat_lt 0 (length (next_batch p)) then Some (Order p.pool.view.number (length (own_orders p)) (next_batch p)) else None)
+OrderIsLeast = (s : Setting) (p : Process)
+    → least_due s p Orders ≡ (if may_order p && nat_lt 0 (length (next_batch p))
+    then Some (Order p.pool.view.number (length (own_orders p)) (next_batch p)) else None)
 
 -- of each member, in rank order, how many of these messages are its own
 abbrev pub counts_in : View → List Message → List ℕ
@@ -37,7 +39,8 @@ is_next h counts r = is_some (payload_at h (message_by h.view counts r))
 
 -- the next message is that of the least rank whose next message is certified
 abbrev pub NextByCounts : Type 0
-NextByCounts = (h : Pool) (before : List Message) (o : Option ℕ) → IsLeastBelow (number_of_members h) (is_next h (counts_in h.view before)) o
+NextByCounts = (h : Pool) (before : List Message) (o : Option ℕ)
+    → IsLeastBelow (number_of_members h) (is_next h (counts_in h.view before)) o
     → next_message h before ≡ option_map (message_by h.view (counts_in h.view before)) o
 
 -- with one message of the member of rank r more, its count is one more
@@ -56,7 +59,8 @@ BatchBegins = (h : Pool) (before : List Message) (limit : ℕ) → IsBatchSoFar 
 
 -- it goes on with the next message of the least rank whose next message is certified, and ends where there is none
 abbrev pub BatchGoesOn : Type 0
-BatchGoesOn = (h : Pool) (before : List Message) (limit : ℕ) (b : Batch) (cs : List ℕ) (more : ℕ) (o : Option ℕ) → IsView h.view → IsBatchSoFar h before limit b cs (suc more) → IsLeastBelow (number_of_members h) (is_next h cs) o
+BatchGoesOn = (h : Pool) (before : List Message) (limit : ℕ) (b : Batch) (cs : List ℕ) (more : ℕ) (o : Option ℕ) → IsView h.view
+    → IsBatchSoFar h before limit b cs (suc more) → IsLeastBelow (number_of_members h) (is_next h cs) o
     → (elim o [
       | None ↦ next_messages limit h before ≡ b
       | Some r ↦ IsBatchSoFar h before limit (b ++ message_by h.view cs r ∷ []) (slice_set cs r (slice_index_or cs r 0 + 1)) more
@@ -64,13 +68,15 @@ BatchGoesOn = (h : Pool) (before : List Message) (limit : ℕ) (b : Batch) (cs :
 
 -- and where no more may come
 abbrev pub BatchIsFull : Type 0
-BatchIsFull = (h : Pool) (before : List Message) (limit : ℕ) (b : Batch) (cs : List ℕ) → IsBatchSoFar h before limit b cs 0 → next_messages limit h before ≡ b
+BatchIsFull = (h : Pool) (before : List Message) (limit : ℕ) (b : Batch) (cs : List ℕ) → IsBatchSoFar h before limit b cs 0
+    → next_messages limit h before ≡ b
 
 -- ---- Place
 
 -- what the manager orders at this place
 abbrev pub managers_order : Process → ℕ → Option Batch
-managers_order p k = option_and_then (λ manager. option_and_then ordered (heard_on p.pool manager (OrderAt p.pool.view.number k))) (slice_get p.pool.view.members 0)
+managers_order p k = option_and_then (λ manager. option_and_then ordered (heard_on p.pool manager (OrderAt p.pool.view.number k)))
+    (slice_get p.pool.view.members 0)
 
 -- the batch may stand at this place: those before it are certified, each of its messages is the next of its sender, and certified
 abbrev pub fits : Pool → ℕ → Batch → Bool
@@ -82,7 +88,8 @@ is_place_open p k = not (is_signed p (PlaceAt p.pool.view.number k)) && is_some_
 
 -- a member that has not signed its End places the least such
 abbrev pub PlaceIsLeast : Type 0
-PlaceIsLeast = (s : Setting) (p : Process) (o : Option ℕ) → IsPool p.pool → IsTrue (is_member p.pool.view p.me) → IsFalse (is_ended p) → IsLeastBelow most_places (is_place_open p) o
+PlaceIsLeast = (s : Setting) (p : Process) (o : Option ℕ) → IsPool p.pool → IsTrue (is_member p.pool.view p.me) → IsFalse (is_ended p)
+    → IsLeastBelow most_places (is_place_open p) o
     → least_due s p Places ≡ option_and_then (λ k. option_map (Place p.pool.view.number k) (managers_order p k)) o
 
 -- the first i messages of the batch follow, and these are the counts with them: the batch follows where those behind them do
@@ -96,12 +103,15 @@ FollowsBegins = (v : View) (before : List Message) (b : Batch) → FollowsSoFar 
 
 -- a member's message whose number is its rank's count follows; with another number the batch does not
 abbrev pub FollowsOn : Type 0
-FollowsOn = (v : View) (before : List Message) (b : Batch) (cs : List ℕ) (i r : ℕ) (m : Message) → IsView v → FollowsSoFar v before b cs i → slice_get b i ≡ Some m → slice_get v.members r ≡ Some m.sender
-    → (IsTrue (m.number == slice_index_or cs r 0) → FollowsSoFar v before b (slice_set cs r (slice_index_or cs r 0 + 1)) (i + 1)) × (IsFalse (m.number == slice_index_or cs r 0) → IsFalse (follows before b))
+FollowsOn = (v : View) (before : List Message) (b : Batch) (cs : List ℕ) (i r : ℕ) (m : Message) → IsView v → FollowsSoFar v before b cs i
+    → slice_get b i ≡ Some m → slice_get v.members r ≡ Some m.sender
+    → (IsTrue (m.number == slice_index_or cs r 0) → FollowsSoFar v before b (slice_set cs r (slice_index_or cs r 0 + 1)) (i + 1))
+    × (IsFalse (m.number == slice_index_or cs r 0) → IsFalse (follows before b))
 
 -- all of them follow
 abbrev pub FollowsWhole : Type 0
-FollowsWhole = (v : View) (before : List Message) (b : Batch) (cs : List ℕ) → FollowsSoFar v before b cs (length b) → IsTrue (follows before b)
+FollowsWhole = (v : View) (before : List Message) (b : Batch) (cs : List ℕ) → FollowsSoFar v before b cs (length b)
+    → IsTrue (follows before b)
 
 -- ---- Keep
 
@@ -111,5 +121,6 @@ is_keep_open p k = not (is_signed p (KeepAt p.pool.view.number k))
 
 -- a member that has not signed its End keeps the least place not signed, where that is placed
 abbrev pub KeepIsLeast : Type 0
-KeepIsLeast = (s : Setting) (p : Process) (o : Option ℕ) → IsTrue (is_member p.pool.view p.me) → IsFalse (is_ended p) → IsLeastBelow most_places (is_keep_open p) o
+KeepIsLeast = (s : Setting) (p : Process) (o : Option ℕ) → IsTrue (is_member p.pool.view p.me) → IsFalse (is_ended p)
+    → IsLeastBelow most_places (is_keep_open p) o
     → least_due s p Keeps ≡ option_and_then (λ k. option_map (Keep p.pool.view.number k) (slice_get (placed p.pool) k)) o

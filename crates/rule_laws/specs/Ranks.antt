@@ -24,18 +24,21 @@ may_ready p r = is_some (acked p.pool r) && nat_le (own_rank p) r && not (is_sig
 
 -- a member's least Ready is that of the least such rank
 abbrev pub ReadyIsLeast : Type 0
-ReadyIsLeast = (s : Setting) (p : Process) (o : Option ℕ) → IsPool p.pool → IsTrue (is_member p.pool.view p.me) → IsLeastFrom 0 (suc last_rank) (may_ready p) o
+ReadyIsLeast = (s : Setting) (p : Process) (o : Option ℕ) → IsPool p.pool → IsTrue (is_member p.pool.view p.me)
+    → IsLeastFrom 0 (suc last_rank) (may_ready p) o
     → least_due s p Readies ≡ option_and_then (λ r. option_map (Ready p.pool.view.number r) (acked p.pool r)) o
 
 -- ---- Last
 
 -- a member may say its Last: the rank behind those that are removed is above its own, and not signed
 abbrev pub may_last : Process → Bool
-may_last p = is_member p.pool.view p.me && nat_lt (own_rank p) (removed_rank p.pool) && not (is_signed p (LastAt p.pool.view.number (removed_rank p.pool)))
+may_last p = is_member p.pool.view p.me && nat_lt (own_rank p) (removed_rank p.pool)
+    && not (is_signed p (LastAt p.pool.view.number (removed_rank p.pool)))
 
 -- then that Last is due
 abbrev pub LastIsLeast : Type 0
-LastIsLeast = (s : Setting) (p : Process) → least_due s p Lasts ≡ (if may_last p then Some (Last p.pool.view.number (removed_rank p.pool) (own_ready p)) else None)
+LastIsLeast = (s : Setting) (p : Process)
+    → least_due s p Lasts ≡ (if may_last p then Some (Last p.pool.view.number (removed_rank p.pool) (own_ready p)) else None)
 
 -- the member of this rank is not to be removed
 abbrev pub is_left : Pool → ℕ → Bool
@@ -43,7 +46,8 @@ is_left h r = not (is_notified h (Remove (slice_index_or h.view.members r 0)))
 
 -- the removed rank is the least whose member is not to be removed, and at most the last one
 abbrev pub RemovedRankIs : Type 0
-RemovedRankIs = (h : Pool) (o : Option ℕ) → IsLeastBelow (number_of_members h) (is_left h) o → removed_rank h ≡ min (number_of_members h - 1) (unwrap_or o (number_of_members h))
+RemovedRankIs = (h : Pool) (o : Option ℕ) → IsLeastBelow (number_of_members h) (is_left h) o
+    → removed_rank h ≡ min (number_of_members h - 1) (unwrap_or o (number_of_members h))
 
 -- ---- Suggest
 
@@ -54,7 +58,8 @@ may_suggest p r = nat_le (own_rank p) r && not (is_signed p (SuggestAt p.pool.vi
 -- then it suggests what is chosen there
 abbrev pub SuggestIsLeast : Type 0
 SuggestIsLeast = (s : Setting) (p : Process) → least_due s p Suggests
-    ≡ option_and_then (λ r. if may_suggest p r then option_map (Suggest p.pool.view.number r) (choose s p.pool r) else None) (rank_of p.pool.view p.me)
+    ≡ option_and_then (λ r. if may_suggest p r then option_map (Suggest p.pool.view.number r) (choose s p.pool r) else None)
+    (rank_of p.pool.view p.me)
 
 -- ---- Ack
 
@@ -72,5 +77,6 @@ is_ack_due s p r = may_ack p r && is_some_and (suggested p.pool r) (is_justified
 
 -- a member's least Ack is that of the least rank whose Ack is due
 abbrev pub AckIsLeast : Type 0
-AckIsLeast = (s : Setting) (p : Process) (o : Option ℕ) → IsPool p.pool → IsTrue (is_member p.pool.view p.me) → IsLeastBelow (number_of_members p.pool) (is_ack_due s p) o
+AckIsLeast = (s : Setting) (p : Process) (o : Option ℕ) → IsPool p.pool → IsTrue (is_member p.pool.view p.me)
+    → IsLeastBelow (number_of_members p.pool) (is_ack_due s p) o
     → least_due s p Acks ≡ option_and_then (λ r. option_map (Ack p.pool.view.number r) (suggested p.pool r)) o

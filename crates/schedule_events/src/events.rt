@@ -142,7 +142,8 @@ fn read_drain<'a>(of: &Roles, reader: &mut Reader<'_>) -> Result<Seen<'a>, Found
 
 // A statement of so many bytes, without fault.
 fn read_lied<'a>(len: u16, reader: &mut Reader<'a>) -> Result<&'a [u8], Found>
-    ensures { Gives (λ st. (st.now, reader.new.rest.now)) result (plain.tested (λ st. is_ok (statement_of st)) kinds.Field (plain.field_at len) reader.old.rest.now) }
+    ensures { Gives (λ st. (st.now, reader.new.rest.now)) result
+        (plain.tested (λ st. is_ok (statement_of st)) kinds.Field (plain.field_at len) reader.old.rest.now) }
 {
     let fault = reader.fault(FaultKind::Field);
     let statement = reader.bytes(len as usize)?;
@@ -238,7 +239,8 @@ fn read_tag(reader: &mut Reader<'_>) -> Result<Tag, Found>
 }
 
 fn read_tag_within(left: u32, reader: &mut Reader<'_>) -> Result<Tag, Found>
-    ensures { Gives (λ t. ((t.tag, t.steps), reader.new.rest.now)) result (plain.tested (λ tag. nat_le tag.1 left) kinds.TooMany plain.tag_at reader.old.rest.now) }
+    ensures { Gives (λ t. ((t.tag, t.steps), reader.new.rest.now)) result
+        (plain.tested (λ tag. nat_le tag.1 left) kinds.TooMany plain.tag_at reader.old.rest.now) }
 {
     let fault = reader.fault(FaultKind::TooMany);
     let tag = read_tag(reader)?;
@@ -274,7 +276,8 @@ pub fn read_event(
 
 /// How many steps the next event takes, where so many are left; no memory is taken.
 pub fn pass_event(of: &Roles, left: u32, reader: &mut Reader<'_>) -> Result<u32, Found>
-    ensures ok { IfOk result (λ n. (e : schedules.ScheduleEvent) × (plain.event_at (roles of.now) left reader.old.rest.now ≡ Ok (e, reader.new.rest.now)) × (n ≡ schedules.steps_of e)) }
+    ensures ok { IfOk result (λ n. (e : schedules.ScheduleEvent)
+        × (plain.event_at (roles of.now) left reader.old.rest.now ≡ Ok (e, reader.new.rest.now)) × (n ≡ schedules.steps_of e)) }
     ensures err { IfErr result (λ found. plain.event_at (roles of.now) left reader.old.rest.now ≡ Err found) }
 {
     match read_seen(of, left, reader) {

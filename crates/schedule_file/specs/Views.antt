@@ -20,7 +20,13 @@ abbrev pub listed : Listed → plain.Listed
 listed l = record { process = l.process; corrupt = l.corrupt; key = key l.key }
 
 abbrev pub header : Header → plain.Header
-header h = record { scheme = h.scheme; batch_limit = h.batch; group = h.group; processes = map listed h.processes.items; genesis = h.genesis.items }
+header h = record {
+  scheme = h.scheme;
+  batch_limit = h.batch;
+  group = h.group;
+  processes = map listed h.processes.items;
+  genesis = h.genesis.items;
+}
 
 abbrev pub event : ScheduleEvent → plain.ScheduleEvent
 event (Submit at payload) = plain.Submit at payload.items

@@ -187,7 +187,9 @@ fn push_roster(
     genesis: &ArrayVec<Pid, 16>,
 ) -> Result<(), NoMemory>
     requires { length processes.now < 256 }
-    ensures { OnOk result (out.new.items ≡ out.old.items ++ (length processes.now ∷ (flat_map listed_bytes (map views.listed processes.now) ++ (length genesis.now.items ∷ genesis.now.items)))) }
+    ensures { OnOk result (out.new.items ≡ out.old.items
+        ++ (length processes.now ∷ (flat_map listed_bytes (map views.listed processes.now)
+        ++ (length genesis.now.items ∷ genesis.now.items)))) }
 {
     push_byte(out, processes.len() as u8)?;
     push_all_listed(out, processes)?;

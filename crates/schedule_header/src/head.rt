@@ -70,7 +70,8 @@ fn scheme_by(version: u8, byte: u8) -> Option<Scheme>
 }
 
 fn read_version(reader: &mut Reader<'_>) -> Result<u8, Found>
-    ensures { Gives (λ v. (v, reader.new.rest.now)) result (plain.known plain.version_by kinds.Magic (plain.field_at 4) reader.old.rest.now) }
+    ensures { Gives (λ v. (v, reader.new.rest.now)) result
+        (plain.known plain.version_by kinds.Magic (plain.field_at 4) reader.old.rest.now) }
 {
     let fault = reader.fault(FaultKind::Magic);
     let letters = reader.bytes(4)?;
@@ -81,7 +82,8 @@ fn read_version(reader: &mut Reader<'_>) -> Result<u8, Found>
 }
 
 fn read_scheme(version: u8, reader: &mut Reader<'_>) -> Result<Scheme, Found>
-    ensures { Gives (λ s. (s, reader.new.rest.now)) result (plain.known (plain.scheme_by version) kinds.Scheme plain.byte_at reader.old.rest.now) }
+    ensures { Gives (λ s. (s, reader.new.rest.now)) result
+        (plain.known (plain.scheme_by version) kinds.Scheme plain.byte_at reader.old.rest.now) }
 {
     let fault = reader.fault(FaultKind::Scheme);
     let byte = reader.byte()?;
@@ -137,7 +139,8 @@ fn read_all_listed(
     reader: &mut Reader<'_>,
 ) -> Result<ArrayVec<Listed, 64>, Found>
     requires { count ≤ 64 }
-    ensures { Gives (λ ls. (map views.listed ls.items, reader.new.rest.now)) result (plain.all_listed_at count scheme 0 reader.old.rest.now) }
+    ensures { Gives (λ ls. (map views.listed ls.items, reader.new.rest.now)) result
+        (plain.all_listed_at count scheme 0 reader.old.rest.now) }
 {
     let mut processes = ArrayVec::new();
     let mut least = 0;
@@ -166,7 +169,8 @@ fn is_among(pids: &[Pid], p: Pid) -> bool
 // A member that is listed and none of those before.
 #[tactic(auto, unfolding(replay_defs::specs::Reading::byte_that, replay_defs::specs::Reading::process_that))]
 fn read_member(listed: PidSet, before: &[Pid], reader: &mut Reader<'_>) -> Result<Pid, Found>
-    ensures { Gives (λ p. (p, reader.new.rest.now)) result (plain.process_that (λ m. has listed m && not (has before.now m)) kinds.Roster reader.old.rest.now) }
+    ensures { Gives (λ p. (p, reader.new.rest.now)) result
+        (plain.process_that (λ m. has listed m && not (has before.now m)) kinds.Roster reader.old.rest.now) }
 {
     let fault = reader.fault(FaultKind::Roster);
     let n = reader.byte()?;

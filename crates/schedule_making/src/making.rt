@@ -157,14 +157,16 @@ pub struct Making {
 
 impl Making {
     fn push(&mut self, event: ScheduleEvent) -> Result<(), AllocError>
-        ensures { OnOk result ((map views.event self.new.events.items ≡ map views.event self.old.events.items ++ views.event event ∷ []) × (self.new.draws.state ≡ self.old.draws.state)) }
+        ensures { OnOk result ((map views.event self.new.events.items ≡ map views.event self.old.events.items ++ views.event event ∷ [])
+            × (self.new.draws.state ≡ self.old.draws.state)) }
     {
         self.events.push(event)?;
         Ok(())
     }
 
     fn push_drain(&mut self, count: u32) -> Result<(), AllocError>
-        ensures { OnOk result ((map views.event self.new.events.items ≡ map views.event self.old.events.items ++ plain.Drain count all_four ∷ []) × (self.new.draws.state ≡ self.old.draws.state)) }
+        ensures { OnOk result ((map views.event self.new.events.items ≡ map views.event self.old.events.items
+            ++ plain.Drain count all_four ∷ []) × (self.new.draws.state ≡ self.old.draws.state)) }
     {
         self.push(ScheduleEvent::Drain {
             count,
@@ -206,7 +208,8 @@ impl Making {
 
     fn push_renew(&mut self, at: u8) -> Result<(), AllocError>
         requires { at < 64 }
-        ensures { OnOk result ((map views.event self.new.events.items ≡ map views.event self.old.events.items ++ plain.Renew at ∷ []) × (self.new.draws.state ≡ self.old.draws.state)) }
+        ensures { OnOk result ((map views.event self.new.events.items ≡ map views.event self.old.events.items ++ plain.Renew at ∷ [])
+            × (self.new.draws.state ≡ self.old.draws.state)) }
     {
         self.push(ScheduleEvent::Renew { at: process(at) })
     }

@@ -15,8 +15,10 @@ abbrev pub EndsBy : Option Found → ℕ → Option Fault → Type 0
 EndsBy None size None = size ≤ most_bytes
 EndsBy (Some found) size None = ⊥
 EndsBy None size (Some fault) = (most_bytes < size) × (fault ≡ too_long)
-EndsBy (Some found) size (Some fault) = (size ≤ most_bytes → fault ≡ placed size found) × (most_bytes < size → fault ≡ placed_past_limit found.kind (placed most_bytes found))
+EndsBy (Some found) size (Some fault) = (size ≤ most_bytes → fault ≡ placed size found)
+    × (most_bytes < size → fault ≡ placed_past_limit found.kind (placed most_bytes found))
 
 -- Behind a header: the bytes that wait within the limit are events, or have a fault, and there are so many in all.
 abbrev pub EndsAt : Roles → ℕ → ℕ → List ℕ → List ℕ → Option Fault → Type 0
-EndsAt roles steps taken waiting within fault = (found : Option Found) × AreLast (events_at roles (length within) steps within) found × EndsBy found (taken + length waiting) fault
+EndsAt roles steps taken waiting within fault = (found : Option Found) × AreLast (events_at roles (length within) steps within) found
+    × EndsBy found (taken + length waiting) fault

@@ -24,15 +24,18 @@ IsNext roles steps bytes next = (event_at roles steps bytes ≡ Ok (event next.e
 -- What was found is the input's fault, unless the bytes end within a field; past the limit they are too long then.
 abbrev pub Decides : Found → ℕ → ℕ → Option Fault → Type 0
 Decides found read fed None = (found.kind ≡ faults.Short) × (fed ≤ most_bytes)
-Decides found read fed (Some fault) = ((found.kind ≡ faults.Short → ⊥) × (fault ≡ placed read found)) ⊎ ((found.kind ≡ faults.Short) × (most_bytes < fed) × (fault ≡ too_long))
+Decides found read fed (Some fault) = ((found.kind ≡ faults.Short → ⊥) × (fault ≡ placed read found))
+    ⊎ ((found.kind ≡ faults.Short) × (most_bytes < fed) × (fault ≡ too_long))
 
 -- reading the next event within the limit ends in this fault
 abbrev pub EndsIn : Roles → ℕ → ℕ → List ℕ → List ℕ → Fault → Type 0
-EndsIn roles steps taken waiting within fault = (found : Found) × (event_at roles steps within ≡ Err found) × Decides found (taken + length within) (taken + length waiting) (Some fault)
+EndsIn roles steps taken waiting within fault = (found : Found) × (event_at roles steps within ≡ Err found)
+    × Decides found (taken + length within) (taken + length waiting) (Some fault)
 
 -- Behind a header, of which with the events so many bytes were taken: the next event, nothing whole, or the input's fault.
 abbrev pub BeginsSo : Roles → ℕ → ℕ → List ℕ → Result (Option NextEvent) Stop → Type 0
 BeginsSo roles steps taken waiting (Ok (Some next)) = IsNext roles steps (take (most_bytes - taken) waiting) next
-BeginsSo roles steps taken waiting (Ok None) = IsShort (event_at roles steps waiting) × (taken + length waiting ≤ most_bytes) × (length waiting < 65551)
+BeginsSo roles steps taken waiting (Ok None) = IsShort (event_at roles steps waiting) × (taken + length waiting ≤ most_bytes)
+    × (length waiting < 65551)
 BeginsSo roles steps taken waiting (Err (stops.Fault fault)) = EndsIn roles steps taken waiting (take (most_bytes - taken) waiting) fault
 BeginsSo roles steps taken waiting (Err stops.NoMemory) = Unit {0}

@@ -14,7 +14,13 @@ header_if true h = Some h
 header_if false h = None
 
 abbrev pub reading : Inside → Reading
-reading r = record { header = header_if r.has_header (views.header r.header); taken = r.taken; waiting = r.window; steps = r.steps; fault = r.fault }
+reading r = record {
+  header = header_if r.has_header (views.header r.header);
+  taken = r.taken;
+  waiting = r.window;
+  steps = r.steps;
+  fault = r.fault;
+}
 
 pub record IsReader (r : Inside) : Type 0 where
   -- before the header is whole there is room for its processes, and all bytes wait

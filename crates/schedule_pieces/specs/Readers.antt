@@ -50,12 +50,19 @@ MovesOn r now (Err e) = (length now.waiting ≤ length r.waiting) × (now.header
 abbrev pub SeesFront : Reading → Result (Option NextEvent) Stop → Type 0
 SeesFront r (Ok (Some next)) = (h : Header) × (r.header ≡ Some h) × IsNext (roles_of h.processes) r.steps (readable r) next
 SeesFront r (Ok None) = NoneWhole r.header r × (r.taken + length r.waiting ≤ most_bytes) × (length r.waiting < 65551)
-SeesFront r (Err (stops.Fault fault)) = (fed : List ℕ) (es : List plain.ScheduleEvent) → Stands r fed es → (more : List ℕ) → schedule_of (fed ++ more) ≡ Err fault
+SeesFront r (Err (stops.Fault fault)) = (fed : List ℕ) (es : List plain.ScheduleEvent) → Stands r fed es → (more : List ℕ)
+    → schedule_of (fed ++ more) ≡ Err fault
 SeesFront r (Err stops.NoMemory) = Unit {0}
 
 -- what is known after an event of so many bytes and steps
 abbrev pub given : ℕ → ℕ → Reading → Reading
-given size steps r = record { header = r.header; taken = r.taken + size; waiting = drop size r.waiting; steps = r.steps - steps; fault = r.fault }
+given size steps r = record {
+  header = r.header;
+  taken = r.taken + size;
+  waiting = drop size r.waiting;
+  steps = r.steps - steps;
+  fault = r.fault;
+}
 
 -- what is wrong with the input, where it ends here
 abbrev pub SeesEnd : Reading → Option Fault → Type 0

@@ -90,7 +90,8 @@ impl ScheduleReader {
         requires { length self.old.waiting + length piece.now ≤ most_waiting }
 
         // What was given so far stands, and the piece follows what was fed.
-        ensures stands { (fed : List ℕ) (es : List schedules.ScheduleEvent) → Stands self.old fed es → Stands self.new (fed ++ piece.now) es }
+        ensures stands { (fed : List ℕ) (es : List schedules.ScheduleEvent) → Stands self.old fed es
+            → Stands self.new (fed ++ piece.now) es }
         ensures stopped { IsSome self.old.fault → self.new ≡ self.old }
     {
         if self.fault.is_some() {
@@ -127,7 +128,8 @@ impl ScheduleReader {
     /// The fault of the input, however it goes on, and the same from then on; [`ScheduleFault::NoMemory`] where memory is refused, and
     /// then the same event may be asked for again.
     pub fn next(&mut self) -> Result<Option<ScheduleEvent>, ScheduleFault>
-        ensures gives { (fed : List ℕ) (es : List schedules.ScheduleEvent) → Stands self.old fed es → GivesNext fed es self.new (plainly result) }
+        ensures gives { (fed : List ℕ) (es : List schedules.ScheduleEvent) → Stands self.old fed es
+            → GivesNext fed es self.new (plainly result) }
         ensures room { LeavesRoom self.new result }
         ensures moves { MovesOn self.old self.new result }
         ensures again { (f : faults.Fault) → self.old.fault ≡ Some f → (self.new ≡ self.old) × (plainly result ≡ Err (Some f)) }

@@ -25,7 +25,8 @@ impl Model for Window {
 
     ghost view = { λ w. drop w.start w.bytes.items };
 
-    ghost invariant = { λ w. (w.start ≤ length w.bytes.items) × (length w.bytes.items ≤ most_waiting) × (most_waiting ≤ vec_capacity w.bytes) };
+    ghost invariant = { λ w. (w.start ≤ length w.bytes.items) × (length w.bytes.items ≤ most_waiting)
+        × (most_waiting ≤ vec_capacity w.bytes) };
 }
 
 impl Window {

@@ -21,7 +21,8 @@ fn read_events(
     of: &Roles,
     reader: &mut Reader<'_>,
 ) -> Result<Vec<ScheduleEvent>, ReadError>
-    ensures { Makes found_of (λ es. map views.event es.items) result (plain.events_at (roles of.now) (length reader.old.rest.now) most_steps reader.old.rest.now) }
+    ensures { Makes found_of (λ es. map views.event es.items) result
+        (plain.events_at (roles of.now) (length reader.old.rest.now) most_steps reader.old.rest.now) }
 {
     let mut events = Vec::new(alloc);
     let mut left = STEPS;

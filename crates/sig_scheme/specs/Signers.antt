@@ -51,11 +51,14 @@ admits (Hss k) = hss_valid
 -- one key stands behind both, so both are of one scheme
 abbrev pub SameKey : AnySigner → AnySigner → Type 0
 SameKey (Plain s) (Plain t) = key_of t ≡ key_of s
-SameKey (Lms k) (Lms l) = KeyKeeps (trees.public_of k) (trees.public_of l) (trees.length_of k) (trees.length_of l) (trees.signature_of k) (trees.signature_of l) lms_valid lms_valid
-SameKey (Hss k) (Hss l) = KeyKeeps (levels.public_of k) (levels.public_of l) (levels.length_of k) (levels.length_of l) (levels.signature_of k) (levels.signature_of l) hss_valid hss_valid
+SameKey (Lms k) (Lms l) = KeyKeeps (trees.public_of k) (trees.public_of l) (trees.length_of k) (trees.length_of l) (trees.signature_of k)
+    (trees.signature_of l) lms_valid lms_valid
+SameKey (Hss k) (Hss l) = KeyKeeps (levels.public_of k) (levels.public_of l) (levels.length_of k) (levels.length_of l)
+    (levels.signature_of k) (levels.signature_of l) hss_valid hss_valid
 SameKey _ _ = ⊥
 
-pub any_keeps : (s t : AnySigner) → SameKey s t → KeyKeeps (public s) (public t) (sig_len s) (sig_len t) (signature s) (signature t) (admits s) (admits t)
+pub any_keeps : (s t : AnySigner) → SameKey s t
+    → KeyKeeps (public s) (public t) (sig_len s) (sig_len t) (signature s) (signature t) (admits s) (admits t)
 any_keeps (Plain s) (Plain t) same = plain_keeps s t same
 any_keeps (Lms k) (Lms l) same = same
 any_keeps (Hss k) (Hss l) same = same

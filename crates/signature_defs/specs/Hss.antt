@@ -108,7 +108,8 @@ hss_signature_length levels kind h = 4 + (levels - 1) * (lms_signature_length ki
 
 -- how many bytes a signature under an LMS key has, by the key's types
 abbrev pub length_under : List ℕ → Option ℕ
-length_under key = option_and_then (λ h. option_map (λ kind. lms_signature_length kind h) (ots_type_of (u32_at 4 key))) (lms_height_of (u32_at 0 key))
+length_under key = option_and_then (λ h. option_map (λ kind. lms_signature_length kind h) (ots_type_of (u32_at 4 key)))
+    (lms_height_of (u32_at 0 key))
 
 -- From a key on, n signed keys and the signature on the message: the first signature is on the key behind it, which is
 -- the next one to go on from.

@@ -112,7 +112,8 @@ ots_signature kind id q seed message =
 
 -- the end of chain i, reached from y[i] by the steps that are left (4.6, algorithm 4b, step 3)
 abbrev pub reached_end : OtsType → List ℕ → ℕ → List ℕ → List ℕ → ℕ → List ℕ
-reached_end kind id q hash sig i = chain (chain_head id q i) (digit kind hash i) (ots_steps kind - digit kind hash i) (part (36 + 32 * i) 32 sig)
+reached_end kind id q hash sig i = chain (chain_head id q i) (digit kind hash i) (ots_steps kind - digit kind hash i)
+    (part (36 + 32 * i) 32 sig)
 
 -- Kc, from a signature of this parameter set
 abbrev pub candidate_by : OtsType → List ℕ → ℕ → List ℕ → List ℕ → List ℕ
@@ -120,7 +121,8 @@ candidate_by kind id q message sig = key_of_ends kind id q (reached_end kind id 
 
 -- the parameter set that a signature names and has the length of
 abbrev pub ots_signature_type : List ℕ → Option OtsType
-ots_signature_type sig = option_and_then (λ kind. if length sig == ots_signature_length kind then Some kind else None) (ots_type_of (u32_at 0 sig))
+ots_signature_type sig = option_and_then (λ kind. if length sig == ots_signature_length kind then Some kind else None)
+    (ots_type_of (u32_at 0 sig))
 
 -- Kc, the public key that a signature leads to; none where the type is unknown or the length is not the type's (4.6, algorithm 4b)
 abbrev pub ots_candidate : List ℕ → ℕ → List ℕ → List ℕ → Option (List ℕ)

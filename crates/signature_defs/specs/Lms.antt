@@ -70,7 +70,8 @@ climbed id r value path (suc i) = parent id (r / 2 ^ i) (climbed id r value path
 
 -- Tc (algorithm 6a)
 abbrev pub root_candidate : OtsType → ℕ → List ℕ → ℕ → List ℕ → List ℕ → List ℕ
-root_candidate kind h id q key sig = climbed id (2 ^ h + q) (leaf id (2 ^ h + q) key) (λ i. part (8 + ots_signature_length kind + 32 * i) 32 sig) h
+root_candidate kind h id q key sig = climbed id (2 ^ h + q) (leaf id (2 ^ h + q) key)
+    (λ i. part (8 + ots_signature_length kind + 32 * i) 32 sig) h
 
 -- the signature names the key's two types and a leaf of the tree, and has their length (algorithm 6a, step 2)
 abbrev pub has_types : List ℕ → OtsType → ℕ → List ℕ → Bool
@@ -84,7 +85,8 @@ valid_by kind h key message sig =
     let id = part 8 16 key in
     let q = u32_at 0 sig in
     has_types key kind h sig
-    && is_some_and (ots_candidate id q message (part 4 (ots_signature_length kind) sig)) (λ found. same_bytes (root_candidate kind h id q found sig) (part 24 32 key))
+    && is_some_and (ots_candidate id q message (part 4 (ots_signature_length kind) sig))
+    (λ found. same_bytes (root_candidate kind h id q found sig) (part 24 32 key))
 
 -- the signature is valid under the key on the message (algorithm 6)
 abbrev pub lms_valid : List ℕ → List ℕ → List ℕ → Bool

@@ -20,7 +20,12 @@ said_at h place = option_map (λ (c : Claim). c.statement) (slice_get h.heard pl
 
 -- with one more who speaks, and who backs the content where that is said
 abbrev pub joining : Cell → ℕ → Bool → Cell
-joining c p backs = record { place = c.place; backers = if backs then put_once p c.backers else c.backers; speakers = put_once p c.speakers }
+joining c p backs = record {
+  place = c.place;
+  backers = if backs then put_once p c.backers
+      else c.backers;
+  speakers = put_once p c.speakers;
+}
 
 -- the process has a claim on the slot, and not with the content
 abbrev pub speaks_otherwise : Cell → ℕ → Bool
@@ -56,4 +61,6 @@ AreCells h cs = (s : Slot) → IsOf h s (lookup (same_slot_key (slot_key s)) cs)
 
 -- what is certified on the slot, if there is such a slot: where a cell is found it has that content, and else nothing is
 abbrev pub IsCertifiedBy : Pool → Option Slot → Option Cell → Type 0
-IsCertifiedBy h s c = MatchOption c (option_and_then (certified_on h) s ≡ None) (λ c. (st : Statement) × (option_and_then (certified_on h) s ≡ Some st) × (said_at h c.place ≡ Some st) × (c.backers ≡ sorted by_number (backers h st)))
+IsCertifiedBy h s c = MatchOption c (option_and_then (certified_on h) s ≡ None)
+    (λ c. (st : Statement) × (option_and_then (certified_on h) s ≡ Some st) × (said_at h c.place ≡ Some st)
+    × (c.backers ≡ sorted by_number (backers h st)))

@@ -143,7 +143,8 @@ fn with_other(
 ) -> Cell
     requires range { IsStatement (stmt statement.now) }
     requires spelled { spelled.now ≡ spelling (stmt statement.now) }
-    ensures { result ≡ if nat_le (length cell.backers) (length (others cell claims.now.pool (stmt statement.now))) then record { place = place; backers = others cell claims.now.pool (stmt statement.now); speakers = cell.speakers } else cell }
+    ensures { result ≡ if nat_le (length cell.backers) (length (others cell claims.now.pool (stmt statement.now)))
+        then record { place = place; backers = others cell claims.now.pool (stmt statement.now); speakers = cell.speakers } else cell }
 {
     let backers = others_of(claims, &cell, statement, spelled);
     if count_of(cell.backers) <= count_of(backers) {
@@ -167,7 +168,10 @@ pub(crate) fn cell_with(
 ) -> Cell
     requires range { IsStatement (stmt claim.now.statement) }
     requires spelled { spelled.now ≡ spelling (stmt claim.now.statement) }
-    ensures { (h : Pool) → claims.now.pool ≡ with_heard h (claim_of claim.now) → defs.claim_on h.heard claim.now.signer (plain.slot_of (stmt claim.now.statement)) ≡ None → place ≡ length h.heard → IsOf h (plain.slot_of (stmt claim.now.statement)) cell → IsCell claims.now.pool (plain.slot_of (stmt claim.now.statement)) result }
+    ensures { (h : Pool) → claims.now.pool ≡ with_heard h (claim_of claim.now)
+        → defs.claim_on h.heard claim.now.signer (plain.slot_of (stmt claim.now.statement)) ≡ None → place ≡ length h.heard
+        → IsOf h (plain.slot_of (stmt claim.now.statement)) cell
+        → IsCell claims.now.pool (plain.slot_of (stmt claim.now.statement)) result }
 {
     let _members = claims.view().members();
     let is_member = claims.view().is_member(claim.signer);

@@ -37,7 +37,11 @@ impl Model for Quorums {
 
     ghost Value = { Holding };
 
-    ghost view = { λ p. record { pool = p.claims.pool; claims_left = min p.claims.claims_left (spare p.cells); bytes_left = p.claims.bytes_left } };
+    ghost view = { λ p. record {
+      pool = p.claims.pool;
+      claims_left = min p.claims.claims_left (spare p.cells);
+      bytes_left = p.claims.bytes_left;
+    } };
 
     ghost invariant = { λ p. AreCells p.claims.pool p.cells.entries };
 }
@@ -52,7 +56,8 @@ fn cell_at(cells: &IndexMap<SlotKey, Cell>, key: &SlotKey) -> Option<Cell>
 // Puts the cell in the place of what the slot had.
 fn put(cells: &mut IndexMap<SlotKey, Cell>, key: SlotKey, cell: Cell)
     requires { 0 < spare cells.old }
-    ensures looks { (k : SlotKey) → lookup (same_slot_key k) cells.new.entries ≡ cond (same_slot_key key k) (Some cell) (lookup (same_slot_key k) cells.old.entries) }
+    ensures looks { (k : SlotKey) → lookup (same_slot_key k) cells.new.entries
+        ≡ cond (same_slot_key key k) (Some cell) (lookup (same_slot_key k) cells.old.entries) }
     ensures room { spare cells.old ≤ spare cells.new + 1 }
 {
     let Ok(_) = cells.insert(key, cell) else {
@@ -145,7 +150,8 @@ impl Quorums {
     /// Whether the signer's heard claim on the statement's slot says the same; None where there is none.
     pub fn repeats(&self, signer: Pid, statement: &Statement<'_>) -> Option<bool>
         requires { IsStatement (stmt statement.now) }
-        ensures { result ≡ option_map (plain.same_statement (stmt statement.now)) (defs.heard_on self.now.pool signer (plain.slot_of (stmt statement.now))) }
+        ensures { result ≡ option_map (plain.same_statement (stmt statement.now))
+            (defs.heard_on self.now.pool signer (plain.slot_of (stmt statement.now))) }
     {
         let cell = cell_at(&self.cells, &slot_key_of(statement))?;
         if cell.has_heard(signer) {

@@ -13,7 +13,8 @@ use rp_base::Pid;
 // What is left of the accepted payloads behind this delivery: one of the own messages takes the first of them. None exactly where it has
 // another payload.
 fn behind_one<'a>(accepted: &'a [Payload], d: &Delivered, me: Pid) -> Option<&'a [Payload]>
-    ensures { MatchOption result (plain.IsPrefixOf (payloads_of me (letters (d.now ∷ []))) accepted.now → ⊥) (λ rest. payloads_of me (letters (d.now ∷ [])) ++ rest.now ≡ accepted.now) }
+    ensures { MatchOption result (plain.IsPrefixOf (payloads_of me (letters (d.now ∷ []))) accepted.now → ⊥)
+        (λ rest. payloads_of me (letters (d.now ∷ [])) ++ rest.now ≡ accepted.now) }
 {
     if d.sender != me {
         return Some(accepted);
@@ -26,7 +27,8 @@ fn behind_one<'a>(accepted: &'a [Payload], d: &Delivered, me: Pid) -> Option<&'a
 
 // What is left of them behind all of these deliveries. None exactly where the own ones among these have other payloads.
 fn behind<'a>(accepted: &'a [Payload], sequence: &[Delivered], me: Pid) -> Option<&'a [Payload]>
-    ensures { MatchOption result (plain.IsPrefixOf (payloads_of me (letters sequence.now)) accepted.now → ⊥) (λ rest. payloads_of me (letters sequence.now) ++ rest.now ≡ accepted.now) }
+    ensures { MatchOption result (plain.IsPrefixOf (payloads_of me (letters sequence.now)) accepted.now → ⊥)
+        (λ rest. payloads_of me (letters sequence.now) ++ rest.now ≡ accepted.now) }
 {
     let mut left = accepted;
     for d in sequence {
@@ -40,7 +42,9 @@ fn behind<'a>(accepted: &'a [Payload], sequence: &[Delivered], me: Pid) -> Optio
 
 // What is left of what the process accepted behind the group's sequences. None exactly where its messages there have other payloads.
 fn behind_history<'a>(accounts: &[Account], a: &'a Account) -> Option<&'a [Payload]>
-    ensures { MatchOption result (plain.IsPrefixOf (payloads_of a.now.me (plain.history (plain.group_of (map account accounts.now)))) a.now.accepted.items → ⊥) (λ rest. payloads_of a.now.me (plain.history (plain.group_of (map account accounts.now))) ++ rest.now ≡ a.now.accepted.items) }
+    ensures { MatchOption result (plain.IsPrefixOf
+        (payloads_of a.now.me (plain.history (plain.group_of (map account accounts.now)))) a.now.accepted.items → ⊥)
+        (λ rest. payloads_of a.now.me (plain.history (plain.group_of (map account accounts.now))) ++ rest.now ≡ a.now.accepted.items) }
 {
     let views = longest_views(accounts);
     let mut left = a.accepted.as_slice();

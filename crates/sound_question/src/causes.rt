@@ -24,7 +24,8 @@ fn has_key(keyed: PidSet, u: &Update) -> bool
 
 // Whether the view follows by the update.
 fn follows(v: &View, w: &View, u: Update) -> bool
-    ensures { result ≡ (is_none (defs.next_fault v.now (update u)) && plain.same_views (w.now ∷ []) (defs.next_view v.now (update u) ∷ [])) }
+    ensures { result ≡ (is_none (defs.next_fault v.now (update u))
+        && plain.same_views (w.now ∷ []) (defs.next_view v.now (update u) ∷ [])) }
 {
     match next(v, u) {
         Ok(after) => same_view(w, &after),
@@ -50,7 +51,8 @@ fn has_led(perceived: &[(u16, Update)], keyed: PidSet, v: &View, w: &View) -> bo
 
 // Whether the process was a member of the first view and perceived there what gives the other one.
 fn perceived_cause(a: &Account, keyed: PidSet, v: &View, w: &View) -> bool
-    ensures { result ≡ (defs.is_member v.now a.now.me && list_any (λ e. (e.0 == v.now.number) && gives keyed v.now w.now (update e.1)) a.now.perceived.items) }
+    ensures { result ≡ (defs.is_member v.now a.now.me
+        && list_any (λ e. (e.0 == v.now.number) && gives keyed v.now w.now (update e.1)) a.now.perceived.items) }
 {
     v.is_member(a.me) && has_led(&a.perceived, keyed, v, w)
 }
@@ -74,7 +76,8 @@ fn have_causes(accounts: &[Account], keyed: PidSet, views: &[View]) -> bool
 
 /// Whether each view of the group but the first has its cause in the one before.
 pub(crate) fn are_caused(accounts: &[Account], keyed: PidSet) -> bool
-    ensures { result ≡ list_all (plain.has_cause (map account accounts.now) keyed) (plain.neighbours (plain.group_of (map account accounts.now)).views) }
+    ensures { result ≡ list_all (plain.has_cause (map account accounts.now) keyed)
+        (plain.neighbours (plain.group_of (map account accounts.now)).views) }
 {
     have_causes(accounts, keyed, longest_views(accounts))
 }

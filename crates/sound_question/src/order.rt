@@ -43,7 +43,8 @@ fn is_sound_in(accounts: &[Account], x: usize) -> bool
 
 /// Whether each of the group's sequences is in order.
 pub(crate) fn are_in_order(accounts: &[Account]) -> bool
-    ensures { result ≡ list_all (plain.is_sound_in (plain.group_of (map account accounts.now))) (range_with_len 0 (length (plain.group_of (map account accounts.now)).views)) }
+    ensures { result ≡ list_all (plain.is_sound_in (plain.group_of (map account accounts.now)))
+        (range_with_len 0 (length (plain.group_of (map account accounts.now)).views)) }
 {
     let views = longest_views(accounts);
     (0..views.len()).all(|x| is_sound_in(accounts, x))

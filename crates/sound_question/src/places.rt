@@ -91,7 +91,8 @@ fn are_placed_in(accounts: &[Account], x: usize) -> bool
 
 /// Whether the places of each view are delivered whole and alike.
 pub(crate) fn are_placed(accounts: &[Account]) -> bool
-    ensures { result ≡ list_all (plain.are_placed_in (map account accounts.now)) (range_with_len 0 (length (plain.group_of (map account accounts.now)).views)) }
+    ensures { result ≡ list_all (plain.are_placed_in (map account accounts.now))
+        (range_with_len 0 (length (plain.group_of (map account accounts.now)).views)) }
 {
     let views = longest_views(accounts);
     (0..views.len()).all(|x| are_placed_in(accounts, x))

@@ -35,7 +35,8 @@ pairs_again [] = refl
 pairs_again (m ∷ ms) = ap (λ (xs : List (ℕ × ℕ)). m ∷ xs) (pairs_again ms)
 
 pub length-filled : (ms : List (ℕ × ℕ)) → length ms ≤ 16 → length (filled ms) ≡ 16
-length-filled ms few = length-append ms (replicate (16 - length ms) (0, 0)) ∙ ap (λ n. length ms + n) (length-replicate {A = ℕ × ℕ} (16 - length ms) (0, 0)) ∙ omega arith
+length-filled ms few = length-append ms (replicate (16 - length ms) (0, 0)) ∙ ap (λ n. length ms + n)
+    (length-replicate {A = ℕ × ℕ} (16 - length ms) (0, 0)) ∙ omega arith
 
 -- an array of 16, of which so many are taken
 pub taken : (len : ℕ) (ms : List (ℕ × ℕ)) → IsKept len ms → length (take len ms) ≡ len
@@ -44,8 +45,12 @@ taken len ms kept =
     let whole = ap length kept.behind ∙ length-filled (take len ms) (omega (arith, kept.few, least)) in
     omega (arith, kept.few, whole, least)
 
-pub filled_again : (len : ℕ) (ms : List (ℕ × ℕ)) → IsKept len ms → (filled (map pair_of (map message_of (take len ms))) ≡ ms) × (length (map message_of (take len ms)) ≡ len)
-filled_again len ms kept = (ap filled (pairs_again (take len ms)) ∙ sym kept.behind, length-map (take len ms) message_of ∙ taken len ms kept)
+pub filled_again : (len : ℕ) (ms : List (ℕ × ℕ)) → IsKept len ms
+    → (filled (map pair_of (map message_of (take len ms))) ≡ ms) × (length (map message_of (take len ms)) ≡ len)
+filled_again len ms kept = (
+  ap filled (pairs_again (take len ms)) ∙ sym kept.behind,
+  length-map (take len ms) message_of ∙ taken len ms kept,
+)
 
 -- ---- equality
 
@@ -58,4 +63,5 @@ same_batch b c = pointwise same_message b c
 
 pub batch_equiv : IsEquivalence same_batch
 unfolding same_batch
-batch_equiv = lists_equiv (and_equiv (on_equiv (λ (m : Message). m.sender) nat_eq_equiv) (on_equiv (λ (m : Message). m.number) nat_eq_equiv))
+batch_equiv = lists_equiv (and_equiv (on_equiv (λ (m : Message). m.sender) nat_eq_equiv)
+    (on_equiv (λ (m : Message). m.number) nat_eq_equiv))

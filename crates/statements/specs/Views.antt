@@ -37,10 +37,13 @@ stmt (Ready x r v) = plain.Ready x r (value v)
 abbrev pub slot : ℕ → Slot → Option plain.Slot
 slot kind (slots.Number x l) = if kind == 1 then Some (plain.InitAt x l) else None
 slot kind (slots.Message x s l) = if kind == 2 then Some (plain.EchoAt x (message s l)) else None
-slot kind (slots.Place x k) = first_that_holds ((kind == 3, plain.OrderAt x k) ∷ (kind == 4, plain.PlaceAt x k) ∷ (kind == 5, plain.KeepAt x k) ∷ [])
+slot kind (slots.Place x k) = first_that_holds
+    ((kind == 3, plain.OrderAt x k) ∷ (kind == 4, plain.PlaceAt x k) ∷ (kind == 5, plain.KeepAt x k) ∷ [])
 slot kind (slots.Update x u) = if kind == 6 then Some (plain.NotifyAt x (update u)) else None
 slot kind (slots.View x) = if kind == 7 then Some (plain.EndAt x) else None
-slot kind (slots.Rank x r) = first_that_holds ((kind == 8, plain.LastAt x r) ∷ (kind == 9, plain.SuggestAt x r) ∷ (kind == 10, plain.AckAt x r) ∷ (kind == 11, plain.ReadyAt x r) ∷ [])
+slot kind (slots.Rank x r) = first_that_holds
+    ((kind == 8, plain.LastAt x r) ∷ (kind == 9, plain.SuggestAt x r) ∷ (kind == 10, plain.AckAt x r) ∷ (kind == 11, plain.ReadyAt x r)
+    ∷ [])
 
 abbrev pub claim : Claim → plain.Claim
 claim c = record { signer = c.signer; statement = stmt c.statement; signature = c.signature.now }

@@ -26,7 +26,10 @@ impl Model for Batch {
 
     ghost inverse = { λ ms. record { messages = filled (map pair_of ms); len = length ms } };
 
-    ghost inverse_ok = { λ b kept. λ i. record { messages = (filled_again b.len b.messages kept).0 i; len = (filled_again b.len b.messages kept).1 i } };
+    ghost inverse_ok = { λ b kept. λ i. record {
+      messages = (filled_again b.len b.messages kept).0 i;
+      len = (filled_again b.len b.messages kept).1 i;
+    } };
 }
 
 /// Two batches are equal where they have the same messages in the same order.

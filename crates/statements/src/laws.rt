@@ -11,5 +11,6 @@ pub fn spelling_determines_statement()
 /// What is signed determines the group, the signer and the statement: bodies of groups of 16 bytes and of statements
 /// in range are equal only where these are.
 pub fn body_determines_statement()
-    ensures { (g h : List ℕ) (p q : ℕ) (a b : Statement) → length g ≡ 16 → length h ≡ 16 → IsStatement a → IsStatement b → body g p a ≡ body h q b → (g ≡ h) × (p ≡ q) × (a ≡ b) }
+    ensures { (g h : List ℕ) (p q : ℕ) (a b : Statement) → length g ≡ 16 → length h ≡ 16 → IsStatement a → IsStatement b
+        → body g p a ≡ body h q b → (g ≡ h) × (p ≡ q) × (a ≡ b) }
 {}

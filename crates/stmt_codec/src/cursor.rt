@@ -24,7 +24,8 @@ pub struct Claims<'a> {
 // The first claim of a group, which is then without it.
 fn first_of<'a>(carrier: Carrier, begun: &mut Group<'a>) -> Option<Claim<'a>>
     requires { IsOk (of_group carrier begun.old) }
-    ensures { MatchOption result ((of_group carrier begun.old ≡ Ok []) × (of_group carrier begun.new ≡ Ok [])) (λ c. of_group carrier begun.old ≡ with_first (claim c) (of_group carrier begun.new)) }
+    ensures { MatchOption result ((of_group carrier begun.old ≡ Ok []) × (of_group carrier begun.new ≡ Ok []))
+        (λ c. of_group carrier begun.old ≡ with_first (claim c) (of_group carrier begun.new)) }
 {
     let Some((signer, signature)) = begun.signatures.next() else {
         return None;
@@ -45,7 +46,8 @@ fn first_of<'a>(carrier: Carrier, begun: &mut Group<'a>) -> Option<Claim<'a>>
 // The next claim of the group that was begun, if one was.
 fn next_begun<'a>(carrier: Carrier, begun: &mut Option<Group<'a>>) -> Option<Claim<'a>>
     requires { IsOk (of_begun carrier begun.old) }
-    ensures { MatchOption result ((of_begun carrier begun.old ≡ Ok []) × (of_begun carrier begun.new ≡ Ok [])) (λ c. of_begun carrier begun.old ≡ with_first (claim c) (of_begun carrier begun.new)) }
+    ensures { MatchOption result ((of_begun carrier begun.old ≡ Ok []) × (of_begun carrier begun.new ≡ Ok []))
+        (λ c. of_begun carrier begun.old ≡ with_first (claim c) (of_begun carrier begun.new)) }
 {
     match begun {
         Some(group) => first_of(carrier, group),

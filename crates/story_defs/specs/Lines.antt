@@ -113,11 +113,13 @@ listed_at scheme words = do
 -- these members, and those that all the words name
 unfoldable pub members_behind : List ℕ → Words → Result (List ℕ) Expected
 members_behind before [] = Ok before
-members_behind before (word ∷ words) = elim (process_of word) [ None ↦ Err expected.Genesis | Some p ↦ members_behind (before ++ p ∷ []) words ]
+members_behind before (word ∷ words) = elim
+    (process_of word) [ None ↦ Err expected.Genesis | Some p ↦ members_behind (before ++ p ∷ []) words ]
 
 -- the words behind `genesis`: the number of members, at most 16, and each of them
 unfoldable pub genesis_at : Words → Result (List ℕ) Expected
-genesis_at words = members_behind [] words >>= λ members. if nat_le (length members) 16 then Ok (length members ∷ members) else Err expected.Genesis
+genesis_at words = members_behind [] words >>= λ members. if nat_le (length members) 16 then Ok (length members ∷ members)
+    else Err expected.Genesis
 
 -- ---- events
 

@@ -80,7 +80,8 @@ event_of_word word words = ok_or (kind_of_word word) expected.Event >>= λ kind.
 
 -- the group
 abbrev pub group_of_word : List ℕ → Words → Result Addition Expected
-group_of_word word words = if same_bytes word (codes "group") then (group_at words >>= λ group. Ok (Group group.0 group.1)) else Err expected.Group
+group_of_word word words = if same_bytes word (codes "group") then (group_at words >>= λ group. Ok (Group group.0 group.1))
+    else Err expected.Group
 
 -- a process or the first view
 abbrev pub listing_of_word : Draft → List ℕ → Words → Result Addition Expected

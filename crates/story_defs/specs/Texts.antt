@@ -103,7 +103,8 @@ statement_tokens bytes = statement_read bytes (statement_of bytes)
 
 -- all, nobody, or the processes of the mask
 abbrev pub mask_tokens : ℕ → List Token
-mask_tokens mask = if mask == everyone then Word (codes "all") ∷ [] else (if mask == 0 then Word (codes "nobody") ∷ [] else numbers (members mask))
+mask_tokens mask = if mask == everyone then Word (codes "all") ∷ []
+    else (if mask == 0 then Word (codes "nobody") ∷ [] else numbers (members mask))
 
 abbrev pub drain_tokens : ℕ → ℕ → List Token
 drain_tokens count mask = Word (codes "drain") ∷ number count ∷ Word (codes "to") ∷ mask_tokens mask

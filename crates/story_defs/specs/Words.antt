@@ -99,7 +99,8 @@ module _ (x : Expected) where
   -- a mask by its first word
   abbrev pub mask_by : Words → List ℕ → Words → Step ℕ
   mask_by all word words =
-      if same_bytes word (codes "all") then Ok (everyone, words) else (if same_bytes word (codes "nobody") then Ok (0, words) else named_at all)
+      if same_bytes word (codes "all") then Ok (everyone, words)
+      else (if same_bytes word (codes "nobody") then Ok (0, words) else named_at all)
 
   -- `to` and a mask: all, nobody, or processes
   unfoldable pub mask_at : Words → Step ℕ

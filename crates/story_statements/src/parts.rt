@@ -78,7 +78,8 @@ pub fn batch(words: &mut Words<'_>) -> Result<Batch, LineFault>
 /// The rank of a Ready that is below this one, and its value.
 #[tactic(auto, unfolding(story_defs::specs::Statements::ready_at))]
 pub fn ready(below: u8, words: &mut Words<'_>) -> Result<(u8, Value), LineFault>
-    ensures exact { Makes expected_of (λ r. ((r.0, base.value r.1), left words.new)) result (plain.ready_at expected.Lie below (left words.old)) }
+    ensures exact { Makes expected_of (λ r. ((r.0, base.value r.1), left words.new)) result
+        (plain.ready_at expected.Lie below (left words.old)) }
     ensures range { IfOk result (λ r. (r.0 < below) × IsValue (base.value r.1)) }
 {
     let rank = words.number(0, 15, LIE)? as u8;

@@ -22,7 +22,14 @@ handed Ticks = plain.Ticks
 
 -- what came of an event
 abbrev pub seen : Outcome → outcomes.Seen
-seen r = record { verdict = refusal r.verdict; heard = r.heard; signed = map signed r.signed.items; spent = r.spent; sends = map frame_to r.sends.items; notes = map note r.notes.items }
+seen r = record {
+  verdict = refusal r.verdict;
+  heard = r.heard;
+  signed = map signed r.signed.items;
+  spent = r.spent;
+  sends = map frame_to r.sends.items;
+  notes = map note r.notes.items;
+}
 
 abbrev pub happening : Happening → plain.Happening
 happening (Takes at what first outcome) = plain.Takes at (handed what) first (seen outcome)

@@ -20,7 +20,8 @@ fn push_delivery(
     own: u16,
     payload: &[u8],
 ) -> Result<(), NoMemory>
-    ensures { OnOk result (out.new.items ≡ out.old.items ++ line_text (note_line at (group.Delivers view (record { place = place; message = message sender own; payload = payload.now })))) }
+    ensures { OnOk result (out.new.items ≡ out.old.items
+        ++ line_text (note_line at (group.Delivers view (record { place = place; message = message sender own; payload = payload.now })))) }
 {
     said_with_payload(
         out,

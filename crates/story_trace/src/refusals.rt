@@ -83,7 +83,8 @@ pub(crate) fn push_refusal(
     handed: Handed,
     fault: EventFault,
 ) -> Result<(), NoMemory>
-    ensures { OnOk result (out.new.items ≡ out.old.items ++ flat_map line_text (plain.refusal_line at (handed_words (handed_view handed)) (asked.fault fault) ∷ [])) }
+    ensures { OnOk result (out.new.items ≡ out.old.items
+        ++ flat_map line_text (plain.refusal_line at (handed_words (handed_view handed)) (asked.fault fault) ∷ [])) }
 {
     begin_said(out, at, &[Word::Text(b"refuses")])?;
     push_handed(out, handed)?;

@@ -50,7 +50,8 @@ fn begin_claims(out: &mut Vec<u8>, at: Pid, heard: u16) -> Result<(), NoMemory>
 
 // So many claims were new to it, in what it was handed.
 fn push_claims(out: &mut Vec<u8>, at: Pid, handed: Handed, heard: u16) -> Result<(), NoMemory>
-    ensures { OnOk result (out.new.items ≡ out.old.items ++ flat_map line_text (lines.heard_line at (plain.handed_words (handed_of handed)) heard ∷ [])) }
+    ensures { OnOk result (out.new.items ≡ out.old.items
+        ++ flat_map line_text (lines.heard_line at (plain.handed_words (handed_of handed)) heard ∷ [])) }
 {
     begin_claims(out, at, heard)?;
     push_handed(out, handed)?;
@@ -104,7 +105,8 @@ fn push_sent(out: &mut Vec<u8>, at: Pid, frame: u64, to: PidSet) -> Result<(), N
 
 // The frames that it sends, from this number on. More than fit into memory can't be numbered.
 fn push_sends(out: &mut Vec<u8>, at: Pid, first: u64, sends: &[Sending]) -> Result<(), NoMemory>
-    ensures { OnOk result (out.new.items ≡ out.old.items ++ flat_map (λ e. line_text (lines.sent_line at e)) (enumerate_from first (map frame_to sends.now))) }
+    ensures { OnOk result (out.new.items ≡ out.old.items
+        ++ flat_map (λ e. line_text (lines.sent_line at e)) (enumerate_from first (map frame_to sends.now))) }
 {
     for (i, sending) in sends.iter().enumerate() {
         let frame = first.checked_add(i as u64).ok_or(NoMemory)?;
@@ -131,7 +133,8 @@ fn push_outcome(
     first: u64,
     outcome: &Outcome,
 ) -> Result<(), NoMemory>
-    ensures { OnOk result (out.new.items ≡ out.old.items ++ flat_map line_text (plain.outcome_lines at (handed_of handed) first (seen outcome.now))) }
+    ensures { OnOk result (out.new.items ≡ out.old.items
+        ++ flat_map line_text (plain.outcome_lines at (handed_of handed) first (seen outcome.now))) }
 {
     match outcome.verdict {
         EventVerdict::Refused(fault) => push_refusal(out, at, handed, fault),
@@ -170,7 +173,8 @@ fn push_lie(
     frame: u64,
     to: PidSet,
 ) -> Result<(), NoMemory>
-    ensures { OnOk result (out.new.items ≡ out.old.items ++ flat_map line_text (plain.lines_of (plain.Lies signer statement.now frame to))) }
+    ensures { OnOk result (out.new.items ≡ out.old.items
+        ++ flat_map line_text (plain.lines_of (plain.Lies signer statement.now frame to))) }
 {
     push_signed(out, signer, statement)?;
     push_sent(out, signer, frame, to)?;
@@ -211,7 +215,8 @@ fn push_happening(out: &mut Vec<u8>, happening: &Happening) -> Result<(), NoMemo
 }
 
 fn push_all(out: &mut Vec<u8>, told: &[Happening]) -> Result<(), NoMemory>
-    ensures { OnOk result (out.new.items ≡ out.old.items ++ flat_map (λ x. flat_map line_text (plain.lines_of x)) (map happening_of told.now)) }
+    ensures { OnOk result (out.new.items ≡ out.old.items
+        ++ flat_map (λ x. flat_map line_text (plain.lines_of x)) (map happening_of told.now)) }
 {
     for happening in told {
         push_happening(out, happening)?;
@@ -226,7 +231,8 @@ pub fn push_told(
     event: &ScheduleEvent,
     told: &[Happening],
 ) -> Result<(), NoMemory>
-    ensures { OnOk result (out.new.items ≡ out.old.items ++ flat_map line_text (event_lines n (views.event event.now) (map happening_of told.now))) }
+    ensures { OnOk result (out.new.items ≡ out.old.items
+        ++ flat_map line_text (event_lines n (views.event event.now) (map happening_of told.now))) }
 {
     push_event(out, n, event)?;
     push_all(out, told)?;

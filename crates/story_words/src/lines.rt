@@ -40,7 +40,8 @@ pub fn said_with_payload(
     words: &[Word<'_>],
     payload: &[u8],
 ) -> Result<(), NoMemory>
-    ensures { OnOk result (out.new.items ≡ out.old.items ++ line_text (of_process at (map spelled words.now ++ payload_words payload.now))) }
+    ensures { OnOk result (out.new.items ≡ out.old.items
+        ++ line_text (of_process at (map spelled words.now ++ payload_words payload.now))) }
 {
     begin_said(out, at, words)?;
     push_payload(out, payload)?;
@@ -85,7 +86,8 @@ pub fn said_with_update(
     words: &[Word<'_>],
     update: Update,
 ) -> Result<(), NoMemory>
-    ensures { OnOk result (out.new.items ≡ out.old.items ++ line_text (of_process at (map spelled words.now ++ update_words (update_of update)))) }
+    ensures { OnOk result (out.new.items ≡ out.old.items
+        ++ line_text (of_process at (map spelled words.now ++ update_words (update_of update)))) }
 {
     begin_said(out, at, words)?;
     push_update(out, update)?;
@@ -100,7 +102,8 @@ pub fn said_with_batch(
     words: &[Word<'_>],
     batch: &Batch,
 ) -> Result<(), NoMemory>
-    ensures { OnOk result (out.new.items ≡ out.old.items ++ line_text (of_process at (map spelled words.now ++ map message_word batch.now))) }
+    ensures { OnOk result (out.new.items ≡ out.old.items
+        ++ line_text (of_process at (map spelled words.now ++ map message_word batch.now))) }
 {
     begin_said(out, at, words)?;
     push_messages(out, batch.messages())?;

@@ -13,7 +13,8 @@ fn place(text: &[u8], at: u8) -> Option<usize>
 
 // The bytes before the first `at` and those behind it; all of them and None where there is none.
 fn cut(text: &[u8], at: u8) -> (&[u8], Option<&[u8]>)
-    ensures split { slice_split (λ c. c == at) text.now ≡ result.0.now ∷ option_map_or (λ rest. slice_split (λ c. c == at) rest.now) result.1 [] }
+    ensures split { slice_split (λ c. c == at) text.now
+        ≡ result.0.now ∷ option_map_or (λ rest. slice_split (λ c. c == at) rest.now) result.1 [] }
     ensures shorter { IfSome result.1 (λ rest. length rest.now < length text.now) }
 {
     match place(text, at) {

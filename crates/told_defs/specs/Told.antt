@@ -20,11 +20,13 @@ use Rattle.trace_defs.specs.Events.{event_line, cast_lines}
 
 -- the process of this number takes an event, where it is a correct one
 abbrev pub takes_in : Setting → World → ℕ → Handed → group.Event → List Happening
-takes_in s w p handed e = elim (player_of w p) [ None ↦ [] | Some c ↦ Takes p handed (length w.frames) (seen (outcome s c.now (turn_of c e))) ∷ [] ]
+takes_in s w p handed e = elim
+    (player_of w p) [ None ↦ [] | Some c ↦ Takes p handed (length w.frames) (seen (outcome s c.now (turn_of c e))) ∷ [] ]
 
 -- the frame of this number is handed to a process, where there is one
 abbrev pub gets_frame : Setting → World → ℕ → ℕ → List Happening
-gets_frame s w to frame = elim (slice_get w.frames frame) [ None ↦ [] | Some f ↦ takes_in s w to (Frame frame f.sender) (group.Hand f.sender (frame_said f.bytes)) ]
+gets_frame s w to frame = elim
+    (slice_get w.frames frame) [ None ↦ [] | Some f ↦ takes_in s w to (Frame frame f.sender) (group.Hand f.sender (frame_said f.bytes)) ]
 
 -- the frame of a delivery is lost
 abbrev pub loses : World → ℕ × ℕ → List Happening
@@ -39,12 +41,14 @@ next_tells s mask w d =
 -- so many times, or until none waits
 unfoldable pub drain_tells : Setting → ℕ → ℕ → World → List Happening
 drain_tells s mask zero w = []
-drain_tells s mask (suc more) w = elim (slice_get w.pending 0) [ None ↦ [] | Some d ↦ next_tells s mask w d ++ drain_tells s mask more (next_delivery s mask w d) ]
+drain_tells s mask (suc more) w = elim
+    (slice_get w.pending 0) [ None ↦ [] | Some d ↦ next_tells s mask w d ++ drain_tells s mask more (next_delivery s mask w d) ]
 
 -- a corrupt process lies, or has no signature left for it
 abbrev pub lie_tells : World → ℕ → Listed → List ℕ → List Happening
 lie_tells w mask l statement =
-    if nat_lt (lies_of w l.process) (key_total l.key) then Lies l.process statement (length w.frames) (members mask) ∷ [] else Silent l.process ∷ []
+    if nat_lt (lies_of w l.process) (key_total l.key) then Lies l.process statement (length w.frames) (members mask) ∷ []
+    else Silent l.process ∷ []
 
 -- the corrupt process of this number lies, where its statement is one
 abbrev pub liar_tells : Header → World → ℕ → ℕ → List ℕ → List Happening

@@ -8,7 +8,8 @@ use Rattle.trace_defs.specs.Phrases.{Line, number_and_colon, payload_words, proc
 -- what the schedule lets happen
 abbrev pub event_words : ScheduleEvent → Line
 event_words (Submit p payload) = decimal p ∷ codes "is asked to send" ∷ payload_words payload
-event_words (Raw to from bytes) = decimal (length bytes) ∷ codes "bytes are handed to" ∷ decimal to ∷ codes "as a frame of" ∷ decimal from ∷ []
+event_words (Raw to from bytes) = decimal (length bytes) ∷ codes "bytes are handed to" ∷ decimal to ∷ codes "as a frame of" ∷ decimal from
+    ∷ []
 event_words (Pass frame to) = codes "frame" ∷ decimal frame ∷ codes "is handed to" ∷ decimal to ∷ []
 event_words (Drain count mask) = codes "up to" ∷ decimal count ∷ codes "deliveries are made to" ∷ process_words (members mask)
 event_words (Lie signer mask statement) = decimal signer ∷ codes "lies to" ∷ process_words (members mask)

@@ -52,7 +52,8 @@ refusal_reason (NoNext fault) = update_reason fault
 
 -- what the process refuses, by the report's word, and why
 abbrev pub refusal_line : ℕ → Line → EventFault → Line
-refusal_line p what fault = of_process p (codes "refuses" ∷ what ++ (codes "as" ∷ refusal_word fault ∷ codes "since" ∷ refusal_reason fault ∷ []))
+refusal_line p what fault = of_process p
+    (codes "refuses" ∷ what ++ (codes "as" ∷ refusal_word fault ∷ codes "since" ∷ refusal_reason fault ∷ []))
 
 -- ---- what it heard, signed and sent
 
@@ -79,7 +80,8 @@ sent_line p frame = frame_line p frame.0 frame.1.0
 
 abbrev pub note_line : ℕ → Note → Line
 note_line p (Delivers x d) =
-    of_process p (codes "delivers" ∷ message_word d.message ∷ codes "at place" ∷ decimal d.place ∷ codes "of view" ∷ number_and_colon x ∷ payload_words d.payload)
+    of_process p (codes "delivers" ∷ message_word d.message ∷ codes "at place" ∷ decimal d.place ∷ codes "of view" ∷ number_and_colon x
+    ∷ payload_words d.payload)
 note_line p (Installs v) = of_process p (codes "installs view" ∷ number_and_colon v.number ∷ map decimal v.members)
 note_line p (Liar q) = of_process p (codes "names" ∷ decimal q ∷ codes "a liar" ∷ [])
 note_line p Spent = of_process p (codes "has no signature left for what is due" ∷ [])
@@ -103,7 +105,14 @@ pub record Seen : Type 0 where
 
 -- the outcome, seen from outside
 abbrev pub seen : Outcome → Seen
-seen o = record { verdict = o.verdict; heard = o.heard; signed = map signed_of o.signed; spent = o.spent; sends = flat_map frames_to o.sends; notes = o.notes }
+seen o = record {
+  verdict = o.verdict;
+  heard = o.heard;
+  signed = map signed_of o.signed;
+  spent = o.spent;
+  sends = flat_map frames_to o.sends;
+  notes = o.notes;
+}
 
 -- of an event that was taken: what process p signed, was told and sent, where its first frame gets this number
 abbrev pub taken_lines : ℕ → ℕ → Seen → List Line

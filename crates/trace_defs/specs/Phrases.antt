@@ -66,7 +66,8 @@ place_words kind x k batch = kind ∷ codes "of place" ∷ decimal k ∷ codes "
 -- at a rank of a view, of a value
 abbrev pub rank_words : Word → ℕ → ℕ → Value → Line
 rank_words kind x r v =
-    kind ∷ codes "at rank" ∷ decimal r ∷ codes "in view" ∷ number_and_colon x ∷ codes "cut" ∷ decimal v.cut ∷ codes "and" ∷ update_words v.update
+    kind ∷ codes "at rank" ∷ decimal r ∷ codes "in view" ∷ number_and_colon x ∷ codes "cut" ∷ decimal v.cut ∷ codes "and"
+    ∷ update_words v.update
 
 -- a report of no Ready, or of one at an earlier rank
 abbrev pub last_words : ℕ → ℕ → Option (ℕ × Value) → Line

@@ -47,11 +47,15 @@ impl OpenView {
         ensures same { IfErr result (λ e. e ≡ self) }
 
         // What decides is what the rank of the certificate decides.
-        ensures of_rank { (s : Setting) (p : Process) → keyed ≡ keyed_by s → p.pool.view ≡ view.now → certified_on p.pool (ReadyAt p.pool.view.number (rank_said (content_of commit.now))) ≡ Some (content_of commit.now) → decided_at s p.pool (rank_said (content_of commit.now)) ≡ option_map decided (result_ok result) }
+        ensures of_rank { (s : Setting) (p : Process) → keyed ≡ keyed_by s → p.pool.view ≡ view.now
+            → certified_on p.pool (ReadyAt p.pool.view.number (rank_said (content_of commit.now))) ≡ Some (content_of commit.now)
+            → decided_at s p.pool (rank_said (content_of commit.now)) ≡ option_map decided (result_ok result) }
 
         // Where no lesser rank decides, the process is decided so; where none does, nothing changes.
-        ensures decides { IfOk result (λ d. (s : Setting) (p : Process) → phase_of p ≡ defs.OpenView → decided_by s p.pool ≡ Some (decided d) → IsDecided d (decide s p)) }
-        ensures stays { IfErr result (λ e. (s : Setting) (p : Process) → phase_of p ≡ defs.OpenView → decided_by s p.pool ≡ None → decide s p ≡ p) }
+        ensures decides { IfOk result (λ d. (s : Setting) (p : Process) → phase_of p ≡ defs.OpenView
+            → decided_by s p.pool ≡ Some (decided d) → IsDecided d (decide s p)) }
+        ensures stays { IfErr result (λ e. (s : Setting) (p : Process) → phase_of p ≡ defs.OpenView → decided_by s p.pool ≡ None
+            → decide s p ≡ p) }
     {
         match decision(view, keyed, commit) {
             Some(decision) => Ok(DecidedView { decision }),
@@ -74,10 +78,13 @@ impl ClosingView {
         ensures same { IfErr result (λ e. e ≡ self) }
 
         // What decides is what the rank of the certificate decides.
-        ensures of_rank { (s : Setting) (p : Process) → keyed ≡ keyed_by s → p.pool.view ≡ view.now → certified_on p.pool (ReadyAt p.pool.view.number (rank_said (content_of commit.now))) ≡ Some (content_of commit.now) → decided_at s p.pool (rank_said (content_of commit.now)) ≡ option_map decided (result_ok result) }
+        ensures of_rank { (s : Setting) (p : Process) → keyed ≡ keyed_by s → p.pool.view ≡ view.now
+            → certified_on p.pool (ReadyAt p.pool.view.number (rank_said (content_of commit.now))) ≡ Some (content_of commit.now)
+            → decided_at s p.pool (rank_said (content_of commit.now)) ≡ option_map decided (result_ok result) }
 
         // Where no lesser rank decides, the process is decided so; where none does, nothing changes.
-        ensures decides { IfOk result (λ d. (s : Setting) (p : Process) → IsClosing self p → decided_by s p.pool ≡ Some (decided d) → IsDecided d (decide s p)) }
+        ensures decides { IfOk result (λ d. (s : Setting) (p : Process) → IsClosing self p → decided_by s p.pool ≡ Some (decided d)
+            → IsDecided d (decide s p)) }
         ensures stays { IfErr result (λ e. (s : Setting) (p : Process) → IsClosing self p → decided_by s p.pool ≡ None → decide s p ≡ p) }
     {
         match decision(view, keyed, commit) {
@@ -101,11 +108,15 @@ impl Observing {
         ensures same { IfErr result (λ e. e ≡ self) }
 
         // What decides is what the rank of the certificate decides.
-        ensures of_rank { (s : Setting) (p : Process) → keyed ≡ keyed_by s → p.pool.view ≡ view.now → certified_on p.pool (ReadyAt p.pool.view.number (rank_said (content_of commit.now))) ≡ Some (content_of commit.now) → decided_at s p.pool (rank_said (content_of commit.now)) ≡ option_map decided (result_ok result) }
+        ensures of_rank { (s : Setting) (p : Process) → keyed ≡ keyed_by s → p.pool.view ≡ view.now
+            → certified_on p.pool (ReadyAt p.pool.view.number (rank_said (content_of commit.now))) ≡ Some (content_of commit.now)
+            → decided_at s p.pool (rank_said (content_of commit.now)) ≡ option_map decided (result_ok result) }
 
         // Where no lesser rank decides, the process is decided so; where none does, nothing changes.
-        ensures decides { IfOk result (λ d. (s : Setting) (p : Process) → phase_of p ≡ defs.Observing → decided_by s p.pool ≡ Some (decided d) → IsDecided d (decide s p)) }
-        ensures stays { IfErr result (λ e. (s : Setting) (p : Process) → phase_of p ≡ defs.Observing → decided_by s p.pool ≡ None → decide s p ≡ p) }
+        ensures decides { IfOk result (λ d. (s : Setting) (p : Process) → phase_of p ≡ defs.Observing
+            → decided_by s p.pool ≡ Some (decided d) → IsDecided d (decide s p)) }
+        ensures stays { IfErr result (λ e. (s : Setting) (p : Process) → phase_of p ≡ defs.Observing → decided_by s p.pool ≡ None
+            → decide s p ≡ p) }
     {
         match decision(view, keyed, commit) {
             Some(decision) => Ok(DecidedView { decision }),

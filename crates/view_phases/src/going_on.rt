@@ -19,7 +19,8 @@ use stmt_codec::Batch;
 impl OpenView {
     /// The message whose Echo is due, as its sender and its number; None exactly where none is.
     pub fn echo_due(&self, pool: &Pool, own: &Own) -> Option<(Pid, u16)>
-        ensures least { (s : Setting) (p : Process) → IsPool pool.now.pool → Tells s p pool.now.pool own.now → least_due s p Echoes ≡ option_map (echo_to p) result }
+        ensures least { (s : Setting) (p : Process) → IsPool pool.now.pool → Tells s p pool.now.pool own.now
+            → least_due s p Echoes ≡ option_map (echo_to p) result }
         ensures heard { IfSome result (λ e. IsSome (heard_on pool.now.pool e.0 (plain.InitAt pool.now.pool.view.number e.1))) }
     {
         rules::echo_due(pool, own)
@@ -31,21 +32,24 @@ impl OpenView {
         requires own { length own.now.orders.items ≡ number_of_members pool.now.pool }
         requires some { 1 ≤ batch_limit }
         requires few { batch_limit ≤ 16 }
-        ensures { (s : Setting) (p : Process) → IsPool pool.now.pool → Tells s p pool.now.pool own.now → p.batch_limit ≡ batch_limit → least_due s p Orders ≡ option_map (λ e. plain.Order pool.now.pool.view.number e.0 e.1) result }
+        ensures { (s : Setting) (p : Process) → IsPool pool.now.pool → Tells s p pool.now.pool own.now → p.batch_limit ≡ batch_limit
+            → least_due s p Orders ≡ option_map (λ e. plain.Order pool.now.pool.view.number e.0 e.1) result }
     {
         rules::order_due(pool, own, batch_limit)
     }
 
     /// The place whose Place is due, with its batch; None exactly where none is.
     pub fn place_due(&self, pool: &Pool, own: &Own) -> Option<(u16, Batch)>
-        ensures { (s : Setting) (p : Process) → IsPool pool.now.pool → Tells s p pool.now.pool own.now → least_due s p Places ≡ option_map (λ e. plain.Place pool.now.pool.view.number e.0 e.1) result }
+        ensures { (s : Setting) (p : Process) → IsPool pool.now.pool → Tells s p pool.now.pool own.now
+            → least_due s p Places ≡ option_map (λ e. plain.Place pool.now.pool.view.number e.0 e.1) result }
     {
         rules::place_due(pool, own)
     }
 
     /// The place whose Keep is due, with its batch; None exactly where none is.
     pub fn keep_due(&self, pool: &Pool, own: &Own) -> Option<(u16, Batch)>
-        ensures { (s : Setting) (p : Process) → Tells s p pool.now.pool own.now → least_due s p Keeps ≡ option_map (λ e. plain.Keep pool.now.pool.view.number e.0 e.1) result }
+        ensures { (s : Setting) (p : Process) → Tells s p pool.now.pool own.now
+            → least_due s p Keeps ≡ option_map (λ e. plain.Keep pool.now.pool.view.number e.0 e.1) result }
     {
         rules::keep_due(pool, own)
     }

@@ -92,7 +92,8 @@ impl Phase {
         ensures word { as_phase result ≡ (if views.is_member view.now me then defs.OpenView else defs.Observing) }
 
         // So is a process that has signed no End of the view, and has no decision of it.
-        ensures begins { (p : Process) → p.pool.view ≡ view.now → p.me ≡ me → p.halted ≡ false → p.decision ≡ None → is_ended p ≡ false → IsIn result p }
+        ensures begins { (p : Process) → p.pool.view ≡ view.now → p.me ≡ me → p.halted ≡ false → p.decision ≡ None → is_ended p ≡ false
+            → IsIn result p }
     {
         if view.is_member(me) {
             Phase::OpenView(OpenView(()))
@@ -119,7 +120,8 @@ impl OpenView {
     /// The phase behind the own End of this length, which is signed: 0 to 1,024 places.
     pub fn close(self, length: u16) -> ClosingView
         ensures length { result.length ≡ length }
-        ensures closes { (s : Setting) (signer : Signer) (p : Process) → defs.phase_of p ≡ defs.OpenView → IsClosing result (signs s signer p (End p.pool.view.number length)) }
+        ensures closes { (s : Setting) (signer : Signer) (p : Process) → defs.phase_of p ≡ defs.OpenView
+            → IsClosing result (signs s signer p (End p.pool.view.number length)) }
     {
         ClosingView { length }
     }

@@ -92,7 +92,8 @@ fn with(members: &[Pid], p: Pid) -> Members
 
 // The members after the update, or the first reason, beside the number, why there are none.
 fn members_after(view: &View, update: Update) -> Result<Members, UpdateFault>
-    ensures follows { IfOk result (λ ms. (first_that_holds (views.update_faults view.now (base.update update)) ≡ None) × (ms.items ≡ views.members_after view.now.members (base.update update))) }
+    ensures follows { IfOk result (λ ms. (first_that_holds (views.update_faults view.now (base.update update)) ≡ None)
+        × (ms.items ≡ views.members_after view.now.members (base.update update))) }
     ensures refused { IfErr result (λ e. first_that_holds (views.update_faults view.now (base.update update)) ≡ Some (fault e)) }
 {
     let members = view.members.as_slice();
