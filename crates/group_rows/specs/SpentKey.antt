@@ -18,7 +18,8 @@ turns_0 =
 
 unfoldable pub answers_0 : List Seen
 answers_0 =
-    (None, ((Init 0 0 (97 ∷ [])) ∷ (Echo 0 (msg 0 0) (97 ∷ [])) ∷ (Order 0 0 (msg 0 0 ∷ [])) ∷ (Place 0 0 (msg 0 0 ∷ [])) ∷ []), ([]), (Spent ∷ []))
+    (None, ((Init 0 0 (97 ∷ [])) ∷ (Echo 0 (msg 0 0) (97 ∷ [])) ∷ (Order 0 0 (msg 0 0 ∷ [])) ∷ (Place 0 0 (msg 0 0 ∷ [])) ∷ []), ([]),
+      (Spent ∷ []))
     ∷ []
 
 unfoldable pub f : Family
@@ -27,5 +28,6 @@ f = record { setting = s; correct = (record { me = 0; batch_limit = 1; turns = t
 -- the row: what the definitions give
 pub record SpentKey : Type 0 where
   pub row_0 : seen s (start s 0 1) turns_0 ≡ answers_0
-  pub judged : honest f ∷ bounded (accounts f) (numbers f) ∷ agree (accounts f) ∷ sound (accounts f) (keyed f.setting) ∷ [] ≡ true ∷ true ∷ true ∷ true ∷ []
+  pub judged : honest f ∷ bounded (accounts f) (numbers f) ∷ agree (accounts f) ∷ sound (accounts f) (keyed f.setting) ∷ []
+    ≡ true ∷ true ∷ true ∷ true ∷ []
   pub premises : Premises f
