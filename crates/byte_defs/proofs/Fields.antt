@@ -29,7 +29,8 @@ module _ {E : Type 0} where
   bind_ok (Err d) f y e = absurd cc
 
   -- a test that did not refuse
-  pub refuse_ok : {B : Type 0} (b : Bool) (d : E) (f : Unit {0} → Result B E) (y : B) → (refuse_if b d >>= f) ≡ Ok y → (b ≡ false) × (f tt ≡ Ok y)
+  pub refuse_ok : {B : Type 0} (b : Bool) (d : E) (f : Unit {0} → Result B E) (y : B) → (refuse_if b d >>= f) ≡ Ok y
+      → (b ≡ false) × (f tt ≡ Ok y)
   refuse_ok true d f y e = absurd cc
   refuse_ok false d f y e = (refl, e)
 
@@ -50,7 +51,10 @@ pub record Takes (bytes text rest : List ℕ) : Type 0 where
   pub rest_fits : IsBytes rest
 
 pub Takes-then : (a x b y c : List ℕ) → Takes a x b → Takes b y c → Takes a (x ++ y) c
-Takes-then a x b y c p q = record { parts = p.parts ∙ ap (λ (t : List ℕ). x ++ t) q.parts ∙ sym (append_assoc x y c); rest_fits = q.rest_fits }
+Takes-then a x b y c p q = record {
+  parts = p.parts ∙ ap (λ (t : List ℕ). x ++ t) q.parts ∙ sym (append_assoc x y c);
+  rest_fits = q.rest_fits;
+}
 
 -- ---- numbers of a width
 
@@ -90,23 +94,34 @@ wide32 = record {
 }
 
 module _ {E : Type 0} (fault : E) where
-  pub number_takes : (w : Width) (limit : ℕ) (wide : IsWide w limit) (bytes : List ℕ) (n : ℕ) (rest : List ℕ) → IsBytes bytes → number_at fault w bytes ≡ Ok (n, rest) → Takes bytes (to_be_bytes w n) rest × (n < limit)
+  pub number_takes : (w : Width) (limit : ℕ) (wide : IsWide w limit) (bytes : List ℕ) (n : ℕ) (rest : List ℕ) → IsBytes bytes
+      → number_at fault w bytes ≡ Ok (n, rest) → Takes bytes (to_be_bytes w n) rest × (n < limit)
   number_takes w limit wide bytes n rest fits e =
-      let g = guard_ok (ltb (length bytes) (byte_len w)) fault (from_be_bytes w (take (byte_len w) bytes), drop (byte_len w) bytes) (n, rest) e in
+      let g = guard_ok (ltb (length bytes) (byte_len w)) fault (from_be_bytes w (take (byte_len w) bytes), drop (byte_len w) bytes)
+      (n, rest) e in
       let long : byte_len w ≤ length bytes = ltb-false _ _ g.0 in
       let n-is : from_be_bytes w (take (byte_len w) bytes) ≡ n = ap (λ (p : ℕ × List ℕ). p.0) g.1 in
       let rest-is : drop (byte_len w) bytes ≡ rest = ap (λ (p : ℕ × List ℕ). p.1) g.1 in
-      let front : to_be_bytes w n ≡ take (byte_len w) bytes = rw (← n-is) (wide.back (take (byte_len w) bytes) (omega (arith, length-take (byte_len w) bytes)) (IsBytes-take (byte_len w) bytes fits)) in
-      (record { parts = rw (front, ← rest-is) (sym (take-append-drop (byte_len w) bytes)); rest_fits = rw (← rest-is) (IsBytes-drop (byte_len w) bytes fits) }, rw (← n-is) (wide.below (take (byte_len w) bytes) (IsBytes-take (byte_len w) bytes fits)))
+      let front : to_be_bytes w n ≡ take (byte_len w) bytes = rw (← n-is)
+      (wide.back (take (byte_len w) bytes) (omega (arith, length-take (byte_len w) bytes)) (IsBytes-take (byte_len w) bytes fits)) in (
+        record {
+          parts = rw (front, ← rest-is) (sym (take-append-drop (byte_len w) bytes));
+          rest_fits = rw (← rest-is) (IsBytes-drop (byte_len w) bytes fits);
+        },
+        rw (← n-is) (wide.below (take (byte_len w) bytes) (IsBytes-take (byte_len w) bytes fits)),
+      )
 
-  pub number_again : (w : Width) (limit : ℕ) (wide : IsWide w limit) (n : ℕ) (rest : List ℕ) → n < limit → number_at fault w (to_be_bytes w n ++ rest) ≡ Ok (n, rest)
+  pub number_again : (w : Width) (limit : ℕ) (wide : IsWide w limit) (n : ℕ) (rest : List ℕ) → n < limit
+      → number_at fault w (to_be_bytes w n ++ rest) ≡ Ok (n, rest)
   number_again w limit wide n rest lt =
       let len = wide.len n in
-      let long : ltb (length (to_be_bytes w n ++ rest)) (byte_len w) ≡ false = le-ltb _ _ (omega (arith, length-append (to_be_bytes w n) rest)) in
+      let long : ltb (length (to_be_bytes w n ++ rest)) (byte_len w)
+      ≡ false = le-ltb _ _ (omega (arith, length-append (to_be_bytes w n) rest)) in
       rw (long, take_at (to_be_bytes w n) rest (byte_len w) len, drop_at (to_be_bytes w n) rest (byte_len w) len, wide.again n lt) refl
 
   -- one byte stands for itself
-  pub byte_takes : (bytes : List ℕ) (n : ℕ) (rest : List ℕ) → IsBytes bytes → number_at fault w8 bytes ≡ Ok (n, rest) → Takes bytes (n ∷ []) rest × (n < 256)
+  pub byte_takes : (bytes : List ℕ) (n : ℕ) (rest : List ℕ) → IsBytes bytes → number_at fault w8 bytes ≡ Ok (n, rest)
+      → Takes bytes (n ∷ []) rest × (n < 256)
   byte_takes bytes n rest fits e =
       let t = number_takes w8 256 wide8 bytes n rest fits e in
       let same : n % 256 ≡ n = omega (arith, t.1) in
@@ -115,25 +130,29 @@ module _ {E : Type 0} (fault : E) where
   pub byte_again : (n : ℕ) (rest : List ℕ) → number_at fault w8 (n ∷ rest) ≡ Ok (n, rest)
   byte_again n rest = let long : ltb (suc (length rest)) 1 ≡ false = le-ltb _ _ (omega arith) in rw long refl
 
-  pub short_takes : (bytes : List ℕ) (n : ℕ) (rest : List ℕ) → IsBytes bytes → number_at fault w16 bytes ≡ Ok (n, rest) → Takes bytes (two_bytes n) rest × (n < 65536)
+  pub short_takes : (bytes : List ℕ) (n : ℕ) (rest : List ℕ) → IsBytes bytes → number_at fault w16 bytes ≡ Ok (n, rest)
+      → Takes bytes (two_bytes n) rest × (n < 65536)
   short_takes bytes n rest fits e = number_takes w16 65536 wide16 bytes n rest fits e
 
   pub short_again : (n : ℕ) (rest : List ℕ) → n < 65536 → number_at fault w16 (two_bytes n ++ rest) ≡ Ok (n, rest)
   short_again n rest lt = number_again w16 65536 wide16 n rest lt
 
-  pub long_takes : (bytes : List ℕ) (n : ℕ) (rest : List ℕ) → IsBytes bytes → number_at fault w32 bytes ≡ Ok (n, rest) → Takes bytes (four_bytes n) rest × (n < 4294967296)
+  pub long_takes : (bytes : List ℕ) (n : ℕ) (rest : List ℕ) → IsBytes bytes → number_at fault w32 bytes ≡ Ok (n, rest)
+      → Takes bytes (four_bytes n) rest × (n < 4294967296)
   long_takes bytes n rest fits e = number_takes w32 4294967296 wide32 bytes n rest fits e
 
   pub long_again : (n : ℕ) (rest : List ℕ) → n < 4294967296 → number_at fault w32 (four_bytes n ++ rest) ≡ Ok (n, rest)
   long_again n rest lt = number_again w32 4294967296 wide32 n rest lt
 
   -- so many bytes
-  pub bytes_takes : (n : ℕ) (bytes out rest : List ℕ) → IsBytes bytes → bytes_at fault n bytes ≡ Ok (out, rest) → Takes bytes out rest × (length out ≡ n)
+  pub bytes_takes : (n : ℕ) (bytes out rest : List ℕ) → IsBytes bytes → bytes_at fault n bytes ≡ Ok (out, rest)
+      → Takes bytes out rest × (length out ≡ n)
   bytes_takes n bytes out rest fits e =
       let g = guard_ok (ltb (length bytes) n) fault (take n bytes, drop n bytes) (out, rest) e in
       let long : n ≤ length bytes = ltb-false _ _ g.0 in
       let len : length (take n bytes) ≡ n = omega (arith, length-take n bytes) in
-      subst (λ (p : List ℕ × List ℕ). Takes bytes p.0 p.1 × (length p.0 ≡ n)) g.1 (record { parts = sym (take-append-drop n bytes); rest_fits = IsBytes-drop n bytes fits }, len)
+      subst (λ (p : List ℕ × List ℕ). Takes bytes p.0 p.1 × (length p.0 ≡ n)) g.1
+      (record { parts = sym (take-append-drop n bytes); rest_fits = IsBytes-drop n bytes fits }, len)
 
   pub bytes_again : (out rest : List ℕ) → bytes_at fault (length out) (out ++ rest) ≡ Ok (out, rest)
   bytes_again out rest =

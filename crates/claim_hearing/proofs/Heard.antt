@@ -22,18 +22,22 @@ use Rattle.claim_hearing.specs.Hearing.{Shares, IsHeard}
 
 -- where nothing is heard on its slot, a claim adds no conflict
 pub none-kept : (p : Process) (c : Claim) → claim_on p.pool.heard c.signer (slot_of c.statement) ≡ None → p.conflicts ≡ kept_conflicts p c
-none-kept p c none = sym (ap (λ o. if list_any (λ pair. pair.1.signer == c.signer) p.conflicts then p.conflicts else p.conflicts ++ elim o [ None ↦ [] | Some first ↦ (first, c) ∷ [] ]) none ∙ either (list_any (λ pair. pair.1.signer == c.signer) p.conflicts))
+none-kept p c none = sym (ap (λ o. if list_any (λ pair. pair.1.signer == c.signer) p.conflicts then p.conflicts
+    else p.conflicts ++ elim o [ None ↦ [] | Some first ↦ (first, c) ∷ [] ]) none ∙ either
+    (list_any (λ pair. pair.1.signer == c.signer) p.conflicts))
   where
     either : (b : Bool) → (if b then p.conflicts else p.conflicts ++ []) ≡ p.conflicts
     either true = refl
     either false = append-nil p.conflicts
 
 -- a heard claim's signature is short
-pub heard-short : (h : Pool) → IsPool h → (a : ℕ) (c d : Claim) → claim_on h.heard a (slot_of c.statement) ≡ Some d → length d.signature ≤ 16384
+pub heard-short : (h : Pool) → IsPool h → (a : ℕ) (c d : Claim) → claim_on h.heard a (slot_of c.statement) ≡ Some d
+    → length d.signature ≤ 16384
 heard-short h pool a c d e = (All-mem IsClaim h.heard d pool.in_range (find-is _ h.heard d e).0).2
 
 -- claims are judged by the rule, the group and the keys alone
-pub same-verdict : (s : Setting) (valid : List ℕ → List ℕ → List ℕ → Bool) (group : List ℕ) (roster : List (ℕ × List ℕ)) → Shares s valid group roster → (p : Process) (c : Claim) → verdict (as_setting valid group roster) p c ≡ verdict s p c
+pub same-verdict : (s : Setting) (valid : List ℕ → List ℕ → List ℕ → Bool) (group : List ℕ) (roster : List (ℕ × List ℕ))
+    → Shares s valid group roster → (p : Process) (c : Claim) → verdict (as_setting valid group roster) p c ≡ verdict s p c
 same-verdict s valid group roster shares p c =
     let bound = sym shares.bound in
     let keys = sym shares.keys in
@@ -73,13 +77,17 @@ no-conflict codes.Known not' e = absurd cc
 no-conflict codes.Unsigned not' e = absurd cc
 no-conflict codes.Heard not' e = absurd cc
 
-module _ (s : Setting) (valid : List ℕ → List ℕ → List ℕ → Bool) (group : List ℕ) (roster : List (ℕ × List ℕ)) (shares : Shares s valid group roster) (p : Process) (c : Claim) where
+module _ (s : Setting) (valid : List ℕ → List ℕ → List ℕ → Bool) (group : List ℕ) (roster : List (ℕ × List ℕ))
+    (shares : Shares s valid group roster) (p : Process) (c : Claim) where
   -- a conflict keeps the pair
-  pub conflict-kept : Conflict ≡ verdict (as_setting valid group roster) p c → (h : Pool) (cs : List (Claim × Claim)) → p.pool ≡ h → cs ≡ kept_conflicts p c → IsHeard (hear s p c) h cs
-  conflict-kept e h cs pool kept = subst (λ v. IsHeard (with_verdict v p c) h cs) (e ∙ same-verdict s valid group roster shares p c) (record { pool = pool; pairs = sym kept })
+  pub conflict-kept : Conflict ≡ verdict (as_setting valid group roster) p c → (h : Pool) (cs : List (Claim × Claim)) → p.pool ≡ h
+      → cs ≡ kept_conflicts p c → IsHeard (hear s p c) h cs
+  conflict-kept e h cs pool kept = subst (λ v. IsHeard (with_verdict v p c) h cs) (e ∙ same-verdict s valid group roster shares p c)
+      (record { pool = pool; pairs = sym kept })
 
   -- another verdict changes the pool alone
-  pub heard-as : (v : Verdict) → (v ≡ Conflict → ⊥) → v ≡ verdict (as_setting valid group roster) p c → (h h' : Pool) (cs : List (Claim × Claim)) → p.pool ≡ h → h' ≡ after v h c → p.conflicts ≡ cs → IsHeard (hear s p c) h' cs
+  pub heard-as : (v : Verdict) → (v ≡ Conflict → ⊥) → v ≡ verdict (as_setting valid group roster) p c
+      → (h h' : Pool) (cs : List (Claim × Claim)) → p.pool ≡ h → h' ≡ after v h c → p.conflicts ≡ cs → IsHeard (hear s p c) h' cs
   heard-as v not' e h h' cs pool now pairs =
       let is = heard-by v p c not' in
       subst (λ v. IsHeard (with_verdict v p c) h' cs) (e ∙ same-verdict s valid group roster shares p c)
@@ -92,8 +100,11 @@ pool-kept s p c range pool = go (verdict s p c) refl
     go : (v : Verdict) → verdict s p c ≡ v → IsPool (with_verdict v p c).pool
     go Heard e = record {
       view = pool.view;
-      of_view = mem-All (IsOfView p.pool.view) (p.pool.heard ++ c ∷ []) (each-snoc (IsOfView p.pool.view) p.pool.heard c (λ d m. All-mem (IsOfView p.pool.view) p.pool.heard d pool.of_view m) (verdict-of-view s p c e));
-      in_range = mem-All IsClaim (p.pool.heard ++ c ∷ []) (each-snoc IsClaim p.pool.heard c (λ d m. All-mem IsClaim p.pool.heard d pool.in_range m) range);
+      of_view = mem-All (IsOfView p.pool.view) (p.pool.heard ++ c ∷ [])
+          (each-snoc (IsOfView p.pool.view) p.pool.heard c (λ d m. All-mem (IsOfView p.pool.view) p.pool.heard d pool.of_view m)
+          (verdict-of-view s p c e));
+      in_range = mem-All IsClaim (p.pool.heard ++ c ∷ [])
+          (each-snoc IsClaim p.pool.heard c (λ d m. All-mem IsClaim p.pool.heard d pool.in_range m) range);
     }
     go Conflict e = pool
     go Old e = pool
@@ -118,7 +129,8 @@ delivered-kept s p c own is = go (verdict s p c)
     go Unsigned = is
 
 -- where claims are left to be heard, one at a time leads to the same end
-pub one-heard : (s : Setting) (p : Process) (c : Claim) (old left : List Claim) → old ≡ c ∷ left → hear_all s (hear s p c) left ≡ hear_all s p old
+pub one-heard : (s : Setting) (p : Process) (c : Claim) (old left : List Claim) → old ≡ c ∷ left
+    → hear_all s (hear s p c) left ≡ hear_all s p old
 unfolding hear_all
 one-heard s p c old left steps = sym (ap (hear_all s p) steps)
 

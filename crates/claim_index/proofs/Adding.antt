@@ -35,7 +35,9 @@ module _ (bytes more : List ℕ) where
   claim_stays : (p : ℕ) (k : Kept) → past k ≤ length bytes → claim_with (bytes ++ more) p k ≡ claim_with bytes p k
   claim_stays p k within =
       let statement : statement_bytes (bytes ++ more) k ≡ statement_bytes bytes k = statement_stays k within in
-      let signature : slice_range (bytes ++ more) (middle k) (past k) ≡ slice_range bytes (middle k) (past k) = range_stays bytes more (k.start + k.said) (k.start + k.said + k.signed) (omega arith) within in
+      let signature : slice_range (bytes ++ more) (middle k) (past k)
+      ≡ slice_range bytes (middle k) (past k) = range_stays bytes more (k.start + k.said) (k.start + k.said + k.signed)
+      (omega arith) within in
       λ i. record { signer = p; statement = spelled (statement i); signature = signature i }
 
   kept_stays : (e : Key × Kept) → IsKept bytes e → IsKept (bytes ++ more) e
@@ -58,7 +60,8 @@ module _ (bytes more : List ℕ) where
 
 -- ---- what comes
 
-are_kept_push : (bytes : List ℕ) (es : List (Key × Kept)) (e : Key × Kept) → AreKept bytes es → IsKept bytes e → AreKept bytes (es ++ e ∷ [])
+are_kept_push : (bytes : List ℕ) (es : List (Key × Kept)) (e : Key × Kept) → AreKept bytes es → IsKept bytes e
+    → AreKept bytes (es ++ e ∷ [])
 are_kept_push bytes [] e kept new = (new, tt)
 are_kept_push bytes (x ∷ es) e kept new = (kept.0, are_kept_push bytes es e kept.1 new)
 
@@ -69,7 +72,8 @@ none-from_map f (Some a) e = absurd cc
 spelled_again : (st : Statement) → IsStatement st → spelled (spelling st) ≡ st
 spelled_again st fits = rw (spelling_again st fits, spelled) refl
 
-module _ (bytes : List ℕ) (c : Claim) (k : Kept) (start : k.start ≡ length bytes) (said : k.said ≡ length (spelling c.statement)) (signed : k.signed ≡ length c.signature) where
+module _ (bytes : List ℕ) (c : Claim) (k : Kept) (start : k.start ≡ length bytes) (said : k.said ≡ length (spelling c.statement))
+    (signed : k.signed ≡ length c.signature) where
   abbrev now : List ℕ
   now = bytes ++ (spelling c.statement ++ c.signature)
 
@@ -95,7 +99,8 @@ module _ (bytes : List ℕ) (c : Claim) (k : Kept) (start : k.start ≡ length b
 
   new_kept : IsStatement c.statement → IsKept now (key_of c.signer (slot_of c.statement), k)
   new_kept fits =
-      let statement : c.statement ≡ spelled (statement_bytes now k) = sym (spelled_again c.statement fits) ∙ ap spelled (sym new_statement) in
+      let statement : c.statement ≡ spelled (statement_bytes now k) = sym (spelled_again c.statement fits) ∙ ap spelled
+      (sym new_statement) in
       let read : statement_of (statement_bytes now k) ≡ Ok c.statement = ap statement_of new_statement ∙ spelling_again c.statement fits in
       record {
         within = omega (arith, length-append bytes (spelling c.statement ++ c.signature), length-append (spelling c.statement) c.signature);
@@ -105,30 +110,46 @@ module _ (bytes : List ℕ) (c : Claim) (k : Kept) (start : k.start ≡ length b
       }
 
   -- its entry behind the others
-  pub pushed_kept : (es : List (Key × Kept)) → AreKept bytes es → IsStatement c.statement → AreKept now (es ++ (key_of c.signer (slot_of c.statement), k) ∷ [])
-  pushed_kept es kept fits = are_kept_push now es (key_of c.signer (slot_of c.statement), k) (are_kept bytes (spelling c.statement ++ c.signature) es kept) (new_kept fits)
+  pub pushed_kept : (es : List (Key × Kept)) → AreKept bytes es → IsStatement c.statement
+      → AreKept now (es ++ (key_of c.signer (slot_of c.statement), k) ∷ [])
+  pushed_kept es kept fits = are_kept_push now es (key_of c.signer (slot_of c.statement), k)
+      (are_kept bytes (spelling c.statement ++ c.signature) es kept) (new_kept fits)
 
-  pub pushed_heard : (es : List (Key × Kept)) → AreKept bytes es → IsStatement c.statement → heard_in now (es ++ (key_of c.signer (slot_of c.statement), k) ∷ []) ≡ heard_in bytes es ++ c ∷ []
+  pub pushed_heard : (es : List (Key × Kept)) → AreKept bytes es → IsStatement c.statement
+      → heard_in now (es ++ (key_of c.signer (slot_of c.statement), k) ∷ []) ≡ heard_in bytes es ++ c ∷ []
   pushed_heard es kept fits =
       map-append (claim_at now) es ((key_of c.signer (slot_of c.statement), k) ∷ [])
       ∙ (λ i. heard_stays bytes (spelling c.statement ++ c.signature) es kept i ++ new_claim fits i ∷ [])
 
-  module _ {S : Type 0} (m : IndexMap Key Kept S) (kept : AreKept bytes m.entries) (fits : IsStatement c.statement) (fresh : claim_on (heard_in bytes m.entries) c.signer (slot_of c.statement) ≡ None) where
-    grown : insert_entry same_key m.entries (key_of c.signer (slot_of c.statement)) k ≡ m.entries ++ (key_of c.signer (slot_of c.statement), k) ∷ []
-    grown = insert_entry-new same_key m (key_of c.signer (slot_of c.statement)) k (none-from_map (claim_with bytes c.signer) _ (lookup_is_claim bytes m.entries kept c.signer (slot_of c.statement) ∙ fresh))
+  module _ {S : Type 0} (m : IndexMap Key Kept S) (kept : AreKept bytes m.entries) (fits : IsStatement c.statement)
+      (fresh : claim_on (heard_in bytes m.entries) c.signer (slot_of c.statement) ≡ None) where
+    grown : insert_entry same_key m.entries (key_of c.signer (slot_of c.statement)) k ≡ m.entries
+        ++ (key_of c.signer (slot_of c.statement), k) ∷ []
+    grown = insert_entry-new same_key m (key_of c.signer (slot_of c.statement)) k
+        (none-from_map (claim_with bytes c.signer) _ (lookup_is_claim bytes m.entries kept c.signer (slot_of c.statement) ∙ fresh))
 
     pub all_kept : AreKept now (insert_entry same_key m.entries (key_of c.signer (slot_of c.statement)) k)
     all_kept = subst (AreKept now) (sym grown) (pushed_kept m.entries kept fits)
 
-    pub all_heard : heard_in now (insert_entry same_key m.entries (key_of c.signer (slot_of c.statement)) k) ≡ heard_in bytes m.entries ++ c ∷ []
+    pub all_heard : heard_in now (insert_entry same_key m.entries (key_of c.signer (slot_of c.statement)) k) ≡ heard_in bytes m.entries
+        ++ c ∷ []
     all_heard = ap (heard_in now) grown ∙ pushed_heard m.entries kept fits
 
-    pub all_filled : length bytes ≡ sum_by claim_bytes (heard_in bytes m.entries) → length now ≡ sum_by claim_bytes (heard_in now (insert_entry same_key m.entries (key_of c.signer (slot_of c.statement)) k))
+    pub all_filled : length bytes ≡ sum_by claim_bytes (heard_in bytes m.entries)
+        → length now ≡ sum_by claim_bytes (heard_in now (insert_entry same_key m.entries (key_of c.signer (slot_of c.statement)) k))
     all_filled filled =
         let one_more = ap (sum_by claim_bytes) all_heard ∙ sum_by_push claim_bytes (heard_in bytes m.entries) c in
-        omega (arith, filled, one_more, length-append bytes (spelling c.statement ++ c.signature), length-append (spelling c.statement) c.signature)
+        omega (
+          arith,
+          filled,
+          one_more,
+          length-append bytes (spelling c.statement ++ c.signature),
+          length-append (spelling c.statement) c.signature,
+        )
 
     -- its kind is noted
-    pub all_noted : (kinds : List Bool) (n : ℕ) → n ≡ kind_number c.statement → length kinds ≡ 12 → AreNoted kinds (heard_in bytes m.entries)
+    pub all_noted : (kinds : List Bool) (n : ℕ) → n ≡ kind_number c.statement → length kinds ≡ 12
+        → AreNoted kinds (heard_in bytes m.entries)
         → AreNoted (slice_set kinds n true) (heard_in now (insert_entry same_key m.entries (key_of c.signer (slot_of c.statement)) k))
-    all_noted kinds n is twelve noted = subst (AreNoted (slice_set kinds n true)) (sym all_heard) (one-noted kinds (heard_in bytes m.entries) c n (sym is) (omega (arith, is, twelve, kind-below c.statement)) noted)
+    all_noted kinds n is twelve noted = subst (AreNoted (slice_set kinds n true)) (sym all_heard)
+        (one-noted kinds (heard_in bytes m.entries) c n (sym is) (omega (arith, is, twelve, kind-below c.statement)) noted)

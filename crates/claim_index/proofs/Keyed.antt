@@ -24,7 +24,9 @@ same_slot_key-is a b e =
 
 pub is-same_slot_key : (a b : SlotKey) → a ≡ b → same_slot_key a b ≡ true
 is-same_slot_key a b e =
-    both-true _ _ (eq-eqb _ _ (ap (λ (k : SlotKey). k.kind) e)) (both-true _ _ (eq-eqb _ _ (ap (λ (k : SlotKey). k.first) e)) (both-true _ _ (eq-eqb _ _ (ap (λ (k : SlotKey). k.view) e)) (eq-eqb _ _ (ap (λ (k : SlotKey). k.second) e))))
+    both-true _ _ (eq-eqb _ _ (ap (λ (k : SlotKey). k.kind) e))
+    (both-true _ _ (eq-eqb _ _ (ap (λ (k : SlotKey). k.first) e))
+    (both-true _ _ (eq-eqb _ _ (ap (λ (k : SlotKey). k.view) e)) (eq-eqb _ _ (ap (λ (k : SlotKey). k.second) e))))
 
 pub same_key-is : (a b : Key) → same_key a b ≡ true → a ≡ b
 same_key-is a b e =
@@ -85,4 +87,5 @@ agreeing p q s t e =
 
 -- the test of a claim is the test of its key
 pub same_key-of : (p q : ℕ) (s t : Slot) → same_key (key_of p s) (key_of q t) ≡ ((q == p) && same_slot t s)
-same_key-of p q s t = same_from_decides {P = key_of p s ≡ key_of q t} (same_key (key_of p s) (key_of q t)) ((q == p) && same_slot t s) (same_key-is (key_of p s) (key_of q t), is-same_key (key_of p s) (key_of q t)) (keys-agree p q s t, agreeing p q s t)
+same_key-of p q s t = same_from_decides {P = key_of p s ≡ key_of q t} (same_key (key_of p s) (key_of q t)) ((q == p) && same_slot t s)
+    (same_key-is (key_of p s) (key_of q t), is-same_key (key_of p s) (key_of q t)) (keys-agree p q s t, agreeing p q s t)

@@ -29,11 +29,15 @@ or-false true = refl
 or-false false = refl
 
 -- a claim more, whose kind has this number
-pub one-noted : (kinds : List Bool) (cs : List Claim) (c : Claim) (n : ℕ) → kind_number c.statement ≡ n → n < length kinds → AreNoted kinds cs → AreNoted (slice_set kinds n true) (cs ++ c ∷ [])
-one-noted kinds cs c n is lt noted kind = go (n == kind) refl ∙ ap (λ k. is_kind_heard cs kind || (k == kind || false)) (sym is) ∙ sym (list_any-append (λ (d : Claim). kind_number d.statement == kind) cs (c ∷ []))
+pub one-noted : (kinds : List Bool) (cs : List Claim) (c : Claim) (n : ℕ) → kind_number c.statement ≡ n → n < length kinds
+    → AreNoted kinds cs → AreNoted (slice_set kinds n true) (cs ++ c ∷ [])
+one-noted kinds cs c n is lt noted kind = go (n == kind) refl ∙ ap (λ k. is_kind_heard cs kind || (k == kind || false))
+    (sym is) ∙ sym (list_any-append (λ (d : Claim). kind_number d.statement == kind) cs (c ∷ []))
   where
     go : (b : Bool) → (n == kind) ≡ b → slice_index_or (slice_set kinds n true) kind false ≡ (is_kind_heard cs kind || (n == kind || false))
-    go true e = subst (λ k. slice_index_or (slice_set kinds n true) k false ≡ true) (eqb-true n kind e) (get_or-set_same kinds n true false lt) ∙ or-true (is_kind_heard cs kind) ∙ ap (λ b. is_kind_heard cs kind || (b || false)) (sym e)
+    go true e = subst (λ k. slice_index_or (slice_set kinds n true) k false ≡ true) (eqb-true n kind e)
+        (get_or-set_same kinds n true false lt) ∙ or-true (is_kind_heard cs kind) ∙ ap (λ b. is_kind_heard cs kind || (b || false)) (sym e)
     go false e =
         let other : kind ≢ n = λ same. both_ways (n == kind) e (eq-eqb n kind (sym same)) in
-        get_or-set_other kinds n kind true false other ∙ noted kind ∙ or-false (is_kind_heard cs kind) ∙ ap (λ b. is_kind_heard cs kind || (b || false)) (sym e)
+        get_or-set_other kinds n kind true false other ∙ noted kind ∙ or-false (is_kind_heard cs kind) ∙ ap
+        (λ b. is_kind_heard cs kind || (b || false)) (sym e)

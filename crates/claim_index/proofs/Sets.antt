@@ -20,7 +20,9 @@ has-put_once p q [] = refl
 has-put_once p q (r ∷ rs) = go (nat_lt r p) (r == p) refl (has-put_once p q rs)
   where
     go : (a b : Bool) → (r == p) ≡ b → list_any (λ r. r == q) (put_once p rs) ≡ ((p == q) || list_any (λ r. r == q) rs)
-        → list_any (λ r. r == q) (if a then r ∷ put_once p rs else if b then r ∷ rs else p ∷ r ∷ rs) ≡ ((p == q) || ((r == q) || list_any (λ r. r == q) rs))
+        → list_any (λ r. r == q) (if a then r ∷ put_once p rs else if b then r ∷ rs else p ∷ r ∷ rs)
+        ≡ ((p == q) || ((r == q) || list_any (λ r. r == q) rs))
     go true b e rest = ap (λ t. (r == q) || t) rest ∙ or-swap (r == q) (p == q) (list_any (λ r. r == q) rs)
-    go false true e rest = or-again (r == q) (list_any (λ r. r == q) rs) ∙ ap (λ n. (n == q) || ((r == q) || list_any (λ r. r == q) rs)) (eqb-true r p e)
+    go false true e rest = or-again (r == q) (list_any (λ r. r == q) rs) ∙ ap (λ n. (n == q) || ((r == q) || list_any (λ r. r == q) rs))
+        (eqb-true r p e)
     go false false e rest = refl

@@ -21,7 +21,8 @@ put_once-new p (q ∷ qs) new =
     go true e b f false g rest = ap (λ qs. q ∷ qs) rest
     go false e true f c g rest = absurd (new q (inl refl) (eqb-true q p f))
     go false e false f true g rest = refl
-    go false e false f false g rest = absurd (let ge = ltb-false q p e in let le = ltb-false p q g in let other = eqb-false q p f in other (omega (arith, ge, le)))
+    go false e false f false g rest = absurd
+        (let ge = ltb-false q p e in let le = ltb-false p q g in let other = eqb-false q p f in other (omega (arith, ge, le)))
 
 module _ (test : ℕ → Bool) (members : List ℕ) (distinct : AllPairs (λ m n. m ≢ n) members) where
   abbrev pub from : ℕ → List ℕ
@@ -30,7 +31,8 @@ module _ (test : ℕ → Bool) (members : List ℕ) (distinct : AllPairs (λ m n
   -- of those behind place k none is the member there
   apart : (k : ℕ) (m q : ℕ) → k < length members → slice_index_or members k m ≡ m → Mem q (from (suc k)) → q ≡ m → ⊥
   apart k m q lt at there same =
-      let behind = mem-slice_get (drop (suc k) members) q (filter-mem test (drop (suc k) members) q (mem-sorted by_number (filter test (drop (suc k) members)) q there)).0 in
+      let behind = mem-slice_get (drop (suc k) members) q
+      (filter-mem test (drop (suc k) members) q (mem-sorted by_number (filter test (drop (suc k) members)) q there)).0 in
       let later = get-drop (suc k) members behind.0 (suc k + behind.0) q refl behind.1 in
       let here = slice_get-index members k m lt ∙ ap Some at in
       all-pairs (λ m n. m ≢ n) members distinct k (suc k + behind.0) m q (omega arith) here later (sym same)
@@ -38,8 +40,12 @@ module _ (test : ℕ → Bool) (members : List ℕ) (distinct : AllPairs (λ m n
   pub one-more : (k m : ℕ) → k < length members → slice_index_or members k m ≡ m → test m ≡ true → put_once m (from (suc k)) ≡ from k
   one-more k m lt at e =
       put_once-new m (from (suc k)) (λ q there same. apart k m q lt at there same)
-      ∙ ap (sorted by_number) (sym (ap (filter test) (drop-cons members k m lt ∙ ap (λ x. x ∷ drop (suc k) members) at) ∙ ap (λ (b : Bool). if b then m ∷ filter test (drop (suc k) members) else filter test (drop (suc k) members)) e))
+      ∙ ap (sorted by_number) (sym (ap (filter test)
+      (drop-cons members k m lt ∙ ap (λ x. x ∷ drop (suc k) members) at) ∙ ap
+      (λ (b : Bool). if b then m ∷ filter test (drop (suc k) members) else filter test (drop (suc k) members)) e))
 
   pub none-more : (k m : ℕ) → k < length members → slice_index_or members k m ≡ m → test m ≡ false → from (suc k) ≡ from k
   none-more k m lt at e =
-      ap (sorted by_number) (sym (ap (filter test) (drop-cons members k m lt ∙ ap (λ x. x ∷ drop (suc k) members) at) ∙ ap (λ (b : Bool). if b then m ∷ filter test (drop (suc k) members) else filter test (drop (suc k) members)) e))
+      ap (sorted by_number) (sym (ap (filter test)
+      (drop-cons members k m lt ∙ ap (λ x. x ∷ drop (suc k) members) at) ∙ ap
+      (λ (b : Bool). if b then m ∷ filter test (drop (suc k) members) else filter test (drop (suc k) members)) e))

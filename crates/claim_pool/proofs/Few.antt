@@ -16,9 +16,11 @@ use Rattle.claim_index.specs.Kept.{by_number}
 pub few-backers : (h : Pool) (st : Statement) → IsView h.view → length (backers h st) ≤ 16
 few-backers h st is = let few = length-filter-few (says h st) h.view.members in omega (arith, few, is.few)
 
-pub enough-backers : (h : Pool) (o : Option Slot) (st : Statement) → Some st ≡ option_and_then (certified_on h) o → quorum (number_of_members h) ≤ length (sorted by_number (backers h st))
+pub enough-backers : (h : Pool) (o : Option Slot) (st : Statement) → Some st ≡ option_and_then (certified_on h) o
+    → quorum (number_of_members h) ≤ length (sorted by_number (backers h st))
 enough-backers h o st e =
     let slot = then-some (certified_on h) o st (sym e) in
-    let enough : quorum (number_of_members h) ≤ length (backers h st) = leb-true (quorum (number_of_members h)) (length (backers h st)) (certified_on-is h slot.0 st slot.2).0 in
+    let enough : quorum (number_of_members h)
+    ≤ length (backers h st) = leb-true (quorum (number_of_members h)) (length (backers h st)) (certified_on-is h slot.0 st slot.2).0 in
     let same = length-sorted by_number (backers h st) in
     omega (arith, enough, same)

@@ -14,11 +14,13 @@ abbrev pub claims_of : Pool → Slot → List ℕ → List Claim
 claims_of h s ms = filter_map (λ m. claim_on h.heard m s) ms
 
 -- where it is certified, with who backs it as `Pool::certificate` answers it
-pub certificate-is : (h : Pool) (s : Slot) (st : Statement) (signers : List ℕ) → certified_on h s ≡ Some st → signers ≡ sorted by_number (backers h st) → certificate_on h s ≡ claims_of h s (take (quorum (number_of_members h)) signers)
+pub certificate-is : (h : Pool) (s : Slot) (st : Statement) (signers : List ℕ) → certified_on h s ≡ Some st
+    → signers ≡ sorted by_number (backers h st) → certificate_on h s ≡ claims_of h s (take (quorum (number_of_members h)) signers)
 certificate-is h s st signers e who =
     let is = certified_on-is h s st e in
     ap (λ (o : Option Statement). let it : List Claim = elim o [ None ↦ [] | Some st ↦ certificate h st ] in it) e
-    ∙ ap (λ (b : Bool). if b then claims_of h (slot_of st) (take (quorum (number_of_members h)) (sorted by_number (backers h st))) else []) is.0
+    ∙ ap (λ (b : Bool). if b then claims_of h (slot_of st) (take (quorum (number_of_members h)) (sorted by_number (backers h st)))
+    else []) is.0
     ∙ (λ i. claims_of h (is.1 i) (take (quorum (number_of_members h)) (sym who i)))
 
 -- and none where it is not

@@ -24,7 +24,8 @@ order_words order = decimal order.members ∷ decimal order.roster ∷ plan_word
 abbrev with_seed : ℕ → ℕ → KeyPlan → List ℕ → KitOrder
 with_seed n r plan s = record { members = n; roster = r; keys = plan; seed = s }
 
-order_found : (members roster keys seed : List ℕ) (order : KitOrder) → order_of members roster keys seed ≡ Some order → (members ∷ roster ∷ keys ∷ seed ∷ [] ≡ order_words order) × IsOrder order
+order_found : (members roster keys seed : List ℕ) (order : KitOrder) → order_of members roster keys seed ≡ Some order
+    → (members ∷ roster ∷ keys ∷ seed ∷ [] ≡ order_words order) × IsOrder order
 order_found members roster keys seed order e =
     let n = then_some _ (number_within 1 16 members) order e in
     let r = then_some _ (number_within n.0 64 roster) order n.2 in
@@ -34,10 +35,13 @@ order_found members roster keys seed order e =
     let r_is = number_within_found n.0 64 roster r.0 r.1 in
     let k_is = plan_found keys k.0 k.1 in
     let s_is = bytes_found 32 seed s.0 s.1 in
-    subst (λ o. (members ∷ roster ∷ keys ∷ seed ∷ [] ≡ order_words o) × IsOrder o) s.2
-    ((λ i. n_is.0 i ∷ r_is.0 i ∷ k_is.0 i ∷ s_is.0 i ∷ []), record { some = n_is.1; few = n_is.2; within = r_is.1; most = r_is.2; keys = k_is.1; seed = s_is.1 })
+    subst (λ o. (members ∷ roster ∷ keys ∷ seed ∷ [] ≡ order_words o) × IsOrder o) s.2 (
+      (λ i. n_is.0 i ∷ r_is.0 i ∷ k_is.0 i ∷ s_is.0 i ∷ []),
+      record { some = n_is.1; few = n_is.2; within = r_is.1; most = r_is.2; keys = k_is.1; seed = s_is.1 },
+    )
 
-order_spelled : (order : KitOrder) → IsOrder order → order_of (decimal order.members) (decimal order.roster) (plan_word order.keys) (encode_lower order.seed) ≡ Some order
+order_spelled : (order : KitOrder) → IsOrder order
+    → order_of (decimal order.members) (decimal order.roster) (plan_word order.keys) (encode_lower order.seed) ≡ Some order
 order_spelled order fits =
     let members = number_within_spelled 1 16 order.members fits.some fits.few (omega (arith, fits.few)) in
     let roster = number_within_spelled order.members 64 order.roster fits.within fits.most (omega (arith, fits.most)) in
@@ -48,10 +52,12 @@ order_spelled order fits =
 command_found : (words : List (List ℕ)) (c : Command) → command_of words ≡ Some c → Asks words c
 command_found (word ∷ []) c e =
     let tested = if_some (same_bytes word (codes "replay")) (Some (Replay false)) c e in
-    subst (Asks (word ∷ [])) (some_is (Replay false) c tested.1) (record { fits = tt; spelled = λ i. word_is word (codes "replay") tested.0 i ∷ [] })
+    subst (Asks (word ∷ [])) (some_is (Replay false) c tested.1)
+    (record { fits = tt; spelled = λ i. word_is word (codes "replay") tested.0 i ∷ [] })
 command_found (word ∷ further ∷ []) c e = of_gen (same_bytes word (codes "gen")) refl e
   where
-    of_short : (if same_bytes word (codes "replay") && same_bytes further (codes "short") then Some (Replay true) else None) ≡ Some c → Asks (word ∷ further ∷ []) c
+    of_short : (if same_bytes word (codes "replay") && same_bytes further (codes "short") then Some (Replay true) else None) ≡ Some c
+        → Asks (word ∷ further ∷ []) c
     of_short e =
         let tested = if_some (same_bytes word (codes "replay") && same_bytes further (codes "short")) (Some (Replay true)) c e in
         let both = and_true (same_bytes word (codes "replay")) (same_bytes further (codes "short")) tested.0 in
@@ -59,7 +65,8 @@ command_found (word ∷ further ∷ []) c e = of_gen (same_bytes word (codes "ge
         (record { fits = tt; spelled = λ i. word_is word (codes "replay") both.0 i ∷ word_is further (codes "short") both.1 i ∷ [] })
 
     of_gen : (is_gen : Bool) → same_bytes word (codes "gen") ≡ is_gen
-        → (if is_gen then option_map Gen (number_within 0 (2 ^ 32 - 1) further) else (if same_bytes word (codes "replay") && same_bytes further (codes "short") then Some (Replay true) else None)) ≡ Some c
+        → (if is_gen then option_map Gen (number_within 0 (2 ^ 32 - 1) further)
+        else (if same_bytes word (codes "replay") && same_bytes further (codes "short") then Some (Replay true) else None)) ≡ Some c
         → Asks (word ∷ further ∷ []) c
     of_gen true is e =
         let read = map_some Gen (number_within 0 (2 ^ 32 - 1) further) c e in
@@ -88,7 +95,8 @@ command_is_spelled words c = (command_found words c, command_spelled c words)
 
 -- ---- what a reader promises
 
-pub asks_of : {C : Type 0} (view : C → Command) (words : List (List ℕ)) (o : Option C) → option_map view o ≡ command_of words → IfSome o (λ c. Asks words (view c))
+pub asks_of : {C : Type 0} (view : C → Command) (words : List (List ℕ)) (o : Option C) → option_map view o ≡ command_of words
+    → IfSome o (λ c. Asks words (view c))
 asks_of view words None e = tt
 asks_of view words (Some c) e = command_found words (view c) (sym e)
 

@@ -29,7 +29,8 @@ behind_found : (front word rest : List ℕ) → behind front word ≡ Some rest 
 behind_found front word rest e =
     let tested = if_some (same_bytes (take (length front) word) front) (Some (drop (length front) word)) rest e in
     let begins : take (length front) word ≡ front = word_is (take (length front) word) front tested.0 in
-    sym (take-append-drop (length front) word) ∙ ap (λ t. t ++ drop (length front) word) begins ∙ ap (λ t. front ++ t) (some_is _ rest tested.1)
+    sym (take-append-drop (length front) word) ∙ ap (λ t. t ++ drop (length front) word) begins ∙ ap (λ t. front ++ t)
+    (some_is _ rest tested.1)
 
 plain_found : (total : List ℕ) (plan : KeyPlan) → plain_by total ≡ Some plan → (codes "plain:" ++ total ≡ plan_word plan) × IsPlan plan
 plain_found total plan e =
@@ -38,7 +39,8 @@ plain_found total plan e =
     let fits : read.0 < 2 ^ 32 = omega (arith, n.2) in
     subst (λ p. (codes "plain:" ++ total ≡ plan_word p) × IsPlan p) read.2 (ap (λ t. codes "plain:" ++ t) n.0, fits)
 
-kind_found : (word : List ℕ) (kind : OtsType) → option_and_then ots_type_of (number_within 1 4 word) ≡ Some kind → word ≡ decimal (ots_typecode kind)
+kind_found : (word : List ℕ) (kind : OtsType) → option_and_then ots_type_of (number_within 1 4 word) ≡ Some kind
+    → word ≡ decimal (ots_typecode kind)
 kind_found word kind e =
     let read = then_some ots_type_of (number_within 1 4 word) kind e in
     (number_within_found 1 4 word read.0 read.1).0 ∙ ap decimal (typecode_of_type read.0 kind read.2)
@@ -47,7 +49,8 @@ kind_found word kind e =
 abbrev tree_of : List ℕ → List ℕ → Option (ℕ × OtsType)
 tree_of code kind = and_then (number_within 5 7 code) (λ h. option_map (λ w. (h, w)) (option_and_then ots_type_of (number_within 1 4 kind)))
 
-tree_found : (word : List ℕ) (tree : ℕ × OtsType) → tree_by word ≡ Some tree → (word ≡ tree_word tree.0 tree.1) × (5 ≤ tree.0) × (tree.0 ≤ 7)
+tree_found : (word : List ℕ) (tree : ℕ × OtsType) → tree_by word ≡ Some tree
+    → (word ≡ tree_word tree.0 tree.1) × (5 ≤ tree.0) × (tree.0 ≤ 7)
 tree_found (code ∷ colon ∷ kind ∷ []) tree e =
     let tested = if_some (colon == 58) (tree_of (code ∷ []) (kind ∷ [])) tree e in
     let h = then_some _ (number_within 5 7 (code ∷ [])) tree tested.1 in
@@ -70,7 +73,8 @@ lms_found word plan e =
 -- what a digit and a tree say
 abbrev levels_of : List ℕ → List ℕ → Option KeyPlan
 levels_of levels word =
-    and_then (number_within 1 3 levels) (λ l. and_then (tree_by word) (λ t. if levels_are_built l t.0 t.1 then Some (Hss l t.0 t.1) else None))
+    and_then (number_within 1 3 levels)
+    (λ l. and_then (tree_by word) (λ t. if levels_are_built l t.0 t.1 then Some (Hss l t.0 t.1) else None))
 
 hss_found : (word : List ℕ) (plan : KeyPlan) → hss_by word ≡ Some plan → (codes "hss:" ++ word ≡ plan_word plan) × IsPlan plan
 hss_found (levels ∷ colon ∷ a ∷ b ∷ c ∷ []) plan e =
@@ -91,7 +95,8 @@ hss_found word plan e =
 -- ---- what is spelled
 
 -- digits with a colon between them
-tree_of_digits : (a c code : ℕ) (kind : OtsType) → number_within 5 7 (a ∷ []) ≡ Some code → option_and_then ots_type_of (number_within 1 4 (c ∷ [])) ≡ Some kind → tree_by (a ∷ 58 ∷ c ∷ []) ≡ Some (code, kind)
+tree_of_digits : (a c code : ℕ) (kind : OtsType) → number_within 5 7 (a ∷ []) ≡ Some code
+    → option_and_then ots_type_of (number_within 1 4 (c ∷ [])) ≡ Some kind → tree_by (a ∷ 58 ∷ c ∷ []) ≡ Some (code, kind)
 tree_of_digits a c code kind h w = rw (h, w) refl
 
 digit_is : (n : ℕ) → n ≤ 9 → decimal n ≡ (48 + n) ∷ []
@@ -117,12 +122,18 @@ module _ (code : ℕ) (kind : OtsType) (least : 5 ≤ code) (most : code ≤ 7) 
       (ap (number_within 5 7) (sym code_digit) ∙ number_within_spelled 5 7 code least most (omega arith))
       (ap (λ d. option_and_then ots_type_of (number_within 1 4 d)) (sym kind_digit) ∙ kind_spelled kind)
 
-levels_of_digits : (a x y z levels code : ℕ) (kind : OtsType) → number_within 1 3 (a ∷ []) ≡ Some levels → tree_by (x ∷ y ∷ z ∷ []) ≡ Some (code, kind) → levels_are_built levels code kind ≡ true → hss_by (a ∷ 58 ∷ x ∷ y ∷ z ∷ []) ≡ Some (Hss levels code kind)
+levels_of_digits : (a x y z levels code : ℕ) (kind : OtsType) → number_within 1 3 (a ∷ []) ≡ Some levels
+    → tree_by (x ∷ y ∷ z ∷ []) ≡ Some (code, kind) → levels_are_built levels code kind ≡ true
+    → hss_by (a ∷ 58 ∷ x ∷ y ∷ z ∷ []) ≡ Some (Hss levels code kind)
 levels_of_digits a x y z levels code kind l tree built =
-    let rest : ℕ → Option KeyPlan = λ l. and_then (tree_by (x ∷ y ∷ z ∷ [])) (λ t. if levels_are_built l t.0 t.1 then Some (Hss l t.0 t.1) else None) in
-    ap (option_and_then rest) l ∙ ap (option_and_then (λ t. if levels_are_built levels t.0 t.1 then Some (Hss levels t.0 t.1) else None)) tree ∙ ap (λ b. if b then Some (Hss levels code kind) else None) built
+    let rest : ℕ → Option KeyPlan = λ l. and_then (tree_by (x ∷ y ∷ z ∷ []))
+    (λ t. if levels_are_built l t.0 t.1 then Some (Hss l t.0 t.1) else None) in
+    ap (option_and_then rest) l ∙ ap
+    (option_and_then (λ t. if levels_are_built levels t.0 t.1 then Some (Hss levels t.0 t.1) else None)) tree ∙ ap
+    (λ b. if b then Some (Hss levels code kind) else None) built
 
-hss_spelled : (levels code : ℕ) (kind : OtsType) → levels_are_built levels code kind ≡ true → hss_by (decimal levels ++ (codes ":" ++ tree_word code kind)) ≡ Some (Hss levels code kind)
+hss_spelled : (levels code : ℕ) (kind : OtsType) → levels_are_built levels code kind ≡ true
+    → hss_by (decimal levels ++ (codes ":" ++ tree_word code kind)) ≡ Some (Hss levels code kind)
 hss_spelled levels code kind built =
     let b = built_ranges levels code kind built in
     let digit = digit_is levels (omega (arith, b.few)) in
@@ -136,7 +147,9 @@ hss_spelled levels code kind built =
 -- ---- plans
 
 pub plan_found : (word : List ℕ) (plan : KeyPlan) → plan_of word ≡ Some plan → (word ≡ plan_word plan) × IsPlan plan
-plan_found word plan e = ⊎_elim plain trees (or_some (and_then (behind (codes "plain:") word) plain_by) (option_or (and_then (behind (codes "lms:") word) lms_by) (and_then (behind (codes "hss:") word) hss_by)) plan e)
+plan_found word plan e = ⊎_elim plain trees
+    (or_some (and_then (behind (codes "plain:") word) plain_by)
+    (option_or (and_then (behind (codes "lms:") word) lms_by) (and_then (behind (codes "hss:") word) hss_by)) plan e)
   where
     plain : and_then (behind (codes "plain:") word) plain_by ≡ Some plan → (word ≡ plan_word plan) × IsPlan plan
     plain e =
@@ -156,10 +169,12 @@ plan_found word plan e = ⊎_elim plain trees (or_some (and_then (behind (codes 
         let found = hss_found rest.0 plan rest.2 in
         (behind_found (codes "hss:") word rest.0 rest.1 ∙ found.0, found.1)
 
-    trees : option_or (and_then (behind (codes "lms:") word) lms_by) (and_then (behind (codes "hss:") word) hss_by) ≡ Some plan → (word ≡ plan_word plan) × IsPlan plan
+    trees : option_or (and_then (behind (codes "lms:") word) lms_by) (and_then (behind (codes "hss:") word) hss_by) ≡ Some plan
+        → (word ≡ plan_word plan) × IsPlan plan
     trees e = ⊎_elim lms hss (or_some (and_then (behind (codes "lms:") word) lms_by) (and_then (behind (codes "hss:") word) hss_by) plan e)
 
 pub plan_spelled : (plan : KeyPlan) → IsPlan plan → plan_of (plan_word plan) ≡ Some plan
-plan_spelled (Plain total) fits = ap (λ o. option_or (option_map Plain o) None) (number_within_spelled 0 (2 ^ 32 - 1) total (omega arith) (omega arith) (omega arith))
+plan_spelled (Plain total) fits = ap (λ o. option_or (option_map Plain o) None)
+    (number_within_spelled 0 (2 ^ 32 - 1) total (omega arith) (omega arith) (omega arith))
 plan_spelled (Lms code kind) fits = ap (λ o. option_or (option_map (λ t. Lms t.0 t.1) o) None) (tree_spelled code kind fits.0 fits.1)
 plan_spelled (Hss levels code kind) fits = hss_spelled levels code kind fits

@@ -47,10 +47,12 @@ abbrev same_update : Update → Update → Bool
 same_update u v = is_yes (Update-discrete ℕ_discrete u v)
 
 same-process : (f : ℕ → Update) → ((a b : ℕ) → f a ≡ f b → a ≡ b) → (a b : ℕ) → (a == b) ≡ same_update (f a) (f b)
-same-process f one a b = same-test _ _ (λ e. is-yes (Update-discrete ℕ_discrete (f a) (f b)) (ap f (eqb-true a b e))) (λ e. eq-eqb a b (one a b (yes-is (Update-discrete ℕ_discrete (f a) (f b)) e)))
+same-process f one a b = same-test _ _ (λ e. is-yes (Update-discrete ℕ_discrete (f a) (f b)) (ap f (eqb-true a b e)))
+    (λ e. eq-eqb a b (one a b (yes-is (Update-discrete ℕ_discrete (f a) (f b)) e)))
 
 other-update : (u v : Update) → (u ≡ v → ⊥) → false ≡ same_update u v
-other-update u v not = same-test _ _ (λ e. absurd (let clash : false ≡ true = e in cc)) (λ e. absurd (not (yes-is (Update-discrete ℕ_discrete u v) e)))
+other-update u v not = same-test _ _ (λ e. absurd (let clash : false ≡ true = e in cc))
+    (λ e. absurd (not (yes-is (Update-discrete ℕ_discrete u v) e)))
 
 -- the set with an update has it, and what it had
 pub has-with : (set : Perceived) (u v : Update) → has_update (with_update set u) v ≡ (same_update u v || has_update set v)
@@ -66,7 +68,8 @@ has-with set Renew (Add b) = ap (λ t. t || has set.add b) (other-update Renew (
 
 -- ---- the process
 
-any-put : {A : Type 0} (key : A → List ℕ) (test : A → Bool) (a : A) (xs : List A) → list_any test (put key a xs) ≡ (test a || list_any test xs)
+any-put : {A : Type 0} (key : A → List ℕ) (test : A → Bool) (a : A) (xs : List A)
+    → list_any test (put key a xs) ≡ (test a || list_any test xs)
 any-put key test a [] = refl
 any-put key test a (x ∷ xs) = go (numbers_below (key a) (key x)) (any-put key test a xs)
   where
@@ -75,17 +78,21 @@ any-put key test a (x ∷ xs) = go (numbers_below (key a) (key x)) (any-put key 
     swap true false c = refl
     swap false b c = refl
 
-    go : (b : Bool) → list_any test (put key a xs) ≡ (test a || list_any test xs) → list_any test (if b then a ∷ x ∷ xs else x ∷ put key a xs) ≡ (test a || list_any test (x ∷ xs))
+    go : (b : Bool) → list_any test (put key a xs) ≡ (test a || list_any test xs)
+        → list_any test (if b then a ∷ x ∷ xs else x ∷ put key a xs) ≡ (test a || list_any test (x ∷ xs))
     go true rest = refl
     go false rest = ap (λ t. test x || t) rest ∙ swap (test x) (test a) (list_any test xs)
 
 same-pair : (x : ℕ) (u v : Update) → is_yes (pair_discrete ℕ_discrete (Update-discrete ℕ_discrete) (x, u) (x, v)) ≡ same_update u v
 same-pair x u v = same-test _ _
-    (λ e. is-yes (Update-discrete ℕ_discrete u v) (let same = yes-is (pair_discrete ℕ_discrete (Update-discrete ℕ_discrete) (x, u) (x, v)) e in λ i. (same i).1))
-    (λ e. is-yes (pair_discrete ℕ_discrete (Update-discrete ℕ_discrete) (x, u) (x, v)) (let same = yes-is (Update-discrete ℕ_discrete u v) e in λ i. (x, same i)))
+    (λ e. is-yes (Update-discrete ℕ_discrete u v)
+    (let same = yes-is (pair_discrete ℕ_discrete (Update-discrete ℕ_discrete) (x, u) (x, v)) e in λ i. (same i).1))
+    (λ e. is-yes (pair_discrete ℕ_discrete (Update-discrete ℕ_discrete) (x, u) (x, v))
+    (let same = yes-is (Update-discrete ℕ_discrete u v) e in λ i. (x, same i)))
 
 -- what the set tells before, the set with the update tells after
-pub perceives-told : (set : Perceived) (p : Process) (u : Update) → TellsPerceived set p → TellsPerceived (with_update set u) (perceives p u)
+pub perceives-told : (set : Perceived) (p : Process) (u : Update) → TellsPerceived set p
+    → TellsPerceived (with_update set u) (perceives p u)
 perceives-told set p u tells = go (is_perceived p (p.pool.view.number, u)) refl
   where
     x : ℕ
@@ -98,11 +105,16 @@ perceives-told set p u tells = go (is_perceived p (p.pool.view.number, u)) refl
     absorbed true b so = so refl
     absorbed false b so = refl
 
-    go : (b : Bool) → is_perceived p (p.pool.view.number, u) ≡ b → TellsPerceived (with_update set u) (if b then p else record p { perceived = put perceived_numbers (p.pool.view.number, u) p.perceived })
+    go : (b : Bool) → is_perceived p (p.pool.view.number, u) ≡ b
+        → TellsPerceived (with_update set u)
+        (if b then p else record p { perceived = put perceived_numbers (p.pool.view.number, u) p.perceived })
     go true there v =
-        tells v ∙ absorbed (same_update u v) (has_update set v) (λ e. sym (tells v) ∙ ap (λ w. is_perceived p (p.pool.view.number, w)) (sym (yes-is (Update-discrete ℕ_discrete u v) e)) ∙ there) ∙ sym (has-with set u v)
+        tells v ∙ absorbed (same_update u v) (has_update set v)
+        (λ e. sym (tells v) ∙ ap (λ w. is_perceived p (p.pool.view.number, w))
+        (sym (yes-is (Update-discrete ℕ_discrete u v) e)) ∙ there) ∙ sym (has-with set u v)
     go false there v =
-        any-put perceived_numbers (λ d. is_yes (pair_discrete ℕ_discrete (Update-discrete ℕ_discrete) d (p.pool.view.number, v))) (p.pool.view.number, u) p.perceived
+        any-put perceived_numbers (λ d. is_yes (pair_discrete ℕ_discrete (Update-discrete ℕ_discrete) d (p.pool.view.number, v)))
+        (p.pool.view.number, u) p.perceived
         ∙ (λ i. same-pair p.pool.view.number u v i || tells v i)
         ∙ sym (has-with set u v)
 

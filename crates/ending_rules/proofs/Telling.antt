@@ -24,7 +24,8 @@ use Rattle.ending_rules.specs.declared.notifies.Perceived.{Perceived}
 use Rattle.ending_rules.specs.Perceiving.{has_update, is_notify_open, TellsPerceived}
 
 -- with the same keys the same updates are possible
-pub possible-by : (keys others : List ℕ) → ((q : ℕ) → has keys q ≡ has others q) → (v : View) (u : Update) → is_possible keys v u ≡ is_possible others v u
+pub possible-by : (keys others : List ℕ) → ((q : ℕ) → has keys q ≡ has others q) → (v : View) (u : Update)
+    → is_possible keys v u ≡ is_possible others v u
 possible-by keys others same v (Remove q) = refl
 possible-by keys others same v (Add q) = ap (λ b. is_none (next_fault v (Add q)) && b) (same q)
 possible-by keys others same v Renew = refl
@@ -61,7 +62,8 @@ module _ (s : Setting) (p : Process) (h : Pool) (own : Own) (tells : Tells s p h
   may-end : may_end p ≡ (is_some own.position && nat_lt 0 (length (notified_updates h)) && not own.ended)
   may-end = λ i. member-is i && nat_lt 0 (length (notified_updates (tells.pool i))) && not (tells.signed.end i)
 
-  pub end-is : (b : Bool) → b ≡ (is_some own.position && nat_lt 0 (length (notified_updates h)) && not own.ended) → least_due s p Ends ≡ (if b then Some (End h.view.number (length (placed h))) else None)
+  pub end-is : (b : Bool) → b ≡ (is_some own.position && nat_lt 0 (length (notified_updates h)) && not own.ended)
+      → least_due s p Ends ≡ (if b then Some (End h.view.number (length (placed h))) else None)
   end-is b e =
       end_is_least s p
       ∙ (λ i. if may-end i then Some (End (tells.pool i).view.number (length (placed (tells.pool i)))) else None)
@@ -79,12 +81,16 @@ module _ (s : Setting) (p : Process) (h : Pool) (own : Own) (tells : Tells s p h
       λ j. perceived (update_at i) j && possible j && not (notify-signed (update_at i) j)
     where
       possible : is_possible (keyed s) p.pool.view (update_at i) ≡ is_possible own.keyed h.view (update_at i)
-      possible = possible-by (keyed s) own.keyed tells.keys p.pool.view (update_at i) ∙ ap (λ (k : Pool). is_possible own.keyed k.view (update_at i)) tells.pool
+      possible = possible-by (keyed s) own.keyed tells.keys p.pool.view (update_at i) ∙ ap
+          (λ (k : Pool). is_possible own.keyed k.view (update_at i)) tells.pool
 
-  pub notify-is : (set : Perceived) → TellsPerceived set p → ((u : Update) → has_update set u ≡ true → IsUpdate u) → (q : ℕ) → own.position ≡ Some q
-      → (o : Option ℕ) → IsLeastBelow 129 (is_notify_open h own set) o → least_due s p Notifies ≡ option_map (λ i. Notify h.view.number (update_at i)) o
+  pub notify-is : (set : Perceived) → TellsPerceived set p → ((u : Update) → has_update set u ≡ true → IsUpdate u) → (q : ℕ)
+      → own.position ≡ Some q
+      → (o : Option ℕ) → IsLeastBelow 129 (is_notify_open h own set) o
+      → least_due s p Notifies ≡ option_map (λ i. Notify h.view.number (update_at i)) o
   notify-is set perceived range q position o least =
-      notify_is_least s p o (inside q position) (λ u e. range u (sym (perceived u) ∙ e)) (least-same 0 129 (is_notify_open h own set) (may_notify s p) o (λ k _ _. sym (may-notify set perceived k)) least)
+      notify_is_least s p o (inside q position) (λ u e. range u (sym (perceived u) ∙ e))
+      (least-same 0 129 (is_notify_open h own set) (may_notify s p) o (λ k _ _. sym (may-notify set perceived k)) least)
       ∙ ap (λ (k : Pool). option_map (λ i. Notify k.view.number (update_at i)) o) tells.pool
 
   -- nothing is perceived
@@ -93,4 +99,6 @@ module _ (s : Setting) (p : Process) (h : Pool) (own : Own) (tells : Tells s p h
     where
       go : (o : Option ℕ) → own.position ≡ o → least_due s p Notifies ≡ None
       go None e = outside Notifies e
-      go (Some q) e = notify-is set perceived (λ u f. absurd (let clash : true ≡ false = sym f ∙ none u in cc)) q e None (λ k _ _. ap (λ b. b && is_possible own.keyed h.view (update_at k) && not (has_slot own.signed (NotifyAt h.view.number (update_at k)))) (none (update_at k)))
+      go (Some q) e = notify-is set perceived (λ u f. absurd (let clash : true ≡ false = sym f ∙ none u in cc)) q e None
+          (λ k _ _. ap (λ b. b && is_possible own.keyed h.view (update_at k)
+          && not (has_slot own.signed (NotifyAt h.view.number (update_at k)))) (none (update_at k)))

@@ -13,7 +13,12 @@ use Rattle.event_laws.specs.Parts.{HasTakenIn, TakingInLeaves}
 
 -- one after the other
 both-in : (p q r : Process) → HasTakenIn p q → HasTakenIn q r → HasTakenIn p r
-both-in p q r a b = b ∙ ap (λ (x : Process). record x { pool = record { view = x.pool.view; heard = r.pool.heard }; conflicts = r.conflicts; accepted = r.accepted; perceived = r.perceived }) a
+both-in p q r a b = b ∙ ap (λ (x : Process). record x {
+  pool = record { view = x.pool.view; heard = r.pool.heard };
+  conflicts = r.conflicts;
+  accepted = r.accepted;
+  perceived = r.perceived;
+}) a
 
 hears-one : (p : Process) (c : Claim) (v : Verdict) → HasTakenIn p (with_verdict v p c)
 hears-one p c Heard = refl

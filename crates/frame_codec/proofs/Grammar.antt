@@ -25,14 +25,18 @@ abbrev signature_rest : ℕ → ℕ × List ℕ → Result ((ℕ × List ℕ) ×
 signature_rest signer len = bytes_at faults.Length len.0 len.1 >>= λ t. Ok ((signer, t.0), t.1)
 
 abbrev signer_rest : ℕ × List ℕ → Result ((ℕ × List ℕ) × List ℕ) FrameFault
-signer_rest signer = number_at faults.Short w16 signer.1 >>= λ len. refuse_if (ltb 16384 len.0) faults.Length >>= λ _. signature_rest signer.0 len
+signer_rest signer = number_at faults.Short w16 signer.1 >>= λ len. refuse_if
+    (ltb 16384 len.0) faults.Length >>= λ _. signature_rest signer.0 len
 
-signature_takes : (least : ℕ) (bytes : List ℕ) (x : (ℕ × List ℕ) × List ℕ) → IsBytes bytes → signature_at least bytes ≡ Ok x → Takes bytes (signature_bytes x.0) x.1 × IsSignature least x.0
+signature_takes : (least : ℕ) (bytes : List ℕ) (x : (ℕ × List ℕ) × List ℕ) → IsBytes bytes → signature_at least bytes ≡ Ok x
+    → Takes bytes (signature_bytes x.0) x.1 × IsSignature least x.0
 unfolding signature_at
 signature_takes least bytes x fits e =
-    let a = bind_ok (number_at faults.Short w8 bytes) (λ signer. refuse_if (ltb signer.0 least) faults.Unordered >>= λ _. signer_rest signer) x e in
+    let a = bind_ok (number_at faults.Short w8 bytes)
+    (λ signer. refuse_if (ltb signer.0 least) faults.Unordered >>= λ _. signer_rest signer) x e in
     let g = refuse_ok (ltb a.0.0 least) faults.Unordered (λ _. signer_rest a.0) x a.2 in
-    let b = bind_ok (number_at faults.Short w16 a.0.1) (λ len. refuse_if (ltb 16384 len.0) faults.Length >>= λ _. signature_rest a.0.0 len) x g.1 in
+    let b = bind_ok (number_at faults.Short w16 a.0.1)
+    (λ len. refuse_if (ltb 16384 len.0) faults.Length >>= λ _. signature_rest a.0.0 len) x g.1 in
     let h = refuse_ok (ltb 16384 b.0.0) faults.Length (λ _. signature_rest a.0.0 b.0) x b.2 in
     let c = bind_ok (bytes_at faults.Length b.0.0 b.0.1) (λ t. Ok ((a.0.0, t.0), t.1)) x h.1 in
     let t0 = byte_takes faults.Short bytes a.0.0 a.0.1 fits a.1 in
@@ -43,38 +47,56 @@ signature_takes least bytes x fits e =
     let made : (ℕ × List ℕ) × List ℕ = ((a.0.0, c.0.0), c.0.1) in
     let low : least ≤ a.0.0 = ltb-false _ _ g.0 in
     let short : length c.0.0 ≤ 16384 = omega (arith, ltb-false 16384 b.0.0 h.0, t2.1) in
-    subst (λ (y : (ℕ × List ℕ) × List ℕ). Takes bytes (signature_bytes y.0) y.1 × IsSignature least y.0) {x = made} {y = x} (ok_is made x c.2) (whole, (low, t0.1, short))
+    subst (λ (y : (ℕ × List ℕ) × List ℕ). Takes bytes (signature_bytes y.0) y.1 × IsSignature least y.0) {x = made} {y = x}
+    (ok_is made x c.2) (whole, (low, t0.1, short))
 
-signature_again : (least : ℕ) (s : ℕ × List ℕ) (rest : List ℕ) → IsSignature least s → signature_at least (signature_bytes s ++ rest) ≡ Ok (s, rest)
+signature_again : (least : ℕ) (s : ℕ × List ℕ) (rest : List ℕ) → IsSignature least s
+    → signature_at least (signature_bytes s ++ rest) ≡ Ok (s, rest)
 unfolding signature_at
 signature_again least s rest fits =
     let ordered : ltb s.0 least ≡ false = le-ltb _ _ fits.0 in
     let short : ltb 16384 (length s.1) ≡ false = le-ltb _ _ fits.2 in
     ap (λ (t : List ℕ). signature_at least (s.0 ∷ t)) (append_assoc (two_bytes (length s.1)) s.1 rest)
-    ∙ rw (byte_again faults.Short s.0 (two_bytes (length s.1) ++ (s.1 ++ rest)), ordered, short_again faults.Short (length s.1) (s.1 ++ rest) (omega (arith, fits.2)), short, bytes_again faults.Length s.1 rest) refl
+    ∙ rw (
+      byte_again faults.Short s.0 (two_bytes (length s.1) ++ (s.1 ++ rest)),
+      ordered,
+      short_again faults.Short (length s.1) (s.1 ++ rest) (omega (arith, fits.2)),
+      short,
+      bytes_again faults.Length s.1 rest,
+    ) refl
 
 -- ---- signatures
 
-signatures_take : (n least : ℕ) (bytes : List ℕ) (x : List (ℕ × List ℕ) × List ℕ) → IsBytes bytes → signatures_at n least bytes ≡ Ok x → Takes bytes (flat_map signature_bytes x.0) x.1 × (length x.0 ≡ n) × AreSignatures least x.0
+signatures_take : (n least : ℕ) (bytes : List ℕ) (x : List (ℕ × List ℕ) × List ℕ) → IsBytes bytes → signatures_at n least bytes ≡ Ok x
+    → Takes bytes (flat_map signature_bytes x.0) x.1 × (length x.0 ≡ n) × AreSignatures least x.0
 unfolding signatures_at
 signatures_take zero least bytes x fits e =
-    subst (λ (y : List (ℕ × List ℕ) × List ℕ). Takes bytes (flat_map signature_bytes y.0) y.1 × (length y.0 ≡ 0) × AreSignatures least y.0) {x = ([], bytes)} {y = x} (ok_is ([], bytes) x e) (record { parts = refl; rest_fits = fits }, refl, tt)
+    subst (λ (y : List (ℕ × List ℕ) × List ℕ). Takes bytes (flat_map signature_bytes y.0) y.1 × (length y.0 ≡ 0)
+    × AreSignatures least y.0) {x = ([], bytes)} {y = x} (ok_is ([], bytes) x e) (record { parts = refl; rest_fits = fits }, refl, tt)
 signatures_take (suc n) least bytes x fits e =
-    let a = bind_ok (signature_at least bytes) (λ first. signatures_at n (first.0.0 + 1) first.1 >>= λ others. Ok (first.0 ∷ others.0, others.1)) x e in
+    let a = bind_ok (signature_at least bytes)
+    (λ first. signatures_at n (first.0.0 + 1) first.1 >>= λ others. Ok (first.0 ∷ others.0, others.1)) x e in
     let b = bind_ok (signatures_at n (a.0.0.0 + 1) a.0.1) (λ others. Ok (a.0.0 ∷ others.0, others.1)) x a.2 in
     let first = signature_takes least bytes a.0 fits a.1 in
     let others = signatures_take n (a.0.0.0 + 1) a.0.1 b.0 first.0.rest_fits b.1 in
     let both = Takes-then bytes (signature_bytes a.0.0) a.0.1 (flat_map signature_bytes b.0.0) b.0.1 first.0 others.0 in
     let made : List (ℕ × List ℕ) × List ℕ = (a.0.0 ∷ b.0.0, b.0.1) in
-    subst (λ (y : List (ℕ × List ℕ) × List ℕ). Takes bytes (flat_map signature_bytes y.0) y.1 × (length y.0 ≡ suc n) × AreSignatures least y.0) {x = made} {y = x} (ok_is made x b.2)
+    subst (λ (y : List (ℕ × List ℕ) × List ℕ). Takes bytes (flat_map signature_bytes y.0) y.1 × (length y.0 ≡ suc n)
+    × AreSignatures least y.0) {x = made} {y = x} (ok_is made x b.2)
     (rw flat_map-cons both, ap suc others.1, (first.1.0, first.1.1, first.1.2, others.2))
 
-signatures_again : (least : ℕ) (ss : List (ℕ × List ℕ)) (rest : List ℕ) → AreSignatures least ss → signatures_at (length ss) least (flat_map signature_bytes ss ++ rest) ≡ Ok (ss, rest)
+signatures_again : (least : ℕ) (ss : List (ℕ × List ℕ)) (rest : List ℕ) → AreSignatures least ss
+    → signatures_at (length ss) least (flat_map signature_bytes ss ++ rest) ≡ Ok (ss, rest)
 unfolding signatures_at
 signatures_again least [] rest fits = refl
 signatures_again least (s ∷ ss) rest fits =
-    let regrouped : flat_map signature_bytes (s ∷ ss) ++ rest ≡ signature_bytes s ++ (flat_map signature_bytes ss ++ rest) = ap (λ (t : List ℕ). t ++ rest) (flat_map-cons signature_bytes s ss) ∙ append_assoc (signature_bytes s) (flat_map signature_bytes ss) rest in
-    ap (signatures_at (suc (length ss)) least) regrouped ∙ rw (signature_again least s (flat_map signature_bytes ss ++ rest) (fits.0, fits.1, fits.2), signatures_again (s.0 + 1) ss rest fits.3) refl
+    let regrouped : flat_map signature_bytes (s ∷ ss) ++ rest ≡ signature_bytes s
+    ++ (flat_map signature_bytes ss ++ rest) = ap (λ (t : List ℕ). t ++ rest)
+    (flat_map-cons signature_bytes s ss) ∙ append_assoc (signature_bytes s) (flat_map signature_bytes ss) rest in
+    ap (signatures_at (suc (length ss)) least) regrouped ∙ rw (
+      signature_again least s (flat_map signature_bytes ss ++ rest) (fits.0, fits.1, fits.2),
+      signatures_again (s.0 + 1) ss rest fits.3,
+    ) refl
 
 -- ---- a group
 
@@ -83,12 +105,14 @@ abbrev count_rest : List ℕ → ℕ × List ℕ → Result (Group × List ℕ) 
 count_rest statement count = signatures_at count.0 0 count.1 >>= λ sigs. Ok (record { statement = statement; signatures = sigs.0 }, sigs.1)
 
 abbrev counted : List ℕ → ℕ × List ℕ → Result (Group × List ℕ) FrameFault
-counted statement count = refuse_if (eqb count.0 0) faults.Count >>= λ _. refuse_if (ltb 16 count.0) faults.Count >>= λ _. count_rest statement count
+counted statement count = refuse_if (eqb count.0 0) faults.Count >>= λ _. refuse_if
+    (ltb 16 count.0) faults.Count >>= λ _. count_rest statement count
 
 abbrev statement_rest : List ℕ × List ℕ → Result (Group × List ℕ) FrameFault
 statement_rest t = number_at faults.Short w8 t.1 >>= counted t.0
 
-group_takes : (bytes : List ℕ) (x : Group × List ℕ) → IsBytes bytes → group_at bytes ≡ Ok x → Takes bytes (group_bytes x.0) x.1 × IsGroup x.0
+group_takes : (bytes : List ℕ) (x : Group × List ℕ) → IsBytes bytes → group_at bytes ≡ Ok x
+    → Takes bytes (group_bytes x.0) x.1 × IsGroup x.0
 unfolding group_at
 group_takes bytes x fits e =
     let a = bind_ok (number_at faults.Short w16 bytes) (λ len. bytes_at faults.Length len.0 len.1 >>= statement_rest) x e in
@@ -102,10 +126,16 @@ group_takes bytes x fits e =
     let t2 = byte_takes faults.Short b.0.1 c.0.0 c.0.1 t1.0.rest_fits c.1 in
     let t3 = signatures_take c.0.0 0 c.0.1 d.0 t2.0.rest_fits d.1 in
     let statement : Takes bytes (text b.0.0) b.0.1 = rw t1.1 (Takes-then bytes (two_bytes a.0.0) a.0.1 b.0.0 b.0.1 t0.0 t1.0) in
-    let sigs : Takes b.0.1 (length d.0.0 ∷ flat_map signature_bytes d.0.0) d.0.1 = rw t3.1 (Takes-then b.0.1 (c.0.0 ∷ []) c.0.1 (flat_map signature_bytes d.0.0) d.0.1 t2.0 t3.0) in
+    let sigs : Takes b.0.1 (length d.0.0 ∷ flat_map signature_bytes d.0.0) d.0.1 = rw t3.1
+    (Takes-then b.0.1 (c.0.0 ∷ []) c.0.1 (flat_map signature_bytes d.0.0) d.0.1 t2.0 t3.0) in
     let whole = Takes-then bytes (text b.0.0) b.0.1 (length d.0.0 ∷ flat_map signature_bytes d.0.0) d.0.1 statement sigs in
     let made : Group × List ℕ = (record { statement = b.0.0; signatures = d.0.0 }, d.0.1) in
-    let fine : IsGroup made.0 = record { statement = omega (arith, t1.1, t0.1); some = omega (arith, t3.1, not_zero c.0.0 g.0); few = omega (arith, t3.1, ltb-false 16 c.0.0 h.0); signatures = t3.2 } in
+    let fine : IsGroup made.0 = record {
+      statement = omega (arith, t1.1, t0.1);
+      some = omega (arith, t3.1, not_zero c.0.0 g.0);
+      few = omega (arith, t3.1, ltb-false 16 c.0.0 h.0);
+      signatures = t3.2;
+    } in
     subst (λ (y : Group × List ℕ). Takes bytes (group_bytes y.0) y.1 × IsGroup y.0) {x = made} {y = x} (ok_is made x d.2) (whole, fine)
 
 group_again : (g : Group) (rest : List ℕ) → IsGroup g → group_at (group_bytes g ++ rest) ≡ Ok (g, rest)
@@ -117,14 +147,23 @@ group_again g rest fits =
     ∙ append_assoc (two_bytes (length g.statement)) g.statement (length g.signatures ∷ after) in
     let some : eqb (length g.signatures) 0 ≡ false = is_some (length g.signatures) fits.some in
     let few : ltb 16 (length g.signatures) ≡ false = le-ltb _ _ fits.few in
-    ap group_at regrouped ∙ rw (short_again faults.Short (length g.statement) (g.statement ++ (length g.signatures ∷ after)) fits.statement, bytes_again faults.Length g.statement (length g.signatures ∷ after), byte_again faults.Short (length g.signatures) after, some, few, signatures_again 0 g.signatures rest fits.signatures) refl
+    ap group_at regrouped ∙ rw (
+      short_again faults.Short (length g.statement) (g.statement ++ (length g.signatures ∷ after)) fits.statement,
+      bytes_again faults.Length g.statement (length g.signatures ∷ after),
+      byte_again faults.Short (length g.signatures) after,
+      some,
+      few,
+      signatures_again 0 g.signatures rest fits.signatures,
+    ) refl
 
 -- ---- groups
 
-pub groups_take : (n : ℕ) (bytes : List ℕ) (x : List Group × List ℕ) → IsBytes bytes → groups_at n bytes ≡ Ok x → Takes bytes (flat_map group_bytes x.0) x.1 × (length x.0 ≡ n) × AllByRecursion IsGroup x.0
+pub groups_take : (n : ℕ) (bytes : List ℕ) (x : List Group × List ℕ) → IsBytes bytes → groups_at n bytes ≡ Ok x
+    → Takes bytes (flat_map group_bytes x.0) x.1 × (length x.0 ≡ n) × AllByRecursion IsGroup x.0
 unfolding groups_at
 groups_take zero bytes x fits e =
-    subst (λ (y : List Group × List ℕ). Takes bytes (flat_map group_bytes y.0) y.1 × (length y.0 ≡ 0) × AllByRecursion IsGroup y.0) {x = ([], bytes)} {y = x} (ok_is ([], bytes) x e) (record { parts = refl; rest_fits = fits }, refl, tt)
+    subst (λ (y : List Group × List ℕ). Takes bytes (flat_map group_bytes y.0) y.1 × (length y.0 ≡ 0)
+    × AllByRecursion IsGroup y.0) {x = ([], bytes)} {y = x} (ok_is ([], bytes) x e) (record { parts = refl; rest_fits = fits }, refl, tt)
 groups_take (suc n) bytes x fits e =
     let a = bind_ok (group_at bytes) (λ first. groups_at n first.1 >>= λ others. Ok (first.0 ∷ others.0, others.1)) x e in
     let b = bind_ok (groups_at n a.0.1) (λ others. Ok (a.0.0 ∷ others.0, others.1)) x a.2 in
@@ -132,14 +171,19 @@ groups_take (suc n) bytes x fits e =
     let others = groups_take n a.0.1 b.0 first.0.rest_fits b.1 in
     let both = Takes-then bytes (group_bytes a.0.0) a.0.1 (flat_map group_bytes b.0.0) b.0.1 first.0 others.0 in
     let made : List Group × List ℕ = (a.0.0 ∷ b.0.0, b.0.1) in
-    subst (λ (y : List Group × List ℕ). Takes bytes (flat_map group_bytes y.0) y.1 × (length y.0 ≡ suc n) × AllByRecursion IsGroup y.0) {x = made} {y = x} (ok_is made x b.2) (rw flat_map-cons both, ap suc others.1, (first.1, others.2))
+    subst (λ (y : List Group × List ℕ). Takes bytes (flat_map group_bytes y.0) y.1 × (length y.0 ≡ suc n)
+    × AllByRecursion IsGroup y.0) {x = made} {y = x} (ok_is made x b.2) (rw flat_map-cons both, ap suc others.1, (first.1, others.2))
 
-pub groups_again : (gs : List Group) (rest : List ℕ) → AllByRecursion IsGroup gs → groups_at (length gs) (flat_map group_bytes gs ++ rest) ≡ Ok (gs, rest)
+pub groups_again : (gs : List Group) (rest : List ℕ) → AllByRecursion IsGroup gs
+    → groups_at (length gs) (flat_map group_bytes gs ++ rest) ≡ Ok (gs, rest)
 unfolding groups_at
 groups_again [] rest fits = refl
 groups_again (g ∷ gs) rest fits =
-    let regrouped : flat_map group_bytes (g ∷ gs) ++ rest ≡ group_bytes g ++ (flat_map group_bytes gs ++ rest) = ap (λ (t : List ℕ). t ++ rest) (flat_map-cons group_bytes g gs) ∙ append_assoc (group_bytes g) (flat_map group_bytes gs) rest in
-    ap (groups_at (suc (length gs))) regrouped ∙ rw (group_again g (flat_map group_bytes gs ++ rest) fits.0, groups_again gs rest fits.1) refl
+    let regrouped : flat_map group_bytes (g ∷ gs) ++ rest ≡ group_bytes g
+    ++ (flat_map group_bytes gs ++ rest) = ap (λ (t : List ℕ). t ++ rest) (flat_map-cons group_bytes g gs) ∙ append_assoc (group_bytes g)
+    (flat_map group_bytes gs) rest in
+    ap (groups_at (suc (length gs))) regrouped ∙ rw
+    (group_again g (flat_map group_bytes gs ++ rest) fits.0, groups_again gs rest fits.1) refl
 
 -- ---- all of the bytes
 
@@ -147,15 +191,21 @@ groups_again (g ∷ gs) rest fits =
 all_take : (bytes : List ℕ) (gs : List Group) → IsBytes bytes → all_groups bytes ≡ Ok gs → AreGroups gs × (bytes ≡ groups_bytes gs)
 unfolding all_groups
 all_take bytes gs fits e =
-    let c = bind_ok (number_at faults.Short w8 bytes) (λ count. refuse_if (eqb count.0 0) faults.Count >>= λ _. groups_at count.0 count.1 >>= λ groups. refuse_if (not (eqb (length groups.1) 0)) faults.Trailing >>= λ _. Ok groups.0) gs e in
-    let g = refuse_ok (eqb c.0.0 0) faults.Count (λ _. groups_at c.0.0 c.0.1 >>= λ groups. refuse_if (not (eqb (length groups.1) 0)) faults.Trailing >>= λ _. Ok groups.0) gs c.2 in
-    let d = bind_ok (groups_at c.0.0 c.0.1) (λ groups. refuse_if (not (eqb (length groups.1) 0)) faults.Trailing >>= λ _. Ok groups.0) gs g.1 in
+    let c = bind_ok (number_at faults.Short w8 bytes)
+    (λ count. refuse_if (eqb count.0 0) faults.Count >>= λ _. groups_at count.0 count.1 >>= λ groups. refuse_if
+    (not (eqb (length groups.1) 0)) faults.Trailing >>= λ _. Ok groups.0) gs e in
+    let g = refuse_ok (eqb c.0.0 0) faults.Count
+    (λ _. groups_at c.0.0 c.0.1 >>= λ groups. refuse_if (not (eqb (length groups.1) 0)) faults.Trailing >>= λ _. Ok groups.0) gs c.2 in
+    let d = bind_ok (groups_at c.0.0 c.0.1)
+    (λ groups. refuse_if (not (eqb (length groups.1) 0)) faults.Trailing >>= λ _. Ok groups.0) gs g.1 in
     let h = refuse_ok (not (eqb (length d.0.1) 0)) faults.Trailing (λ _. Ok d.0.0) gs d.2 in
     let t0 = byte_takes faults.Short bytes c.0.0 c.0.1 fits c.1 in
     let t1 = groups_take c.0.0 c.0.1 d.0 t0.0.rest_fits d.1 in
     let whole = (Takes-then bytes (c.0.0 ∷ []) c.0.1 (flat_map group_bytes d.0.0) d.0.1 t0.0 t1.0).parts in
     let nothing : d.0.1 ≡ [] = nil_from_length d.0.1 (eqb-true _ _ (not_false _ h.0)) in
-    let spelled : bytes ≡ groups_bytes d.0.0 = whole ∙ ap (λ (r : List ℕ). (c.0.0 ∷ flat_map group_bytes d.0.0) ++ r) nothing ∙ append-nil _ ∙ ap (λ (n : ℕ). n ∷ flat_map group_bytes d.0.0) (sym t1.1) in
+    let spelled : bytes ≡ groups_bytes d.0.0 = whole ∙ ap
+    (λ (r : List ℕ). (c.0.0 ∷ flat_map group_bytes d.0.0) ++ r) nothing ∙ append-nil _ ∙ ap (λ (n : ℕ). n ∷ flat_map group_bytes d.0.0)
+    (sym t1.1) in
     let fine : AreGroups d.0.0 = record { some = omega (arith, t1.1, not_zero c.0.0 g.0); few = omega (arith, t1.1, t0.1); each = t1.2 } in
     subst (λ (v : List Group). AreGroups v × (bytes ≡ groups_bytes v)) {x = d.0.0} {y = gs} (ok_is d.0.0 gs h.1) (fine, spelled)
 
@@ -164,23 +214,30 @@ unfolding all_groups
 all_again gs fits =
     let rest : List ℕ = flat_map group_bytes gs in
     let some : eqb (length gs) 0 ≡ false = is_some (length gs) fits.some in
-    let read : groups_at (length gs) rest ≡ Ok (gs, []) = ap (groups_at (length gs)) (sym (append-nil rest)) ∙ groups_again gs [] fits.each in
+    let read : groups_at (length gs) rest
+    ≡ Ok (gs, []) = ap (groups_at (length gs)) (sym (append-nil rest)) ∙ groups_again gs [] fits.each in
     rw (byte_again faults.Short (length gs) rest, some, read) refl
 
 want_takes : (bytes : List ℕ) (f : FrameView) → IsBytes bytes → want_at bytes ≡ Ok f → HasParts f × (1 ∷ 3 ∷ bytes ≡ frame_bytes f)
 unfolding want_at
 want_takes bytes f fits e =
-    let a = bind_ok (number_at faults.Short w16 bytes) (λ view. number_at faults.Short w16 view.1 >>= λ place. refuse_if (not (eqb (length place.1) 0)) faults.Trailing >>= λ _. Ok (Want view.0 place.0)) f e in
-    let b = bind_ok (number_at faults.Short w16 a.0.1) (λ place. refuse_if (not (eqb (length place.1) 0)) faults.Trailing >>= λ _. Ok (Want a.0.0 place.0)) f a.2 in
+    let a = bind_ok (number_at faults.Short w16 bytes)
+    (λ view. number_at faults.Short w16 view.1 >>= λ place. refuse_if (not (eqb (length place.1) 0)) faults.Trailing >>= λ _. Ok
+    (Want view.0 place.0)) f e in
+    let b = bind_ok (number_at faults.Short w16 a.0.1)
+    (λ place. refuse_if (not (eqb (length place.1) 0)) faults.Trailing >>= λ _. Ok (Want a.0.0 place.0)) f a.2 in
     let h = refuse_ok (not (eqb (length b.0.1) 0)) faults.Trailing (λ _. Ok (Want a.0.0 b.0.0)) f b.2 in
     let t0 = short_takes faults.Short bytes a.0.0 a.0.1 fits a.1 in
     let t1 = short_takes faults.Short a.0.1 b.0.0 b.0.1 t0.0.rest_fits b.1 in
     let whole = (Takes-then bytes (two_bytes a.0.0) a.0.1 (two_bytes b.0.0) b.0.1 t0.0 t1.0).parts in
     let nothing : b.0.1 ≡ [] = nil_from_length b.0.1 (eqb-true _ _ (not_false _ h.0)) in
-    let spelled : bytes ≡ two_bytes a.0.0 ++ two_bytes b.0.0 = whole ∙ ap (λ (r : List ℕ). (two_bytes a.0.0 ++ two_bytes b.0.0) ++ r) nothing ∙ append-nil _ in
-    subst (λ (v : FrameView). HasParts v × (1 ∷ 3 ∷ bytes ≡ frame_bytes v)) {x = (Want a.0.0 b.0.0)} {y = f} (ok_is (Want a.0.0 b.0.0) f h.1) ((t0.1, t1.1), ap (λ (t : List ℕ). 1 ∷ 3 ∷ t) spelled)
+    let spelled : bytes ≡ two_bytes a.0.0
+    ++ two_bytes b.0.0 = whole ∙ ap (λ (r : List ℕ). (two_bytes a.0.0 ++ two_bytes b.0.0) ++ r) nothing ∙ append-nil _ in
+    subst (λ (v : FrameView). HasParts v × (1 ∷ 3 ∷ bytes ≡ frame_bytes v)) {x = (Want a.0.0 b.0.0)} {y = f}
+    (ok_is (Want a.0.0 b.0.0) f h.1) ((t0.1, t1.1), ap (λ (t : List ℕ). 1 ∷ 3 ∷ t) spelled)
 
-want_reads : (x k : ℕ) (place : List ℕ) → x < 65536 → number_at faults.Short w16 place ≡ Ok (k, []) → want_at (two_bytes x ++ place) ≡ Ok (Want x k)
+want_reads : (x k : ℕ) (place : List ℕ) → x < 65536 → number_at faults.Short w16 place ≡ Ok (k, [])
+    → want_at (two_bytes x ++ place) ≡ Ok (Want x k)
 unfolding want_at
 want_reads x k place lt read = rw (short_again faults.Short x place lt, read) refl
 
@@ -189,12 +246,14 @@ want_again x k view place = want_reads x k (two_bytes k) view (short_again fault
 
 -- ---- the whole frame
 
-groups_as_take : (kind : List Group → FrameView) (n : ℕ) (bytes : List ℕ) (f : FrameView) → ((gs : List Group) → AreGroups gs → HasParts (kind gs)) → ((gs : List Group) → 1 ∷ n ∷ groups_bytes gs ≡ frame_bytes (kind gs))
+groups_as_take : (kind : List Group → FrameView) (n : ℕ) (bytes : List ℕ) (f : FrameView)
+    → ((gs : List Group) → AreGroups gs → HasParts (kind gs)) → ((gs : List Group) → 1 ∷ n ∷ groups_bytes gs ≡ frame_bytes (kind gs))
     → IsBytes bytes → groups_as kind (all_groups bytes) ≡ Ok f → HasParts f × (1 ∷ n ∷ bytes ≡ frame_bytes f)
 groups_as_take kind n bytes f parts spells fits e =
     let a = bind_ok (all_groups bytes) (λ gs. Ok (kind gs)) f e in
     let t = all_take bytes a.0 fits a.1 in
-    subst (λ (v : FrameView). HasParts v × (1 ∷ n ∷ bytes ≡ frame_bytes v)) {x = (kind a.0)} {y = f} (ok_is (kind a.0) f a.2) (parts a.0 t.0, ap (λ (r : List ℕ). 1 ∷ n ∷ r) t.1 ∙ spells a.0)
+    subst (λ (v : FrameView). HasParts v × (1 ∷ n ∷ bytes ≡ frame_bytes v)) {x = (kind a.0)} {y = f} (ok_is (kind a.0) f a.2)
+    (parts a.0 t.0, ap (λ (r : List ℕ). 1 ∷ n ∷ r) t.1 ∙ spells a.0)
 
 abbrev of_kind : Bool → Bool → Bool → List ℕ → Result FrameView FrameFault
 of_kind bundle proof want bytes =
@@ -202,10 +261,13 @@ of_kind bundle proof want bytes =
     (if proof then groups_as Proof (all_groups bytes) else
     (if want then want_at bytes else Err faults.Kind))
 
-of_kind_takes : (bundle proof want : Bool) (n : ℕ) (bytes : List ℕ) (f : FrameView) → (bundle ≡ true → n ≡ 1) → (proof ≡ true → n ≡ 2) → (want ≡ true → n ≡ 3)
+of_kind_takes : (bundle proof want : Bool) (n : ℕ) (bytes : List ℕ) (f : FrameView) → (bundle ≡ true → n ≡ 1) → (proof ≡ true → n ≡ 2)
+    → (want ≡ true → n ≡ 3)
     → IsBytes bytes → of_kind bundle proof want bytes ≡ Ok f → HasParts f × (1 ∷ n ∷ bytes ≡ frame_bytes f)
-of_kind_takes true proof want n bytes f one two three fits e = rw (one refl) (groups_as_take Bundle 1 bytes f (λ gs h. h) (λ gs. refl) fits e)
-of_kind_takes false true want n bytes f one two three fits e = rw (two refl) (groups_as_take Proof 2 bytes f (λ gs h. h) (λ gs. refl) fits e)
+of_kind_takes true proof want n bytes f one two three fits e = rw (one refl)
+    (groups_as_take Bundle 1 bytes f (λ gs h. h) (λ gs. refl) fits e)
+of_kind_takes false true want n bytes f one two three fits e = rw (two refl)
+    (groups_as_take Proof 2 bytes f (λ gs h. h) (λ gs. refl) fits e)
 of_kind_takes false false true n bytes f one two three fits e = rw (three refl) (want_takes bytes f fits e)
 of_kind_takes false false false n bytes f one two three fits e = absurd cc
 
@@ -225,8 +287,10 @@ frame_takes bytes f fits e =
     let t0 = byte_takes faults.Short bytes a.0.0 a.0.1 fits a.1 in
     let t1 = byte_takes faults.Short a.0.1 b.0.0 b.0.1 t0.0.rest_fits b.1 in
     let version : a.0.0 ≡ 1 = eqb-true _ _ (not_false _ g.0) in
-    let rest = of_kind_takes (eqb b.0.0 1) (eqb b.0.0 2) (eqb b.0.0 3) b.0.0 b.0.1 f (eqb-true _ _) (eqb-true _ _) (eqb-true _ _) t1.0.rest_fits b.2 in
-    let whole : bytes ≡ frame_bytes f = (Takes-then bytes (a.0.0 ∷ []) a.0.1 (b.0.0 ∷ []) b.0.1 t0.0 t1.0).parts ∙ ap (λ (v : ℕ). v ∷ b.0.0 ∷ b.0.1) version ∙ rest.1 in
+    let rest = of_kind_takes (eqb b.0.0 1) (eqb b.0.0 2) (eqb b.0.0 3) b.0.0 b.0.1 f (eqb-true _ _) (eqb-true _ _)
+    (eqb-true _ _) t1.0.rest_fits b.2 in
+    let whole : bytes ≡ frame_bytes f = (Takes-then bytes (a.0.0 ∷ []) a.0.1 (b.0.0 ∷ []) b.0.1 t0.0 t1.0).parts ∙ ap
+    (λ (v : ℕ). v ∷ b.0.0 ∷ b.0.1) version ∙ rest.1 in
     (record { parts = rest.0; size = subst (λ (t : List ℕ). length t ≤ 61000) whole (ltb-false _ _ s.0) }, whole)
 
 pub frame_again : (f : FrameView) → IsFrame f → frame_of (frame_bytes f) ≡ Ok f
@@ -239,6 +303,7 @@ frame_again (Proof gs) fits =
     rw (size, byte_again faults.Short 1 (2 ∷ groups_bytes gs), byte_again faults.Short 2 (groups_bytes gs), all_again gs fits.parts) refl
 frame_again (Want x k) fits = want_again x k fits.parts.0 fits.parts.1
 
-pub is_found : (bytes : List ℕ) (r : Result code.FrameView FrameFault) → IsBytes bytes → Gives frame_view r (frame_of bytes) → IfOk r (λ f. IsFrame (frame_view f) × (bytes ≡ frame_bytes (frame_view f)))
+pub is_found : (bytes : List ℕ) (r : Result code.FrameView FrameFault) → IsBytes bytes → Gives frame_view r (frame_of bytes)
+    → IfOk r (λ f. IsFrame (frame_view f) × (bytes ≡ frame_bytes (frame_view f)))
 is_found bytes (Ok f) fits given = frame_takes bytes (frame_view f) fits given
 is_found bytes (Err e) fits given = tt

@@ -15,7 +15,8 @@ pub record Lends {X : Type 0} (x : X) (whole others : Result (List X × List ℕ
 abbrev with_first : {X : Type 0} → X → Result (List X × List ℕ) FrameFault → Result (List X × List ℕ) FrameFault
 with_first x others = others >>= λ ys. Ok (x ∷ ys.0, ys.1)
 
-lends : {X : Type 0} (x : X) (others : Result (List X × List ℕ) FrameFault) → IsOk (with_first x others) → Lends x (with_first x others) others
+lends : {X : Type 0} (x : X) (others : Result (List X × List ℕ) FrameFault) → IsOk (with_first x others)
+    → Lends x (with_first x others) others
 lends x (Ok ys) ok = record { readable = refl; items = refl }
 lends x (Err e) ok = absurd cc
 
@@ -31,7 +32,8 @@ pub no_groups : (bytes : List ℕ) (n : ℕ) → n ≡ 0 → items_of (groups_at
 unfolding groups_at
 no_groups bytes n e = rw e refl
 
-pub signature_lends : (n least : ℕ) (bytes : List ℕ) (s : ℕ × List ℕ) (after : List ℕ) → n ≢ 0 → IsOk (signatures_at n least bytes) → signature_at least bytes ≡ Ok (s, after)
+pub signature_lends : (n least : ℕ) (bytes : List ℕ) (s : ℕ × List ℕ) (after : List ℕ) → n ≢ 0 → IsOk (signatures_at n least bytes)
+    → signature_at least bytes ≡ Ok (s, after)
     → Lends s (signatures_at n least bytes) (signatures_at (n - 1) (s.0 + 1) after)
 unfolding signatures_at
 signature_lends zero least bytes s after some ok h = absurd (some refl)
@@ -40,7 +42,8 @@ signature_lends (suc n) least bytes s after some ok h =
     let less : suc n - 1 ≡ n = omega arith in
     rw (less, one) (lends s (signatures_at n (s.0 + 1) after) (rw one at ok))
 
-pub signature_stands : (n least : ℕ) (bytes : List ℕ) (e : FrameFault) → n ≢ 0 → IsOk (signatures_at n least bytes) → signature_at least bytes ≡ Err e → ⊥
+pub signature_stands : (n least : ℕ) (bytes : List ℕ) (e : FrameFault) → n ≢ 0 → IsOk (signatures_at n least bytes)
+    → signature_at least bytes ≡ Err e → ⊥
 unfolding signatures_at
 signature_stands zero least bytes e some ok h = some refl
 signature_stands (suc n) least bytes e some ok h =

@@ -22,7 +22,8 @@ has_not (x ∷ xs) p e = go (x == p) refl e (has_not xs p)
     go false is e rest = All-cons (λ x. x ≢ p) x xs (λ same. absurd (let one : (x == p) ≡ true = eq-eqb x p same in cc)) (rest e)
 
 -- of more than one, each once, some are left behind any one
-others-left : (p : ℕ) (ms : List ℕ) → AllPairs (λ m n. m ≢ n) ms → 1 ≤ length ms → (length ms == 1) ≡ false → 1 ≤ length (filter (λ m. not (m == p)) ms)
+others-left : (p : ℕ) (ms : List ℕ) → AllPairs (λ m n. m ≢ n) ms → 1 ≤ length ms → (length ms == 1) ≡ false
+    → 1 ≤ length (filter (λ m. not (m == p)) ms)
 others-left p [] each some more = absurd (omega (arith, some))
 others-left p (a ∷ []) each some more = absurd cc
 others-left p (a ∷ b ∷ ms) each some more = go (a == p) refl (b == p) refl
@@ -36,7 +37,8 @@ others-left p (a ∷ b ∷ ms) each some more = go (a == p) refl (b == p) refl
     go true e false f = omega arith
     go true e true f = absurd (each 0 1 a (omega arith) (omega arith) (eqb-true a p e ∙ sym (eqb-true b p f)))
 
-none-of-three : {A : Type 0} (b c d : Bool) (x y z : A) → first_that_holds ((b, x) ∷ (c, y) ∷ (d, z) ∷ []) ≡ None → (c ≡ false) × (d ≡ false)
+none-of-three : {A : Type 0} (b c d : Bool) (x y z : A) → first_that_holds ((b, x) ∷ (c, y) ∷ (d, z) ∷ []) ≡ None
+    → (c ≡ false) × (d ≡ false)
 none-of-three true c d x y z e = absurd cc
 none-of-three false true d x y z e = absurd cc
 none-of-three false false true x y z e = absurd cc
@@ -48,7 +50,8 @@ next_is_view v (Remove p) e ok =
     let no = none-of-three (v.number == 1023) (not (is_member v p)) (length v.members == 1) ViewsSpent NotMember LastMember e in
     record {
       some = others-left p v.members ok.distinct ok.some no.1;
-      few = (let kept = length-filter (λ m. not (m == p)) v.members in let le = count_by-le-length (λ m. not (m == p)) v.members in let few = ok.few in omega (arith, kept, le, few));
+      few = (let kept = length-filter (λ m. not (m == p)) v.members in let le = count_by-le-length
+          (λ m. not (m == p)) v.members in let few = ok.few in omega (arith, kept, le, few));
       distinct = AllPairs-filter (λ m n. m ≢ n) (λ m. not (m == p)) v.members ok.distinct;
     }
 next_is_view v (Add p) e ok =
@@ -62,4 +65,5 @@ next_is_view v (Add p) e ok =
     }
   where
     one-more : (n m : ℕ) → n ≤ 16 → (n == 16) ≡ false → m ≡ n + 1 → m ≤ 16
-    one-more n m few other long = let differ : n ≢ 16 = (λ same. absurd (let one : (n == 16) ≡ true = eq-eqb n 16 same in cc)) in omega (arith, few, differ, long)
+    one-more n m few other long = let differ : n ≢ 16 = (λ same. absurd (let one : (n == 16) ≡ true = eq-eqb n 16 same in cc)) in omega
+        (arith, few, differ, long)

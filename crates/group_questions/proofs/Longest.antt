@@ -24,7 +24,8 @@ not-less m n le = go (nat_lt m n) refl
 longer-assoc : {A : Type 0} (xs ys zs : List A) → longer xs (longer ys zs) ≡ longer (longer xs ys) zs
 longer-assoc xs ys zs = go (nat_lt (length xs) (length ys)) refl (nat_lt (length ys) (length zs)) refl
   where
-    go : (a : Bool) → nat_lt (length xs) (length ys) ≡ a → (b : Bool) → nat_lt (length ys) (length zs) ≡ b → longer xs (longer ys zs) ≡ longer (longer xs ys) zs
+    go : (a : Bool) → nat_lt (length xs) (length ys) ≡ a → (b : Bool) → nat_lt (length ys) (length zs) ≡ b
+        → longer xs (longer ys zs) ≡ longer (longer xs ys) zs
     go true e true f =
         let less = ltb-true (length xs) (length ys) e in
         let more = ltb-true (length ys) (length zs) f in
@@ -41,7 +42,8 @@ longer-assoc xs ys zs = go (nat_lt (length xs) (length ys)) refl (nat_lt (length
 longer-none : {A : Type 0} (xs : List A) → longer xs [] ≡ longer [] xs
 longer-none [] = refl
 longer-none (x ∷ xs) =
-    go (nat_lt (length (x ∷ xs)) 0) (nat_lt 0 (length (x ∷ xs))) (not-less (length (x ∷ xs)) 0 (omega arith)) (lt-ltb 0 (length (x ∷ xs)) (omega arith))
+    go (nat_lt (length (x ∷ xs)) 0) (nat_lt 0 (length (x ∷ xs))) (not-less (length (x ∷ xs)) 0 (omega arith))
+    (lt-ltb 0 (length (x ∷ xs)) (omega arith))
   where
     go : (a b : Bool) → a ≡ false → b ≡ true → (if a then [] else x ∷ xs) ≡ (if b then x ∷ xs else [])
     go false true e f = refl
@@ -54,14 +56,16 @@ longest-more [] xs = longer-none xs
 longest-more (ys ∷ more) xs = ap (longer ys) (longest-more more xs) ∙ longer-assoc ys (longest more) xs
 
 pub longer-map : {A B : Type 0} (f : A → B) (xs ys : List A) → longer (map f xs) (map f ys) ≡ map f (longer xs ys)
-longer-map f xs ys = (λ i. if nat_lt (length-map xs f i) (length-map ys f i) then map f ys else map f xs) ∙ go (nat_lt (length xs) (length ys))
+longer-map f xs ys = (λ i. if nat_lt (length-map xs f i) (length-map ys f i) then map f ys else map f xs) ∙ go
+    (nat_lt (length xs) (length ys))
   where
     go : (b : Bool) → (if b then map f ys else map f xs) ≡ map f (if b then ys else xs)
     go true = refl
     go false = refl
 
 -- what is made of the longest is the longest of what is made
-pub longest-map : {X A B : Type 0} (f : A → B) (g : X → List A) (xs : List X) → longest (map (λ x. map f (g x)) xs) ≡ map f (longest (map g xs))
+pub longest-map : {X A B : Type 0} (f : A → B) (g : X → List A) (xs : List X)
+    → longest (map (λ x. map f (g x)) xs) ≡ map f (longest (map g xs))
 longest-map f g [] = refl
 longest-map f g (x ∷ xs) = ap (longer (map f (g x))) (longest-map f g xs) ∙ longer-map f (g x) (longest (map g xs))
 
@@ -85,6 +89,8 @@ longest-next {X} g xs i x before now lt at so_far is =
 pub views-of_group : (accounts : List Account) → (group_of (map account accounts)).views ≡ longest (map (λ a. a.views.items) accounts)
 views-of_group accounts = ap longest (map-map (λ (a : told.Account). a.views) account accounts)
 
-pub sequence-of_group : (accounts : List Account) (x : ℕ) → (group_of (map account accounts)).sequence x ≡ without_places (longest (map (λ a. delivered_in (account a) x) accounts))
+pub sequence-of_group : (accounts : List Account) (x : ℕ)
+    → (group_of (map account accounts)).sequence x ≡ without_places (longest (map (λ a. delivered_in (account a) x) accounts))
 sequence-of_group accounts x =
-    ap longest (map-map (λ (a : told.Account). messages_in a x) account accounts) ∙ longest-map letter_of (λ (a : Account). delivered_in (account a) x) accounts
+    ap longest (map-map (λ (a : told.Account). messages_in a x) account accounts) ∙ longest-map letter_of
+    (λ (a : Account). delivered_in (account a) x) accounts

@@ -16,12 +16,16 @@ use Rattle.group_defs.specs.Sending.{answer}
 use Rattle.group_defs.specs.Events.{after, run}
 use Rattle.group_rows.specs.AnswerInPlaces.{s, nine, tenth, echo, turns, certificate, AnswerInPlaces}
 
-from_first : answer (run s (start s 0 16) turns) 0 0 ≡ flat_map certificate (Place 0 0 nine ∷ map echo (range_with_len 0 9) ++ Keep 0 0 nine ∷ Place 0 1 tenth ∷ echo 9 ∷ Keep 0 1 tenth ∷ [])
-unfolding ℕ_discrete bytes_discrete option_discrete pair_discrete Value-discrete Message-discrete list_discrete Batch-discrete placed next_messages least_due hear_all sign_kind sign_kinds sign_all deliver_more settle after run s turns
+from_first : answer (run s (start s 0 16) turns) 0 0
+    ≡ flat_map certificate (Place 0 0 nine ∷ map echo (range_with_len 0 9)
+    ++ Keep 0 0 nine ∷ Place 0 1 tenth ∷ echo 9 ∷ Keep 0 1 tenth ∷ [])
+unfolding ℕ_discrete bytes_discrete option_discrete pair_discrete Value-discrete Message-discrete list_discrete Batch-discrete placed
+    next_messages least_due hear_all sign_kind sign_kinds sign_all deliver_more settle after run s turns
 from_first = refl
 
 from_second : answer (run s (start s 0 16) turns) 0 1 ≡ flat_map certificate (Place 0 1 tenth ∷ echo 9 ∷ Keep 0 1 tenth ∷ [])
-unfolding ℕ_discrete bytes_discrete option_discrete pair_discrete Value-discrete Message-discrete list_discrete Batch-discrete placed next_messages least_due hear_all sign_kind sign_kinds sign_all deliver_more settle after run s turns
+unfolding ℕ_discrete bytes_discrete option_discrete pair_discrete Value-discrete Message-discrete list_discrete Batch-discrete placed
+    next_messages least_due hear_all sign_kind sign_kinds sign_all deliver_more settle after run s turns
 from_second = refl
 
 pub answer_in_places : AnswerInPlaces

@@ -20,19 +20,25 @@ use Rattle.group_rows.proofs.Premises.{is_well_set, premises-of, four}
 use Rattle.group_rows.specs.LyingBatches.{s, turns_1, answers_1, turns_2, answers_2, turns_3, answers_3, f, LyingBatches}
 
 row_1 : seen s (start s 1 16) turns_1 ≡ answers_1
-unfolding ℕ_discrete bytes_discrete option_discrete pair_discrete Value-discrete Message-discrete list_discrete Batch-discrete placed next_messages least_due hear_all sign_kind sign_kinds sign_all deliver_more settle after s turns_1 answers_1
+unfolding ℕ_discrete bytes_discrete option_discrete pair_discrete Value-discrete Message-discrete list_discrete Batch-discrete placed
+    next_messages least_due hear_all sign_kind sign_kinds sign_all deliver_more settle after s turns_1 answers_1
 row_1 = refl
 
 row_2 : seen s (start s 2 16) turns_2 ≡ answers_2
-unfolding ℕ_discrete bytes_discrete option_discrete pair_discrete Value-discrete Message-discrete list_discrete Batch-discrete placed next_messages least_due hear_all sign_kind sign_kinds sign_all deliver_more settle after s turns_2 answers_2
+unfolding ℕ_discrete bytes_discrete option_discrete pair_discrete Value-discrete Message-discrete list_discrete Batch-discrete placed
+    next_messages least_due hear_all sign_kind sign_kinds sign_all deliver_more settle after s turns_2 answers_2
 row_2 = refl
 
 row_3 : seen s (start s 3 16) turns_3 ≡ answers_3
-unfolding ℕ_discrete bytes_discrete option_discrete pair_discrete Value-discrete Message-discrete list_discrete Batch-discrete placed next_messages least_due hear_all sign_kind sign_kinds sign_all deliver_more settle after s turns_3 answers_3
+unfolding ℕ_discrete bytes_discrete option_discrete pair_discrete Value-discrete Message-discrete list_discrete Batch-discrete placed
+    next_messages least_due hear_all sign_kind sign_kinds sign_all deliver_more settle after s turns_3 answers_3
 row_3 = refl
 
-judged : honest f ∷ bounded (accounts f) (numbers f) ∷ agree (accounts f) ∷ sound (accounts f) (keyed f.setting) ∷ [] ≡ true ∷ true ∷ true ∷ true ∷ []
-unfolding ℕ_discrete bytes_discrete option_discrete pair_discrete Value-discrete Message-discrete list_discrete Batch-discrete placed next_messages least_due hear_all sign_kind sign_kinds sign_all deliver_more settle after run View-discrete Letter-discrete Delivered-discrete f s turns_1 turns_2 turns_3
+judged : honest f ∷ bounded (accounts f) (numbers f) ∷ agree (accounts f) ∷ sound (accounts f) (keyed f.setting) ∷ []
+    ≡ true ∷ true ∷ true ∷ true ∷ []
+unfolding ℕ_discrete bytes_discrete option_discrete pair_discrete Value-discrete Message-discrete list_discrete Batch-discrete placed
+    next_messages least_due hear_all sign_kind sign_kinds sign_all deliver_more settle after run View-discrete Letter-discrete
+    Delivered-discrete f s turns_1 turns_2 turns_3
 judged = refl
 
 well_set : is_well_set f ≡ true

@@ -18,8 +18,11 @@ use Rattle.group_rows.proofs.Premises.{not-agreed, four}
 use Rattle.safety_laws.proofs.Tested.{bounded_is_tested, honest_is_tested}
 use Rattle.group_rows.specs.NumberTwice.{s, turns_a, turns_b, f, NumberTwice}
 
-judged : honest f ∷ bounded (accounts f) (numbers f) ∷ agree (accounts f) ∷ sound (accounts f) (keyed f.setting) ∷ [] ≡ true ∷ true ∷ false ∷ false ∷ []
-unfolding ℕ_discrete bytes_discrete option_discrete pair_discrete Value-discrete Message-discrete list_discrete Batch-discrete placed next_messages least_due hear_all sign_kind sign_kinds sign_all deliver_more settle after run View-discrete Letter-discrete Delivered-discrete f s turns_a turns_b
+judged : honest f ∷ bounded (accounts f) (numbers f) ∷ agree (accounts f) ∷ sound (accounts f) (keyed f.setting) ∷ []
+    ≡ true ∷ true ∷ false ∷ false ∷ []
+unfolding ℕ_discrete bytes_discrete option_discrete pair_discrete Value-discrete Message-discrete list_discrete Batch-discrete placed
+    next_messages least_due hear_all sign_kind sign_kinds sign_all deliver_more settle after run View-discrete Letter-discrete
+    Delivered-discrete f s turns_a turns_b
 judged = refl
 
 is_honest : Honest f

@@ -18,11 +18,15 @@ use Rattle.group_defs.specs.Family.{accounts, numbers, honest}
 use Rattle.group_rows.specs.OrderBehind.{s, turns_0, answers_0, f, OrderBehind}
 
 row_0 : seen s (start s 0 16) turns_0 ≡ answers_0
-unfolding ℕ_discrete bytes_discrete option_discrete pair_discrete Value-discrete Message-discrete list_discrete Batch-discrete placed next_messages least_due hear_all sign_kind sign_kinds sign_all deliver_more settle after s turns_0 answers_0
+unfolding ℕ_discrete bytes_discrete option_discrete pair_discrete Value-discrete Message-discrete list_discrete Batch-discrete placed
+    next_messages least_due hear_all sign_kind sign_kinds sign_all deliver_more settle after s turns_0 answers_0
 row_0 = refl
 
-judged : honest f ∷ bounded (accounts f) (numbers f) ∷ agree (accounts f) ∷ sound (accounts f) (keyed f.setting) ∷ [] ≡ true ∷ false ∷ true ∷ false ∷ []
-unfolding ℕ_discrete bytes_discrete option_discrete pair_discrete Value-discrete Message-discrete list_discrete Batch-discrete placed next_messages least_due hear_all sign_kind sign_kinds sign_all deliver_more settle after run View-discrete Letter-discrete Delivered-discrete f s turns_0
+judged : honest f ∷ bounded (accounts f) (numbers f) ∷ agree (accounts f) ∷ sound (accounts f) (keyed f.setting) ∷ []
+    ≡ true ∷ false ∷ true ∷ false ∷ []
+unfolding ℕ_discrete bytes_discrete option_discrete pair_discrete Value-discrete Message-discrete list_discrete Batch-discrete placed
+    next_messages least_due hear_all sign_kind sign_kinds sign_all deliver_more settle after run View-discrete Letter-discrete
+    Delivered-discrete f s turns_0
 judged = refl
 
 pub order_behind : OrderBehind

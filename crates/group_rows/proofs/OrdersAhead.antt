@@ -15,7 +15,8 @@ use Rattle.group_rows.specs.Scripts.{msg}
 use Rattle.group_rows.specs.OrdersAhead.{s, first, turns, end, OrdersAhead}
 
 orders : own_orders end ≡ first ∷ map (λ l. msg 0 l ∷ []) (range_with_len 2 32)
-unfolding ℕ_discrete bytes_discrete option_discrete pair_discrete Value-discrete Message-discrete list_discrete Batch-discrete placed next_messages least_due hear_all sign_kind sign_kinds sign_all deliver_more settle after run s turns end
+unfolding ℕ_discrete bytes_discrete option_discrete pair_discrete Value-discrete Message-discrete list_discrete Batch-discrete placed
+    next_messages least_due hear_all sign_kind sign_kinds sign_all deliver_more settle after run s turns end
 orders = refl
 
 pub orders_ahead : OrdersAhead

@@ -70,7 +70,8 @@ premises-of f set is_honest is_bounded =
     record {
       genesis = view-is f (and-first (is_view f.setting.genesis.members) (f.setting.genesis.number == 0) two);
       first = eqb-true f.setting.genesis.number 0 (and-second (is_view f.setting.genesis.members) (f.setting.genesis.number == 0) two);
-      rising = rising (numbers f) (and-second (is_view f.setting.genesis.members && (f.setting.genesis.number == 0)) (are_rising (numbers f)) set);
+      rising = rising (numbers f) (and-second (is_view f.setting.genesis.members && (f.setting.genesis.number == 0))
+          (are_rising (numbers f)) set);
       honest = (honest_is_tested f).0 is_honest;
       bounded = (bounded_is_tested (accounts f) (numbers f)).0 is_bounded;
     }

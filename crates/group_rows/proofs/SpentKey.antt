@@ -20,11 +20,15 @@ use Rattle.group_rows.proofs.Premises.{is_well_set, premises-of, four}
 use Rattle.group_rows.specs.SpentKey.{s, turns_0, answers_0, f, SpentKey}
 
 row_0 : seen s (start s 0 1) turns_0 ≡ answers_0
-unfolding ℕ_discrete bytes_discrete option_discrete pair_discrete Value-discrete Message-discrete list_discrete Batch-discrete placed next_messages least_due hear_all sign_kind sign_kinds sign_all deliver_more settle after s turns_0 answers_0
+unfolding ℕ_discrete bytes_discrete option_discrete pair_discrete Value-discrete Message-discrete list_discrete Batch-discrete placed
+    next_messages least_due hear_all sign_kind sign_kinds sign_all deliver_more settle after s turns_0 answers_0
 row_0 = refl
 
-judged : honest f ∷ bounded (accounts f) (numbers f) ∷ agree (accounts f) ∷ sound (accounts f) (keyed f.setting) ∷ [] ≡ true ∷ true ∷ true ∷ true ∷ []
-unfolding ℕ_discrete bytes_discrete option_discrete pair_discrete Value-discrete Message-discrete list_discrete Batch-discrete placed next_messages least_due hear_all sign_kind sign_kinds sign_all deliver_more settle after run View-discrete Letter-discrete Delivered-discrete f s turns_0
+judged : honest f ∷ bounded (accounts f) (numbers f) ∷ agree (accounts f) ∷ sound (accounts f) (keyed f.setting) ∷ []
+    ≡ true ∷ true ∷ true ∷ true ∷ []
+unfolding ℕ_discrete bytes_discrete option_discrete pair_discrete Value-discrete Message-discrete list_discrete Batch-discrete placed
+    next_messages least_due hear_all sign_kind sign_kinds sign_all deliver_more settle after run View-discrete Letter-discrete
+    Delivered-discrete f s turns_0
 judged = refl
 
 well_set : is_well_set f ≡ true

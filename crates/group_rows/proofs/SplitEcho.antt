@@ -20,15 +20,20 @@ use Rattle.safety_laws.proofs.Tested.{bounded_is_tested, honest_is_tested}
 use Rattle.group_rows.specs.SplitEcho.{s, turns_0, answers_0, turns_1, answers_1, f, g, SplitEcho}
 
 row_0 : seen s (start s 0 1) turns_0 ≡ answers_0
-unfolding ℕ_discrete bytes_discrete option_discrete pair_discrete Value-discrete Message-discrete list_discrete Batch-discrete placed next_messages least_due hear_all sign_kind sign_kinds sign_all deliver_more settle after s turns_0 answers_0
+unfolding ℕ_discrete bytes_discrete option_discrete pair_discrete Value-discrete Message-discrete list_discrete Batch-discrete placed
+    next_messages least_due hear_all sign_kind sign_kinds sign_all deliver_more settle after s turns_0 answers_0
 row_0 = refl
 
 row_1 : seen s (start s 1 1) turns_1 ≡ answers_1
-unfolding ℕ_discrete bytes_discrete option_discrete pair_discrete Value-discrete Message-discrete list_discrete Batch-discrete placed next_messages least_due hear_all sign_kind sign_kinds sign_all deliver_more settle after s turns_1 answers_1
+unfolding ℕ_discrete bytes_discrete option_discrete pair_discrete Value-discrete Message-discrete list_discrete Batch-discrete placed
+    next_messages least_due hear_all sign_kind sign_kinds sign_all deliver_more settle after s turns_1 answers_1
 row_1 = refl
 
-judged : honest f ∷ bounded (accounts f) (numbers f) ∷ agree (accounts f) ∷ sound (accounts f) (keyed f.setting) ∷ [] ≡ true ∷ false ∷ false ∷ true ∷ []
-unfolding ℕ_discrete bytes_discrete option_discrete pair_discrete Value-discrete Message-discrete list_discrete Batch-discrete placed next_messages least_due hear_all sign_kind sign_kinds sign_all deliver_more settle after run View-discrete Letter-discrete Delivered-discrete f s turns_0 turns_1
+judged : honest f ∷ bounded (accounts f) (numbers f) ∷ agree (accounts f) ∷ sound (accounts f) (keyed f.setting) ∷ []
+    ≡ true ∷ false ∷ false ∷ true ∷ []
+unfolding ℕ_discrete bytes_discrete option_discrete pair_discrete Value-discrete Message-discrete list_discrete Batch-discrete placed
+    next_messages least_due hear_all sign_kind sign_kinds sign_all deliver_more settle after run View-discrete Letter-discrete
+    Delivered-discrete f s turns_0 turns_1
 judged = refl
 
 well_set : is_well_set f ≡ true
@@ -44,8 +49,11 @@ is_not_bounded = not-bounded f (four judged).1
 is_not_agreed : Agree (accounts f) → ⊥
 is_not_agreed = not-agreed f (four judged).2
 
-judged_g : honest g ∷ bounded (accounts g) (numbers g) ∷ agree (accounts g) ∷ sound (accounts g) (keyed g.setting) ∷ [] ≡ false ∷ true ∷ false ∷ false ∷ []
-unfolding ℕ_discrete bytes_discrete option_discrete pair_discrete Value-discrete Message-discrete list_discrete Batch-discrete placed next_messages least_due hear_all sign_kind sign_kinds sign_all deliver_more settle after run View-discrete Letter-discrete Delivered-discrete g s turns_0 turns_1
+judged_g : honest g ∷ bounded (accounts g) (numbers g) ∷ agree (accounts g) ∷ sound (accounts g) (keyed g.setting) ∷ []
+    ≡ false ∷ true ∷ false ∷ false ∷ []
+unfolding ℕ_discrete bytes_discrete option_discrete pair_discrete Value-discrete Message-discrete list_discrete Batch-discrete placed
+    next_messages least_due hear_all sign_kind sign_kinds sign_all deliver_more settle after run View-discrete Letter-discrete
+    Delivered-discrete g s turns_0 turns_1
 judged_g = refl
 
 well_set_g : is_well_set g ≡ true

@@ -46,6 +46,6 @@ certificate st = by 0 st ∷ by 1 st ∷ []
 -- the row: what the definitions give
 pub record AnswerInPlaces : Type 0 where
   pub from_first : answer (run s (start s 0 16) turns) 0 0
-    ≡ flat_map certificate (Place 0 0 nine ∷ map echo (range_with_len 0 9)
-    ++ Keep 0 0 nine ∷ Place 0 1 tenth ∷ echo 9 ∷ Keep 0 1 tenth ∷ [])
+      ≡ flat_map certificate (Place 0 0 nine ∷ map echo (range_with_len 0 9)
+      ++ Keep 0 0 nine ∷ Place 0 1 tenth ∷ echo 9 ∷ Keep 0 1 tenth ∷ [])
   pub from_second : answer (run s (start s 0 16) turns) 0 1 ≡ flat_map certificate (Place 0 1 tenth ∷ echo 9 ∷ Keep 0 1 tenth ∷ [])

@@ -19,70 +19,129 @@ turns_0 =
     ∷ turn 99996 (Hand 1 (Claims (by 1 (Init 0 0 (98 ∷ [])) ∷ by 1 (Echo 0 (msg 1 0) (98 ∷ [])) ∷ [])))
     ∷ turn 99995 Tick
     ∷ turn 99995 (Hand 1 (Claims (by 1 (Echo 0 (msg 0 0) (97 ∷ [])) ∷ by 1 (Echo 0 (msg 0 1) (99 ∷ []))
-      ∷ by 1 (Order 0 0 (msg 1 0 ∷ msg 0 0 ∷ msg 0 1 ∷ [])) ∷ by 1 (Place 0 0 (msg 1 0 ∷ msg 0 0 ∷ msg 0 1 ∷ []))
-      ∷ by 0 (Echo 0 (msg 1 0) (98 ∷ [])) ∷ by 1 (Echo 0 (msg 1 0) (98 ∷ [])) ∷ by 0 (Echo 0 (msg 0 0) (97 ∷ []))
-      ∷ by 0 (Echo 0 (msg 0 1) (99 ∷ [])) ∷ [])))
+    ∷ by 1 (Order 0 0 (msg 1 0 ∷ msg 0 0 ∷ msg 0 1 ∷ [])) ∷ by 1 (Place 0 0 (msg 1 0 ∷ msg 0 0 ∷ msg 0 1 ∷ []))
+    ∷ by 0 (Echo 0 (msg 1 0) (98 ∷ [])) ∷ by 1 (Echo 0 (msg 1 0) (98 ∷ [])) ∷ by 0 (Echo 0 (msg 0 0) (97 ∷ []))
+    ∷ by 0 (Echo 0 (msg 0 1) (99 ∷ [])) ∷ [])))
     ∷ turn 99993 (Hand 1 (Claims (by 1 (Keep 0 0 (msg 1 0 ∷ msg 0 0 ∷ msg 0 1 ∷ [])) ∷ [])))
     ∷ []
 
 unfoldable pub answers_0 : List Seen
-answers_0 =
-    (None, ((Init 0 0 (97 ∷ [])) ∷ (Echo 0 (msg 0 0) (97 ∷ [])) ∷ []),
-      (((1 ∷ []), (1 ∷ 1 ∷ 2 ∷ 0 ∷ 8 ∷ 1 ∷ 0 ∷ 0 ∷ 0 ∷ 0 ∷ 0 ∷ 1 ∷ 97 ∷ 1 ∷ 0 ∷ 0 ∷ 0 ∷ 0 ∷ 9 ∷ 2 ∷ 0 ∷ 0 ∷ 0 ∷ 0 ∷ 0 ∷ 0 ∷ 1 ∷ 97 ∷ 1 ∷ 0
-      ∷ 0 ∷ 0 ∷ [])) ∷ []), ([]))
-    ∷ (None, ((Init 0 1 (99 ∷ [])) ∷ (Echo 0 (msg 0 1) (99 ∷ [])) ∷ []),
-      (((1 ∷ []), (1 ∷ 1 ∷ 2 ∷ 0 ∷ 8 ∷ 1 ∷ 0 ∷ 0 ∷ 0 ∷ 1 ∷ 0 ∷ 1 ∷ 99 ∷ 1 ∷ 0 ∷ 0 ∷ 0 ∷ 0 ∷ 9 ∷ 2 ∷ 0 ∷ 0 ∷ 0 ∷ 0 ∷ 1 ∷ 0 ∷ 1 ∷ 99 ∷ 1 ∷ 0
-      ∷ 0 ∷ 0 ∷ [])) ∷ []), ([]))
-    ∷ (None, ((Echo 0 (msg 1 0) (98 ∷ [])) ∷ []),
-      (((1 ∷ []), (1 ∷ 1 ∷ 1 ∷ 0 ∷ 9 ∷ 2 ∷ 0 ∷ 0 ∷ 1 ∷ 0 ∷ 0 ∷ 0 ∷ 1 ∷ 98 ∷ 1 ∷ 0 ∷ 0 ∷ 0 ∷ [])) ∷ []), ([]))
-    ∷ (None, ([]), (((1 ∷ []), (1 ∷ 1 ∷ 5 ∷ 0 ∷ 8 ∷ 1 ∷ 0 ∷ 0 ∷ 0 ∷ 0 ∷ 0 ∷ 1 ∷ 97 ∷ 1 ∷ 0 ∷ 0 ∷ 0 ∷ 0 ∷ 9 ∷ 2 ∷ 0 ∷ 0 ∷ 0 ∷ 0 ∷ 0 ∷ 0 ∷ 1
-      ∷ 97 ∷ 1 ∷ 0 ∷ 0 ∷ 0 ∷ 0 ∷ 8 ∷ 1 ∷ 0 ∷ 0 ∷ 0 ∷ 1 ∷ 0 ∷ 1 ∷ 99 ∷ 1 ∷ 0 ∷ 0 ∷ 0 ∷ 0 ∷ 9 ∷ 2 ∷ 0 ∷ 0 ∷ 0 ∷ 0 ∷ 1 ∷ 0 ∷ 1 ∷ 99 ∷ 1 ∷ 0 ∷ 0
-      ∷ 0 ∷ 0 ∷ 9 ∷ 2 ∷ 0 ∷ 0 ∷ 1 ∷ 0 ∷ 0 ∷ 0 ∷ 1 ∷ 98 ∷ 1 ∷ 0 ∷ 0 ∷ 0 ∷ [])) ∷ ((1 ∷ []), (1 ∷ 3 ∷ 0 ∷ 0 ∷ 0 ∷ 0 ∷ [])) ∷ []), ([]))
-    ∷ (None, ((Place 0 0 (msg 1 0 ∷ msg 0 0 ∷ msg 0 1 ∷ [])) ∷ (Keep 0 0 (msg 1 0 ∷ msg 0 0 ∷ msg 0 1 ∷ [])) ∷ []),
-      (((1 ∷ []), (1 ∷ 1 ∷ 2 ∷ 0 ∷ 15 ∷ 13 ∷ 0 ∷ 0 ∷ 0 ∷ 0 ∷ 3 ∷ 1 ∷ 0 ∷ 0 ∷ 0 ∷ 0 ∷ 0 ∷ 0 ∷ 0 ∷ 1 ∷ 1 ∷ 0 ∷ 0 ∷ 0 ∷ 0 ∷ 15 ∷ 14 ∷ 0 ∷ 0 ∷ 0
-      ∷ 0 ∷ 3 ∷ 1 ∷ 0 ∷ 0 ∷ 0 ∷ 0 ∷ 0 ∷ 0 ∷ 0 ∷ 1 ∷ 1 ∷ 0 ∷ 0 ∷ 0 ∷ [])) ∷ []), ([]))
-    ∷ (None, ([]), ([]), (Delivers 0 (record { place = 0; message = msg 1 0; payload = 98 ∷ [] })
-      ∷ Delivers 0 (record { place = 0; message = msg 0 0; payload = 97 ∷ [] })
-      ∷ Delivers 0 (record { place = 0; message = msg 0 1; payload = 99 ∷ [] }) ∷ []))
+answers_0 = (
+  None,
+  ((Init 0 0 (97 ∷ [])) ∷ (Echo 0 (msg 0 0) (97 ∷ [])) ∷ []),
+  ((
+    (1 ∷ []),
+    (1 ∷ 1 ∷ 2 ∷ 0 ∷ 8 ∷ 1 ∷ 0 ∷ 0 ∷ 0 ∷ 0 ∷ 0 ∷ 1 ∷ 97 ∷ 1 ∷ 0 ∷ 0 ∷ 0 ∷ 0 ∷ 9 ∷ 2 ∷ 0 ∷ 0 ∷ 0 ∷ 0 ∷ 0 ∷ 0 ∷ 1 ∷ 97 ∷ 1 ∷ 0
+        ∷ 0 ∷ 0 ∷ []),
+  ) ∷ []),
+  ([]),
+)
+    ∷ (
+      None,
+      ((Init 0 1 (99 ∷ [])) ∷ (Echo 0 (msg 0 1) (99 ∷ [])) ∷ []),
+      ((
+        (1 ∷ []),
+        (1 ∷ 1 ∷ 2 ∷ 0 ∷ 8 ∷ 1 ∷ 0 ∷ 0 ∷ 0 ∷ 1 ∷ 0 ∷ 1 ∷ 99 ∷ 1 ∷ 0 ∷ 0 ∷ 0 ∷ 0 ∷ 9 ∷ 2 ∷ 0 ∷ 0 ∷ 0 ∷ 0 ∷ 1 ∷ 0 ∷ 1 ∷ 99 ∷ 1 ∷ 0
+            ∷ 0 ∷ 0 ∷ []),
+      ) ∷ []),
+      ([]),
+    )
+    ∷ (
+      None,
+      ((Echo 0 (msg 1 0) (98 ∷ [])) ∷ []),
+      (((1 ∷ []), (1 ∷ 1 ∷ 1 ∷ 0 ∷ 9 ∷ 2 ∷ 0 ∷ 0 ∷ 1 ∷ 0 ∷ 0 ∷ 0 ∷ 1 ∷ 98 ∷ 1 ∷ 0 ∷ 0 ∷ 0 ∷ [])) ∷ []),
+      ([]),
+    )
+    ∷ (
+      None,
+      ([]),
+      ((
+        (1 ∷ []),
+        (1 ∷ 1 ∷ 5 ∷ 0 ∷ 8 ∷ 1 ∷ 0 ∷ 0 ∷ 0 ∷ 0 ∷ 0 ∷ 1 ∷ 97 ∷ 1 ∷ 0 ∷ 0 ∷ 0 ∷ 0 ∷ 9 ∷ 2 ∷ 0 ∷ 0 ∷ 0 ∷ 0 ∷ 0 ∷ 0 ∷ 1
+            ∷ 97 ∷ 1 ∷ 0 ∷ 0 ∷ 0 ∷ 0 ∷ 8 ∷ 1 ∷ 0 ∷ 0 ∷ 0 ∷ 1 ∷ 0 ∷ 1 ∷ 99 ∷ 1 ∷ 0 ∷ 0 ∷ 0 ∷ 0 ∷ 9 ∷ 2 ∷ 0 ∷ 0 ∷ 0 ∷ 0 ∷ 1 ∷ 0 ∷ 1 ∷ 99 ∷ 1
+            ∷ 0 ∷ 0
+            ∷ 0 ∷ 0 ∷ 9 ∷ 2 ∷ 0 ∷ 0 ∷ 1 ∷ 0 ∷ 0 ∷ 0 ∷ 1 ∷ 98 ∷ 1 ∷ 0 ∷ 0 ∷ 0 ∷ []),
+      ) ∷ ((1 ∷ []), (1 ∷ 3 ∷ 0 ∷ 0 ∷ 0 ∷ 0 ∷ [])) ∷ []),
+      ([]),
+    )
+    ∷ (
+      None,
+      ((Place 0 0 (msg 1 0 ∷ msg 0 0 ∷ msg 0 1 ∷ [])) ∷ (Keep 0 0 (msg 1 0 ∷ msg 0 0 ∷ msg 0 1 ∷ [])) ∷ []),
+      ((
+        (1 ∷ []),
+        (1 ∷ 1 ∷ 2 ∷ 0 ∷ 15 ∷ 13 ∷ 0 ∷ 0 ∷ 0 ∷ 0 ∷ 3 ∷ 1 ∷ 0 ∷ 0 ∷ 0 ∷ 0 ∷ 0 ∷ 0 ∷ 0 ∷ 1 ∷ 1 ∷ 0 ∷ 0 ∷ 0 ∷ 0 ∷ 15 ∷ 14 ∷ 0 ∷ 0 ∷ 0
+            ∷ 0 ∷ 3 ∷ 1 ∷ 0 ∷ 0 ∷ 0 ∷ 0 ∷ 0 ∷ 0 ∷ 0 ∷ 1 ∷ 1 ∷ 0 ∷ 0 ∷ 0 ∷ []),
+      ) ∷ []),
+      ([]),
+    )
+    ∷ (
+      None,
+      ([]),
+      ([]),
+      (Delivers 0 (record { place = 0; message = msg 1 0; payload = 98 ∷ [] })
+          ∷ Delivers 0 (record { place = 0; message = msg 0 0; payload = 97 ∷ [] })
+          ∷ Delivers 0 (record { place = 0; message = msg 0 1; payload = 99 ∷ [] }) ∷ []),
+    )
     ∷ []
 
 unfoldable pub turns_1 : List Turn
 turns_1 =
     turn 100000 (Submit (98 ∷ []))
     ∷ turn 99998 (Hand 0 (Claims (by 0 (Init 0 0 (97 ∷ [])) ∷ by 0 (Echo 0 (msg 0 0) (97 ∷ [])) ∷ by 0 (Init 0 1 (99 ∷ []))
-      ∷ by 0 (Echo 0 (msg 0 1) (99 ∷ [])) ∷ by 0 (Echo 0 (msg 1 0) (98 ∷ [])) ∷ [])))
+    ∷ by 0 (Echo 0 (msg 0 1) (99 ∷ [])) ∷ by 0 (Echo 0 (msg 1 0) (98 ∷ [])) ∷ [])))
     ∷ turn 99994 (Hand 0 (Wants 0 0))
     ∷ turn 99994 (Hand 0 (Claims (by 0 (Place 0 0 (msg 1 0 ∷ msg 0 0 ∷ msg 0 1 ∷ [])) ∷ by 0 (Keep 0 0 (msg 1 0 ∷ msg 0 0 ∷ msg 0 1 ∷ []))
-      ∷ [])))
+    ∷ [])))
     ∷ []
 
 unfoldable pub answers_1 : List Seen
-answers_1 =
-    (None, ((Init 0 0 (98 ∷ [])) ∷ (Echo 0 (msg 1 0) (98 ∷ [])) ∷ []),
-      (((0 ∷ []), (1 ∷ 1 ∷ 2 ∷ 0 ∷ 8 ∷ 1 ∷ 0 ∷ 0 ∷ 0 ∷ 0 ∷ 0 ∷ 1 ∷ 98 ∷ 1 ∷ 1 ∷ 0 ∷ 0 ∷ 0 ∷ 9 ∷ 2 ∷ 0 ∷ 0 ∷ 1 ∷ 0 ∷ 0 ∷ 0 ∷ 1 ∷ 98 ∷ 1 ∷ 1
-      ∷ 0 ∷ 0 ∷ [])) ∷ []), ([]))
-    ∷ (None, ((Echo 0 (msg 0 0) (97 ∷ [])) ∷ (Echo 0 (msg 0 1) (99 ∷ [])) ∷ (Order 0 0 (msg 1 0 ∷ msg 0 0 ∷ msg 0 1 ∷ []))
-      ∷ (Place 0 0 (msg 1 0 ∷ msg 0 0 ∷ msg 0 1 ∷ [])) ∷ []),
-      (((0 ∷ []), (1 ∷ 1 ∷ 7 ∷ 0 ∷ 9 ∷ 2 ∷ 0 ∷ 0 ∷ 0 ∷ 0 ∷ 0 ∷ 0 ∷ 1 ∷ 97 ∷ 1 ∷ 1 ∷ 0 ∷ 0 ∷ 0 ∷ 9 ∷ 2 ∷ 0 ∷ 0 ∷ 0 ∷ 0 ∷ 1 ∷ 0 ∷ 1 ∷ 99 ∷ 1
-      ∷ 1 ∷ 0 ∷ 0 ∷ 0 ∷ 15 ∷ 12 ∷ 0 ∷ 0 ∷ 0 ∷ 0 ∷ 3 ∷ 1 ∷ 0 ∷ 0 ∷ 0 ∷ 0 ∷ 0 ∷ 0 ∷ 0 ∷ 1 ∷ 1 ∷ 1 ∷ 0 ∷ 0 ∷ 0 ∷ 15 ∷ 13 ∷ 0 ∷ 0 ∷ 0 ∷ 0 ∷ 3
-      ∷ 1 ∷ 0 ∷ 0 ∷ 0 ∷ 0 ∷ 0 ∷ 0 ∷ 0 ∷ 1 ∷ 1 ∷ 1 ∷ 0 ∷ 0 ∷ 0 ∷ 9 ∷ 2 ∷ 0 ∷ 0 ∷ 1 ∷ 0 ∷ 0 ∷ 0 ∷ 1 ∷ 98 ∷ 2 ∷ 0 ∷ 0 ∷ 0 ∷ 1 ∷ 0 ∷ 0 ∷ 0 ∷ 9
-      ∷ 2 ∷ 0 ∷ 0 ∷ 0 ∷ 0 ∷ 0 ∷ 0 ∷ 1 ∷ 97 ∷ 1 ∷ 0 ∷ 0 ∷ 0 ∷ 0 ∷ 9 ∷ 2 ∷ 0 ∷ 0 ∷ 0 ∷ 0 ∷ 1 ∷ 0 ∷ 1 ∷ 99 ∷ 1 ∷ 0 ∷ 0 ∷ 0 ∷ [])) ∷ []), ([]))
+answers_1 = (
+  None,
+  ((Init 0 0 (98 ∷ [])) ∷ (Echo 0 (msg 1 0) (98 ∷ [])) ∷ []),
+  ((
+    (0 ∷ []),
+    (1 ∷ 1 ∷ 2 ∷ 0 ∷ 8 ∷ 1 ∷ 0 ∷ 0 ∷ 0 ∷ 0 ∷ 0 ∷ 1 ∷ 98 ∷ 1 ∷ 1 ∷ 0 ∷ 0 ∷ 0 ∷ 9 ∷ 2 ∷ 0 ∷ 0 ∷ 1 ∷ 0 ∷ 0 ∷ 0 ∷ 1 ∷ 98 ∷ 1 ∷ 1
+        ∷ 0 ∷ 0 ∷ []),
+  ) ∷ []),
+  ([]),
+)
+    ∷ (
+      None,
+      ((Echo 0 (msg 0 0) (97 ∷ [])) ∷ (Echo 0 (msg 0 1) (99 ∷ [])) ∷ (Order 0 0 (msg 1 0 ∷ msg 0 0 ∷ msg 0 1 ∷ []))
+          ∷ (Place 0 0 (msg 1 0 ∷ msg 0 0 ∷ msg 0 1 ∷ [])) ∷ []),
+      ((
+        (0 ∷ []),
+        (1 ∷ 1 ∷ 7 ∷ 0 ∷ 9 ∷ 2 ∷ 0 ∷ 0 ∷ 0 ∷ 0 ∷ 0 ∷ 0 ∷ 1 ∷ 97 ∷ 1 ∷ 1 ∷ 0 ∷ 0 ∷ 0 ∷ 9 ∷ 2 ∷ 0 ∷ 0 ∷ 0 ∷ 0 ∷ 1 ∷ 0 ∷ 1 ∷ 99 ∷ 1
+            ∷ 1 ∷ 0 ∷ 0 ∷ 0 ∷ 15 ∷ 12 ∷ 0 ∷ 0 ∷ 0 ∷ 0 ∷ 3 ∷ 1 ∷ 0 ∷ 0 ∷ 0 ∷ 0 ∷ 0 ∷ 0 ∷ 0 ∷ 1 ∷ 1 ∷ 1 ∷ 0 ∷ 0 ∷ 0 ∷ 15 ∷ 13 ∷ 0 ∷ 0 ∷ 0 ∷ 0
+            ∷ 3
+            ∷ 1 ∷ 0 ∷ 0 ∷ 0 ∷ 0 ∷ 0 ∷ 0 ∷ 0 ∷ 1 ∷ 1 ∷ 1 ∷ 0 ∷ 0 ∷ 0 ∷ 9 ∷ 2 ∷ 0 ∷ 0 ∷ 1 ∷ 0 ∷ 0 ∷ 0 ∷ 1 ∷ 98 ∷ 2 ∷ 0 ∷ 0 ∷ 0 ∷ 1 ∷ 0 ∷ 0 ∷ 0
+            ∷ 9
+            ∷ 2 ∷ 0 ∷ 0 ∷ 0 ∷ 0 ∷ 0 ∷ 0 ∷ 1 ∷ 97 ∷ 1 ∷ 0 ∷ 0 ∷ 0 ∷ 0 ∷ 9 ∷ 2 ∷ 0 ∷ 0 ∷ 0 ∷ 0 ∷ 1 ∷ 0 ∷ 1 ∷ 99 ∷ 1 ∷ 0 ∷ 0 ∷ 0 ∷ []),
+      ) ∷ []),
+      ([]),
+    )
     ∷ (None, ([]), ([]), ([]))
-    ∷ (None, ((Keep 0 0 (msg 1 0 ∷ msg 0 0 ∷ msg 0 1 ∷ [])) ∷ []),
+    ∷ (
+      None,
+      ((Keep 0 0 (msg 1 0 ∷ msg 0 0 ∷ msg 0 1 ∷ [])) ∷ []),
       (((0 ∷ []), (1 ∷ 1 ∷ 1 ∷ 0 ∷ 15 ∷ 14 ∷ 0 ∷ 0 ∷ 0 ∷ 0 ∷ 3 ∷ 1 ∷ 0 ∷ 0 ∷ 0 ∷ 0 ∷ 0 ∷ 0 ∷ 0 ∷ 1 ∷ 1 ∷ 1 ∷ 0 ∷ 0 ∷ [])) ∷ []),
       (Delivers 0 (record { place = 0; message = msg 1 0; payload = 98 ∷ [] })
-      ∷ Delivers 0 (record { place = 0; message = msg 0 0; payload = 97 ∷ [] })
-      ∷ Delivers 0 (record { place = 0; message = msg 0 1; payload = 99 ∷ [] }) ∷ []))
+          ∷ Delivers 0 (record { place = 0; message = msg 0 0; payload = 97 ∷ [] })
+          ∷ Delivers 0 (record { place = 0; message = msg 0 1; payload = 99 ∷ [] }) ∷ []),
+    )
     ∷ []
 
 unfoldable pub f : Family
-f = record { setting = s; correct =
-  (record { me = 0; batch_limit = 16; turns = turns_0 } ∷ record { me = 1; batch_limit = 16; turns = turns_1 } ∷ []) }
+f = record {
+  setting = s;
+  correct =
+      (record { me = 0; batch_limit = 16; turns = turns_0 } ∷ record { me = 1; batch_limit = 16; turns = turns_1 } ∷ []);
+}
 
 -- the row: what the definitions give
 pub record BatchByRank : Type 0 where
   pub row_0 : seen s (start s 0 16) turns_0 ≡ answers_0
   pub row_1 : seen s (start s 1 16) turns_1 ≡ answers_1
   pub judged : honest f ∷ bounded (accounts f) (numbers f) ∷ agree (accounts f) ∷ sound (accounts f) (keyed f.setting) ∷ []
-    ≡ true ∷ true ∷ true ∷ true ∷ []
+      ≡ true ∷ true ∷ true ∷ true ∷ []
   pub premises : Premises f

@@ -39,8 +39,12 @@ answers_1 =
     ∷ (None, ((End 0 0) ∷ []), (((0 ∷ 2 ∷ 3 ∷ []), (1 ∷ 1 ∷ 1 ∷ 0 ∷ 5 ∷ 7 ∷ 0 ∷ 0 ∷ 0 ∷ 0 ∷ 1 ∷ 1 ∷ 0 ∷ 0 ∷ [])) ∷ []), ([]))
     ∷ (None, ([]), ([]), ([]))
     ∷ (None, ([]), ([]), ([]))
-    ∷ (None, ((Ack 0 0 (value Renew 0)) ∷ []),
-      (((0 ∷ 2 ∷ 3 ∷ []), (1 ∷ 1 ∷ 1 ∷ 0 ∷ 8 ∷ 10 ∷ 0 ∷ 0 ∷ 0 ∷ 3 ∷ 0 ∷ 0 ∷ 0 ∷ 1 ∷ 1 ∷ 0 ∷ 0 ∷ [])) ∷ []), ([]))
+    ∷ (
+      None,
+      ((Ack 0 0 (value Renew 0)) ∷ []),
+      (((0 ∷ 2 ∷ 3 ∷ []), (1 ∷ 1 ∷ 1 ∷ 0 ∷ 8 ∷ 10 ∷ 0 ∷ 0 ∷ 0 ∷ 3 ∷ 0 ∷ 0 ∷ 0 ∷ 1 ∷ 1 ∷ 0 ∷ 0 ∷ [])) ∷ []),
+      ([]),
+    )
     ∷ (None, ((Notify 0 (Remove 0)) ∷ []), (((0 ∷ 2 ∷ 3 ∷ []), (1 ∷ 1 ∷ 1 ∷ 0 ∷ 5 ∷ 6 ∷ 0 ∷ 0 ∷ 1 ∷ 0 ∷ 1 ∷ 1 ∷ 0 ∷ 0 ∷ [])) ∷ []), ([]))
     ∷ (None, ((Last 0 1 None) ∷ []), (((0 ∷ 2 ∷ 3 ∷ []), (1 ∷ 1 ∷ 1 ∷ 0 ∷ 5 ∷ 8 ∷ 0 ∷ 0 ∷ 1 ∷ 0 ∷ 1 ∷ 1 ∷ 0 ∷ 0 ∷ [])) ∷ []), ([]))
     ∷ (None, ([]), ([]), ([]))
@@ -48,14 +52,28 @@ answers_1 =
     ∷ (None, ([]), ([]), ([]))
     ∷ (None, ([]), ([]), ([]))
     ∷ (None, ([]), ([]), ([]))
-    ∷ (None, ((Suggest 0 1 (value Renew 0)) ∷ (Ack 0 1 (value Renew 0)) ∷ []),
-      (((0 ∷ 2 ∷ 3 ∷ []), (1 ∷ 1 ∷ 9 ∷ 0 ∷ 8 ∷ 9 ∷ 0 ∷ 0 ∷ 1 ∷ 3 ∷ 0 ∷ 0 ∷ 0 ∷ 1 ∷ 1 ∷ 0 ∷ 0 ∷ 0 ∷ 8 ∷ 10 ∷ 0 ∷ 0 ∷ 1 ∷ 3 ∷ 0 ∷ 0 ∷ 0 ∷ 1
-      ∷ 1 ∷ 0 ∷ 0 ∷ 0 ∷ 5 ∷ 6 ∷ 0 ∷ 0 ∷ 1 ∷ 0 ∷ 2 ∷ 1 ∷ 0 ∷ 0 ∷ 3 ∷ 0 ∷ 0 ∷ 0 ∷ 5 ∷ 6 ∷ 0 ∷ 0 ∷ 3 ∷ 0 ∷ 2 ∷ 1 ∷ 0 ∷ 0 ∷ 2 ∷ 0 ∷ 0 ∷ 0 ∷ 5
-      ∷ 7 ∷ 0 ∷ 0 ∷ 0 ∷ 0 ∷ 3 ∷ 1 ∷ 0 ∷ 0 ∷ 2 ∷ 0 ∷ 0 ∷ 3 ∷ 0 ∷ 0 ∷ 0 ∷ 5 ∷ 8 ∷ 0 ∷ 0 ∷ 1 ∷ 0 ∷ 2 ∷ 0 ∷ 0 ∷ 0 ∷ 1 ∷ 0 ∷ 0 ∷ 0 ∷ 10 ∷ 8 ∷ 0
-      ∷ 0 ∷ 1 ∷ 1 ∷ 0 ∷ 3 ∷ 0 ∷ 0 ∷ 0 ∷ 1 ∷ 3 ∷ 0 ∷ 0 ∷ 0 ∷ 8 ∷ 10 ∷ 0 ∷ 0 ∷ 0 ∷ 3 ∷ 0 ∷ 0 ∷ 0 ∷ 3 ∷ 1 ∷ 0 ∷ 0 ∷ 2 ∷ 0 ∷ 0 ∷ 3 ∷ 0 ∷ 0 ∷ 0
-      ∷ 8 ∷ 10 ∷ 0 ∷ 0 ∷ 1 ∷ 3 ∷ 0 ∷ 0 ∷ 0 ∷ 1 ∷ 0 ∷ 0 ∷ 0 ∷ [])) ∷ []), ([]))
-    ∷ (None, ((Ready 0 1 (value Renew 0)) ∷ []),
-      (((0 ∷ 2 ∷ 3 ∷ []), (1 ∷ 1 ∷ 1 ∷ 0 ∷ 8 ∷ 11 ∷ 0 ∷ 0 ∷ 1 ∷ 3 ∷ 0 ∷ 0 ∷ 0 ∷ 1 ∷ 1 ∷ 0 ∷ 0 ∷ [])) ∷ []), ([]))
+    ∷ (
+      None,
+      ((Suggest 0 1 (value Renew 0)) ∷ (Ack 0 1 (value Renew 0)) ∷ []),
+      ((
+        (0 ∷ 2 ∷ 3 ∷ []),
+        (1 ∷ 1 ∷ 9 ∷ 0 ∷ 8 ∷ 9 ∷ 0 ∷ 0 ∷ 1 ∷ 3 ∷ 0 ∷ 0 ∷ 0 ∷ 1 ∷ 1 ∷ 0 ∷ 0 ∷ 0 ∷ 8 ∷ 10 ∷ 0 ∷ 0 ∷ 1 ∷ 3 ∷ 0 ∷ 0 ∷ 0 ∷ 1
+            ∷ 1 ∷ 0 ∷ 0 ∷ 0 ∷ 5 ∷ 6 ∷ 0 ∷ 0 ∷ 1 ∷ 0 ∷ 2 ∷ 1 ∷ 0 ∷ 0 ∷ 3 ∷ 0 ∷ 0 ∷ 0 ∷ 5 ∷ 6 ∷ 0 ∷ 0 ∷ 3 ∷ 0 ∷ 2 ∷ 1 ∷ 0 ∷ 0 ∷ 2 ∷ 0 ∷ 0 ∷ 0
+            ∷ 5
+            ∷ 7 ∷ 0 ∷ 0 ∷ 0 ∷ 0 ∷ 3 ∷ 1 ∷ 0 ∷ 0 ∷ 2 ∷ 0 ∷ 0 ∷ 3 ∷ 0 ∷ 0 ∷ 0 ∷ 5 ∷ 8 ∷ 0 ∷ 0 ∷ 1 ∷ 0 ∷ 2 ∷ 0 ∷ 0 ∷ 0 ∷ 1 ∷ 0 ∷ 0 ∷ 0 ∷ 10 ∷ 8
+            ∷ 0
+            ∷ 0 ∷ 1 ∷ 1 ∷ 0 ∷ 3 ∷ 0 ∷ 0 ∷ 0 ∷ 1 ∷ 3 ∷ 0 ∷ 0 ∷ 0 ∷ 8 ∷ 10 ∷ 0 ∷ 0 ∷ 0 ∷ 3 ∷ 0 ∷ 0 ∷ 0 ∷ 3 ∷ 1 ∷ 0 ∷ 0 ∷ 2 ∷ 0 ∷ 0 ∷ 3 ∷ 0 ∷ 0
+            ∷ 0
+            ∷ 8 ∷ 10 ∷ 0 ∷ 0 ∷ 1 ∷ 3 ∷ 0 ∷ 0 ∷ 0 ∷ 1 ∷ 0 ∷ 0 ∷ 0 ∷ []),
+      ) ∷ []),
+      ([]),
+    )
+    ∷ (
+      None,
+      ((Ready 0 1 (value Renew 0)) ∷ []),
+      (((0 ∷ 2 ∷ 3 ∷ []), (1 ∷ 1 ∷ 1 ∷ 0 ∷ 8 ∷ 11 ∷ 0 ∷ 0 ∷ 1 ∷ 3 ∷ 0 ∷ 0 ∷ 0 ∷ 1 ∷ 1 ∷ 0 ∷ 0 ∷ [])) ∷ []),
+      ([]),
+    )
     ∷ (None, ([]), ([]), (Installs (record { number = 1; members = 0 ∷ 1 ∷ 2 ∷ 3 ∷ [] }) ∷ []))
     ∷ []
 
@@ -75,9 +93,9 @@ turns_2 =
     ∷ turn 99996 (Hand 3 (Claims (by 3 (Last 0 1 (Some (0, (value Renew 0)))) ∷ [])))
     ∷ turn 99996 (Hand 1 (Claims (by 1 (Last 0 1 None) ∷ [])))
     ∷ turn 99996 (Hand 1 (Claims (by 1 (Suggest 0 1 (value Renew 0)) ∷ by 1 (Ack 0 1 (value Renew 0)) ∷ by 1 (Notify 0 (Remove 0))
-      ∷ by 3 (Notify 0 (Remove 0)) ∷ by 1 (Notify 0 Renew) ∷ by 2 (Notify 0 Renew) ∷ by 1 (End 0 0) ∷ by 2 (End 0 0) ∷ by 3 (End 0 0)
-      ∷ by 0 (Last 0 1 None) ∷ by 1 (Last 0 1 None) ∷ by 3 (Last 0 1 (Some (0, (value Renew 0)))) ∷ by 1 (Ack 0 0 (value Renew 0))
-      ∷ by 2 (Ack 0 0 (value Renew 0)) ∷ by 3 (Ack 0 0 (value Renew 0)) ∷ by 0 (Ack 0 1 (value Renew 0)) ∷ [])))
+    ∷ by 3 (Notify 0 (Remove 0)) ∷ by 1 (Notify 0 Renew) ∷ by 2 (Notify 0 Renew) ∷ by 1 (End 0 0) ∷ by 2 (End 0 0) ∷ by 3 (End 0 0)
+    ∷ by 0 (Last 0 1 None) ∷ by 1 (Last 0 1 None) ∷ by 3 (Last 0 1 (Some (0, (value Renew 0)))) ∷ by 1 (Ack 0 0 (value Renew 0))
+    ∷ by 2 (Ack 0 0 (value Renew 0)) ∷ by 3 (Ack 0 0 (value Renew 0)) ∷ by 0 (Ack 0 1 (value Renew 0)) ∷ [])))
     ∷ turn 99996 (Hand 3 (Claims (by 3 (Ack 0 1 (value Renew 0)) ∷ [])))
     ∷ turn 99996 (Hand 1 (Claims (by 1 (Ready 0 1 (value Renew 0)) ∷ [])))
     ∷ turn 99996 (Hand 3 (Claims (by 3 (Ready 0 1 (value Renew 0)) ∷ [])))
@@ -89,11 +107,19 @@ answers_2 =
     ∷ (None, ((End 0 0) ∷ []), (((0 ∷ 1 ∷ 3 ∷ []), (1 ∷ 1 ∷ 1 ∷ 0 ∷ 5 ∷ 7 ∷ 0 ∷ 0 ∷ 0 ∷ 0 ∷ 1 ∷ 2 ∷ 0 ∷ 0 ∷ [])) ∷ []), ([]))
     ∷ (None, ([]), ([]), ([]))
     ∷ (None, ([]), ([]), ([]))
-    ∷ (None, ((Ack 0 0 (value Renew 0)) ∷ []),
-      (((0 ∷ 1 ∷ 3 ∷ []), (1 ∷ 1 ∷ 1 ∷ 0 ∷ 8 ∷ 10 ∷ 0 ∷ 0 ∷ 0 ∷ 3 ∷ 0 ∷ 0 ∷ 0 ∷ 1 ∷ 2 ∷ 0 ∷ 0 ∷ [])) ∷ []), ([]))
+    ∷ (
+      None,
+      ((Ack 0 0 (value Renew 0)) ∷ []),
+      (((0 ∷ 1 ∷ 3 ∷ []), (1 ∷ 1 ∷ 1 ∷ 0 ∷ 8 ∷ 10 ∷ 0 ∷ 0 ∷ 0 ∷ 3 ∷ 0 ∷ 0 ∷ 0 ∷ 1 ∷ 2 ∷ 0 ∷ 0 ∷ [])) ∷ []),
+      ([]),
+    )
     ∷ (None, ([]), ([]), ([]))
-    ∷ (None, ((Ready 0 0 (value Renew 0)) ∷ []),
-      (((0 ∷ 1 ∷ 3 ∷ []), (1 ∷ 1 ∷ 1 ∷ 0 ∷ 8 ∷ 11 ∷ 0 ∷ 0 ∷ 0 ∷ 3 ∷ 0 ∷ 0 ∷ 0 ∷ 1 ∷ 2 ∷ 0 ∷ 0 ∷ [])) ∷ []), ([]))
+    ∷ (
+      None,
+      ((Ready 0 0 (value Renew 0)) ∷ []),
+      (((0 ∷ 1 ∷ 3 ∷ []), (1 ∷ 1 ∷ 1 ∷ 0 ∷ 8 ∷ 11 ∷ 0 ∷ 0 ∷ 0 ∷ 3 ∷ 0 ∷ 0 ∷ 0 ∷ 1 ∷ 2 ∷ 0 ∷ 0 ∷ [])) ∷ []),
+      ([]),
+    )
     ∷ (None, ([]), ([]), ([]))
     ∷ (None, ([]), ([]), (Installs (record { number = 1; members = 0 ∷ 1 ∷ 2 ∷ 3 ∷ [] }) ∷ []))
     ∷ (None, ([]), ([]), ([]))
@@ -122,9 +148,9 @@ turns_3 =
     ∷ turn 99995 (Hand 0 (Claims (by 0 (Ready 0 1 (value Renew 0)) ∷ [])))
     ∷ turn 99995 (Hand 1 (Claims (by 1 (Last 0 1 None) ∷ [])))
     ∷ turn 99995 (Hand 1 (Claims (by 1 (Suggest 0 1 (value Renew 0)) ∷ by 1 (Ack 0 1 (value Renew 0)) ∷ by 1 (Notify 0 (Remove 0))
-      ∷ by 3 (Notify 0 (Remove 0)) ∷ by 1 (Notify 0 Renew) ∷ by 2 (Notify 0 Renew) ∷ by 1 (End 0 0) ∷ by 2 (End 0 0) ∷ by 3 (End 0 0)
-      ∷ by 0 (Last 0 1 None) ∷ by 1 (Last 0 1 None) ∷ by 3 (Last 0 1 (Some (0, (value Renew 0)))) ∷ by 1 (Ack 0 0 (value Renew 0))
-      ∷ by 2 (Ack 0 0 (value Renew 0)) ∷ by 3 (Ack 0 0 (value Renew 0)) ∷ by 0 (Ack 0 1 (value Renew 0)) ∷ [])))
+    ∷ by 3 (Notify 0 (Remove 0)) ∷ by 1 (Notify 0 Renew) ∷ by 2 (Notify 0 Renew) ∷ by 1 (End 0 0) ∷ by 2 (End 0 0) ∷ by 3 (End 0 0)
+    ∷ by 0 (Last 0 1 None) ∷ by 1 (Last 0 1 None) ∷ by 3 (Last 0 1 (Some (0, (value Renew 0)))) ∷ by 1 (Ack 0 0 (value Renew 0))
+    ∷ by 2 (Ack 0 0 (value Renew 0)) ∷ by 3 (Ack 0 0 (value Renew 0)) ∷ by 0 (Ack 0 1 (value Renew 0)) ∷ [])))
     ∷ turn 99994 (Hand 1 (Claims (by 1 (Ready 0 1 (value Renew 0)) ∷ [])))
     ∷ []
 
@@ -134,29 +160,51 @@ answers_3 =
     ∷ (None, ((End 0 0) ∷ []), (((0 ∷ 1 ∷ 2 ∷ []), (1 ∷ 1 ∷ 1 ∷ 0 ∷ 5 ∷ 7 ∷ 0 ∷ 0 ∷ 0 ∷ 0 ∷ 1 ∷ 3 ∷ 0 ∷ 0 ∷ [])) ∷ []), ([]))
     ∷ (None, ([]), ([]), ([]))
     ∷ (None, ([]), ([]), ([]))
-    ∷ (None, ((Ack 0 0 (value Renew 0)) ∷ []),
-      (((0 ∷ 1 ∷ 2 ∷ []), (1 ∷ 1 ∷ 1 ∷ 0 ∷ 8 ∷ 10 ∷ 0 ∷ 0 ∷ 0 ∷ 3 ∷ 0 ∷ 0 ∷ 0 ∷ 1 ∷ 3 ∷ 0 ∷ 0 ∷ [])) ∷ []), ([]))
+    ∷ (
+      None,
+      ((Ack 0 0 (value Renew 0)) ∷ []),
+      (((0 ∷ 1 ∷ 2 ∷ []), (1 ∷ 1 ∷ 1 ∷ 0 ∷ 8 ∷ 10 ∷ 0 ∷ 0 ∷ 0 ∷ 3 ∷ 0 ∷ 0 ∷ 0 ∷ 1 ∷ 3 ∷ 0 ∷ 0 ∷ [])) ∷ []),
+      ([]),
+    )
     ∷ (None, ([]), ([]), ([]))
-    ∷ (None, ((Ready 0 0 (value Renew 0)) ∷ []),
-      (((0 ∷ 1 ∷ 2 ∷ []), (1 ∷ 1 ∷ 1 ∷ 0 ∷ 8 ∷ 11 ∷ 0 ∷ 0 ∷ 0 ∷ 3 ∷ 0 ∷ 0 ∷ 0 ∷ 1 ∷ 3 ∷ 0 ∷ 0 ∷ [])) ∷ []), ([]))
+    ∷ (
+      None,
+      ((Ready 0 0 (value Renew 0)) ∷ []),
+      (((0 ∷ 1 ∷ 2 ∷ []), (1 ∷ 1 ∷ 1 ∷ 0 ∷ 8 ∷ 11 ∷ 0 ∷ 0 ∷ 0 ∷ 3 ∷ 0 ∷ 0 ∷ 0 ∷ 1 ∷ 3 ∷ 0 ∷ 0 ∷ [])) ∷ []),
+      ([]),
+    )
     ∷ (None, ((Notify 0 (Remove 0)) ∷ []), (((0 ∷ 1 ∷ 2 ∷ []), (1 ∷ 1 ∷ 1 ∷ 0 ∷ 5 ∷ 6 ∷ 0 ∷ 0 ∷ 1 ∷ 0 ∷ 1 ∷ 3 ∷ 0 ∷ 0 ∷ [])) ∷ []), ([]))
-    ∷ (None, ((Last 0 1 (Some (0, (value Renew 0)))) ∷ []),
-      (((0 ∷ 1 ∷ 2 ∷ []), (1 ∷ 1 ∷ 1 ∷ 0 ∷ 10 ∷ 8 ∷ 0 ∷ 0 ∷ 1 ∷ 1 ∷ 0 ∷ 3 ∷ 0 ∷ 0 ∷ 0 ∷ 1 ∷ 3 ∷ 0 ∷ 0 ∷ [])) ∷ []), ([]))
+    ∷ (
+      None,
+      ((Last 0 1 (Some (0, (value Renew 0)))) ∷ []),
+      (((0 ∷ 1 ∷ 2 ∷ []), (1 ∷ 1 ∷ 1 ∷ 0 ∷ 10 ∷ 8 ∷ 0 ∷ 0 ∷ 1 ∷ 1 ∷ 0 ∷ 3 ∷ 0 ∷ 0 ∷ 0 ∷ 1 ∷ 3 ∷ 0 ∷ 0 ∷ [])) ∷ []),
+      ([]),
+    )
     ∷ (None, ([]), ([]), ([]))
     ∷ (None, ([]), ([]), ([]))
     ∷ (None, ([]), ([]), ([]))
     ∷ (None, ([]), ([]), ([]))
-    ∷ (None, ((Ack 0 1 (value Renew 0)) ∷ []),
-      (((0 ∷ 1 ∷ 2 ∷ []), (1 ∷ 1 ∷ 1 ∷ 0 ∷ 8 ∷ 10 ∷ 0 ∷ 0 ∷ 1 ∷ 3 ∷ 0 ∷ 0 ∷ 0 ∷ 1 ∷ 3 ∷ 0 ∷ 0 ∷ [])) ∷ []), ([]))
-    ∷ (None, ((Ready 0 1 (value Renew 0)) ∷ []),
+    ∷ (
+      None,
+      ((Ack 0 1 (value Renew 0)) ∷ []),
+      (((0 ∷ 1 ∷ 2 ∷ []), (1 ∷ 1 ∷ 1 ∷ 0 ∷ 8 ∷ 10 ∷ 0 ∷ 0 ∷ 1 ∷ 3 ∷ 0 ∷ 0 ∷ 0 ∷ 1 ∷ 3 ∷ 0 ∷ 0 ∷ [])) ∷ []),
+      ([]),
+    )
+    ∷ (
+      None,
+      ((Ready 0 1 (value Renew 0)) ∷ []),
       (((0 ∷ 1 ∷ 2 ∷ []), (1 ∷ 1 ∷ 1 ∷ 0 ∷ 8 ∷ 11 ∷ 0 ∷ 0 ∷ 1 ∷ 3 ∷ 0 ∷ 0 ∷ 0 ∷ 1 ∷ 3 ∷ 0 ∷ 0 ∷ [])) ∷ []),
-      (Installs (record { number = 1; members = 0 ∷ 1 ∷ 2 ∷ 3 ∷ [] }) ∷ []))
+      (Installs (record { number = 1; members = 0 ∷ 1 ∷ 2 ∷ 3 ∷ [] }) ∷ []),
+    )
     ∷ []
 
 unfoldable pub f : Family
-f = record { setting = s; correct =
-  (record { me = 1; batch_limit = 1; turns = turns_1 } ∷ record { me = 2; batch_limit = 1; turns = turns_2 }
-  ∷ record { me = 3; batch_limit = 1; turns = turns_3 } ∷ []) }
+f = record {
+  setting = s;
+  correct =
+      (record { me = 1; batch_limit = 1; turns = turns_1 } ∷ record { me = 2; batch_limit = 1; turns = turns_2 }
+      ∷ record { me = 3; batch_limit = 1; turns = turns_3 } ∷ []);
+}
 
 -- the row: what the definitions give
 pub record DeputyAdopts : Type 0 where
@@ -164,5 +212,5 @@ pub record DeputyAdopts : Type 0 where
   pub row_2 : seen s (start s 2 1) turns_2 ≡ answers_2
   pub row_3 : seen s (start s 3 1) turns_3 ≡ answers_3
   pub judged : honest f ∷ bounded (accounts f) (numbers f) ∷ agree (accounts f) ∷ sound (accounts f) (keyed f.setting) ∷ []
-    ≡ true ∷ true ∷ true ∷ true ∷ []
+      ≡ true ∷ true ∷ true ∷ true ∷ []
   pub premises : Premises f

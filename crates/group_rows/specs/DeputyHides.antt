@@ -35,16 +35,32 @@ answers_0 =
     (None, ((Notify 0 Renew) ∷ []), (((1 ∷ 2 ∷ 3 ∷ []), (1 ∷ 1 ∷ 1 ∷ 0 ∷ 5 ∷ 6 ∷ 0 ∷ 0 ∷ 3 ∷ 0 ∷ 1 ∷ 0 ∷ 0 ∷ 0 ∷ [])) ∷ []), ([]))
     ∷ (None, ((End 0 0) ∷ []), (((1 ∷ 2 ∷ 3 ∷ []), (1 ∷ 1 ∷ 1 ∷ 0 ∷ 5 ∷ 7 ∷ 0 ∷ 0 ∷ 0 ∷ 0 ∷ 1 ∷ 0 ∷ 0 ∷ 0 ∷ [])) ∷ []), ([]))
     ∷ (None, ([]), ([]), ([]))
-    ∷ (None, ((Suggest 0 0 (value Renew 0)) ∷ (Ack 0 0 (value Renew 0)) ∷ []),
-      (((1 ∷ 2 ∷ 3 ∷ []), (1 ∷ 1 ∷ 4 ∷ 0 ∷ 8 ∷ 9 ∷ 0 ∷ 0 ∷ 0 ∷ 3 ∷ 0 ∷ 0 ∷ 0 ∷ 1 ∷ 0 ∷ 0 ∷ 0 ∷ 0 ∷ 8 ∷ 10 ∷ 0 ∷ 0 ∷ 0 ∷ 3 ∷ 0 ∷ 0 ∷ 0 ∷ 1
-      ∷ 0 ∷ 0 ∷ 0 ∷ 0 ∷ 5 ∷ 6 ∷ 0 ∷ 0 ∷ 3 ∷ 0 ∷ 2 ∷ 0 ∷ 0 ∷ 0 ∷ 2 ∷ 0 ∷ 0 ∷ 0 ∷ 5 ∷ 7 ∷ 0 ∷ 0 ∷ 0 ∷ 0 ∷ 3 ∷ 0 ∷ 0 ∷ 0 ∷ 2 ∷ 0 ∷ 0 ∷ 3 ∷ 0
-      ∷ 0 ∷ [])) ∷ []), ([]))
+    ∷ (
+      None,
+      ((Suggest 0 0 (value Renew 0)) ∷ (Ack 0 0 (value Renew 0)) ∷ []),
+      ((
+        (1 ∷ 2 ∷ 3 ∷ []),
+        (1 ∷ 1 ∷ 4 ∷ 0 ∷ 8 ∷ 9 ∷ 0 ∷ 0 ∷ 0 ∷ 3 ∷ 0 ∷ 0 ∷ 0 ∷ 1 ∷ 0 ∷ 0 ∷ 0 ∷ 0 ∷ 8 ∷ 10 ∷ 0 ∷ 0 ∷ 0 ∷ 3 ∷ 0 ∷ 0 ∷ 0 ∷ 1
+            ∷ 0 ∷ 0 ∷ 0 ∷ 0 ∷ 5 ∷ 6 ∷ 0 ∷ 0 ∷ 3 ∷ 0 ∷ 2 ∷ 0 ∷ 0 ∷ 0 ∷ 2 ∷ 0 ∷ 0 ∷ 0 ∷ 5 ∷ 7 ∷ 0 ∷ 0 ∷ 0 ∷ 0 ∷ 3 ∷ 0 ∷ 0 ∷ 0 ∷ 2 ∷ 0 ∷ 0 ∷ 3
+            ∷ 0
+            ∷ 0 ∷ []),
+      ) ∷ []),
+      ([]),
+    )
     ∷ (None, ([]), ([]), ([]))
-    ∷ (None, ((Ready 0 0 (value Renew 0)) ∷ []),
-      (((1 ∷ 2 ∷ 3 ∷ []), (1 ∷ 1 ∷ 1 ∷ 0 ∷ 8 ∷ 11 ∷ 0 ∷ 0 ∷ 0 ∷ 3 ∷ 0 ∷ 0 ∷ 0 ∷ 1 ∷ 0 ∷ 0 ∷ 0 ∷ [])) ∷ []), ([]))
+    ∷ (
+      None,
+      ((Ready 0 0 (value Renew 0)) ∷ []),
+      (((1 ∷ 2 ∷ 3 ∷ []), (1 ∷ 1 ∷ 1 ∷ 0 ∷ 8 ∷ 11 ∷ 0 ∷ 0 ∷ 0 ∷ 3 ∷ 0 ∷ 0 ∷ 0 ∷ 1 ∷ 0 ∷ 0 ∷ 0 ∷ [])) ∷ []),
+      ([]),
+    )
     ∷ (None, ([]), ([]), ([]))
-    ∷ (None, ((Last 0 1 (Some (0, (value Renew 0)))) ∷ []),
-      (((1 ∷ 2 ∷ 3 ∷ []), (1 ∷ 1 ∷ 1 ∷ 0 ∷ 10 ∷ 8 ∷ 0 ∷ 0 ∷ 1 ∷ 1 ∷ 0 ∷ 3 ∷ 0 ∷ 0 ∷ 0 ∷ 1 ∷ 0 ∷ 0 ∷ 0 ∷ [])) ∷ []), ([]))
+    ∷ (
+      None,
+      ((Last 0 1 (Some (0, (value Renew 0)))) ∷ []),
+      (((1 ∷ 2 ∷ 3 ∷ []), (1 ∷ 1 ∷ 1 ∷ 0 ∷ 10 ∷ 8 ∷ 0 ∷ 0 ∷ 1 ∷ 1 ∷ 0 ∷ 3 ∷ 0 ∷ 0 ∷ 0 ∷ 1 ∷ 0 ∷ 0 ∷ 0 ∷ [])) ∷ []),
+      ([]),
+    )
     ∷ (None, ([]), ([]), ([]))
     ∷ (None, ([]), ([]), ([]))
     ∷ (None, ([]), ([]), ([]))
@@ -58,7 +74,7 @@ turns_2 =
     ∷ turn 99998 (Hand 0 (Claims (by 0 (End 0 0) ∷ [])))
     ∷ turn 99998 (Hand 3 (Claims (by 3 (End 0 0) ∷ [])))
     ∷ turn 99998 (Hand 0 (Claims (by 0 (Suggest 0 0 (value Renew 0)) ∷ by 0 (Ack 0 0 (value Renew 0)) ∷ by 0 (Notify 0 Renew)
-      ∷ by 2 (Notify 0 Renew) ∷ by 0 (End 0 0) ∷ by 2 (End 0 0) ∷ by 3 (End 0 0) ∷ [])))
+    ∷ by 2 (Notify 0 Renew) ∷ by 0 (End 0 0) ∷ by 2 (End 0 0) ∷ by 3 (End 0 0) ∷ [])))
     ∷ turn 99997 (Hand 3 (Claims (by 3 (Ack 0 0 (value Renew 0)) ∷ [])))
     ∷ turn 99996 (Suspect 0)
     ∷ turn 99995 (Hand 3 (Claims (by 3 (Notify 0 (Remove 0)) ∷ [])))
@@ -74,13 +90,25 @@ answers_2 =
     ∷ (None, ((End 0 0) ∷ []), (((0 ∷ 1 ∷ 3 ∷ []), (1 ∷ 1 ∷ 1 ∷ 0 ∷ 5 ∷ 7 ∷ 0 ∷ 0 ∷ 0 ∷ 0 ∷ 1 ∷ 2 ∷ 0 ∷ 0 ∷ [])) ∷ []), ([]))
     ∷ (None, ([]), ([]), ([]))
     ∷ (None, ([]), ([]), ([]))
-    ∷ (None, ((Ack 0 0 (value Renew 0)) ∷ []),
-      (((0 ∷ 1 ∷ 3 ∷ []), (1 ∷ 1 ∷ 1 ∷ 0 ∷ 8 ∷ 10 ∷ 0 ∷ 0 ∷ 0 ∷ 3 ∷ 0 ∷ 0 ∷ 0 ∷ 1 ∷ 2 ∷ 0 ∷ 0 ∷ [])) ∷ []), ([]))
-    ∷ (None, ((Ready 0 0 (value Renew 0)) ∷ []),
-      (((0 ∷ 1 ∷ 3 ∷ []), (1 ∷ 1 ∷ 1 ∷ 0 ∷ 8 ∷ 11 ∷ 0 ∷ 0 ∷ 0 ∷ 3 ∷ 0 ∷ 0 ∷ 0 ∷ 1 ∷ 2 ∷ 0 ∷ 0 ∷ [])) ∷ []), ([]))
+    ∷ (
+      None,
+      ((Ack 0 0 (value Renew 0)) ∷ []),
+      (((0 ∷ 1 ∷ 3 ∷ []), (1 ∷ 1 ∷ 1 ∷ 0 ∷ 8 ∷ 10 ∷ 0 ∷ 0 ∷ 0 ∷ 3 ∷ 0 ∷ 0 ∷ 0 ∷ 1 ∷ 2 ∷ 0 ∷ 0 ∷ [])) ∷ []),
+      ([]),
+    )
+    ∷ (
+      None,
+      ((Ready 0 0 (value Renew 0)) ∷ []),
+      (((0 ∷ 1 ∷ 3 ∷ []), (1 ∷ 1 ∷ 1 ∷ 0 ∷ 8 ∷ 11 ∷ 0 ∷ 0 ∷ 0 ∷ 3 ∷ 0 ∷ 0 ∷ 0 ∷ 1 ∷ 2 ∷ 0 ∷ 0 ∷ [])) ∷ []),
+      ([]),
+    )
     ∷ (None, ((Notify 0 (Remove 0)) ∷ []), (((0 ∷ 1 ∷ 3 ∷ []), (1 ∷ 1 ∷ 1 ∷ 0 ∷ 5 ∷ 6 ∷ 0 ∷ 0 ∷ 1 ∷ 0 ∷ 1 ∷ 2 ∷ 0 ∷ 0 ∷ [])) ∷ []), ([]))
-    ∷ (None, ((Last 0 1 (Some (0, (value Renew 0)))) ∷ []),
-      (((0 ∷ 1 ∷ 3 ∷ []), (1 ∷ 1 ∷ 1 ∷ 0 ∷ 10 ∷ 8 ∷ 0 ∷ 0 ∷ 1 ∷ 1 ∷ 0 ∷ 3 ∷ 0 ∷ 0 ∷ 0 ∷ 1 ∷ 2 ∷ 0 ∷ 0 ∷ [])) ∷ []), ([]))
+    ∷ (
+      None,
+      ((Last 0 1 (Some (0, (value Renew 0)))) ∷ []),
+      (((0 ∷ 1 ∷ 3 ∷ []), (1 ∷ 1 ∷ 1 ∷ 0 ∷ 10 ∷ 8 ∷ 0 ∷ 0 ∷ 1 ∷ 1 ∷ 0 ∷ 3 ∷ 0 ∷ 0 ∷ 0 ∷ 1 ∷ 2 ∷ 0 ∷ 0 ∷ [])) ∷ []),
+      ([]),
+    )
     ∷ (None, ([]), ([]), ([]))
     ∷ (None, ([]), ([]), ([]))
     ∷ (None, ([]), ([]), ([]))
@@ -94,7 +122,7 @@ turns_3 =
     ∷ turn 99999 (Hand 2 (Claims (by 2 (End 0 0) ∷ [])))
     ∷ turn 99999 (Hand 0 (Claims (by 0 (End 0 0) ∷ [])))
     ∷ turn 99999 (Hand 0 (Claims (by 0 (Suggest 0 0 (value Renew 0)) ∷ by 0 (Ack 0 0 (value Renew 0)) ∷ by 0 (Notify 0 Renew)
-      ∷ by 2 (Notify 0 Renew) ∷ by 0 (End 0 0) ∷ by 2 (End 0 0) ∷ by 3 (End 0 0) ∷ [])))
+    ∷ by 2 (Notify 0 Renew) ∷ by 0 (End 0 0) ∷ by 2 (End 0 0) ∷ by 3 (End 0 0) ∷ [])))
     ∷ turn 99998 (Hand 2 (Claims (by 2 (Ack 0 0 (value Renew 0)) ∷ [])))
     ∷ turn 99997 (Suspect 0)
     ∷ turn 99996 (Hand 2 (Claims (by 2 (Notify 0 (Remove 0)) ∷ [])))
@@ -110,13 +138,25 @@ answers_3 =
     ∷ (None, ((End 0 0) ∷ []), (((0 ∷ 1 ∷ 2 ∷ []), (1 ∷ 1 ∷ 1 ∷ 0 ∷ 5 ∷ 7 ∷ 0 ∷ 0 ∷ 0 ∷ 0 ∷ 1 ∷ 3 ∷ 0 ∷ 0 ∷ [])) ∷ []), ([]))
     ∷ (None, ([]), ([]), ([]))
     ∷ (None, ([]), ([]), ([]))
-    ∷ (None, ((Ack 0 0 (value Renew 0)) ∷ []),
-      (((0 ∷ 1 ∷ 2 ∷ []), (1 ∷ 1 ∷ 1 ∷ 0 ∷ 8 ∷ 10 ∷ 0 ∷ 0 ∷ 0 ∷ 3 ∷ 0 ∷ 0 ∷ 0 ∷ 1 ∷ 3 ∷ 0 ∷ 0 ∷ [])) ∷ []), ([]))
-    ∷ (None, ((Ready 0 0 (value Renew 0)) ∷ []),
-      (((0 ∷ 1 ∷ 2 ∷ []), (1 ∷ 1 ∷ 1 ∷ 0 ∷ 8 ∷ 11 ∷ 0 ∷ 0 ∷ 0 ∷ 3 ∷ 0 ∷ 0 ∷ 0 ∷ 1 ∷ 3 ∷ 0 ∷ 0 ∷ [])) ∷ []), ([]))
+    ∷ (
+      None,
+      ((Ack 0 0 (value Renew 0)) ∷ []),
+      (((0 ∷ 1 ∷ 2 ∷ []), (1 ∷ 1 ∷ 1 ∷ 0 ∷ 8 ∷ 10 ∷ 0 ∷ 0 ∷ 0 ∷ 3 ∷ 0 ∷ 0 ∷ 0 ∷ 1 ∷ 3 ∷ 0 ∷ 0 ∷ [])) ∷ []),
+      ([]),
+    )
+    ∷ (
+      None,
+      ((Ready 0 0 (value Renew 0)) ∷ []),
+      (((0 ∷ 1 ∷ 2 ∷ []), (1 ∷ 1 ∷ 1 ∷ 0 ∷ 8 ∷ 11 ∷ 0 ∷ 0 ∷ 0 ∷ 3 ∷ 0 ∷ 0 ∷ 0 ∷ 1 ∷ 3 ∷ 0 ∷ 0 ∷ [])) ∷ []),
+      ([]),
+    )
     ∷ (None, ((Notify 0 (Remove 0)) ∷ []), (((0 ∷ 1 ∷ 2 ∷ []), (1 ∷ 1 ∷ 1 ∷ 0 ∷ 5 ∷ 6 ∷ 0 ∷ 0 ∷ 1 ∷ 0 ∷ 1 ∷ 3 ∷ 0 ∷ 0 ∷ [])) ∷ []), ([]))
-    ∷ (None, ((Last 0 1 (Some (0, (value Renew 0)))) ∷ []),
-      (((0 ∷ 1 ∷ 2 ∷ []), (1 ∷ 1 ∷ 1 ∷ 0 ∷ 10 ∷ 8 ∷ 0 ∷ 0 ∷ 1 ∷ 1 ∷ 0 ∷ 3 ∷ 0 ∷ 0 ∷ 0 ∷ 1 ∷ 3 ∷ 0 ∷ 0 ∷ [])) ∷ []), ([]))
+    ∷ (
+      None,
+      ((Last 0 1 (Some (0, (value Renew 0)))) ∷ []),
+      (((0 ∷ 1 ∷ 2 ∷ []), (1 ∷ 1 ∷ 1 ∷ 0 ∷ 10 ∷ 8 ∷ 0 ∷ 0 ∷ 1 ∷ 1 ∷ 0 ∷ 3 ∷ 0 ∷ 0 ∷ 0 ∷ 1 ∷ 3 ∷ 0 ∷ 0 ∷ [])) ∷ []),
+      ([]),
+    )
     ∷ (None, ([]), ([]), ([]))
     ∷ (None, ([]), ([]), ([]))
     ∷ (None, ([]), ([]), ([]))
@@ -124,9 +164,12 @@ answers_3 =
     ∷ []
 
 unfoldable pub f : Family
-f = record { setting = s; correct =
-  (record { me = 0; batch_limit = 1; turns = turns_0 } ∷ record { me = 2; batch_limit = 1; turns = turns_2 }
-  ∷ record { me = 3; batch_limit = 1; turns = turns_3 } ∷ []) }
+f = record {
+  setting = s;
+  correct =
+      (record { me = 0; batch_limit = 1; turns = turns_0 } ∷ record { me = 2; batch_limit = 1; turns = turns_2 }
+      ∷ record { me = 3; batch_limit = 1; turns = turns_3 } ∷ []);
+}
 
 -- the row: what the definitions give
 pub record DeputyHides : Type 0 where
@@ -134,5 +177,5 @@ pub record DeputyHides : Type 0 where
   pub row_2 : seen s (start s 2 1) turns_2 ≡ answers_2
   pub row_3 : seen s (start s 3 1) turns_3 ≡ answers_3
   pub judged : honest f ∷ bounded (accounts f) (numbers f) ∷ agree (accounts f) ∷ sound (accounts f) (keyed f.setting) ∷ []
-    ≡ true ∷ true ∷ true ∷ true ∷ []
+      ≡ true ∷ true ∷ true ∷ true ∷ []
   pub premises : Premises f

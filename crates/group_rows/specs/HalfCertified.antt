@@ -34,15 +34,24 @@ answers_2 =
     ∷ (None, ([]), ([]), ([]))
     ∷ (None, ([]), ([]), ([]))
     ∷ (None, ([]), ([]), ([]))
-    ∷ (None, ((Keep 0 0 (msg 0 0 ∷ msg 0 1 ∷ [])) ∷ []),
-      (((0 ∷ 1 ∷ 3 ∷ []), (1 ∷ 1 ∷ 1 ∷ 0 ∷ 12 ∷ 14 ∷ 0 ∷ 0 ∷ 0 ∷ 0 ∷ 2 ∷ 0 ∷ 0 ∷ 0 ∷ 0 ∷ 0 ∷ 1 ∷ 1 ∷ 2 ∷ 0 ∷ 0 ∷ [])) ∷ []), ([]))
+    ∷ (
+      None,
+      ((Keep 0 0 (msg 0 0 ∷ msg 0 1 ∷ [])) ∷ []),
+      (((0 ∷ 1 ∷ 3 ∷ []), (1 ∷ 1 ∷ 1 ∷ 0 ∷ 12 ∷ 14 ∷ 0 ∷ 0 ∷ 0 ∷ 0 ∷ 2 ∷ 0 ∷ 0 ∷ 0 ∷ 0 ∷ 0 ∷ 1 ∷ 1 ∷ 2 ∷ 0 ∷ 0 ∷ [])) ∷ []),
+      ([]),
+    )
     ∷ (None, ([]), ([]), ([]))
     ∷ (None, ([]), ([]), ([]))
     ∷ (None, ([]), ([]), ([]))
     ∷ (None, ([]), ([]), ([]))
     ∷ (None, ([]), ([]), ([]))
-    ∷ (None, ([]), ([]), (Delivers 0 (record { place = 0; message = msg 0 0; payload = 97 ∷ [] })
-      ∷ Delivers 0 (record { place = 0; message = msg 0 1; payload = 98 ∷ [] }) ∷ []))
+    ∷ (
+      None,
+      ([]),
+      ([]),
+      (Delivers 0 (record { place = 0; message = msg 0 0; payload = 97 ∷ [] })
+          ∷ Delivers 0 (record { place = 0; message = msg 0 1; payload = 98 ∷ [] }) ∷ []),
+    )
     ∷ []
 
 unfoldable pub f : Family
@@ -52,4 +61,4 @@ f = record { setting = s; correct = (record { me = 2; batch_limit = 16; turns = 
 pub record HalfCertified : Type 0 where
   pub row_2 : seen s (start s 2 16) turns_2 ≡ answers_2
   pub judged : honest f ∷ bounded (accounts f) (numbers f) ∷ agree (accounts f) ∷ sound (accounts f) (keyed f.setting) ∷ []
-    ≡ true ∷ false ∷ true ∷ true ∷ []
+      ≡ true ∷ false ∷ true ∷ true ∷ []

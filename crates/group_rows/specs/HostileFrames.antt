@@ -57,9 +57,12 @@ answers_2 =
     []
 
 unfoldable pub f : Family
-f = record { setting = s; correct =
-  (record { me = 0; batch_limit = 1; turns = turns_0 } ∷ record { me = 1; batch_limit = 1; turns = turns_1 }
-  ∷ record { me = 2; batch_limit = 1; turns = turns_2 } ∷ []) }
+f = record {
+  setting = s;
+  correct =
+      (record { me = 0; batch_limit = 1; turns = turns_0 } ∷ record { me = 1; batch_limit = 1; turns = turns_1 }
+      ∷ record { me = 2; batch_limit = 1; turns = turns_2 } ∷ []);
+}
 
 -- the row: what the definitions give
 pub record HostileFrames : Type 0 where
@@ -67,5 +70,5 @@ pub record HostileFrames : Type 0 where
   pub row_1 : seen s (start s 1 1) turns_1 ≡ answers_1
   pub row_2 : seen s (start s 2 1) turns_2 ≡ answers_2
   pub judged : honest f ∷ bounded (accounts f) (numbers f) ∷ agree (accounts f) ∷ sound (accounts f) (keyed f.setting) ∷ []
-    ≡ true ∷ true ∷ true ∷ true ∷ []
+      ≡ true ∷ true ∷ true ∷ true ∷ []
   pub premises : Premises f

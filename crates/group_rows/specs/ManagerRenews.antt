@@ -33,14 +33,26 @@ answers_0 =
     (None, ((Notify 0 Renew) ∷ []), (((1 ∷ 2 ∷ 3 ∷ []), (1 ∷ 1 ∷ 1 ∷ 0 ∷ 5 ∷ 6 ∷ 0 ∷ 0 ∷ 3 ∷ 0 ∷ 1 ∷ 0 ∷ 0 ∷ 0 ∷ [])) ∷ []), ([]))
     ∷ (None, ((End 0 0) ∷ []), (((1 ∷ 2 ∷ 3 ∷ []), (1 ∷ 1 ∷ 1 ∷ 0 ∷ 5 ∷ 7 ∷ 0 ∷ 0 ∷ 0 ∷ 0 ∷ 1 ∷ 0 ∷ 0 ∷ 0 ∷ [])) ∷ []), ([]))
     ∷ (None, ([]), ([]), ([]))
-    ∷ (None, ((Suggest 0 0 (value Renew 0)) ∷ (Ack 0 0 (value Renew 0)) ∷ []),
-      (((1 ∷ 2 ∷ 3 ∷ []), (1 ∷ 1 ∷ 4 ∷ 0 ∷ 8 ∷ 9 ∷ 0 ∷ 0 ∷ 0 ∷ 3 ∷ 0 ∷ 0 ∷ 0 ∷ 1 ∷ 0 ∷ 0 ∷ 0 ∷ 0 ∷ 8 ∷ 10 ∷ 0 ∷ 0 ∷ 0 ∷ 3 ∷ 0 ∷ 0 ∷ 0 ∷ 1
-      ∷ 0 ∷ 0 ∷ 0 ∷ 0 ∷ 5 ∷ 6 ∷ 0 ∷ 0 ∷ 3 ∷ 0 ∷ 2 ∷ 0 ∷ 0 ∷ 0 ∷ 1 ∷ 0 ∷ 0 ∷ 0 ∷ 5 ∷ 7 ∷ 0 ∷ 0 ∷ 0 ∷ 0 ∷ 3 ∷ 0 ∷ 0 ∷ 0 ∷ 1 ∷ 0 ∷ 0 ∷ 2 ∷ 0
-      ∷ 0 ∷ [])) ∷ []), ([]))
+    ∷ (
+      None,
+      ((Suggest 0 0 (value Renew 0)) ∷ (Ack 0 0 (value Renew 0)) ∷ []),
+      ((
+        (1 ∷ 2 ∷ 3 ∷ []),
+        (1 ∷ 1 ∷ 4 ∷ 0 ∷ 8 ∷ 9 ∷ 0 ∷ 0 ∷ 0 ∷ 3 ∷ 0 ∷ 0 ∷ 0 ∷ 1 ∷ 0 ∷ 0 ∷ 0 ∷ 0 ∷ 8 ∷ 10 ∷ 0 ∷ 0 ∷ 0 ∷ 3 ∷ 0 ∷ 0 ∷ 0 ∷ 1
+            ∷ 0 ∷ 0 ∷ 0 ∷ 0 ∷ 5 ∷ 6 ∷ 0 ∷ 0 ∷ 3 ∷ 0 ∷ 2 ∷ 0 ∷ 0 ∷ 0 ∷ 1 ∷ 0 ∷ 0 ∷ 0 ∷ 5 ∷ 7 ∷ 0 ∷ 0 ∷ 0 ∷ 0 ∷ 3 ∷ 0 ∷ 0 ∷ 0 ∷ 1 ∷ 0 ∷ 0 ∷ 2
+            ∷ 0
+            ∷ 0 ∷ []),
+      ) ∷ []),
+      ([]),
+    )
     ∷ (None, ([]), ([]), ([]))
     ∷ (None, ([]), ([]), ([]))
-    ∷ (None, ((Ready 0 0 (value Renew 0)) ∷ []),
-      (((1 ∷ 2 ∷ 3 ∷ []), (1 ∷ 1 ∷ 1 ∷ 0 ∷ 8 ∷ 11 ∷ 0 ∷ 0 ∷ 0 ∷ 3 ∷ 0 ∷ 0 ∷ 0 ∷ 1 ∷ 0 ∷ 0 ∷ 0 ∷ [])) ∷ []), ([]))
+    ∷ (
+      None,
+      ((Ready 0 0 (value Renew 0)) ∷ []),
+      (((1 ∷ 2 ∷ 3 ∷ []), (1 ∷ 1 ∷ 1 ∷ 0 ∷ 8 ∷ 11 ∷ 0 ∷ 0 ∷ 0 ∷ 3 ∷ 0 ∷ 0 ∷ 0 ∷ 1 ∷ 0 ∷ 0 ∷ 0 ∷ [])) ∷ []),
+      ([]),
+    )
     ∷ (None, ([]), ([]), ([]))
     ∷ (None, ([]), ([]), ([]))
     ∷ (None, ([]), ([]), (Installs (record { number = 1; members = 0 ∷ 1 ∷ 2 ∷ 3 ∷ [] }) ∷ []))
@@ -55,7 +67,7 @@ turns_1 =
     ∷ turn 99998 (Hand 2 (Claims (by 2 (End 0 0) ∷ [])))
     ∷ turn 99998 (Hand 3 (Claims (by 3 (End 0 0) ∷ [])))
     ∷ turn 99998 (Hand 0 (Claims (by 0 (Suggest 0 0 (value Renew 0)) ∷ by 0 (Ack 0 0 (value Renew 0)) ∷ by 0 (Notify 0 Renew)
-      ∷ by 1 (Notify 0 Renew) ∷ by 0 (End 0 0) ∷ by 1 (End 0 0) ∷ by 2 (End 0 0) ∷ [])))
+    ∷ by 1 (Notify 0 Renew) ∷ by 0 (End 0 0) ∷ by 1 (End 0 0) ∷ by 2 (End 0 0) ∷ [])))
     ∷ turn 99997 (Hand 2 (Claims (by 2 (Ack 0 0 (value Renew 0)) ∷ [])))
     ∷ turn 99996 (Hand 3 (Claims (by 3 (Ack 0 0 (value Renew 0)) ∷ [])))
     ∷ turn 99996 (Hand 2 (Claims (by 2 (Ready 0 0 (value Renew 0)) ∷ [])))
@@ -70,10 +82,18 @@ answers_1 =
     ∷ (None, ([]), ([]), ([]))
     ∷ (None, ([]), ([]), ([]))
     ∷ (None, ([]), ([]), ([]))
-    ∷ (None, ((Ack 0 0 (value Renew 0)) ∷ []),
-      (((0 ∷ 2 ∷ 3 ∷ []), (1 ∷ 1 ∷ 1 ∷ 0 ∷ 8 ∷ 10 ∷ 0 ∷ 0 ∷ 0 ∷ 3 ∷ 0 ∷ 0 ∷ 0 ∷ 1 ∷ 1 ∷ 0 ∷ 0 ∷ [])) ∷ []), ([]))
-    ∷ (None, ((Ready 0 0 (value Renew 0)) ∷ []),
-      (((0 ∷ 2 ∷ 3 ∷ []), (1 ∷ 1 ∷ 1 ∷ 0 ∷ 8 ∷ 11 ∷ 0 ∷ 0 ∷ 0 ∷ 3 ∷ 0 ∷ 0 ∷ 0 ∷ 1 ∷ 1 ∷ 0 ∷ 0 ∷ [])) ∷ []), ([]))
+    ∷ (
+      None,
+      ((Ack 0 0 (value Renew 0)) ∷ []),
+      (((0 ∷ 2 ∷ 3 ∷ []), (1 ∷ 1 ∷ 1 ∷ 0 ∷ 8 ∷ 10 ∷ 0 ∷ 0 ∷ 0 ∷ 3 ∷ 0 ∷ 0 ∷ 0 ∷ 1 ∷ 1 ∷ 0 ∷ 0 ∷ [])) ∷ []),
+      ([]),
+    )
+    ∷ (
+      None,
+      ((Ready 0 0 (value Renew 0)) ∷ []),
+      (((0 ∷ 2 ∷ 3 ∷ []), (1 ∷ 1 ∷ 1 ∷ 0 ∷ 8 ∷ 11 ∷ 0 ∷ 0 ∷ 0 ∷ 3 ∷ 0 ∷ 0 ∷ 0 ∷ 1 ∷ 1 ∷ 0 ∷ 0 ∷ [])) ∷ []),
+      ([]),
+    )
     ∷ (None, ([]), ([]), ([]))
     ∷ (None, ([]), ([]), ([]))
     ∷ (None, ([]), ([]), (Installs (record { number = 1; members = 0 ∷ 1 ∷ 2 ∷ 3 ∷ [] }) ∷ []))
@@ -88,7 +108,7 @@ turns_2 =
     ∷ turn 99999 (Hand 0 (Claims (by 0 (End 0 0) ∷ [])))
     ∷ turn 99999 (Hand 3 (Claims (by 3 (End 0 0) ∷ [])))
     ∷ turn 99999 (Hand 0 (Claims (by 0 (Suggest 0 0 (value Renew 0)) ∷ by 0 (Ack 0 0 (value Renew 0)) ∷ by 0 (Notify 0 Renew)
-      ∷ by 1 (Notify 0 Renew) ∷ by 0 (End 0 0) ∷ by 1 (End 0 0) ∷ by 2 (End 0 0) ∷ [])))
+    ∷ by 1 (Notify 0 Renew) ∷ by 0 (End 0 0) ∷ by 1 (End 0 0) ∷ by 2 (End 0 0) ∷ [])))
     ∷ turn 99998 (Hand 1 (Claims (by 1 (Ack 0 0 (value Renew 0)) ∷ [])))
     ∷ turn 99997 (Hand 3 (Claims (by 3 (Ack 0 0 (value Renew 0)) ∷ [])))
     ∷ turn 99997 (Hand 3 (Claims (by 3 (Ready 0 0 (value Renew 0)) ∷ [])))
@@ -103,10 +123,18 @@ answers_2 =
     ∷ (None, ([]), ([]), ([]))
     ∷ (None, ([]), ([]), ([]))
     ∷ (None, ([]), ([]), ([]))
-    ∷ (None, ((Ack 0 0 (value Renew 0)) ∷ []),
-      (((0 ∷ 1 ∷ 3 ∷ []), (1 ∷ 1 ∷ 1 ∷ 0 ∷ 8 ∷ 10 ∷ 0 ∷ 0 ∷ 0 ∷ 3 ∷ 0 ∷ 0 ∷ 0 ∷ 1 ∷ 2 ∷ 0 ∷ 0 ∷ [])) ∷ []), ([]))
-    ∷ (None, ((Ready 0 0 (value Renew 0)) ∷ []),
-      (((0 ∷ 1 ∷ 3 ∷ []), (1 ∷ 1 ∷ 1 ∷ 0 ∷ 8 ∷ 11 ∷ 0 ∷ 0 ∷ 0 ∷ 3 ∷ 0 ∷ 0 ∷ 0 ∷ 1 ∷ 2 ∷ 0 ∷ 0 ∷ [])) ∷ []), ([]))
+    ∷ (
+      None,
+      ((Ack 0 0 (value Renew 0)) ∷ []),
+      (((0 ∷ 1 ∷ 3 ∷ []), (1 ∷ 1 ∷ 1 ∷ 0 ∷ 8 ∷ 10 ∷ 0 ∷ 0 ∷ 0 ∷ 3 ∷ 0 ∷ 0 ∷ 0 ∷ 1 ∷ 2 ∷ 0 ∷ 0 ∷ [])) ∷ []),
+      ([]),
+    )
+    ∷ (
+      None,
+      ((Ready 0 0 (value Renew 0)) ∷ []),
+      (((0 ∷ 1 ∷ 3 ∷ []), (1 ∷ 1 ∷ 1 ∷ 0 ∷ 8 ∷ 11 ∷ 0 ∷ 0 ∷ 0 ∷ 3 ∷ 0 ∷ 0 ∷ 0 ∷ 1 ∷ 2 ∷ 0 ∷ 0 ∷ [])) ∷ []),
+      ([]),
+    )
     ∷ (None, ([]), ([]), ([]))
     ∷ (None, ([]), ([]), ([]))
     ∷ (None, ([]), ([]), (Installs (record { number = 1; members = 0 ∷ 1 ∷ 2 ∷ 3 ∷ [] }) ∷ []))
@@ -121,7 +149,7 @@ turns_3 =
     ∷ turn 99999 (Hand 0 (Claims (by 0 (End 0 0) ∷ [])))
     ∷ turn 99999 (Hand 2 (Claims (by 2 (End 0 0) ∷ [])))
     ∷ turn 99999 (Hand 0 (Claims (by 0 (Suggest 0 0 (value Renew 0)) ∷ by 0 (Ack 0 0 (value Renew 0)) ∷ by 0 (Notify 0 Renew)
-      ∷ by 1 (Notify 0 Renew) ∷ by 0 (End 0 0) ∷ by 1 (End 0 0) ∷ by 2 (End 0 0) ∷ [])))
+    ∷ by 1 (Notify 0 Renew) ∷ by 0 (End 0 0) ∷ by 1 (End 0 0) ∷ by 2 (End 0 0) ∷ [])))
     ∷ turn 99998 (Hand 1 (Claims (by 1 (Ack 0 0 (value Renew 0)) ∷ [])))
     ∷ turn 99997 (Hand 2 (Claims (by 2 (Ack 0 0 (value Renew 0)) ∷ [])))
     ∷ turn 99997 (Hand 2 (Claims (by 2 (Ready 0 0 (value Renew 0)) ∷ [])))
@@ -136,10 +164,18 @@ answers_3 =
     ∷ (None, ([]), ([]), ([]))
     ∷ (None, ([]), ([]), ([]))
     ∷ (None, ([]), ([]), ([]))
-    ∷ (None, ((Ack 0 0 (value Renew 0)) ∷ []),
-      (((0 ∷ 1 ∷ 2 ∷ []), (1 ∷ 1 ∷ 1 ∷ 0 ∷ 8 ∷ 10 ∷ 0 ∷ 0 ∷ 0 ∷ 3 ∷ 0 ∷ 0 ∷ 0 ∷ 1 ∷ 3 ∷ 0 ∷ 0 ∷ [])) ∷ []), ([]))
-    ∷ (None, ((Ready 0 0 (value Renew 0)) ∷ []),
-      (((0 ∷ 1 ∷ 2 ∷ []), (1 ∷ 1 ∷ 1 ∷ 0 ∷ 8 ∷ 11 ∷ 0 ∷ 0 ∷ 0 ∷ 3 ∷ 0 ∷ 0 ∷ 0 ∷ 1 ∷ 3 ∷ 0 ∷ 0 ∷ [])) ∷ []), ([]))
+    ∷ (
+      None,
+      ((Ack 0 0 (value Renew 0)) ∷ []),
+      (((0 ∷ 1 ∷ 2 ∷ []), (1 ∷ 1 ∷ 1 ∷ 0 ∷ 8 ∷ 10 ∷ 0 ∷ 0 ∷ 0 ∷ 3 ∷ 0 ∷ 0 ∷ 0 ∷ 1 ∷ 3 ∷ 0 ∷ 0 ∷ [])) ∷ []),
+      ([]),
+    )
+    ∷ (
+      None,
+      ((Ready 0 0 (value Renew 0)) ∷ []),
+      (((0 ∷ 1 ∷ 2 ∷ []), (1 ∷ 1 ∷ 1 ∷ 0 ∷ 8 ∷ 11 ∷ 0 ∷ 0 ∷ 0 ∷ 3 ∷ 0 ∷ 0 ∷ 0 ∷ 1 ∷ 3 ∷ 0 ∷ 0 ∷ [])) ∷ []),
+      ([]),
+    )
     ∷ (None, ([]), ([]), ([]))
     ∷ (None, ([]), ([]), ([]))
     ∷ (None, ([]), ([]), (Installs (record { number = 1; members = 0 ∷ 1 ∷ 2 ∷ 3 ∷ [] }) ∷ []))
@@ -147,9 +183,12 @@ answers_3 =
     ∷ []
 
 unfoldable pub f : Family
-f = record { setting = s; correct =
-  (record { me = 0; batch_limit = 1; turns = turns_0 } ∷ record { me = 1; batch_limit = 1; turns = turns_1 }
-  ∷ record { me = 2; batch_limit = 1; turns = turns_2 } ∷ record { me = 3; batch_limit = 1; turns = turns_3 } ∷ []) }
+f = record {
+  setting = s;
+  correct =
+      (record { me = 0; batch_limit = 1; turns = turns_0 } ∷ record { me = 1; batch_limit = 1; turns = turns_1 }
+      ∷ record { me = 2; batch_limit = 1; turns = turns_2 } ∷ record { me = 3; batch_limit = 1; turns = turns_3 } ∷ []);
+}
 
 -- the row: what the definitions give
 pub record ManagerRenews : Type 0 where
@@ -158,5 +197,5 @@ pub record ManagerRenews : Type 0 where
   pub row_2 : seen s (start s 2 1) turns_2 ≡ answers_2
   pub row_3 : seen s (start s 3 1) turns_3 ≡ answers_3
   pub judged : honest f ∷ bounded (accounts f) (numbers f) ∷ agree (accounts f) ∷ sound (accounts f) (keyed f.setting) ∷ []
-    ≡ true ∷ true ∷ true ∷ true ∷ []
+      ≡ true ∷ true ∷ true ∷ true ∷ []
   pub premises : Premises f

@@ -17,13 +17,16 @@ unfoldable pub turns_b : List Turn
 turns_b = turn 100000 (Submit (98 ∷ [])) ∷ []
 
 unfoldable pub f : Family
-f = record { setting = s; correct = record { me = 0; batch_limit = 1; turns = turns_a }
-  ∷ record { me = 0; batch_limit = 1; turns = turns_b } ∷ [] }
+f = record {
+  setting = s;
+  correct = record { me = 0; batch_limit = 1; turns = turns_a }
+      ∷ record { me = 0; batch_limit = 1; turns = turns_b } ∷ [];
+}
 
 -- the row: what the definitions give
 pub record NumberTwice : Type 0 where
   pub judged : honest f ∷ bounded (accounts f) (numbers f) ∷ agree (accounts f) ∷ sound (accounts f) (keyed f.setting) ∷ []
-    ≡ true ∷ true ∷ false ∷ false ∷ []
+      ≡ true ∷ true ∷ false ∷ false ∷ []
   pub is_honest : Honest f
   pub is_bounded : Bounded (accounts f) (numbers f)
   pub is_not_agreed : Agree (accounts f) → ⊥

@@ -29,7 +29,7 @@ turns =
     ∷ turn 1000 (Hand 1 (Claims (by 1 (Echo 0 (msg 0 0) (0 ∷ [])) ∷ by 1 (Echo 0 (msg 0 1) (1 ∷ [])) ∷ [])))
     ∷ turn 1000 (Hand 1 (Claims (by 1 (Place 0 0 first) ∷ by 1 (Keep 0 0 first) ∷ [])))
     ∷ (flat_map (λ l. submit l ∷ echo l ∷ []) (range_with_len 2 32)
-      ++ turn 1000 (Hand 1 (Claims (by 1 (Init 0 0 (9 ∷ [])) ∷ by 1 (Echo 0 (msg 1 0) (9 ∷ [])) ∷ []))) ∷ [])
+    ++ turn 1000 (Hand 1 (Claims (by 1 (Init 0 0 (9 ∷ [])) ∷ by 1 (Echo 0 (msg 1 0) (9 ∷ [])) ∷ []))) ∷ [])
 
 unfoldable pub end : Process
 end = run s (start s 0 16) turns

@@ -11,8 +11,13 @@ at k l = record { place = k; message = msg 0 l; payload = [] }
 
 -- an account of one view, where process 0 is the only member
 abbrev pub of : ℕ → List Delivered → Account
-of me ds = record { me = me; views = record { number = 0; members = 0 ∷ [] } ∷ []; delivered = ds ∷ [];
-  accepted = map (λ l. []) (range_with_len 0 20); perceived = [] }
+of me ds = record {
+  me = me;
+  views = record { number = 0; members = 0 ∷ [] } ∷ [];
+  delivered = ds ∷ [];
+  accepted = map (λ l. []) (range_with_len 0 20);
+  perceived = [];
+}
 
 abbrev pub is_sound : List (List Delivered) → Bool
 is_sound dss = sound (map (of 0) dss) []

@@ -22,13 +22,16 @@ turns_0 =
     ∷ []
 
 unfoldable pub f : Family
-f = record { setting = s; correct = record { me = 0; batch_limit = 1; turns = turns_0 } ∷ record { me = 1; batch_limit = 1; turns = [] }
-  ∷ [] }
+f = record {
+  setting = s;
+  correct = record { me = 0; batch_limit = 1; turns = turns_0 } ∷ record { me = 1; batch_limit = 1; turns = [] }
+      ∷ [];
+}
 
 -- the row: what the definitions give
 pub record RemovedWithoutCause : Type 0 where
   pub judged : honest f ∷ bounded (accounts f) (numbers f) ∷ agree (accounts f) ∷ sound (accounts f) (keyed f.setting) ∷ []
-    ≡ true ∷ false ∷ true ∷ false ∷ []
+      ≡ true ∷ false ∷ true ∷ false ∷ []
   pub is_honest : Honest f
   pub is_not_bounded : Bounded (accounts f) (numbers f) → ⊥
   pub is_not_sound : Sound (accounts f) (keyed f.setting) → ⊥

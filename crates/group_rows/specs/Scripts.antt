@@ -7,8 +7,13 @@ use Rattle.group_defs.specs.Sending.{Sending, frames_of}
 use Rattle.group_defs.specs.Events.{Event, Turn, EventFault, Note, Outcome, after, outcome}
 
 abbrev pub setting : List ℕ → List ℕ → Setting
-setting genesis roster = record { group = []; roster = map (λ p. (p, [])) roster; genesis = record { number = 0; members = genesis };
-  valid = λ key body signature. length signature == 0; signs = all_kinds }
+setting genesis roster = record {
+  group = [];
+  roster = map (λ p. (p, [])) roster;
+  genesis = record { number = 0; members = genesis };
+  valid = λ key body signature. length signature == 0;
+  signs = all_kinds;
+}
 
 abbrev pub turn : ℕ → Event → Turn
 turn left e = record { event = e; allowance = left; signer = λ used body. [] }

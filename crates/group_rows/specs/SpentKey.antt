@@ -17,9 +17,12 @@ turns_0 =
     ∷ []
 
 unfoldable pub answers_0 : List Seen
-answers_0 =
-    (None, ((Init 0 0 (97 ∷ [])) ∷ (Echo 0 (msg 0 0) (97 ∷ [])) ∷ (Order 0 0 (msg 0 0 ∷ [])) ∷ (Place 0 0 (msg 0 0 ∷ [])) ∷ []), ([]),
-      (Spent ∷ []))
+answers_0 = (
+  None,
+  ((Init 0 0 (97 ∷ [])) ∷ (Echo 0 (msg 0 0) (97 ∷ [])) ∷ (Order 0 0 (msg 0 0 ∷ [])) ∷ (Place 0 0 (msg 0 0 ∷ [])) ∷ []),
+  ([]),
+  (Spent ∷ []),
+)
     ∷ []
 
 unfoldable pub f : Family
@@ -29,5 +32,5 @@ f = record { setting = s; correct = (record { me = 0; batch_limit = 1; turns = t
 pub record SpentKey : Type 0 where
   pub row_0 : seen s (start s 0 1) turns_0 ≡ answers_0
   pub judged : honest f ∷ bounded (accounts f) (numbers f) ∷ agree (accounts f) ∷ sound (accounts f) (keyed f.setting) ∷ []
-    ≡ true ∷ true ∷ true ∷ true ∷ []
+      ≡ true ∷ true ∷ true ∷ true ∷ []
   pub premises : Premises f

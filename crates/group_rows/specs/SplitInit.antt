@@ -27,18 +27,32 @@ turns_0 =
     ∷ []
 
 unfoldable pub answers_0 : List Seen
-answers_0 =
-    (None, ((Echo 0 (msg 3 0) (97 ∷ [])) ∷ []),
-      (((1 ∷ 2 ∷ 3 ∷ []), (1 ∷ 1 ∷ 1 ∷ 0 ∷ 9 ∷ 2 ∷ 0 ∷ 0 ∷ 3 ∷ 0 ∷ 0 ∷ 0 ∷ 1 ∷ 97 ∷ 1 ∷ 0 ∷ 0 ∷ 0 ∷ [])) ∷ []), ([]))
+answers_0 = (
+  None,
+  ((Echo 0 (msg 3 0) (97 ∷ [])) ∷ []),
+  (((1 ∷ 2 ∷ 3 ∷ []), (1 ∷ 1 ∷ 1 ∷ 0 ∷ 9 ∷ 2 ∷ 0 ∷ 0 ∷ 3 ∷ 0 ∷ 0 ∷ 0 ∷ 1 ∷ 97 ∷ 1 ∷ 0 ∷ 0 ∷ 0 ∷ [])) ∷ []),
+  ([]),
+)
     ∷ (None, ([]), ([]), ([]))
     ∷ (None, ([]), ([]), (Liar 3 ∷ []))
-    ∷ (None, ((Order 0 0 (msg 3 0 ∷ [])) ∷ (Place 0 0 (msg 3 0 ∷ [])) ∷ []),
-      (((1 ∷ 2 ∷ 3 ∷ []), (1 ∷ 1 ∷ 3 ∷ 0 ∷ 8 ∷ 3 ∷ 0 ∷ 0 ∷ 0 ∷ 0 ∷ 3 ∷ 0 ∷ 0 ∷ 1 ∷ 0 ∷ 0 ∷ 0 ∷ 0 ∷ 8 ∷ 4 ∷ 0 ∷ 0 ∷ 0 ∷ 0 ∷ 3 ∷ 0 ∷ 0 ∷ 1 ∷ 0
-      ∷ 0 ∷ 0 ∷ 0 ∷ 9 ∷ 2 ∷ 0 ∷ 0 ∷ 3 ∷ 0 ∷ 0 ∷ 0 ∷ 1 ∷ 97 ∷ 3 ∷ 0 ∷ 0 ∷ 0 ∷ 1 ∷ 0 ∷ 0 ∷ 3 ∷ 0 ∷ 0 ∷ [])) ∷ []), ([]))
+    ∷ (
+      None,
+      ((Order 0 0 (msg 3 0 ∷ [])) ∷ (Place 0 0 (msg 3 0 ∷ [])) ∷ []),
+      ((
+        (1 ∷ 2 ∷ 3 ∷ []),
+        (1 ∷ 1 ∷ 3 ∷ 0 ∷ 8 ∷ 3 ∷ 0 ∷ 0 ∷ 0 ∷ 0 ∷ 3 ∷ 0 ∷ 0 ∷ 1 ∷ 0 ∷ 0 ∷ 0 ∷ 0 ∷ 8 ∷ 4 ∷ 0 ∷ 0 ∷ 0 ∷ 0 ∷ 3 ∷ 0 ∷ 0 ∷ 1 ∷ 0
+            ∷ 0 ∷ 0 ∷ 0 ∷ 9 ∷ 2 ∷ 0 ∷ 0 ∷ 3 ∷ 0 ∷ 0 ∷ 0 ∷ 1 ∷ 97 ∷ 3 ∷ 0 ∷ 0 ∷ 0 ∷ 1 ∷ 0 ∷ 0 ∷ 3 ∷ 0 ∷ 0 ∷ []),
+      ) ∷ []),
+      ([]),
+    )
     ∷ (None, ([]), ([]), ([]))
     ∷ (None, ([]), ([]), ([]))
-    ∷ (None, ((Keep 0 0 (msg 3 0 ∷ [])) ∷ []),
-      (((1 ∷ 2 ∷ 3 ∷ []), (1 ∷ 1 ∷ 1 ∷ 0 ∷ 8 ∷ 5 ∷ 0 ∷ 0 ∷ 0 ∷ 0 ∷ 3 ∷ 0 ∷ 0 ∷ 1 ∷ 0 ∷ 0 ∷ 0 ∷ [])) ∷ []), ([]))
+    ∷ (
+      None,
+      ((Keep 0 0 (msg 3 0 ∷ [])) ∷ []),
+      (((1 ∷ 2 ∷ 3 ∷ []), (1 ∷ 1 ∷ 1 ∷ 0 ∷ 8 ∷ 5 ∷ 0 ∷ 0 ∷ 0 ∷ 0 ∷ 3 ∷ 0 ∷ 0 ∷ 1 ∷ 0 ∷ 0 ∷ 0 ∷ [])) ∷ []),
+      ([]),
+    )
     ∷ (None, ([]), ([]), ([]))
     ∷ (None, ([]), ([]), (Delivers 0 (record { place = 0; message = msg 3 0; payload = 97 ∷ [] }) ∷ []))
     ∷ []
@@ -51,24 +65,35 @@ turns_1 =
     ∷ turn 99999 (Hand 0 (Claims (by 0 (Echo 0 (msg 3 0) (97 ∷ [])) ∷ [])))
     ∷ turn 99999 (Hand 2 (Claims (by 2 (Echo 0 (msg 3 0) (98 ∷ [])) ∷ [])))
     ∷ turn 99999 (Hand 0 (Claims (by 0 (Order 0 0 (msg 3 0 ∷ [])) ∷ by 0 (Place 0 0 (msg 3 0 ∷ [])) ∷ by 0 (Echo 0 (msg 3 0) (97 ∷ []))
-      ∷ by 1 (Echo 0 (msg 3 0) (97 ∷ [])) ∷ by 3 (Echo 0 (msg 3 0) (97 ∷ [])) ∷ [])))
+    ∷ by 1 (Echo 0 (msg 3 0) (97 ∷ [])) ∷ by 3 (Echo 0 (msg 3 0) (97 ∷ [])) ∷ [])))
     ∷ turn 99998 (Hand 2 (Claims (by 2 (Place 0 0 (msg 3 0 ∷ [])) ∷ [])))
     ∷ turn 99997 (Hand 2 (Claims (by 2 (Keep 0 0 (msg 3 0 ∷ [])) ∷ [])))
     ∷ turn 99997 (Hand 0 (Claims (by 0 (Keep 0 0 (msg 3 0 ∷ [])) ∷ [])))
     ∷ []
 
 unfoldable pub answers_1 : List Seen
-answers_1 =
-    (None, ((Echo 0 (msg 3 0) (97 ∷ [])) ∷ []),
-      (((0 ∷ 2 ∷ 3 ∷ []), (1 ∷ 1 ∷ 1 ∷ 0 ∷ 9 ∷ 2 ∷ 0 ∷ 0 ∷ 3 ∷ 0 ∷ 0 ∷ 0 ∷ 1 ∷ 97 ∷ 1 ∷ 1 ∷ 0 ∷ 0 ∷ [])) ∷ []), ([]))
+answers_1 = (
+  None,
+  ((Echo 0 (msg 3 0) (97 ∷ [])) ∷ []),
+  (((0 ∷ 2 ∷ 3 ∷ []), (1 ∷ 1 ∷ 1 ∷ 0 ∷ 9 ∷ 2 ∷ 0 ∷ 0 ∷ 3 ∷ 0 ∷ 0 ∷ 0 ∷ 1 ∷ 97 ∷ 1 ∷ 1 ∷ 0 ∷ 0 ∷ [])) ∷ []),
+  ([]),
+)
     ∷ (None, ([]), ([]), ([]))
     ∷ (None, ([]), ([]), (Liar 3 ∷ []))
     ∷ (None, ([]), ([]), ([]))
     ∷ (None, ([]), ([]), ([]))
-    ∷ (None, ((Place 0 0 (msg 3 0 ∷ [])) ∷ []),
-      (((0 ∷ 2 ∷ 3 ∷ []), (1 ∷ 1 ∷ 1 ∷ 0 ∷ 8 ∷ 4 ∷ 0 ∷ 0 ∷ 0 ∷ 0 ∷ 3 ∷ 0 ∷ 0 ∷ 1 ∷ 1 ∷ 0 ∷ 0 ∷ [])) ∷ []), ([]))
-    ∷ (None, ((Keep 0 0 (msg 3 0 ∷ [])) ∷ []),
-      (((0 ∷ 2 ∷ 3 ∷ []), (1 ∷ 1 ∷ 1 ∷ 0 ∷ 8 ∷ 5 ∷ 0 ∷ 0 ∷ 0 ∷ 0 ∷ 3 ∷ 0 ∷ 0 ∷ 1 ∷ 1 ∷ 0 ∷ 0 ∷ [])) ∷ []), ([]))
+    ∷ (
+      None,
+      ((Place 0 0 (msg 3 0 ∷ [])) ∷ []),
+      (((0 ∷ 2 ∷ 3 ∷ []), (1 ∷ 1 ∷ 1 ∷ 0 ∷ 8 ∷ 4 ∷ 0 ∷ 0 ∷ 0 ∷ 0 ∷ 3 ∷ 0 ∷ 0 ∷ 1 ∷ 1 ∷ 0 ∷ 0 ∷ [])) ∷ []),
+      ([]),
+    )
+    ∷ (
+      None,
+      ((Keep 0 0 (msg 3 0 ∷ [])) ∷ []),
+      (((0 ∷ 2 ∷ 3 ∷ []), (1 ∷ 1 ∷ 1 ∷ 0 ∷ 8 ∷ 5 ∷ 0 ∷ 0 ∷ 0 ∷ 0 ∷ 3 ∷ 0 ∷ 0 ∷ 1 ∷ 1 ∷ 0 ∷ 0 ∷ [])) ∷ []),
+      ([]),
+    )
     ∷ (None, ([]), ([]), ([]))
     ∷ (None, ([]), ([]), (Delivers 0 (record { place = 0; message = msg 3 0; payload = 97 ∷ [] }) ∷ []))
     ∷ []
@@ -81,32 +106,46 @@ turns_2 =
     ∷ turn 99999 (Hand 0 (Claims (by 0 (Echo 0 (msg 3 0) (97 ∷ [])) ∷ [])))
     ∷ turn 99999 (Hand 1 (Claims (by 1 (Echo 0 (msg 3 0) (97 ∷ [])) ∷ [])))
     ∷ turn 99999 (Hand 0 (Claims (by 0 (Order 0 0 (msg 3 0 ∷ [])) ∷ by 0 (Place 0 0 (msg 3 0 ∷ [])) ∷ by 0 (Echo 0 (msg 3 0) (97 ∷ []))
-      ∷ by 1 (Echo 0 (msg 3 0) (97 ∷ [])) ∷ by 3 (Echo 0 (msg 3 0) (97 ∷ [])) ∷ [])))
+    ∷ by 1 (Echo 0 (msg 3 0) (97 ∷ [])) ∷ by 3 (Echo 0 (msg 3 0) (97 ∷ [])) ∷ [])))
     ∷ turn 99998 (Hand 1 (Claims (by 1 (Place 0 0 (msg 3 0 ∷ [])) ∷ [])))
     ∷ turn 99997 (Hand 0 (Claims (by 0 (Keep 0 0 (msg 3 0 ∷ [])) ∷ [])))
     ∷ turn 99997 (Hand 1 (Claims (by 1 (Keep 0 0 (msg 3 0 ∷ [])) ∷ [])))
     ∷ []
 
 unfoldable pub answers_2 : List Seen
-answers_2 =
-    (None, ((Echo 0 (msg 3 0) (98 ∷ [])) ∷ []),
-      (((0 ∷ 1 ∷ 3 ∷ []), (1 ∷ 1 ∷ 1 ∷ 0 ∷ 9 ∷ 2 ∷ 0 ∷ 0 ∷ 3 ∷ 0 ∷ 0 ∷ 0 ∷ 1 ∷ 98 ∷ 1 ∷ 2 ∷ 0 ∷ 0 ∷ [])) ∷ []), ([]))
+answers_2 = (
+  None,
+  ((Echo 0 (msg 3 0) (98 ∷ [])) ∷ []),
+  (((0 ∷ 1 ∷ 3 ∷ []), (1 ∷ 1 ∷ 1 ∷ 0 ∷ 9 ∷ 2 ∷ 0 ∷ 0 ∷ 3 ∷ 0 ∷ 0 ∷ 0 ∷ 1 ∷ 98 ∷ 1 ∷ 2 ∷ 0 ∷ 0 ∷ [])) ∷ []),
+  ([]),
+)
     ∷ (None, ([]), ([]), ([]))
     ∷ (None, ([]), ([]), (Liar 3 ∷ []))
     ∷ (None, ([]), ([]), ([]))
     ∷ (None, ([]), ([]), ([]))
-    ∷ (None, ((Place 0 0 (msg 3 0 ∷ [])) ∷ []),
-      (((0 ∷ 1 ∷ 3 ∷ []), (1 ∷ 1 ∷ 1 ∷ 0 ∷ 8 ∷ 4 ∷ 0 ∷ 0 ∷ 0 ∷ 0 ∷ 3 ∷ 0 ∷ 0 ∷ 1 ∷ 2 ∷ 0 ∷ 0 ∷ [])) ∷ []), ([]))
-    ∷ (None, ((Keep 0 0 (msg 3 0 ∷ [])) ∷ []),
-      (((0 ∷ 1 ∷ 3 ∷ []), (1 ∷ 1 ∷ 1 ∷ 0 ∷ 8 ∷ 5 ∷ 0 ∷ 0 ∷ 0 ∷ 0 ∷ 3 ∷ 0 ∷ 0 ∷ 1 ∷ 2 ∷ 0 ∷ 0 ∷ [])) ∷ []), ([]))
+    ∷ (
+      None,
+      ((Place 0 0 (msg 3 0 ∷ [])) ∷ []),
+      (((0 ∷ 1 ∷ 3 ∷ []), (1 ∷ 1 ∷ 1 ∷ 0 ∷ 8 ∷ 4 ∷ 0 ∷ 0 ∷ 0 ∷ 0 ∷ 3 ∷ 0 ∷ 0 ∷ 1 ∷ 2 ∷ 0 ∷ 0 ∷ [])) ∷ []),
+      ([]),
+    )
+    ∷ (
+      None,
+      ((Keep 0 0 (msg 3 0 ∷ [])) ∷ []),
+      (((0 ∷ 1 ∷ 3 ∷ []), (1 ∷ 1 ∷ 1 ∷ 0 ∷ 8 ∷ 5 ∷ 0 ∷ 0 ∷ 0 ∷ 0 ∷ 3 ∷ 0 ∷ 0 ∷ 1 ∷ 2 ∷ 0 ∷ 0 ∷ [])) ∷ []),
+      ([]),
+    )
     ∷ (None, ([]), ([]), ([]))
     ∷ (None, ([]), ([]), (Delivers 0 (record { place = 0; message = msg 3 0; payload = 97 ∷ [] }) ∷ []))
     ∷ []
 
 unfoldable pub f : Family
-f = record { setting = s; correct =
-  (record { me = 0; batch_limit = 1; turns = turns_0 } ∷ record { me = 1; batch_limit = 1; turns = turns_1 }
-  ∷ record { me = 2; batch_limit = 1; turns = turns_2 } ∷ []) }
+f = record {
+  setting = s;
+  correct =
+      (record { me = 0; batch_limit = 1; turns = turns_0 } ∷ record { me = 1; batch_limit = 1; turns = turns_1 }
+      ∷ record { me = 2; batch_limit = 1; turns = turns_2 } ∷ []);
+}
 
 -- the row: what the definitions give
 pub record SplitInit : Type 0 where
@@ -114,5 +153,5 @@ pub record SplitInit : Type 0 where
   pub row_1 : seen s (start s 1 1) turns_1 ≡ answers_1
   pub row_2 : seen s (start s 2 1) turns_2 ≡ answers_2
   pub judged : honest f ∷ bounded (accounts f) (numbers f) ∷ agree (accounts f) ∷ sound (accounts f) (keyed f.setting) ∷ []
-    ≡ true ∷ true ∷ true ∷ true ∷ []
+      ≡ true ∷ true ∷ true ∷ true ∷ []
   pub premises : Premises f

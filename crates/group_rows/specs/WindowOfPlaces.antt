@@ -26,39 +26,76 @@ turns_0 =
     ∷ []
 
 unfoldable pub answers_0 : List Seen
-answers_0 =
-    (None, ((Init 0 0 (97 ∷ [])) ∷ (Echo 0 (msg 0 0) (97 ∷ [])) ∷ []),
-      (((1 ∷ 2 ∷ 3 ∷ []), (1 ∷ 1 ∷ 2 ∷ 0 ∷ 8 ∷ 1 ∷ 0 ∷ 0 ∷ 0 ∷ 0 ∷ 0 ∷ 1 ∷ 97 ∷ 1 ∷ 0 ∷ 0 ∷ 0 ∷ 0 ∷ 9 ∷ 2 ∷ 0 ∷ 0 ∷ 0 ∷ 0 ∷ 0 ∷ 0 ∷ 1 ∷ 97
-      ∷ 1 ∷ 0 ∷ 0 ∷ 0 ∷ [])) ∷ []), ([]))
-    ∷ (None, ((Init 0 1 (98 ∷ [])) ∷ (Echo 0 (msg 0 1) (98 ∷ [])) ∷ []),
-      (((1 ∷ 2 ∷ 3 ∷ []), (1 ∷ 1 ∷ 2 ∷ 0 ∷ 8 ∷ 1 ∷ 0 ∷ 0 ∷ 0 ∷ 1 ∷ 0 ∷ 1 ∷ 98 ∷ 1 ∷ 0 ∷ 0 ∷ 0 ∷ 0 ∷ 9 ∷ 2 ∷ 0 ∷ 0 ∷ 0 ∷ 0 ∷ 1 ∷ 0 ∷ 1 ∷ 98
-      ∷ 1 ∷ 0 ∷ 0 ∷ 0 ∷ [])) ∷ []), ([]))
-    ∷ (None, ([]), (((1 ∷ 2 ∷ 3 ∷ []),
-      (1 ∷ 1 ∷ 4 ∷ 0 ∷ 8 ∷ 1 ∷ 0 ∷ 0 ∷ 0 ∷ 0 ∷ 0 ∷ 1 ∷ 97 ∷ 1 ∷ 0 ∷ 0 ∷ 0 ∷ 0 ∷ 9 ∷ 2 ∷ 0 ∷ 0 ∷ 0 ∷ 0 ∷ 0 ∷ 0 ∷ 1 ∷ 97 ∷ 1 ∷ 0 ∷ 0 ∷ 0 ∷ 0
-      ∷ 8 ∷ 1 ∷ 0 ∷ 0 ∷ 0 ∷ 1 ∷ 0 ∷ 1 ∷ 98 ∷ 1 ∷ 0 ∷ 0 ∷ 0 ∷ 0 ∷ 9 ∷ 2 ∷ 0 ∷ 0 ∷ 0 ∷ 0 ∷ 1 ∷ 0 ∷ 1 ∷ 98 ∷ 1 ∷ 0 ∷ 0 ∷ 0 ∷ []))
-      ∷ ((1 ∷ 2 ∷ 3 ∷ []), (1 ∷ 3 ∷ 0 ∷ 0 ∷ 0 ∷ 0 ∷ [])) ∷ []), ([]))
+answers_0 = (
+  None,
+  ((Init 0 0 (97 ∷ [])) ∷ (Echo 0 (msg 0 0) (97 ∷ [])) ∷ []),
+  ((
+    (1 ∷ 2 ∷ 3 ∷ []),
+    (1 ∷ 1 ∷ 2 ∷ 0 ∷ 8 ∷ 1 ∷ 0 ∷ 0 ∷ 0 ∷ 0 ∷ 0 ∷ 1 ∷ 97 ∷ 1 ∷ 0 ∷ 0 ∷ 0 ∷ 0 ∷ 9 ∷ 2 ∷ 0 ∷ 0 ∷ 0 ∷ 0 ∷ 0 ∷ 0 ∷ 1 ∷ 97
+        ∷ 1 ∷ 0 ∷ 0 ∷ 0 ∷ []),
+  ) ∷ []),
+  ([]),
+)
+    ∷ (
+      None,
+      ((Init 0 1 (98 ∷ [])) ∷ (Echo 0 (msg 0 1) (98 ∷ [])) ∷ []),
+      ((
+        (1 ∷ 2 ∷ 3 ∷ []),
+        (1 ∷ 1 ∷ 2 ∷ 0 ∷ 8 ∷ 1 ∷ 0 ∷ 0 ∷ 0 ∷ 1 ∷ 0 ∷ 1 ∷ 98 ∷ 1 ∷ 0 ∷ 0 ∷ 0 ∷ 0 ∷ 9 ∷ 2 ∷ 0 ∷ 0 ∷ 0 ∷ 0 ∷ 1 ∷ 0 ∷ 1 ∷ 98
+            ∷ 1 ∷ 0 ∷ 0 ∷ 0 ∷ []),
+      ) ∷ []),
+      ([]),
+    )
+    ∷ (
+      None,
+      ([]),
+      ((
+        (1 ∷ 2 ∷ 3 ∷ []),
+        (1 ∷ 1 ∷ 4 ∷ 0 ∷ 8 ∷ 1 ∷ 0 ∷ 0 ∷ 0 ∷ 0 ∷ 0 ∷ 1 ∷ 97 ∷ 1 ∷ 0 ∷ 0 ∷ 0 ∷ 0 ∷ 9 ∷ 2 ∷ 0 ∷ 0 ∷ 0 ∷ 0 ∷ 0 ∷ 0 ∷ 1 ∷ 97 ∷ 1 ∷ 0 ∷ 0 ∷ 0 ∷ 0
+            ∷ 8 ∷ 1 ∷ 0 ∷ 0 ∷ 0 ∷ 1 ∷ 0 ∷ 1 ∷ 98 ∷ 1 ∷ 0 ∷ 0 ∷ 0 ∷ 0 ∷ 9 ∷ 2 ∷ 0 ∷ 0 ∷ 0 ∷ 0 ∷ 1 ∷ 0 ∷ 1 ∷ 98 ∷ 1 ∷ 0 ∷ 0 ∷ 0 ∷ []),
+      )
+          ∷ ((1 ∷ 2 ∷ 3 ∷ []), (1 ∷ 3 ∷ 0 ∷ 0 ∷ 0 ∷ 0 ∷ [])) ∷ []),
+      ([]),
+    )
     ∷ (None, ([]), ([]), ([]))
-    ∷ (None, ((Order 0 0 (msg 0 0 ∷ msg 0 1 ∷ [])) ∷ (Place 0 0 (msg 0 0 ∷ msg 0 1 ∷ [])) ∷ []),
-      (((1 ∷ 2 ∷ 3 ∷ []), (1 ∷ 1 ∷ 4 ∷ 0 ∷ 12 ∷ 12 ∷ 0 ∷ 0 ∷ 0 ∷ 0 ∷ 2 ∷ 0 ∷ 0 ∷ 0 ∷ 0 ∷ 0 ∷ 1 ∷ 1 ∷ 0 ∷ 0 ∷ 0 ∷ 0 ∷ 12 ∷ 13 ∷ 0 ∷ 0 ∷ 0 ∷ 0
-      ∷ 2 ∷ 0 ∷ 0 ∷ 0 ∷ 0 ∷ 0 ∷ 1 ∷ 1 ∷ 0 ∷ 0 ∷ 0 ∷ 0 ∷ 9 ∷ 2 ∷ 0 ∷ 0 ∷ 0 ∷ 0 ∷ 0 ∷ 0 ∷ 1 ∷ 97 ∷ 3 ∷ 0 ∷ 0 ∷ 0 ∷ 1 ∷ 0 ∷ 0 ∷ 2 ∷ 0 ∷ 0 ∷ 0
-      ∷ 9 ∷ 2 ∷ 0 ∷ 0 ∷ 0 ∷ 0 ∷ 1 ∷ 0 ∷ 1 ∷ 98 ∷ 3 ∷ 0 ∷ 0 ∷ 0 ∷ 1 ∷ 0 ∷ 0 ∷ 2 ∷ 0 ∷ 0 ∷ [])) ∷ []), ([]))
+    ∷ (
+      None,
+      ((Order 0 0 (msg 0 0 ∷ msg 0 1 ∷ [])) ∷ (Place 0 0 (msg 0 0 ∷ msg 0 1 ∷ [])) ∷ []),
+      ((
+        (1 ∷ 2 ∷ 3 ∷ []),
+        (1 ∷ 1 ∷ 4 ∷ 0 ∷ 12 ∷ 12 ∷ 0 ∷ 0 ∷ 0 ∷ 0 ∷ 2 ∷ 0 ∷ 0 ∷ 0 ∷ 0 ∷ 0 ∷ 1 ∷ 1 ∷ 0 ∷ 0 ∷ 0 ∷ 0 ∷ 12 ∷ 13 ∷ 0 ∷ 0 ∷ 0 ∷ 0
+            ∷ 2 ∷ 0 ∷ 0 ∷ 0 ∷ 0 ∷ 0 ∷ 1 ∷ 1 ∷ 0 ∷ 0 ∷ 0 ∷ 0 ∷ 9 ∷ 2 ∷ 0 ∷ 0 ∷ 0 ∷ 0 ∷ 0 ∷ 0 ∷ 1 ∷ 97 ∷ 3 ∷ 0 ∷ 0 ∷ 0 ∷ 1 ∷ 0 ∷ 0 ∷ 2 ∷ 0 ∷ 0
+            ∷ 0
+            ∷ 9 ∷ 2 ∷ 0 ∷ 0 ∷ 0 ∷ 0 ∷ 1 ∷ 0 ∷ 1 ∷ 98 ∷ 3 ∷ 0 ∷ 0 ∷ 0 ∷ 1 ∷ 0 ∷ 0 ∷ 2 ∷ 0 ∷ 0 ∷ []),
+      ) ∷ []),
+      ([]),
+    )
     ∷ (None, ([]), ([]), ([]))
-    ∷ (None, ((Keep 0 0 (msg 0 0 ∷ msg 0 1 ∷ [])) ∷ []),
-      (((1 ∷ 2 ∷ 3 ∷ []), (1 ∷ 1 ∷ 1 ∷ 0 ∷ 12 ∷ 14 ∷ 0 ∷ 0 ∷ 0 ∷ 0 ∷ 2 ∷ 0 ∷ 0 ∷ 0 ∷ 0 ∷ 0 ∷ 1 ∷ 1 ∷ 0 ∷ 0 ∷ 0 ∷ [])) ∷ []), ([]))
+    ∷ (
+      None,
+      ((Keep 0 0 (msg 0 0 ∷ msg 0 1 ∷ [])) ∷ []),
+      (((1 ∷ 2 ∷ 3 ∷ []), (1 ∷ 1 ∷ 1 ∷ 0 ∷ 12 ∷ 14 ∷ 0 ∷ 0 ∷ 0 ∷ 0 ∷ 2 ∷ 0 ∷ 0 ∷ 0 ∷ 0 ∷ 0 ∷ 1 ∷ 1 ∷ 0 ∷ 0 ∷ 0 ∷ [])) ∷ []),
+      ([]),
+    )
     ∷ (None, ([]), ([]), ([]))
-    ∷ (None, ([]), ([]), (Delivers 0 (record { place = 0; message = msg 0 0; payload = 97 ∷ [] })
-      ∷ Delivers 0 (record { place = 0; message = msg 0 1; payload = 98 ∷ [] }) ∷ []))
+    ∷ (
+      None,
+      ([]),
+      ([]),
+      (Delivers 0 (record { place = 0; message = msg 0 0; payload = 97 ∷ [] })
+          ∷ Delivers 0 (record { place = 0; message = msg 0 1; payload = 98 ∷ [] }) ∷ []),
+    )
     ∷ []
 
 unfoldable pub turns_1 : List Turn
 turns_1 =
     turn 100000 (Hand 0 (Claims (by 0 (Init 0 0 (97 ∷ [])) ∷ by 0 (Echo 0 (msg 0 0) (97 ∷ [])) ∷ by 0 (Init 0 1 (98 ∷ []))
-      ∷ by 0 (Echo 0 (msg 0 1) (98 ∷ [])) ∷ [])))
+    ∷ by 0 (Echo 0 (msg 0 1) (98 ∷ [])) ∷ [])))
     ∷ turn 99998 (Hand 0 (Wants 0 0))
     ∷ turn 99998 (Hand 2 (Claims (by 2 (Echo 0 (msg 0 0) (97 ∷ [])) ∷ by 2 (Echo 0 (msg 0 1) (98 ∷ [])) ∷ [])))
     ∷ turn 99998 (Hand 0 (Claims (by 0 (Order 0 0 (msg 0 0 ∷ msg 0 1 ∷ [])) ∷ by 0 (Place 0 0 (msg 0 0 ∷ msg 0 1 ∷ []))
-      ∷ by 0 (Echo 0 (msg 0 0) (97 ∷ [])) ∷ by 1 (Echo 0 (msg 0 0) (97 ∷ [])) ∷ by 2 (Echo 0 (msg 0 0) (97 ∷ []))
-      ∷ by 0 (Echo 0 (msg 0 1) (98 ∷ [])) ∷ by 1 (Echo 0 (msg 0 1) (98 ∷ [])) ∷ by 2 (Echo 0 (msg 0 1) (98 ∷ [])) ∷ [])))
+    ∷ by 0 (Echo 0 (msg 0 0) (97 ∷ [])) ∷ by 1 (Echo 0 (msg 0 0) (97 ∷ [])) ∷ by 2 (Echo 0 (msg 0 0) (97 ∷ []))
+    ∷ by 0 (Echo 0 (msg 0 1) (98 ∷ [])) ∷ by 1 (Echo 0 (msg 0 1) (98 ∷ [])) ∷ by 2 (Echo 0 (msg 0 1) (98 ∷ [])) ∷ [])))
     ∷ turn 99997 (Hand 2 (Claims (by 2 (Place 0 0 (msg 0 0 ∷ msg 0 1 ∷ [])) ∷ [])))
     ∷ turn 99996 (Hand 2 (Claims (by 2 (Keep 0 0 (msg 0 0 ∷ msg 0 1 ∷ [])) ∷ [])))
     ∷ turn 99996 (Hand 0 (Claims (by 0 (Keep 0 0 (msg 0 0 ∷ msg 0 1 ∷ [])) ∷ [])))
@@ -73,19 +110,38 @@ turns_1 =
     ∷ []
 
 unfoldable pub answers_1 : List Seen
-answers_1 =
-    (None, ((Echo 0 (msg 0 0) (97 ∷ [])) ∷ (Echo 0 (msg 0 1) (98 ∷ [])) ∷ []),
-      (((0 ∷ 2 ∷ 3 ∷ []), (1 ∷ 1 ∷ 2 ∷ 0 ∷ 9 ∷ 2 ∷ 0 ∷ 0 ∷ 0 ∷ 0 ∷ 0 ∷ 0 ∷ 1 ∷ 97 ∷ 1 ∷ 1 ∷ 0 ∷ 0 ∷ 0 ∷ 9 ∷ 2 ∷ 0 ∷ 0 ∷ 0 ∷ 0 ∷ 1 ∷ 0 ∷ 1
-      ∷ 98 ∷ 1 ∷ 1 ∷ 0 ∷ 0 ∷ [])) ∷ []), ([]))
+answers_1 = (
+  None,
+  ((Echo 0 (msg 0 0) (97 ∷ [])) ∷ (Echo 0 (msg 0 1) (98 ∷ [])) ∷ []),
+  ((
+    (0 ∷ 2 ∷ 3 ∷ []),
+    (1 ∷ 1 ∷ 2 ∷ 0 ∷ 9 ∷ 2 ∷ 0 ∷ 0 ∷ 0 ∷ 0 ∷ 0 ∷ 0 ∷ 1 ∷ 97 ∷ 1 ∷ 1 ∷ 0 ∷ 0 ∷ 0 ∷ 9 ∷ 2 ∷ 0 ∷ 0 ∷ 0 ∷ 0 ∷ 1 ∷ 0 ∷ 1
+        ∷ 98 ∷ 1 ∷ 1 ∷ 0 ∷ 0 ∷ []),
+  ) ∷ []),
+  ([]),
+)
     ∷ (None, ([]), ([]), ([]))
     ∷ (None, ([]), ([]), ([]))
-    ∷ (None, ((Place 0 0 (msg 0 0 ∷ msg 0 1 ∷ [])) ∷ []),
-      (((0 ∷ 2 ∷ 3 ∷ []), (1 ∷ 1 ∷ 1 ∷ 0 ∷ 12 ∷ 13 ∷ 0 ∷ 0 ∷ 0 ∷ 0 ∷ 2 ∷ 0 ∷ 0 ∷ 0 ∷ 0 ∷ 0 ∷ 1 ∷ 1 ∷ 1 ∷ 0 ∷ 0 ∷ [])) ∷ []), ([]))
-    ∷ (None, ((Keep 0 0 (msg 0 0 ∷ msg 0 1 ∷ [])) ∷ []),
-      (((0 ∷ 2 ∷ 3 ∷ []), (1 ∷ 1 ∷ 1 ∷ 0 ∷ 12 ∷ 14 ∷ 0 ∷ 0 ∷ 0 ∷ 0 ∷ 2 ∷ 0 ∷ 0 ∷ 0 ∷ 0 ∷ 0 ∷ 1 ∷ 1 ∷ 1 ∷ 0 ∷ 0 ∷ [])) ∷ []), ([]))
+    ∷ (
+      None,
+      ((Place 0 0 (msg 0 0 ∷ msg 0 1 ∷ [])) ∷ []),
+      (((0 ∷ 2 ∷ 3 ∷ []), (1 ∷ 1 ∷ 1 ∷ 0 ∷ 12 ∷ 13 ∷ 0 ∷ 0 ∷ 0 ∷ 0 ∷ 2 ∷ 0 ∷ 0 ∷ 0 ∷ 0 ∷ 0 ∷ 1 ∷ 1 ∷ 1 ∷ 0 ∷ 0 ∷ [])) ∷ []),
+      ([]),
+    )
+    ∷ (
+      None,
+      ((Keep 0 0 (msg 0 0 ∷ msg 0 1 ∷ [])) ∷ []),
+      (((0 ∷ 2 ∷ 3 ∷ []), (1 ∷ 1 ∷ 1 ∷ 0 ∷ 12 ∷ 14 ∷ 0 ∷ 0 ∷ 0 ∷ 0 ∷ 2 ∷ 0 ∷ 0 ∷ 0 ∷ 0 ∷ 0 ∷ 1 ∷ 1 ∷ 1 ∷ 0 ∷ 0 ∷ [])) ∷ []),
+      ([]),
+    )
     ∷ (None, ([]), ([]), ([]))
-    ∷ (None, ([]), ([]), (Delivers 0 (record { place = 0; message = msg 0 0; payload = 97 ∷ [] })
-      ∷ Delivers 0 (record { place = 0; message = msg 0 1; payload = 98 ∷ [] }) ∷ []))
+    ∷ (
+      None,
+      ([]),
+      ([]),
+      (Delivers 0 (record { place = 0; message = msg 0 0; payload = 97 ∷ [] })
+          ∷ Delivers 0 (record { place = 0; message = msg 0 1; payload = 98 ∷ [] }) ∷ []),
+    )
     ∷ (None, ([]), ([]), ([]))
     ∷ (None, ([]), ([]), ([]))
     ∷ (None, ([]), ([]), ([]))
@@ -99,37 +155,59 @@ answers_1 =
 unfoldable pub turns_2 : List Turn
 turns_2 =
     turn 100000 (Hand 0 (Claims (by 0 (Init 0 0 (97 ∷ [])) ∷ by 0 (Echo 0 (msg 0 0) (97 ∷ [])) ∷ by 0 (Init 0 1 (98 ∷ []))
-      ∷ by 0 (Echo 0 (msg 0 1) (98 ∷ [])) ∷ [])))
+    ∷ by 0 (Echo 0 (msg 0 1) (98 ∷ [])) ∷ [])))
     ∷ turn 99998 (Hand 0 (Wants 0 0))
     ∷ turn 99998 (Hand 1 (Claims (by 1 (Echo 0 (msg 0 0) (97 ∷ [])) ∷ by 1 (Echo 0 (msg 0 1) (98 ∷ [])) ∷ [])))
     ∷ turn 99998 (Hand 0 (Claims (by 0 (Order 0 0 (msg 0 0 ∷ msg 0 1 ∷ [])) ∷ by 0 (Place 0 0 (msg 0 0 ∷ msg 0 1 ∷ []))
-      ∷ by 0 (Echo 0 (msg 0 0) (97 ∷ [])) ∷ by 1 (Echo 0 (msg 0 0) (97 ∷ [])) ∷ by 2 (Echo 0 (msg 0 0) (97 ∷ []))
-      ∷ by 0 (Echo 0 (msg 0 1) (98 ∷ [])) ∷ by 1 (Echo 0 (msg 0 1) (98 ∷ [])) ∷ by 2 (Echo 0 (msg 0 1) (98 ∷ [])) ∷ [])))
+    ∷ by 0 (Echo 0 (msg 0 0) (97 ∷ [])) ∷ by 1 (Echo 0 (msg 0 0) (97 ∷ [])) ∷ by 2 (Echo 0 (msg 0 0) (97 ∷ []))
+    ∷ by 0 (Echo 0 (msg 0 1) (98 ∷ [])) ∷ by 1 (Echo 0 (msg 0 1) (98 ∷ [])) ∷ by 2 (Echo 0 (msg 0 1) (98 ∷ [])) ∷ [])))
     ∷ turn 99997 (Hand 1 (Claims (by 1 (Place 0 0 (msg 0 0 ∷ msg 0 1 ∷ [])) ∷ [])))
     ∷ turn 99996 (Hand 0 (Claims (by 0 (Keep 0 0 (msg 0 0 ∷ msg 0 1 ∷ [])) ∷ [])))
     ∷ turn 99996 (Hand 1 (Claims (by 1 (Keep 0 0 (msg 0 0 ∷ msg 0 1 ∷ [])) ∷ [])))
     ∷ []
 
 unfoldable pub answers_2 : List Seen
-answers_2 =
-    (None, ((Echo 0 (msg 0 0) (97 ∷ [])) ∷ (Echo 0 (msg 0 1) (98 ∷ [])) ∷ []),
-      (((0 ∷ 1 ∷ 3 ∷ []), (1 ∷ 1 ∷ 2 ∷ 0 ∷ 9 ∷ 2 ∷ 0 ∷ 0 ∷ 0 ∷ 0 ∷ 0 ∷ 0 ∷ 1 ∷ 97 ∷ 1 ∷ 2 ∷ 0 ∷ 0 ∷ 0 ∷ 9 ∷ 2 ∷ 0 ∷ 0 ∷ 0 ∷ 0 ∷ 1 ∷ 0 ∷ 1
-      ∷ 98 ∷ 1 ∷ 2 ∷ 0 ∷ 0 ∷ [])) ∷ []), ([]))
+answers_2 = (
+  None,
+  ((Echo 0 (msg 0 0) (97 ∷ [])) ∷ (Echo 0 (msg 0 1) (98 ∷ [])) ∷ []),
+  ((
+    (0 ∷ 1 ∷ 3 ∷ []),
+    (1 ∷ 1 ∷ 2 ∷ 0 ∷ 9 ∷ 2 ∷ 0 ∷ 0 ∷ 0 ∷ 0 ∷ 0 ∷ 0 ∷ 1 ∷ 97 ∷ 1 ∷ 2 ∷ 0 ∷ 0 ∷ 0 ∷ 9 ∷ 2 ∷ 0 ∷ 0 ∷ 0 ∷ 0 ∷ 1 ∷ 0 ∷ 1
+        ∷ 98 ∷ 1 ∷ 2 ∷ 0 ∷ 0 ∷ []),
+  ) ∷ []),
+  ([]),
+)
     ∷ (None, ([]), ([]), ([]))
     ∷ (None, ([]), ([]), ([]))
-    ∷ (None, ((Place 0 0 (msg 0 0 ∷ msg 0 1 ∷ [])) ∷ []),
-      (((0 ∷ 1 ∷ 3 ∷ []), (1 ∷ 1 ∷ 1 ∷ 0 ∷ 12 ∷ 13 ∷ 0 ∷ 0 ∷ 0 ∷ 0 ∷ 2 ∷ 0 ∷ 0 ∷ 0 ∷ 0 ∷ 0 ∷ 1 ∷ 1 ∷ 2 ∷ 0 ∷ 0 ∷ [])) ∷ []), ([]))
-    ∷ (None, ((Keep 0 0 (msg 0 0 ∷ msg 0 1 ∷ [])) ∷ []),
-      (((0 ∷ 1 ∷ 3 ∷ []), (1 ∷ 1 ∷ 1 ∷ 0 ∷ 12 ∷ 14 ∷ 0 ∷ 0 ∷ 0 ∷ 0 ∷ 2 ∷ 0 ∷ 0 ∷ 0 ∷ 0 ∷ 0 ∷ 1 ∷ 1 ∷ 2 ∷ 0 ∷ 0 ∷ [])) ∷ []), ([]))
+    ∷ (
+      None,
+      ((Place 0 0 (msg 0 0 ∷ msg 0 1 ∷ [])) ∷ []),
+      (((0 ∷ 1 ∷ 3 ∷ []), (1 ∷ 1 ∷ 1 ∷ 0 ∷ 12 ∷ 13 ∷ 0 ∷ 0 ∷ 0 ∷ 0 ∷ 2 ∷ 0 ∷ 0 ∷ 0 ∷ 0 ∷ 0 ∷ 1 ∷ 1 ∷ 2 ∷ 0 ∷ 0 ∷ [])) ∷ []),
+      ([]),
+    )
+    ∷ (
+      None,
+      ((Keep 0 0 (msg 0 0 ∷ msg 0 1 ∷ [])) ∷ []),
+      (((0 ∷ 1 ∷ 3 ∷ []), (1 ∷ 1 ∷ 1 ∷ 0 ∷ 12 ∷ 14 ∷ 0 ∷ 0 ∷ 0 ∷ 0 ∷ 2 ∷ 0 ∷ 0 ∷ 0 ∷ 0 ∷ 0 ∷ 1 ∷ 1 ∷ 2 ∷ 0 ∷ 0 ∷ [])) ∷ []),
+      ([]),
+    )
     ∷ (None, ([]), ([]), ([]))
-    ∷ (None, ([]), ([]), (Delivers 0 (record { place = 0; message = msg 0 0; payload = 97 ∷ [] })
-      ∷ Delivers 0 (record { place = 0; message = msg 0 1; payload = 98 ∷ [] }) ∷ []))
+    ∷ (
+      None,
+      ([]),
+      ([]),
+      (Delivers 0 (record { place = 0; message = msg 0 0; payload = 97 ∷ [] })
+          ∷ Delivers 0 (record { place = 0; message = msg 0 1; payload = 98 ∷ [] }) ∷ []),
+    )
     ∷ []
 
 unfoldable pub f : Family
-f = record { setting = s; correct =
-  (record { me = 0; batch_limit = 16; turns = turns_0 } ∷ record { me = 1; batch_limit = 16; turns = turns_1 }
-  ∷ record { me = 2; batch_limit = 16; turns = turns_2 } ∷ []) }
+f = record {
+  setting = s;
+  correct =
+      (record { me = 0; batch_limit = 16; turns = turns_0 } ∷ record { me = 1; batch_limit = 16; turns = turns_1 }
+      ∷ record { me = 2; batch_limit = 16; turns = turns_2 } ∷ []);
+}
 
 -- the row: what the definitions give
 pub record WindowOfPlaces : Type 0 where
@@ -137,5 +215,5 @@ pub record WindowOfPlaces : Type 0 where
   pub row_1 : seen s (start s 1 16) turns_1 ≡ answers_1
   pub row_2 : seen s (start s 2 16) turns_2 ≡ answers_2
   pub judged : honest f ∷ bounded (accounts f) (numbers f) ∷ agree (accounts f) ∷ sound (accounts f) (keyed f.setting) ∷ []
-    ≡ true ∷ true ∷ true ∷ true ∷ []
+      ≡ true ∷ true ∷ true ∷ true ∷ []
   pub premises : Premises f

@@ -8,12 +8,23 @@ use Rattle.text_codec.proofs.Spelled.{spelled_once}
 -- ---- frame
 
 pub frame_answers : (word bytes told : List ℕ) → Spells word bytes → told ≡ frame_answer bytes → Answers (codes "frame" ∷ word ∷ []) told
-frame_answers word bytes told s is = record { question = OfFrame bytes; fits = s.0; asked = ap (λ (w : List ℕ). codes "frame" ∷ w ∷ []) s.1; told_is = is }
+frame_answers word bytes told s is = record {
+  question = OfFrame bytes;
+  fits = s.0;
+  asked = ap (λ (w : List ℕ). codes "frame" ∷ w ∷ []) s.1;
+  told_is = is;
+}
 
 -- ---- statement
 
-pub statement_answers : (word bytes told : List ℕ) → Spells word bytes → told ≡ statement_answer bytes → Answers (codes "statement" ∷ word ∷ []) told
-statement_answers word bytes told s is = record { question = OfStatement bytes; fits = s.0; asked = ap (λ (w : List ℕ). codes "statement" ∷ w ∷ []) s.1; told_is = is }
+pub statement_answers : (word bytes told : List ℕ) → Spells word bytes → told ≡ statement_answer bytes
+    → Answers (codes "statement" ∷ word ∷ []) told
+statement_answers word bytes told s is = record {
+  question = OfStatement bytes;
+  fits = s.0;
+  asked = ap (λ (w : List ℕ). codes "statement" ∷ w ∷ []) s.1;
+  told_is = is;
+}
 
 -- ---- one answer
 
@@ -22,6 +33,7 @@ one_answer words x y a b = of a.question b.question a.fits b.fits a.asked b.aske
   where
     of : (p q : Question) → IsQuestion p → IsQuestion q → words ≡ spelled p → words ≡ spelled q → x ≡ answer_to p → y ≡ answer_to q → x ≡ y
     of (OfFrame m) (OfFrame n) fm fn is also t u = t ∙ ap frame_answer (spelled_once (bytes_word m) m n (fm, refl) (fn, cc)) ∙ sym u
-    of (OfStatement m) (OfStatement n) fm fn is also t u = t ∙ ap statement_answer (spelled_once (bytes_word m) m n (fm, refl) (fn, cc)) ∙ sym u
+    of (OfStatement m) (OfStatement n) fm fn is also t u = t ∙ ap statement_answer
+        (spelled_once (bytes_word m) m n (fm, refl) (fn, cc)) ∙ sym u
     of (OfFrame m) (OfStatement n) fm fn is also t u = absurd cc
     of (OfStatement m) (OfFrame n) fm fn is also t u = absurd cc

@@ -9,10 +9,16 @@ use Rattle.interop_kits.specs.Kits.{Answers, IsQuestion, OfKit, Question, answer
 use Rattle.text_codec.proofs.Spelled.{spelled_once}
 
 pub kit_answers : (word bytes told : List ℕ) → Spells word bytes → told ≡ said (kit_of bytes) → Answers (codes "kit" ∷ word ∷ []) told
-kit_answers word bytes told s is = record { question = OfKit bytes; fits = s.0; asked = ap (λ (w : List ℕ). codes "kit" ∷ w ∷ []) s.1; told_is = is }
+kit_answers word bytes told s is = record {
+  question = OfKit bytes;
+  fits = s.0;
+  asked = ap (λ (w : List ℕ). codes "kit" ∷ w ∷ []) s.1;
+  told_is = is;
+}
 
 -- what is told of a fault is what reading has as its fault
-pub fault_told : {E : Type 0} (fault : Option KitFault) (read : Result Kit KitFault) (r : Result (Vec ℕ Global) E) → IfSome fault (λ f. read ≡ Err f)
+pub fault_told : {E : Type 0} (fault : Option KitFault) (read : Result Kit KitFault) (r : Result (Vec ℕ Global) E)
+    → IfSome fault (λ f. read ≡ Err f)
     → IfOk r (λ told. option_map fault_words fault ≡ Some told.items) → IfOk r (λ told. told.items ≡ said read)
 fault_told fault read (Err e) is told = tt
 fault_told (Some f) read (Ok words) is told = sym (ap (λ (o : Option (List ℕ)). unwrap_or o []) told) ∙ ap said (sym is)
@@ -22,4 +28,5 @@ pub one_answer : (words : List (List ℕ)) (x y : List ℕ) → Answers words x 
 one_answer words x y a b = of a.question b.question a.fits b.fits a.asked b.asked a.told_is b.told_is
   where
     of : (p q : Question) → IsQuestion p → IsQuestion q → words ≡ spelled p → words ≡ spelled q → x ≡ answer_to p → y ≡ answer_to q → x ≡ y
-    of (OfKit m) (OfKit n) fm fn is also t u = t ∙ ap (λ (bytes : List ℕ). said (kit_of bytes)) (spelled_once (bytes_word m) m n (fm, refl) (fn, cc)) ∙ sym u
+    of (OfKit m) (OfKit n) fm fn is also t u = t ∙ ap (λ (bytes : List ℕ). said (kit_of bytes))
+        (spelled_once (bytes_word m) m n (fm, refl) (fn, cc)) ∙ sym u

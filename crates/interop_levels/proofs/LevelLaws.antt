@@ -51,7 +51,8 @@ verified k b s told a = of a.question a.fits a.asked a.told_is
     }
     of (Sign asked) fits is t = absurd cc
 
-pub verify_answers : (k b s key body sig : List ℕ) → Spells k key → Spells b body → Spells s sig → Answers (verify_words k b s) (verdict key body sig)
+pub verify_answers : (k b s key body sig : List ℕ) → Spells k key → Spells b body → Spells s sig
+    → Answers (verify_words k b s) (verdict key body sig)
 verify_answers k b s key body sig hk hb hs = record {
   question = Verify key body sig;
   fits = (hk.0, hb.0, hs.0);
@@ -64,9 +65,15 @@ verify_answers k b s key body sig hk hb hs = record {
 abbrev pub sign_words : List ℕ → List ℕ → List ℕ → List ℕ → List ℕ → List ℕ → List ℕ → List (List ℕ)
 sign_words l h w i seed c body = codes "hss" ∷ l ∷ h ∷ w ∷ i ∷ seed ∷ c ∷ body ∷ []
 
-pub sign_answers : (l h w i seed c body told : List ℕ) (s : Signing) → AskedBy l h w i seed c body s → IsMade s × (told ≡ signed s) → Answers (sign_words l h w i seed c body) told
+pub sign_answers : (l h w i seed c body told : List ℕ) (s : Signing) → AskedBy l h w i seed c body s → IsMade s × (told ≡ signed s)
+    → Answers (sign_words l h w i seed c body) told
 sign_answers l h w i seed c body told s asked made =
-    record { question = Sign s; fits = (asked.fits, made.0); asked = ap (λ (ws : List (List ℕ)). codes "hss" ∷ ws) asked.words; told_is = made.1 }
+    record {
+      question = Sign s;
+      fits = (asked.fits, made.0);
+      asked = ap (λ (ws : List (List ℕ)). codes "hss" ∷ ws) asked.words;
+      told_is = made.1;
+    }
 
 -- what is told, where anything is
 pub sign_told : (r : Result (Vec ℕ Global) LineFault) (l h w i seed c body : List ℕ) (s : Signing) → AskedBy l h w i seed c body s
@@ -101,7 +108,8 @@ pub made_total : (s : Signing) (key : HssKey) → IsMadeFrom s.levels s.typecode
 made_total s key from = rw (made_height s key from, from.plan.has_levels) refl
 
 -- a key that was made from these, and counts the signatures before the asked one as made
-pub ready : (s : Signing) (made now : HssKey) → IsMadeFrom s.levels s.typecode s.ots s.id s.seed made → refusal s.levels s.typecode s.ots ≡ None → s.number < total_of made
+pub ready : (s : Signing) (made now : HssKey) → IsMadeFrom s.levels s.typecode s.ots s.id s.seed made
+    → refusal s.levels s.typecode s.ots ≡ None → s.number < total_of made
     → KeyKeeps (public_of made) (public_of now) (length_of made) (length_of now) (signature_of made) (signature_of now) hss_valid hss_valid
     → now.used ≡ s.number → total_of now ≡ total_of made → IsReady s now
 ready s made now from granted low kept used total =
@@ -142,8 +150,10 @@ one_answer words x y a b = of a.question a.fits a.asked a.told_is
   where
     of : (q : Question) → IsQuestion q → words ≡ spelled q → x ≡ answer_to q → x ≡ y
     of (Verify key body sig) fits is t =
-        let first : Answers (verify_words (bytes_word key) (bytes_word body) (bytes_word sig)) x = subst (λ (ws : List (List ℕ)). Answers ws x) is a in
-        let second : Answers (verify_words (bytes_word key) (bytes_word body) (bytes_word sig)) y = subst (λ (ws : List (List ℕ)). Answers ws y) is b in
+        let first : Answers (verify_words (bytes_word key) (bytes_word body) (bytes_word sig)) x = subst
+        (λ (ws : List (List ℕ)). Answers ws x) is a in
+        let second : Answers (verify_words (bytes_word key) (bytes_word body) (bytes_word sig)) y = subst
+        (λ (ws : List (List ℕ)). Answers ws y) is b in
         same_verdict _ _ _ x y (verified _ _ _ x first) (verified _ _ _ y second)
     of (Sign s) fits is t =
         let second : Answers (codes "hss" ∷ signing_words s) y = subst (λ (ws : List (List ℕ)). Answers ws y) is b in
@@ -151,13 +161,15 @@ one_answer words x y a b = of a.question a.fits a.asked a.told_is
         t ∙ ap signed (same_signing s other.0 fits.0 other.1.fits other.1.words) ∙ sym other.3
 
 -- the asked signing is the read one, so what cannot be made has no answer
-pub not_made : (l h w i seed c body told : List ℕ) (s : Signing) → AskedBy l h w i seed c body s → (IsMade s → ⊥) → Answers (sign_words l h w i seed c body) told → ⊥
+pub not_made : (l h w i seed c body told : List ℕ) (s : Signing) → AskedBy l h w i seed c body s → (IsMade s → ⊥)
+    → Answers (sign_words l h w i seed c body) told → ⊥
 not_made l h w i seed c body told s asked none a =
     let other = sign_asked l h w i seed c body told a in
     let same : other.0 ≡ s = same_signing other.0 s other.1.fits asked.fits (sym other.1.words ∙ asked.words) in
     none (subst IsMade same other.2)
 
 pub seven : {A B : Type 0} (f : A → B) (xs : List A) (d : A) → length xs ≡ 7
-    → map f xs ≡ f (get_or xs 0 d) ∷ f (get_or xs 1 d) ∷ f (get_or xs 2 d) ∷ f (get_or xs 3 d) ∷ f (get_or xs 4 d) ∷ f (get_or xs 5 d) ∷ f (get_or xs 6 d) ∷ []
+    → map f xs ≡ f (get_or xs 0 d) ∷ f (get_or xs 1 d) ∷ f (get_or xs 2 d) ∷ f (get_or xs 3 d) ∷ f (get_or xs 4 d) ∷ f (get_or xs 5 d)
+    ∷ f (get_or xs 6 d) ∷ []
 seven f (a ∷ b ∷ c ∷ e ∷ g ∷ h ∷ i ∷ []) d is = refl
 seven f _ d is = absurd (omega arith)

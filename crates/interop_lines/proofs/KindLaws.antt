@@ -17,14 +17,20 @@ use Rattle.interop_schedules.proofs.ScheduleLaws as of_schedules
 use Rattle.interop_node.proofs.QuestionLaws as of_nodes
 
 -- a line that asks on no signature, no frame, no kit, no schedule, no journal and no datagram
-pub none : (line told : List ℕ) (ws ls vs us ss ns : List (List ℕ)) → ws ≡ words_of line → ls ≡ words_of line → vs ≡ words_of line → us ≡ words_of line → ss ≡ words_of line → ns ≡ words_of line
-    → (signatures.Answers ws told → ⊥) → (levels.Answers ls told → ⊥) → (frames.Answers vs told → ⊥) → (kits.Answers us told → ⊥) → (schedules.Answers ss told → ⊥) → (nodes.Answers ns told → ⊥) → Answers line told → ⊥
+pub none : (line told : List ℕ) (ws ls vs us ss ns : List (List ℕ)) → ws ≡ words_of line → ls ≡ words_of line → vs ≡ words_of line
+    → us ≡ words_of line → ss ≡ words_of line → ns ≡ words_of line
+    → (signatures.Answers ws told → ⊥) → (levels.Answers ls told → ⊥) → (frames.Answers vs told → ⊥) → (kits.Answers us told → ⊥)
+    → (schedules.Answers ss told → ⊥) → (nodes.Answers ns told → ⊥) → Answers line told → ⊥
 none line told ws ls vs us ss ns e l f g h k one two three four five six (inl a) = one (subst (λ w. signatures.Answers w told) (sym e) a)
 none line told ws ls vs us ss ns e l f g h k one two three four five six (inr (inl a)) = two (subst (λ w. levels.Answers w told) (sym l) a)
-none line told ws ls vs us ss ns e l f g h k one two three four five six (inr (inr (inl a))) = three (subst (λ w. frames.Answers w told) (sym f) a)
-none line told ws ls vs us ss ns e l f g h k one two three four five six (inr (inr (inr (inl a)))) = four (subst (λ w. kits.Answers w told) (sym g) a)
-none line told ws ls vs us ss ns e l f g h k one two three four five six (inr (inr (inr (inr (inl a))))) = five (subst (λ w. schedules.Answers w told) (sym h) a)
-none line told ws ls vs us ss ns e l f g h k one two three four five six (inr (inr (inr (inr (inr a))))) = six (subst (λ w. nodes.Answers w told) (sym k) a)
+none line told ws ls vs us ss ns e l f g h k one two three four five six (inr (inr (inl a))) = three
+    (subst (λ w. frames.Answers w told) (sym f) a)
+none line told ws ls vs us ss ns e l f g h k one two three four five six (inr (inr (inr (inl a)))) = four
+    (subst (λ w. kits.Answers w told) (sym g) a)
+none line told ws ls vs us ss ns e l f g h k one two three four five six (inr (inr (inr (inr (inl a))))) = five
+    (subst (λ w. schedules.Answers w told) (sym h) a)
+none line told ws ls vs us ss ns e l f g h k one two three four five six (inr (inr (inr (inr (inr a))))) = six
+    (subst (λ w. nodes.Answers w told) (sym k) a)
 
 -- ---- a number for each kind of question
 

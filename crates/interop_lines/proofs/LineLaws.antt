@@ -18,7 +18,8 @@ same_place : (bytes : List ℕ) → position_or_len feed bytes ≡ first_feed by
 same_place [] = refl
 same_place (b ∷ bytes) = of (feed b) (same_place bytes)
   where
-    of : (t : Bool) → position_or_len feed bytes ≡ first_feed bytes → (if not t then 1 + position_or_len feed bytes else 0) ≡ (if t then 0 else suc (first_feed bytes))
+    of : (t : Bool) → position_or_len feed bytes ≡ first_feed bytes
+        → (if not t then 1 + position_or_len feed bytes else 0) ≡ (if t then 0 else suc (first_feed bytes))
     of true e = refl
     of false e = omega (arith, e)
 
@@ -31,7 +32,8 @@ pub cut_there : (bytes : List ℕ) → first_feed bytes < length bytes → Cut b
 cut_there [] low = absurd (omega arith)
 cut_there (b ∷ bytes) low = of (cut_there bytes) (b == 10) refl low
   where
-    of : (first_feed bytes < length bytes → Cut bytes (first_feed bytes)) → (t : Bool) → (b == 10) ≡ t → first_feed (b ∷ bytes) < length (b ∷ bytes) → Cut (b ∷ bytes) (first_feed (b ∷ bytes))
+    of : (first_feed bytes < length bytes → Cut bytes (first_feed bytes)) → (t : Bool) → (b == 10) ≡ t
+        → first_feed (b ∷ bytes) < length (b ∷ bytes) → Cut (b ∷ bytes) (first_feed (b ∷ bytes))
     of cut true e low =
         let is : b ≡ 10 = eqb-true b 10 e in
         rw is (record { parts = refl; no_feed = refl })
@@ -45,7 +47,8 @@ pub feed_behind : (line more : List ℕ) → list_any feed line ≡ false → fi
 feed_behind [] more none = refl
 feed_behind (b ∷ line) more none = of (feed_behind line more) (b == 10) refl
   where
-    of : (list_any feed line ≡ false → first_feed (ended line ++ more) ≡ length line) → (t : Bool) → (b == 10) ≡ t → first_feed (b ∷ (ended line ++ more)) ≡ suc (length line)
+    of : (list_any feed line ≡ false → first_feed (ended line ++ more) ≡ length line) → (t : Bool) → (b == 10) ≡ t
+        → first_feed (b ∷ (ended line ++ more)) ≡ suc (length line)
     of behind true e = let some : true ≡ false = rw e at none in absurd cc
     of behind false e = rw e (ap suc (behind (rw e at none)))
 
@@ -53,7 +56,8 @@ pub feed_within : (bytes : List ℕ) → list_any feed bytes ≡ true → first_
 feed_within [] some = absurd cc
 feed_within (b ∷ bytes) some = of (feed_within bytes) (b == 10) refl
   where
-    of : (list_any feed bytes ≡ true → first_feed bytes < length bytes) → (t : Bool) → (b == 10) ≡ t → first_feed (b ∷ bytes) < suc (length bytes)
+    of : (list_any feed bytes ≡ true → first_feed bytes < length bytes) → (t : Bool) → (b == 10) ≡ t
+        → first_feed (b ∷ bytes) < suc (length bytes)
     of within true e = rw e (omega arith)
     of within false e = let low = within (rw e at some) in rw e (omega arith)
 
@@ -76,12 +80,14 @@ found_nowhere : (bytes : List ℕ) → (let none : Option ℕ = None in none) �
 found_nowhere bytes none = rw (← same_place bytes) (no_place (position_or_len feed bytes) (length bytes) _ refl none)
 
 -- a line of at most so many bytes is taken
-pub taken : (bytes line after : List ℕ) (at : ℕ) → Some at ≡ position feed bytes → at ≤ 1000000 → line ≡ take at (take (at + 1) bytes) → after ≡ drop (at + 1) bytes
+pub taken : (bytes line after : List ℕ) (at : ℕ) → Some at ≡ position feed bytes → at ≤ 1000000 → line ≡ take at (take (at + 1) bytes)
+    → after ≡ drop (at + 1) bytes
     → IsLine line × (bytes ≡ ended line ++ after)
 taken bytes line after at found short is rest =
     let place = found_at bytes at found in
     let cut = cut_there bytes place.0 in
-    let front : line ≡ take (first_feed bytes) bytes = is ∙ ap (λ n. take n (take (at + 1) bytes)) place.1 ∙ take-take (first_feed bytes) (at + 1) bytes (omega (arith, place.1)) in
+    let front : line ≡ take (first_feed bytes) bytes = is ∙ ap (λ n. take n (take (at + 1) bytes)) place.1 ∙ take-take (first_feed bytes)
+    (at + 1) bytes (omega (arith, place.1)) in
     let next : at + 1 ≡ suc (first_feed bytes) = omega (arith, place.1) in
     let tail : after ≡ drop (suc (first_feed bytes)) bytes = rest ∙ ap (λ n. drop n bytes) next in
     let long : length line ≤ 1000000 = rw front (omega (arith, length-take (first_feed bytes) bytes, place.1)) in

@@ -12,11 +12,23 @@ use Rattle.interop_node.specs.Questions.{Answers, IsAnswerTo, IsQuestion, OfData
 use Rattle.interop_node.proofs.JournalLaws.{one_said}
 
 pub journal_answers : (word bytes told : List ℕ) → Spells word bytes → Says bytes told → Answers (codes "journal" ∷ word ∷ []) told
-journal_answers word bytes told s says = record { question = OfJournal bytes; fits = s.0; asked = ap (λ (w : List ℕ). codes "journal" ∷ w ∷ []) s.1; is_told = says }
+journal_answers word bytes told s says = record {
+  question = OfJournal bytes;
+  fits = s.0;
+  asked = ap (λ (w : List ℕ). codes "journal" ∷ w ∷ []) s.1;
+  is_told = says;
+}
 
-pub datagram_answers : (key_word word key bytes told : List ℕ) → AreBytes 32 key → key_word ≡ encode_lower key → Spells word bytes → told ≡ datagram_answer key bytes → Answers (codes "datagram" ∷ key_word ∷ word ∷ []) told
+pub datagram_answers : (key_word word key bytes told : List ℕ) → AreBytes 32 key → key_word ≡ encode_lower key → Spells word bytes
+    → told ≡ datagram_answer key bytes → Answers (codes "datagram" ∷ key_word ∷ word ∷ []) told
 datagram_answers key_word word key bytes told fits spells s is =
-    record { question = OfDatagram key bytes; fits = (fits, s.0); asked = ap (λ (w : List ℕ). codes "datagram" ∷ w ∷ word ∷ []) spells ∙ ap (λ (w : List ℕ). codes "datagram" ∷ encode_lower key ∷ w ∷ []) s.1; is_told = is }
+    record {
+      question = OfDatagram key bytes;
+      fits = (fits, s.0);
+      asked = ap (λ (w : List ℕ). codes "datagram" ∷ w ∷ word ∷ []) spells ∙ ap
+          (λ (w : List ℕ). codes "datagram" ∷ encode_lower key ∷ w ∷ []) s.1;
+      is_told = is;
+    }
 
 -- ---- the words of a line
 
@@ -29,7 +41,8 @@ two f (a ∷ b ∷ []) d is = refl
 two f _ d is = absurd (omega arith)
 
 -- the first word is this one
-pub begun : (words rest : List (Bor (List ℕ))) (v : Bor (List ℕ)) (as_slice word : List ℕ) → words ≡ v ∷ rest → true ≡ pointwise nat_eq v.now as_slice → as_slice ≡ word
+pub begun : (words rest : List (Bor (List ℕ))) (v : Bor (List ℕ)) (as_slice word : List ℕ) → words ≡ v ∷ rest
+    → true ≡ pointwise nat_eq v.now as_slice → as_slice ≡ word
     → map (λ w. w.now) words ≡ word ∷ map (λ w. w.now) rest
 begun words rest v as_slice word is same spelled =
     let first : v.now ≡ word = (bytes_eq-Decides v.now as_slice).0 (sym same) ∙ spelled in
@@ -41,7 +54,8 @@ pub one_answer : (words : List (List ℕ)) (x y : List ℕ) → Answers words x 
 one_answer words x y a b = of a.question b.question a.fits b.fits a.asked b.asked a.is_told b.is_told
   where
     of : (p q : Question) → IsQuestion p → IsQuestion q → words ≡ spelled p → words ≡ spelled q → IsAnswerTo p x → IsAnswerTo q y → x ≡ y
-    of (OfJournal m) (OfJournal n) fm fn is also t u = one_said m x y t (subst (λ (bytes : List ℕ). Says bytes y) (sym (spelled_once (bytes_word m) m n (fm, refl) (fn, cc))) u)
+    of (OfJournal m) (OfJournal n) fm fn is also t u = one_said m x y t
+        (subst (λ (bytes : List ℕ). Says bytes y) (sym (spelled_once (bytes_word m) m n (fm, refl) (fn, cc))) u)
     of (OfDatagram k m) (OfDatagram l n) fm fn is also t u =
         let key : k ≡ l = digits_once k l fm.0.1 fn.0.1 cc in
         let bytes = spelled_once (bytes_word m) m n (fm.1, refl) (fn.1, cc) in

@@ -12,7 +12,8 @@ abbrev told : List Entry → List ℕ
 told es = flat_map entry_words es
 
 -- no entry stands before the first gate, and none was told
-pub starts : (bytes out : List ℕ) → 60 < length bytes → (es : List Entry) × StandsBefore (header_of bytes) bytes es 60 × (out ≡ out ++ told es)
+pub starts : (bytes out : List ℕ) → 60 < length bytes
+    → (es : List Entry) × StandsBefore (header_of bytes) bytes es 60 × (out ≡ out ++ told es)
 starts bytes out long = (
   [],
   record {
@@ -30,14 +31,21 @@ pub within : (head bytes : List ℕ) (es : List Entry) (place : ℕ) → StandsB
 within head bytes es place s = omega (arith, s.where_it_is, s.goes_on, ap length s.parts, length-append (up_to_gate head es) s.rest)
 
 -- the next gate stands behind this one
-pub goes_less : (bytes : List ℕ) (place : ℕ) (e : Entry) (next : ℕ) → place < length bytes → HasEntryAt bytes place e next → length bytes - next < length bytes - place
+pub goes_less : (bytes : List ℕ) (place : ℕ) (e : Entry) (next : ℕ) → place < length bytes → HasEntryAt bytes place e next
+    → length bytes - next < length bytes - place
 goes_less bytes place e next less h = omega (arith, less, h.next_is)
 
 module _ (head bytes : List ℕ) (place next : ℕ) (e : Entry) (first before after : List ℕ) where
   -- one entry more was told
-  pub next_told : (before_it : (es : List Entry) × StandsBefore head bytes es place × (before ≡ first ++ told es)) → HasEntryAt bytes place e next → after ≡ before ++ entry_words e
+  pub next_told : (before_it : (es : List Entry) × StandsBefore head bytes es place × (before ≡ first ++ told es))
+      → HasEntryAt bytes place e next → after ≡ before ++ entry_words e
       → (es : List Entry) × StandsBefore head bytes es next × (after ≡ first ++ told es)
   next_told b h is =
       let es = b.0 in
-      let one : told (es ++ e ∷ []) ≡ told es ++ entry_words e = flat_map-append entry_words es (e ∷ []) ∙ ap (λ (l : List ℕ). told es ++ l) (append-nil (entry_words e)) in
-      (es ++ e ∷ [], entry_goes_on head bytes es place e next b.1 h, is ∙ ap (λ (l : List ℕ). l ++ entry_words e) b.2 ∙ append_assoc first (told es) (entry_words e) ∙ ap (λ (l : List ℕ). first ++ l) (sym one))
+      let one : told (es ++ e ∷ []) ≡ told es
+      ++ entry_words e = flat_map-append entry_words es (e ∷ []) ∙ ap (λ (l : List ℕ). told es ++ l) (append-nil (entry_words e)) in (
+        es ++ e ∷ [],
+        entry_goes_on head bytes es place e next b.1 h,
+        is ∙ ap (λ (l : List ℕ). l ++ entry_words e) b.2 ∙ append_assoc first (told es) (entry_words e) ∙ ap (λ (l : List ℕ). first ++ l)
+            (sym one),
+      )

@@ -52,7 +52,8 @@ verified k b s told a = of a.question a.fits a.asked a.told_is
     }
     of (Sign asked) fits is t = absurd cc
 
-pub verify_answers : (k b s key body sig : List ℕ) → Spells k key → Spells b body → Spells s sig → Answers (verify_words k b s) (verdict key body sig)
+pub verify_answers : (k b s key body sig : List ℕ) → Spells k key → Spells b body → Spells s sig
+    → Answers (verify_words k b s) (verdict key body sig)
 verify_answers k b s key body sig hk hb hs = record {
   question = Verify key body sig;
   fits = (hk.0, hb.0, hs.0);
@@ -65,20 +66,29 @@ verify_answers k b s key body sig hk hb hs = record {
 abbrev pub sign_words : List ℕ → List ℕ → List ℕ → List ℕ → List ℕ → List ℕ → List (List ℕ)
 sign_words h w i seed q body = codes "lms" ∷ h ∷ w ∷ i ∷ seed ∷ q ∷ body ∷ []
 
-pub sign_answers : (h w i seed q body told : List ℕ) (s : Signing) → AskedBy h w i seed q body s → told ≡ signed s → Answers (sign_words h w i seed q body) told
-sign_answers h w i seed q body told s asked is = record { question = Sign s; fits = asked.fits; asked = ap (λ (ws : List (List ℕ)). codes "lms" ∷ ws) asked.words; told_is = is }
+pub sign_answers : (h w i seed q body told : List ℕ) (s : Signing) → AskedBy h w i seed q body s → told ≡ signed s
+    → Answers (sign_words h w i seed q body) told
+sign_answers h w i seed q body told s asked is = record {
+  question = Sign s;
+  fits = asked.fits;
+  asked = ap (λ (ws : List (List ℕ)). codes "lms" ∷ ws) asked.words;
+  told_is = is;
+}
 
-pub sign_asked : (h w i seed q body told : List ℕ) → Answers (sign_words h w i seed q body) told → (s : Signing) × AskedBy h w i seed q body s × (told ≡ signed s)
+pub sign_asked : (h w i seed q body told : List ℕ) → Answers (sign_words h w i seed q body) told
+    → (s : Signing) × AskedBy h w i seed q body s × (told ≡ signed s)
 sign_asked h w i seed q body told a = of a.question a.fits a.asked a.told_is
   where
-    of : (x : Question) → IsQuestion x → sign_words h w i seed q body ≡ spelled x → told ≡ answer_to x → (s : Signing) × AskedBy h w i seed q body s × (told ≡ signed s)
+    of : (x : Question) → IsQuestion x → sign_words h w i seed q body ≡ spelled x → told ≡ answer_to x
+        → (s : Signing) × AskedBy h w i seed q body s × (told ≡ signed s)
     of (Verify k b g) fits is t = absurd cc
     of (Sign s) fits is t = (s, record { fits = fits; words = cc }, t)
 
 -- ---- the key
 
 -- a key that was made from these, and counts the leaves before the asked one as used
-pub ready : (s : Signing) (made now : LmsKey) → IsSigning s → IsMadeFrom s.typecode s.ots s.id s.seed made → lms_height_of made.tree.typecode ≡ Some made.tree.height
+pub ready : (s : Signing) (made now : LmsKey) → IsSigning s → IsMadeFrom s.typecode s.ots s.id s.seed made
+    → lms_height_of made.tree.typecode ≡ Some made.tree.height
     → KeyKeeps (public_of made) (public_of now) (length_of made) (length_of now) (signature_of made) (signature_of now) lms_valid lms_valid
     → now.used ≡ s.leaf → 2 ^ now.tree.height ≡ 2 ^ made.tree.height → IsReady s now
 ready s made now fits from known kept used total =
@@ -94,7 +104,8 @@ ready s made now fits from known kept used total =
 
 -- ---- words
 
-pub leaf_read : (r : Result ℕ LineFault) (word : List ℕ) (most leaves : ℕ) → most < leaves → IfOk r (λ n. (word ≡ decimal n) × (0 ≤ n) × (n ≤ most)) → IfOk r (λ n. (n < leaves) × (word ≡ decimal n))
+pub leaf_read : (r : Result ℕ LineFault) (word : List ℕ) (most leaves : ℕ) → most < leaves
+    → IfOk r (λ n. (word ≡ decimal n) × (0 ≤ n) × (n ≤ most)) → IfOk r (λ n. (n < leaves) × (word ≡ decimal n))
 leaf_read (Ok n) word most leaves fit read = (omega (arith, read.2, fit), read.0)
 leaf_read (Err e) word most leaves fit read = tt
 
@@ -134,7 +145,8 @@ six f (a ∷ b ∷ c ∷ e ∷ g ∷ h ∷ []) d is = refl
 six f _ d is = absurd (omega arith)
 
 -- the first word is this one
-pub begun : (words rest : List (Bor (List ℕ))) (v : Bor (List ℕ)) (as_slice word : List ℕ) → words ≡ v ∷ rest → true ≡ pointwise nat_eq v.now as_slice → as_slice ≡ word
+pub begun : (words rest : List (Bor (List ℕ))) (v : Bor (List ℕ)) (as_slice word : List ℕ) → words ≡ v ∷ rest
+    → true ≡ pointwise nat_eq v.now as_slice → as_slice ≡ word
     → map (λ w. w.now) words ≡ word ∷ map (λ w. w.now) rest
 begun words rest v as_slice word is same spelled =
     let first : v.now ≡ word = (bytes_eq-Decides v.now as_slice).0 (sym same) ∙ spelled in
@@ -182,8 +194,10 @@ one_answer words x y a b = of a.question a.fits a.asked a.told_is
   where
     of : (q : Question) → IsQuestion q → words ≡ spelled q → x ≡ answer_to q → x ≡ y
     of (Verify key body sig) fits is t =
-        let first : Answers (verify_words (bytes_word key) (bytes_word body) (bytes_word sig)) x = subst (λ (ws : List (List ℕ)). Answers ws x) is a in
-        let second : Answers (verify_words (bytes_word key) (bytes_word body) (bytes_word sig)) y = subst (λ (ws : List (List ℕ)). Answers ws y) is b in
+        let first : Answers (verify_words (bytes_word key) (bytes_word body) (bytes_word sig)) x = subst
+        (λ (ws : List (List ℕ)). Answers ws x) is a in
+        let second : Answers (verify_words (bytes_word key) (bytes_word body) (bytes_word sig)) y = subst
+        (λ (ws : List (List ℕ)). Answers ws y) is b in
         same_verdict _ _ _ x y (verified _ _ _ x first) (verified _ _ _ y second)
     of (Sign s) fits is t =
         let second : Answers (codes "lms" ∷ signing_words s) y = subst (λ (ws : List (List ℕ)). Answers ws y) is b in

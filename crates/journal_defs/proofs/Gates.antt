@@ -13,10 +13,13 @@ use Rattle.journal_defs.proofs.Crashing.{one_more, each_push, next_place}
 from_place : (head bytes : List ℕ) (es : List Entry) (place : ℕ) (s : StandsBefore head bytes es place) → drop place bytes ≡ s.rest
 from_place head bytes es place s = ap (λ (l : List ℕ). drop place l) s.parts ∙ drop_at (up_to_gate head es) s.rest place (sym s.where_it_is)
 
-behind_them : (head bytes : List ℕ) (es : List Entry) (place : ℕ) (l : List ℕ) → StandsBefore head bytes es place → drop place bytes ≡ l → bytes ≡ up_to_gate head es ++ l
-behind_them head bytes es place l s is = s.parts ∙ ap (λ (r : List ℕ). up_to_gate head es ++ r) (sym (from_place head bytes es place s) ∙ is)
+behind_them : (head bytes : List ℕ) (es : List Entry) (place : ℕ) (l : List ℕ) → StandsBefore head bytes es place → drop place bytes ≡ l
+    → bytes ≡ up_to_gate head es ++ l
+behind_them head bytes es place l s is = s.parts ∙ ap (λ (r : List ℕ). up_to_gate head es ++ r)
+    (sym (from_place head bytes es place s) ∙ is)
 
-record_place : (head : List ℕ) (es : List Entry) (e : Entry) → length (up_to_gate head es) + length (record_bytes e) ≡ length (up_to_gate head (es ++ e ∷ []))
+record_place : (head : List ℕ) (es : List Entry) (e : Entry)
+    → length (up_to_gate head es) + length (record_bytes e) ≡ length (up_to_gate head (es ++ e ∷ []))
 record_place head es e = omega (arith, next_place head es e, length-append (behind_gate e) (0 ∷ []))
 
 pub entry_goes_on : EntryGoesOn
@@ -29,7 +32,13 @@ entry_goes_on head bytes es place e next s h = record {
 }
 
 pub closed_gate_ends : ClosedGateEnds
-closed_gate_ends head bytes es place s c = record { gate = c.gate; unread = c.behind; parts = behind_them head bytes es place (c.gate ∷ c.behind) s c.parts; closed = c.closed; each = s.each }
+closed_gate_ends head bytes es place s c = record {
+  gate = c.gate;
+  unread = c.behind;
+  parts = behind_them head bytes es place (c.gate ∷ c.behind) s c.parts;
+  closed = c.closed;
+  each = s.each;
+}
 
 pub broken_gate_breaks : BrokenGateBreaks
 broken_gate_breaks head bytes es place s b = record {
@@ -54,10 +63,12 @@ entry_is_there head bytes es fs e r =
     let others = flat_map record_bytes fs in
     let more = others ++ r.gate ∷ r.unread in
     let parts : bytes ≡ (head ++ records) ++ open_gate ∷ (behind_gate e ++ more) =
-    r.parts ∙ ap (λ (l : List ℕ). (head ++ l) ++ r.gate ∷ r.unread) (flat_map-append record_bytes es (e ∷ fs)) ∙ nested head records (behind_gate e) others (r.gate ∷ r.unread) open_gate in
+    r.parts ∙ ap (λ (l : List ℕ). (head ++ l) ++ r.gate ∷ r.unread)
+    (flat_map-append record_bytes es (e ∷ fs)) ∙ nested head records (behind_gate e) others (r.gate ∷ r.unread) open_gate in
     record {
       more = more;
-      parts = ap (λ (l : List ℕ). drop (length (up_to_gate head es)) l) parts ∙ drop_at (head ++ records) (open_gate ∷ (behind_gate e ++ more)) (length (up_to_gate head es)) refl;
+      parts = ap (λ (l : List ℕ). drop (length (up_to_gate head es)) l) parts ∙ drop_at (head ++ records)
+          (open_gate ∷ (behind_gate e ++ more)) (length (up_to_gate head es)) refl;
       goes_on = omega (arith, length-append others (r.gate ∷ r.unread));
       next_is = sym (record_place head es e);
       entry = each_within es fs e r.each;
@@ -67,7 +78,8 @@ pub gate_is_there : GateIsThere
 gate_is_there head bytes es r = record {
   gate = r.gate;
   behind = r.unread;
-  parts = ap (λ (l : List ℕ). drop (length (up_to_gate head es)) l) r.parts ∙ drop_at (up_to_gate head es) (r.gate ∷ r.unread) (length (up_to_gate head es)) refl;
+  parts = ap (λ (l : List ℕ). drop (length (up_to_gate head es)) l) r.parts ∙ drop_at (up_to_gate head es) (r.gate ∷ r.unread)
+      (length (up_to_gate head es)) refl;
   closed = r.closed;
 }
 
@@ -78,5 +90,6 @@ pub one_entry : OneEntry
 one_entry bytes place e f m n a b =
     let same : open_gate ∷ (behind_gate e ++ a.more) ≡ open_gate ∷ (behind_gate f ++ b.more) = sym a.parts ∙ b.parts in
     let tail : behind_gate e ++ a.more ≡ behind_gate f ++ b.more = cc in
-    let both : done (e, a.more) ≡ done (f, b.more) = sym (record_is_read e a.more a.entry a.goes_on) ∙ ap record_at tail ∙ record_is_read f b.more b.entry b.goes_on in
+    let both : done (e, a.more) ≡ done (f, b.more) = sym
+    (record_is_read e a.more a.entry a.goes_on) ∙ ap record_at tail ∙ record_is_read f b.more b.entry b.goes_on in
     ap (λ (p : Entry × List ℕ). p.0) (ok_is (e, a.more) (f, b.more) both)

@@ -5,7 +5,8 @@ use Rattle.journal_disk.specs.Disks.{LeavesOnly}
 
 module _ {D : Type 0} (moment : D → ℕ) (left_since : D → ℕ → List ℕ → Type 0) where
   -- one call
-  pub one_call : (old new : D) (P may_leave : List ℕ → Type 0) → ((c : List ℕ) → left_since old (moment old) c → P c) → Elapses (moment old) (moment new) (left_since old) (left_since new) may_leave
+  pub one_call : (old new : D) (P may_leave : List ℕ → Type 0) → ((c : List ℕ) → left_since old (moment old) c → P c)
+      → Elapses (moment old) (moment new) (left_since old) (left_since new) may_leave
       → ((c : List ℕ) → may_leave c → P c) → LeavesOnly moment left_since old new P
   one_call old new P may_leave at_first time here = record {
     later = time.later;
@@ -14,16 +15,19 @@ module _ {D : Type 0} (moment : D → ℕ) (left_since : D → ℕ → List ℕ 
   }
 
   -- and one more
-  pub goes_on : (old mid new : D) (P may_leave : List ℕ → Type 0) → LeavesOnly moment left_since old mid P → Elapses (moment mid) (moment new) (left_since mid) (left_since new) may_leave
+  pub goes_on : (old mid new : D) (P may_leave : List ℕ → Type 0) → LeavesOnly moment left_since old mid P
+      → Elapses (moment mid) (moment new) (left_since mid) (left_since new) may_leave
       → ((c : List ℕ) → may_leave c → P c) → LeavesOnly moment left_since old new P
   goes_on old mid new P may_leave so_far time here = record {
     later = omega (arith, so_far.later, time.later);
     each = λ c left. ⊎_elim (so_far.each c) (here c) (time.nothing_else (moment old) c so_far.later left);
-    before = λ t c le left. ⊎_elim (so_far.before t c le) (λ now. inr (here c now)) (time.nothing_else t c (omega (arith, le, so_far.later)) left);
+    before = λ t c le left. ⊎_elim (so_far.before t c le) (λ now. inr (here c now))
+        (time.nothing_else t c (omega (arith, le, so_far.later)) left);
   }
 
   -- what holds of more images
-  pub weaker : (old new : D) (P Q : List ℕ → Type 0) → ((c : List ℕ) → P c → Q c) → LeavesOnly moment left_since old new P → LeavesOnly moment left_since old new Q
+  pub weaker : (old new : D) (P Q : List ℕ → Type 0) → ((c : List ℕ) → P c → Q c) → LeavesOnly moment left_since old new P
+      → LeavesOnly moment left_since old new Q
   weaker old new P Q more leaves = record {
     later = leaves.later;
     each = λ c left. more c (leaves.each c left);
@@ -31,7 +35,8 @@ module _ {D : Type 0} (moment : D → ℕ) (left_since : D → ℕ → List ℕ 
   }
 
   -- one run behind another
-  pub then : (old mid new : D) (P : List ℕ → Type 0) → LeavesOnly moment left_since old mid P → LeavesOnly moment left_since mid new P → LeavesOnly moment left_since old new P
+  pub then : (old mid new : D) (P : List ℕ → Type 0) → LeavesOnly moment left_since old mid P → LeavesOnly moment left_since mid new P
+      → LeavesOnly moment left_since old new P
   then old mid new P first second = record {
     later = omega (arith, first.later, second.later);
     each = λ c left. ⊎_elim (first.each c) (λ p. p) (second.before (moment old) c first.later left);

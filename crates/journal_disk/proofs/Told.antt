@@ -11,6 +11,7 @@ pub told_both : {A : Type 0} {P Q R : A → Type 0} (o : Option A) → ((x : A) 
 told_both None f p q = tt
 told_both (Some x) f p q = f x p q
 
-pub told_all : {A : Type 0} {P Q R S : A → Type 0} (o : Option A) → ((x : A) → P x → Q x → R x → S x) → IfSome o P → IfSome o Q → IfSome o R → IfSome o S
+pub told_all : {A : Type 0} {P Q R S : A → Type 0} (o : Option A) → ((x : A) → P x → Q x → R x → S x) → IfSome o P → IfSome o Q → IfSome o R
+    → IfSome o S
 told_all None f p q r = tt
 told_all (Some x) f p q r = f x p q r

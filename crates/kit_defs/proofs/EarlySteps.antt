@@ -29,21 +29,41 @@ start_step n _ e t = unless t.due
 
 -- the draft of a version and a scheme alone
 abbrev headed : Scheme → KitVersion → Draft
-headed scheme version = record { version = Some version; scheme = Some scheme; group = None; keys = []; genesis = []; ports = []; hosts = [] }
+headed scheme version = record {
+  version = Some version;
+  scheme = Some scheme;
+  group = None;
+  keys = [];
+  genesis = [];
+  ports = [];
+  hosts = [];
+}
 
-pub versioned_step : (version : KitVersion) (n : ℕ) (said : KitLine) (e : Draft) → IsTaken n (draft_of (Versioned version)) said e → Next (Versioned version) said e
+pub versioned_step : (version : KitVersion) (n : ℕ) (said : KitLine) (e : Draft) → IsTaken n (draft_of (Versioned version)) said e
+    → Next (Versioned version) said e
 unfolding begin_with
 versioned_step version n (Version other) e t = unless t.new.version
 versioned_step version n (SchemeIs scheme) e t =
     let same : version_of scheme ≡ version = sym (version_is version scheme t.ranges) in
-    record { stage = Schemed scheme; draft = ap (headed scheme) same ∙ ok_is _ e t.taken; holds = tt; lines = ap (λ v. Version v ∷ SchemeIs scheme ∷ []) same }
+    record {
+      stage = Schemed scheme;
+      draft = ap (headed scheme) same ∙ ok_is _ e t.taken;
+      holds = tt;
+      lines = ap (λ v. Version v ∷ SchemeIs scheme ∷ []) same;
+    }
 versioned_step version n _ e t = unless t.due
 
-pub schemed_step : (scheme : Scheme) (n : ℕ) (said : KitLine) (e : Draft) → IsTaken n (draft_of (Schemed scheme)) said e → Next (Schemed scheme) said e
+pub schemed_step : (scheme : Scheme) (n : ℕ) (said : KitLine) (e : Draft) → IsTaken n (draft_of (Schemed scheme)) said e
+    → Next (Schemed scheme) said e
 unfolding begin_with
 schemed_step scheme n (Version other) e t = unless t.new.version
 schemed_step scheme n (SchemeIs other) e t = unless t.new.scheme
-schemed_step scheme n (GroupIs group) e t = record { stage = Keyed scheme group []; draft = ok_is _ e t.taken; holds = (t.ranges, tt); lines = refl }
+schemed_step scheme n (GroupIs group) e t = record {
+  stage = Keyed scheme group [];
+  draft = ok_is _ e t.taken;
+  holds = (t.ranges, tt);
+  lines = refl;
+}
 schemed_step scheme n _ e t = unless t.due
 
 -- ---- keys
@@ -52,9 +72,15 @@ pub key_size : (scheme : Scheme) (key : List ℕ) → IsPublicKey (is_scheme sch
 key_size scheme key h = subst (λ s. AreBytes (key_length s) key) (scheme_is scheme h.0 h.1) h.2
 
 -- one more key of a process above those that stand
-keys_push : (size least : ℕ) (keys : List (ℕ × List ℕ)) (p : ℕ) (key : List ℕ) → AreKeys size least keys → least ≤ p → p ≤ 63 → AreBytes size key → AllByRecursion (λ k. k.0 < p) keys → AreKeys size least (keys ++ (p, key) ∷ [])
+keys_push : (size least : ℕ) (keys : List (ℕ × List ℕ)) (p : ℕ) (key : List ℕ) → AreKeys size least keys → least ≤ p → p ≤ 63
+    → AreBytes size key → AllByRecursion (λ k. k.0 < p) keys → AreKeys size least (keys ++ (p, key) ∷ [])
 keys_push size least [] p key are le small bytes above = (le, small, bytes, tt)
-keys_push size least (k ∷ keys) p key are le small bytes above = (are.0, are.1, are.2, keys_push size (k.0 + 1) keys p key are.3 (omega (arith, above.0)) small bytes above.1)
+keys_push size least (k ∷ keys) p key are le small bytes above = (
+  are.0,
+  are.1,
+  are.2,
+  keys_push size (k.0 + 1) keys p key are.3 (omega (arith, above.0)) small bytes above.1,
+)
 
 -- words that do not begin with one number's word
 pub other_number : (a b : ℕ) (rest : List (List ℕ)) → begin_with (decimal a ∷ []) (decimal b ∷ rest) ≡ false → a ≢ b
@@ -64,17 +90,21 @@ other_number a b rest e same =
     true≢false (sym (ap (λ t. t && true) equal) ∙ e)
 
 -- no key of this process stands
-pub new_key : (keys : List (ℕ × List ℕ)) (p : ℕ) (key : List ℕ) → list_any (λ k. begin_with (codes "key" ∷ decimal k.0 ∷ []) (line_words (Key p key))) keys ≡ false → AllByRecursion (λ k. k.0 ≢ p) keys
+pub new_key : (keys : List (ℕ × List ℕ)) (p : ℕ) (key : List ℕ)
+    → list_any (λ k. begin_with (codes "key" ∷ decimal k.0 ∷ []) (line_words (Key p key))) keys ≡ false → AllByRecursion (λ k. k.0 ≢ p) keys
 unfolding begin_with
 new_key keys p key e =
     let words : List (List ℕ) = line_words (Key p key) in
-    each_weaker (λ k. begin_with (codes "key" ∷ decimal k.0 ∷ []) words ≡ false) (λ k. k.0 ≢ p) (λ k. other_number k.0 p (encode_lower key ∷ [])) keys (each_fails (λ k. begin_with (codes "key" ∷ decimal k.0 ∷ []) words) keys e)
+    each_weaker (λ k. begin_with (codes "key" ∷ decimal k.0 ∷ []) words ≡ false) (λ k. k.0 ≢ p)
+    (λ k. other_number k.0 p (encode_lower key ∷ [])) keys (each_fails (λ k. begin_with (codes "key" ∷ decimal k.0 ∷ []) words) keys e)
 
 module _ (scheme : Scheme) (group : List ℕ) (keys : List (ℕ × List ℕ)) (n : ℕ) (e : Draft) (h : IsStage (Keyed scheme group keys)) where
-  key_step : (p : ℕ) (key : List ℕ) → IsTaken n (draft_of (Keyed scheme group keys)) (Key p key) e → Next (Keyed scheme group keys) (Key p key) e
+  key_step : (p : ℕ) (key : List ℕ) → IsTaken n (draft_of (Keyed scheme group keys)) (Key p key) e
+      → Next (Keyed scheme group keys) (Key p key) e
   unfolding begin_with
   key_step p key t =
-      let below = each_weaker (λ k. nat_lt p k.0 ≡ false) (λ k. k.0 ≤ p) (λ k. ltb-false p k.0) keys (each_fails (λ k. nat_lt p k.0) keys t.in_time) in
+      let below = each_weaker (λ k. nat_lt p k.0 ≡ false) (λ k. k.0 ≤ p)
+      (λ k. ltb-false p k.0) keys (each_fails (λ k. nat_lt p k.0) keys t.in_time) in
       let new = new_key keys p key t.new.keys in
       let above = each_with (λ k. k.0 ≤ p) (λ k. k.0 ≢ p) (λ k. k.0 < p) (λ k le ne. omega arith) keys below new in
       record {
@@ -85,10 +115,13 @@ module _ (scheme : Scheme) (group : List ℕ) (keys : List (ℕ × List ℕ)) (n
       }
 
   -- those of a genesis line are of the roster
-  genesis_listed : (members : List ℕ) → list_any (λ p. not (has (roster_of keys) p)) members ≡ false → AllByRecursion (λ m. IsTrue (has (roster_of keys) m)) members
-  genesis_listed members all = each_weaker (λ m. not (has (roster_of keys) m) ≡ false) (λ m. IsTrue (has (roster_of keys) m)) (λ m no_stranger. not-false _ no_stranger) members (each_fails (λ p. not (has (roster_of keys) p)) members all)
+  genesis_listed : (members : List ℕ) → list_any (λ p. not (has (roster_of keys) p)) members ≡ false
+      → AllByRecursion (λ m. IsTrue (has (roster_of keys) m)) members
+  genesis_listed members all = each_weaker (λ m. not (has (roster_of keys) m) ≡ false) (λ m. IsTrue (has (roster_of keys) m))
+      (λ m no_stranger. not-false _ no_stranger) members (each_fails (λ p. not (has (roster_of keys) p)) members all)
 
-  genesis_step : (members : List ℕ) → IsTaken n (draft_of (Keyed scheme group keys)) (Genesis members) e → Next (Keyed scheme group keys) (Genesis members) e
+  genesis_step : (members : List ℕ) → IsTaken n (draft_of (Keyed scheme group keys)) (Genesis members) e
+      → Next (Keyed scheme group keys) (Genesis members) e
   genesis_step [] t = absurd (omega (arith, t.ranges.some))
   genesis_step (first ∷ others) t = record {
     stage = Listed scheme group keys first others [] [];
@@ -107,7 +140,8 @@ module _ (scheme : Scheme) (group : List ℕ) (keys : List (ℕ × List ℕ)) (n
     lines = append-nil _;
   }
 
-pub keyed_step : (scheme : Scheme) (group : List ℕ) (keys : List (ℕ × List ℕ)) (n : ℕ) (said : KitLine) (e : Draft) → IsStage (Keyed scheme group keys) → IsTaken n (draft_of (Keyed scheme group keys)) said e → Next (Keyed scheme group keys) said e
+pub keyed_step : (scheme : Scheme) (group : List ℕ) (keys : List (ℕ × List ℕ)) (n : ℕ) (said : KitLine) (e : Draft)
+    → IsStage (Keyed scheme group keys) → IsTaken n (draft_of (Keyed scheme group keys)) said e → Next (Keyed scheme group keys) said e
 unfolding begin_with
 keyed_step scheme group keys n (Version other) e h t = unless t.new.version
 keyed_step scheme group keys n (SchemeIs other) e h t = unless t.new.scheme

@@ -50,4 +50,5 @@ module _ (d : Draft) (words : List (List ℕ)) where
 
   pub fresh : IsFresh d words → is_repeated d words ≡ false
   unfolding is_repeated
-  fresh f = or_from v _ f.version (or_from s _ f.scheme (or_from g _ f.group (or_from k _ f.keys (or_from m _ f.genesis (or_from p h f.ports f.hosts)))))
+  fresh f = or_from v _ f.version
+      (or_from s _ f.scheme (or_from g _ f.group (or_from k _ f.keys (or_from m _ f.genesis (or_from p h f.ports f.hosts)))))

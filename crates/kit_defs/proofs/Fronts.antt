@@ -27,7 +27,8 @@ pub rest_after : {A : Type 0} (n : ℕ) (all : List A) (x : A) → first_of (dro
 rest_after n all x e = rest_is n all x e ∙ ap (λ m. x ∷ drop m all) (sym (add-one n))
 
 -- one more
-pub front_push : {A : Type 0} (xs all : List A) (n : ℕ) (x : A) → xs ++ drop n all ≡ all → first_of (drop n all) ≡ Some x → (xs ++ x ∷ []) ++ drop (n + 1) all ≡ all
+pub front_push : {A : Type 0} (xs all : List A) (n : ℕ) (x : A) → xs ++ drop n all ≡ all → first_of (drop n all) ≡ Some x
+    → (xs ++ x ∷ []) ++ drop (n + 1) all ≡ all
 front_push xs all n x front next =
     append_assoc xs (x ∷ []) (drop (n + 1) all) ∙ ap (λ ys. xs ++ ys) (sym (rest_after n all x next)) ∙ front
 

@@ -26,7 +26,8 @@ use Rattle.kit_defs.proofs.Lists.{distinct_push}
 use Rattle.text_defs.proofs.Tests.{word_is}
 use Rattle.kit_defs.proofs.LineShapes.{IsLine, IsPublicKey, Reads}
 
-read_as : (may : Scheme → Bool) (words : List (List ℕ)) (said : KitLine) (a : KitLine) → a ≡ said → words ≡ line_words a → IsLine may a → Reads may words said
+read_as : (may : Scheme → Bool) (words : List (List ℕ)) (said : KitLine) (a : KitLine) → a ≡ said → words ≡ line_words a → IsLine may a
+    → Reads may words said
 read_as may words said a e w h = subst (Reads may words) e (w, h)
 
 -- ---- words
@@ -36,16 +37,19 @@ process_found word p e = let found = number_within_found 0 63 word p e in (found
 
 -- the word of a scheme
 scheme_named : (word : List ℕ) (scheme : Scheme) → scheme_of_word word ≡ Some scheme → word ≡ scheme_word scheme
-scheme_named word scheme e = by (same_bytes word (codes "plain")) refl (same_bytes word (codes "lms")) refl (same_bytes word (codes "hss")) refl e
+scheme_named word scheme e = by (same_bytes word (codes "plain")) refl (same_bytes word (codes "lms")) refl
+    (same_bytes word (codes "hss")) refl e
   where
-    by : (p : Bool) → same_bytes word (codes "plain") ≡ p → (l : Bool) → same_bytes word (codes "lms") ≡ l → (h : Bool) → same_bytes word (codes "hss") ≡ h
+    by : (p : Bool) → same_bytes word (codes "plain") ≡ p → (l : Bool) → same_bytes word (codes "lms") ≡ l → (h : Bool)
+        → same_bytes word (codes "hss") ≡ h
         → first_that_holds ((p, schemes.Plain) ∷ (l, schemes.Lms) ∷ (h, schemes.Hss) ∷ []) ≡ Some scheme → word ≡ scheme_word scheme
     by true is l _ h _ e = word_is word (codes "plain") is ∙ ap scheme_word (some_is schemes.Plain scheme e)
     by false _ true is h _ e = word_is word (codes "lms") is ∙ ap scheme_word (some_is schemes.Lms scheme e)
     by false _ false _ true is e = word_is word (codes "hss") is ∙ ap scheme_word (some_is schemes.Hss scheme e)
     by false _ false _ false _ e = absurd cc
 
-scheme_in_found : (may : Scheme → Bool) (word : List ℕ) (scheme : Scheme) → scheme_in may word ≡ Some scheme → (word ≡ scheme_word scheme) × (may scheme ≡ true)
+scheme_in_found : (may : Scheme → Bool) (word : List ℕ) (scheme : Scheme) → scheme_in may word ≡ Some scheme
+    → (word ≡ scheme_word scheme) × (may scheme ≡ true)
 scheme_in_found may word scheme e =
     let named = then_some (λ s. if may s then Some s else None) (scheme_of_word word) scheme e in
     let tested = if_some (may named.0) (Some named.0) scheme named.2 in
@@ -54,25 +58,32 @@ scheme_in_found may word scheme e =
 -- ---- lines of few words
 
 module _ (may : Scheme → Bool) (word : List ℕ) (said : KitLine) where
-  version_found : (words : List (List ℕ)) → same_bytes word (codes "rampart") ≡ true → version_by words ≡ Some said → Reads may (word ∷ words) said
+  version_found : (words : List (List ℕ)) → same_bytes word (codes "rampart") ≡ true → version_by words ≡ Some said
+      → Reads may (word ∷ words) said
   version_found (kit ∷ number ∷ []) is e =
-      let tested = if_some (same_bytes kit (codes "kit")) (first_that_holds ((same_bytes number (codes "1"), Version One) ∷ (same_bytes number (codes "2"), Version Two) ∷ [])) said e in
+      let tested = if_some (same_bytes kit (codes "kit"))
+      (first_that_holds ((same_bytes number (codes "1"), Version One) ∷ (same_bytes number (codes "2"), Version Two) ∷ [])) said e in
       by (word_is kit (codes "kit") tested.0) (same_bytes number (codes "1")) refl (same_bytes number (codes "2")) refl tested.1
     where
-      by : kit ≡ codes "kit" → (o : Bool) → same_bytes number (codes "1") ≡ o → (t : Bool) → same_bytes number (codes "2") ≡ t → first_that_holds ((o, Version One) ∷ (t, Version Two) ∷ []) ≡ Some said → Reads may (word ∷ kit ∷ number ∷ []) said
-      by is_kit true is_one t is_two e = read_as may _ said (Version One) (some_is _ said e) (λ i. word_is word (codes "rampart") is i ∷ is_kit i ∷ word_is number (codes "1") is_one i ∷ []) tt
-      by is_kit false is_one true is_two e = read_as may _ said (Version Two) (some_is _ said e) (λ i. word_is word (codes "rampart") is i ∷ is_kit i ∷ word_is number (codes "2") is_two i ∷ []) tt
+      by : kit ≡ codes "kit" → (o : Bool) → same_bytes number (codes "1") ≡ o → (t : Bool) → same_bytes number (codes "2") ≡ t
+          → first_that_holds ((o, Version One) ∷ (t, Version Two) ∷ []) ≡ Some said → Reads may (word ∷ kit ∷ number ∷ []) said
+      by is_kit true is_one t is_two e = read_as may _ said (Version One) (some_is _ said e)
+          (λ i. word_is word (codes "rampart") is i ∷ is_kit i ∷ word_is number (codes "1") is_one i ∷ []) tt
+      by is_kit false is_one true is_two e = read_as may _ said (Version Two) (some_is _ said e)
+          (λ i. word_is word (codes "rampart") is i ∷ is_kit i ∷ word_is number (codes "2") is_two i ∷ []) tt
       by is_kit false is_one false is_two e = absurd cc
   version_found _ is e = absurd cc
 
-  scheme_found : (words : List (List ℕ)) → same_bytes word (codes "scheme") ≡ true → scheme_by may words ≡ Some said → Reads may (word ∷ words) said
+  scheme_found : (words : List (List ℕ)) → same_bytes word (codes "scheme") ≡ true → scheme_by may words ≡ Some said
+      → Reads may (word ∷ words) said
   scheme_found (name ∷ []) is e =
       let read = map_some SchemeIs (scheme_in may name) said e in
       let found = scheme_in_found may name read.0 read.1 in
       read_as may _ said (SchemeIs read.0) read.2 (λ i. word_is word (codes "scheme") is i ∷ found.0 i ∷ []) found.1
   scheme_found _ is e = absurd cc
 
-  group_found : (words : List (List ℕ)) → same_bytes word (codes "group") ≡ true → group_by words ≡ Some said → Reads may (word ∷ words) said
+  group_found : (words : List (List ℕ)) → same_bytes word (codes "group") ≡ true → group_by words ≡ Some said
+      → Reads may (word ∷ words) said
   group_found (group ∷ []) is e =
       let read = map_some GroupIs (bytes_of 16 group) said e in
       let found = bytes_found 16 group read.0 read.1 in
@@ -97,25 +108,32 @@ module _ (may : Scheme → Bool) (word : List ℕ) (said : KitLine) where
       let p = process_found process first.0 first.1 in
       let q = process_found other second.0 second.1 in
       let k = bytes_found 32 key third.0 third.1 in
-      read_as may _ said (Pair first.0 second.0 third.0) third.2 (λ i. word_is word (codes "pair") is i ∷ p.0 i ∷ q.0 i ∷ k.0 i ∷ []) (p.1, q.1, eqb-false first.0 second.0 apart.0, k.1)
+      read_as may _ said (Pair first.0 second.0 third.0) third.2 (λ i. word_is word (codes "pair") is i ∷ p.0 i ∷ q.0 i ∷ k.0 i ∷ [])
+      (p.1, q.1, eqb-false first.0 second.0 apart.0, k.1)
   pair_found _ is e = absurd cc
 
 -- ---- key lines
 
-key_in_found : (may : Scheme → Bool) (word key : List ℕ) (scheme : Scheme) → key_in may word scheme ≡ Some key → (word ≡ encode_lower key) × IsPublicKey may key
+key_in_found : (may : Scheme → Bool) (word key : List ℕ) (scheme : Scheme) → key_in may word scheme ≡ Some key
+    → (word ≡ encode_lower key) × IsPublicKey may key
 key_in_found may word key scheme e =
     let tested = if_some (may scheme) (bytes_of (key_length scheme) word) key e in
     let found = bytes_found (key_length scheme) word key tested.1 in
     (found.0, (scheme, tested.0, found.1))
 
-public_key_found : (may : Scheme → Bool) (word key : List ℕ) → public_key_by may word ≡ Some key → (word ≡ encode_lower key) × IsPublicKey may key
+public_key_found : (may : Scheme → Bool) (word key : List ℕ) → public_key_by may word ≡ Some key
+    → (word ≡ encode_lower key) × IsPublicKey may key
 public_key_found may word key e =
-    ⊎_elim (key_in_found may word key schemes.Plain) trees (or_some (key_in may word schemes.Plain) (option_or (key_in may word schemes.Lms) (key_in may word schemes.Hss)) key e)
+    ⊎_elim (key_in_found may word key schemes.Plain) trees
+    (or_some (key_in may word schemes.Plain) (option_or (key_in may word schemes.Lms) (key_in may word schemes.Hss)) key e)
   where
-    trees : option_or (key_in may word schemes.Lms) (key_in may word schemes.Hss) ≡ Some key → (word ≡ encode_lower key) × IsPublicKey may key
-    trees e = ⊎_elim (key_in_found may word key schemes.Lms) (key_in_found may word key schemes.Hss) (or_some (key_in may word schemes.Lms) (key_in may word schemes.Hss) key e)
+    trees : option_or (key_in may word schemes.Lms) (key_in may word schemes.Hss) ≡ Some key
+        → (word ≡ encode_lower key) × IsPublicKey may key
+    trees e = ⊎_elim (key_in_found may word key schemes.Lms) (key_in_found may word key schemes.Hss)
+        (or_some (key_in may word schemes.Lms) (key_in may word schemes.Hss) key e)
 
-key_found : (may : Scheme → Bool) (word : List ℕ) (said : KitLine) (words : List (List ℕ)) → same_bytes word (codes "key") ≡ true → key_by may words ≡ Some said → Reads may (word ∷ words) said
+key_found : (may : Scheme → Bool) (word : List ℕ) (said : KitLine) (words : List (List ℕ)) → same_bytes word (codes "key") ≡ true
+    → key_by may words ≡ Some said → Reads may (word ∷ words) said
 key_found may word said (process ∷ key ∷ []) is e =
     let first = then_some _ (process_of process) said e in
     let second = map_some (Key first.0) (public_key_by may key) said first.2 in
@@ -134,11 +152,18 @@ record Joins (before members : List ℕ) (words : List (List ℕ)) : Type 0 wher
   numbers : AllByRecursion (λ m. m ≤ 63) more
   distinct : AllPairs (λ m n. m ≢ n) members
 
-members_found : (before members : List ℕ) (words : List (List ℕ)) → AllPairs (λ m n. m ≢ n) before → members_by before words ≡ Some members → Joins before members words
+members_found : (before members : List ℕ) (words : List (List ℕ)) → AllPairs (λ m n. m ≢ n) before → members_by before words ≡ Some members
+    → Joins before members words
 unfolding members_by
 members_found before members [] distinct e =
     let same = some_is before members e in
-    record { more = []; whole = append-nil before ∙ same; spelled = refl; numbers = tt; distinct = subst (AllPairs (λ m n. m ≢ n)) same distinct }
+    record {
+      more = [];
+      whole = append-nil before ∙ same;
+      spelled = refl;
+      numbers = tt;
+      distinct = subst (AllPairs (λ m n. m ≢ n)) same distinct;
+    }
 members_found before members (word ∷ words) distinct e =
     let first = then_some (λ p. if has before p then None else members_by (before ++ p ∷ []) words) (process_of word) members e in
     let new = unless_some (has before first.0) (members_by (before ++ first.0 ∷ []) words) members first.2 in
@@ -152,7 +177,8 @@ members_found before members (word ∷ words) distinct e =
       distinct = rest.distinct;
     }
 
-genesis_found : (may : Scheme → Bool) (word : List ℕ) (said : KitLine) (words : List (List ℕ)) → same_bytes word (codes "genesis") ≡ true → genesis_by words ≡ Some said → Reads may (word ∷ words) said
+genesis_found : (may : Scheme → Bool) (word : List ℕ) (said : KitLine) (words : List (List ℕ)) → same_bytes word (codes "genesis") ≡ true
+    → genesis_by words ≡ Some said → Reads may (word ∷ words) said
 genesis_found may word said words is e =
     let tested = if_some (nat_le 1 (length words) && nat_le (length words) 16) (option_map Genesis (members_by [] words)) said e in
     let both = and_parts (nat_le 1 (length words)) (nat_le (length words) 16) tested.0 in
@@ -175,16 +201,20 @@ kind_found word kind e =
     let number = then_some ots_type_of (number_within 1 4 word) kind e in
     (number_within_found 1 4 word number.0 number.1).0 ∙ ap decimal (typecode_of_type number.0 kind number.2)
 
-module _ (may : Scheme → Bool) (word process scheme : List ℕ) (said : KitLine) (p : ℕ) (is : same_bytes word (codes "host") ≡ true) (p_is : process ≡ decimal p) (number : p ≤ 63) where
-  plain_host_found : (more : List (List ℕ)) → scheme ≡ codes "plain" → may schemes.Plain ≡ true → plain_host_by p more ≡ Some said → Reads may (word ∷ process ∷ scheme ∷ more) said
+module _ (may : Scheme → Bool) (word process scheme : List ℕ) (said : KitLine) (p : ℕ) (is : same_bytes word (codes "host") ≡ true)
+    (p_is : process ≡ decimal p) (number : p ≤ 63) where
+  plain_host_found : (more : List (List ℕ)) → scheme ≡ codes "plain" → may schemes.Plain ≡ true → plain_host_by p more ≡ Some said
+      → Reads may (word ∷ process ∷ scheme ∷ more) said
   plain_host_found (total ∷ []) s_is ok e =
       let read = map_some (PlainHost p) (number_within 0 (2 ^ 32 - 1) total) said e in
       let n = number_within_found 0 (2 ^ 32 - 1) total read.0 read.1 in
       let fits : read.0 < 2 ^ 32 = omega (arith, n.2) in
-      read_as may _ said (PlainHost p read.0) read.2 (λ i. word_is word (codes "host") is i ∷ p_is i ∷ s_is i ∷ n.0 i ∷ []) (number, ok, fits)
+      read_as may _ said (PlainHost p read.0) read.2 (λ i. word_is word (codes "host") is i ∷ p_is i ∷ s_is i ∷ n.0 i ∷ [])
+      (number, ok, fits)
   plain_host_found _ s_is ok e = absurd cc
 
-  lms_host_found : (more : List (List ℕ)) → scheme ≡ codes "lms" → may schemes.Lms ≡ true → lms_host_by p more ≡ Some said → Reads may (word ∷ process ∷ scheme ∷ more) said
+  lms_host_found : (more : List (List ℕ)) → scheme ≡ codes "lms" → may schemes.Lms ≡ true → lms_host_by p more ≡ Some said
+      → Reads may (word ∷ process ∷ scheme ∷ more) said
   lms_host_found (code ∷ kind ∷ id ∷ seed ∷ []) s_is ok e =
       let h = then_some _ (number_within 5 7 code) said e in
       let w = then_some _ (kind_by kind) said h.2 in
@@ -199,7 +229,8 @@ module _ (may : Scheme → Bool) (word process scheme : List ℕ) (said : KitLin
       (record { number = number; scheme_may = ok; least = h_is.1; most = h_is.2; id_is = i_is.1; seed_is = s_found.1 })
   lms_host_found _ s_is ok e = absurd cc
 
-  hss_host_found : (more : List (List ℕ)) → scheme ≡ codes "hss" → may schemes.Hss ≡ true → hss_host_by p more ≡ Some said → Reads may (word ∷ process ∷ scheme ∷ more) said
+  hss_host_found : (more : List (List ℕ)) → scheme ≡ codes "hss" → may schemes.Hss ≡ true → hss_host_by p more ≡ Some said
+      → Reads may (word ∷ process ∷ scheme ∷ more) said
   hss_host_found (levels ∷ code ∷ kind ∷ id ∷ seed ∷ []) s_is ok e =
       let l = then_some _ (number_within 1 3 levels) said e in
       let h = then_some _ (number_within 5 7 code) said l.2 in
@@ -217,12 +248,14 @@ module _ (may : Scheme → Bool) (word process scheme : List ℕ) (said : KitLin
       (record { number = number; scheme_may = ok; built = built.0; id_is = i_is.1; seed_is = s_found.1 })
   hss_host_found _ s_is ok e = absurd cc
 
-  secret_found : (more : List (List ℕ)) (kind : Scheme) → scheme ≡ scheme_word kind → may kind ≡ true → secret_by p more kind ≡ Some said → Reads may (word ∷ process ∷ scheme ∷ more) said
+  secret_found : (more : List (List ℕ)) (kind : Scheme) → scheme ≡ scheme_word kind → may kind ≡ true → secret_by p more kind ≡ Some said
+      → Reads may (word ∷ process ∷ scheme ∷ more) said
   secret_found more schemes.Plain s_is ok e = plain_host_found more s_is ok e
   secret_found more schemes.Lms s_is ok e = lms_host_found more s_is ok e
   secret_found more schemes.Hss s_is ok e = hss_host_found more s_is ok e
 
-host_found : (may : Scheme → Bool) (word : List ℕ) (said : KitLine) (words : List (List ℕ)) → same_bytes word (codes "host") ≡ true → host_by may words ≡ Some said → Reads may (word ∷ words) said
+host_found : (may : Scheme → Bool) (word : List ℕ) (said : KitLine) (words : List (List ℕ)) → same_bytes word (codes "host") ≡ true
+    → host_by may words ≡ Some said → Reads may (word ∷ words) said
 host_found may word said (process ∷ scheme ∷ more) is e =
     let first = then_some _ (process_of process) said e in
     let second = then_some (secret_by first.0 more) (scheme_in may scheme) said first.2 in
@@ -253,7 +286,10 @@ line_found may (word ∷ words) said e =
           group_found may word said words,
           (
             key_found may word said words,
-            (genesis_found may word said words, (port_found may word said words, (host_found may word said words, (pair_found may word said words, tt)))),
+            (
+              genesis_found may word said words,
+              (port_found may word said words, (host_found may word said words, (pair_found may word said words, tt))),
+            ),
           ),
         ),
       ),

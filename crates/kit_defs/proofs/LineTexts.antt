@@ -46,7 +46,10 @@ number_word n small = record {
 }
 
 bytes_word : (n : ℕ) (bytes : List ℕ) → AreBytes n bytes → n ≤ 64 → IsWord (encode_lower bytes)
-bytes_word n bytes h le = record { no_mark = λ c some low. hex_has_no c bytes some low; size = omega (arith, length-encode_with lower_digits bytes, h.0) }
+bytes_word n bytes h le = record {
+  no_mark = λ c some low. hex_has_no c bytes some low;
+  size = omega (arith, length-encode_with lower_digits bytes, h.0);
+}
 
 key_short : (scheme : Scheme) → key_length scheme ≤ 64
 key_short schemes.Plain = lit≤ tt
@@ -69,8 +72,14 @@ are_words o (SchemeIs schemes.Hss) h = (fixed_word _ refl (lit≤ tt), (fixed_wo
 are_words o (GroupIs group) h = (fixed_word _ refl (lit≤ tt), (bytes_word 16 group h (lit≤ tt), tt))
 are_words o (Key p key) h = (fixed_word _ refl (lit≤ tt), (number_word p (omega (arith, h.0)), (key_word o key h.1, tt)))
 are_words o (Genesis members) h = (fixed_word _ refl (lit≤ tt), member_words members h.numbers)
-are_words o (Port p port) h = (fixed_word _ refl (lit≤ tt), (number_word p (omega (arith, h.0)), (number_word port (omega (arith, h.2)), tt)))
-are_words o (PlainHost p total) h = (fixed_word _ refl (lit≤ tt), (number_word p (omega (arith, h.0)), (fixed_word _ refl (lit≤ tt), (number_word total h.2, tt))))
+are_words o (Port p port) h = (
+  fixed_word _ refl (lit≤ tt),
+  (number_word p (omega (arith, h.0)), (number_word port (omega (arith, h.2)), tt)),
+)
+are_words o (PlainHost p total) h = (
+  fixed_word _ refl (lit≤ tt),
+  (number_word p (omega (arith, h.0)), (fixed_word _ refl (lit≤ tt), (number_word total h.2, tt))),
+)
 are_words o (LmsHost p code kind id seed) h = (
   fixed_word _ refl (lit≤ tt),
   (
@@ -79,7 +88,10 @@ are_words o (LmsHost p code kind id seed) h = (
       fixed_word _ refl (lit≤ tt),
       (
         number_word code (omega (arith, h.most)),
-        (number_word (ots_typecode kind) (omega (arith, typecode_range kind)), (bytes_word 16 id h.id_is (lit≤ tt), (bytes_word 32 seed h.seed_is (lit≤ tt), tt))),
+        (
+          number_word (ots_typecode kind) (omega (arith, typecode_range kind)),
+          (bytes_word 16 id h.id_is (lit≤ tt), (bytes_word 32 seed h.seed_is (lit≤ tt), tt)),
+        ),
       ),
     ),
   ),
@@ -95,18 +107,25 @@ are_words o (HssHost p levels code kind id seed) h =
             number_word levels (omega (arith, b.few)),
             (
               number_word code (omega (arith, b.most)),
-              (number_word (ots_typecode kind) (omega (arith, typecode_range kind)), (bytes_word 16 id h.id_is (lit≤ tt), (bytes_word 32 seed h.seed_is (lit≤ tt), tt))),
+              (
+                number_word (ots_typecode kind) (omega (arith, typecode_range kind)),
+                (bytes_word 16 id h.id_is (lit≤ tt), (bytes_word 32 seed h.seed_is (lit≤ tt), tt)),
+              ),
             ),
           ),
         ),
       ),
     )
-are_words o (Pair p q key) h = (fixed_word _ refl (lit≤ tt), (number_word p (omega (arith, h.0)), (number_word q (omega (arith, h.1)), (bytes_word 32 key h.3 (lit≤ tt), tt))))
+are_words o (Pair p q key) h = (
+  fixed_word _ refl (lit≤ tt),
+  (number_word p (omega (arith, h.0)), (number_word q (omega (arith, h.1)), (bytes_word 32 key h.3 (lit≤ tt), tt))),
+)
 
 -- no word has a space or a line feed
 marks : (c : ℕ) (words : List (List ℕ)) → 0 < c → c < 48 → AllByRecursion IsWord words → list_any (has_byte c) words ≡ false
 marks c [] some low each = refl
-marks c (word ∷ words) some low each = or_from (has_byte c word) (list_any (has_byte c) words) (each.0.no_mark c some low) (marks c words some low each.1)
+marks c (word ∷ words) some low each = or_from (has_byte c word) (list_any (has_byte c) words) (each.0.no_mark c some low)
+    (marks c words some low each.1)
 
 -- one word at least, and 17 at most
 word_count : (may : Scheme → Bool) (said : KitLine) → IsLine may said → (1 ≤ length (line_words said)) × (length (line_words said) ≤ 17)
@@ -121,15 +140,18 @@ word_count o (LmsHost p code kind id seed) h = omega arith
 word_count o (HssHost p levels code kind id seed) h = omega arith
 word_count o (Pair p q key) h = omega arith
 
-words_joined : (words : List (List ℕ)) → 1 ≤ length words → list_any (has_byte space) words ≡ false → words_of (join_with_byte space words) ≡ words
+words_joined : (words : List (List ℕ)) → 1 ≤ length words → list_any (has_byte space) words ≡ false
+    → words_of (join_with_byte space words) ≡ words
 words_joined [] some none = absurd (omega arith)
 words_joined (word ∷ words) some none = words_of_join word words none
 
 pub line_words_of : (may : Scheme → Bool) (said : KitLine) → IsLine may said → words_of (line_of said) ≡ line_words said
-line_words_of may said h = words_joined (line_words said) (word_count may said h).0 (marks space (line_words said) (lit< tt) (lit< tt) (are_words may said h))
+line_words_of may said h = words_joined (line_words said)
+    (word_count may said h).0 (marks space (line_words said) (lit< tt) (lit< tt) (are_words may said h))
 
 pub no_line_feed : (may : Scheme → Bool) (said : KitLine) → IsLine may said → has_byte line_feed (line_of said) ≡ false
-no_line_feed may said h = join_has_no line_feed (line_words said) refl (marks line_feed (line_words said) (lit< tt) (lit< tt) (are_words may said h))
+no_line_feed may said h = join_has_no line_feed (line_words said) refl
+    (marks line_feed (line_words said) (lit< tt) (lit< tt) (are_words may said h))
 
 -- ---- the length of a line
 
@@ -140,4 +162,5 @@ join_short (word ∷ next ∷ words) each =
     omega (arith, each.0.size, join_short (next ∷ words) each.1, length-append word (space ∷ join_with_byte space (next ∷ words)))
 
 pub line_fits : (may : Scheme → Bool) (said : KitLine) → IsLine may said → nat_lt most_line_bytes (length (line_of said)) ≡ false
-line_fits may said h = le-ltb most_line_bytes (length (line_of said)) (omega (arith, join_short (line_words said) (are_words may said h), word_count may said h))
+line_fits may said h = le-ltb most_line_bytes (length (line_of said))
+    (omega (arith, join_short (line_words said) (are_words may said h), word_count may said h))

@@ -14,7 +14,8 @@ module _ {X : Type 0} (P : X → Type 0) where
   each_weaker Q so [] each = tt
   each_weaker Q so (x ∷ xs) each = (so x each.0, each_weaker Q so xs each.1)
 
-  pub each_with : (Q R : X → Type 0) → ((x : X) → P x → Q x → R x) → (xs : List X) → AllByRecursion P xs → AllByRecursion Q xs → AllByRecursion R xs
+  pub each_with : (Q R : X → Type 0) → ((x : X) → P x → Q x → R x) → (xs : List X) → AllByRecursion P xs → AllByRecursion Q xs
+      → AllByRecursion R xs
   each_with Q R so [] ps qs = tt
   each_with Q R so (x ∷ xs) ps qs = (so x ps.0 qs.0, each_with Q R so xs ps.1 qs.1)
 
@@ -34,7 +35,8 @@ pub each_mapped : {X Y : Type 0} (P : Y → Type 0) (f : X → Y) (xs : List X) 
 each_mapped P f [] each = tt
 each_mapped P f (x ∷ xs) each = (each.0, each_mapped P f xs each.1)
 
-pub each_unmapped : {X Y : Type 0} (P : Y → Type 0) (f : X → Y) (xs : List X) → AllByRecursion P (map f xs) → AllByRecursion (λ x. P (f x)) xs
+pub each_unmapped : {X Y : Type 0} (P : Y → Type 0) (f : X → Y) (xs : List X) → AllByRecursion P (map f xs)
+    → AllByRecursion (λ x. P (f x)) xs
 each_unmapped P f [] each = tt
 each_unmapped P f (x ∷ xs) each = (each.0, each_unmapped P f xs each.1)
 
@@ -50,7 +52,8 @@ module _ {X : Type 0} (test : X → Bool) where
   none_passes (x ∷ xs) each = or_from (test x) (list_any test xs) each.0 (none_passes xs each.1)
 
 -- a member unlike those before it
-pub distinct_push : (xs : List ℕ) (y : ℕ) → AllPairs (λ m n. m ≢ n) xs → list_any (λ x. x == y) xs ≡ false → AllPairs (λ m n. m ≢ n) (xs ++ y ∷ [])
+pub distinct_push : (xs : List ℕ) (y : ℕ) → AllPairs (λ m n. m ≢ n) xs → list_any (λ x. x == y) xs ≡ false
+    → AllPairs (λ m n. m ≢ n) (xs ++ y ∷ [])
 distinct_push xs y distinct new =
     let each = each_weaker (λ x. (x == y) ≡ false) (λ x. x ≢ y) (λ x. eqb-false x y) xs (each_fails (λ x. x == y) xs new) in
     all_pairs_push (λ m n. m ≢ n) xs y distinct (All-from_recursion (λ x. x ≢ y) xs each)

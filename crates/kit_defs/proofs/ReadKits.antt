@@ -32,8 +32,10 @@ record IsSpelled (lines : List KitLine) (kit : Kit) : Type 0 where
   text : kit_text kit ≡ text_of_lines lines
   holds : IsKit kit
 
-finish_listed : (scheme : Scheme) (group : List ℕ) (keys : List (ℕ × List ℕ)) (first : ℕ) (others : List ℕ) (ports : List (ℕ × ℕ)) (hosts : List Host) (n : ℕ) (kit : Kit)
-    → IsListed scheme group keys (first ∷ others) ports hosts → finish n (draft_of (Listed scheme group keys first others ports hosts)) ≡ Ok kit
+finish_listed : (scheme : Scheme) (group : List ℕ) (keys : List (ℕ × List ℕ)) (first : ℕ) (others : List ℕ) (ports : List (ℕ × ℕ))
+    (hosts : List Host) (n : ℕ) (kit : Kit)
+    → IsListed scheme group keys (first ∷ others) ports hosts
+    → finish n (draft_of (Listed scheme group keys first others ports hosts)) ≡ Ok kit
     → IsSpelled (stage_lines (Listed scheme group keys first others ports hosts)) kit
 unfolding finish
 finish_listed scheme group keys first others ports hosts n kit h e =
@@ -51,7 +53,8 @@ finish_listed scheme group keys first others ports hosts n kit h e =
         most = h.most;
         listed = h.listed;
         distinct = h.distinct;
-        ported = front_whole (map (λ p. p.0) ports) (roster_of keys) (drop (length ports) (roster_of keys)) h.front (first_none _ (none_is _ lacks.1));
+        ported = front_whole (map (λ p. p.0) ports) (roster_of keys)
+            (drop (length ports) (roster_of keys)) h.front (first_none _ (none_is _ lacks.1));
         ports = h.ports_are;
         hosts = hosts_whole scheme keys 0 hosts h.hosts_are both.1;
       };
@@ -75,27 +78,40 @@ no_more : (xs : List ℕ) → length xs ≡ 0 → xs ≡ []
 no_more [] e = refl
 no_more (x ∷ xs) e = absurd (omega arith)
 
-last_part : (s : Stage) (n : ℕ) (rest : List ℕ) (kit : Kit) → IsStage s → (empty : Bool) → (length rest == 0) ≡ empty → (if empty then finish n (draft_of s) else Err (KitFault.Line n)) ≡ Ok kit → IsRead (stage_lines s) (rest ∷ []) kit
+last_part : (s : Stage) (n : ℕ) (rest : List ℕ) (kit : Kit) → IsStage s → (empty : Bool) → (length rest == 0) ≡ empty
+    → (if empty then finish n (draft_of s) else Err (KitFault.Line n)) ≡ Ok kit → IsRead (stage_lines s) (rest ∷ []) kit
 last_part s n rest kit h true empty e =
     let end = finished s n kit h e in
-    record { lines = []; parts_are = ap (λ r. r ∷ []) (no_more rest (eqb-true (length rest) 0 empty)); text = end.text ∙ sym (append-nil (text_of_lines (stage_lines s))); holds = end.holds }
+    record {
+      lines = [];
+      parts_are = ap (λ r. r ∷ []) (no_more rest (eqb-true (length rest) 0 empty));
+      text = end.text ∙ sym (append-nil (text_of_lines (stage_lines s)));
+      holds = end.holds;
+    }
 last_part s n rest kit h false empty e = absurd cc
 
 -- the spelling of one more line
-spelled_more : (stand : List KitLine) (said : KitLine) (line : List ℕ) → words_of line ≡ line_words said → text_of_lines (stand ++ said ∷ []) ≡ text_of_lines stand ++ (line ++ line_feed ∷ [])
+spelled_more : (stand : List KitLine) (said : KitLine) (line : List ℕ) → words_of line ≡ line_words said
+    → text_of_lines (stand ++ said ∷ []) ≡ text_of_lines stand ++ (line ++ line_feed ∷ [])
 spelled_more stand said line words =
-    let one : line_text (line_words said) ≡ line ++ line_feed ∷ [] = ap (λ l. l ++ line_feed ∷ []) (ap (join_with_byte space) (sym words) ∙ join_words_of line) in
-    flat_map-append (λ l. line_text (line_words l)) stand (said ∷ []) ∙ ap (λ t. text_of_lines stand ++ t) (append-nil (line_text (line_words said)) ∙ one)
+    let one : line_text (line_words said) ≡ line
+    ++ line_feed ∷ [] = ap (λ l. l ++ line_feed ∷ []) (ap (join_with_byte space) (sym words) ∙ join_words_of line) in
+    flat_map-append (λ l. line_text (line_words l)) stand (said ∷ []) ∙ ap (λ t. text_of_lines stand ++ t)
+    (append-nil (line_text (line_words said)) ∙ one)
 
-one_more : (stand now : List KitLine) (said : KitLine) (line : List ℕ) (parts : List (List ℕ)) (kit : Kit) → now ≡ stand ++ said ∷ [] → words_of line ≡ line_words said → IsRead now parts kit → IsRead stand (line ∷ parts) kit
+one_more : (stand now : List KitLine) (said : KitLine) (line : List ℕ) (parts : List (List ℕ)) (kit : Kit) → now ≡ stand ++ said ∷ []
+    → words_of line ≡ line_words said → IsRead now parts kit → IsRead stand (line ∷ parts) kit
 one_more stand now said line parts kit pushed words read = record {
   lines = line ∷ read.lines;
   parts_are = ap (λ ps. line ∷ ps) read.parts_are;
-  text = read.text ∙ ap (λ t. t ++ lines_text read.lines) (ap text_of_lines pushed ∙ spelled_more stand said line words) ∙ append_assoc (text_of_lines stand) (line ++ line_feed ∷ []) (lines_text read.lines);
+  text = read.text ∙ ap (λ t. t ++ lines_text read.lines)
+      (ap text_of_lines pushed ∙ spelled_more stand said line words) ∙ append_assoc (text_of_lines stand) (line ++ line_feed ∷ [])
+      (lines_text read.lines);
   holds = read.holds;
 }
 
-lines_read : (parts : List (List ℕ)) (s : Stage) (n : ℕ) (kit : Kit) → IsStage s → lines_at n (draft_of s) parts ≡ Ok kit → IsRead (stage_lines s) parts kit
+lines_read : (parts : List (List ℕ)) (s : Stage) (n : ℕ) (kit : Kit) → IsStage s → lines_at n (draft_of s) parts ≡ Ok kit
+    → IsRead (stage_lines s) parts kit
 unfolding lines_at
 lines_read [] s n kit h e = absurd cc
 lines_read (rest ∷ []) s n kit h e = last_part s n rest kit h (length rest == 0) refl e

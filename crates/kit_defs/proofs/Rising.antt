@@ -44,7 +44,8 @@ roster_small size least (k ∷ keys) are = (are.1, roster_small size (k.0 + 1) k
 -- what holds of each, holds of one of them
 pub one_has : (P : ℕ → Type 0) (ps : List ℕ) (p : ℕ) → AllByRecursion P ps → has ps p ≡ true → P p
 one_has P [] p each is = absurd cc
-one_has P (q ∷ ps) p each is = ⊎_elim (λ same. subst P (eqb-true q p same) each.0) (λ later. one_has P ps p each.1 later) (or_cases (q == p) (has ps p) is)
+one_has P (q ∷ ps) p each is = ⊎_elim (λ same. subst P (eqb-true q p same) each.0) (λ later. one_has P ps p each.1 later)
+    (or_cases (q == p) (has ps p) is)
 
 pub one_behind : (xs : List ℕ) (y : ℕ) (ys : List ℕ) → has (xs ++ y ∷ ys) y ≡ true
 one_behind [] y ys = or_left (y == y) (has ys y) (eq-eqb y y refl)
@@ -53,10 +54,13 @@ one_behind (x ∷ xs) y ys = or_right (x == y) (has (xs ++ y ∷ ys) y) (one_beh
 -- one of those that a filter keeps passes it, and is one of all
 pub one_of_filter : (test : ℕ → Bool) (ps : List ℕ) (p : ℕ) → has (filter test ps) p ≡ true → (has ps p ≡ true) × (test p ≡ true)
 one_of_filter test [] p is = absurd cc
-one_of_filter test (q ∷ ps) p is = by (λ e. let rest = one_of_filter test ps p e in (or_right (q == p) (has ps p) rest.0, rest.1)) (test q) refl is
+one_of_filter test (q ∷ ps) p is = by (λ e. let rest = one_of_filter test ps p e in (or_right (q == p) (has ps p) rest.0, rest.1))
+    (test q) refl is
   where
-    by : (has (filter test ps) p ≡ true → (has (q ∷ ps) p ≡ true) × (test p ≡ true)) → (kept : Bool) → test q ≡ kept → has (cond kept (q ∷ filter test ps) (filter test ps)) p ≡ true → (has (q ∷ ps) p ≡ true) × (test p ≡ true)
-    by later true t is = ⊎_elim (λ same. (or_left (q == p) (has ps p) same, subst (λ r. test r ≡ true) (eqb-true q p same) t)) later (or_cases (q == p) (has (filter test ps) p) is)
+    by : (has (filter test ps) p ≡ true → (has (q ∷ ps) p ≡ true) × (test p ≡ true)) → (kept : Bool) → test q ≡ kept
+        → has (cond kept (q ∷ filter test ps) (filter test ps)) p ≡ true → (has (q ∷ ps) p ≡ true) × (test p ≡ true)
+    by later true t is = ⊎_elim (λ same. (or_left (q == p) (has ps p) same, subst (λ r. test r ≡ true) (eqb-true q p same) t)) later
+        (or_cases (q == p) (has (filter test ps) p) is)
     by later false t is = later is
 
 -- a process with a key is of the roster
@@ -64,6 +68,7 @@ pub key_listed : (keys : List (ℕ × List ℕ)) (p : ℕ) (key : List ℕ) → 
 key_listed [] p key e = absurd cc
 key_listed (k ∷ keys) p key e = by (k.0 == p) e (key_listed keys p key)
   where
-    by : (same : Bool) → option_map (λ r. r.1) (cond same (Some k) (find (λ r. r.0 == p) keys)) ≡ Some key → (key_of keys p ≡ Some key → has (roster_of keys) p ≡ true) → (same || has (roster_of keys) p) ≡ true
+    by : (same : Bool) → option_map (λ r. r.1) (cond same (Some k) (find (λ r. r.0 == p) keys)) ≡ Some key
+        → (key_of keys p ≡ Some key → has (roster_of keys) p ≡ true) → (same || has (roster_of keys) p) ≡ true
     by true e later = refl
     by false e later = later e

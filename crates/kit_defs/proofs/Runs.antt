@@ -48,12 +48,14 @@ run_append d e f [] more first second = subst (λ g. Run g more f) (sym first) s
 run_append d e f (said ∷ lines) more first second = (first.0, first.1, run_append first.0 e f lines more first.2 second)
 
 -- the end of a text, behind its lines
-lines_more : (n : ℕ) (d e : Draft) (line : List ℕ) (lines : List (List ℕ)) → take_line n d line ≡ Ok e → lines_at n d (line ∷ (lines ++ [] ∷ [])) ≡ lines_at (n + 1) e (lines ++ [] ∷ [])
+lines_more : (n : ℕ) (d e : Draft) (line : List ℕ) (lines : List (List ℕ)) → take_line n d line ≡ Ok e
+    → lines_at n d (line ∷ (lines ++ [] ∷ [])) ≡ lines_at (n + 1) e (lines ++ [] ∷ [])
 unfolding lines_at
 lines_more n d e line [] taken = ap (λ r. r >>= λ f. lines_at (n + 1) f ([] ∷ [])) taken
 lines_more n d e line (next ∷ lines) taken = ap (λ r. r >>= λ f. lines_at (n + 1) f (next ∷ (lines ++ [] ∷ []))) taken
 
-pub run_reads : (n : ℕ) (d e : Draft) (lines : List KitLine) (kit : Kit) → Run d lines e → ((m : ℕ) → finish m e ≡ Ok kit) → lines_at n d (map line_of lines ++ [] ∷ []) ≡ Ok kit
+pub run_reads : (n : ℕ) (d e : Draft) (lines : List KitLine) (kit : Kit) → Run d lines e → ((m : ℕ) → finish m e ≡ Ok kit)
+    → lines_at n d (map line_of lines ++ [] ∷ []) ≡ Ok kit
 unfolding lines_at
 run_reads n d e [] kit run ends = ap (finish n) run ∙ ends n
 run_reads n d e (said ∷ lines) kit run ends =
@@ -67,7 +69,8 @@ text_is (said ∷ lines) = ap (λ t. (line_of said ++ line_feed ∷ []) ++ t) (t
 
 feeds : (d e : Draft) (lines : List KitLine) → Run d lines e → list_any (has_byte line_feed) (map line_of lines) ≡ false
 feeds d e [] run = refl
-feeds d e (said ∷ lines) run = or_from (has_byte line_feed (line_of said)) (list_any (has_byte line_feed) (map line_of lines)) (no_line_feed (may_of d) said (run.1.taken 0).ranges) (feeds run.0 e lines run.2)
+feeds d e (said ∷ lines) run = or_from (has_byte line_feed (line_of said)) (list_any (has_byte line_feed) (map line_of lines))
+    (no_line_feed (may_of d) said (run.1.taken 0).ranges) (feeds run.0 e lines run.2)
 
 pub parts_spelled : (d e : Draft) (lines : List KitLine) → Run d lines e → parts_of (text_of_lines lines) ≡ map line_of lines ++ [] ∷ []
 parts_spelled d e lines run = ap parts_of (text_is lines) ∙ parts_of_lines (map line_of lines) (feeds d e lines run)

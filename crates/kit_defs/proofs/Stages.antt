@@ -13,14 +13,47 @@ pub data Stage : Type 0 where
   Versioned : (version : KitVersion) → Stage
   Schemed : (scheme : Scheme) → Stage
   Keyed : (scheme : Scheme) (group : List ℕ) (keys : List (ℕ × List ℕ)) → Stage
-  Listed : (scheme : Scheme) (group : List ℕ) (keys : List (ℕ × List ℕ)) (first : ℕ) (others : List ℕ) (ports : List (ℕ × ℕ)) (hosts : List Host) → Stage
+  Listed : (scheme : Scheme) (group : List ℕ) (keys : List (ℕ × List ℕ)) (first : ℕ) (others : List ℕ) (ports : List (ℕ × ℕ))
+      (hosts : List Host) → Stage
 
 abbrev pub draft_of : Stage → Draft
 draft_of Start = nothing
-draft_of (Versioned version) = record { version = Some version; scheme = None; group = None; keys = []; genesis = []; ports = []; hosts = [] }
-draft_of (Schemed scheme) = record { version = Some (version_of scheme); scheme = Some scheme; group = None; keys = []; genesis = []; ports = []; hosts = [] }
-draft_of (Keyed scheme group keys) = record { version = Some (version_of scheme); scheme = Some scheme; group = Some group; keys = keys; genesis = []; ports = []; hosts = [] }
-draft_of (Listed scheme group keys first others ports hosts) = record { version = Some (version_of scheme); scheme = Some scheme; group = Some group; keys = keys; genesis = first ∷ others; ports = ports; hosts = hosts }
+draft_of (Versioned version) = record {
+  version = Some version;
+  scheme = None;
+  group = None;
+  keys = [];
+  genesis = [];
+  ports = [];
+  hosts = [];
+}
+draft_of (Schemed scheme) = record {
+  version = Some (version_of scheme);
+  scheme = Some scheme;
+  group = None;
+  keys = [];
+  genesis = [];
+  ports = [];
+  hosts = [];
+}
+draft_of (Keyed scheme group keys) = record {
+  version = Some (version_of scheme);
+  scheme = Some scheme;
+  group = Some group;
+  keys = keys;
+  genesis = [];
+  ports = [];
+  hosts = [];
+}
+draft_of (Listed scheme group keys first others ports hosts) = record {
+  version = Some (version_of scheme);
+  scheme = Some scheme;
+  group = Some group;
+  keys = keys;
+  genesis = first ∷ others;
+  ports = ports;
+  hosts = hosts;
+}
 
 abbrev pub head_lines : Scheme → List ℕ → List KitLine → List KitLine
 head_lines scheme group lines = Version (version_of scheme) ∷ SchemeIs scheme ∷ GroupIs group ∷ lines
@@ -30,7 +63,8 @@ stage_lines Start = []
 stage_lines (Versioned version) = Version version ∷ []
 stage_lines (Schemed scheme) = Version (version_of scheme) ∷ SchemeIs scheme ∷ []
 stage_lines (Keyed scheme group keys) = head_lines scheme group (map key_line keys)
-stage_lines (Listed scheme group keys first others ports hosts) = head_lines scheme group (map key_line keys ++ Genesis (first ∷ others) ∷ map port_line ports) ++ flat_map host_lines hosts
+stage_lines (Listed scheme group keys first others ports hosts) = head_lines scheme group
+    (map key_line keys ++ Genesis (first ∷ others) ∷ map port_line ports) ++ flat_map host_lines hosts
 
 -- ---- the ranges
 
@@ -48,7 +82,8 @@ AreBegun scheme keys least [] = Unit {0}
 AreBegun scheme keys least (h ∷ []) = (least ≤ h.process) × IsBegun scheme keys h
 AreBegun scheme keys least (h ∷ g ∷ hosts) = (least ≤ h.process) × IsHost scheme keys h × AreBegun scheme keys (h.process + 1) (g ∷ hosts)
 
-pub record IsListed (scheme : Scheme) (group : List ℕ) (keys : List (ℕ × List ℕ)) (genesis : List ℕ) (ports : List (ℕ × ℕ)) (hosts : List Host) : Type 0 where
+pub record IsListed (scheme : Scheme) (group : List ℕ) (keys : List (ℕ × List ℕ)) (genesis : List ℕ) (ports : List (ℕ × ℕ))
+    (hosts : List Host) : Type 0 where
   pub group_is : AreBytes 16 group
   pub keys_are : AreKeys (key_length scheme) 0 keys
   pub most : length genesis ≤ 16

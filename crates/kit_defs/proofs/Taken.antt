@@ -31,7 +31,8 @@ value_ok : {A E : Type 0} (o : Option A) (fault : E) (x : A) → ok_or o fault �
 value_ok None fault x e = absurd cc
 value_ok (Some a) fault x e = cc
 
-pub taken_of : (n : ℕ) (d : Draft) (line : List ℕ) (e : Draft) → take_line n d line ≡ Ok e → (said : KitLine) × (words_of line ≡ line_words said) × IsTaken n d said e
+pub taken_of : (n : ℕ) (d : Draft) (line : List ℕ) (e : Draft) → take_line n d line ≡ Ok e
+    → (said : KitLine) × (words_of line ≡ line_words said) × IsTaken n d said e
 unfolding take_line
 taken_of n d line e t =
     let fits = refuse_ok (nat_lt most_line_bytes (length line)) (Line n) _ e t in

@@ -53,7 +53,8 @@ pub built_ranges : (levels code : ℕ) (kind : OtsType) → levels_are_built lev
 built_ranges levels code kind e =
     let all = and_parts (levels_in_range levels) (height_in_range levels code && length_in_range levels kind) e in
     let count = and_parts (nat_le 1 levels) (nat_le levels 3) all.0 in
-    let height = and_parts (nat_le 5 code) (nat_le code 6 || ((code == 7) && nat_le levels 2)) (and_parts (height_in_range levels code) (length_in_range levels kind) all.1).0 in
+    let height = and_parts (nat_le 5 code) (nat_le code 6 || ((code == 7) && nat_le levels 2))
+    (and_parts (height_in_range levels code) (length_in_range levels kind) all.1).0 in
     record {
       some = leb-true 1 levels count.0;
       few = leb-true levels 3 count.1;

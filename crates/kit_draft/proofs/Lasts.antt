@@ -16,7 +16,10 @@ last_is (h ∷ g ∷ hs) =
 
 module _ (d : Draft) (hs : List Host) (is : d.hosts ≡ hosts hs) where
   pub none_behind : slice_get hs (length hs - 1) ≡ None → next_pair d ≡ None
-  none_behind none = ap (λ o. option_and_then (λ h. option_map (λ q. (h.process, q)) (next_other d h)) o) (ap last_of is ∙ last_is hs ∙ ap (option_map host) none)
+  none_behind none = ap (λ o. option_and_then (λ h. option_map (λ q. (h.process, q)) (next_other d h)) o)
+      (ap last_of is ∙ last_is hs ∙ ap (option_map host) none)
 
-  pub next_behind : (h : Host) → slice_get hs (length hs - 1) ≡ Some h → next_pair d ≡ option_map (λ q. (h.process, q)) (first_of (drop (length h.pairs.items) (others_than h.process (roster_of d.keys))))
-  next_behind h some = ap (λ o. option_and_then (λ g. option_map (λ q. (g.process, q)) (next_other d g)) o) (ap last_of is ∙ last_is hs ∙ ap (option_map host) some)
+  pub next_behind : (h : Host) → slice_get hs (length hs - 1) ≡ Some h
+      → next_pair d ≡ option_map (λ q. (h.process, q)) (first_of (drop (length h.pairs.items) (others_than h.process (roster_of d.keys))))
+  next_behind h some = ap (λ o. option_and_then (λ g. option_map (λ q. (g.process, q)) (next_other d g)) o)
+      (ap last_of is ∙ last_is hs ∙ ap (option_map host) some)

@@ -24,7 +24,8 @@ pub any_map : {X Y : Type 0} (f : X → Y) (q : Y → Bool) (xs : List X) → li
 any_map f q [] = refl
 any_map f q (x ∷ xs) = ap (λ b. q (f x) || b) (any_map f q xs)
 
-any_same : {X : Type 0} (P : X → Type 0) (f g : X → Bool) → ((x : X) → P x → f x ≡ g x) → (xs : List X) → AllByRecursion P xs → list_any f xs ≡ list_any g xs
+any_same : {X : Type 0} (P : X → Type 0) (f g : X → Bool) → ((x : X) → P x → f x ≡ g x) → (xs : List X) → AllByRecursion P xs
+    → list_any f xs ≡ list_any g xs
 any_same P f g same [] each = refl
 any_same P f g same (x ∷ xs) each = ap (λ b. b || list_any f xs) (same x each.0) ∙ ap (λ b. g x || b) (any_same P f g same xs each.1)
 
@@ -71,7 +72,8 @@ by_flags d ws r s g k m p h q =
     || (list_any (λ x. k && begin_with (decimal x.0 ∷ []) ws) d.keys
     || ((has_genesis d && (m && true))
     || (list_any (λ x. p && begin_with (decimal x.0 ∷ []) ws) d.ports
-    || list_any (λ x. (h && begin_with (decimal x.process ∷ []) ws) || list_any (λ y. q && begin_with (decimal x.process ∷ decimal y.0 ∷ []) ws) x.pairs) d.hosts)))))
+    || list_any (λ x. (h && begin_with (decimal x.process ∷ []) ws)
+    || list_any (λ y. q && begin_with (decimal x.process ∷ decimal y.0 ∷ []) ws) x.pairs) d.hosts)))))
 
 flags_are : (d : Draft) (word : List ℕ) (ws : List (List ℕ)) → is_repeated d (word ∷ ws) ≡ by_flags d ws
     (same_bytes (codes "rampart") word) (same_bytes (codes "scheme") word) (same_bytes (codes "group") word) (same_bytes (codes "key") word)
@@ -98,38 +100,109 @@ module _ (d : Draft) (ws : List (List ℕ)) where
   no_ports : list_any (λ x. false && begin_with (decimal x.0 ∷ []) ws) d.ports ≡ false
   no_ports = any_never d.ports
 
-  no_hosts : list_any (λ x. (false && begin_with (decimal x.process ∷ []) ws) || list_any (λ y. false && begin_with (decimal x.process ∷ decimal y.0 ∷ []) ws) x.pairs) d.hosts ≡ false
+  no_hosts : list_any (λ x. (false && begin_with (decimal x.process ∷ []) ws)
+      || list_any (λ y. false && begin_with (decimal x.process ∷ decimal y.0 ∷ []) ws) x.pairs) d.hosts ≡ false
   no_hosts = any_equal _ (λ x. false) (λ x. any_never x.pairs) d.hosts ∙ any_never d.hosts
 
   no_flag : by_flags d ws false false false false false false false false ≡ false
-  no_flag = rw (and_false (is_some d.version), and_false (is_some d.scheme), and_false (is_some d.group), and_false (has_genesis d), no_keys, no_ports, no_hosts) refl
+  no_flag = rw (
+    and_false (is_some d.version),
+    and_false (is_some d.scheme),
+    and_false (is_some d.group),
+    and_false (has_genesis d),
+    no_keys,
+    no_ports,
+    no_hosts,
+  ) refl
 
   by_rampart : by_flags d ws true false false false false false false false ≡ is_some d.version
-  by_rampart = rw (and_true_right (is_some d.version), and_false (is_some d.scheme), and_false (is_some d.group), and_false (has_genesis d), no_keys, no_ports, no_hosts) (or_false_right (is_some d.version))
+  by_rampart = rw (
+    and_true_right (is_some d.version),
+    and_false (is_some d.scheme),
+    and_false (is_some d.group),
+    and_false (has_genesis d),
+    no_keys,
+    no_ports,
+    no_hosts,
+  ) (or_false_right (is_some d.version))
 
   by_scheme : by_flags d ws false true false false false false false false ≡ is_some d.scheme
-  by_scheme = rw (and_false (is_some d.version), and_true_right (is_some d.scheme), and_false (is_some d.group), and_false (has_genesis d), no_keys, no_ports, no_hosts) (or_false_right (is_some d.scheme))
+  by_scheme = rw (
+    and_false (is_some d.version),
+    and_true_right (is_some d.scheme),
+    and_false (is_some d.group),
+    and_false (has_genesis d),
+    no_keys,
+    no_ports,
+    no_hosts,
+  ) (or_false_right (is_some d.scheme))
 
   by_group : by_flags d ws false false true false false false false false ≡ is_some d.group
-  by_group = rw (and_false (is_some d.version), and_false (is_some d.scheme), and_true_right (is_some d.group), and_false (has_genesis d), no_keys, no_ports, no_hosts) (or_false_right (is_some d.group))
+  by_group = rw (
+    and_false (is_some d.version),
+    and_false (is_some d.scheme),
+    and_true_right (is_some d.group),
+    and_false (has_genesis d),
+    no_keys,
+    no_ports,
+    no_hosts,
+  ) (or_false_right (is_some d.group))
 
   by_key : by_flags d ws false false false true false false false false ≡ stands d ws firsts.Key
-  by_key = rw (and_false (is_some d.version), and_false (is_some d.scheme), and_false (is_some d.group), and_false (has_genesis d), no_ports, no_hosts) (or_false_right (stands d ws firsts.Key))
+  by_key = rw (
+    and_false (is_some d.version),
+    and_false (is_some d.scheme),
+    and_false (is_some d.group),
+    and_false (has_genesis d),
+    no_ports,
+    no_hosts,
+  ) (or_false_right (stands d ws firsts.Key))
 
   by_genesis : by_flags d ws false false false false true false false false ≡ has_genesis d
-  by_genesis = rw (and_false (is_some d.version), and_false (is_some d.scheme), and_false (is_some d.group), and_true_right (has_genesis d), no_keys, no_ports, no_hosts) (or_false_right (has_genesis d))
+  by_genesis = rw (
+    and_false (is_some d.version),
+    and_false (is_some d.scheme),
+    and_false (is_some d.group),
+    and_true_right (has_genesis d),
+    no_keys,
+    no_ports,
+    no_hosts,
+  ) (or_false_right (has_genesis d))
 
   by_port : by_flags d ws false false false false false true false false ≡ stands d ws firsts.Port
-  by_port = rw (and_false (is_some d.version), and_false (is_some d.scheme), and_false (is_some d.group), and_false (has_genesis d), no_keys, no_hosts) (or_false_right (stands d ws firsts.Port))
+  by_port = rw (
+    and_false (is_some d.version),
+    and_false (is_some d.scheme),
+    and_false (is_some d.group),
+    and_false (has_genesis d),
+    no_keys,
+    no_hosts,
+  ) (or_false_right (stands d ws firsts.Port))
 
   hosts_alone : list_any (λ x. begin_with (decimal x.process ∷ []) ws || list_any (λ y. false) x.pairs) d.hosts ≡ stands d ws firsts.Host
-  hosts_alone = any_equal _ (λ x. begin_with (decimal x.process ∷ []) ws) (λ x. ap (λ b. begin_with (decimal x.process ∷ []) ws || b) (any_never x.pairs) ∙ or_false_right (begin_with (decimal x.process ∷ []) ws)) d.hosts
+  hosts_alone = any_equal _ (λ x. begin_with (decimal x.process ∷ []) ws)
+      (λ x. ap (λ b. begin_with (decimal x.process ∷ []) ws || b)
+      (any_never x.pairs) ∙ or_false_right (begin_with (decimal x.process ∷ []) ws)) d.hosts
 
   by_host : by_flags d ws false false false false false false true false ≡ stands d ws firsts.Host
-  by_host = rw (and_false (is_some d.version), and_false (is_some d.scheme), and_false (is_some d.group), and_false (has_genesis d), no_keys, no_ports) hosts_alone
+  by_host = rw (
+    and_false (is_some d.version),
+    and_false (is_some d.scheme),
+    and_false (is_some d.group),
+    and_false (has_genesis d),
+    no_keys,
+    no_ports,
+  ) hosts_alone
 
   by_pair : by_flags d ws false false false false false false false true ≡ stands d ws firsts.Pair
-  by_pair = rw (and_false (is_some d.version), and_false (is_some d.scheme), and_false (is_some d.group), and_false (has_genesis d), no_keys, no_ports) refl
+  by_pair = rw (
+    and_false (is_some d.version),
+    and_false (is_some d.scheme),
+    and_false (is_some d.group),
+    and_false (has_genesis d),
+    no_keys,
+    no_ports,
+  ) refl
 
 abbrev spelled : FirstWord → List ℕ
 spelled firsts.Rampart = codes "rampart"
@@ -152,7 +225,9 @@ module _ (word : List ℕ) where
   found [] first e = absurd cc
   found (f ∷ fs) first e = by (same_bytes word (spelled f)) refl e (found fs first)
     where
-      by : (b : Bool) → same_bytes word (spelled f) ≡ b → first_that_holds ((b, f) ∷ map (λ g. (same_bytes word (spelled g), g)) fs) ≡ Some first → (among fs ≡ Some first → word ≡ spelled first) → word ≡ spelled first
+      by : (b : Bool) → same_bytes word (spelled f) ≡ b
+          → first_that_holds ((b, f) ∷ map (λ g. (same_bytes word (spelled g), g)) fs) ≡ Some first
+          → (among fs ≡ Some first → word ≡ spelled first) → word ≡ spelled first
       by true is t later = (bytes_eq-Decides word (spelled f)).0 is ∙ ap spelled (some_is f first t)
       by false is t later = later t
 
@@ -160,11 +235,14 @@ module _ (word : List ℕ) where
   none [] e = tt
   none (f ∷ fs) e = by (same_bytes word (spelled f)) refl e (none fs)
     where
-      by : (b : Bool) → same_bytes word (spelled f) ≡ b → first_that_holds ((b, f) ∷ map (λ g. (same_bytes word (spelled g), g)) fs) ≡ None → (among fs ≡ None → AllByRecursion (λ g. same_bytes (spelled g) word ≡ false) fs) → (same_bytes (spelled f) word ≡ false) × AllByRecursion (λ g. same_bytes (spelled g) word ≡ false) fs
+      by : (b : Bool) → same_bytes word (spelled f) ≡ b → first_that_holds ((b, f) ∷ map (λ g. (same_bytes word (spelled g), g)) fs) ≡ None
+          → (among fs ≡ None → AllByRecursion (λ g. same_bytes (spelled g) word ≡ false) fs)
+          → (same_bytes (spelled f) word ≡ false) × AllByRecursion (λ g. same_bytes (spelled g) word ≡ false) fs
       by true is t later = absurd cc
       by false is t later = (turned (spelled f) word is, later t)
 
-pub first_flag : (d : Draft) (ws : List (List ℕ)) (word : List ℕ) (first : FirstWord) → first_word_of word ≡ Some first → is_repeated d (word ∷ ws) ≡ stands d ws first
+pub first_flag : (d : Draft) (ws : List (List ℕ)) (word : List ℕ) (first : FirstWord) → first_word_of word ≡ Some first
+    → is_repeated d (word ∷ ws) ≡ stands d ws first
 first_flag d ws word first e = ap (λ w. is_repeated d (w ∷ ws)) (found word all_firsts first e) ∙ by first
   where
     by : (f : FirstWord) → is_repeated d (spelled f ∷ ws) ≡ stands d ws f
@@ -184,7 +262,16 @@ no_first d ws word e =
 
 pub no_words : (d : Draft) → is_repeated d [] ≡ false
 unfolding is_repeated begin_with
-no_words d = rw (and_false (is_some d.version), and_false (is_some d.scheme), and_false (is_some d.group), and_false (has_genesis d), any_never d.keys, any_never d.ports, any_equal _ (λ x. false) (λ x. any_never x.pairs) d.hosts, any_never d.hosts) refl
+no_words d = rw (
+  and_false (is_some d.version),
+  and_false (is_some d.scheme),
+  and_false (is_some d.group),
+  and_false (has_genesis d),
+  any_never d.keys,
+  any_never d.ports,
+  any_equal _ (λ x. false) (λ x. any_never x.pairs) d.hosts,
+  any_never d.hosts,
+) refl
 
 -- ---- by the numbers behind it
 
@@ -202,7 +289,11 @@ number_word n small word = by (process_of word) refl
     by : (o : Option ℕ) → process_of word ≡ o → same_bytes (decimal n) word ≡ is_some_and o (λ p. n == p)
     by None names = unlike (same_bytes (decimal n) word) refl names
     by (Some p) names =
-        let decides : Decides (same_bytes (decimal n) word) (n ≡ p) = (λ t. some_is n p (sym (spells ((bytes_eq-Decides (decimal n) word).0 t)) ∙ names), λ same. (bytes_eq-Decides (decimal n) word).1 (ap decimal same ∙ sym (process_found word p names).0)) in
+        let decides : Decides (same_bytes (decimal n) word)
+        (n ≡ p) = (
+          λ t. some_is n p (sym (spells ((bytes_eq-Decides (decimal n) word).0 t)) ∙ names),
+          λ same. (bytes_eq-Decides (decimal n) word).1 (ap decimal same ∙ sym (process_found word p names).0),
+        ) in
         same_from_decides _ (n == p) decides (Decides-eqb n p)
 
 one_number : (n : ℕ) → IsNumber n → (ws : List (List ℕ)) → begin_with (decimal n ∷ []) ws ≡ is_some_and (first_process ws) (λ p. n == p)
@@ -210,19 +301,26 @@ unfolding begin_with
 one_number n small [] = refl
 one_number n small (word ∷ ws) = and_true_right (same_bytes (decimal n) word) ∙ number_word n small word
 
-two_numbers : (a b : ℕ) → IsNumber a → IsNumber b → (ws : List (List ℕ)) → begin_with (decimal a ∷ decimal b ∷ []) ws ≡ (is_some_and (first_process ws) (λ p. a == p) && is_some_and (first_process (drop 1 ws)) (λ q. b == q))
+two_numbers : (a b : ℕ) → IsNumber a → IsNumber b → (ws : List (List ℕ))
+    → begin_with (decimal a ∷ decimal b ∷ []) ws
+    ≡ (is_some_and (first_process ws) (λ p. a == p) && is_some_and (first_process (drop 1 ws)) (λ q. b == q))
 unfolding begin_with
 two_numbers a b small fits [] = refl
-two_numbers a b small fits (word ∷ ws) = ap (λ t. t && begin_with (decimal b ∷ []) ws) (number_word a small word) ∙ ap (λ t. is_some_and (process_of word) (λ p. a == p) && t) (one_number b fits ws)
+two_numbers a b small fits (word ∷ ws) = ap (λ t. t && begin_with (decimal b ∷ []) ws)
+    (number_word a small word) ∙ ap (λ t. is_some_and (process_of word) (λ p. a == p) && t) (one_number b fits ws)
 
 -- the process comes first or the element does
-swapped : {X : Type 0} (o : Option ℕ) (g : X → ℕ → Bool) (xs : List X) → list_any (λ x. is_some_and o (g x)) xs ≡ is_some_and o (λ p. list_any (λ x. g x p) xs)
+swapped : {X : Type 0} (o : Option ℕ) (g : X → ℕ → Bool) (xs : List X)
+    → list_any (λ x. is_some_and o (g x)) xs ≡ is_some_and o (λ p. list_any (λ x. g x p) xs)
 swapped None g xs = any_never xs
 swapped (Some p) g xs = refl
 
-numbered : {X : Type 0} (P : X → Type 0) (number : X → ℕ) → ((x : X) → P x → IsNumber (number x)) → (ws : List (List ℕ)) (xs : List X) → AllByRecursion P xs → list_any (λ x. begin_with (decimal (number x) ∷ []) ws) xs ≡ is_some_and (first_process ws) (λ p. list_any (λ x. number x == p) xs)
+numbered : {X : Type 0} (P : X → Type 0) (number : X → ℕ) → ((x : X) → P x → IsNumber (number x)) → (ws : List (List ℕ)) (xs : List X)
+    → AllByRecursion P xs → list_any (λ x. begin_with (decimal (number x) ∷ []) ws) xs
+    ≡ is_some_and (first_process ws) (λ p. list_any (λ x. number x == p) xs)
 numbered P number small ws xs each =
-    any_same P (λ x. begin_with (decimal (number x) ∷ []) ws) (λ x. is_some_and (first_process ws) (λ p. number x == p)) (λ x fits. one_number (number x) (small x fits) ws) xs each
+    any_same P (λ x. begin_with (decimal (number x) ∷ []) ws) (λ x. is_some_and (first_process ws) (λ p. number x == p))
+    (λ x fits. one_number (number x) (small x fits) ws) xs each
     ∙ swapped (first_process ws) (λ x p. number x == p) xs
 
 module _ (d : Draft) (ok : IsDraft d) (ws : List (List ℕ)) where
@@ -239,18 +337,29 @@ module _ (d : Draft) (ok : IsDraft d) (ws : List (List ℕ)) where
   pub host_stands_there : stands d ws firsts.Host ≡ is_some_and (first_process ws) (is_hosted d)
   host_stands_there = numbered _ (λ h. h.process) (λ h fits. fits.0) ws d.hosts ok.hosts
 
-  pair_of : (o r : Option ℕ) (a : ℕ) (pairs : List (ℕ × List ℕ)) → list_any (λ y. is_some_and o (λ p. a == p) && is_some_and r (λ q. y.0 == q)) pairs ≡ (is_some_and o (λ p. a == p) && is_some_and r (λ q. list_any (λ y. y.0 == q) pairs))
-  pair_of o r a pairs = any_and (is_some_and o (λ p. a == p)) (λ y. is_some_and r (λ q. y.0 == q)) pairs ∙ ap (λ b. is_some_and o (λ p. a == p) && b) (swapped r (λ y q. y.0 == q) pairs)
+  pair_of : (o r : Option ℕ) (a : ℕ) (pairs : List (ℕ × List ℕ))
+      → list_any (λ y. is_some_and o (λ p. a == p) && is_some_and r (λ q. y.0 == q)) pairs
+      ≡ (is_some_and o (λ p. a == p) && is_some_and r (λ q. list_any (λ y. y.0 == q) pairs))
+  pair_of o r a pairs = any_and (is_some_and o (λ p. a == p))
+      (λ y. is_some_and r (λ q. y.0 == q)) pairs ∙ ap (λ b. is_some_and o (λ p. a == p) && b) (swapped r (λ y q. y.0 == q) pairs)
 
-  both : (o r : Option ℕ) → list_any (λ h. is_some_and o (λ p. h.process == p) && is_some_and r (λ q. list_any (λ y. y.0 == q) h.pairs)) d.hosts ≡ is_some_and o (λ p. is_some_and r (λ q. list_any (λ h. (h.process == p) && list_any (λ y. y.0 == q) h.pairs) d.hosts))
+  both : (o r : Option ℕ) → list_any
+      (λ h. is_some_and o (λ p. h.process == p) && is_some_and r (λ q. list_any (λ y. y.0 == q) h.pairs)) d.hosts
+      ≡ is_some_and o (λ p. is_some_and r (λ q. list_any (λ h. (h.process == p) && list_any (λ y. y.0 == q) h.pairs) d.hosts))
   both None r = any_never d.hosts
   both (Some p) None = any_equal _ (λ h. false) (λ h. and_false (h.process == p)) d.hosts ∙ any_never d.hosts
   both (Some p) (Some q) = refl
 
-  pub pair_stands : stands d ws firsts.Pair ≡ is_some_and (first_process ws) (λ p. is_some_and (first_process (drop 1 ws)) (λ q. list_any (λ h. (h.process == p) && list_any (λ y. y.0 == q) h.pairs) d.hosts))
+  pub pair_stands : stands d ws firsts.Pair
+      ≡ is_some_and (first_process ws)
+      (λ p. is_some_and (first_process (drop 1 ws)) (λ q. list_any (λ h. (h.process == p) && list_any (λ y. y.0 == q) h.pairs) d.hosts))
   pair_stands =
-      any_same _ (λ h. list_any (λ y. begin_with (decimal h.process ∷ decimal y.0 ∷ []) ws) h.pairs) (λ h. is_some_and (first_process ws) (λ p. h.process == p) && is_some_and (first_process (drop 1 ws)) (λ q. list_any (λ y. y.0 == q) h.pairs))
-      (λ h fits. any_same _ (λ y. begin_with (decimal h.process ∷ decimal y.0 ∷ []) ws) (λ y. is_some_and (first_process ws) (λ p. h.process == p) && is_some_and (first_process (drop 1 ws)) (λ q. y.0 == q)) (λ y small. two_numbers h.process y.0 fits.0 small ws) h.pairs fits.1
+      any_same _ (λ h. list_any (λ y. begin_with (decimal h.process ∷ decimal y.0 ∷ []) ws) h.pairs)
+      (λ h. is_some_and (first_process ws) (λ p. h.process == p)
+      && is_some_and (first_process (drop 1 ws)) (λ q. list_any (λ y. y.0 == q) h.pairs))
+      (λ h fits. any_same _ (λ y. begin_with (decimal h.process ∷ decimal y.0 ∷ []) ws)
+      (λ y. is_some_and (first_process ws) (λ p. h.process == p) && is_some_and (first_process (drop 1 ws)) (λ q. y.0 == q))
+      (λ y small. two_numbers h.process y.0 fits.0 small ws) h.pairs fits.1
       ∙ pair_of (first_process ws) (first_process (drop 1 ws)) h.process h.pairs) d.hosts ok.hosts
       ∙ both (first_process ws) (first_process (drop 1 ws))
 

@@ -21,12 +21,14 @@ line_behind may words firsts.Host = host_by may words
 line_behind may words firsts.Pair = pair_by words
 
 -- what is chosen among values is the value of what is chosen
-chosen : {A B : Type 0} (f : A → B) (rows : List (Bool × A)) → first_that_holds (map (λ row. (row.0, f row.1)) rows) ≡ option_map f (first_that_holds rows)
+chosen : {A B : Type 0} (f : A → B) (rows : List (Bool × A))
+    → first_that_holds (map (λ row. (row.0, f row.1)) rows) ≡ option_map f (first_that_holds rows)
 chosen f [] = refl
 chosen f ((true, a) ∷ rows) = refl
 chosen f ((false, a) ∷ rows) = chosen f rows
 
-line_of_words : (may : Scheme → Bool) (word : List ℕ) (words : List (List ℕ)) → line_by may (word ∷ words) ≡ option_flatten (option_map (line_behind may words) (first_word_of word))
+line_of_words : (may : Scheme → Bool) (word : List ℕ) (words : List (List ℕ))
+    → line_by may (word ∷ words) ≡ option_flatten (option_map (line_behind may words) (first_word_of word))
 unfolding line_by
 line_of_words may word words = ap option_flatten (chosen (line_behind may words) (first_words word))
 
@@ -34,10 +36,14 @@ pub no_words : (may : Scheme → Bool) (all : List (List ℕ)) (r : Option KitLi
 unfolding line_by
 no_words may all r none is = is ∙ sym (ap (line_by may) none)
 
-pub line_is : (may : Scheme → Bool) (all : List (List ℕ)) (word : List ℕ) (words : List (List ℕ)) (first : FirstWord) (r : Option KitLine) → all ≡ word ∷ words → first_word_of word ≡ Some first → r ≡ line_behind may words first → r ≡ line_by may all
+pub line_is : (may : Scheme → Bool) (all : List (List ℕ)) (word : List ℕ) (words : List (List ℕ)) (first : FirstWord) (r : Option KitLine)
+    → all ≡ word ∷ words → first_word_of word ≡ Some first → r ≡ line_behind may words first → r ≡ line_by may all
 line_is may all word words first r parts begins is =
-    is ∙ sym (ap (line_by may) parts ∙ line_of_words may word words ∙ ap (λ f. option_flatten (option_map (line_behind may words) f)) begins)
+    is ∙ sym (ap (line_by may) parts ∙ line_of_words may word words ∙ ap
+    (λ f. option_flatten (option_map (line_behind may words) f)) begins)
 
-pub no_line : (may : Scheme → Bool) (all : List (List ℕ)) (word : List ℕ) (words : List (List ℕ)) (r : Option KitLine) → all ≡ word ∷ words → first_word_of word ≡ None → r ≡ None → r ≡ line_by may all
+pub no_line : (may : Scheme → Bool) (all : List (List ℕ)) (word : List ℕ) (words : List (List ℕ)) (r : Option KitLine) → all ≡ word ∷ words
+    → first_word_of word ≡ None → r ≡ None → r ≡ line_by may all
 no_line may all word words r parts begins is =
-    is ∙ sym (ap (line_by may) parts ∙ line_of_words may word words ∙ ap (λ f. option_flatten (option_map (line_behind may words) f)) begins)
+    is ∙ sym (ap (line_by may) parts ∙ line_of_words may word words ∙ ap
+    (λ f. option_flatten (option_map (line_behind may words) f)) begins)

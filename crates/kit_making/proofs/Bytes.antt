@@ -40,7 +40,8 @@ high_first (suc k) n = bytes_cons (byte_at k n) (bytes_high_first k n) (byte_sma
 digest_first : (h : List ℕ) (n : ℕ) → IsBytes (digest_bytes h n)
 unfolding digest_bytes
 digest_first h zero = none_is
-digest_first h (suc n) = bytes_append (digest_bytes h n) (to_be_bytes w32 (slice_index h n)) (digest_first h n) (high_first 4 (slice_index h n))
+digest_first h (suc n) = bytes_append (digest_bytes h n) (to_be_bytes w32 (slice_index h n)) (digest_first h n)
+    (high_first 4 (slice_index h n))
 
 hash_bytes : (m : List ℕ) → IsBytes (sha256 m)
 unfolding sha256
@@ -67,10 +68,14 @@ pub tree_key_is : (kind : OtsType) (code h : ℕ) (id seed : List ℕ) → AreBy
 tree_key_is kind code h id seed is = (
   key_length kind code h id seed is.0,
   bytes_append (u32str code ++ u32str (ots_typecode kind) ++ id) (node kind h id seed h 1)
-      (bytes_append (u32str code ++ u32str (ots_typecode kind)) id (bytes_append (u32str code) (u32str (ots_typecode kind)) (u32_bytes code) (u32_bytes (ots_typecode kind))) is.1)
+      (bytes_append (u32str code ++ u32str (ots_typecode kind)) id
+      (bytes_append (u32str code) (u32str (ots_typecode kind)) (u32_bytes code) (u32_bytes (ots_typecode kind))) is.1)
       (node_bytes kind h id seed h 1),
 )
 
 -- and that of trees in levels 60, behind whose number the top tree's stands
 pub levels_key_is : (levels : ℕ) (top : List ℕ) → AreBytes 56 top → AreBytes 60 (u32str levels ++ top)
-levels_key_is levels top is = (length-append (u32str levels) top ∙ ap (λ n. 4 + n) is.0, bytes_append (u32str levels) top (u32_bytes levels) is.1)
+levels_key_is levels top is = (
+  length-append (u32str levels) top ∙ ap (λ n. 4 + n) is.0,
+  bytes_append (u32str levels) top (u32_bytes levels) is.1,
+)

@@ -30,7 +30,8 @@ firsts_are : {X : Type 0} (g : ℕ → X) (xs : List ℕ) → map (λ (k : ℕ �
 firsts_are g [] = refl
 firsts_are g (x ∷ xs) = ap (λ ps. x ∷ ps) (firsts_are g xs)
 
-among_by : (b : Bool) (m a n : ℕ) → (a == m) ≡ b → (a ≢ m → list_any (λ q. q == m) (range_with_len (a + 1) n) ≡ true) → (b || list_any (λ q. q == m) (range_with_len (a + 1) n)) ≡ true
+among_by : (b : Bool) (m a n : ℕ) → (a == m) ≡ b → (a ≢ m → list_any (λ q. q == m) (range_with_len (a + 1) n) ≡ true)
+    → (b || list_any (λ q. q == m) (range_with_len (a + 1) n)) ≡ true
 among_by true m a n e later = refl
 among_by false m a n e later = later (eqb-false a m e)
 
@@ -49,7 +50,9 @@ module _ {K : Type 0} (g : ℕ → K) (p : ℕ) where
   abbrev key_in : ℕ → ℕ → Option K
   key_in a n = option_map (λ (k : ℕ × K). k.1) (find (λ k. k.0 == p) (map (λ q. (q, g q)) (range_with_len a n)))
 
-  key_by : (b : Bool) (a n : ℕ) → (a == p) ≡ b → (a ≢ p → key_in (a + 1) n ≡ Some (g p)) → option_map (λ (k : ℕ × K). k.1) (cond b (Some (a, g a)) (find (λ k. k.0 == p) (map (λ q. (q, g q)) (range_with_len (a + 1) n)))) ≡ Some (g p)
+  key_by : (b : Bool) (a n : ℕ) → (a == p) ≡ b → (a ≢ p → key_in (a + 1) n ≡ Some (g p))
+      → option_map (λ (k : ℕ × K). k.1) (cond b (Some (a, g a)) (find (λ k. k.0 == p) (map (λ q. (q, g q)) (range_with_len (a + 1) n))))
+      ≡ Some (g p)
   key_by true a n e later = ap (λ q. Some (g q)) (eqb-true a p e)
   key_by false a n e later = later (eqb-false a p e)
 
@@ -98,7 +101,8 @@ module _ (plan : KeyPlan) (seed : List ℕ) (roster : ℕ) (is : IsPlan plan) wh
     secret = secret_is plan seed p is;
     scheme_is = scheme_is plan seed p;
     key = key_among public p 0 roster (omega arith) (omega arith);
-    shared_with = firsts_are (derived_pair seed p) (others_than p (first_numbers roster)) ∙ ap (others_than p) (sym (firsts_are public (first_numbers roster)));
+    shared_with = firsts_are (derived_pair seed p) (others_than p (first_numbers roster)) ∙ ap (others_than p)
+        (sym (firsts_are public (first_numbers roster)));
     shared = each_mapped (λ q. (q, derived_pair seed p q)) (λ r. AreBytes 32 r.1) (others_than p (first_numbers roster)) (λ q. hash_is _);
   }
 
@@ -125,4 +129,5 @@ module _ (plan : KeyPlan) (seed : List ℕ) (roster : ℕ) (is : IsPlan plan) wh
       listed_are a (suc n) low = (true_is a (omega arith), listed_are (a + 1) n (omega arith))
         where
           true_is : (m : ℕ) → m < roster → IsTrue (has (roster_of keys) m)
-          true_is m below = subst IsTrue (sym (ap (λ ps. has ps m) (firsts_are public (first_numbers roster)) ∙ is_among m 0 roster (omega arith) (omega arith))) refl
+          true_is m below = subst IsTrue
+              (sym (ap (λ ps. has ps m) (firsts_are public (first_numbers roster)) ∙ is_among m 0 roster (omega arith) (omega arith))) refl

@@ -21,5 +21,6 @@ pub is_spelled : (bytes : List ℕ) (r : Result Kit KitFault) → Exactly bytes 
 is_spelled bytes (Ok kit) made = (read_is_spelled bytes kit made).0
 is_spelled bytes (Err e) made = tt
 
-pub is_read : (bytes : List ℕ) (r : Result Kit KitFault) (kit : Kit) → IsKit kit → bytes ≡ kit_text kit → Exactly bytes r → Makes fault_of (λ k. k) r (Ok kit)
+pub is_read : (bytes : List ℕ) (r : Result Kit KitFault) (kit : Kit) → IsKit kit → bytes ≡ kit_text kit → Exactly bytes r
+    → Makes fault_of (λ k. k) r (Ok kit)
 is_read bytes r kit fits e made = subst (Makes fault_of (λ k. k) r) (ap kit_of e ∙ spelled_is_read kit fits) made

@@ -28,17 +28,20 @@ module _ (n : ℕ) (d : Draft) (line : List ℕ) where
   last_line [] done empty = rw empty refl
   last_line (next ∷ more) done empty = absurd (omega (arith, eqb-true _ _ done))
 
-  bad_end : (more : List (List ℕ)) → (length more == 0) ≡ true → (length line == 0) ≡ false → lines_at n d (line ∷ more) ≡ Err (plain.Line n)
+  bad_end : (more : List (List ℕ)) → (length more == 0) ≡ true → (length line == 0) ≡ false
+      → lines_at n d (line ∷ more) ≡ Err (plain.Line n)
   unfolding lines_at
   bad_end [] done some = rw some refl
   bad_end (next ∷ more) done some = absurd (omega (arith, eqb-true _ _ done))
 
-  one_line : (more : List (List ℕ)) → (length more == 0) ≡ false → lines_at n d (line ∷ more) ≡ (take_line n d line >>= λ taken. lines_at (n + 1) taken more)
+  one_line : (more : List (List ℕ)) → (length more == 0) ≡ false
+      → lines_at n d (line ∷ more) ≡ (take_line n d line >>= λ taken. lines_at (n + 1) taken more)
   unfolding lines_at
   one_line [] going = absurd (true≢false going)
   one_line (next ∷ more) going = refl
 
-module _ (n : ℕ) (d : Draft) (line : List ℕ) (left more : List (List ℕ)) (all : Answer) (parts : left ≡ line ∷ more) (so_far : lines_at n d left ≡ all) where
+module _ (n : ℕ) (d : Draft) (line : List ℕ) (left more : List (List ℕ)) (all : Answer) (parts : left ≡ line ∷ more)
+    (so_far : lines_at n d left ≡ all) where
   from_here : lines_at n d (line ∷ more) ≡ all
   from_here = sym (ap (lines_at n d) parts) ∙ so_far
 
@@ -66,9 +69,11 @@ unfolding lines_at
 no_part n d left all none so_far = sym so_far ∙ ap (lines_at n d) none
 
 -- what is made of the last part is what is made of all
-pub made_of_all : {X : Type 0} (view : X → Kit) (r : Result X KitFault) (last all : Answer) → last ≡ all → Makes fault_of view r last → Makes fault_of view r all
+pub made_of_all : {X : Type 0} (view : X → Kit) (r : Result X KitFault) (last all : Answer) → last ≡ all → Makes fault_of view r last
+    → Makes fault_of view r all
 made_of_all view r last all same made = subst (Makes fault_of view r) same made
 
-pub begun : (bytes : List ℕ) (d : Draft) (left : List (List ℕ)) → d ≡ plain.nothing → left ≡ parts_of bytes → lines_at 1 d left ≡ plain.kit_of bytes
+pub begun : (bytes : List ℕ) (d : Draft) (left : List (List ℕ)) → d ≡ plain.nothing → left ≡ parts_of bytes
+    → lines_at 1 d left ≡ plain.kit_of bytes
 unfolding kit_of
 begun bytes d left none parts = ap (λ (e : Draft). lines_at 1 e left) none ∙ ap (lines_at 1 plain.nothing) parts

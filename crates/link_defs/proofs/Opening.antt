@@ -34,9 +34,11 @@ two_parts a b t =
 -- the four fields before the frame, whatever they are
 fields_are : (t : List ℕ) → 22 ≤ length t → t ≡ take 4 t ++ take 16 (drop 4 t) ++ get_or t 20 0 ∷ get_or t 21 0 ∷ drop 22 t
 fields_are t long =
-    two_parts 4 16 t ∙ ap (λ (l : List ℕ). take 4 t ++ take 16 (drop 4 t) ++ l) (drop_more t 20 0 (omega arith) ∙ ap (λ (l : List ℕ). get_or t 20 0 ∷ l) (drop_more t 21 0 (omega arith)))
+    two_parts 4 16 t ∙ ap (λ (l : List ℕ). take 4 t ++ take 16 (drop 4 t) ++ l)
+    (drop_more t 20 0 (omega arith) ∙ ap (λ (l : List ℕ). get_or t 20 0 ∷ l) (drop_more t 21 0 (omega arith)))
 
-same_fields : (m m' g g' : List ℕ) (f f' o o' : ℕ) (r r' : List ℕ) → m ≡ m' → g ≡ g' → f ≡ f' → o ≡ o' → r ≡ r' → m ++ g ++ f ∷ o ∷ r ≡ m' ++ g' ++ f' ∷ o' ∷ r'
+same_fields : (m m' g g' : List ℕ) (f f' o o' : ℕ) (r r' : List ℕ) → m ≡ m' → g ≡ g' → f ≡ f' → o ≡ o' → r ≡ r'
+    → m ++ g ++ f ∷ o ∷ r ≡ m' ++ g' ++ f' ∷ o' ∷ r'
 same_fields m m' g g' f f' o o' r r' a b c d e = λ i. a i ++ b i ++ c i ∷ d i ∷ e i
 
 module _ (known : Known) (t tag : List ℕ) (from : ℕ) (frame : List ℕ) where
@@ -53,7 +55,8 @@ module _ (known : Known) (t tag : List ℕ) (from : ℕ) (frame : List ℕ) wher
       let frame_is : drop 22 t ≡ frame = ap (λ (p : ℕ × List ℕ). p.1) pair_is in
       let me_is : get_or t 21 0 ≡ known.me = eqb-true _ _ (not_false _ n.0) in
       let t_is : t ≡ tagged (to_me known from frame) =
-      fields_are t long ∙ same_fields (take 4 t) magic (take 16 (drop 4 t)) known.group (get_or t 20 0) from (get_or t 21 0) known.me (drop 22 t) frame (same_is (take 4 t) magic m.0) (same_is (take 16 (drop 4 t)) known.group g.0) from_is me_is frame_is in
+      fields_are t long ∙ same_fields (take 4 t) magic (take 16 (drop 4 t)) known.group (get_or t 20 0) from (get_or t 21 0) known.me
+      (drop 22 t) frame (same_is (take 4 t) magic m.0) (same_is (take 16 (drop 4 t)) known.group g.0) from_is me_is frame_is in
       let tag_is : tag ≡ hmac k.0 (tagged (to_me known from frame)) = same_is tag (hmac k.0 t) b.0 ∙ ap (λ (x : List ℕ). hmac k.0 x) t_is in
       record {
         group = refl;
@@ -88,20 +91,25 @@ pub test_passes : (xs ys : List ℕ) → xs ≡ ys → not (same_bytes xs ys) �
 test_passes xs ys e = ap not ((bytes_eq-Decides xs ys).1 e)
 
 -- where no test refuses and there is a key
-pub all_pass : (b c d : Bool) (o : Option (List ℕ)) (key : List ℕ) (f : List ℕ → Bool) (x : ℕ × List ℕ) → b ≡ false → c ≡ false → d ≡ false → o ≡ Some key → f key ≡ false
-    → (refuse_if b Magic >>= λ _. refuse_if c OtherGroup >>= λ _. refuse_if d NotForMe >>= λ _. key_or_fault o >>= λ k. refuse_if (f k) BadTag >>= λ _. Ok x) ≡ Ok x
+pub all_pass : (b c d : Bool) (o : Option (List ℕ)) (key : List ℕ) (f : List ℕ → Bool) (x : ℕ × List ℕ) → b ≡ false → c ≡ false → d ≡ false
+    → o ≡ Some key → f key ≡ false
+    → (refuse_if b Magic >>= λ _. refuse_if c OtherGroup >>= λ _. refuse_if d NotForMe >>= λ _. key_or_fault o >>= λ k. refuse_if
+    (f k) BadTag >>= λ _. Ok x) ≡ Ok x
 all_pass b c d o key f x p q r s t = rw (p, q, r, s, t) refl
 
 module _ (known : Known) (d : Datagram) where
   rest : List ℕ
   rest = d.from ∷ d.to ∷ d.frame
 
-  parts_open : (key tag : List ℕ) → length d.group ≡ 16 → d.group ≡ known.group → d.to ≡ known.me → known.pair d.from ≡ Some key → tag ≡ hmac key (tagged d) → opened_parts known (tagged d) tag ≡ Ok (d.from, d.frame)
+  parts_open : (key tag : List ℕ) → length d.group ≡ 16 → d.group ≡ known.group → d.to ≡ known.me → known.pair d.from ≡ Some key
+      → tag ≡ hmac key (tagged d) → opened_parts known (tagged d) tag ≡ Ok (d.from, d.frame)
   unfolding opened_parts rest
   parts_open key tag len g o shared is =
       let behind : drop 16 (d.group ++ rest) ≡ rest = drop_at d.group rest 16 len in
-      let from_is : get_or (d.group ++ rest) 16 0 ≡ d.from = sym (get_or-drop 16 (d.group ++ rest) 0 0) ∙ ap (λ (l : List ℕ). get_or l 0 0) behind in
-      let to_is : get_or (d.group ++ rest) 17 0 ≡ d.to = sym (get_or-drop 16 (d.group ++ rest) 1 0) ∙ ap (λ (l : List ℕ). get_or l 1 0) behind in
+      let from_is : get_or (d.group ++ rest) 16 0
+      ≡ d.from = sym (get_or-drop 16 (d.group ++ rest) 0 0) ∙ ap (λ (l : List ℕ). get_or l 0 0) behind in
+      let to_is : get_or (d.group ++ rest) 17 0
+      ≡ d.to = sym (get_or-drop 16 (d.group ++ rest) 1 0) ∙ ap (λ (l : List ℕ). get_or l 1 0) behind in
       let frame_is : drop 18 (d.group ++ rest) ≡ d.frame = sym (drop-drop 2 16 (d.group ++ rest)) ∙ ap (λ (l : List ℕ). drop 2 l) behind in
       all_pass _ _ _ _ key (λ k. not (same_bytes tag (hmac k (tagged d)))) _
       (test_passes magic magic refl)

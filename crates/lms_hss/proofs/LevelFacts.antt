@@ -13,14 +13,19 @@ no_level key message sig = refl
 
 -- a key of known types
 pub one_level : (n len : ℕ) (key message sig : List ℕ) → length_under key ≡ Some len
-    → levels_valid (suc n) key message sig ≡ lms_valid key (part len 56 sig) (take len sig) && levels_valid n (part len 56 sig) message (drop (len + 56) sig)
+    → levels_valid (suc n) key message sig ≡ lms_valid key (part len 56 sig) (take len sig)
+    && levels_valid n (part len 56 sig) message (drop (len + 56) sig)
 unfolding levels_valid
-one_level n len key message sig known = ap (λ o. is_some_and o (λ l. lms_valid key (part l 56 sig) (take l sig) && levels_valid n (part l 56 sig) message (drop (l + 56) sig))) known
+one_level n len key message sig known = ap
+    (λ o. is_some_and o (λ l. lms_valid key (part l 56 sig) (take l sig)
+    && levels_valid n (part l 56 sig) message (drop (l + 56) sig))) known
 
 -- a key of unknown types
 pub unknown_level : (n : ℕ) (key message sig : List ℕ) → length_under key ≡ None → levels_valid (suc n) key message sig ≡ false
 unfolding levels_valid
-unknown_level n key message sig none = ap (λ o. is_some_and o (λ l. lms_valid key (part l 56 sig) (take l sig) && levels_valid n (part l 56 sig) message (drop (l + 56) sig))) none
+unknown_level n key message sig none = ap
+    (λ o. is_some_and o (λ l. lms_valid key (part l 56 sig) (take l sig)
+    && levels_valid n (part l 56 sig) message (drop (l + 56) sig))) none
 
 -- nothing is valid under a key of another length
 not_valid : (key message sig : List ℕ) → (length key ≡ 56 → ⊥) → lms_valid key message sig ≡ false
@@ -35,7 +40,8 @@ no_key (suc n) key message sig other = by_types (length_under key) refl
     by_types (Some len) e = one_level n len key message sig e ∙ and_left _ _ (not_valid key (part len 56 sig) (take len sig) other)
 
 -- where a signature and a key do not fit
-pub too_short : (n len : ℕ) (key message sig : List ℕ) → length_under key ≡ Some len → length sig < len + 56 → levels_valid (suc n) key message sig ≡ false
+pub too_short : (n len : ℕ) (key message sig : List ℕ) → length_under key ≡ Some len → length sig < len + 56
+    → levels_valid (suc n) key message sig ≡ false
 too_short n len key message sig known short =
     let cut : length (part len 56 sig) ≡ 56 → ⊥ = λ e. omega (arith, e, length-drop len sig, length-take 56 (drop len sig)) in
     one_level n len key message sig known ∙ and_right _ _ (no_key n (part len 56 sig) message (drop (len + 56) sig) cut)

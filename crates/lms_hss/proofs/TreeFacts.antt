@@ -15,7 +15,8 @@ pub tree_signature : (key : HssSecret) (d t : ℕ) (tree : LmsTree) (q : ℕ) (t
 tree_signature key d t tree q text is = rw (is.has_typecode, is.has_height, is.has_ots, is.has_id, is.has_seed) refl
 
 -- the tree that stands at a level
-pub tree_at : (key : HssSecret) (c d : ℕ) (trees : List LmsTree) (tree : LmsTree) → AreTreesOf key c trees → d < key.levels → tree ≡ get_or trees d tree
+pub tree_at : (key : HssSecret) (c d : ℕ) (trees : List LmsTree) (tree : LmsTree) → AreTreesOf key c trees → d < key.levels
+    → tree ≡ get_or trees d tree
     → IsTreeOf key d (tree_number key d c) tree
 tree_at key c d trees tree are lt read =
     let within : d < length trees = omega (arith, are.count) in

@@ -25,15 +25,22 @@ take_next a b z n k m la lb =
     rw (put_next a b z n k la) (take_at (a ++ b) (drop k z) m both)
 
 -- a piece as long as its place leaves the whole as long as it was
-pub length-put_next : (a b z : List ℕ) (n k : ℕ) → length a ≡ n → length b ≡ k → k ≤ length z → length (put_mid n k (a ++ z) b) ≡ length (a ++ z)
+pub length-put_next : (a b z : List ℕ) (n k : ℕ) → length a ≡ n → length b ≡ k → k ≤ length z
+    → length (put_mid n k (a ++ z) b) ≡ length (a ++ z)
 length-put_next a b z n k la lb le = rw (put_next a b z n k la, length-append, length-append, length-append, length-drop) (omega arith)
 
 -- four pieces that fill it
-pub four_pieces : (a b c d z : List ℕ) (n m l i j k : ℕ) → length a ≡ n → length (a ++ b) ≡ m → length (a ++ b ++ c) ≡ l → length z ≡ i + j + k
+pub four_pieces : (a b c d z : List ℕ) (n m l i j k : ℕ) → length a ≡ n → length (a ++ b) ≡ m → length (a ++ b ++ c) ≡ l
+    → length z ≡ i + j + k
     → put_mid l k (put_mid m j (put_mid n i (a ++ z) b) c) d ≡ a ++ b ++ c ++ d
 four_pieces a b c d z n m l i j k la lb lc lz =
     let none : length (drop k (drop j (drop i z))) ≤ 0 = rw (length-drop, length-drop, length-drop) (omega arith) in
-    rw (put_next a b z n i la, put_next (a ++ b) c (drop i z) m j lb, put_next (a ++ b ++ c) d (drop j (drop i z)) l k lc, drop_all 0 (drop k (drop j (drop i z))) none)
+    rw (
+      put_next a b z n i la,
+      put_next (a ++ b) c (drop i z) m j lb,
+      put_next (a ++ b ++ c) d (drop j (drop i z)) l k lc,
+      drop_all 0 (drop k (drop j (drop i z))) none,
+    )
     (append-nil (a ++ b ++ c ++ d))
 
 -- the same where the last one is written to the end, each with what it was written from

@@ -33,10 +33,12 @@ ancestor_beside e i q lt =
     let some = pow_pos i in
     let high : 2 ^ (suc e + i) + q < 2 ^ suc (suc e) * 2 ^ i = rw pow-suc (omega (arith, split)) in
     let low : 2 ^ suc e * 2 ^ i ≤ 2 ^ (suc e + i) + q = omega (arith, split) in
-    beside e ((2 ^ (suc e + i) + q) / 2 ^ i) (le-div (2 ^ suc e) (2 ^ (suc e + i) + q) (2 ^ i) some low) (div_below (2 ^ (suc e + i) + q) (2 ^ i) (2 ^ suc (suc e)) some high)
+    beside e ((2 ^ (suc e + i) + q) / 2 ^ i) (le-div (2 ^ suc e) (2 ^ (suc e + i) + q) (2 ^ i) some low)
+    (div_below (2 ^ (suc e + i) + q) (2 ^ i) (2 ^ suc (suc e)) some high)
 
 -- a tree holds the path of each leaf
-pub path_stands : (kind : OtsType) (h : ℕ) (id seed : List ℕ) (nodes : List (List ℕ)) (q i : ℕ) → IsTree kind h id seed nodes → q < 2 ^ h → i < h
+pub path_stands : (kind : OtsType) (h : ℕ) (id seed : List ℕ) (nodes : List (List ℕ)) (q i : ℕ) → IsTree kind h id seed nodes → q < 2 ^ h
+    → i < h
     → (sibling ((2 ^ h + q) / 2 ^ i) < length nodes) × (get_or nodes (sibling ((2 ^ h + q) / 2 ^ i)) [] ≡ path_node kind h id seed q i)
 path_stands kind h id seed nodes q i tree lt below =
     let e : ℕ = h - i - 1 in

@@ -32,16 +32,19 @@ counted-so : (o : Outcome) (r : Came) → IsOutcome o r → length o.signed ≡ 
 counted-so o r is = sym (length-map o.signed signed_of) ∙ ap length is.signed_now ∙ length-map r.signed.items signed
 
 -- what is signed in a turn is in range
-in-range : {G : Type 0} (used : G → ℕ) (s : Setting) (p : Process) (t : Turn) (new : Core G) → IsCore used s (after s p t) new → All (λ (c : Claim). IsStatement c.statement) (outcome s p t).signed
+in-range : {G : Type 0} (used : G → ℕ) (s : Setting) (p : Process) (t : Turn) (new : Core G) → IsCore used s (after s p t) new
+    → All (λ (c : Claim). IsStatement c.statement) (outcome s p t).signed
 unfolding IsCore
 in-range used s p t new is =
     mem-All (λ (c : Claim). IsStatement c.statement) (outcome s p t).signed
-    (λ c m. (All-mem IsClaim (after s p t).signed c is.state.lawful.said (subst (Mem c) (sym (signed-more s p t)) (mem-behind p.signed (outcome s p t).signed c m))).1)
+    (λ c m. (All-mem IsClaim (after s p t).signed c is.state.lawful.said
+    (subst (Mem c) (sym (signed-more s p t)) (mem-behind p.signed (outcome s p t).signed c m))).1)
 
 -- ---- with another signer
 
 -- the process is the same, where the other signer has made as many signatures
-pub with-so : {G H : Type 0} (used : G → ℕ) (used' : H → ℕ) (s : Setting) (q : Process) (c : Core G) (d : Core H) → IsSameBut c d → length q.signed ≡ used' (signer_of d) → IsCore used s q c → IsCore used' s q d
+pub with-so : {G H : Type 0} (used : G → ℕ) (used' : H → ℕ) (s : Setting) (q : Process) (c : Core G) (d : Core H) → IsSameBut c d
+    → length q.signed ≡ used' (signer_of d) → IsCore used s q c → IsCore used' s q d
 unfolding IsCore
 with-so used used' s q c d same count is = record {
   state = subst (IsStateOf s q) (sym same.state) is.state;
@@ -51,7 +54,8 @@ with-so used used' s q c d same count is = record {
   kinds = is.kinds;
 }
 
-pub made-so : {G : Type 0} (used : G → ℕ) (s : Setting) (p : Process) (c : Core G) → IsCore used s p c → length p.signed ≡ used (signer_of c)
+pub made-so : {G : Type 0} (used : G → ℕ) (s : Setting) (p : Process) (c : Core G) → IsCore used s p c
+    → length p.signed ≡ used (signer_of c)
 unfolding IsCore
 made-so used s p c is = is.signed
 
@@ -67,7 +71,11 @@ module _ (s : Setting) (p : Process) (e : Event) (signatures : List (List ℕ)) 
     same-turn =
         let many : total_of old.signer - used_of old.signer ≡ length signatures = omega (arith, hands.many) in
         let before : old.signer.before ≡ length p.signed = hands.before ∙ sym (made-so used_of s p old is) in
-        λ i. record { event = e; allowance = many i; signer = λ (used : ℕ) (body : List ℕ). slice_index_or (hands.all i) (used - before i) [] }
+        λ i. record {
+          event = e;
+          allowance = many i;
+          signer = λ (used : ℕ) (body : List ℕ). slice_index_or (hands.all i) (used - before i) [];
+        }
 
     module _ (new : Core Journalled) (r : Came) (steps : Steps used_of total_of handed_out s p old new e r) where
       core-so : IsCore used_of s (after s p turn) new
@@ -78,15 +86,19 @@ module _ (s : Setting) (p : Process) (e : Event) (signatures : List (List ℕ)) 
 
       -- whether each signature is valid
       pub judged-so : (valid : List ℕ → List ℕ → List ℕ → Bool) (result : Bool) → s.valid ≡ valid
-          → ((s : Setting) (cs : List Claim) → Shares s valid new.keyless.group new.keyless.roster → All (λ (c : Claim). IsStatement c.statement) cs → map signed r.signed.items ≡ map signed_of cs → result ≡ list_all (is_valid s) cs)
+          → ((s : Setting) (cs : List Claim) → Shares s valid new.keyless.group new.keyless.roster
+          → All (λ (c : Claim). IsStatement c.statement) cs → map signed r.signed.items ≡ map signed_of cs
+          → result ≡ list_all (is_valid s) cs)
           → result ≡ list_all (is_valid s) (outcome s p turn).signed
       unfolding IsCore
       judged-so valid result rule judge =
           let now = core-so in
-          judge s (outcome s p turn).signed (record { rule = rule; bound = now.group; keys = now.roster }) (in-range used_of s p turn new now) (sym outcome-so.signed_now)
+          judge s (outcome s p turn).signed (record { rule = rule; bound = now.group; keys = now.roster })
+          (in-range used_of s p turn new now) (sym outcome-so.signed_now)
 
       -- it is absorbed
-      pub absorbs-so : (left : ℕ) (spent : Bool) → length r.signed.items ≡ length signatures → r.spent ≡ spent → list_all (is_valid s) (outcome s p turn).signed ≡ true → length signatures ≤ left
+      pub absorbs-so : (left : ℕ) (spent : Bool) → length r.signed.items ≡ length signatures → r.spent ≡ spent
+          → list_all (is_valid s) (outcome s p turn).signed ≡ true → length signatures ≤ left
           → Absorbs used_of s p left new e signatures spent r
       absorbs-so left spent many lacks valid few = record {
         agrees = record { fits = (counted-so (outcome s p turn) r outcome-so ∙ many, outcome-so.spent ∙ lacks); valid = valid; few = few };
@@ -95,15 +107,19 @@ module _ (s : Setting) (p : Process) (e : Event) (signatures : List (List ℕ)) 
       }
 
       -- what agrees has as many signatures as were made, and tells whether one was wanting
-      pub fits-so : (left : ℕ) (spent : Bool) → Agrees s p left e signatures spent → (length r.signed.items ≡ length signatures) × (r.spent ≡ spent)
+      pub fits-so : (left : ℕ) (spent : Bool) → Agrees s p left e signatures spent
+          → (length r.signed.items ≡ length signatures) × (r.spent ≡ spent)
       fits-so left spent agrees = (sym (counted-so (outcome s p turn) r outcome-so) ∙ agrees.fits.0, sym outcome-so.spent ∙ agrees.fits.1)
 
   -- and the own signer has counted them
-  pub counts-so : {G H : Type 0} (used : G → ℕ) (used' : H → ℕ) (c : Core G) (d : Core H) (left made : ℕ) (spent : Bool) (r : Came) → IsSameBut c d → length p.signed ≡ made → used' (signer_of d) ≡ made + length signatures
+  pub counts-so : {G H : Type 0} (used : G → ℕ) (used' : H → ℕ) (c : Core G) (d : Core H) (left made : ℕ) (spent : Bool) (r : Came)
+      → IsSameBut c d → length p.signed ≡ made → used' (signer_of d) ≡ made + length signatures
       → Absorbs used s p left c e signatures spent r → Absorbs used' s p left d e signatures spent r
   counts-so used used' c d left made spent r same before now is =
       let fits : length (outcome s p turn).signed ≡ length signatures = is.agrees.fits.0 in
-      let all : length (after s p turn).signed ≡ length p.signed + length (outcome s p turn).signed = ap length (signed-more s p turn) ∙ length-append p.signed (outcome s p turn).signed in
+      let all : length (after s p turn).signed
+      ≡ length p.signed + length (outcome s p turn).signed = ap length (signed-more s p turn) ∙ length-append p.signed
+      (outcome s p turn).signed in
       record {
         agrees = is.agrees;
         core = with-so used used' s (after s p turn) c d same (omega (arith, all, fits, before, now)) is.core;

@@ -36,8 +36,11 @@ first-is : (x y : List ℕ) (others : Read (List (List ℕ))) (ys : List (List �
 first-is x y (Ok zs) ys e = cc
 first-is x y (Err f) ys e = absurd cc
 
-first-short : (n : ℕ) (first : Read (List ℕ)) (y : List ℕ) (ys : List (List ℕ)) → ((x : List ℕ × List ℕ) → first ≡ Ok x → length x.0 ≤ most_signature_bytes) → items_of (behind n first) ≡ y ∷ ys → length y ≤ most_signature_bytes
-first-short n (Ok x) y ys each e = subst (λ (z : List ℕ). length z ≤ most_signature_bytes) (first-is x.0 y (all_kept_at n x.1) ys e) (each x refl)
+first-short : (n : ℕ) (first : Read (List ℕ)) (y : List ℕ) (ys : List (List ℕ))
+    → ((x : List ℕ × List ℕ) → first ≡ Ok x → length x.0 ≤ most_signature_bytes) → items_of (behind n first) ≡ y ∷ ys
+    → length y ≤ most_signature_bytes
+first-short n (Ok x) y ys each e = subst (λ (z : List ℕ). length z ≤ most_signature_bytes) (first-is x.0 y (all_kept_at n x.1) ys e)
+    (each x refl)
 first-short n (Err f) y ys each e = absurd cc
 
 pub next-short : (n : ℕ) (bytes y : List ℕ) (ys : List (List ℕ)) → items_of (all_kept_at n bytes) ≡ y ∷ ys → length y ≤ most_signature_bytes
@@ -63,26 +66,32 @@ module _ (xs : List (List ℕ)) (k : ℕ) (y : List ℕ) (ys : List (List ℕ)) 
 
 -- ---- the signer that hands them out
 
-pub some-left : (all left : List (List ℕ)) (before used total : ℕ) → before ≤ used → used ≤ total → total ≡ before + length all → left ≡ drop (used - before) all → (used ≡ total → ⊥) → left ≡ [] → ⊥
+pub some-left : (all left : List (List ℕ)) (before used total : ℕ) → before ≤ used → used ≤ total → total ≡ before + length all
+    → left ≡ drop (used - before) all → (used ≡ total → ⊥) → left ≡ [] → ⊥
 some-left all left before used total since within whole rest some none =
     let empty : length (drop (used - before) all) ≡ 0 = ap length (sym rest ∙ none) in
     some (omega (arith, since, within, whole, empty, length-drop (used - before) all))
 
 pub one-more : (used total : ℕ) → used ≤ total → (used ≡ total → ⊥) → used + 1 ≤ total
-one-more used total within some = elim (cases_lt used total) [ inl lt ↦ omega (arith, lt) | inr ge ↦ absurd (some (omega (arith, within, ge))) ]
+one-more used total within some = elim
+    (cases_lt used total) [ inl lt ↦ omega (arith, lt) | inr ge ↦ absurd (some (omega (arith, within, ge))) ]
 
-pub passed-on : (all left more : List (List ℕ)) (before used : ℕ) (y : List ℕ) → before ≤ used → left ≡ drop (used - before) all → left ≡ y ∷ more → more ≡ drop ((used + 1) - before) all
+pub passed-on : (all left more : List (List ℕ)) (before used : ℕ) (y : List ℕ) → before ≤ used → left ≡ drop (used - before) all
+    → left ≡ y ∷ more → more ≡ drop ((used + 1) - before) all
 passed-on all left more before used y since rest e =
     let next : (used - before) + 1 ≡ (used + 1) - before = omega (arith, since) in
     next-left all (used - before) y more (sym rest ∙ e) ∙ ap (λ k. drop k all) next
 
 -- where none is left, none is left behind it
-none-more : (all left more : List (List ℕ)) (before used : ℕ) → before ≤ used → left ≡ drop (used - before) all → left ≡ [] → more ≡ [] → more ≡ drop ((used + 1) - before) all
+none-more : (all left more : List (List ℕ)) (before used : ℕ) → before ≤ used → left ≡ drop (used - before) all → left ≡ [] → more ≡ []
+    → more ≡ drop ((used + 1) - before) all
 none-more all left more before used since rest e f =
     let next : (used - before) + 1 ≡ (used + 1) - before = omega (arith, since) in
     f ∙ ap (drop 1) (sym e ∙ rest) ∙ drop-drop 1 (used - before) all ∙ ap (λ k. drop k all) next
 
 -- one is passed over
-pub skipped : (all left more : List (List ℕ)) (before used : ℕ) (r : Option (Bor (List ℕ))) → before ≤ used → left ≡ drop (used - before) all → MatchOption r ((left ≡ []) × (more ≡ [])) (λ x. left ≡ x.now ∷ more) → more ≡ drop ((used + 1) - before) all
+pub skipped : (all left more : List (List ℕ)) (before used : ℕ) (r : Option (Bor (List ℕ))) → before ≤ used
+    → left ≡ drop (used - before) all → MatchOption r ((left ≡ []) × (more ≡ [])) (λ x. left ≡ x.now ∷ more)
+    → more ≡ drop ((used + 1) - before) all
 skipped all left more before used None since rest e = none-more all left more before used since rest e.0 e.1
 skipped all left more before used (Some x) since rest e = passed-on all left more before used x.now since rest e

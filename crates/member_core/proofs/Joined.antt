@@ -57,7 +57,8 @@ filter-both : (f : Claim → Bool) (xs ys : List Claim) → filter f (xs ++ ys) 
 filter-both f [] ys = refl
 filter-both f (x ∷ xs) ys = go (f x) (filter-both f xs ys)
   where
-    go : (b : Bool) → filter f (xs ++ ys) ≡ filter f xs ++ filter f ys → (if b then x ∷ filter f (xs ++ ys) else filter f (xs ++ ys)) ≡ (if b then x ∷ filter f xs else filter f xs) ++ filter f ys
+    go : (b : Bool) → filter f (xs ++ ys) ≡ filter f xs ++ filter f ys
+        → (if b then x ∷ filter f (xs ++ ys) else filter f (xs ++ ys)) ≡ (if b then x ∷ filter f xs else filter f xs) ++ filter f ys
     go true rest = ap (λ cs. x ∷ cs) rest
     go false rest = rest
 
@@ -80,11 +81,16 @@ last-here : (p q : Process) (r : HasSigned p q) → newly_signed p q ≡ drop (l
 last-here p q r =
     let f : Claim → Bool = λ c. view_of c.statement == q.pool.view.number in
     let view : q.pool.view ≡ p.pool.view = ap (λ (x : Process). x.pool.view) r.rest in
-    let mine : filter f r.more ≡ r.more = filter-whole f r.more (λ c m. same-number (view_of c.statement) q.pool.view.number (All-mem (λ (c : Claim). view_of c.statement ≡ p.pool.view.number) r.more c r.here m ∙ sym (ap (λ v. v.number) view))) in
-    let whole : signed_here q ≡ filter f p.signed ++ r.more = ap (filter f) r.signed ∙ filter-both f p.signed r.more ∙ ap (λ cs. filter f p.signed ++ cs) mine in
-    let long : length (signed_here q) - length r.more ≡ length (filter f p.signed) = (let all = ap length whole ∙ length-append (filter f p.signed) r.more in omega (arith, all)) in
+    let mine : filter f r.more ≡ r.more = filter-whole f r.more
+    (λ c m. same-number (view_of c.statement) q.pool.view.number
+    (All-mem (λ (c : Claim). view_of c.statement ≡ p.pool.view.number) r.more c r.here m ∙ sym (ap (λ v. v.number) view))) in
+    let whole : signed_here q ≡ filter f p.signed
+    ++ r.more = ap (filter f) r.signed ∙ filter-both f p.signed r.more ∙ ap (λ cs. filter f p.signed ++ cs) mine in
+    let long : length (signed_here q) - length r.more
+    ≡ length (filter f p.signed) = (let all = ap length whole ∙ length-append (filter f p.signed) r.more in omega (arith, all)) in
     ap (drop (length p.signed)) r.signed ∙ drop_at p.signed r.more (length p.signed) refl
-    ∙ sym (ap (λ n. drop n (signed_here q)) long ∙ ap (drop (length (filter f p.signed))) whole ∙ drop_at (filter f p.signed) r.more (length (filter f p.signed)) refl)
+    ∙ sym (ap (λ n. drop n (signed_here q)) long ∙ ap (drop (length (filter f p.signed))) whole ∙ drop_at (filter f p.signed) r.more
+    (length (filter f p.signed)) refl)
 
 pub began-so : (s : Setting) (signer : Signer) (left : ℕ) (p : Process) (e : Event) (newly : ℕ)
     → newly ≡ length (drop (length p.signed) (sign_all s signer left (take_in s p e)).now.signed)
@@ -95,12 +101,14 @@ began-so s signer left p e newly long =
     let r : HasSigned p' q = signing_leaves s signer left p' in
     let is = same-so s signer left p e in
     let still = signed-still s p e in
-    let many : newly ≡ length r.more = long ∙ ap (λ cs. length (drop (length cs) q.signed)) (sym still) ∙ ap length (ap (drop (length p'.signed)) r.signed ∙ drop_at p'.signed r.more (length p'.signed) refl) in
+    let many : newly ≡ length r.more = long ∙ ap (λ cs. length (drop (length cs) q.signed))
+    (sym still) ∙ ap length (ap (drop (length p'.signed)) r.signed ∙ drop_at p'.signed r.more (length p'.signed) refl) in
     record {
       number = sym is.me;
       delivered = sym is.delivered;
       view = sym is.view;
-      signed = ap (λ cs. drop (length cs) q.signed) (sym still) ∙ last-here p' q r ∙ ap (λ n. drop (length (signed_here q) - n) (signed_here q)) (sym many);
+      signed = ap (λ cs. drop (length cs) q.signed)
+          (sym still) ∙ last-here p' q r ∙ ap (λ n. drop (length (signed_here q) - n) (signed_here q)) (sym many);
     }
 
 -- ---- the halves
@@ -111,17 +119,24 @@ counted-so n xs ys long same = long ∙ sym (length-map xs signed) ∙ ap length
 
 module _ (s : Setting) (p : Process) (t : Turn) (st : ProcessState) (total many : ℕ) (before : List Signed) (none : before ≡ []) where
   -- what signing leaves is told from what was signed before the event
-  signed-here-so : (xs : List OwnClaim) (lacks : Bool) → IsSigned s (take_in s p t.event) (signing s p t) st total many before (map signed xs) lacks → map signed xs ≡ map signed_of (drop (length p.signed) (signing s p t).now.signed)
+  signed-here-so : (xs : List OwnClaim) (lacks : Bool)
+      → IsSigned s (take_in s p t.event) (signing s p t) st total many before (map signed xs) lacks
+      → map signed xs ≡ map signed_of (drop (length p.signed) (signing s p t).now.signed)
   signed-here-so xs lacks is =
       is.told ∙ ap (λ (cs : List Signed). cs ++ map signed_of (drop (length (take_in s p t.event).signed) (signing s p t).now.signed)) none
       ∙ ap (λ (cs : List Claim). map signed_of (drop (length cs) (signing s p t).now.signed)) (signed-still s p t.event)
 
-  pub began-here : (n : ℕ) (xs : List OwnClaim) (lacks : Bool) → IsSigned s (take_in s p t.event) (signing s p t) st total many before (map signed xs) lacks → n ≡ length xs → Began n p (signing s p t).now
-  began-here n xs lacks is long = began-so s t.signer t.allowance p t.event n (counted-so n xs (drop (length p.signed) (signing s p t).now.signed) long (signed-here-so xs lacks is))
+  pub began-here : (n : ℕ) (xs : List OwnClaim) (lacks : Bool)
+      → IsSigned s (take_in s p t.event) (signing s p t) st total many before (map signed xs) lacks → n ≡ length xs
+      → Began n p (signing s p t).now
+  began-here n xs lacks is long = began-so s t.signer t.allowance p t.event n
+      (counted-so n xs (drop (length p.signed) (signing s p t).now.signed) long (signed-here-so xs lacks is))
 
-  pub begun-so : (r : Came) (tick : Bool) (sends : List (List ℕ × List ℕ)) → IsSigned s (take_in s p t.event) (signing s p t) st total many before (map signed r.signed.items) r.spent
+  pub begun-so : (r : Came) (tick : Bool) (sends : List (List ℕ × List ℕ))
+      → IsSigned s (take_in s p t.event) (signing s p t) st total many before (map signed r.signed.items) r.spent
       → r.verdict ≡ Taken → r.heard ≡ length (take_in s p t.event).pool.heard - length p.pool.heard → tick ≡ is_tick t.event → sends ≡ []
-      → map frame_to r.sends.items ≡ sends ++ flat_map frames_to (unless_empty (bundle tick p (signing s p t).now) Bundle (others p p.pool.view)) → map note r.notes.items ≡ []
+      → map frame_to r.sends.items ≡ sends
+      ++ flat_map frames_to (unless_empty (bundle tick p (signing s p t).now) Bundle (others p p.pool.view)) → map note r.notes.items ≡ []
       → HasBegun s p t st many r
   begun-so r tick sends is verdict heard same empty sent told = record {
     state = is.state;
@@ -130,7 +145,8 @@ module _ (s : Setting) (p : Process) (t : Turn) (st : ProcessState) (total many 
     heard = heard;
     signed_now = signed-here-so r.signed.items r.spent is;
     spent = is.spent;
-    sends = sent ∙ (λ i. empty i ++ flat_map frames_to (unless_empty (bundle (same i) p (signing s p t).now) Bundle (others p p.pool.view)));
+    sends = sent ∙ (λ i. empty i ++ flat_map frames_to
+        (unless_empty (bundle (same i) p (signing s p t).now) Bundle (others p p.pool.view)));
     notes = told;
   }
 
@@ -161,15 +177,20 @@ answered-so s p t st st' many pairs was r first begun ended =
     }
 
 outcome-answered : (s : Setting) (p : Process) (t : Turn) → refusal s p t.event ≡ None → outcome s p t ≡ answered s p t (signing s p t)
-outcome-answered s p t none = ap (λ (o : Option EventFault). elim o [ None ↦ answered s p t (signing s p t) | Some fault ↦ refusing fault ]) none
+outcome-answered s p t none = ap
+    (λ (o : Option EventFault). elim o [ None ↦ answered s p t (signing s p t) | Some fault ↦ refusing fault ]) none
 
-outcome-refusing : (s : Setting) (p : Process) (t : Turn) (fault : EventFault) → refusal s p t.event ≡ Some fault → outcome s p t ≡ refusing fault
-outcome-refusing s p t fault some = ap (λ (o : Option EventFault). elim o [ None ↦ answered s p t (signing s p t) | Some fault ↦ refusing fault ]) some
+outcome-refusing : (s : Setting) (p : Process) (t : Turn) (fault : EventFault) → refusal s p t.event ≡ Some fault
+    → outcome s p t ≡ refusing fault
+outcome-refusing s p t fault some = ap
+    (λ (o : Option EventFault). elim o [ None ↦ answered s p t (signing s p t) | Some fault ↦ refusing fault ]) some
 
-outcome-taken : (s : Setting) (p : Process) (t : Turn) (r : Came) → refusal s p t.event ≡ None → IsOutcome (answered s p t (signing s p t)) r → IsOutcome (outcome s p t) r
+outcome-taken : (s : Setting) (p : Process) (t : Turn) (r : Came) → refusal s p t.event ≡ None
+    → IsOutcome (answered s p t (signing s p t)) r → IsOutcome (outcome s p t) r
 outcome-taken s p t r none is = subst (λ (o : Outcome). IsOutcome o r) (sym (outcome-answered s p t none)) is
 
-outcome-refused : (s : Setting) (p : Process) (t : Turn) (r : Came) (fault : EventFault) → refusal s p t.event ≡ Some fault → IsOutcome (refusing fault) r → IsOutcome (outcome s p t) r
+outcome-refused : (s : Setting) (p : Process) (t : Turn) (r : Came) (fault : EventFault) → refusal s p t.event ≡ Some fault
+    → IsOutcome (refusing fault) r → IsOutcome (outcome s p t) r
 outcome-refused s p t r fault some is = subst (λ (o : Outcome). IsOutcome o r) (sym (outcome-refusing s p t fault some)) is
 
 -- ---- the process after the event
@@ -193,17 +214,24 @@ signed-more s p t = go (refusal s p t.event) refl
         let now : Process = (signing s p t).now in
         let r : HasSigned (take_in s p t.event) now = signing_leaves s t.signer t.allowance (take_in s p t.event) in
         let all : now.signed ≡ p.signed ++ r.more = r.signed ∙ ap (λ cs. cs ++ r.more) (signed-still s p t.event) in
-        let last : drop (length p.signed) now.signed ≡ r.more = ap (drop (length p.signed)) all ∙ drop_at p.signed r.more (length p.signed) refl in
-        ap (λ (q : Process). q.signed) (after-taken s p t e) ∙ (settling_leaves s now).signed ∙ all ∙ ap (λ cs. p.signed ++ cs) (sym (ap (λ (o : Outcome). o.signed) (outcome-answered s p t e) ∙ last))
+        let last : drop (length p.signed) now.signed
+        ≡ r.more = ap (drop (length p.signed)) all ∙ drop_at p.signed r.more (length p.signed) refl in
+        ap (λ (q : Process). q.signed) (after-taken s p t e) ∙ (settling_leaves s now).signed ∙ all ∙ ap (λ cs. p.signed ++ cs)
+        (sym (ap (λ (o : Outcome). o.signed) (outcome-answered s p t e) ∙ last))
     go (Some fault) e =
-        ap (λ (q : Process). q.signed) (after-refused s p t fault e) ∙ sym (append-nil p.signed) ∙ ap (λ cs. p.signed ++ cs) (sym (ap (λ (o : Outcome). o.signed) (outcome-refusing s p t fault e)))
+        ap (λ (q : Process). q.signed) (after-refused s p t fault e) ∙ sym (append-nil p.signed) ∙ ap (λ cs. p.signed ++ cs)
+        (sym (ap (λ (o : Outcome). o.signed) (outcome-refusing s p t fault e)))
 
 -- ---- the step
 
-module _ {G : Type 0} (used total : G → ℕ) (signature : G → ℕ → List ℕ → List ℕ) (s : Setting) (p : Process) (old : Core G) (e : Event) where
+module _ {G : Type 0} (used total : G → ℕ) (signature : G → ℕ → List ℕ → List ℕ) (s : Setting) (p : Process) (old : Core G)
+    (e : Event) where
   -- the process after the event
-  settled-so : (new : Core G) (was r : Came) (st : ProcessState) (many pairs : ℕ) → IsCore used s p old → many ≡ used new.signer → old.keyless.group ≡ new.keyless.group → old.keyless.roster ≡ new.keyless.roster
-      → HasBegun s p (turn_of used total signature old e) st many was → HasEnded s (signing s p (turn_of used total signature old e)).now e pairs new.keyless.state.value was r → IsCore used s (settle s (signing s p (turn_of used total signature old e)).now) new
+  settled-so : (new : Core G) (was r : Came) (st : ProcessState) (many pairs : ℕ) → IsCore used s p old → many ≡ used new.signer
+      → old.keyless.group ≡ new.keyless.group → old.keyless.roster ≡ new.keyless.roster
+      → HasBegun s p (turn_of used total signature old e) st many was
+      → HasEnded s (signing s p (turn_of used total signature old e)).now e pairs new.keyless.state.value was r
+      → IsCore used s (settle s (signing s p (turn_of used total signature old e)).now) new
   unfolding IsCore
   settled-so new was r st many pairs is count group roster begun ended = record {
     state = ended.state;
@@ -214,15 +242,21 @@ module _ {G : Type 0} (used total : G → ℕ) (signature : G → ℕ → List �
   }
 
   -- an event that is taken
-  pub taken-so : (new : Core G) (was r : Came) (st : ProcessState) (many pairs : ℕ) → refusal s p e ≡ None → pairs ≡ length p.conflicts → IsCore used s p old → many ≡ used new.signer → old.keyless.group ≡ new.keyless.group → old.keyless.roster ≡ new.keyless.roster
-      → HasBegun s p (turn_of used total signature old e) st many was → HasEnded s (signing s p (turn_of used total signature old e)).now e pairs new.keyless.state.value was r → Steps used total signature s p old new e r
+  pub taken-so : (new : Core G) (was r : Came) (st : ProcessState) (many pairs : ℕ) → refusal s p e ≡ None → pairs ≡ length p.conflicts
+      → IsCore used s p old → many ≡ used new.signer → old.keyless.group ≡ new.keyless.group → old.keyless.roster ≡ new.keyless.roster
+      → HasBegun s p (turn_of used total signature old e) st many was
+      → HasEnded s (signing s p (turn_of used total signature old e)).now e pairs new.keyless.state.value was r
+      → Steps used total signature s p old new e r
   taken-so new was r st many pairs none first is count group roster begun ended = record {
-    core = subst (λ (q : Process). IsCore used s q new) (sym (after-taken s p (turn_of used total signature old e) none)) (settled-so new was r st many pairs is count group roster begun ended);
-    outcome = outcome-taken s p (turn_of used total signature old e) r none (answered-so s p (turn_of used total signature old e) st new.keyless.state.value many pairs was r first begun ended);
+    core = subst (λ (q : Process). IsCore used s q new) (sym (after-taken s p (turn_of used total signature old e) none))
+        (settled-so new was r st many pairs is count group roster begun ended);
+    outcome = outcome-taken s p (turn_of used total signature old e) r none
+        (answered-so s p (turn_of used total signature old e) st new.keyless.state.value many pairs was r first begun ended);
   }
 
   -- one that is refused
-  pub refused-so : (r : Came) (fault : EventFault) → refusal s p e ≡ Some fault → IsCore used s p old → IsOutcome (refusing fault) r → Steps used total signature s p old old e r
+  pub refused-so : (r : Came) (fault : EventFault) → refusal s p e ≡ Some fault → IsCore used s p old → IsOutcome (refusing fault) r
+      → Steps used total signature s p old old e r
   refused-so r fault some is came = record {
     core = subst (λ (q : Process). IsCore used s q old) (sym (after-refused s p (turn_of used total signature old e) fault some)) is;
     outcome = outcome-refused s p (turn_of used total signature old e) r fault some came;

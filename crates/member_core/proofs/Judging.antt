@@ -15,7 +15,8 @@ use Rattle.claim_pool.specs.Settings.{as_setting}
 use Rattle.pool_laws.proofs.Members.{Mem, All-mem, mem-drop}
 
 -- by the judge's rule and by the setting's
-pub same-rule : (s : Setting) (valid : List ℕ → List ℕ → List ℕ → Bool) (group : List ℕ) (roster : List (ℕ × List ℕ)) (c : Claim) → Shares s valid group roster → is_valid (as_setting valid group roster) c ≡ is_valid s c
+pub same-rule : (s : Setting) (valid : List ℕ → List ℕ → List ℕ → Bool) (group : List ℕ) (roster : List (ℕ × List ℕ)) (c : Claim)
+    → Shares s valid group roster → is_valid (as_setting valid group roster) c ≡ is_valid s c
 same-rule s valid group roster c shares = sym (λ i. is_valid (as_setting (shares.rule i) (shares.bound i) (shares.keys i)) c)
 
 -- ---- one claim after the other
@@ -26,7 +27,8 @@ record Next (cs : List Claim) (k : ℕ) (x : OwnClaim) : Type 0 where
   pub left : drop k cs ≡ claim ∷ drop (k + 1) cs
   pub same : signed x ≡ signed_of claim
 
-next-claim : (xs : List OwnClaim) (cs : List Claim) (k : ℕ) (x : OwnClaim) → k < length xs → x ≡ get_or xs k x → map signed xs ≡ map signed_of cs → Next cs k x
+next-claim : (xs : List OwnClaim) (cs : List Claim) (k : ℕ) (x : OwnClaim) → k < length xs → x ≡ get_or xs k x
+    → map signed xs ≡ map signed_of cs → Next cs k x
 next-claim [] cs k x lt at e = absurd (omega (arith, lt))
 next-claim (y ∷ ys) [] k x lt at e = absurd cc
 next-claim (y ∷ ys) (c ∷ cs) zero x lt at e = record { claim = c; left = refl; same = ap signed at ∙ cc }
@@ -39,27 +41,35 @@ next-claim (y ∷ ys) (c ∷ cs) (suc k) x lt at e =
 -- where each claim before the place is valid, the answer is that of those that are left
 abbrev pub LeftToJudge : (List ℕ → List ℕ → List ℕ → Bool) → List ℕ → List (ℕ × List ℕ) → List OwnClaim → ℕ → Type 0
 LeftToJudge valid group roster xs k =
-    (s : Setting) (cs : List Claim) → Shares s valid group roster → All (λ c. IsStatement c.statement) cs → map signed xs ≡ map signed_of cs → list_all (is_valid s) cs ≡ list_all (is_valid s) (drop k cs)
+    (s : Setting) (cs : List Claim) → Shares s valid group roster → All (λ c. IsStatement c.statement) cs → map signed xs ≡ map signed_of cs
+    → list_all (is_valid s) cs ≡ list_all (is_valid s) (drop k cs)
 
-module _ (valid : List ℕ → List ℕ → List ℕ → Bool) (group : List ℕ) (roster : List (ℕ × List ℕ)) (xs : List OwnClaim) (k : ℕ) (x : OwnClaim) (lt : k < length xs) (at : x ≡ get_or xs k x)
+module _ (valid : List ℕ → List ℕ → List ℕ → Bool) (group : List ℕ) (roster : List (ℕ × List ℕ)) (xs : List OwnClaim) (k : ℕ) (x : OwnClaim)
+    (lt : k < length xs) (at : x ≡ get_or xs k x)
     (left : LeftToJudge valid group roster xs k) (result : Bool)
-    (one : (s : Setting) (c : Claim) → Shares s valid group roster → IsStatement c.statement → signed x ≡ signed_of c → result ≡ is_valid s c) where
-  judged : (s : Setting) (cs : List Claim) → Shares s valid group roster → All (λ c. IsStatement c.statement) cs → map signed xs ≡ map signed_of cs → list_all (is_valid s) cs ≡ (result && list_all (is_valid s) (drop (k + 1) cs))
+    (one : (s : Setting) (c : Claim) → Shares s valid group roster → IsStatement c.statement → signed x ≡ signed_of c
+    → result ≡ is_valid s c) where
+  judged : (s : Setting) (cs : List Claim) → Shares s valid group roster → All (λ c. IsStatement c.statement) cs
+      → map signed xs ≡ map signed_of cs → list_all (is_valid s) cs ≡ (result && list_all (is_valid s) (drop (k + 1) cs))
   judged s cs shares range e =
       let n = next-claim xs cs k x lt at e in
       let here : Mem n.claim cs = mem-drop k cs n.claim (subst (Mem n.claim) (sym n.left) (inl refl)) in
-      let said : result ≡ is_valid s n.claim = one s n.claim shares (All-mem (λ (c : Claim). IsStatement c.statement) cs n.claim range here) n.same in
+      let said : result ≡ is_valid s n.claim = one s n.claim shares
+      (All-mem (λ (c : Claim). IsStatement c.statement) cs n.claim range here) n.same in
       left s cs shares range e ∙ ap (list_all (is_valid s)) n.left ∙ ap (λ b. b && list_all (is_valid s) (drop (k + 1) cs)) (sym said)
 
   pub one-passed : result ≡ true → LeftToJudge valid group roster xs (k + 1)
   one-passed valid-one s cs shares range e = judged s cs shares range e ∙ ap (λ b. b && list_all (is_valid s) (drop (k + 1) cs)) valid-one
 
-  pub one-fails : result ≡ false → (s : Setting) (cs : List Claim) → Shares s valid group roster → All (λ c. IsStatement c.statement) cs → map signed xs ≡ map signed_of cs → false ≡ list_all (is_valid s) cs
+  pub one-fails : result ≡ false → (s : Setting) (cs : List Claim) → Shares s valid group roster → All (λ c. IsStatement c.statement) cs
+      → map signed xs ≡ map signed_of cs → false ≡ list_all (is_valid s) cs
   one-fails invalid s cs shares range e = sym (judged s cs shares range e ∙ ap (λ b. b && list_all (is_valid s) (drop (k + 1) cs)) invalid)
 
 -- each was valid
-pub all-passed : (valid : List ℕ → List ℕ → List ℕ → Bool) (group : List ℕ) (roster : List (ℕ × List ℕ)) (xs : List OwnClaim) (k : ℕ) → length xs ≤ k → LeftToJudge valid group roster xs k
-    → (s : Setting) (cs : List Claim) → Shares s valid group roster → All (λ c. IsStatement c.statement) cs → map signed xs ≡ map signed_of cs → true ≡ list_all (is_valid s) cs
+pub all-passed : (valid : List ℕ → List ℕ → List ℕ → Bool) (group : List ℕ) (roster : List (ℕ × List ℕ)) (xs : List OwnClaim) (k : ℕ)
+    → length xs ≤ k → LeftToJudge valid group roster xs k
+    → (s : Setting) (cs : List Claim) → Shares s valid group roster → All (λ c. IsStatement c.statement) cs
+    → map signed xs ≡ map signed_of cs → true ≡ list_all (is_valid s) cs
 all-passed valid group roster xs k past left s cs shares range e =
     let long : length xs ≡ length cs = sym (length-map xs signed) ∙ ap length e ∙ length-map cs signed_of in
     sym (left s cs shares range e ∙ ap (list_all (is_valid s)) (drop_all k cs (omega (arith, past, long))))

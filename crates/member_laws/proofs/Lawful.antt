@@ -58,7 +58,16 @@ hearing_is_lawful s p c range ok = go (verdict s p c) refl
       batches = ok.batches;
       asked = ok.asked;
     }
-    go Conflict e = record { number = ok.number; pool = ok.pool; own = ok.own; past = ok.past; said = ok.said; short = ok.short; batches = ok.batches; asked = ok.asked }
+    go Conflict e = record {
+      number = ok.number;
+      pool = ok.pool;
+      own = ok.own;
+      past = ok.past;
+      said = ok.said;
+      short = ok.short;
+      batches = ok.batches;
+      asked = ok.asked;
+    }
     go Old e = ok
     go Early e = ok
     go Stranger e = ok
@@ -71,7 +80,8 @@ signing_is_lawful s signer p st may range ok = record {
   number = ok.number;
   pool = record { view = ok.pool.view; of_view = of_view here; in_range = in_range here };
   own = all-snoc (λ (c : Claim). c.signer ≡ p.me) p.signed own ok.own refl;
-  past = all-snoc (λ (c : Claim). view_of c.statement ≤ p.pool.view.number) p.signed own ok.past (let e = signing-view s p st may in omega (arith, e));
+  past = all-snoc (λ (c : Claim). view_of c.statement ≤ p.pool.view.number) p.signed own ok.past
+      (let e = signing-view s p st may in omega (arith, e));
   said = all-snoc IsClaim p.signed own ok.said range;
   short = ok.short;
   batches = ok.batches;
@@ -116,7 +126,8 @@ installing_is_lawful p d number view ok = record {
   number = number;
   pool = record { view = view; of_view = none (IsOfView _); in_range = none IsClaim };
   own = ok.own;
-  past = all-map (λ (c : Claim). view_of c.statement ≤ p.pool.view.number) (λ (c : Claim). view_of c.statement ≤ p.pool.view.number + 1) p.signed (λ c le. omega (arith, le)) ok.past;
+  past = all-map (λ (c : Claim). view_of c.statement ≤ p.pool.view.number)
+      (λ (c : Claim). view_of c.statement ≤ p.pool.view.number + 1) p.signed (λ c le. omega (arith, le)) ok.past;
   said = ok.said;
   short = ok.short;
   batches = ok.batches;

@@ -33,7 +33,14 @@ hearing_tells s p h own c is = go (verdict s p c)
       number = is.number;
       position = is.position;
       keys = is.keys;
-      signed = record { slots = is.signed.slots; end = is.signed.end; greatest = is.signed.greatest; last_ready = is.signed.last_ready; how_many = is.signed.how_many; names = is.signed.names };
+      signed = record {
+        slots = is.signed.slots;
+        end = is.signed.end;
+        greatest = is.signed.greatest;
+        last_ready = is.signed.last_ready;
+        how_many = is.signed.how_many;
+        names = is.signed.names;
+      };
       delivered = record { places = is.delivered.places; counts = is.delivered.counts };
       before = is.before;
     }
@@ -42,20 +49,77 @@ hearing_tells s p h own c is = go (verdict s p c)
       number = is.number;
       position = is.position;
       keys = is.keys;
-      signed = record { slots = is.signed.slots; end = is.signed.end; greatest = is.signed.greatest; last_ready = is.signed.last_ready; how_many = is.signed.how_many; names = is.signed.names };
+      signed = record {
+        slots = is.signed.slots;
+        end = is.signed.end;
+        greatest = is.signed.greatest;
+        last_ready = is.signed.last_ready;
+        how_many = is.signed.how_many;
+        names = is.signed.names;
+      };
       delivered = record { places = is.delivered.places; counts = is.delivered.counts };
       before = is.before;
     }
-    go Old = record { pool = refl; number = is.number; position = is.position; keys = is.keys; signed = is.signed; delivered = is.delivered; before = is.before }
-    go Early = record { pool = refl; number = is.number; position = is.position; keys = is.keys; signed = is.signed; delivered = is.delivered; before = is.before }
-    go Stranger = record { pool = refl; number = is.number; position = is.position; keys = is.keys; signed = is.signed; delivered = is.delivered; before = is.before }
-    go OutOfWindow = record { pool = refl; number = is.number; position = is.position; keys = is.keys; signed = is.signed; delivered = is.delivered; before = is.before }
-    go Known = record { pool = refl; number = is.number; position = is.position; keys = is.keys; signed = is.signed; delivered = is.delivered; before = is.before }
-    go Unsigned = record { pool = refl; number = is.number; position = is.position; keys = is.keys; signed = is.signed; delivered = is.delivered; before = is.before }
+    go Old = record {
+      pool = refl;
+      number = is.number;
+      position = is.position;
+      keys = is.keys;
+      signed = is.signed;
+      delivered = is.delivered;
+      before = is.before;
+    }
+    go Early = record {
+      pool = refl;
+      number = is.number;
+      position = is.position;
+      keys = is.keys;
+      signed = is.signed;
+      delivered = is.delivered;
+      before = is.before;
+    }
+    go Stranger = record {
+      pool = refl;
+      number = is.number;
+      position = is.position;
+      keys = is.keys;
+      signed = is.signed;
+      delivered = is.delivered;
+      before = is.before;
+    }
+    go OutOfWindow = record {
+      pool = refl;
+      number = is.number;
+      position = is.position;
+      keys = is.keys;
+      signed = is.signed;
+      delivered = is.delivered;
+      before = is.before;
+    }
+    go Known = record {
+      pool = refl;
+      number = is.number;
+      position = is.position;
+      keys = is.keys;
+      signed = is.signed;
+      delivered = is.delivered;
+      before = is.before;
+    }
+    go Unsigned = record {
+      pool = refl;
+      number = is.number;
+      position = is.position;
+      keys = is.keys;
+      signed = is.signed;
+      delivered = is.delivered;
+      before = is.before;
+    }
 
 -- ---- delivering
 
-counts-alike : (m n : ℕ) (ds : List Delivered) → fold (λ a (d : Delivered). a + (if d.message.sender == m then 1 else 0)) n ds ≡ fold (λ a (x : Message). a + (if x.sender == m then 1 else 0)) n (messages_of ds)
+counts-alike : (m n : ℕ) (ds : List Delivered)
+    → fold (λ a (d : Delivered). a + (if d.message.sender == m then 1 else 0)) n ds
+    ≡ fold (λ a (x : Message). a + (if x.sender == m then 1 else 0)) n (messages_of ds)
 counts-alike m n [] = refl
 counts-alike m n (d ∷ ds) = counts-alike m (n + (if d.message.sender == m then 1 else 0)) ds
 
@@ -94,7 +158,12 @@ delivering_tells s p h own own' b ds some e more is = record {
     how_many = is.signed.how_many ∙ part (λ o. o.ordered);
     names = is.signed.names ∙ part (λ o. o.orders.items);
   };
-  delivered = record { places = some-more p.delivered ds (subst (λ ms. 1 ≤ length ms) (sym names) some) (delivery-at p.pool (places_in p.delivered) b ds e) ∙ ap (λ n. n + 1) is.delivered.places ∙ sym (ap (λ (o : Own). o.delivered) more.rest); counts = counts };
+  delivered = record {
+    places = some-more p.delivered ds (subst (λ ms. 1 ≤ length ms) (sym names) some)
+        (delivery-at p.pool (places_in p.delivered) b ds e) ∙ ap (λ n. n + 1) is.delivered.places ∙ sym
+        (ap (λ (o : Own). o.delivered) more.rest);
+    counts = counts;
+  };
   before = is.before ∙ part (λ o. o.earlier);
 }
   where
@@ -110,7 +179,8 @@ delivering_tells s p h own own' b ds some e more is = record {
     counts : map (λ m. delivered_from m (p.delivered ++ ds)) p.pool.view.members ≡ own'.counts.items
     counts =
         delivered_is_counted p.pool.view (p.delivered ++ ds)
-        ∙ ap (counts_in p.pool.view) (map-append (λ (d : Delivered). d.message) p.delivered ds ∙ ap (λ ms. messages_of p.delivered ++ ms) names)
+        ∙ ap (counts_in p.pool.view) (map-append (λ (d : Delivered). d.message) p.delivered ds ∙ ap
+        (λ ms. messages_of p.delivered ++ ms) names)
         ∙ sym (more.counts (sym is.delivered.counts ∙ delivered_is_counted p.pool.view p.delivered))
 
 -- ---- installing
@@ -136,28 +206,38 @@ slot-view (Ack x r v) = refl
 slot-view (Ready x r v) = refl
 
 same-view : (a b : Statement) → same_slot (slot_of a) (slot_of b) ≡ true → view_of a ≡ view_of b
-same-view a b e = sym (slot-view a) ∙ ap (λ sl. second (slot_numbers sl)) (yes-is (Slot-discrete ℕ_discrete Message-discrete (Update-discrete ℕ_discrete) (slot_of a) (slot_of b)) e) ∙ slot-view b
+same-view a b e = sym (slot-view a) ∙ ap (λ sl. second (slot_numbers sl))
+    (yes-is (Slot-discrete ℕ_discrete Message-discrete (Update-discrete ℕ_discrete) (slot_of a) (slot_of b)) e) ∙ slot-view b
 
 -- where all that is signed is of earlier views, nothing is of a later one
-none-later : (x me : ℕ) (st : Statement) (cs : List Claim) → ((c : Claim) → Mem c cs → view_of c.statement ≤ x) → view_of st ≡ x + 1 → claim_on cs me (slot_of st) ≡ None
+none-later : (x me : ℕ) (st : Statement) (cs : List Claim) → ((c : Claim) → Mem c cs → view_of c.statement ≤ x) → view_of st ≡ x + 1
+    → claim_on cs me (slot_of st) ≡ None
 none-later x me st [] past later = refl
-none-later x me st (c ∷ cs) past later = go (c.signer == me) (same_slot (slot_of c.statement) (slot_of st)) refl (none-later x me st cs (λ d m. past d (inr m)) later)
+none-later x me st (c ∷ cs) past later = go (c.signer == me)
+    (same_slot (slot_of c.statement) (slot_of st)) refl (none-later x me st cs (λ d m. past d (inr m)) later)
   where
-    go : (a b : Bool) → same_slot (slot_of c.statement) (slot_of st) ≡ b → claim_on cs me (slot_of st) ≡ None → (if a && b then Some c else claim_on cs me (slot_of st)) ≡ None
+    go : (a b : Bool) → same_slot (slot_of c.statement) (slot_of st) ≡ b → claim_on cs me (slot_of st) ≡ None
+        → (if a && b then Some c else claim_on cs me (slot_of st)) ≡ None
     go false b e rest = rest
     go true false e rest = rest
     go true true e rest = (let same = same-view c.statement st e in let le = past c (inl refl) in absurd (omega (arith, same, le, later)))
 
-none-own : (x : ℕ) (cs : List Claim) → ((c : Claim) → Mem c cs → view_of c.statement ≤ x) → filter (λ st. view_of st == x + 1) (map (λ (c : Claim). c.statement) cs) ≡ []
+none-own : (x : ℕ) (cs : List Claim) → ((c : Claim) → Mem c cs → view_of c.statement ≤ x)
+    → filter (λ st. view_of st == x + 1) (map (λ (c : Claim). c.statement) cs) ≡ []
 none-own x [] past = refl
 none-own x (c ∷ cs) past = go (view_of c.statement == x + 1) refl (none-own x cs (λ d m. past d (inr m)))
   where
-    go : (b : Bool) → (view_of c.statement == x + 1) ≡ b → filter (λ st. view_of st == x + 1) (map (λ (c : Claim). c.statement) cs) ≡ [] → (if b then c.statement ∷ filter (λ st. view_of st == x + 1) (map (λ (c : Claim). c.statement) cs) else filter (λ st. view_of st == x + 1) (map (λ (c : Claim). c.statement) cs)) ≡ []
+    go : (b : Bool) → (view_of c.statement == x + 1) ≡ b → filter (λ st. view_of st == x + 1) (map (λ (c : Claim). c.statement) cs) ≡ []
+        → (if b then c.statement ∷ filter (λ st. view_of st == x + 1) (map (λ (c : Claim). c.statement) cs)
+        else filter (λ st. view_of st == x + 1) (map (λ (c : Claim). c.statement) cs)) ≡ []
     go false e rest = rest
     go true e rest = (let same = eqb-true (view_of c.statement) (x + 1) e in let le = past c (inl refl) in absurd (omega (arith, same, le)))
 
-sum-more : (me : ℕ) (ls : List Left) (l : Left) → sum (map (λ (v : Left). delivered_from me v.delivered) (ls ++ l ∷ [])) ≡ sum (map (λ (v : Left). delivered_from me v.delivered) ls) + delivered_from me l.delivered
-sum-more me ls l = ap sum (map-append (λ (v : Left). delivered_from me v.delivered) ls (l ∷ [])) ∙ fold-append (λ (a b : ℕ). a + b) 0 (map (λ (v : Left). delivered_from me v.delivered) ls) (delivered_from me l.delivered ∷ [])
+sum-more : (me : ℕ) (ls : List Left) (l : Left)
+    → sum (map (λ (v : Left). delivered_from me v.delivered) (ls ++ l ∷ []))
+    ≡ sum (map (λ (v : Left). delivered_from me v.delivered) ls) + delivered_from me l.delivered
+sum-more me ls l = ap sum (map-append (λ (v : Left). delivered_from me v.delivered) ls (l ∷ [])) ∙ fold-append (λ (a b : ℕ). a + b) 0
+    (map (λ (v : Left). delivered_from me v.delivered) ls) (delivered_from me l.delivered ∷ [])
 
 pub installing_tells : InstallingTells
 installing_tells s p h own own' d ok begins is = record {
@@ -174,7 +254,12 @@ installing_tells s p h own own' d ok begins is = record {
     names = ap (λ sts. counts_in next (messages (filter_map ordered sts))) none ∙ sym begins.names;
   };
   delivered = record { places = sym begins.places; counts = sym begins.counts };
-  before = sum-more p.me p.left (record { view = p.pool.view; delivered = p.delivered; commit = certificate p.pool (Ready p.pool.view.number d.0 d.1) }) ∙ ap (λ n. n + delivered_from p.me p.delivered) is.before ∙ sym begins.before;
+  before = sum-more p.me p.left (record {
+    view = p.pool.view;
+    delivered = p.delivered;
+    commit = certificate p.pool (Ready p.pool.view.number d.0 d.1);
+  }) ∙ ap
+      (λ n. n + delivered_from p.me p.delivered) is.before ∙ sym begins.before;
 }
   where
     next : View
@@ -183,7 +268,8 @@ installing_tells s p h own own' d ok begins is = record {
     past : (c : Claim) → Mem c p.signed → view_of c.statement ≤ p.pool.view.number
     past c m = All-mem (λ (c : Claim). view_of c.statement ≤ p.pool.view.number) p.signed c ok.past m
 
-    unsigned : (st : Statement) → view_of st ≡ p.pool.view.number + 1 → is_some (option_map (λ (c : Claim). c.statement) (claim_on p.signed p.me (slot_of st))) ≡ false
+    unsigned : (st : Statement) → view_of st ≡ p.pool.view.number + 1
+        → is_some (option_map (λ (c : Claim). c.statement) (claim_on p.signed p.me (slot_of st))) ≡ false
     unsigned st x = ap (λ o. is_some (option_map (λ (c : Claim). c.statement) o)) (none-later p.pool.view.number p.me st p.signed past x)
 
     none : filter (λ st. view_of st == p.pool.view.number + 1) (map (λ (c : Claim). c.statement) p.signed) ≡ []

@@ -10,7 +10,8 @@ use Rattle.pool_laws.proofs.Tests.{yes-is, is-yes}
 pub same-message : (a b : Message) → ((a.sender == b.sender) && (a.number == b.number)) ≡ same_message a b
 same-message a b = go (a.sender == b.sender) refl (a.number == b.number) refl (same_message a b) refl
   where
-    go : (x : Bool) → (a.sender == b.sender) ≡ x → (y : Bool) → (a.number == b.number) ≡ y → (z : Bool) → same_message a b ≡ z → (x && y) ≡ z
+    go : (x : Bool) → (a.sender == b.sender) ≡ x → (y : Bool) → (a.number == b.number) ≡ y → (z : Bool) → same_message a b ≡ z
+        → (x && y) ≡ z
     go true e true f true g = refl
     go true e true f false g =
         let sender : a.sender ≡ b.sender = eqb-true a.sender b.sender e in

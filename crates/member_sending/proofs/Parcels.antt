@@ -16,7 +16,8 @@ pub want-to : (x k : ℕ) (to : List ℕ) → to ≢ [] → each_to to (frames_o
 want-to x k [] some = absurd (some refl)
 want-to x k (q ∷ qs) some = to-some (Want x k) q qs
 
-pub bundle-to : (cs : List Claim) (to : List ℕ) → to ≢ [] → each_to to (frames_of (Bundle cs)) ≡ flat_map frames_to (unless_empty cs Bundle to)
+pub bundle-to : (cs : List Claim) (to : List ℕ) → to ≢ []
+    → each_to to (frames_of (Bundle cs)) ≡ flat_map frames_to (unless_empty cs Bundle to)
 bundle-to cs [] some = absurd (some refl)
 bundle-to [] (q ∷ qs) some = refl
 bundle-to (c ∷ cs) (q ∷ qs) some = to-some (Bundle (c ∷ cs)) q qs
@@ -31,7 +32,8 @@ bundle-none [] to e = refl
 bundle-none (c ∷ cs) to e = ap (λ qs. flat_map frames_to (sends_to qs (Bundle (c ∷ cs)))) e
 
 -- a frame is handed over: the others are left
-pub handed-more : (to : List ℕ) (sends sends' : List Sending) (out : Sending) (frames frames' : List (List ℕ)) (whole : List (List ℕ × List ℕ)) → out.to ≡ to → frames ≡ out.frame ∷ frames' → sends' ≡ sends ++ out ∷ []
+pub handed-more : (to : List ℕ) (sends sends' : List Sending) (out : Sending) (frames frames' : List (List ℕ))
+    (whole : List (List ℕ × List ℕ)) → out.to ≡ to → frames ≡ out.frame ∷ frames' → sends' ≡ sends ++ out ∷ []
     → map frame_to sends ++ each_to to frames ≡ whole → map frame_to sends' ++ each_to to frames' ≡ whole
 handed-more to sends sends' out frames frames' whole addressed first pushed way =
     ap (λ ss. map frame_to ss ++ each_to to frames') pushed

@@ -45,11 +45,13 @@ use Rattle.member_settling.proofs.Installing.{length-more, none-perceived, none-
 next-number : (v : View) (u : Update) → next_fault v u ≡ None → v.number ≤ 1023 → v.number + 1 ≤ 1023
 next-number v u none le = go (v.number == last_number) refl none
   where
-    go : (b : Bool) → (v.number == last_number) ≡ b → (if b then Some ViewsSpent else first_that_holds (update_faults v u)) ≡ None → v.number + 1 ≤ 1023
+    go : (b : Bool) → (v.number == last_number) ≡ b → (if b then Some ViewsSpent else first_that_holds (update_faults v u)) ≡ None
+        → v.number + 1 ≤ 1023
     go true e f = absurd cc
     go false e f = elim (cases_lt v.number 1023) [
       | inl lt ↦ omega (arith, lt)
-      | inr ge ↦ absurd (let yes : (v.number == 1023) ≡ true = eq-eqb v.number 1023 (omega (arith, le, ge)) in let no : false ≡ true = sym e ∙ yes in cc)
+      | inr ge ↦ absurd (let yes : (v.number == 1023) ≡ true = eq-eqb v.number 1023 (omega (arith, le, ge)) in let no : false
+          ≡ true = sym e ∙ yes in cc)
     ]
 
 -- ---- the state
@@ -59,18 +61,26 @@ pub record HasBegun (v : View) (d : ℕ × Value) (mine : ℕ) (old new : Proces
   pub limit : new.batch_limit ≡ old.batch_limit
   pub own : Begins v old.own new.own mine
   pub pool : new.pool.pool ≡ empty_pool v
-  pub phase : (p : Process) → p.pool.view ≡ v → p.me ≡ new.own.me → p.halted ≡ false → p.decision ≡ None → is_ended p ≡ false → IsIn new.phase p
+  pub phase : (p : Process) → p.pool.view ≡ v → p.me ≡ new.own.me → p.halted ≡ false → p.decision ≡ None → is_ended p ≡ false
+      → IsIn new.phase p
   pub asked : (u : Update) → has_update new.perceived u ≡ false
   pub said : new.said.claims ≡ []
   pub pairs : new.conflicts.pairs ≡ old.conflicts.pairs
   pub previous : new.archive.previous ≡ Some old.pool.pool
-  pub commits : new.archive.commits ≡ old.archive.commits ++ all_signed (certificate old.pool.pool (Ready old.pool.pool.view.number d.0 d.1)) ∷ []
-  pub account : account new.account ≡ record (account old.account) { views = (account old.account).views ++ v ∷ []; delivered = (account old.account).delivered ++ [] ∷ [] }
+  pub commits : new.archive.commits ≡ old.archive.commits
+      ++ all_signed (certificate old.pool.pool (Ready old.pool.pool.view.number d.0 d.1)) ∷ []
+  pub account : account new.account
+      ≡ record (account old.account) {
+        views = (account old.account).views ++ v ∷ [];
+        delivered = (account old.account).delivered ++ [] ∷ [];
+      }
 
 later : (x : ℕ) (es : List (ℕ × Update)) → All (λ e. e.0 ≤ x) es → All (λ e. e.0 ≤ x + 1) es
-later x es all = mem-All (λ (e : ℕ × Update). e.0 ≤ x + 1) es (λ e m. let le = All-mem (λ (e : ℕ × Update). e.0 ≤ x) es e all m in omega (arith, le))
+later x es all = mem-All (λ (e : ℕ × Update). e.0 ≤ x + 1) es
+    (λ e m. let le = All-mem (λ (e : ℕ × Update). e.0 ≤ x) es e all m in omega (arith, le))
 
-module _ (s : Setting) (p : Process) (d : ℕ × Value) (old new : ProcessState) (v : View) (mine : ℕ) (leaving : IsLeaving s p d old) (is : v ≡ next_view p.pool.view d.1.update) (own : mine ≡ delivered_from p.me p.delivered) (begun : HasBegun v d mine old new) where
+module _ (s : Setting) (p : Process) (d : ℕ × Value) (old new : ProcessState) (v : View) (mine : ℕ) (leaving : IsLeaving s p d old)
+    (is : v ≡ next_view p.pool.view d.1.update) (own : mine ≡ delivered_from p.me p.delivered) (begun : HasBegun v d mine old new) where
   abbrev ok : IsStateOf s p (in_phase leaving.phase old)
   ok = leaving.state
 
@@ -78,7 +88,8 @@ module _ (s : Setting) (p : Process) (d : ℕ × Value) (old new : ProcessState)
   q = install d p
 
   begins : Begins (next_view p.pool.view d.1.update) old.own new.own (delivered_from p.me p.delivered)
-  begins = subst (λ v. Begins v old.own new.own (delivered_from p.me p.delivered)) is (subst (λ n. Begins v old.own new.own n) own begun.own)
+  begins = subst (λ v. Begins v old.own new.own (delivered_from p.me p.delivered)) is
+      (subst (λ n. Begins v old.own new.own n) own begun.own)
 
   fresh : new.pool.pool ≡ record { view = next_view p.pool.view d.1.update; heard = [] }
   fresh = begun.pool ∙ ap empty_pool is
@@ -100,7 +111,8 @@ module _ (s : Setting) (p : Process) (d : ℕ × Value) (old new : ProcessState)
       ∙ sym begun.commits
 
   -- one view more, in which nothing is delivered
-  with_view : account_of q ≡ record (account_of p) { views = views_of p ++ next_view p.pool.view d.1.update ∷ []; delivered = deliveries_of p ++ [] ∷ [] }
+  with_view : account_of q ≡ record
+      (account_of p) { views = views_of p ++ next_view p.pool.view d.1.update ∷ []; delivered = deliveries_of p ++ [] ∷ [] }
   with_view = λ i. record {
     me = p.me;
     views = map-append (λ (l : Left). l.view) p.left (left-now ∷ []) i ++ next_view p.pool.view d.1.update ∷ [];
@@ -112,8 +124,14 @@ module _ (s : Setting) (p : Process) (d : ℕ × Value) (old new : ProcessState)
   told : account_of q ≡ account new.account
   told =
       with_view
-      ∙ ap (λ (a : Account). record a { views = a.views ++ next_view p.pool.view d.1.update ∷ []; delivered = a.delivered ++ [] ∷ [] }) ok.account
-      ∙ ap (λ (w : View). record (account old.account) { views = (account old.account).views ++ w ∷ []; delivered = (account old.account).delivered ++ [] ∷ [] }) (sym is)
+      ∙ ap (λ (a : Account). record a {
+        views = a.views ++ next_view p.pool.view d.1.update ∷ [];
+        delivered = a.delivered ++ [] ∷ [];
+      }) ok.account
+      ∙ ap (λ (w : View). record (account old.account) {
+        views = (account old.account).views ++ w ∷ [];
+        delivered = (account old.account).delivered ++ [] ∷ [];
+      }) (sym is)
       ∙ sym begun.account
 
   pub installs-state : IsStateOf s q new
@@ -142,7 +160,8 @@ module _ (s : Setting) (p : Process) (d : ℕ × Value) (old new : ProcessState)
   }
     where
       none : next_fault p.pool.view d.1.update ≡ None
-      none = none-is (next_fault p.pool.view d.1.update) (and-first (is_none (next_fault p.pool.view d.1.update)) (has_keys (keyed s) d.1.update) (ok.decided d leaving.decision).possible)
+      none = none-is (next_fault p.pool.view d.1.update)
+          (and-first (is_none (next_fault p.pool.view d.1.update)) (has_keys (keyed s) d.1.update) (ok.decided d leaving.decision).possible)
 
       number : p.pool.view.number + 1 ≤ 1023
       number = next-number p.pool.view d.1.update none ok.lawful.number
@@ -151,7 +170,8 @@ module _ (s : Setting) (p : Process) (d : ℕ × Value) (old new : ProcessState)
       view = next_is_view p.pool.view d.1.update none ok.lawful.pool.view
 
 -- the view is told
-pub installs-told : (p : Process) (d : ℕ × Value) (v : View) (was now : List code.Note) (n : code.Note) → now ≡ was ++ n ∷ [] → note n ≡ Installs v → v ≡ next_view p.pool.view d.1.update → TellsInstalled p (install d p) was now
+pub installs-told : (p : Process) (d : ℕ × Value) (v : View) (was now : List code.Note) (n : code.Note) → now ≡ was ++ n ∷ []
+    → note n ≡ Installs v → v ≡ next_view p.pool.view d.1.update → TellsInstalled p (install d p) was now
 installs-told p d v was now n more says is =
     ap (map note) more
     ∙ map-append note was (n ∷ [])
@@ -159,24 +179,47 @@ installs-told p d v was now n more says is =
     ∙ ap (λ b. map note was ++ note_if b (Installs (next_view p.pool.view d.1.update))) (sym longer)
   where
     longer : nat_lt (length p.left) (length (install d p).left) ≡ true
-    longer = lt-ltb (length p.left) (length (install d p).left) (let one = length-more p.left (record { view = p.pool.view; delivered = p.delivered; commit = certificate p.pool (Ready p.pool.view.number d.0 d.1) }) in omega (arith, one))
+    longer = lt-ltb (length p.left) (length (install d p).left)
+        (let one = length-more p.left (record {
+          view = p.pool.view;
+          delivered = p.delivered;
+          commit = certificate p.pool (Ready p.pool.view.number d.0 d.1);
+        }) in omega (arith, one))
 
 -- the own messages that were delivered
-pub mine-is : (s : Setting) (p : Process) (st : ProcessState) (mine : ℕ) → IsStateOf s p st → ((ds : List defs.Delivered) → IsLast (account st.account).delivered ds → mine ≡ delivered_from st.account.me ds) → mine ≡ delivered_from p.me p.delivered
-mine-is s p st mine ok counts = counts p.delivered (last s p st ok) ∙ ap (λ m. delivered_from m p.delivered) (sym (ap (λ (a : Account). a.me) ok.account))
+pub mine-is : (s : Setting) (p : Process) (st : ProcessState) (mine : ℕ) → IsStateOf s p st
+    → ((ds : List defs.Delivered) → IsLast (account st.account).delivered ds → mine ≡ delivered_from st.account.me ds)
+    → mine ≡ delivered_from p.me p.delivered
+mine-is s p st mine ok counts = counts p.delivered (last s p st ok) ∙ ap (λ m. delivered_from m p.delivered)
+    (sym (ap (λ (a : Account). a.me) ok.account))
 
 -- the view behind is that which follows, and there is one
-pub behind-some : (s : Setting) (p : Process) (d : ℕ × Value) (st : ProcessState) (v : View) (o : Option View) → IsLeaving s p d st → o ≡ result_ok (next st.pool.pool.view d.1.update) → o ≡ Some v → v ≡ next_view p.pool.view d.1.update
-behind-some s p d st v o leaving is some = go (next_fault st.pool.pool.view d.1.update) (sym some ∙ is) ∙ ap (λ (h : defs.Pool). next_view h.view d.1.update) (sym leaving.state.place.pool)
+pub behind-some : (s : Setting) (p : Process) (d : ℕ × Value) (st : ProcessState) (v : View) (o : Option View) → IsLeaving s p d st
+    → o ≡ result_ok (next st.pool.pool.view d.1.update) → o ≡ Some v → v ≡ next_view p.pool.view d.1.update
+behind-some s p d st v o leaving is some = go (next_fault st.pool.pool.view d.1.update)
+    (sym some ∙ is) ∙ ap (λ (h : defs.Pool). next_view h.view d.1.update) (sym leaving.state.place.pool)
   where
-    go : (o : Option UpdateFault) → (let it : Result View UpdateFault = elim o [ None ↦ Ok (next_view st.pool.pool.view d.1.update) | Some fault ↦ Err fault ] in Some v ≡ result_ok it) → v ≡ next_view st.pool.pool.view d.1.update
+    go : (o : Option UpdateFault) →
+        (let it : Result View UpdateFault = elim o [ None ↦ Ok (next_view st.pool.pool.view d.1.update) | Some fault ↦ Err fault ] in Some v
+        ≡ result_ok it) → v ≡ next_view st.pool.pool.view d.1.update
     go None e = cc
     go (Some fault) e = absurd cc
 
-pub behind-none : (s : Setting) (p : Process) (d : ℕ × Value) (st : ProcessState) (o : Option View) → IsLeaving s p d st → o ≡ result_ok (next st.pool.pool.view d.1.update) → o ≡ None → ⊥
+pub behind-none : (s : Setting) (p : Process) (d : ℕ × Value) (st : ProcessState) (o : Option View) → IsLeaving s p d st
+    → o ≡ result_ok (next st.pool.pool.view d.1.update) → o ≡ None → ⊥
 behind-none s p d st o leaving is none =
     let possible = (leaving.state.decided d leaving.decision).possible in
-    let fault : next_fault st.pool.pool.view d.1.update ≡ None = ap (λ (h : defs.Pool). next_fault h.view d.1.update) (sym leaving.state.place.pool) ∙ none-is (next_fault p.pool.view d.1.update) (and-first (is_none (next_fault p.pool.view d.1.update)) (has_keys (keyed s) d.1.update) possible) in
-    let some : next st.pool.pool.view d.1.update ≡ Ok (next_view st.pool.pool.view d.1.update) = ap (λ (o : Option UpdateFault). let it : Result View UpdateFault = elim o [ None ↦ Ok (next_view st.pool.pool.view d.1.update) | Some fault ↦ Err fault ] in it) fault in
-    let clash : None ≡ Some (next_view st.pool.pool.view d.1.update) = sym none ∙ is ∙ ap (λ (r : Result View UpdateFault). result_ok r) some in
+    let fault : next_fault st.pool.pool.view d.1.update
+    ≡ None = ap (λ (h : defs.Pool). next_fault h.view d.1.update)
+    (sym leaving.state.place.pool) ∙ none-is (next_fault p.pool.view d.1.update)
+    (and-first (is_none (next_fault p.pool.view d.1.update)) (has_keys (keyed s) d.1.update) possible) in
+    let some : next st.pool.pool.view d.1.update
+    ≡ Ok (next_view st.pool.pool.view d.1.update) = ap
+    (λ (o : Option UpdateFault). let it : Result View UpdateFault = elim o [
+      | None ↦ Ok
+          (next_view st.pool.pool.view d.1.update)
+      | Some fault ↦ Err fault
+    ] in it) fault in
+    let clash : None ≡ Some (next_view st.pool.pool.view d.1.update) = sym none ∙ is ∙ ap
+    (λ (r : Result View UpdateFault). result_ok r) some in
     cc

@@ -36,7 +36,16 @@ module _ (p : Process) (decision : Option (ℕ × Value)) (stops : Bool) where
   changed = record p { decision = decision; halted = stops }
 
   lawful-so : IsLawful p → IsLawful changed
-  lawful-so ok = record { number = ok.number; pool = ok.pool; own = ok.own; past = ok.past; said = ok.said; short = ok.short; batches = ok.batches; asked = ok.asked }
+  lawful-so ok = record {
+    number = ok.number;
+    pool = ok.pool;
+    own = ok.own;
+    past = ok.past;
+    said = ok.said;
+    short = ok.short;
+    batches = ok.batches;
+    asked = ok.asked;
+  }
 
   bounded-so : IsBounded p → IsBounded changed
   bounded-so ok = record { now = ok.now; before = ok.before; backlog = ok.backlog }
@@ -47,7 +56,14 @@ module _ (p : Process) (decision : Option (ℕ × Value)) (stops : Bool) where
     number = is.number;
     position = is.position;
     keys = is.keys;
-    signed = record { slots = is.signed.slots; end = is.signed.end; greatest = is.signed.greatest; last_ready = is.signed.last_ready; how_many = is.signed.how_many; names = is.signed.names };
+    signed = record {
+      slots = is.signed.slots;
+      end = is.signed.end;
+      greatest = is.signed.greatest;
+      last_ready = is.signed.last_ready;
+      how_many = is.signed.how_many;
+      names = is.signed.names;
+    };
     delivered = record { places = is.delivered.places; counts = is.delivered.counts };
     before = is.before;
   }
@@ -82,11 +98,17 @@ module _ (p : Process) (decision : Option (ℕ × Value)) (stops : Bool) where
   }
 
 -- the state of a process that decides
-pub decides-state : (s : Setting) (p : Process) (st : ProcessState) (phase : Phase) → IsIn phase (decide s p) → IsStateOf s p st → IsStateOf s (decide s p) (in_phase phase st)
+pub decides-state : (s : Setting) (p : Process) (st : ProcessState) (phase : Phase) → IsIn phase (decide s p) → IsStateOf s p st
+    → IsStateOf s (decide s p) (in_phase phase st)
 decides-state s p st phase is ok = state-so p (option_or p.decision (decided_by s p.pool)) p.halted s st phase
-    (λ d e. elim (option_or-is p.decision (decided_by s p.pool) d e) [ inl was ↦ ok.decided d was | inr now ↦ (let by = decided-is s p.pool d now in record { certified = by.certified; possible = by.possible }) ])
+    (λ d e. elim (option_or-is p.decision (decided_by s p.pool) d e) [
+      | inl was ↦ ok.decided d was
+      | inr now ↦
+          (let by = decided-is s p.pool d now in record { certified = by.certified; possible = by.possible })
+    ])
     ok.halted_member
-    (λ stops d e. elim (option_or-is p.decision (decided_by s p.pool) d e) [ inl was ↦ ok.halted_beyond stops d was | inr now ↦ earlier stops d e ])
+    (λ stops d e. elim (option_or-is p.decision
+    (decided_by s p.pool) d e) [ inl was ↦ ok.halted_beyond stops d was | inr now ↦ earlier stops d e ])
     is ok
   where
     -- it had decided before
@@ -98,7 +120,8 @@ decides-state s p st phase is ok = state-so p (option_or p.decision (decided_by 
 
 -- who has decided, or where no rank decides, stays as it is
 pub stays-decided : (s : Setting) (p : Process) (d : ℕ × Value) → p.decision ≡ Some d → decide s p ≡ p
-stays-decided s p d e = ap (λ (o : Option (ℕ × Value)). record p { decision = o }) (ap (λ (o : Option (ℕ × Value)). option_or o (decided_by s p.pool)) e ∙ sym e)
+stays-decided s p d e = ap (λ (o : Option (ℕ × Value)). record p { decision = o })
+    (ap (λ (o : Option (ℕ × Value)). option_or o (decided_by s p.pool)) e ∙ sym e)
 
 pub stays-undecided : (s : Setting) (p : Process) → decided_by s p.pool ≡ None → decide s p ≡ p
 stays-undecided s p e = ap (λ (o : Option (ℕ × Value)). record p { decision = o }) (ap (option_or p.decision) e ∙ go p.decision)

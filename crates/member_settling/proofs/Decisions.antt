@@ -21,10 +21,12 @@ pub record Decides (s : Setting) (h : Pool) (d : ℕ × Value) : Type 0 where
 pub decided-is : (s : Setting) (h : Pool) (d : ℕ × Value) → decided_by s h ≡ Some d → Decides s h d
 decided-is s h d e =
     let at = first_some-is (decided_at s h) (range_with_len 0 (number_of_members h)) d e in
-    let v = then-some (λ v. if is_possible (keyed s) h.view v.update then Some (at.0, v) else None) (value_at h (ReadyAt h.view.number at.0)) d at.1 in
+    let v = then-some (λ v. if is_possible (keyed s) h.view v.update then Some (at.0, v) else None)
+    (value_at h (ReadyAt h.view.number at.0)) d at.1 in
     go at.0 v.0 v.1 (is_possible (keyed s) h.view v.0.update) refl v.2
   where
-    go : (r : ℕ) (w : Value) → value_at h (ReadyAt h.view.number r) ≡ Some w → (b : Bool) → is_possible (keyed s) h.view w.update ≡ b → (if b then Some (r, w) else None) ≡ Some d → Decides s h d
+    go : (r : ℕ) (w : Value) → value_at h (ReadyAt h.view.number r) ≡ Some w → (b : Bool) → is_possible (keyed s) h.view w.update ≡ b
+        → (if b then Some (r, w) else None) ≡ Some d → Decides s h d
     go r w e true f is = subst (Decides s h) (some-same (r, w) d is) (record { certified = e; possible = f })
     go r w e false f is = absurd cc
 
@@ -39,15 +41,19 @@ readied-is (Ready y q w) x r v e f = let rank : q ≡ r = cc in let is : w ≡ v
 readied-is _ x r v e f = absurd cc
 
 -- the certified Ready of the rank that decides
-pub ready-decides : (s : Setting) (h : Pool) (ks : List ℕ) (d : ℕ × Value) (st : Statement) → ((q : ℕ) → has (keyed s) q ≡ has ks q) → decided_by s h ≡ Some d → certified_on h (ReadyAt h.view.number d.0) ≡ Some st
+pub ready-decides : (s : Setting) (h : Pool) (ks : List ℕ) (d : ℕ × Value) (st : Statement) → ((q : ℕ) → has (keyed s) q ≡ has ks q)
+    → decided_by s h ≡ Some d → certified_on h (ReadyAt h.view.number d.0) ≡ Some st
     → option_and_then (λ (d : ℕ × Value). if is_possible ks h.view d.1.update then Some d else None) (readied st) ≡ decided_by s h
 ready-decides s h ks d st same e on =
     let by = decided-is s h d e in
     let said : value_of st ≡ Some d.1 = sym (ap (option_and_then value_of) on) ∙ by.certified in
     let ready : readied st ≡ Some d = readied-is st h.view.number d.0 d.1 (certified_on-is h (ReadyAt h.view.number d.0) st on).1 said in
     let possible : is_possible ks h.view d.1.update ≡ true = sym (same-keys (keyed s) ks same h.view d.1.update) ∙ by.possible in
-    ap (option_and_then (λ (d : ℕ × Value). if is_possible ks h.view d.1.update then Some d else None)) ready ∙ ap (λ b. if b then Some d else None) possible ∙ sym e
+    ap (option_and_then (λ (d : ℕ × Value). if is_possible ks h.view d.1.update then Some d else None)) ready ∙ ap
+    (λ b. if b then Some d else None) possible ∙ sym e
 
 -- it is certified
-pub ready-certified : (s : Setting) (h : Pool) (d : ℕ × Value) → decided_by s h ≡ Some d → certified_on h (ReadyAt h.view.number d.0) ≡ None → ⊥
-ready-certified s h d e none = let by = (decided-is s h d e).certified in let clash : None ≡ Some d.1 = sym (ap (option_and_then value_of) none) ∙ by in cc
+pub ready-certified : (s : Setting) (h : Pool) (d : ℕ × Value) → decided_by s h ≡ Some d → certified_on h (ReadyAt h.view.number d.0) ≡ None
+    → ⊥
+ready-certified s h d e none = let by = (decided-is s h d e).certified in let clash : None
+    ≡ Some d.1 = sym (ap (option_and_then value_of) none) ∙ by in cc

@@ -42,7 +42,16 @@ module _ (p : Process) (ds : List defs.Delivered) where
   further = record p { delivered = p.delivered ++ ds }
 
   lawful-so : IsLawful p → IsLawful further
-  lawful-so ok = record { number = ok.number; pool = ok.pool; own = ok.own; past = ok.past; said = ok.said; short = ok.short; batches = ok.batches; asked = ok.asked }
+  lawful-so ok = record {
+    number = ok.number;
+    pool = ok.pool;
+    own = ok.own;
+    past = ok.past;
+    said = ok.said;
+    short = ok.short;
+    batches = ok.batches;
+    asked = ok.asked;
+  }
 
   phase-so : (phase : Phase) → (p.halted ≡ true → ⊥) → IsIn phase p → IsIn phase further
   phase-so (phases.Observing o) on is = is
@@ -55,11 +64,19 @@ module _ (p : Process) (ds : List defs.Delivered) where
   pub account-so : (a b : Account) → account_of p ≡ a → b ≡ record a { delivered = b.delivered }
       → b.delivered ≡ map (λ (v : Left). v.delivered) p.left ++ (p.delivered ++ ds) ∷ [] → account_of further ≡ b
   account-so a b is rest now =
-      let same : account_of further ≡ record a { delivered = b.delivered } = λ i. record { me = (is i).me; views = (is i).views; delivered = sym now i; accepted = (is i).accepted; perceived = (is i).perceived } in
+      let same : account_of further ≡ record a { delivered = b.delivered } = λ i. record {
+        me = (is i).me;
+        views = (is i).views;
+        delivered = sym now i;
+        accepted = (is i).accepted;
+        perceived = (is i).perceived;
+      } in
       same ∙ sym rest
 
-  pub delivers-state : (s : Setting) (st : ProcessState) (own : Own) (told : code.Account) → IsStateOf s p st → (next : IsNext p ds) → places_in p.delivered < limit p
-      → OnePlaceMore p.pool.view next.batch p.delivered st.own own → account_of further ≡ account told → IsStateOf s further (record st { own = own; account = told })
+  pub delivers-state : (s : Setting) (st : ProcessState) (own : Own) (told : code.Account) → IsStateOf s p st → (next : IsNext p ds)
+      → places_in p.delivered < limit p
+      → OnePlaceMore p.pool.view next.batch p.delivered st.own own → account_of further ≡ account told
+      → IsStateOf s further (record st { own = own; account = told })
   delivers-state s st own told ok next below more tells = record {
     lawful = lawful-so ok.lawful;
     bounded = delivering-bounded p ds next ok.bounded;
@@ -88,18 +105,30 @@ module _ (p : Process) (ds : List defs.Delivered) where
           go None e = (let was = halted-decided st.phase p ok.phase stops in none-some e was.1)
 
 -- the next place is put, counted and told
-pub place-delivered : (s : Setting) (p : Process) (st : ProcessState) → IsStateOf s p st → (ds : List defs.Delivered) (b : Batch) (own : Own) (told : code.Account) (was now : List notes.Note) → ComesNext p ds b
+pub place-delivered : (s : Setting) (p : Process) (st : ProcessState) → IsStateOf s p st
+    → (ds : List defs.Delivered) (b : Batch) (own : Own) (told : code.Account) (was now : List notes.Note) → ComesNext p ds b
     → OnePlaceMore st.pool.pool.view b p.delivered st.own own
     → account told ≡ record (account st.account) { delivered = (account told).delivered }
-    → (delivery st.pool.pool st.own.delivered b ≡ Some ds → (before : List (List defs.Delivered)) (last : List defs.Delivered) → (account st.account).delivered ≡ before ++ last ∷ [] → ArePutLast st.pool.pool.view.number ds before last (account told).delivered was now)
+    → (delivery st.pool.pool st.own.delivered b ≡ Some ds → (before : List (List defs.Delivered)) (last : List defs.Delivered)
+    → (account st.account).delivered ≡ before ++ last ∷ []
+    → ArePutLast st.pool.pool.view.number ds before last (account told).delivered was now)
     → steps.Delivers s p (record p { delivered = p.delivered ++ ds }) (record st { own = own; account = told }) was now
 place-delivered s p st ok ds b own told was now comes more rest puts =
     let next = is-next p ds ok.lawful.pool comes.delivers in
     let batch : next.batch ≡ b = sym next.names ∙ comes.batch in
-    let moved : delivery p.pool (places_in p.delivered) next.batch ≡ delivery st.pool.pool st.own.delivered b = λ i. delivery (ok.place.pool i) (ok.place.delivered.places i) (batch i) in
-    let put = puts (sym moved ∙ next.delivers) (map (λ (v : Left). v.delivered) p.left) p.delivered (sym (ap (λ (a : Account). a.delivered) ok.account)) in
-    let counted : OnePlaceMore p.pool.view next.batch p.delivered st.own own = subst (λ c. OnePlaceMore p.pool.view c p.delivered st.own own) (sym batch) (subst (λ (h : defs.Pool). OnePlaceMore h.view b p.delivered st.own own) (sym ok.place.pool) more) in
+    let moved : delivery p.pool (places_in p.delivered) next.batch
+    ≡ delivery st.pool.pool st.own.delivered b = λ i. delivery (ok.place.pool i) (ok.place.delivered.places i) (batch i) in
+    let put = puts (sym moved ∙ next.delivers)
+    (map (λ (v : Left). v.delivered) p.left) p.delivered (sym (ap (λ (a : Account). a.delivered) ok.account)) in
+    let counted : OnePlaceMore p.pool.view next.batch p.delivered st.own own = subst
+    (λ c. OnePlaceMore p.pool.view c p.delivered st.own own) (sym batch)
+    (subst (λ (h : defs.Pool). OnePlaceMore h.view b p.delivered st.own own) (sym ok.place.pool) more) in
     record {
-      state = delivers-state p ds s st own told ok next comes.below counted (account-so p ds (account st.account) (account told) ok.account rest put.delivered);
-      told = record { more = ds; delivered = refl; told = subst (λ (h : defs.Pool). map note now ≡ map note was ++ map (Delivers h.view.number) ds) (sym ok.place.pool) put.told };
+      state = delivers-state p ds s st own told ok next comes.below counted
+          (account-so p ds (account st.account) (account told) ok.account rest put.delivered);
+      told = record {
+        more = ds;
+        delivered = refl;
+        told = subst (λ (h : defs.Pool). map note now ≡ map note was ++ map (Delivers h.view.number) ds) (sym ok.place.pool) put.told;
+      };
     }

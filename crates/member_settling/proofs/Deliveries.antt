@@ -9,14 +9,23 @@ pub no-more : (p : Process) → deliver_more 0 p ≡ p
 unfolding deliver_more
 no-more p = refl
 
-pub one-more : (more : ℕ) (p : Process) (ds : List Delivered) → deliverable p ≡ Some ds → deliver_more (suc more) p ≡ deliver_more more (record p { delivered = p.delivered ++ ds })
+pub one-more : (more : ℕ) (p : Process) (ds : List Delivered) → deliverable p ≡ Some ds
+    → deliver_more (suc more) p ≡ deliver_more more (record p { delivered = p.delivered ++ ds })
 unfolding deliver_more
-one-more more p ds e = ap (λ (o : Option (List Delivered)). let it : Process = elim o [ None ↦ p | Some ds ↦ deliver_more more (record p { delivered = p.delivered ++ ds }) ] in it) e
+one-more more p ds e = ap (λ (o : Option (List Delivered)). let it : Process = elim o [
+  | None ↦ p
+  | Some ds ↦ deliver_more more
+      (record p { delivered = p.delivered ++ ds })
+] in it) e
 
 pub none-more : (more : ℕ) (p : Process) → deliverable p ≡ None → deliver_more more p ≡ p
 unfolding deliver_more
 none-more zero p e = refl
-none-more (suc more) p e = ap (λ (o : Option (List Delivered)). let it : Process = elim o [ None ↦ p | Some ds ↦ deliver_more more (record p { delivered = p.delivered ++ ds }) ] in it) e
+none-more (suc more) p e = ap (λ (o : Option (List Delivered)). let it : Process = elim o [
+  | None ↦ p
+  | Some ds ↦ deliver_more more
+      (record p { delivered = p.delivered ++ ds })
+] in it) e
 
 -- of a member
 pub member-delivers : (p : Process) → is_member p.pool.view p.me ≡ true → deliver p ≡ deliver_more (limit p - places_in p.delivered) p
@@ -32,8 +41,10 @@ unfolding deliver_more
 more-left zero p = refl
 more-left (suc more) p = go (deliverable p) (λ ds. more-left more (record p { delivered = p.delivered ++ ds }))
   where
-    go : (o : Option (List Delivered)) → ((ds : List Delivered) → (deliver_more more (record p { delivered = p.delivered ++ ds })).left ≡ p.left)
-        → (let it : Process = elim o [ None ↦ p | Some ds ↦ deliver_more more (record p { delivered = p.delivered ++ ds }) ] in it.left ≡ p.left)
+    go : (o : Option (List Delivered))
+        → ((ds : List Delivered) → (deliver_more more (record p { delivered = p.delivered ++ ds })).left ≡ p.left)
+        → (let it : Process = elim o [ None ↦ p | Some ds ↦ deliver_more more (record p { delivered = p.delivered ++ ds }) ] in it.left
+        ≡ p.left)
     go None rest = refl
     go (Some ds) rest = rest ds
 

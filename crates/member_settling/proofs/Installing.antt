@@ -21,9 +21,11 @@ none-signed x cs past = go cs (λ c m. All-mem (λ (c : Claim). view_of c.statem
     go [] past = refl
     go (c ∷ cs) past = one (view_of c.statement == x + 1) refl (go cs (λ d m. past d (inr m)))
       where
-        one : (b : Bool) → (view_of c.statement == x + 1) ≡ b → filter (λ c. view_of c.statement == x + 1) cs ≡ [] → (if b then c ∷ filter (λ c. view_of c.statement == x + 1) cs else filter (λ c. view_of c.statement == x + 1) cs) ≡ []
+        one : (b : Bool) → (view_of c.statement == x + 1) ≡ b → filter (λ c. view_of c.statement == x + 1) cs ≡ []
+            → (if b then c ∷ filter (λ c. view_of c.statement == x + 1) cs else filter (λ c. view_of c.statement == x + 1) cs) ≡ []
         one false e rest = rest
-        one true e rest = (let same = eqb-true (view_of c.statement) (x + 1) e in let le = past c (inl refl) in absurd (omega (arith, same, le)))
+        one true e rest = (let same = eqb-true (view_of c.statement)
+            (x + 1) e in let le = past c (inl refl) in absurd (omega (arith, same, le)))
 
 -- nothing is perceived in a view behind those of these updates
 pub none-perceived : (x : ℕ) (p : Process) (u : Update) → All (λ e. e.0 ≤ x) p.perceived → is_perceived p (x + 1, u) ≡ false
@@ -40,14 +42,16 @@ none-perceived x p u past = go (is_perceived p (x + 1, u)) refl
 
 range-snoc : (a n : ℕ) → range_with_len a (suc n) ≡ range_with_len a n ++ (a + n) ∷ []
 range-snoc a zero = (let same : a ≡ a + 0 = omega arith in ap (λ x. x ∷ []) same)
-range-snoc a (suc n) = (let same : (a + 1) + n ≡ a + suc n = omega arith in ap (λ xs. a ∷ xs) (range-snoc (a + 1) n ∙ ap (λ x. range_with_len (a + 1) n ++ x ∷ []) same))
+range-snoc a (suc n) = (let same : (a + 1) + n
+    ≡ a + suc n = omega arith in ap (λ xs. a ∷ xs) (range-snoc (a + 1) n ∙ ap (λ x. range_with_len (a + 1) n ++ x ∷ []) same))
 
 pub length-more : {A : Type 0} (xs : List A) (x : A) → length (xs ++ x ∷ []) ≡ suc (length xs)
 length-more [] x = refl
 length-more (y ∷ xs) x = ap suc (length-more xs x)
 
 -- the views that were left are numbered 0, 1, 2 and so on
-pub numbered : (ls : List Left) (l : Left) → l.view.number ≡ length ls → map (λ (v : Left). v.view.number) ls ≡ range_with_len 0 (length ls) → map (λ (v : Left). v.view.number) (ls ++ l ∷ []) ≡ range_with_len 0 (length (ls ++ l ∷ []))
+pub numbered : (ls : List Left) (l : Left) → l.view.number ≡ length ls → map (λ (v : Left). v.view.number) ls ≡ range_with_len 0 (length ls)
+    → map (λ (v : Left). v.view.number) (ls ++ l ∷ []) ≡ range_with_len 0 (length (ls ++ l ∷ []))
 numbered ls l is before =
     map-append (λ (v : Left). v.view.number) ls (l ∷ [])
     ∙ ap (λ xs. xs ++ l.view.number ∷ []) before

@@ -6,7 +6,9 @@ use Rattle.group_defs.specs.Process.{delivered_from}
 use Rattle.stmt_codec.specs.declared.events.Delivered.{Delivered}
 use Rattle.accounts.specs.Views.{delivery}
 
-alike : (me n : ℕ) (ds : List Delivered) → fold (λ a (d : Delivered). a + cond (d.sender == me) 1 0) n ds ≡ fold (λ a (d : defs.Delivered). a + cond (d.message.sender == me) 1 0) n (map delivery ds)
+alike : (me n : ℕ) (ds : List Delivered)
+    → fold (λ a (d : Delivered). a + cond (d.sender == me) 1 0) n ds
+    ≡ fold (λ a (d : defs.Delivered). a + cond (d.message.sender == me) 1 0) n (map delivery ds)
 alike me n [] = refl
 alike me n (d ∷ ds) = alike me (n + cond (d.sender == me) 1 0) ds
 

@@ -21,7 +21,8 @@ pub data IsUndecided : Phase → Type 0 where
   closing : IsUndecided ClosingView
 
 pub undecided : (p : Process) (w : Phase) → IsUndecided w → phase_of p ≡ w → (p.halted ≡ false) × (p.decision ≡ None)
-undecided p w is e = let both = go p.halted (is_some p.decision) (not (is_member p.pool.view p.me)) (is_ended p) w is e in (both.0, none-there p.decision both.1)
+undecided p w is e = let both = go p.halted (is_some p.decision) (not (is_member p.pool.view p.me))
+    (is_ended p) w is e in (both.0, none-there p.decision both.1)
   where
     go : (a b c d : Bool) (w : Phase) → IsUndecided w → named a b c d ≡ w → (a ≡ false) × (b ≡ false)
     go true b c d Observing observing e = absurd cc

@@ -21,7 +21,8 @@ abbrev pub one : ℕ → ℕ × ℕ → List ℕ → defs.Delivered
 one k m payload = record { place = k; message = message_of m; payload = payload }
 
 -- of these deliveries so many are left to put
-pub record Putting (h : Pool) (k : ℕ) (left : List (ℕ × ℕ)) (ds : List defs.Delivered) (was now : List Delivered) (notes_was notes_now : List Note) : Type 0 where
+pub record Putting (h : Pool) (k : ℕ) (left : List (ℕ × ℕ)) (ds : List defs.Delivered) (was now : List Delivered)
+    (notes_was notes_now : List Note) : Type 0 where
   pub rest : List defs.Delivered
   pub delivers : delivery h k (map message_of left) ≡ Some rest
   pub delivered : map accounts.delivery now ++ rest ≡ map accounts.delivery was ++ ds
@@ -29,7 +30,8 @@ pub record Putting (h : Pool) (k : ℕ) (left : List (ℕ × ℕ)) (ds : List de
 
 -- whatever the messages deliver
 abbrev pub ArePutting : Pool → ℕ → List (ℕ × ℕ) → List (ℕ × ℕ) → List Delivered → List Delivered → List Note → List Note → Type 0
-ArePutting h k ms left was now notes_was notes_now = (ds : List defs.Delivered) → delivery h k (map message_of ms) ≡ Some ds → Putting h k left ds was now notes_was notes_now
+ArePutting h k ms left was now notes_was notes_now = (ds : List defs.Delivered) → delivery h k (map message_of ms) ≡ Some ds
+    → Putting h k left ds was now notes_was notes_now
 
 drop-at : (ms : List (ℕ × ℕ)) (i : ℕ) (m : ℕ × ℕ) → slice_get ms i ≡ Some m → drop i ms ≡ m ∷ drop (i + 1) ms
 drop-at ms i m at = let next : i + 1 ≡ suc i = omega arith in subst (λ j. drop i ms ≡ m ∷ drop j ms) (sym next) (go ms i at)
@@ -49,13 +51,18 @@ module _ (h : Pool) (k : ℕ) (ms : List (ℕ × ℕ)) (was : List Delivered) (n
   pub begins : ArePutting h k ms (drop 0 ms) was was notes_was notes_was
   begins ds e = record { rest = ds; delivers = e; delivered = refl; told = refl }
 
-  pub one-put : (i : ℕ) (m : ℕ × ℕ) (now now' : List Delivered) (notes notes' : List Note) → slice_get ms i ≡ Some m → ArePutting h k ms (drop i ms) was now notes_was notes
-      → ((payload : List ℕ) → payload_at h (message_of m) ≡ Some payload → ArePut h.view.number (one k m payload ∷ []) now now' notes notes') → ArePutting h k ms (drop (i + 1) ms) was now' notes_was notes'
+  pub one-put : (i : ℕ) (m : ℕ × ℕ) (now now' : List Delivered) (notes notes' : List Note) → slice_get ms i ≡ Some m
+      → ArePutting h k ms (drop i ms) was now notes_was notes
+      → ((payload : List ℕ) → payload_at h (message_of m) ≡ Some payload
+      → ArePut h.view.number (one k m payload ∷ []) now now' notes notes') → ArePutting h k ms (drop (i + 1) ms) was now' notes_was notes'
   one-put i m now now' notes notes' at so_far put ds e =
       let before = so_far ds e in
-      let head : delivery h k (message_of m ∷ map message_of (drop (i + 1) ms)) ≡ Some before.rest = ap (λ left. delivery h k (map message_of left)) (sym (drop-at ms i m at)) ∙ before.delivers in
-      let paid = then-some (λ payload. option_map (λ (ds : List defs.Delivered). one k m payload ∷ ds) (delivery h k (map message_of (drop (i + 1) ms)))) (payload_at h (message_of m)) before.rest head in
-      let tail = map-some (λ (ds : List defs.Delivered). one k m paid.0 ∷ ds) (delivery h k (map message_of (drop (i + 1) ms))) before.rest paid.2 in
+      let head : delivery h k (message_of m ∷ map message_of (drop (i + 1) ms))
+      ≡ Some before.rest = ap (λ left. delivery h k (map message_of left)) (sym (drop-at ms i m at)) ∙ before.delivers in
+      let paid = then-some (λ payload. option_map (λ (ds : List defs.Delivered). one k m payload ∷ ds)
+      (delivery h k (map message_of (drop (i + 1) ms)))) (payload_at h (message_of m)) before.rest head in
+      let tail = map-some (λ (ds : List defs.Delivered). one k m paid.0 ∷ ds)
+      (delivery h k (map message_of (drop (i + 1) ms))) before.rest paid.2 in
       let now_put = put paid.0 paid.1 in
       record {
         rest = tail.0;
@@ -76,8 +83,11 @@ module _ (h : Pool) (k : ℕ) (ms : List (ℕ × ℕ)) (was : List Delivered) (n
       → (ds : List defs.Delivered) → delivery h k (map message_of ms) ≡ Some ds → ArePut h.view.number ds was now notes_was notes
   all-put n now notes all so_far ds e =
       let it = so_far ds e in
-      let none : it.rest ≡ [] = some-same it.rest [] (sym it.delivers ∙ ap (λ left. delivery h k (map message_of left)) (drop-all ms n all)) in
+      let none : it.rest ≡ [] = some-same it.rest []
+      (sym it.delivers ∙ ap (λ left. delivery h k (map message_of left)) (drop-all ms n all)) in
       record {
-        delivered = sym (append-nil (map accounts.delivery now)) ∙ ap (λ (xs : List defs.Delivered). map accounts.delivery now ++ xs) (sym none) ∙ it.delivered;
-        told = sym (append-nil (map note notes)) ∙ ap (λ (xs : List defs.Delivered). map note notes ++ map (Delivers h.view.number) xs) (sym none) ∙ it.told;
+        delivered = sym (append-nil (map accounts.delivery now)) ∙ ap (λ (xs : List defs.Delivered). map accounts.delivery now ++ xs)
+            (sym none) ∙ it.delivered;
+        told = sym (append-nil (map note notes)) ∙ ap (λ (xs : List defs.Delivered). map note notes ++ map (Delivers h.view.number) xs)
+            (sym none) ∙ it.told;
       }

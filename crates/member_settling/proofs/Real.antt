@@ -29,13 +29,18 @@ module _ (s : Setting) (p : Process) (st : ProcessState) (ok : IsStateOf s p st)
   pub counts : All (λ c. c + 16 ≤ 65535) st.own.counts.items
   counts = subst (λ cs. All (λ c. c + 16 ≤ 65535) cs) ok.place.delivered.counts
       (mem-All (λ c. c + 16 ≤ 65535) (map (λ m. delivered_from m p.delivered) p.pool.view.members)
-      (λ c there. let m = map-mem (λ m. delivered_from m p.delivered) p.pool.view.members c there in subst (λ c. c + 16 ≤ 65535) m.2 (let few = delivered-few m.0 p.delivered ok.bounded.now in omega (arith, few))))
+      (λ c there. let m = map-mem (λ m. delivered_from m p.delivered) p.pool.view.members c there in subst (λ c. c + 16 ≤ 65535) m.2
+      (let few = delivered-few m.0 p.delivered ok.bounded.now in omega (arith, few))))
 
   pub last : IsLast (account st.account).delivered p.delivered
   last = record { before = map (λ (v : Left). v.delivered) p.left; is = sym (ap (λ (a : Account). a.delivered) ok.account) }
 
   pub short-last : HasLast (account st.account).delivered
-  short-last = record { last = p.delivered; is = last; short = (let few = ok.bounded.now.messages in let places = ok.bounded.now.places in omega (arith, few, places)) }
+  short-last = record {
+    last = p.delivered;
+    is = last;
+    short = (let few = ok.bounded.now.messages in let places = ok.bounded.now.places in omega (arith, few, places));
+  }
 
   pub before : (mine : ℕ) → mine ≡ delivered_from p.me p.delivered → st.own.earlier + mine ≤ 4294967295
   before mine is =
@@ -47,10 +52,12 @@ module _ (s : Setting) (p : Process) (st : ProcessState) (ok : IsStateOf s p st)
       omega (arith, few, all, left, number, same, is))
 
   pub ranged : IsRanged st.pool.pool
-  ranged = subst IsRanged ok.place.pool (by-recursion IsClaim p.pool.heard (λ c m. All-mem IsClaim p.pool.heard c ok.lawful.pool.in_range m))
+  ranged = subst IsRanged ok.place.pool
+      (by-recursion IsClaim p.pool.heard (λ c m. All-mem IsClaim p.pool.heard c ok.lawful.pool.in_range m))
 
   pub certified : (d : ℕ × Value) → p.decision ≡ Some d → value_at st.pool.pool (ReadyAt st.pool.pool.view.number d.0) ≡ Some d.1
   certified d e = subst (λ (h : Pool). value_at h (ReadyAt h.view.number d.0) ≡ Some d.1) ok.place.pool (ok.decided d e).certified
 
   pub order : st.pool.pool.view.number ≡ length st.archive.commits
-  order = sym (ap (λ (h : Pool). h.view.number) ok.place.pool) ∙ ok.number ∙ sym (length-map p.left (λ (v : Left). all_signed v.commit)) ∙ ap length ok.kept.commits
+  order = sym (ap (λ (h : Pool). h.view.number) ok.place.pool) ∙ ok.number ∙ sym
+      (length-map p.left (λ (v : Left). all_signed v.commit)) ∙ ap length ok.kept.commits

@@ -23,7 +23,8 @@ module _ (s : Setting) (signer : Signer) where
     none_due (suc left) p none = ap (goes left p) none
 
     -- where one is and a signature is left, it is signed, and so on
-    pub one_due : (left : ℕ) (p : Process) (st : Statement) → least_due s p kind ≡ Some st → sign_kind s signer kind (suc left) p ≡ sign_kind s signer kind left (signs s signer p st)
+    pub one_due : (left : ℕ) (p : Process) (st : Statement) → least_due s p kind ≡ Some st
+        → sign_kind s signer kind (suc left) p ≡ sign_kind s signer kind left (signs s signer p st)
     unfolding sign_kind goes
     one_due left p st due = ap (goes left p) due
 
@@ -34,14 +35,25 @@ module _ (s : Setting) (signer : Signer) where
 
   -- behind a kind come the others, unless a signature was wanting
   pub kind_done : (kind : Kind) (more : List Kind) (left : ℕ) (p : Process) → (sign_kind s signer kind left p).spent ≡ false
-      → sign_kinds s signer (kind ∷ more) left p ≡ sign_kinds s signer more (sign_kind s signer kind left p).left (sign_kind s signer kind left p).now
+      → sign_kinds s signer (kind ∷ more) left p
+      ≡ sign_kinds s signer more (sign_kind s signer kind left p).left (sign_kind s signer kind left p).now
   unfolding sign_kinds
-  kind_done kind more left p enough = ap (λ b. elim b [ true ↦ sign_kind s signer kind left p | false ↦ sign_kinds s signer more (sign_kind s signer kind left p).left (sign_kind s signer kind left p).now ]) enough
+  kind_done kind more left p enough = ap
+      (λ b. elim b [
+        | true ↦ sign_kind s signer kind left p
+        | false ↦ sign_kinds s signer more (sign_kind s signer kind left p).left
+            (sign_kind s signer kind left p).now
+      ]) enough
 
   pub kind_lacks : (kind : Kind) (more : List Kind) (left : ℕ) (p : Process) → (sign_kind s signer kind left p).spent ≡ true
       → sign_kinds s signer (kind ∷ more) left p ≡ sign_kind s signer kind left p
   unfolding sign_kinds
-  kind_lacks kind more left p lacks = ap (λ b. elim b [ true ↦ sign_kind s signer kind left p | false ↦ sign_kinds s signer more (sign_kind s signer kind left p).left (sign_kind s signer kind left p).now ]) lacks
+  kind_lacks kind more left p lacks = ap
+      (λ b. elim b [
+        | true ↦ sign_kind s signer kind left p
+        | false ↦ sign_kinds s signer more (sign_kind s signer kind left p).left
+            (sign_kind s signer kind left p).now
+      ]) lacks
 
   pub kinds_done : (left : ℕ) (p : Process) → sign_kinds s signer [] left p ≡ still left false p
   unfolding sign_kinds
@@ -56,6 +68,7 @@ module _ (s : Setting) (signer : Signer) where
   unfolding sign_all
   decided_signs left p made = go p.decision made
     where
-      go : (o : Option (ℕ × Value)) → is_some o ≡ true → (elim o [ None ↦ sign_kinds s signer s.signs left p | Some d ↦ still left false p ]) ≡ still left false p
+      go : (o : Option (ℕ × Value)) → is_some o ≡ true
+          → (elim o [ None ↦ sign_kinds s signer s.signs left p | Some d ↦ still left false p ]) ≡ still left false p
       go None e = absurd cc
       go (Some d) e = refl

@@ -82,7 +82,8 @@ unfolding phase_by
 one-end s p x k e may =
     let ended = ended-then p.halted (is_some p.decision) (not (is_member p.pool.view p.me)) (is_ended p) e in
     let parts = may-parts s p (End x k) may in
-    let unsigned : is_some (own_on p (EndAt p.pool.view.number)) ≡ false = subst (λ x. is_some (own_on p (EndAt x)) ≡ false) parts.current parts.unsigned in
+    let unsigned : is_some (own_on p (EndAt p.pool.view.number))
+    ≡ false = subst (λ x. is_some (own_on p (EndAt x)) ≡ false) parts.current parts.unsigned in
     cc
 
 -- ---- another statement
@@ -105,7 +106,10 @@ module _ (s : Setting) (signer : Signer) (p : Process) (st : Statement) (other :
   -- the own End, if there is one, stays
   pub end-kept : own_on q (EndAt p.pool.view.number) ≡ own_on p (EndAt p.pool.view.number)
   end-kept =
-      ap (option_map (λ (c : Claim). c.statement)) (find-append test p.signed (c ∷ []) ∙ ap (λ b. option_or (claim_on p.signed p.me (EndAt p.pool.view.number)) (if (p.me == p.me) && b then Some c else None)) (other-slot st p.pool.view.number other) ∙ go (p.me == p.me) (claim_on p.signed p.me (EndAt p.pool.view.number)))
+      ap (option_map (λ (c : Claim). c.statement))
+      (find-append test p.signed (c ∷ []) ∙ ap
+      (λ b. option_or (claim_on p.signed p.me (EndAt p.pool.view.number)) (if (p.me == p.me) && b then Some c else None))
+      (other-slot st p.pool.view.number other) ∙ go (p.me == p.me) (claim_on p.signed p.me (EndAt p.pool.view.number)))
     where
       c : Claim
       c = own_claim s signer p st

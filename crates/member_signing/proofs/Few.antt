@@ -13,12 +13,16 @@ delivered-few m ds few = omega (arith, count_by-le-length (λ (d : Delivered). d
 
 earlier-few : (p : Process) → All (λ (v : Left). AreFew v.delivered) p.left → earlier p ≤ length p.left * 16384
 earlier-few p few =
-    let sums : sum (map (λ (v : Left). delivered_from p.me v.delivered) p.left) ≡ sum_by (λ (v : Left). delivered_from p.me v.delivered) p.left = sum-map (λ (v : Left). delivered_from p.me v.delivered) p.left in
-    let each : All (λ (v : Left). delivered_from p.me v.delivered ≤ 16384) p.left = mem-All (λ (v : Left). delivered_from p.me v.delivered ≤ 16384) p.left (λ v m. delivered-few p.me v.delivered (All-mem (λ (v : Left). AreFew v.delivered) p.left v few m)) in
+    let sums : sum (map (λ (v : Left). delivered_from p.me v.delivered) p.left)
+    ≡ sum_by (λ (v : Left). delivered_from p.me v.delivered) p.left = sum-map (λ (v : Left). delivered_from p.me v.delivered) p.left in
+    let each : All (λ (v : Left). delivered_from p.me v.delivered ≤ 16384) p.left = mem-All
+    (λ (v : Left). delivered_from p.me v.delivered ≤ 16384) p.left
+    (λ v m. delivered-few p.me v.delivered (All-mem (λ (v : Left). AreFew v.delivered) p.left v few m)) in
     let most = sum_by-le (λ (v : Left). delivered_from p.me v.delivered) 16384 p.left each in
     omega (arith, sums, most)
 
-pub accepted-few : (p : Process) → IsBounded p → p.pool.view.number ≤ last_number → p.pool.view.number ≡ length p.left → length p.accepted ≤ 4294967295
+pub accepted-few : (p : Process) → IsBounded p → p.pool.view.number ≤ last_number → p.pool.view.number ≡ length p.left
+    → length p.accepted ≤ 4294967295
 accepted-few p bounded within number =
     let before = earlier-few p bounded.before in
     let now = delivered-few p.me p.delivered bounded.now in

@@ -23,4 +23,5 @@ grew-twice xs ys zs e f = rest-is xs _ zs (sym f ∙ ap (λ front. front ++ drop
 
 pub grown-twice : {A : Type 0} (xs ys zs : List A) → xs ++ drop (length xs) ys ≡ ys → ys ++ drop (length ys) zs ≡ zs
     → xs ++ drop (length xs) zs ≡ zs
-grown-twice xs ys zs e f = ap (λ rest. xs ++ rest) (grew-twice xs ys zs e f) ∙ sym (append_assoc xs _ _) ∙ ap (λ front. front ++ drop (length ys) zs) e ∙ f
+grown-twice xs ys zs e f = ap (λ rest. xs ++ rest)
+    (grew-twice xs ys zs e f) ∙ sym (append_assoc xs _ _) ∙ ap (λ front. front ++ drop (length ys) zs) e ∙ f

@@ -44,18 +44,24 @@ begun (HaltedView h) false e = absurd cc
 
 -- an End is signed where none is
 pub end-unsigned : (s : Setting) (p : Process) (x k : ℕ) → may_sign s p (End x k) ≡ true → is_ended p ≡ false
-end-unsigned s p x k may = let parts = may-parts s p (End x k) may in subst (λ x. is_signed p (EndAt x) ≡ false) parts.current parts.unsigned
+end-unsigned s p x k may = let parts = may-parts s p (End x k) may in subst
+    (λ x. is_signed p (EndAt x) ≡ false) parts.current parts.unsigned
 
 -- what a process signs that is not an End leaves its phase as it is
-pub other-stays : (phase : Phase) (s : Setting) (signer : Signer) (p : Process) (st : Statement) → IsUndecided phase → is_end st ≡ false → IsIn phase p → IsIn phase (signs s signer p st)
+pub other-stays : (phase : Phase) (s : Setting) (signer : Signer) (p : Process) (st : Statement) → IsUndecided phase → is_end st ≡ false
+    → IsIn phase p → IsIn phase (signs s signer p st)
 other-stays (Observing o) s signer p st before other is = phase-kept s signer p st other ∙ is
 other-stays (OpenView o) s signer p st before other is = phase-kept s signer p st other ∙ is
-other-stays (ClosingView c) s signer p st before other is = record { phase = phase-kept s signer p st other ∙ is.phase; length = end-kept s signer p st other ∙ is.length }
+other-stays (ClosingView c) s signer p st before other is = record {
+  phase = phase-kept s signer p st other ∙ is.phase;
+  length = end-kept s signer p st other ∙ is.length;
+}
 other-stays (DecidedView d) s signer p st before other is = absurd before
 other-stays (HaltedView h) s signer p st before other is = absurd before
 
 -- an End is signed in an open view alone
-pub end-where-open : (phase : Phase) (s : Setting) (p : Process) (x k : ℕ) → IsUndecided phase → may_sign s p (End x k) ≡ true → IsIn phase p → ((o : _) → phase ≡ OpenView o → ⊥) → ⊥
+pub end-where-open : (phase : Phase) (s : Setting) (p : Process) (x k : ℕ) → IsUndecided phase → may_sign s p (End x k) ≡ true
+    → IsIn phase p → ((o : _) → phase ≡ OpenView o → ⊥) → ⊥
 end-where-open (Observing o) s p x k before may is other = observer-signs-none s p (End x k) is may
 end-where-open (OpenView o) s p x k before may is other = other o refl
 end-where-open (ClosingView c) s p x k before may is other = one-end s p x k is.phase may
@@ -63,7 +69,8 @@ end-where-open (DecidedView d) s p x k before may is other = before
 end-where-open (HaltedView h) s p x k before may is other = before
 
 -- it is of the process's view
-pub end-of-view : (s : Setting) (signer : Signer) (p : Process) (x k : ℕ) (c : Closing) → may_sign s p (End x k) ≡ true → IsClosing c (signs s signer p (End p.pool.view.number k)) → IsClosing c (signs s signer p (End x k))
+pub end-of-view : (s : Setting) (signer : Signer) (p : Process) (x k : ℕ) (c : Closing) → may_sign s p (End x k) ≡ true
+    → IsClosing c (signs s signer p (End p.pool.view.number k)) → IsClosing c (signs s signer p (End x k))
 end-of-view s signer p x k c may = subst (λ x. IsClosing c (signs s signer p (End x k))) (sym (may-parts s p (End x k) may).current)
 
 -- a statement that tells a length is an End of its view

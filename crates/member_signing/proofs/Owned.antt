@@ -16,17 +16,20 @@ pub claim-is : (a b : Claim) → a.signer ≡ b.signer → a.statement ≡ b.sta
 claim-is a b e f g = λ i. record { signer = e i; statement = f i; signature = g i }
 
 -- the process's claim, where group, number and count are these
-pub own-is : (s : Setting) (sig : Signer) (p : Process) (st : Statement) (group : List ℕ) (me used : ℕ) → s.group ≡ group → p.me ≡ me → length p.signed ≡ used
+pub own-is : (s : Setting) (sig : Signer) (p : Process) (st : Statement) (group : List ℕ) (me used : ℕ) → s.group ≡ group → p.me ≡ me
+    → length p.signed ≡ used
     → signed_by (spelling st) me (sig used (body group me st)) ≡ signed_of (own_claim s sig p st)
 own-is s sig p st group me used e f g = λ i. signed_by (spelling st) (sym f i) (sig (sym g i) (body (sym e i) (sym f i) st))
 
 -- and with whatever signature it has
-pub owned-is : (s : Setting) (p : Process) (st : Statement) (c : OwnClaim) (me : ℕ) (bytes : List ℕ) → signed c ≡ signed_by (spelling st) me bytes → p.me ≡ me
+pub owned-is : (s : Setting) (p : Process) (st : Statement) (c : OwnClaim) (me : ℕ) (bytes : List ℕ)
+    → signed c ≡ signed_by (spelling st) me bytes → p.me ≡ me
     → signed c ≡ signed_of (own_claim s (λ used body. c.signature) p st)
 owned-is s p st c me bytes e f = λ i. signed_by ((e i).statement) (((ap (λ (m : Signed). m.signer) e) ∙ sym f) i) c.signature
 
 -- what was made is the claim on the least statement that is due
-pub made-of : (s : Setting) (sig : Signer) (p : Process) (kind : Kind) (o : Option OwnClaim) (c : OwnClaim) → o ≡ Some c → option_map signed o ≡ option_map (λ st. signed_of (own_claim s sig p st)) (least_due s p kind)
+pub made-of : (s : Setting) (sig : Signer) (p : Process) (kind : Kind) (o : Option OwnClaim) (c : OwnClaim) → o ≡ Some c
+    → option_map signed o ≡ option_map (λ st. signed_of (own_claim s sig p st)) (least_due s p kind)
     → (st : Statement) × (least_due s p kind ≡ Some st) × (signed c ≡ signed_of (own_claim s sig p st))
 made-of s sig p kind o c is e = go (least_due s p kind) refl (sym (ap (option_map signed) is) ∙ e)
   where
@@ -36,7 +39,8 @@ made-of s sig p kind o c is e = go (least_due s p kind) refl (sym (ap (option_ma
     go (Some st) at e = (st, at, cc)
 
 -- where nothing was made, none is due
-pub none-made : (s : Setting) (sig : Signer) (p : Process) (kind : Kind) (o : Option OwnClaim) → o ≡ None → option_map signed o ≡ option_map (λ st. signed_of (own_claim s sig p st)) (least_due s p kind) → least_due s p kind ≡ None
+pub none-made : (s : Setting) (sig : Signer) (p : Process) (kind : Kind) (o : Option OwnClaim) → o ≡ None
+    → option_map signed o ≡ option_map (λ st. signed_of (own_claim s sig p st)) (least_due s p kind) → least_due s p kind ≡ None
 none-made s sig p kind o is e = go (least_due s p kind) (sym (ap (option_map signed) is) ∙ e)
   where
     go : (due : Option Statement) → None ≡ option_map (λ st. signed_of (own_claim s sig p st)) due → due ≡ None

@@ -24,10 +24,12 @@ use Rattle.member_state.specs.States.{IsStateOf, signed_here}
 use Rattle.member_state.specs.declared.state.ProcessState.{ProcessState}
 
 -- the claim stands behind those that were signed in the view
-said-more : (s : Setting) (signer : Signer) (p : Process) (st : Statement) → may_sign s p st ≡ true → signed_here (signs s signer p st) ≡ signed_here p ++ own_claim s signer p st ∷ []
+said-more : (s : Setting) (signer : Signer) (p : Process) (st : Statement) → may_sign s p st ≡ true
+    → signed_here (signs s signer p st) ≡ signed_here p ++ own_claim s signer p st ∷ []
 said-more s signer p st may =
     filter-append (λ (c : Claim). view_of c.statement == p.pool.view.number) p.signed (own_claim s signer p st ∷ [])
-    ∙ ap (λ (b : Bool). signed_here p ++ (if b then own_claim s signer p st ∷ [] else [])) (eq-eqb (view_of st) p.pool.view.number (may-parts s p st may).current)
+    ∙ ap (λ (b : Bool). signed_here p ++ (if b then own_claim s signer p st ∷ [] else []))
+    (eq-eqb (view_of st) p.pool.view.number (may-parts s p st may).current)
 
 -- what signing one statement makes of the parts of a state
 pub record Puts (p : Process) (c : Claim) (old new : ProcessState) : Type 0 where
@@ -39,7 +41,8 @@ pub record Puts (p : Process) (c : Claim) (old new : ProcessState) : Type 0 wher
   pub account : new.account ≡ old.account
 
 -- so the state is that of the process which has signed it
-pub signed-state : (s : Setting) (signer : Signer) (p : Process) (st : Statement) (old new : ProcessState) → IsStateOf s p old → may_sign s p st ≡ true → p.decision ≡ None → IsClaim (own_claim s signer p st)
+pub signed-state : (s : Setting) (signer : Signer) (p : Process) (st : Statement) (old new : ProcessState) → IsStateOf s p old
+    → may_sign s p st ≡ true → p.decision ≡ None → IsClaim (own_claim s signer p st)
     → Puts p (own_claim s signer p st) old new → Tells s (signs s signer p st) new.pool.pool new.own → IsIn new.phase (signs s signer p st)
     → IsStateOf s (signs s signer p st) new
 signed-state s signer p st old new is may undecided range puts tells phase = record {
@@ -58,14 +61,16 @@ signed-state s signer p st old new is may undecided range puts tells phase = rec
   asked = λ u. is.asked u ∙ ap (λ set. has_update set u) (sym puts.perceived);
   said = said-more s signer p st may ∙ ap (λ cs. cs ++ own_claim s signer p st ∷ []) is.said ∙ sym puts.said;
   pairs = is.pairs ∙ ap (λ (cs : Pairing). cs.pairs) (sym puts.conflicts);
-  kept = subst (λ a. Keeps a (signs s signer p st)) (sym puts.archive) (record { numbers = is.kept.numbers; previous = is.kept.previous; commits = is.kept.commits });
+  kept = subst (λ a. Keeps a (signs s signer p st)) (sym puts.archive)
+      (record { numbers = is.kept.numbers; previous = is.kept.previous; commits = is.kept.commits });
   account = is.account ∙ ap account (sym puts.account);
 }
 
 -- ---- the own place with more room
 
 -- whose place it is does not depend on the room that is left
-pub tells-roomier : (s : Setting) (p : Process) (h : Pool) (own : Own) (signed : Signed) → signed.slots ≡ own.signed.slots → Tells s p h own → Tells s p h (record own { signed = signed })
+pub tells-roomier : (s : Setting) (p : Process) (h : Pool) (own : Own) (signed : Signed) → signed.slots ≡ own.signed.slots → Tells s p h own
+    → Tells s p h (record own { signed = signed })
 tells-roomier s p h own signed same tells = record {
   pool = tells.pool;
   number = tells.number;

@@ -40,14 +40,18 @@ none-bounded s me limit = record {
   backlog = omega arith;
 }
 
-pub starts : (s : Setting) (me limit : ℕ) (st : ProcessState) → 1 ≤ limit → limit ≤ 16 → IsViewNumber s.genesis.number → IsView s.genesis → s.genesis.number ≡ 0 → IsFirst s (start s me limit) st → IsStateOf s (start s me limit) st
+pub starts : (s : Setting) (me limit : ℕ) (st : ProcessState) → 1 ≤ limit → limit ≤ 16 → IsViewNumber s.genesis.number → IsView s.genesis
+    → s.genesis.number ≡ 0 → IsFirst s (start s me limit) st → IsStateOf s (start s me limit) st
 starts s me limit st some few number view zero is = record {
   lawful = start_is_lawful s me limit few number view;
   bounded = none-bounded s me limit;
   number = zero;
   some = some;
   decided = λ d e. absurd cc;
-  each = record { same = All-nil (λ (pair : Claim × Claim). pair.0.signer ≡ pair.1.signer); once = λ i j d lt within. absurd (omega (arith, within)) };
+  each = record {
+    same = All-nil (λ (pair : Claim × Claim). pair.0.signer ≡ pair.1.signer);
+    once = λ i j d lt within. absurd (omega (arith, within));
+  };
   asked_for = All-nil (λ (e : ℕ × Update). e.0 ≤ s.genesis.number);
   halted_member = λ e. absurd cc;
   halted_beyond = λ e. absurd cc;

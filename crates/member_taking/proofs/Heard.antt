@@ -37,7 +37,9 @@ hear-changes s p c = go (verdict s p c)
     go Unsigned = refl
 
 -- what is heard was no conflict
-no-conflict : (old early strange beyond known unsigned conflict : Bool) → unwrap_or (first_that_holds ((old, Old) ∷ (early, Early) ∷ (strange, Stranger) ∷ (beyond, OutOfWindow) ∷ (known, Known) ∷ (unsigned, Unsigned) ∷ (conflict, Conflict) ∷ [])) Heard ≡ Heard → conflict ≡ false
+no-conflict : (old early strange beyond known unsigned conflict : Bool)
+    → unwrap_or (first_that_holds ((old, Old) ∷ (early, Early) ∷ (strange, Stranger) ∷ (beyond, OutOfWindow) ∷ (known, Known)
+    ∷ (unsigned, Unsigned) ∷ (conflict, Conflict) ∷ [])) Heard ≡ Heard → conflict ≡ false
 no-conflict true early strange beyond known unsigned conflict e = absurd cc
 no-conflict false true strange beyond known unsigned conflict e = absurd cc
 no-conflict false false true beyond known unsigned conflict e = absurd cc
@@ -52,15 +54,19 @@ unmapped f None e = refl
 unmapped f (Some a) e = absurd cc
 
 -- a claim that is heard is the first of its signer on its slot
-first-on-slot : (s : Setting) (p : Process) (c : Claim) → verdict s p c ≡ Heard → claim_on p.pool.heard c.signer (slot_of c.statement) ≡ None
-first-on-slot s p c heard = unmapped (λ (d : Claim). d.statement) (claim_on p.pool.heard c.signer (slot_of c.statement)) (no-conflict _ _ _ _ _ _ (is_some (heard_on p.pool c.signer (slot_of c.statement))) heard)
+first-on-slot : (s : Setting) (p : Process) (c : Claim) → verdict s p c ≡ Heard
+    → claim_on p.pool.heard c.signer (slot_of c.statement) ≡ None
+first-on-slot s p c heard = unmapped (λ (d : Claim). d.statement) (claim_on p.pool.heard c.signer (slot_of c.statement))
+    (no-conflict _ _ _ _ _ _ (is_some (heard_on p.pool c.signer (slot_of c.statement))) heard)
 
 -- a value that is certified stays so
-pub hear-value : (s : Setting) (p : Process) (c : Claim) → 1 ≤ number_of_members p.pool → (slot : Slot) (v : Value) → value_at p.pool slot ≡ Some v → value_at (hear s p c).pool slot ≡ Some v
+pub hear-value : (s : Setting) (p : Process) (c : Claim) → 1 ≤ number_of_members p.pool → (slot : Slot) (v : Value)
+    → value_at p.pool slot ≡ Some v → value_at (hear s p c).pool slot ≡ Some v
 hear-value s p c some slot v is = go (verdict s p c) refl
   where
     go : (verdict' : Verdict) → verdict s p c ≡ verdict' → value_at (with_verdict verdict' p c).pool slot ≡ Some v
-    go Heard e = (let by = then-some value_of (certified_on p.pool slot) v is in ap (option_and_then value_of) (certified-stays p.pool c (first-on-slot s p c e) some slot by.0 by.1) ∙ by.2)
+    go Heard e = (let by = then-some value_of (certified_on p.pool slot) v is in ap (option_and_then value_of)
+        (certified-stays p.pool c (first-on-slot s p c e) some slot by.0 by.1) ∙ by.2)
     go Conflict e = is
     go Old e = is
     go Early e = is
@@ -80,25 +86,42 @@ abbrev pub IsOnce : List (Claim × Claim) → Type 0
 IsOnce pairs = AllPairs (λ a b. a.1.signer ≢ b.1.signer) pairs
 
 -- a pair is put behind those of other signers
-pair-behind : (pairs : List (Claim × Claim)) (pair : Claim × Claim) → list_any (λ (a : Claim × Claim). a.1.signer == pair.1.signer) pairs ≡ false → pair.0.signer ≡ pair.1.signer → AreOfOne pairs → IsOnce pairs → AreOfOne (pairs ++ pair ∷ []) × IsOnce (pairs ++ pair ∷ [])
+pair-behind : (pairs : List (Claim × Claim)) (pair : Claim × Claim)
+    → list_any (λ (a : Claim × Claim). a.1.signer == pair.1.signer) pairs ≡ false → pair.0.signer ≡ pair.1.signer → AreOfOne pairs
+    → IsOnce pairs → AreOfOne (pairs ++ pair ∷ []) × IsOnce (pairs ++ pair ∷ [])
 pair-behind pairs pair none same ones once = (
-  mem-All (λ (a : Claim × Claim). a.0.signer ≡ a.1.signer) (pairs ++ pair ∷ []) (each-snoc (λ (a : Claim × Claim). a.0.signer ≡ a.1.signer) pairs pair (λ a m. All-mem (λ (a : Claim × Claim). a.0.signer ≡ a.1.signer) pairs a ones m) same),
+  mem-All (λ (a : Claim × Claim). a.0.signer ≡ a.1.signer) (pairs ++ pair ∷ [])
+      (each-snoc (λ (a : Claim × Claim). a.0.signer ≡ a.1.signer) pairs pair
+      (λ a m. All-mem (λ (a : Claim × Claim). a.0.signer ≡ a.1.signer) pairs a ones m) same),
   all_pairs_push (λ (a b : Claim × Claim). a.1.signer ≢ b.1.signer) pairs pair once (λ k d lt is.
-      let clash : true ≡ false = sym (mem-list_any (λ (a : Claim × Claim). a.1.signer == pair.1.signer) pairs (slice_index_or pairs k d) (index-mem pairs k d lt) (eq-eqb _ _ is)) ∙ none in cc),
+      let clash : true ≡ false = sym
+      (mem-list_any (λ (a : Claim × Claim). a.1.signer == pair.1.signer) pairs (slice_index_or pairs k d) (index-mem pairs k d lt)
+      (eq-eqb _ _ is)) ∙ none in cc),
 )
 
-pub hear-pairs : (s : Setting) (p : Process) (c : Claim) → AreOfOne p.conflicts → IsOnce p.conflicts → AreOfOne (hear s p c).conflicts × IsOnce (hear s p c).conflicts
+pub hear-pairs : (s : Setting) (p : Process) (c : Claim) → AreOfOne p.conflicts → IsOnce p.conflicts
+    → AreOfOne (hear s p c).conflicts × IsOnce (hear s p c).conflicts
 hear-pairs s p c ones once = go (verdict s p c)
   where
-    with-first : (o : Option Claim) → claim_on p.pool.heard c.signer (slot_of c.statement) ≡ o → list_any (λ (a : Claim × Claim). a.1.signer == c.signer) p.conflicts ≡ false
-        → (let pairs : List (Claim × Claim) = p.conflicts ++ elim o [ None ↦ [] | Some first ↦ (first, c) ∷ [] ] in AreOfOne pairs × IsOnce pairs)
+    with-first : (o : Option Claim) → claim_on p.pool.heard c.signer (slot_of c.statement) ≡ o
+        → list_any (λ (a : Claim × Claim). a.1.signer == c.signer) p.conflicts ≡ false
+        → (let pairs : List (Claim × Claim) = p.conflicts ++ elim o [ None ↦ [] | Some first ↦ (first, c) ∷ [] ] in AreOfOne pairs
+        × IsOnce pairs)
     with-first None e none = (subst AreOfOne (sym (append-nil p.conflicts)) ones, subst IsOnce (sym (append-nil p.conflicts)) once)
     with-first (Some first) e none =
-        let signer = eqb-true first.signer c.signer (and-first (first.signer == c.signer) (same_slot (slot_of first.statement) (slot_of c.statement)) (find-is (λ (d : Claim). (d.signer == c.signer) && same_slot (slot_of d.statement) (slot_of c.statement)) p.pool.heard first e).1) in
+        let signer = eqb-true first.signer c.signer
+        (and-first (first.signer == c.signer) (same_slot (slot_of first.statement) (slot_of c.statement))
+        (find-is (λ (d : Claim). (d.signer == c.signer)
+        && same_slot (slot_of d.statement) (slot_of c.statement)) p.pool.heard first e).1) in
         pair-behind p.conflicts (first, c) none signer ones once
 
     kept : (b : Bool) → list_any (λ (a : Claim × Claim). a.1.signer == c.signer) p.conflicts ≡ b
-        → (let pairs : List (Claim × Claim) = if b then p.conflicts else p.conflicts ++ elim (claim_on p.pool.heard c.signer (slot_of c.statement)) [ None ↦ [] | Some first ↦ (first, c) ∷ [] ] in AreOfOne pairs × IsOnce pairs)
+        → (let pairs : List (Claim × Claim) = if b then p.conflicts
+        else p.conflicts ++ elim (claim_on p.pool.heard c.signer (slot_of c.statement)) [
+          | None ↦ []
+          | Some first ↦ (first, c)
+              ∷ []
+        ] in AreOfOne pairs × IsOnce pairs)
     kept true e = (ones, once)
     kept false e = with-first (claim_on p.pool.heard c.signer (slot_of c.statement)) refl e
 
@@ -116,21 +139,26 @@ hear-pairs s p c ones once = go (verdict s p c)
 
 module _ (s : Setting) where
   -- what hearing a claim keeps, hearing several keeps
-  pub all-keep : (P : Process → Type 0) → ((p : Process) (c : Claim) → IsClaim c → P p → P (hear s p c)) → (p : Process) (cs : List Claim) → AllByRecursion IsClaim cs → P p → P (hear_all s p cs)
+  pub all-keep : (P : Process → Type 0) → ((p : Process) (c : Claim) → IsClaim c → P p → P (hear s p c)) → (p : Process) (cs : List Claim)
+      → AllByRecursion IsClaim cs → P p → P (hear_all s p cs)
   unfolding hear_all
   all-keep P one p [] range ok = ok
   all-keep P one p (c ∷ cs) range ok = all-keep P one (hear s p c) cs range.1 (one p c range.0 ok)
 
   -- hearing several claims changes nothing else either
-  pub all-change : (p : Process) (cs : List Claim) → hear_all s p cs ≡ with_hearing p (hear_all s p cs).pool.heard (hear_all s p cs).conflicts
+  pub all-change : (p : Process) (cs : List Claim)
+      → hear_all s p cs ≡ with_hearing p (hear_all s p cs).pool.heard (hear_all s p cs).conflicts
   unfolding hear_all
   all-change p [] = refl
-  all-change p (c ∷ cs) = all-change (hear s p c) cs ∙ ap (λ q. with_hearing q (hear_all s (hear s p c) cs).pool.heard (hear_all s (hear s p c) cs).conflicts) (hear-changes s p c)
+  all-change p (c ∷ cs) = all-change (hear s p c) cs ∙ ap
+      (λ q. with_hearing q (hear_all s (hear s p c) cs).pool.heard (hear_all s (hear s p c) cs).conflicts) (hear-changes s p c)
 
-  hear-length : (p : Process) (c : Claim) → (length p.pool.heard ≤ length (hear s p c).pool.heard) × (length (hear s p c).pool.heard ≤ length p.pool.heard + 1)
+  hear-length : (p : Process) (c : Claim)
+      → (length p.pool.heard ≤ length (hear s p c).pool.heard) × (length (hear s p c).pool.heard ≤ length p.pool.heard + 1)
   hear-length p c = go (verdict s p c)
     where
-      go : (v : Verdict) → (length p.pool.heard ≤ length (with_verdict v p c).pool.heard) × (length (with_verdict v p c).pool.heard ≤ length p.pool.heard + 1)
+      go : (v : Verdict) → (length p.pool.heard ≤ length (with_verdict v p c).pool.heard)
+          × (length (with_verdict v p c).pool.heard ≤ length p.pool.heard + 1)
       go Heard = (let more = length-append p.pool.heard (c ∷ []) in (omega (arith, more), omega (arith, more)))
       go Conflict = (omega arith, omega arith)
       go Old = (omega arith, omega arith)
@@ -141,7 +169,10 @@ module _ (s : Setting) where
       go Unsigned = (omega arith, omega arith)
 
   -- none is forgotten, and no more are newly heard than there are claims
-  pub all-length : (p : Process) (cs : List Claim) → (length p.pool.heard ≤ length (hear_all s p cs).pool.heard) × (length (hear_all s p cs).pool.heard ≤ length p.pool.heard + length cs)
+  pub all-length : (p : Process) (cs : List Claim)
+      → (length p.pool.heard ≤ length (hear_all s p cs).pool.heard)
+      × (length (hear_all s p cs).pool.heard ≤ length p.pool.heard + length cs)
   unfolding hear_all
   all-length p [] = (omega arith, omega arith)
-  all-length p (c ∷ cs) = (let one = hear-length p c in let rest = all-length (hear s p c) cs in (omega (arith, one.0, one.1, rest.0, rest.1), omega (arith, one.0, one.1, rest.0, rest.1)))
+  all-length p (c ∷ cs) = (let one = hear-length p c in let rest = all-length
+      (hear s p c) cs in (omega (arith, one.0, one.1, rest.0, rest.1), omega (arith, one.0, one.1, rest.0, rest.1)))

@@ -18,13 +18,17 @@ module _ {A B : Type 0} (view : A → B) (key : B → List ℕ) (a : A) where
   IsBehind xs n = (k : ℕ) → k < n → (d : A) → stands_before (slice_index_or xs k d) ≡ false
 
   -- nor before the next one, so before none of one more
-  pub one-more : (xs : List A) (n : ℕ) (d : A) → n < length xs → IsBehind xs n → stands_before (slice_index_or xs n d) ≡ false → IsBehind xs (n + 1)
-  one-more xs n d lt behind not' = below_more (λ k. (e : A) → stands_before (slice_index_or xs k e) ≡ false) n behind (λ e. ap stands_before (same-within xs n e d lt) ∙ not')
+  pub one-more : (xs : List A) (n : ℕ) (d : A) → n < length xs → IsBehind xs n → stands_before (slice_index_or xs n d) ≡ false
+      → IsBehind xs (n + 1)
+  one-more xs n d lt behind not' = below_more (λ k. (e : A) → stands_before (slice_index_or xs k e) ≡ false) n behind
+      (λ e. ap stands_before (same-within xs n e d lt) ∙ not')
 
   -- behind them, it is put where it stands before the next one
-  pub put-before : (xs : List A) (n : ℕ) (d : A) → n < length xs → IsBehind xs n → stands_before (slice_index_or xs n d) ≡ true → map view (insert xs n a) ≡ put key (view a) (map view xs)
+  pub put-before : (xs : List A) (n : ℕ) (d : A) → n < length xs → IsBehind xs n → stands_before (slice_index_or xs n d) ≡ true
+      → map view (insert xs n a) ≡ put key (view a) (map view xs)
   put-before [] n d lt behind before = absurd (omega (arith, lt))
-  put-before (x ∷ xs) zero d lt behind before = sym (ap (λ b. if b then view a ∷ view x ∷ map view xs else view x ∷ put key (view a) (map view xs)) before)
+  put-before (x ∷ xs) zero d lt behind before = sym
+      (ap (λ b. if b then view a ∷ view x ∷ map view xs else view x ∷ put key (view a) (map view xs)) before)
   put-before (x ∷ xs) (suc n) d lt behind before =
       ap (λ ys. view x ∷ ys) (put-before xs n d (omega (arith, lt)) (λ k less e. behind (suc k) (omega (arith, less)) e) before)
       ∙ sym (ap (λ b. if b then view a ∷ view x ∷ map view xs else view x ∷ put key (view a) (map view xs)) (behind zero (omega arith) d))

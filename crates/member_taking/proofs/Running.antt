@@ -15,7 +15,10 @@ use Rattle.member_state.specs.declared.state.ProcessState.{ProcessState}
 use Rattle.member_state.specs.States.{IsStateOf, halted_at}
 
 halted-phase : (p : Process) → p.halted ≡ true → defs.phase_of p ≡ defs.HaltedView
-halted-phase p e = ap (λ halted. unwrap_or (first_that_holds ((halted, defs.HaltedView) ∷ (is_some p.decision, defs.DecidedView) ∷ (not (is_member p.pool.view p.me), defs.Observing) ∷ (is_ended p, defs.ClosingView) ∷ [])) defs.OpenView) e
+halted-phase p e = ap (λ halted. unwrap_or
+    (first_that_holds ((halted, defs.HaltedView) ∷ (is_some p.decision, defs.DecidedView)
+    ∷ (not (is_member p.pool.view p.me), defs.Observing)
+    ∷ (is_ended p, defs.ClosingView) ∷ [])) defs.OpenView) e
 
 -- a process that has halted has decided
 has-decided : (phase : Phase) (p : Process) → IsIn phase p → defs.phase_of p ≡ defs.HaltedView → is_some p.decision ≡ true
@@ -25,7 +28,8 @@ has-decided (ClosingView k) p at e = (let clash : defs.ClosingView ≡ defs.Halt
 has-decided (DecidedView d) p at e = ap is_some at.decision
 has-decided (HaltedView h) p at e = ap is_some at.decision
 
-told : (halted : Bool) (o : Option (ℕ × Value)) (places : ℕ) → halted ≡ true → is_some o ≡ true → option_and_then {U = ℕ × ℕ} (λ d. if halted then Some (places, d.1.cut) else None) o ≡ None → ⊥
+told : (halted : Bool) (o : Option (ℕ × Value)) (places : ℕ) → halted ≡ true → is_some o ≡ true
+    → option_and_then {U = ℕ × ℕ} (λ d. if halted then Some (places, d.1.cut) else None) o ≡ None → ⊥
 told true (Some d) places e some none = cc
 told true None places e some none = cc
 told false o places e some none = cc
@@ -40,11 +44,13 @@ running s p st is none = go p.halted refl
 
 module _ {A F G : Type 0} (fault : F → G) (refused : Setting → Process → Option G) (st : ProcessState) where
   -- what is admitted is refused by no process with the state
-  pub admits : (r : Result A F) → ((s : Setting) (p : Process) → IsStateOf s p st → refused s p ≡ option_map fault (result_err r)) → IfOk r (λ a. (s : Setting) (p : Process) → IsStateOf s p st → refused s p ≡ None)
+  pub admits : (r : Result A F) → ((s : Setting) (p : Process) → IsStateOf s p st → refused s p ≡ option_map fault (result_err r))
+      → IfOk r (λ a. (s : Setting) (p : Process) → IsStateOf s p st → refused s p ≡ None)
   admits (Ok a) so = so
   admits (Err f) so = tt
 
   -- and the fault is that by which each refuses
-  pub refuses : (r : Result A F) → ((s : Setting) (p : Process) → IsStateOf s p st → refused s p ≡ option_map fault (result_err r)) → IfErr r (λ f. (s : Setting) (p : Process) → IsStateOf s p st → refused s p ≡ Some (fault f))
+  pub refuses : (r : Result A F) → ((s : Setting) (p : Process) → IsStateOf s p st → refused s p ≡ option_map fault (result_err r))
+      → IfErr r (λ f. (s : Setting) (p : Process) → IsStateOf s p st → refused s p ≡ Some (fault f))
   refuses (Ok a) so = tt
   refuses (Err f) so = so

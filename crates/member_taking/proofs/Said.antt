@@ -18,11 +18,13 @@ use Rattle.frame_codec.specs.Views.{groups_left, frame_view}
 use Rattle.pool_laws.proofs.Tests.{not-false}
 
 -- of a group as many as it has signatures
-length-claims_on : (st : Statement) (signatures : List (ℕ × List ℕ)) (cs : List Claim) → claims_on st signatures ≡ Ok cs → length cs ≡ length signatures
+length-claims_on : (st : Statement) (signatures : List (ℕ × List ℕ)) (cs : List Claim) → claims_on st signatures ≡ Ok cs
+    → length cs ≡ length signatures
 unfolding claims_on
 length-claims_on st [] cs e = let same : [] ≡ cs = cc in ap length (sym same)
 length-claims_on st (s ∷ more) cs e =
-    let passed = refuse_ok (nat_lt last_process s.0) Range (λ _. claims_on st more >>= λ others. Ok (record { signer = s.0; statement = st; signature = s.1 } ∷ others)) cs e in
+    let passed = refuse_ok (nat_lt last_process s.0) Range
+    (λ _. claims_on st more >>= λ others. Ok (record { signer = s.0; statement = st; signature = s.1 } ∷ others)) cs e in
     let rest = bind_ok (claims_on st more) (λ others. Ok (record { signer = s.0; statement = st; signature = s.1 } ∷ others)) cs passed.1 in
     let same : record { signer = s.0; statement = st; signature = s.1 } ∷ rest.0 ≡ cs = cc in
     ap length (sym same) ∙ ap suc (length-claims_on st more rest.0 rest.1)
@@ -35,7 +37,8 @@ module _ (carries : ℕ → Bool) where
       length-claims_on read.0 g.signatures cs read.2
 
   -- of several groups at most 16 for each
-  length-of_groups : (gs : List Group) (cs : List Claim) → AllByRecursion IsGroup gs → claims_of_groups carries gs ≡ Ok cs → length cs ≤ 16 * length gs
+  length-of_groups : (gs : List Group) (cs : List Claim) → AllByRecursion IsGroup gs → claims_of_groups carries gs ≡ Ok cs
+      → length cs ≤ 16 * length gs
   unfolding claims_of_groups
   length-of_groups [] cs each e = (let none : [] ≡ cs = cc in let zero = ap length none in omega (arith, zero))
   length-of_groups (g ∷ gs) cs each e =
@@ -68,7 +71,8 @@ unfolding frame_said
 said-fault bytes fault e = ap said_by e
 
 -- and so is a frame whose claims are
-pub said-claims-fault : (bytes : List ℕ) (f : FrameView) (fault : FrameFault) → frame_of bytes ≡ Ok f → claims_of f ≡ Err fault → frame_said bytes ≡ Faulty fault
+pub said-claims-fault : (bytes : List ℕ) (f : FrameView) (fault : FrameFault) → frame_of bytes ≡ Ok f → claims_of f ≡ Err fault
+    → frame_said bytes ≡ Faulty fault
 unfolding frame_said
 said-claims-fault bytes f fault e claims = ap said_by e ∙ go f (claims_of f) claims
   where
@@ -78,12 +82,14 @@ said-claims-fault bytes f fault e claims = ap said_by e ∙ go f (claims_of f) c
     go (Want x k) r e = ap (said (Want x k)) e
 
 -- a Want says its view and its place
-pub said-want : (bytes : List ℕ) (x k : ℕ) (cs : List Claim) → frame_of bytes ≡ Ok (Want x k) → claims_of (Want x k) ≡ Ok cs → frame_said bytes ≡ Wants x k
+pub said-want : (bytes : List ℕ) (x k : ℕ) (cs : List Claim) → frame_of bytes ≡ Ok (Want x k) → claims_of (Want x k) ≡ Ok cs
+    → frame_said bytes ≡ Wants x k
 unfolding frame_said
 said-want bytes x k cs e claims = ap said_by e ∙ ap (said (Want x k)) claims
 
 -- another frame says its claims
-pub said-claims : (bytes : List ℕ) (f : code.FrameView) (cs : List Claim) → ((x k : ℕ) → f ≡ codes.Want x k → ⊥) → frame_of bytes ≡ Ok (frame_view f) → claims_of (frame_view f) ≡ Ok cs → frame_said bytes ≡ Claims cs
+pub said-claims : (bytes : List ℕ) (f : code.FrameView) (cs : List Claim) → ((x k : ℕ) → f ≡ codes.Want x k → ⊥)
+    → frame_of bytes ≡ Ok (frame_view f) → claims_of (frame_view f) ≡ Ok cs → frame_said bytes ≡ Claims cs
 unfolding frame_said
 said-claims bytes (codes.Bundle gs) cs not' e claims = ap said_by e ∙ ap (said (Bundle (groups_left gs))) claims
 said-claims bytes (codes.Proof gs) cs not' e claims = ap said_by e ∙ ap (said (Proof (groups_left gs))) claims

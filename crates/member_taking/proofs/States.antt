@@ -35,7 +35,8 @@ use Rattle.member_taking.proofs.Heard.{with_hearing, hear-changes, hear-value, h
 -- ---- hearing
 
 -- none is forgotten, and no more are newly heard than there are claims
-pub newly-heard : (r : Setting) (p : Process) (cs : List Claim) (old new : Pool) (pairs : List (Claim × Claim)) → p.pool ≡ old → IsHeard (hear_all r p cs) new pairs → (length old.heard ≤ length new.heard) × (length new.heard ≤ length old.heard + length cs)
+pub newly-heard : (r : Setting) (p : Process) (cs : List Claim) (old new : Pool) (pairs : List (Claim × Claim)) → p.pool ≡ old
+    → IsHeard (hear_all r p cs) new pairs → (length old.heard ≤ length new.heard) × (length new.heard ≤ length old.heard + length cs)
 newly-heard r p cs old new pairs same heard =
     let one = all-length r p cs in
     let before = ap (λ (h : Pool). length h.heard) same in
@@ -43,7 +44,8 @@ newly-heard r p cs old new pairs same heard =
     (omega (arith, one.0, before, after), omega (arith, one.1, before, after))
 
 -- a phase looks at nothing that hearing changes
-phase-stays : (phase : Phase) (p : Process) (heard : List Claim) (pairs : List (Claim × Claim)) → IsIn phase p → IsIn phase (with_hearing p heard pairs)
+phase-stays : (phase : Phase) (p : Process) (heard : List Claim) (pairs : List (Claim × Claim)) → IsIn phase p
+    → IsIn phase (with_hearing p heard pairs)
 phase-stays (Observing o) p heard pairs is = is
 phase-stays (OpenView o) p heard pairs is = is
 phase-stays (ClosingView k) p heard pairs is = record { phase = is.phase; length = is.length }
@@ -57,7 +59,8 @@ hear-members : (r : Setting) (q : Process) (c : Claim) → number_of_members (he
 hear-members r q c = ap (λ (x : Process). number_of_members x.pool) (hear-changes r q c)
 
 -- a phase looks at nothing that perceiving changes
-perceiving-phase : (phase : Phase) (p : Process) (perceived : List (ℕ × Update)) → IsIn phase p → IsIn phase (record p { perceived = perceived })
+perceiving-phase : (phase : Phase) (p : Process) (perceived : List (ℕ × Update)) → IsIn phase p
+    → IsIn phase (record p { perceived = perceived })
 perceiving-phase (Observing o) p perceived is = is
 perceiving-phase (OpenView o) p perceived is = is
 perceiving-phase (ClosingView k) p perceived is = record { phase = is.phase; length = is.length }
@@ -66,13 +69,17 @@ perceiving-phase (HaltedView h) p perceived is = record { phase = is.phase; deci
 
 -- what holds of each element and of one more holds of each where it is put among them
 all-put : (P : ℕ × Update → Type 0) (e : ℕ × Update) (es : List (ℕ × Update)) → P e → All P es → All P (put perceived_numbers e es)
-all-put P e es one all = mem-All P (put perceived_numbers e es) (λ d m. elim (mem-put perceived_numbers e es d m) [ inl same ↦ subst P same one | inr there ↦ All-mem P es d all there ])
+all-put P e es one all = mem-All P (put perceived_numbers e es)
+    (λ d m. elim (mem-put perceived_numbers e es d m) [ inl same ↦ subst P same one | inr there ↦ All-mem P es d all there ])
 
 -- who may ask for an update has not halted, and is a member
-pub may-ask : (s : Setting) (p : Process) (u : Update) → refusal s p (asking u) ≡ None → (p.halted ≡ false) × (is_member p.pool.view p.me ≡ true)
+pub may-ask : (s : Setting) (p : Process) (u : Update) → refusal s p (asking u) ≡ None
+    → (p.halted ≡ false) × (is_member p.pool.view p.me ≡ true)
 may-ask s p u admitted = both u admitted
   where
-    go : (halted member : Bool) (rest : List (Bool × EventFault)) → first_that_holds ((halted, HaltedNow (places_in p.delivered) (option_map_or (λ d. d.1.cut) p.decision 0)) ∷ (not member, Outsider) ∷ rest) ≡ None → (halted ≡ false) × (member ≡ true)
+    go : (halted member : Bool) (rest : List (Bool × EventFault))
+        → first_that_holds ((halted, HaltedNow (places_in p.delivered) (option_map_or (λ d. d.1.cut) p.decision 0)) ∷ (not member, Outsider)
+        ∷ rest) ≡ None → (halted ≡ false) × (member ≡ true)
     go true member rest none = absurd cc
     go false false rest none = absurd cc
     go false true rest none = (refl, refl)
@@ -91,7 +98,8 @@ asks s p Renew = refl
 module _ (s : Setting) (p : Process) (st : ProcessState) (is : IsStateOf s p st) where
   -- with these heard claims and these conflicts the state is the process's that has them
   with-hearing : (heard : List Claim) (pairs : List (Claim × Claim)) → IsLawful (with_hearing p heard pairs)
-      → ((d : ℕ × Value) → p.decision ≡ Some d → value_at (record { view = p.pool.view; heard = heard }) (ReadyAt p.pool.view.number d.0) ≡ Some d.1) → ArePairs pairs
+      → ((d : ℕ × Value) → p.decision ≡ Some d
+      → value_at (record { view = p.pool.view; heard = heard }) (ReadyAt p.pool.view.number d.0) ≡ Some d.1) → ArePairs pairs
       → (pool' : Holding) (conflicts' : Pairing) → record { view = p.pool.view; heard = heard } ≡ pool'.pool → pairs ≡ conflicts'.pairs
       → IsStateOf s (with_hearing p heard pairs) (record st { pool = pool'; conflicts = conflicts' })
   with-hearing heard pairs lawful certified each pool' conflicts' pool same = record {
@@ -110,7 +118,14 @@ module _ (s : Setting) (p : Process) (st : ProcessState) (is : IsStateOf s p st)
       number = is.place.number;
       position = is.place.position;
       keys = is.place.keys;
-      signed = record { slots = is.place.signed.slots; end = is.place.signed.end; greatest = is.place.signed.greatest; last_ready = is.place.signed.last_ready; how_many = is.place.signed.how_many; names = is.place.signed.names };
+      signed = record {
+        slots = is.place.signed.slots;
+        end = is.place.signed.end;
+        greatest = is.place.signed.greatest;
+        last_ready = is.place.signed.last_ready;
+        how_many = is.place.signed.how_many;
+        names = is.place.signed.names;
+      };
       delivered = record { places = is.place.delivered.places; counts = is.place.delivered.counts };
       before = is.place.before;
     };
@@ -127,22 +142,29 @@ module _ (s : Setting) (p : Process) (st : ProcessState) (is : IsStateOf s p st)
   peopled = is.lawful.pool.view.some
 
   -- what is certified on the slot stays so
-  still-certified : (r : Setting) (cs : List Claim) → AllByRecursion IsClaim cs → (x : ℕ) (v : Value) → value_at p.pool (ReadyAt p.pool.view.number x) ≡ Some v → value_at (hear_all r p cs).pool (ReadyAt p.pool.view.number x) ≡ Some v
+  still-certified : (r : Setting) (cs : List Claim) → AllByRecursion IsClaim cs → (x : ℕ) (v : Value)
+      → value_at p.pool (ReadyAt p.pool.view.number x) ≡ Some v → value_at (hear_all r p cs).pool (ReadyAt p.pool.view.number x) ≡ Some v
   still-certified r cs range x v e =
       (all-keep r (λ q. (1 ≤ number_of_members q.pool) × (value_at q.pool (ReadyAt p.pool.view.number x) ≡ Some v))
-      (λ q c ok so. (subst (λ n. 1 ≤ n) (sym (hear-members r q c)) so.0, hear-value r q c so.0 (ReadyAt p.pool.view.number x) v so.1)) p cs range (peopled, e)).1
+      (λ q c ok so. (
+        subst (λ n. 1 ≤ n) (sym (hear-members r q c)) so.0,
+        hear-value r q c so.0 (ReadyAt p.pool.view.number x) v so.1,
+      )) p cs range (peopled, e)).1
 
   -- the state of a process that hears claims, in whatever setting they are judged
-  pub hears : (r : Setting) (cs : List Claim) → AllByRecursion IsClaim cs → (pool' : Holding) (conflicts' : Pairing) → IsHeard (hear_all r p cs) pool'.pool conflicts'.pairs
+  pub hears : (r : Setting) (cs : List Claim) → AllByRecursion IsClaim cs → (pool' : Holding) (conflicts' : Pairing)
+      → IsHeard (hear_all r p cs) pool'.pool conflicts'.pairs
       → IsStateOf s (hear_all r p cs) (record st { pool = pool'; conflicts = conflicts' })
   hears r cs range pool' conflicts' heard =
       let q : Process = hear_all r p cs in
       let changed : q ≡ with_hearing p q.pool.heard q.conflicts = all-change r p cs in
-      let pairs = all-keep r (λ q. AreOfOne q.conflicts × IsOnce q.conflicts) (λ q c ok both. hear-pairs r q c both.0 both.1) p cs range (is.each.same, is.each.once) in
+      let pairs = all-keep r (λ q. AreOfOne q.conflicts × IsOnce q.conflicts)
+      (λ q c ok both. hear-pairs r q c both.0 both.1) p cs range (is.each.same, is.each.once) in
       subst (λ q'. IsStateOf s q' (record st { pool = pool'; conflicts = conflicts' })) (sym changed)
       (with-hearing q.pool.heard q.conflicts
       (subst IsLawful changed (all-keep r IsLawful (λ q c ok lawful. hearing_is_lawful r q c ok lawful) p cs range is.lawful))
-      (λ d e. subst (λ h. value_at h (ReadyAt p.pool.view.number d.0) ≡ Some d.1) (ap (λ (x : Process). x.pool) changed) (still-certified r cs range d.0 d.1 (is.decided d e).certified))
+      (λ d e. subst (λ h. value_at h (ReadyAt p.pool.view.number d.0) ≡ Some d.1) (ap (λ (x : Process). x.pool) changed)
+      (still-certified r cs range d.0 d.1 (is.decided d e).certified))
       (record { same = pairs.0; once = pairs.1 })
       pool' conflicts'
       (sym (ap (λ (x : Process). x.pool) changed) ∙ heard.pool) heard.pairs)
@@ -151,15 +173,28 @@ module _ (s : Setting) (p : Process) (st : ProcessState) (is : IsStateOf s p st)
 
   -- an update that is perceived already
   pub perceives-again : (u : Update) → has_update st.perceived u ≡ true → IsStateOf s (perceives p u) st
-  perceives-again u e = subst (λ q. IsStateOf s q st) (sym (ap (λ b. if b then p else record p { perceived = put perceived_numbers (p.pool.view.number, u) p.perceived }) (is.asked u ∙ e))) is
+  perceives-again u e = subst (λ q. IsStateOf s q st)
+      (sym (ap (λ b. if b then p else record p { perceived = put perceived_numbers (p.pool.view.number, u) p.perceived })
+      (is.asked u ∙ e))) is
 
   -- one that is perceived now
-  pub perceives-now : (u : Update) → IsUpdate u → has_update st.perceived u ≡ false → (set' : Perceived) → TellsPerceived set' (perceives p u) → (account' : code.Account)
-      → account_as account' ≡ record (account_as st.account) { perceived = put perceived_numbers (st.pool.pool.view.number, u) (account_as st.account).perceived }
+  pub perceives-now : (u : Update) → IsUpdate u → has_update st.perceived u ≡ false → (set' : Perceived)
+      → TellsPerceived set' (perceives p u) → (account' : code.Account)
+      → account_as account' ≡ record
+      (account_as st.account) { perceived = put perceived_numbers (st.pool.pool.view.number, u) (account_as st.account).perceived }
       → IsStateOf s (perceives p u) (record st { perceived = set'; account = account' })
   perceives-now u range e set' tells account' now =
       subst (λ q. IsStateOf s q (record st { perceived = set'; account = account' })) (sym so) (record {
-        lawful = record { number = is.lawful.number; pool = is.lawful.pool; own = is.lawful.own; past = is.lawful.past; said = is.lawful.said; short = is.lawful.short; batches = is.lawful.batches; asked = all-put (λ (e : ℕ × Update). IsUpdate e.1) (p.pool.view.number, u) p.perceived range is.lawful.asked };
+        lawful = record {
+          number = is.lawful.number;
+          pool = is.lawful.pool;
+          own = is.lawful.own;
+          past = is.lawful.past;
+          said = is.lawful.said;
+          short = is.lawful.short;
+          batches = is.lawful.batches;
+          asked = all-put (λ (e : ℕ × Update). IsUpdate e.1) (p.pool.view.number, u) p.perceived range is.lawful.asked;
+        };
         bounded = record { now = is.bounded.now; before = is.bounded.before; backlog = is.bounded.backlog };
         number = is.number;
         some = is.some;
@@ -174,7 +209,14 @@ module _ (s : Setting) (p : Process) (st : ProcessState) (is : IsStateOf s p st)
           number = is.place.number;
           position = is.place.position;
           keys = is.place.keys;
-          signed = record { slots = is.place.signed.slots; end = is.place.signed.end; greatest = is.place.signed.greatest; last_ready = is.place.signed.last_ready; how_many = is.place.signed.how_many; names = is.place.signed.names };
+          signed = record {
+            slots = is.place.signed.slots;
+            end = is.place.signed.end;
+            greatest = is.place.signed.greatest;
+            last_ready = is.place.signed.last_ready;
+            how_many = is.place.signed.how_many;
+            names = is.place.signed.names;
+          };
           delivered = record { places = is.place.delivered.places; counts = is.place.delivered.counts };
           before = is.place.before;
         };
@@ -183,7 +225,10 @@ module _ (s : Setting) (p : Process) (st : ProcessState) (is : IsStateOf s p st)
         said = is.said;
         pairs = is.pairs;
         kept = record { numbers = is.kept.numbers; previous = is.kept.previous; commits = is.kept.commits };
-        account = (λ i. record (is.account i) { perceived = put perceived_numbers ((is.place.pool i).view.number, u) (is.account i).perceived }) ∙ sym now;
+        account = (λ i. record (is.account i) {
+          perceived = put perceived_numbers ((is.place.pool i).view.number, u)
+              (is.account i).perceived;
+        }) ∙ sym now;
       })
     where
       so : perceives p u ≡ record p { perceived = put perceived_numbers (p.pool.view.number, u) p.perceived }

@@ -24,8 +24,10 @@ echoed (Echo y n payload) x m e = refl
 echoed _ x m e = absurd cc
 
 -- what is certified of a message has a payload
-pub held-is : {A : Type 0} (h : Pool) (m : Message) (x : ℕ) (view : A → Statement) (o : Option A) → x ≡ h.view.number → option_map view o ≡ certified_on h (EchoAt x m) → is_some o ≡ is_some (payload_at h m)
-held-is h m x view o same e = is_some-map view o ∙ ap is_some (e ∙ ap (λ x. certified_on h (EchoAt x m)) same) ∙ go (certified_on h (EchoAt h.view.number m)) refl
+pub held-is : {A : Type 0} (h : Pool) (m : Message) (x : ℕ) (view : A → Statement) (o : Option A) → x ≡ h.view.number
+    → option_map view o ≡ certified_on h (EchoAt x m) → is_some o ≡ is_some (payload_at h m)
+held-is h m x view o same e = is_some-map view o ∙ ap is_some (e ∙ ap (λ x. certified_on h (EchoAt x m)) same) ∙ go
+    (certified_on h (EchoAt h.view.number m)) refl
   where
     go : (o : Option Statement) → certified_on h (EchoAt h.view.number m) ≡ o → is_some o ≡ is_some (option_and_then payload_of o)
     go None e = refl
@@ -57,24 +59,30 @@ module _ (h : Pool) (k : ℕ) where
   names-delivered (m ∷ ms) = go (payload_at h m) (delivery h k ms) (are_certified h ms) (names-delivered ms)
     where
       go : (o : Option (List ℕ)) (ds : Option (List Delivered)) (b : Bool) → option_map batch_in ds ≡ (if b then Some ms else None)
-          → option_map batch_in (option_and_then (λ payload. option_map (λ ds. record { place = k; message = m; payload = payload } ∷ ds) ds) o) ≡ (if is_some o && b then Some (m ∷ ms) else None)
+          → option_map batch_in (option_and_then
+          (λ payload. option_map (λ ds. record { place = k; message = m; payload = payload } ∷ ds) ds) o)
+          ≡ (if is_some o && b then Some (m ∷ ms) else None)
       go None ds b e = refl
       go (Some payload) None true e = absurd cc
       go (Some payload) None false e = refl
       go (Some payload) (Some ds) true e = let is : batch_in ds ≡ ms = cc in λ i. Some (m ∷ is i)
       go (Some payload) (Some ds) false e = absurd cc
 
-  where-certified : (o : Option Batch) → option_map batch_in (option_and_then (delivery h k) o) ≡ option_and_then (λ b. if are_certified h b then Some b else None) o
+  where-certified : (o : Option Batch)
+      → option_map batch_in (option_and_then (delivery h k) o) ≡ option_and_then (λ b. if are_certified h b then Some b else None) o
   where-certified None = refl
   where-certified (Some b) = names-delivered b
 
 -- what the next place delivers is its batch, where all of it is certified
-pub deliverable-is : (p : Process) (h : Pool) (k : ℕ) → p.pool ≡ h → places_in p.delivered ≡ k → option_map batch_in (deliverable p) ≡ option_and_then (λ b. if are_certified h b then Some b else None) (place_at h k)
+pub deliverable-is : (p : Process) (h : Pool) (k : ℕ) → p.pool ≡ h → places_in p.delivered ≡ k
+    → option_map batch_in (deliverable p) ≡ option_and_then (λ b. if are_certified h b then Some b else None) (place_at h k)
 deliverable-is p h k same places =
-    (λ i. option_map batch_in (option_and_then (delivery (same i) (places i)) (place_at (same i) (places i)))) ∙ where-certified h k (place_at h k)
+    (λ i. option_map batch_in (option_and_then (delivery (same i) (places i)) (place_at (same i) (places i)))) ∙ where-certified h k
+    (place_at h k)
 
 -- below the limit that is what is answered
-pub delivers : (p : Process) (own : Own) (h : Pool) (limit : ℕ) (b : Batch) (t : Bool) → HasDelivered own p → p.pool ≡ h → own.delivered < limit → Some b ≡ place_at h own.delivered → t ≡ are_certified h b
+pub delivers : (p : Process) (own : Own) (h : Pool) (limit : ℕ) (b : Batch) (t : Bool) → HasDelivered own p → p.pool ≡ h
+    → own.delivered < limit → Some b ≡ place_at h own.delivered → t ≡ are_certified h b
     → (if t then Some b else None) ≡ (if nat_lt (places_in p.delivered) limit then option_map batch_in (deliverable p) else None)
 delivers p own h limit b t has same lt at e =
     let within : nat_lt (places_in p.delivered) limit ≡ true = ap (λ k. nat_lt k limit) has.places ∙ lt-ltb own.delivered limit lt in

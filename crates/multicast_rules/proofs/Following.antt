@@ -48,7 +48,8 @@ sender-member h m pool e = go (payload_at h m) refl e
         All-mem (λ (m : Message). is_member h.view m.sender ≡ true) (m ∷ []) m senders (inl refl)
 
 -- what stands at a place of a batch's messages
-pub message-at : (ms : List (ℕ × ℕ)) (i : ℕ) (item : ℕ × ℕ) → i < length ms → item ≡ slice_index_or ms i item → slice_get (map message_of ms) i ≡ Some (message_of item)
+pub message-at : (ms : List (ℕ × ℕ)) (i : ℕ) (item : ℕ × ℕ) → i < length ms → item ≡ slice_index_or ms i item
+    → slice_get (map message_of ms) i ≡ Some (message_of item)
 message-at ms i item lt is = map-get message_of ms i item (slice_get-index ms i item lt ∙ ap Some (sym is))
 
 -- the first i messages follow by these counts, and are certified
@@ -56,9 +57,11 @@ pub record FollowSoFar (h : Pool) (before : List Message) (b : Batch) (cs : List
   pub in_order : FollowsSoFar h.view before b cs i
   pub certified : are_certified h (take i b) ≡ true
 
-module _ (h : Pool) (before : List Message) (b : Batch) (cs : List ℕ) (i : ℕ) (m : Message) (pool : IsPool h) (at : slice_get b i ≡ Some m) (so_far : FollowSoFar h before b cs i) where
+module _ (h : Pool) (before : List Message) (b : Batch) (cs : List ℕ) (i : ℕ) (m : Message) (pool : IsPool h) (at : slice_get b i ≡ Some m)
+    (so_far : FollowSoFar h before b cs i) where
   -- the next one follows too
-  pub goes-on : (r : ℕ) (new : List ℕ) → IsFollower h cs m (Some r) → (slice_index cs r < 65535 → new ≡ slice_set cs r (slice_index cs r + 1)) → FollowSoFar h before b new (i + 1)
+  pub goes-on : (r : ℕ) (new : List ℕ) → IsFollower h cs m (Some r)
+      → (slice_index cs r < 65535 → new ≡ slice_set cs r (slice_index cs r + 1)) → FollowSoFar h before b new (i + 1)
   goes-on r new follower more =
       let same = and-first (m.number == slice_index_or cs r 0) (is_some (payload_at h m)) follower.1 in
       let certified = and-second (m.number == slice_index_or cs r 0) (is_some (payload_at h m)) follower.1 in
@@ -67,7 +70,8 @@ module _ (h : Pool) (before : List Message) (b : Batch) (cs : List ℕ) (i : ℕ
       let number_is : m.number ≡ slice_index cs r = eqb-true m.number (slice_index_or cs r 0) same in
       record {
         in_order = subst (λ cs. FollowsSoFar h.view before b cs (i + 1)) (sym (more (omega (arith, few, number_is)))) on;
-        certified = ap (are_certified h) (taken-more b i m at) ∙ list_all-append (λ m. is_some (payload_at h m)) (take i b) (m ∷ []) ∙ both-true _ _ so_far.certified (both-true _ _ certified refl);
+        certified = ap (are_certified h) (taken-more b i m at) ∙ list_all-append (λ m. is_some (payload_at h m)) (take i b)
+            (m ∷ []) ∙ both-true _ _ so_far.certified (both-true _ _ certified refl);
       }
 
   -- or the batch does not

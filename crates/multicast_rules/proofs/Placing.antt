@@ -22,16 +22,24 @@ abbrev pub AreClosed : Pool → Signed → ℕ → Type 0
 AreClosed h signed a = (j : ℕ) → j < a → is_order_open h signed j ≡ false
 
 -- the Place that is due is that of the least place that is open
-pub place-due : (s : Setting) (p : Process) (h : Pool) (own : Own) (r : ℕ) (o : Option (ℕ × Batch)) → IsPool h → Tells s p h own → own.position ≡ Some r → own.ended ≡ false
-    → IsLeastBelow most_places (is_order_open h own.signed) (option_map (λ e. e.0) o) → IfSome o (λ e. ordered_at h e.0 ≡ Some e.1) → least_due s p Places ≡ option_map (λ e. Place h.view.number e.0 e.1) o
+pub place-due : (s : Setting) (p : Process) (h : Pool) (own : Own) (r : ℕ) (o : Option (ℕ × Batch)) → IsPool h → Tells s p h own
+    → own.position ≡ Some r → own.ended ≡ false
+    → IsLeastBelow most_places (is_order_open h own.signed) (option_map (λ e. e.0) o) → IfSome o (λ e. ordered_at h e.0 ≡ Some e.1)
+    → least_due s p Places ≡ option_map (λ e. Place h.view.number e.0 e.1) o
 place-due s p h own r o pool tells at not_ended least batch =
-    place_is_least s p (option_map (λ e. e.0) o) (subst IsPool (sym tells.pool) pool) (is-member s p h own tells r at) (is-open s p h own tells not_ended)
+    place_is_least s p (option_map (λ e. e.0) o) (subst IsPool (sym tells.pool) pool) (is-member s p h own tells r at)
+    (is-open s p h own tells not_ended)
     (least-same 0 most_places (is_order_open h own.signed) (is_place_open p) (option_map (λ e. e.0) o) (λ k le lt. same k) least)
-    ∙ ap (λ (h : Pool). option_and_then (λ k. option_map (Place h.view.number k) (ordered_at h k)) (option_map (λ e. e.0) o)) tells.pool ∙ go o batch
+    ∙ ap (λ (h : Pool). option_and_then (λ k. option_map (Place h.view.number k) (ordered_at h k))
+    (option_map (λ e. e.0) o)) tells.pool ∙ go o batch
   where
     same : (k : ℕ) → is_order_open h own.signed k ≡ is_place_open p k
-    same k = ap (λ (h : Pool). is_order_open h own.signed k) (sym tells.pool) ∙ ap (λ t. not t && is_some_and (ordered_at p.pool k) (fits p.pool k)) (sym (tells.signed.slots (Place p.pool.view.number k []) refl))
+    same k = ap (λ (h : Pool). is_order_open h own.signed k)
+        (sym tells.pool) ∙ ap (λ t. not t && is_some_and (ordered_at p.pool k) (fits p.pool k))
+        (sym (tells.signed.slots (Place p.pool.view.number k []) refl))
 
-    go : (o : Option (ℕ × Batch)) → IfSome o (λ e. ordered_at h e.0 ≡ Some e.1) → option_and_then (λ k. option_map (Place h.view.number k) (ordered_at h k)) (option_map (λ e. e.0) o) ≡ option_map (λ e. Place h.view.number e.0 e.1) o
+    go : (o : Option (ℕ × Batch)) → IfSome o (λ e. ordered_at h e.0 ≡ Some e.1)
+        → option_and_then (λ k. option_map (Place h.view.number k) (ordered_at h k)) (option_map (λ e. e.0) o)
+        ≡ option_map (λ e. Place h.view.number e.0 e.1) o
     go None batch = refl
     go (Some e) batch = ap (option_map (Place h.view.number e.0)) batch

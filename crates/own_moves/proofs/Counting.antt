@@ -43,10 +43,12 @@ set-below (x ∷ xs) (suc r) y zero b all le = all zero
 set-below (x ∷ xs) (suc r) y (suc k) b all le = set-below xs r y k b (λ j. all (suc j)) le
 
 snoc-count : (q : ℕ) (ms : List Message) (m : Message) → (m.sender ≡ q → ⊥) → named q (ms ++ m ∷ []) ≡ named q ms
-snoc-count q ms m other = sum_by-append (λ (m : Message). cond (m.sender == q) 1 0) ms (m ∷ []) ∙ ap (λ b. named q ms + (0 + cond b 1 0)) (ne_eqb m.sender q other) ∙ (let none : named q ms + (0 + 0) ≡ named q ms = omega arith in none)
+snoc-count q ms m other = sum_by-append (λ (m : Message). cond (m.sender == q) 1 0) ms (m ∷ []) ∙ ap (λ b. named q ms + (0 + cond b 1 0))
+    (ne_eqb m.sender q other) ∙ (let none : named q ms + (0 + 0) ≡ named q ms = omega arith in none)
 
 -- a message of one who is no member is not counted
-stranger-counts : (before : List Message) (m : Message) (ms : List ℕ) → ((q : ℕ) → Mem q ms → m.sender ≡ q → ⊥) → map (λ q. named q (before ++ m ∷ [])) ms ≡ map (λ q. named q before) ms
+stranger-counts : (before : List Message) (m : Message) (ms : List ℕ) → ((q : ℕ) → Mem q ms → m.sender ≡ q → ⊥)
+    → map (λ q. named q (before ++ m ∷ [])) ms ≡ map (λ q. named q before) ms
 stranger-counts before m [] apart = refl
 stranger-counts before m (q ∷ ms) apart =
     let here = snoc-count q before m (apart q (inl refl)) in
@@ -63,17 +65,22 @@ module _ (v : View) (ms : List (ℕ × ℕ)) where
     counted = λ before e. e ∙ ap (counts_in v) (sym (append-nil before));
   }
 
-  further : (before : List Message) (i : ℕ) (m : ℕ × ℕ) → slice_get ms i ≡ Some m → (before ++ take i batch) ++ message_of m ∷ [] ≡ before ++ take (i + 1) batch
+  further : (before : List Message) (i : ℕ) (m : ℕ × ℕ) → slice_get ms i ≡ Some m
+      → (before ++ take i batch) ++ message_of m ∷ [] ≡ before ++ take (i + 1) batch
   further before i m at =
       let there : slice_get batch i ≡ Some (message_of m) = map-get message_of ms i m at in
       append_assoc before (take i batch) (message_of m ∷ [])
-      ∙ ap (λ b. before ++ b) (sym (take_more batch i (message_of m) (slice_get-length batch i (message_of m) there) ∙ ap (λ y. take i batch ++ y ∷ []) (index-is batch i (message_of m) (message_of m) there)))
+      ∙ ap (λ b. before ++ b) (sym (take_more batch i (message_of m)
+      (slice_get-length batch i (message_of m) there) ∙ ap (λ y. take i batch ++ y ∷ [])
+      (index-is batch i (message_of m) (message_of m) there)))
 
   -- one more, of the member of rank r
-  pub one-more : (was counts : List ℕ) (i r : ℕ) (m : ℕ × ℕ) → IsView v → Counting v ms was counts i → slice_get ms i ≡ Some m → rank_of v m.0 ≡ Some r
+  pub one-more : (was counts : List ℕ) (i r : ℕ) (m : ℕ × ℕ) → IsView v → Counting v ms was counts i → slice_get ms i ≡ Some m
+      → rank_of v m.0 ≡ Some r
       → Counting v ms was (slice_set counts r (slice_index_or counts r 0 + 1)) (i + 1)
   one-more was counts i r m view so_far at rank = record {
-    room = λ k. set-below counts r (slice_index_or counts r 0 + 1) k (65519 + (i + 1)) (λ j. let le = so_far.room j in omega (arith, le)) (let le = so_far.room r in omega (arith, le));
+    room = λ k. set-below counts r (slice_index_or counts r 0 + 1) k (65519 + (i + 1)) (λ j. let le = so_far.room j in omega (arith, le))
+        (let le = so_far.room r in omega (arith, le));
     counted = λ before e.
         ap (λ cs. slice_set cs r (slice_index_or cs r 0 + 1)) (so_far.counted before e)
         ∙ sym (counts_one_more v (before ++ take i batch) (message_of m) r view (rank-at v m.0 r rank))
@@ -81,10 +88,12 @@ module _ (v : View) (ms : List (ℕ × ℕ)) where
   }
 
   -- one more, of one who is no member
-  pub stranger : (was counts : List ℕ) (i : ℕ) (m : ℕ × ℕ) → Counting v ms was counts i → slice_get ms i ≡ Some m → rank_of v m.0 ≡ None → Counting v ms was counts (i + 1)
+  pub stranger : (was counts : List ℕ) (i : ℕ) (m : ℕ × ℕ) → Counting v ms was counts i → slice_get ms i ≡ Some m → rank_of v m.0 ≡ None
+      → Counting v ms was counts (i + 1)
   stranger was counts i m so_far at none = record {
     room = λ k. let le = so_far.room k in omega (arith, le);
-    counted = λ before e. so_far.counted before e ∙ sym (stranger-counts (before ++ take i batch) (message_of m) v.members apart) ∙ ap (counts_in v) (further before i m at);
+    counted = λ before e. so_far.counted before e ∙ sym (stranger-counts (before ++ take i batch) (message_of m) v.members apart) ∙ ap
+        (counts_in v) (further before i m at);
   }
     where
       apart : (q : ℕ) → Mem q v.members → m.0 ≡ q → ⊥
@@ -94,7 +103,8 @@ module _ (v : View) (ms : List (ℕ × ℕ)) where
           cc
 
   -- all of them
-  pub whole : (was counts : List ℕ) (n : ℕ) → n ≡ length ms → Counting v ms was counts n → (before : List Message) → was ≡ counts_in v before → counts ≡ counts_in v (before ++ batch)
+  pub whole : (was counts : List ℕ) (n : ℕ) → n ≡ length ms → Counting v ms was counts n → (before : List Message)
+      → was ≡ counts_in v before → counts ≡ counts_in v (before ++ batch)
   whole was counts n all so_far before e = so_far.counted before e ∙ ap (λ b. counts_in v (before ++ b)) (take-all ms n all)
     where
       take-all : (ms : List (ℕ × ℕ)) (n : ℕ) → n ≡ length ms → take n (map message_of ms) ≡ map message_of ms

@@ -12,5 +12,6 @@ all-zero (suc n) (suc i) = all-zero n i
 pub none-reached : (keys : List SlotKey) (x : ℕ) (reached : List ℕ) → reached ≡ replicate 67 0 → AreReached keys x reached
 none-reached keys x reached e = record {
   rows = ap length e;
-  below = λ row n lt. absurd (let zero = ap (λ xs. slice_index xs (index_of row)) e ∙ all-zero 67 (index_of row) in omega (arith, lt, zero));
+  below = λ row n lt. absurd (let zero = ap (λ xs. slice_index xs (index_of row)) e ∙ all-zero 67 (index_of row) in omega
+      (arith, lt, zero));
 }

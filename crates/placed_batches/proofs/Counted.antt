@@ -21,7 +21,8 @@ use Rattle.placed_batches.specs.Rows.{IsRow, AreRows, IsPrefix}
 
 module _ (v : View) (view : IsView v) (ms : List Message) (m : Message) where
   stays : (q : ℕ) → m.sender ≢ q → named q (ms ++ m ∷ []) ≡ named q ms
-  stays q other = sum_by-append (λ (m : Message). cond (m.sender == q) 1 0) ms (m ∷ []) ∙ go (m.sender == q) (ne_eqb m.sender q other) (named q ms)
+  stays q other = sum_by-append (λ (m : Message). cond (m.sender == q) 1 0) ms (m ∷ []) ∙ go (m.sender == q) (ne_eqb m.sender q other)
+      (named q ms)
     where
       go : (b : Bool) → b ≡ false → (n : ℕ) → n + (0 + cond b 1 0) ≡ n
       go true e n = absurd cc
@@ -44,21 +45,28 @@ module _ (v : View) (view : IsView v) (ms : List Message) (m : Message) where
 
       same : (qs : List ℕ) → ((q : ℕ) → Mem q qs → m.sender ≡ q → ⊥) → map (λ q. named q (ms ++ m ∷ [])) qs ≡ map (λ q. named q ms) qs
       same [] apart = refl
-      same (q ∷ qs) apart = let here = stays q (apart q (inl refl)) in let rest = same qs (λ p there. apart p (inr there)) in λ i. here i ∷ rest i
+      same (q ∷ qs) apart = let here = stays q (apart q (inl refl)) in let rest = same qs (λ p there. apart p (inr there)) in λ i. here i
+          ∷ rest i
 
   -- at the sender's rank one more
-  pub one-count : (row : List ℕ) (r : ℕ) → IsRow v ms row → rank_of v m.sender ≡ Some r → IsRow v (ms ++ m ∷ []) (slice_set row r (slice_index row r + 1))
+  pub one-count : (row : List ℕ) (r : ℕ) → IsRow v ms row → rank_of v m.sender ≡ Some r
+      → IsRow v (ms ++ m ∷ []) (slice_set row r (slice_index row r + 1))
   one-count row r is rank =
       let at = rank-at v m.sender r rank in
       let lt = slice_get-length v.members r m.sender at in
       let n_is : length v.members ≤ length row = (let wide = is.wide in let few = view.few in omega (arith, wide, few)) in
-      let same : slice_index row r ≡ slice_index (counts_in v ms) r = sym (taken row (length v.members) r lt) ∙ ap (λ xs. slice_index xs r) is.counts in
+      let same : slice_index row r ≡ slice_index (counts_in v ms) r = sym (taken row (length v.members) r lt) ∙ ap
+      (λ xs. slice_index xs r) is.counts in
       record {
-        counts = take-set row (length v.members) r (slice_index row r + 1) lt ∙ (λ i. slice_set (is.counts i) r (same i + 1)) ∙ sym (counts_one_more v ms m r view at);
+        counts = take-set row (length v.members) r (slice_index row r + 1) lt ∙ (λ i. slice_set (is.counts i) r (same i + 1)) ∙ sym
+            (counts_one_more v ms m r view at);
         wide = length-set row r (slice_index row r + 1) ∙ is.wide;
         small = λ j. elim (cases_eq j r) [
-          | inl e ↦ (let here = ap (λ j. slice_index (slice_set row r (slice_index row r + 1)) j) e ∙ get_or-set_same row r (slice_index row r + 1) 0 (omega (arith, lt, n_is)) in let le = is.small r in omega (arith, here, le, length-append ms (m ∷ [])))
-          | inr ne ↦ (let there = get_or-set_other row r j (slice_index row r + 1) 0 ne in let le = is.small j in omega (arith, there, le, length-append ms (m ∷ [])))
+          | inl e ↦ (let here = ap (λ j. slice_index (slice_set row r (slice_index row r + 1)) j) e ∙ get_or-set_same row r
+              (slice_index row r + 1) 0 (omega (arith, lt, n_is)) in let le = is.small r in omega
+              (arith, here, le, length-append ms (m ∷ [])))
+          | inr ne ↦ (let there = get_or-set_other row r j (slice_index row r + 1) 0 ne in let le = is.small j in omega
+              (arith, there, le, length-append ms (m ∷ [])))
         ];
       }
     where
@@ -98,7 +106,8 @@ module _ (v : View) (view : IsView v) (ms : List (ℕ × ℕ)) (row : List ℕ) 
     one-more : map message_of (take (i + 1) ms) ≡ map message_of (take i ms) ++ message_of m ∷ []
     one-more = let one : i + 1 ≡ suc i = omega arith in ap (λ n. map message_of (take n ms)) one ∙ go ms i at
       where
-        go : (ms : List (ℕ × ℕ)) (i : ℕ) → slice_get ms i ≡ Some m → map message_of (take (suc i) ms) ≡ map message_of (take i ms) ++ message_of m ∷ []
+        go : (ms : List (ℕ × ℕ)) (i : ℕ) → slice_get ms i ≡ Some m
+            → map message_of (take (suc i) ms) ≡ map message_of (take i ms) ++ message_of m ∷ []
         go [] i at = absurd cc
         go (x ∷ ms) zero at = let is : x ≡ m = cc in alone ms ∙ ap (λ x. message_of x ∷ []) is
           where
@@ -107,28 +116,35 @@ module _ (v : View) (view : IsView v) (ms : List (ℕ × ℕ)) (row : List ℕ) 
             alone (y ∷ ms) = refl
         go (x ∷ ms) (suc i) at = ap (λ xs. message_of x ∷ xs) (go ms i at)
 
-    again : (before : List Message) → (before ++ map message_of (take i ms)) ++ message_of m ∷ [] ≡ before ++ map message_of (take (i + 1) ms)
+    again : (before : List Message)
+        → (before ++ map message_of (take i ms)) ++ message_of m ∷ [] ≡ before ++ map message_of (take (i + 1) ms)
     again before = append_assoc before (map message_of (take i ms)) (message_of m ∷ []) ∙ ap (λ xs. before ++ xs) (sym one-more)
 
     pub skipped : rank_of v m.0 ≡ None → SoFar v ms row row' (i + 1)
     skipped none = record {
       wide = so_far.wide;
-      rows = λ before is. subst (λ xs. IsRow v xs row') (again before) (no-count v view (before ++ map message_of (take i ms)) (message_of m) row' (so_far.rows before is) none);
+      rows = λ before is. subst (λ xs. IsRow v xs row') (again before)
+          (no-count v view (before ++ map message_of (take i ms)) (message_of m) row' (so_far.rows before is) none);
       risen = λ r. let le = so_far.risen r in omega (arith, le);
     }
 
     pub count-one : (r : ℕ) → rank_of v m.0 ≡ Some r → r < length row' → SoFar v ms row (slice_set row' r (slice_index row' r + 1)) (i + 1)
     count-one r rank lt = record {
       wide = length-set row' r (slice_index row' r + 1) ∙ so_far.wide;
-      rows = λ before is. subst (λ xs. IsRow v xs (slice_set row' r (slice_index row' r + 1))) (again before) (one-count v view (before ++ map message_of (take i ms)) (message_of m) row' r (so_far.rows before is) rank);
+      rows = λ before is. subst (λ xs. IsRow v xs (slice_set row' r (slice_index row' r + 1))) (again before)
+          (one-count v view (before ++ map message_of (take i ms)) (message_of m) row' r (so_far.rows before is) rank);
       risen = λ j. elim (cases_eq j r) [
-        | inl e ↦ (let here = ap (λ j. slice_index (slice_set row' r (slice_index row' r + 1)) j) e ∙ get_or-set_same row' r (slice_index row' r + 1) 0 lt in let le = so_far.risen r in omega (arith, here, le))
-        | inr ne ↦ (let there = get_or-set_other row' r j (slice_index row' r + 1) 0 ne in let le = so_far.risen j in omega (arith, there, le))
+        | inl e ↦ (let here = ap (λ j. slice_index (slice_set row' r (slice_index row' r + 1)) j) e ∙ get_or-set_same row' r
+            (slice_index row' r + 1) 0 lt in let le = so_far.risen r in omega (arith, here, le))
+        | inr ne ↦ (let there = get_or-set_other row' r j (slice_index row' r + 1) 0 ne in let le = so_far.risen j in omega
+            (arith, there, le))
       ];
     }
 
-  pub whole : (row' : List ℕ) (n : ℕ) → n ≡ length ms → SoFar v ms row row' n → (before : List Message) → IsRow v before row → IsRow v (before ++ map message_of ms) row'
-  whole row' n all so_far before is = subst (λ xs. IsRow v (before ++ map message_of xs) row') (ap (λ n. take n ms) all ∙ take-whole ms) (so_far.rows before is)
+  pub whole : (row' : List ℕ) (n : ℕ) → n ≡ length ms → SoFar v ms row row' n → (before : List Message) → IsRow v before row
+      → IsRow v (before ++ map message_of ms) row'
+  whole row' n all so_far before is = subst (λ xs. IsRow v (before ++ map message_of xs) row') (ap (λ n. take n ms) all ∙ take-whole ms)
+      (so_far.rows before is)
     where
       take-whole : {A : Type 0} (xs : List A) → take (length xs) xs ≡ xs
       take-whole [] = refl
@@ -139,17 +155,22 @@ module _ (v : View) (view : IsView v) (ms : List (ℕ × ℕ)) (row : List ℕ) 
 pub messages-push : (bs : List Batch) (b : Batch) → messages (bs ++ b ∷ []) ≡ messages bs ++ b
 messages-push bs b = flat_map-append (λ b. b) bs (b ∷ []) ∙ ap (λ ms. messages bs ++ ms) (append-nil b)
 
-pub rows-push : (v : View) (bs : List Batch) (rows : List (List ℕ)) (b : Batch) (row : List ℕ) → AreRows v bs rows → length b ≤ 16 → IsRow v (messages bs ++ b) row → AreRows v (bs ++ b ∷ []) (rows ++ row ∷ [])
+pub rows-push : (v : View) (bs : List Batch) (rows : List (List ℕ)) (b : Batch) (row : List ℕ) → AreRows v bs rows → length b ≤ 16
+    → IsRow v (messages bs ++ b) row → AreRows v (bs ++ b ∷ []) (rows ++ row ∷ [])
 rows-push v bs rows b row are few is = record {
   many = (let many = are.many in omega (arith, many, length-append rows (row ∷ []), length-append bs (b ∷ [])));
-  few = (let le = are.few in let all = ap length (messages-push bs b) in omega (arith, few, le, all, length-append (messages bs) b, length-append bs (b ∷ [])));
+  few = (let le = are.few in let all = ap length (messages-push bs b) in omega
+      (arith, few, le, all, length-append (messages bs) b, length-append bs (b ∷ [])));
   counted = λ k r at. elim (slice_get-snoc rows row k r at) [
-    | inl early ↦ (let lt = slice_get-length rows k r early in let many = are.many in let le : k ≤ length bs = omega (arith, lt, many) in subst (λ xs. IsRow v (messages xs) r) (sym (take-append-le k bs (b ∷ []) le)) (are.counted k r early))
+    | inl early ↦ (let lt = slice_get-length rows k r early in let many = are.many in let le : k
+        ≤ length bs = omega (arith, lt, many) in subst (λ xs. IsRow v (messages xs) r) (sym (take-append-le k bs (b ∷ []) le))
+        (are.counted k r early))
     | inr late ↦ (
         let many = are.many in
         let k_is : k ≡ length (bs ++ b ∷ []) = (let end = late.0 in omega (arith, end, many, length-append bs (b ∷ []))) in
         let all : take k (bs ++ b ∷ []) ≡ bs ++ b ∷ [] = ap (λ k. take k (bs ++ b ∷ [])) k_is ∙ take-whole (bs ++ b ∷ []) in
-        subst (IsRow v (messages (take k (bs ++ b ∷ [])))) late.1 (subst (λ ms. IsRow v ms row) (sym (ap messages all ∙ messages-push bs b)) is))
+        subst (IsRow v (messages (take k (bs ++ b ∷ [])))) late.1
+        (subst (λ ms. IsRow v ms row) (sym (ap messages all ∙ messages-push bs b)) is))
   ];
 }
   where
@@ -187,9 +208,11 @@ rows-begin v view = record {
     one zero row at = let is : replicate 16 0 ≡ row = cc in subst (IsRow v []) is first
     one (suc k) row at = absurd cc
 
-pub begun : (v : View) (bs : List Batch) (rows : List (List ℕ)) (for_batches for_rows : ℕ) → IsView v → bs ≡ [] → rows ≡ replicate 16 0 ∷ [] → 1024 ≤ for_batches → 1025 ≤ for_rows → IsPrefix v bs rows for_batches for_rows
+pub begun : (v : View) (bs : List Batch) (rows : List (List ℕ)) (for_batches for_rows : ℕ) → IsView v → bs ≡ [] → rows ≡ replicate 16 0 ∷ []
+    → 1024 ≤ for_batches → 1025 ≤ for_rows → IsPrefix v bs rows for_batches for_rows
 begun v bs rows for_batches for_rows view none one room rows_room = record {
-  counted = subst (λ (xs : List (List ℕ)). AreRows v bs xs) (sym one) (subst (λ (xs : List Batch). AreRows v xs (replicate 16 0 ∷ [])) (sym none) (rows-begin v view));
+  counted = subst (λ (xs : List (List ℕ)). AreRows v bs xs) (sym one)
+      (subst (λ (xs : List Batch). AreRows v xs (replicate 16 0 ∷ [])) (sym none) (rows-begin v view));
   most = (let e = ap length none in omega (arith, e));
   room = room;
   rows_room = rows_room;
@@ -197,7 +220,8 @@ begun v bs rows for_batches for_rows view none one room rows_room = record {
 
 -- ---- the last row
 
-pub last-row : (v : View) (bs : List Batch) (rows : List (List ℕ)) (k : ℕ) (row : List ℕ) → AreRows v bs rows → k ≡ length bs → row ≡ slice_index_or rows k row → IsRow v (messages bs) row
+pub last-row : (v : View) (bs : List Batch) (rows : List (List ℕ)) (k : ℕ) (row : List ℕ) → AreRows v bs rows → k ≡ length bs
+    → row ≡ slice_index_or rows k row → IsRow v (messages bs) row
 last-row v bs rows k row are k_is at =
     let lt : k < length rows = (let many = are.many in omega (arith, many, k_is)) in
     let here : slice_get rows k ≡ Some row = slice_get-index rows k row lt ∙ ap Some (sym at) in
@@ -207,5 +231,7 @@ last-row v bs rows k row are k_is at =
     take-all [] = refl
     take-all (x ∷ xs) = ap (λ ys. x ∷ ys) (take-all xs)
 
-pub last-small : (v : View) (bs : List Batch) (rows : List (List ℕ)) (k : ℕ) (row : List ℕ) → AreRows v bs rows → length bs < 1024 → k ≡ length bs → row ≡ slice_index_or rows k row → (r : ℕ) → slice_index row r ≤ 16384
-last-small v bs rows k row are lt k_is at r = let le = (last-row v bs rows k row are k_is at).small r in let all = are.few in omega (arith, le, all, lt)
+pub last-small : (v : View) (bs : List Batch) (rows : List (List ℕ)) (k : ℕ) (row : List ℕ) → AreRows v bs rows → length bs < 1024
+    → k ≡ length bs → row ≡ slice_index_or rows k row → (r : ℕ) → slice_index row r ≤ 16384
+last-small v bs rows k row are lt k_is at r = let le = (last-row v bs rows k row are k_is at).small r in let all = are.few in omega
+    (arith, le, all, lt)

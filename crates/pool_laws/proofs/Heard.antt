@@ -23,8 +23,10 @@ Said h signer st = (c : Claim) × Mem c h.heard × (c.signer ≡ signer) × (c.s
 pub heard_on-said : (h : Pool) (a : ℕ) (slot : Slot) (st : Statement) → heard_on h a slot ≡ Some st → Said h a st × (slot_of st ≡ slot)
 heard_on-said h a slot st e =
     let c = map-some (λ (c : Claim). c.statement) (claim_on h.heard a slot) st e in
-    let found = find-is (λ c. (c.signer == a) && same_slot (slot_of c.statement) slot) h.heard c.0 c.1 in
-    ((c.0, found.0, eqb-true _ _ (and-first _ _ found.1), c.2), sym (ap slot_of c.2) ∙ same_slot-is (slot_of c.0.statement) slot (and-second _ _ found.1))
+    let found = find-is (λ c. (c.signer == a) && same_slot (slot_of c.statement) slot) h.heard c.0 c.1 in (
+      (c.0, found.0, eqb-true _ _ (and-first _ _ found.1), c.2),
+      sym (ap slot_of c.2) ∙ same_slot-is (slot_of c.0.statement) slot (and-second _ _ found.1),
+    )
 
 pub heard-says : (h : Pool) (st : Statement) (a : ℕ) → says h st a ≡ true → Said h a st
 heard-says h st a e =
@@ -40,7 +42,8 @@ pub certified-heard : (h : Pool) (st : Statement) (me : ℕ) → is_member h.vie
 certified-heard h st me member certified =
     let enough = leb-true (quorum (number_of_members h)) (length (backers h st)) certified in
     let someone = list_any-mem (λ q. q == me) h.view.members member in
-    let backer = some-mem (backers h st) (above (number_of_members h) (length (backers h st)) (mem-some h.view.members someone.0 someone.1) enough) in
+    let backer = some-mem (backers h st)
+    (above (number_of_members h) (length (backers h st)) (mem-some h.view.members someone.0 someone.1) enough) in
     (backer.0, heard-says h st backer.0 (filter-mem (says h st) h.view.members backer.0 backer.1).1)
   where
     above : (n k : ℕ) → 0 < n → n - (n - 1) / 3 ≤ k → 0 < k
@@ -48,7 +51,8 @@ certified-heard h st me member certified =
 
 -- ---- what stands certified
 
-pub certified_on-is : (h : Pool) (slot : Slot) (st : Statement) → certified_on h slot ≡ Some st → (is_certified h st ≡ true) × (slot_of st ≡ slot)
+pub certified_on-is : (h : Pool) (slot : Slot) (st : Statement) → certified_on h slot ≡ Some st
+    → (is_certified h st ≡ true) × (slot_of st ≡ slot)
 certified_on-is h slot st e =
     let found = find-is (is_certified h) (filter (λ st. same_slot (slot_of st) slot) (map (λ (c : Claim). c.statement) h.heard)) st e in
     let at = filter-mem (λ st. same_slot (slot_of st) slot) (map (λ (c : Claim). c.statement) h.heard) st found.0 in
@@ -66,30 +70,36 @@ payload-certified h m b e =
     let is = certified_on-is h (EchoAt h.view.number m) st.0 st.1 in
     subst (λ st. is_certified h st ≡ true) (echo-is st.0 h.view.number m b st.2 is.1) is.0
 
-pub value-certified : (h : Pool) (r : ℕ) (w : Value) → value_at h (ReadyAt h.view.number r) ≡ Some w → is_certified h (Ready h.view.number r w) ≡ true
+pub value-certified : (h : Pool) (r : ℕ) (w : Value) → value_at h (ReadyAt h.view.number r) ≡ Some w
+    → is_certified h (Ready h.view.number r w) ≡ true
 value-certified h r w e =
     let st = then-some value_of (certified_on h (ReadyAt h.view.number r)) w e in
     let is = certified_on-is h (ReadyAt h.view.number r) st.0 st.1 in
     subst (λ st. is_certified h st ≡ true) (ready-is st.0 h.view.number r w st.2 is.1) is.0
 
-pub fold-attained : (ks : List ℕ) (most : ℕ) → (fold (λ most k. max most (k + 1)) most ks ≡ most) ⊎ ((k : ℕ) × Mem k ks × (fold (λ most k. max most (k + 1)) most ks ≡ k + 1))
+pub fold-attained : (ks : List ℕ) (most : ℕ)
+    → (fold (λ most k. max most (k + 1)) most ks ≡ most) ⊎ ((k : ℕ) × Mem k ks × (fold (λ most k. max most (k + 1)) most ks ≡ k + 1))
 fold-attained [] most = inl refl
 fold-attained (k ∷ ks) most = go (fold-attained ks (max most (k + 1)))
   where
     pick : (e : fold (λ most k. max most (k + 1)) (max most (k + 1)) ks ≡ max most (k + 1)) → (b : Bool) → nat_lt most (k + 1) ≡ b
-        → (fold (λ most k. max most (k + 1)) (max most (k + 1)) ks ≡ most) ⊎ ((j : ℕ) × Mem j (k ∷ ks) × (fold (λ most k. max most (k + 1)) (max most (k + 1)) ks ≡ j + 1))
+        → (fold (λ most k. max most (k + 1)) (max most (k + 1)) ks ≡ most)
+        ⊎ ((j : ℕ) × Mem j (k ∷ ks) × (fold (λ most k. max most (k + 1)) (max most (k + 1)) ks ≡ j + 1))
     pick e true f = inr (k, inl refl, (let lt = ltb-true most (k + 1) f in omega (arith, lt, e)))
     pick e false f = inl (let ge = ltb-false most (k + 1) f in omega (arith, ge, e))
 
-    go : (fold (λ most k. max most (k + 1)) (max most (k + 1)) ks ≡ max most (k + 1)) ⊎ ((j : ℕ) × Mem j ks × (fold (λ most k. max most (k + 1)) (max most (k + 1)) ks ≡ j + 1))
-        → (fold (λ most k. max most (k + 1)) (max most (k + 1)) ks ≡ most) ⊎ ((j : ℕ) × Mem j (k ∷ ks) × (fold (λ most k. max most (k + 1)) (max most (k + 1)) ks ≡ j + 1))
+    go : (fold (λ most k. max most (k + 1)) (max most (k + 1)) ks ≡ max most (k + 1))
+        ⊎ ((j : ℕ) × Mem j ks × (fold (λ most k. max most (k + 1)) (max most (k + 1)) ks ≡ j + 1))
+        → (fold (λ most k. max most (k + 1)) (max most (k + 1)) ks ≡ most)
+        ⊎ ((j : ℕ) × Mem j (k ∷ ks) × (fold (λ most k. max most (k + 1)) (max most (k + 1)) ks ≡ j + 1))
     go (inl e) = pick e (nat_lt most (k + 1)) refl
     go (inr found) = inr (found.0, inr found.1, found.2)
 
 pub kept-is : (h : Pool) (st : Statement) (k : ℕ) → place_kept h st ≡ Some k → (b : Batch) × (is_certified h (Keep (view_of st) k b) ≡ true)
 kept-is h (Keep x j c) k e = go (is_certified h (Keep x j c)) refl e
   where
-    go : (b : Bool) → is_certified h (Keep x j c) ≡ b → (if b then Some j else None) ≡ Some k → (b : Batch) × (is_certified h (Keep x k b) ≡ true)
+    go : (b : Bool) → is_certified h (Keep x j c) ≡ b → (if b then Some j else None) ≡ Some k
+        → (b : Batch) × (is_certified h (Keep x k b) ≡ true)
     go true f e = (c, subst (λ j. is_certified h (Keep x j c) ≡ true) (some-same j k e) f)
     go false f e = absurd cc
 kept-is h _ k e = absurd cc
@@ -98,8 +108,10 @@ placed-place : (h : Pool) (more k j : ℕ) (b : Batch) → slice_get (placed_fro
 placed-place h zero k j b e = absurd cc
 placed-place h (suc more) k j b e = go (place_at h k) refl j e (placed-place h more (k + 1))
   where
-    go : (o : Option Batch) → place_at h k ≡ o → (j : ℕ) → (let it : List Batch = elim o [ None ↦ [] | Some b ↦ b ∷ placed_from h more (k + 1) ] in slice_get it j ≡ Some b)
-        → ((j : ℕ) (b : Batch) → slice_get (placed_from h more (k + 1)) j ≡ Some b → place_at h ((k + 1) + j) ≡ Some b) → place_at h (k + j) ≡ Some b
+    go : (o : Option Batch) → place_at h k ≡ o → (j : ℕ)
+        → (let it : List Batch = elim o [ None ↦ [] | Some b ↦ b ∷ placed_from h more (k + 1) ] in slice_get it j ≡ Some b)
+        → ((j : ℕ) (b : Batch) → slice_get (placed_from h more (k + 1)) j ≡ Some b → place_at h ((k + 1) + j) ≡ Some b)
+        → place_at h (k + j) ≡ Some b
     go None f j e rest = absurd cc
     go (Some c) f zero e rest = let same : k + 0 ≡ k = omega arith in ap (place_at h) same ∙ f ∙ e
     go (Some c) f (suc j) e rest = let same : k + suc j ≡ (k + 1) + j = omega arith in ap (place_at h) same ∙ rest j b e
@@ -111,7 +123,9 @@ placed-at h j b e = let same : 0 + j ≡ j = omega arith in subst (λ j. place_a
 -- ---- what is heard is valid, and of the view
 
 -- of the seven tests each one failed
-heard-tests : (old early strange beyond known unsigned conflict : Bool) → unwrap_or (first_that_holds ((old, Old) ∷ (early, Early) ∷ (strange, Stranger) ∷ (beyond, OutOfWindow) ∷ (known, Known) ∷ (unsigned, Unsigned) ∷ (conflict, Conflict) ∷ [])) Heard ≡ Heard
+heard-tests : (old early strange beyond known unsigned conflict : Bool)
+    → unwrap_or (first_that_holds ((old, Old) ∷ (early, Early) ∷ (strange, Stranger) ∷ (beyond, OutOfWindow) ∷ (known, Known)
+    ∷ (unsigned, Unsigned) ∷ (conflict, Conflict) ∷ [])) Heard ≡ Heard
     → (old ≡ false) × (early ≡ false) × (strange ≡ false) × (unsigned ≡ false)
 heard-tests true early strange beyond known unsigned conflict e = absurd cc
 heard-tests false true strange beyond known unsigned conflict e = absurd cc
@@ -123,11 +137,14 @@ heard-tests false false false false false false conflict e = (refl, refl, refl, 
 
 module _ (s : Setting) (p : Process) (c : Claim) (heard : verdict s p c ≡ Heard) where
   abbrev pub Passed : Type 0
-  Passed = (nat_lt (view_of c.statement) p.pool.view.number ≡ false) × (nat_lt p.pool.view.number (view_of c.statement) ≡ false) × (is_strange p c ≡ false) × (not (is_valid s c) ≡ false)
+  Passed = (nat_lt (view_of c.statement) p.pool.view.number ≡ false) × (nat_lt p.pool.view.number (view_of c.statement) ≡ false)
+      × (is_strange p c ≡ false) × (not (is_valid s c) ≡ false)
 
   -- four of the tests, that the claim has passed
   pub passed : Passed
-  passed = heard-tests (nat_lt (view_of c.statement) p.pool.view.number) (nat_lt p.pool.view.number (view_of c.statement)) (is_strange p c) (is_beyond p c.signer c.statement) (says p.pool c.statement c.signer) (not (is_valid s c)) (is_some (heard_on p.pool c.signer (slot_of c.statement))) heard
+  passed = heard-tests (nat_lt (view_of c.statement) p.pool.view.number) (nat_lt p.pool.view.number (view_of c.statement)) (is_strange p c)
+      (is_beyond p c.signer c.statement) (says p.pool c.statement c.signer) (not (is_valid s c))
+      (is_some (heard_on p.pool c.signer (slot_of c.statement))) heard
 
   pub verdict-valid : is_valid s c ≡ true
   verdict-valid = not-false (is_valid s c) passed.3

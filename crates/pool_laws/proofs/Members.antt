@@ -80,14 +80,17 @@ pub list_any-mem : {A : Type 0} (test : A → Bool) (xs : List A) → list_any t
 list_any-mem test [] e = absurd cc
 list_any-mem {A} test (x ∷ xs) e = go (test x) refl e (list_any-mem test xs)
   where
-    go : (b : Bool) → test x ≡ b → (b || list_any test xs) ≡ true → (list_any test xs ≡ true → (x : A) × Mem x xs × (test x ≡ true)) → (y : A) × Mem y (x ∷ xs) × (test y ≡ true)
+    go : (b : Bool) → test x ≡ b → (b || list_any test xs) ≡ true → (list_any test xs ≡ true → (x : A) × Mem x xs × (test x ≡ true))
+        → (y : A) × Mem y (x ∷ xs) × (test y ≡ true)
     go true t e rest = (x, inl refl, t)
     go false t e rest = let r = rest e in (r.0, inr r.1, r.2)
 
-pub tested-all : {A : Type 0} (test : A → Bool) (P : A → Type 0) (xs : List A) → ((x : A) → test x ≡ true → P x) → list_all test xs ≡ true → All P xs
+pub tested-all : {A : Type 0} (test : A → Bool) (P : A → Type 0) (xs : List A) → ((x : A) → test x ≡ true → P x) → list_all test xs ≡ true
+    → All P xs
 tested-all test P xs each e k d lt = each (slice_index_or xs k d) (list_all-mem test xs (slice_index_or xs k d) e (index-mem xs k d lt))
 
-pub all-tested : {A : Type 0} (test : A → Bool) (P : A → Type 0) (xs : List A) → ((x : A) → P x → test x ≡ true) → All P xs → list_all test xs ≡ true
+pub all-tested : {A : Type 0} (test : A → Bool) (P : A → Type 0) (xs : List A) → ((x : A) → P x → test x ≡ true) → All P xs
+    → list_all test xs ≡ true
 all-tested test P xs each all = each-list_all test xs (λ x m. each x (All-mem P xs x all m))
 
 -- ---- of two lists
@@ -117,7 +120,8 @@ snoc-mem [] last y (inr m) = absurd m
 snoc-mem (x ∷ xs) last y (inl e) = inl (inl e)
 snoc-mem (x ∷ xs) last y (inr m) = elim (snoc-mem xs last y m) [ inl here ↦ inl (inr here) | inr e ↦ inr e ]
 
-pub each-snoc : {A : Type 0} (P : A → Type 0) (xs : List A) (last : A) → ((x : A) → Mem x xs → P x) → P last → (x : A) → Mem x (xs ++ last ∷ []) → P x
+pub each-snoc : {A : Type 0} (P : A → Type 0) (xs : List A) (last : A) → ((x : A) → Mem x xs → P x) → P last → (x : A)
+    → Mem x (xs ++ last ∷ []) → P x
 each-snoc P xs last each at x m = elim (snoc-mem xs last x m) [ inl before ↦ each x before | inr is ↦ subst P is at ]
 
 pub mem-drop : {A : Type 0} (n : ℕ) (xs : List A) (y : A) → Mem y (drop n xs) → Mem y xs
@@ -159,7 +163,8 @@ pub filter-mem : {A : Type 0} (test : A → Bool) (xs : List A) (y : A) → Mem 
 filter-mem test [] y m = absurd m
 filter-mem test (x ∷ xs) y m = go (test x) refl m (filter-mem test xs y)
   where
-    go : (b : Bool) → test x ≡ b → Mem y (if b then x ∷ filter test xs else filter test xs) → (Mem y (filter test xs) → Mem y xs × (test y ≡ true)) → Mem y (x ∷ xs) × (test y ≡ true)
+    go : (b : Bool) → test x ≡ b → Mem y (if b then x ∷ filter test xs else filter test xs)
+        → (Mem y (filter test xs) → Mem y xs × (test y ≡ true)) → Mem y (x ∷ xs) × (test y ≡ true)
     go true t (inl same) rest = (inl same, subst (λ z. test z ≡ true) same t)
     go true t (inr m) rest = let r = rest m in (inr r.0, r.1)
     go false t m rest = let r = rest m in (inr r.0, r.1)
@@ -168,7 +173,8 @@ pub filter_map-mem : {A B : Type 0} (h : A → Option B) (xs : List A) (b : B) �
 filter_map-mem h [] b m = absurd m
 filter_map-mem {A} {B} h (x ∷ xs) b m = go (h x) refl m (filter_map-mem h xs b)
   where
-    go : (o : Option B) → h x ≡ o → Mem b (cons_option o (filter_map h xs)) → (Mem b (filter_map h xs) → (a : A) × Mem a xs × (h a ≡ Some b)) → (a : A) × Mem a (x ∷ xs) × (h a ≡ Some b)
+    go : (o : Option B) → h x ≡ o → Mem b (cons_option o (filter_map h xs))
+        → (Mem b (filter_map h xs) → (a : A) × Mem a xs × (h a ≡ Some b)) → (a : A) × Mem a (x ∷ xs) × (h a ≡ Some b)
     go None t m rest = let r = rest m in (r.0, inr r.1, r.2)
     go (Some c) t (inl same) rest = (x, inl refl, cc)
     go (Some c) t (inr m) rest = let r = rest m in (r.0, inr r.1, r.2)
@@ -190,7 +196,8 @@ pub find-is : {A : Type 0} (test : A → Bool) (xs : List A) (y : A) → find te
 find-is test [] y e = absurd cc
 find-is test (x ∷ xs) y e = go (test x) refl e (find-is test xs y)
   where
-    go : (b : Bool) → test x ≡ b → (if b then Some x else find test xs) ≡ Some y → (find test xs ≡ Some y → Mem y xs × (test y ≡ true)) → Mem y (x ∷ xs) × (test y ≡ true)
+    go : (b : Bool) → test x ≡ b → (if b then Some x else find test xs) ≡ Some y → (find test xs ≡ Some y → Mem y xs × (test y ≡ true))
+        → Mem y (x ∷ xs) × (test y ≡ true)
     go true t e rest = let is : x ≡ y = cc in (inl is, subst (λ z. test z ≡ true) is t)
     go false t e rest = let r = rest e in (inr r.0, r.1)
 
@@ -198,7 +205,8 @@ pub mem-find : {A : Type 0} (test : A → Bool) (xs : List A) (y : A) → Mem y 
 mem-find test [] y m t = absurd m
 mem-find {A} test (x ∷ xs) y m t = go (test x) refl m (λ m'. mem-find test xs y m' t)
   where
-    go : (b : Bool) → test x ≡ b → (x ≡ y) ⊎ Mem y xs → (Mem y xs → (z : A) × (find test xs ≡ Some z)) → (z : A) × ((if b then Some x else find test xs) ≡ Some z)
+    go : (b : Bool) → test x ≡ b → (x ≡ y) ⊎ Mem y xs → (Mem y xs → (z : A) × (find test xs ≡ Some z))
+        → (z : A) × ((if b then Some x else find test xs) ≡ Some z)
     go true e m rest = (x, refl)
     go false e (inl is) rest = absurd (let no' : test x ≡ true = subst (λ z. test z ≡ true) (sym is) t in cc)
     go false e (inr m) rest = rest m

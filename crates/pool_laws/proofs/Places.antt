@@ -45,11 +45,13 @@ index-beyond (x ∷ xs) (suc i) d le = index-beyond xs i d (omega (arith, le))
 -- ---- of what is made of a list
 
 -- at its end, or where it was
-pub slice_get-snoc : {A : Type 0} (xs : List A) (last : A) (i : ℕ) (y : A) → slice_get (xs ++ last ∷ []) i ≡ Some y → (slice_get xs i ≡ Some y) ⊎ ((i ≡ length xs) × (last ≡ y))
+pub slice_get-snoc : {A : Type 0} (xs : List A) (last : A) (i : ℕ) (y : A) → slice_get (xs ++ last ∷ []) i ≡ Some y
+    → (slice_get xs i ≡ Some y) ⊎ ((i ≡ length xs) × (last ≡ y))
 slice_get-snoc [] last zero y e = inr (refl, cc)
 slice_get-snoc [] last (suc i) y e = absurd cc
 slice_get-snoc (x ∷ xs) last zero y e = inl e
-slice_get-snoc (x ∷ xs) last (suc i) y e = elim (slice_get-snoc xs last i y e) [ inl here ↦ inl here | inr end ↦ inr ((λ j. suc (end.0 j)), end.1) ]
+slice_get-snoc (x ∷ xs) last (suc i) y e = elim
+    (slice_get-snoc xs last i y e) [ inl here ↦ inl here | inr end ↦ inr ((λ j. suc (end.0 j)), end.1) ]
 
 pub slice_get-last : {A : Type 0} (xs : List A) (last : A) (i : ℕ) → i ≡ length xs → slice_get (xs ++ last ∷ []) i ≡ Some last
 slice_get-last [] last i e = subst (λ i. slice_get (last ∷ []) i ≡ Some last) (sym e) refl
@@ -61,16 +63,19 @@ slice_get-front [] ys i y e = absurd cc
 slice_get-front (x ∷ xs) ys zero y e = e
 slice_get-front (x ∷ xs) ys (suc i) y e = slice_get-front xs ys i y e
 
-pub get-append : {A : Type 0} (xs ys : List A) (i : ℕ) (y : A) → slice_get (xs ++ ys) i ≡ Some y → (slice_get xs i ≡ Some y) ⊎ ((j : ℕ) × (i ≡ length xs + j) × (slice_get ys j ≡ Some y))
+pub get-append : {A : Type 0} (xs ys : List A) (i : ℕ) (y : A) → slice_get (xs ++ ys) i ≡ Some y
+    → (slice_get xs i ≡ Some y) ⊎ ((j : ℕ) × (i ≡ length xs + j) × (slice_get ys j ≡ Some y))
 get-append [] ys i y e = inr (i, omega arith, e)
 get-append (x ∷ xs) ys zero y e = inl e
-get-append (x ∷ xs) ys (suc i) y e = elim (get-append xs ys i y e) [ inl here ↦ inl here | inr there ↦ inr (there.0, (let is = there.1 in omega (arith, is)), there.2) ]
+get-append (x ∷ xs) ys (suc i) y e = elim
+    (get-append xs ys i y e) [ inl here ↦ inl here | inr there ↦ inr (there.0, (let is = there.1 in omega (arith, is)), there.2) ]
 
 pub length-snoc : {A : Type 0} (xs : List A) (last : A) → length (xs ++ last ∷ []) ≡ suc (length xs)
 length-snoc [] last = refl
 length-snoc (x ∷ xs) last = ap suc (length-snoc xs last)
 
-pub get-map : {A B : Type 0} (g : A → B) (xs : List A) (i : ℕ) (y : B) → slice_get (map g xs) i ≡ Some y → (x : A) × (slice_get xs i ≡ Some x) × (g x ≡ y)
+pub get-map : {A B : Type 0} (g : A → B) (xs : List A) (i : ℕ) (y : B) → slice_get (map g xs) i ≡ Some y
+    → (x : A) × (slice_get xs i ≡ Some x) × (g x ≡ y)
 get-map g [] i y e = absurd cc
 get-map g (x ∷ xs) zero y e = (x, refl, cc)
 get-map g (x ∷ xs) (suc i) y e = get-map g xs i y e
@@ -106,7 +111,8 @@ take-one (y ∷ ys) zero x e = let is : y ≡ x = cc in ap (λ y. y ∷ []) is
 take-one (y ∷ ys) (suc i) x e = take-one ys i x e
 
 -- what passes stands behind those before it that pass
-pub filter-at : {A : Type 0} (test : A → Bool) (xs : List A) (k : ℕ) (x : A) → slice_get xs k ≡ Some x → test x ≡ true → slice_get (filter test xs) (length (filter test (take k xs))) ≡ Some x
+pub filter-at : {A : Type 0} (test : A → Bool) (xs : List A) (k : ℕ) (x : A) → slice_get xs k ≡ Some x → test x ≡ true
+    → slice_get (filter test xs) (length (filter test (take k xs))) ≡ Some x
 filter-at test [] k x at e = absurd cc
 filter-at test (y ∷ ys) zero x at e = go (test y) (let is : y ≡ x = cc in ap test is ∙ e)
   where
@@ -115,7 +121,9 @@ filter-at test (y ∷ ys) zero x at e = go (test y) (let is : y ≡ x = cc in ap
     go false f = absurd cc
 filter-at test (y ∷ ys) (suc k) x at e = go (test y) (filter-at test ys k x at e)
   where
-    go : (b : Bool) → slice_get (filter test ys) (length (filter test (take k ys))) ≡ Some x → slice_get (if b then y ∷ filter test ys else filter test ys) (length (if b then y ∷ filter test (take k ys) else filter test (take k ys))) ≡ Some x
+    go : (b : Bool) → slice_get (filter test ys) (length (filter test (take k ys))) ≡ Some x
+        → slice_get (if b then y ∷ filter test ys else filter test ys)
+        (length (if b then y ∷ filter test (take k ys) else filter test (take k ys))) ≡ Some x
     go true rest = rest
     go false rest = rest
 
@@ -159,7 +167,8 @@ compared i j = go (nat_lt i j) refl (nat_lt j i) refl
 abbrev pub Pairs : {A : Type 0} → (A → A → Type 0) → List A → Type 0
 Pairs {A} R xs = (i j : ℕ) (a b : A) → i < j → slice_get xs i ≡ Some a → slice_get xs j ≡ Some b → R a b
 
-pub pairs-snoc : {A : Type 0} (R : A → A → Type 0) (xs : List A) (last : A) → Pairs R xs → ((a : A) → Mem a xs → R a last) → Pairs R (xs ++ last ∷ [])
+pub pairs-snoc : {A : Type 0} (R : A → A → Type 0) (xs : List A) (last : A) → Pairs R xs → ((a : A) → Mem a xs → R a last)
+    → Pairs R (xs ++ last ∷ [])
 pairs-snoc R xs last pairs owed i j a b lt at_i at_j = elim (slice_get-snoc xs last i a at_i) [
   | inl before ↦ elim (slice_get-snoc xs last j b at_j) [
     | inl then_ ↦ pairs i j a b lt before then_
@@ -172,11 +181,13 @@ pairs-snoc R xs last pairs owed i j a b lt at_i at_j = elim (slice_get-snoc xs l
 ]
 
 pub pairs-all : {A : Type 0} (R : A → A → Type 0) (xs : List A) → Pairs R xs → AllPairs R xs
-pairs-all R xs pairs i j d lt far = pairs i j (slice_index_or xs i d) (slice_index_or xs j d) lt (slice_get-index xs i d (omega (arith, lt, far))) (slice_get-index xs j d far)
+pairs-all R xs pairs i j d lt far = pairs i j (slice_index_or xs i d)
+    (slice_index_or xs j d) lt (slice_get-index xs i d (omega (arith, lt, far))) (slice_get-index xs j d far)
 
 pub all-pairs : {A : Type 0} (R : A → A → Type 0) (xs : List A) → AllPairs R xs → Pairs R xs
 all-pairs R xs all i j a b lt at_i at_j =
-    subst (λ c. R c b) (index-is xs i a a at_i) (subst (R (slice_index_or xs i a)) (index-is xs j a b at_j) (all i j a lt (slice_get-length xs j b at_j)))
+    subst (λ c. R c b) (index-is xs i a a at_i)
+    (subst (R (slice_index_or xs i a)) (index-is xs j a b at_j) (all i j a lt (slice_get-length xs j b at_j)))
 
 -- ---- prefixes
 
@@ -208,18 +219,21 @@ prefix-equal {A} (x ∷ xs) (y ∷ ys) p le =
     tail-is : (zs : List A) → x ∷ zs ≡ y ∷ ys → zs ≡ ys
     tail-is zs e = cc
 
-pub prefix-by : {A : Type 0} (xs ys : List A) → length xs ≤ length ys → ((k : ℕ) (x y : A) → slice_get xs k ≡ Some x → slice_get ys k ≡ Some y → x ≡ y) → IsPrefixOf xs ys
+pub prefix-by : {A : Type 0} (xs ys : List A) → length xs ≤ length ys
+    → ((k : ℕ) (x y : A) → slice_get xs k ≡ Some x → slice_get ys k ≡ Some y → x ≡ y) → IsPrefixOf xs ys
 prefix-by [] ys le same = (ys, refl)
 prefix-by (x ∷ xs) [] le same = absurd (omega (arith, le))
 prefix-by (x ∷ xs) (y ∷ ys) le same =
     let rest = prefix-by xs ys (omega (arith, le)) (λ k a b at at'. same (suc k) a b at at') in
     (rest.0, λ i. same zero x y refl refl i ∷ rest.1 i)
 
-pub equal-by : {A : Type 0} (xs ys : List A) → length xs ≡ length ys → ((k : ℕ) (x y : A) → slice_get xs k ≡ Some x → slice_get ys k ≡ Some y → x ≡ y) → xs ≡ ys
+pub equal-by : {A : Type 0} (xs ys : List A) → length xs ≡ length ys
+    → ((k : ℕ) (x y : A) → slice_get xs k ≡ Some x → slice_get ys k ≡ Some y → x ≡ y) → xs ≡ ys
 equal-by [] [] e same = refl
 equal-by [] (y ∷ ys) e same = absurd (omega (arith, e))
 equal-by (x ∷ xs) [] e same = absurd (omega (arith, e))
-equal-by (x ∷ xs) (y ∷ ys) e same = let rest = equal-by xs ys (omega (arith, e)) (λ k a b at at'. same (suc k) a b at at') in λ i. same zero x y refl refl i ∷ rest i
+equal-by (x ∷ xs) (y ∷ ys) e same = let rest = equal-by xs ys (omega (arith, e))
+    (λ k a b at at'. same (suc k) a b at at') in λ i. same zero x y refl refl i ∷ rest i
 
 -- ---- the longest
 
@@ -240,8 +254,10 @@ pub longest-most : {A : Type 0} (xss : List (List A)) (xs : List A) → Mem xs x
 longest-most [] xs m = absurd m
 longest-most {A} (ys ∷ more) xs m = go (nat_lt (length ys) (length (longest more))) refl m (longest-most more xs)
   where
-    go : (b : Bool) → nat_lt (length ys) (length (longest more)) ≡ b → (ys ≡ xs) ⊎ Mem xs more → (Mem xs more → length xs ≤ length (longest more)) → length xs ≤ length (if b then longest more else ys)
-    go true e (inl is) rest = let lt = ltb-true (length ys) (length (longest more)) e in let same : length ys ≡ length xs = ap length is in omega (arith, lt, same)
+    go : (b : Bool) → nat_lt (length ys) (length (longest more)) ≡ b → (ys ≡ xs) ⊎ Mem xs more
+        → (Mem xs more → length xs ≤ length (longest more)) → length xs ≤ length (if b then longest more else ys)
+    go true e (inl is) rest = let lt = ltb-true (length ys) (length (longest more)) e in let same : length ys
+        ≡ length xs = ap length is in omega (arith, lt, same)
     go true e (inr m) rest = rest m
     go false e (inl is) rest = let same : length ys ≡ length xs = ap length is in omega (arith, same)
     go false e (inr m) rest = let le = rest m in let ge = ltb-false (length ys) (length (longest more)) e in omega (arith, le, ge)

@@ -9,7 +9,8 @@ mem-put key a [] y (inl e) = inl e
 mem-put key a [] y (inr m) = absurd m
 mem-put {A} key a (x ∷ xs) y m = go (numbers_below (key a) (key x)) m (mem-put key a xs y)
   where
-    go : (b : Bool) → Mem y (if b then a ∷ x ∷ xs else x ∷ put key a xs) → (Mem y (put key a xs) → (a ≡ y) ⊎ Mem y xs) → (a ≡ y) ⊎ Mem y (x ∷ xs)
+    go : (b : Bool) → Mem y (if b then a ∷ x ∷ xs else x ∷ put key a xs) → (Mem y (put key a xs) → (a ≡ y) ⊎ Mem y xs)
+        → (a ≡ y) ⊎ Mem y (x ∷ xs)
     go true (inl e) rest = inl e
     go true (inr m) rest = inr m
     go false (inl e) rest = inr (inl e)

@@ -67,7 +67,8 @@ pub map-some : {A B : Type 0} (f : A → B) (o : Option A) (b : B) → option_ma
 map-some f None b e = absurd cc
 map-some f (Some a) b e = (a, refl, cc)
 
-pub then-some : {A B : Type 0} (f : A → Option B) (o : Option A) (b : B) → option_and_then f o ≡ Some b → (a : A) × (o ≡ Some a) × (f a ≡ Some b)
+pub then-some : {A B : Type 0} (f : A → Option B) (o : Option A) (b : B) → option_and_then f o ≡ Some b
+    → (a : A) × (o ≡ Some a) × (f a ≡ Some b)
 then-some f None b e = absurd cc
 then-some f (Some a) b e = (a, refl, e)
 

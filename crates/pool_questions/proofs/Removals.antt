@@ -12,10 +12,13 @@ use Rattle.rule_laws.proofs.Notifying.{notified-heard}
 use Rattle.pool_values.specs.declared.updates.UpdateSet.{UpdateSet}
 use Rattle.pool_values.specs.Updates.{has_update, AreNotified}
 
-pub some-notified : (h : Pool) (s : UpdateSet) (u : Update) → AreNotified h s → has_update s u ≡ true → true ≡ nat_lt 0 (length (notified_updates h))
-some-notified h s u are e = sym (lt-ltb 0 (length (notified_updates h)) (mem-some (notified_updates h) u (notified-heard h u (sym (are u) ∙ e))))
+pub some-notified : (h : Pool) (s : UpdateSet) (u : Update) → AreNotified h s → has_update s u ≡ true
+    → true ≡ nat_lt 0 (length (notified_updates h))
+some-notified h s u are e = sym
+    (lt-ltb 0 (length (notified_updates h)) (mem-some (notified_updates h) u (notified-heard h u (sym (are u) ∙ e))))
 
-pub none-notified : (h : Pool) (s : UpdateSet) → AreNotified h s → ((u : Update) → has_update s u ≡ false) → false ≡ nat_lt 0 (length (notified_updates h))
+pub none-notified : (h : Pool) (s : UpdateSet) → AreNotified h s → ((u : Update) → has_update s u ≡ false)
+    → false ≡ nat_lt 0 (length (notified_updates h))
 none-notified h s are none =
     let empty : notified_updates h ≡ [] = none-in (notified_updates h) (λ u m.
     let is : is_notified h u ≡ true = (filter-mem (is_notified h) (filter_map (λ (c : Claim). update_said c.statement) h.heard) u m).1 in
@@ -23,7 +26,8 @@ none-notified h s are none =
     sym (ap (λ (us : List Update). nat_lt 0 (length us)) empty ∙ le-ltb 0 0 (omega arith))
 
 -- those of a rank below it are in the set of those to be removed
-pub removed-by-set : (h : Pool) (ms : List ℕ) (s : UpdateSet) (set : List ℕ) (n : ℕ) → AreNotified h s → ((p : ℕ) → list_any (λ q. q == p) set ≡ has_update s (Remove p)) → ms ≡ h.view.members
+pub removed-by-set : (h : Pool) (ms : List ℕ) (s : UpdateSet) (set : List ℕ) (n : ℕ) → AreNotified h s
+    → ((p : ℕ) → list_any (λ q. q == p) set ≡ has_update s (Remove p)) → ms ≡ h.view.members
     → n ≡ min (length (take_while (λ m. list_any (λ q. q == m) set) ms)) (length ms - 1) → n ≡ removed_rank h
 removed-by-set h ms s set n are in_set same e =
     e

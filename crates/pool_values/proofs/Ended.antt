@@ -48,10 +48,14 @@ module _ (h : Pool) (c : Claim) (fresh : claim_on h.heard c.signer (slot_of c.st
       or-none (Some d) = refl
 
       go : (b : Bool) → ((c.signer == q) && same_slot (slot_of c.statement) s) ≡ b → heard_on g q s ≡ heard_on h q s
-      go true e = absurd (other (eqb-true c.signer q (and-first (c.signer == q) (same_slot (slot_of c.statement) s) e)) (same_slot-is (slot_of c.statement) s (and-second (c.signer == q) (same_slot (slot_of c.statement) s) e)))
-      go false e = ap (option_map (λ (d : Claim). d.statement)) (on-grown h c fresh q s ∙ ap (λ b. option_or (claim_on h.heard q s) (if b then Some c else None)) e ∙ or-none (claim_on h.heard q s))
+      go true e = absurd (other (eqb-true c.signer q (and-first (c.signer == q) (same_slot (slot_of c.statement) s) e))
+          (same_slot-is (slot_of c.statement) s (and-second (c.signer == q) (same_slot (slot_of c.statement) s) e)))
+      go false e = ap (option_map (λ (d : Claim). d.statement))
+          (on-grown h c fresh q s ∙ ap (λ b. option_or (claim_on h.heard q s) (if b then Some c else None)) e ∙ or-none
+          (claim_on h.heard q s))
 
-  end-stays : (q end : ℕ) → (c.signer ≡ q → (l : ℕ) → slot_of c.statement ≡ InitAt h.view.number l → ⊥) → IsInitsEnd h q end → IsInitsEnd g q end
+  end-stays : (q end : ℕ) → (c.signer ≡ q → (l : ℕ) → slot_of c.statement ≡ InitAt h.view.number l → ⊥) → IsInitsEnd h q end
+      → IsInitsEnd g q end
   end-stays q end other is = record {
     past = λ l le. elsewhere q (InitAt h.view.number l) (λ same. other same l) ∙ is.past l le;
     last = λ l e. ap is_some (elsewhere q (InitAt h.view.number l) (λ same. other same l)) ∙ is.last l e;
@@ -75,15 +79,19 @@ module _ (h : Pool) (c : Claim) (fresh : claim_on h.heard c.signer (slot_of c.st
       most = let was = is.most in omega (arith, was, lt);
     }
 
-    raised : (ends : List ℕ) → c.signer < 64 → n < 1024 → AreInitsEnds h ends → AreInitsEnds g (slice_set ends c.signer (max (slice_index ends c.signer) (n + 1)))
+    raised : (ends : List ℕ) → c.signer < 64 → n < 1024 → AreInitsEnds h ends
+        → AreInitsEnds g (slice_set ends c.signer (max (slice_index ends c.signer) (n + 1)))
     raised ends within lt are =
         let more : ℕ = max (slice_index ends c.signer) (n + 1) in
         let wide : c.signer < length ends = (let all = are.processes in omega (arith, within, all)) in
         record {
           processes = length-set ends c.signer more ∙ are.processes;
           each = λ q small. elim (cases_eq q c.signer) [
-            | inl same ↦ subst (IsInitsEnd g q) (sym (ap (slice_index (slice_set ends c.signer more)) same ∙ get_or-set_same ends c.signer more 0 wide)) (subst (λ q. IsInitsEnd g q more) (sym same) (end-raised (slice_index ends c.signer) lt (are.each c.signer within)))
-            | inr other ↦ subst (IsInitsEnd g q) (sym (get_or-set_other ends c.signer q more 0 other)) (end-stays q (slice_index ends q) (λ e. absurd (other (sym e))) (are.each q small))
+            | inl same ↦ subst (IsInitsEnd g q)
+                (sym (ap (slice_index (slice_set ends c.signer more)) same ∙ get_or-set_same ends c.signer more 0 wide))
+                (subst (λ q. IsInitsEnd g q more) (sym same) (end-raised (slice_index ends c.signer) lt (are.each c.signer within)))
+            | inr other ↦ subst (IsInitsEnd g q) (sym (get_or-set_other ends c.signer q more 0 other))
+                (end-stays q (slice_index ends q) (λ e. absurd (other (sym e))) (are.each q small))
           ];
         }
 
@@ -116,11 +124,14 @@ module _ (h : Pool) (c : Claim) (fresh : claim_on h.heard c.signer (slot_of c.st
       go false e = absurd cc
   said-small _ x n e is = absurd cc
 
-  pub one-heard : (ends : List ℕ) (x n : ℕ) → h.view.number ≡ x → init_said x c.statement ≡ Some n → IsStatement c.statement → c.signer < 64 → AreInitsEnds h ends → AreInitsEnds g (slice_set ends c.signer (max (slice_index ends c.signer) (n + 1)))
-  one-heard ends x n view said is within = raised n (said-is c.statement h.view.number n (ap (λ x. init_said x c.statement) view ∙ said)) ends within (said-small c.statement x n said is)
+  pub one-heard : (ends : List ℕ) (x n : ℕ) → h.view.number ≡ x → init_said x c.statement ≡ Some n → IsStatement c.statement → c.signer < 64
+      → AreInitsEnds h ends → AreInitsEnds g (slice_set ends c.signer (max (slice_index ends c.signer) (n + 1)))
+  one-heard ends x n view said is within = raised n
+      (said-is c.statement h.view.number n (ap (λ x. init_said x c.statement) view ∙ said)) ends within (said-small c.statement x n said is)
 
   pub none-more : (ends : List ℕ) (x : ℕ) → h.view.number ≡ x → init_said x c.statement ≡ None → AreInitsEnds h ends → AreInitsEnds g ends
   none-more ends x view none are = record {
     processes = are.processes;
-    each = λ q small. end-stays q (slice_index ends q) (λ _ l at. is-said c.statement h.view.number l at (ap (λ x. init_said x c.statement) view ∙ none)) (are.each q small);
+    each = λ q small. end-stays q (slice_index ends q)
+        (λ _ l at. is-said c.statement h.view.number l at (ap (λ x. init_said x c.statement) view ∙ none)) (are.each q small);
   }

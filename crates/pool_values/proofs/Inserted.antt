@@ -23,11 +23,13 @@ pub added-there : (s : UpdateSet) (p : ℕ) → has_update (with_added s p) (Add
 added-there s p = has-put_once p p s.added ∙ ap (λ b. b || list_any (λ q. q == p) s.added) (eq-eqb p p refl)
 
 pub removed-others : (s : UpdateSet) (p : ℕ) (u : Update) → u ≢ Remove p → has_update (with_removed s p) u ≡ has_update s u
-removed-others s p (Remove q) other = has-put_once p q s.removed ∙ ap (λ b. b || list_any (λ r. r == q) s.removed) (ne_eqb p q (λ e. other (ap Remove (sym e))))
+removed-others s p (Remove q) other = has-put_once p q s.removed ∙ ap (λ b. b || list_any (λ r. r == q) s.removed)
+    (ne_eqb p q (λ e. other (ap Remove (sym e))))
 removed-others s p (Add q) other = refl
 removed-others s p Renew other = refl
 
 pub added-others : (s : UpdateSet) (p : ℕ) (u : Update) → u ≢ Add p → has_update (with_added s p) u ≡ has_update s u
 added-others s p (Remove q) other = refl
-added-others s p (Add q) other = has-put_once p q s.added ∙ ap (λ b. b || list_any (λ r. r == q) s.added) (ne_eqb p q (λ e. other (ap Add (sym e))))
+added-others s p (Add q) other = has-put_once p q s.added ∙ ap (λ b. b || list_any (λ r. r == q) s.added)
+    (ne_eqb p q (λ e. other (ap Add (sym e))))
 added-others s p Renew other = refl

@@ -23,7 +23,8 @@ module _ (h : Pool) (c : Claim) (fresh : claim_on h.heard c.signer (slot_of c.st
   abbrev is_its : ℕ → Slot → Bool
   is_its p s = (c.signer == p) && same_slot (slot_of c.statement) s
 
-  pub on-grown : (p : ℕ) (s : Slot) → claim_on (with_heard h c).heard p s ≡ option_or (claim_on h.heard p s) (if is_its p s then Some c else None)
+  pub on-grown : (p : ℕ) (s : Slot)
+      → claim_on (with_heard h c).heard p s ≡ option_or (claim_on h.heard p s) (if is_its p s then Some c else None)
   on-grown p s = folds.find-append (λ (d : Claim). (d.signer == p) && same_slot (slot_of d.statement) s) h.heard (c ∷ [])
 
   abbrev answer : Statement → Option Claim → Bool
@@ -42,12 +43,16 @@ module _ (h : Pool) (c : Claim) (fresh : claim_on h.heard c.signer (slot_of c.st
       unlike false e = e
 
       go : (b : Bool) → is_its m (slot_of st) ≡ b → says (with_heard h c) st m ≡ says h st m
-      go false e = ap (answer st) (on-grown m (slot_of st) ∙ ap (λ b. option_or (claim_on h.heard m (slot_of st)) (if b then Some c else None)) e ∙ or-none (claim_on h.heard m (slot_of st)))
+      go false e = ap (answer st) (on-grown m (slot_of st) ∙ ap
+          (λ b. option_or (claim_on h.heard m (slot_of st)) (if b then Some c else None)) e ∙ or-none (claim_on h.heard m (slot_of st)))
       go true e =
           let signer : c.signer ≡ m = eqb-true c.signer m (and-first (c.signer == m) (same_slot (slot_of c.statement) (slot_of st)) e) in
-          let slot : slot_of c.statement ≡ slot_of st = same_slot-is (slot_of c.statement) (slot_of st) (and-second (c.signer == m) (same_slot (slot_of c.statement) (slot_of st)) e) in
+          let slot : slot_of c.statement
+          ≡ slot_of st = same_slot-is (slot_of c.statement) (slot_of st)
+          (and-second (c.signer == m) (same_slot (slot_of c.statement) (slot_of st)) e) in
           let none : claim_on h.heard m (slot_of st) ≡ None = (λ i. claim_on h.heard (sym signer i) (sym slot i)) ∙ fresh in
-          let now : claim_on (with_heard h c).heard m (slot_of st) ≡ Some c = on-grown m (slot_of st) ∙ (λ i. option_or (none i) (if e i then Some c else None)) in
+          let now : claim_on (with_heard h c).heard m (slot_of st)
+          ≡ Some c = on-grown m (slot_of st) ∙ (λ i. option_or (none i) (if e i then Some c else None)) in
           ap (answer st) now ∙ unlike (same_statement st c.statement) refl ∙ sym (ap (answer st) none)
 
   says-stays : (st : Statement) (m : ℕ) → says h st m ≡ true → says (with_heard h c) st m ≡ true
@@ -59,7 +64,8 @@ module _ (h : Pool) (c : Claim) (fresh : claim_on h.heard c.signer (slot_of c.st
   notify u = Notify h.view.number u
 
   other-notified : (u : Update) → (notify u ≡ c.statement → ⊥) → is_notified (with_heard h c) u ≡ is_notified h u
-  other-notified u other = λ i. nat_lt (faulty (number_of_members h)) (length (filter (λ m. other-says (notify u) other m i) h.view.members))
+  other-notified u other = λ i. nat_lt (faulty (number_of_members h))
+      (length (filter (λ m. other-says (notify u) other m i) h.view.members))
 
   notified-stays : (u : Update) → is_notified h u ≡ true → is_notified (with_heard h c) u ≡ true
   notified-stays u e =
@@ -68,7 +74,8 @@ module _ (h : Pool) (c : Claim) (fresh : claim_on h.heard c.signer (slot_of c.st
       lt-ltb (faulty (number_of_members h)) (length (backers (with_heard h c) (notify u))) (omega (arith, enough, grown))
 
   -- where the claim's update isn't notified, or it has none, no update becomes so
-  pub as-before : (s : UpdateSet) → AreNotified h s → ((u : Update) → notify u ≡ c.statement → is_notified (with_heard h c) u ≡ false) → AreNotified (with_heard h c) s
+  pub as-before : (s : UpdateSet) → AreNotified h s → ((u : Update) → notify u ≡ c.statement → is_notified (with_heard h c) u ≡ false)
+      → AreNotified (with_heard h c) s
   as-before s are not u = go (same_statement (notify u) c.statement) refl
     where
       was : (b : Bool) → is_notified h u ≡ b → is_notified (with_heard h c) u ≡ false → b ≡ false
@@ -77,10 +84,13 @@ module _ (h : Pool) (c : Claim) (fresh : claim_on h.heard c.signer (slot_of c.st
 
       go : (b : Bool) → same_statement (notify u) c.statement ≡ b → has_update s u ≡ is_notified (with_heard h c) u
       go true e = let now = not u (same_statement-is (notify u) c.statement e) in are u ∙ was (is_notified h u) refl now ∙ sym now
-      go false e = are u ∙ sym (other-notified u (λ is. let both : true ≡ false = sym (is-same_statement (notify u) c.statement is) ∙ e in cc))
+      go false e = are u ∙ sym (other-notified u
+          (λ is. let both : true ≡ false = sym (is-same_statement (notify u) c.statement is) ∙ e in cc))
 
   -- where it is, that update is one of them
-  pub one-more : (s s' : UpdateSet) → AreNotified h s → (x : ℕ) (v : Update) → c.statement ≡ Notify x v → is_notified (with_heard h c) v ≡ true → has_update s' v ≡ true → ((u : Update) → u ≢ v → has_update s' u ≡ has_update s u) → AreNotified (with_heard h c) s'
+  pub one-more : (s s' : UpdateSet) → AreNotified h s → (x : ℕ) (v : Update) → c.statement ≡ Notify x v
+      → is_notified (with_heard h c) v ≡ true → has_update s' v ≡ true → ((u : Update) → u ≢ v → has_update s' u ≡ has_update s u)
+      → AreNotified (with_heard h c) s'
   one-more s s' are x v said now there others u = go (Update-discrete ℕ_discrete u v)
     where
       go : Dec (u ≡ v) → has_update s' u ≡ is_notified (with_heard h c) u
@@ -92,7 +102,8 @@ module _ (h : Pool) (c : Claim) (fresh : claim_on h.heard c.signer (slot_of c.st
   abbrev g : Pool
   g = with_heard h c
 
-  not-told : (o : Option Update) → update_said c.statement ≡ o → (if is_some_and o (is_notified g) then o else None) ≡ None → (u : Update) → notify u ≡ c.statement → is_notified g u ≡ false
+  not-told : (o : Option Update) → update_said c.statement ≡ o → (if is_some_and o (is_notified g) then o else None) ≡ None → (u : Update)
+      → notify u ≡ c.statement → is_notified g u ≡ false
   not-told None said none u e = let both : Some u ≡ None = ap update_said e ∙ said in absurd cc
   not-told (Some v) said none u e =
       let same : v ≡ u = some-same v u (sym said ∙ sym (ap update_said e)) in
@@ -106,7 +117,8 @@ module _ (h : Pool) (c : Claim) (fresh : claim_on h.heard c.signer (slot_of c.st
   pub none-more : (s : UpdateSet) → AreNotified h s → notified_said g c.statement ≡ None → AreNotified g s
   none-more s are none = as-before s are (not-told (update_said c.statement) refl none)
 
-  which : (o : Option Update) (v : Update) → (if is_some_and o (is_notified g) then o else None) ≡ Some v → (o ≡ Some v) × (is_notified g v ≡ true)
+  which : (o : Option Update) (v : Update) → (if is_some_and o (is_notified g) then o else None) ≡ Some v
+      → (o ≡ Some v) × (is_notified g v ≡ true)
   which None v e = absurd cc
   which (Some u) v e = go (is_notified g u) refl e
     where
@@ -119,7 +131,8 @@ module _ (h : Pool) (c : Claim) (fresh : claim_on h.heard c.signer (slot_of c.st
   said-is st v e = absurd cc
 
   -- this one is
-  pub this-more : (s s' : UpdateSet) → AreNotified h s → (v : Update) → notified_said g c.statement ≡ Some v → has_update s' v ≡ true → ((u : Update) → u ≢ v → has_update s' u ≡ has_update s u) → AreNotified g s'
+  pub this-more : (s s' : UpdateSet) → AreNotified h s → (v : Update) → notified_said g c.statement ≡ Some v → has_update s' v ≡ true
+      → ((u : Update) → u ≢ v → has_update s' u ≡ has_update s u) → AreNotified g s'
   this-more s s' are v is there others =
       let one = which (update_said c.statement) v is in
       let said = said-is c.statement v one.0 in

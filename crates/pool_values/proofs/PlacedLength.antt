@@ -20,18 +20,21 @@ use Rattle.pool_values.specs.Updates.{has_update}
 use Rattle.pool_values.specs.Ends.{AreInitsEnds}
 use Rattle.pool_values.specs.Places.{ArePlaced, AreCounted, placed_in, after_one}
 
-same-lists : {A : Type 0} (xs ys : List A) → length xs ≡ length ys → ((k : ℕ) (x y : A) → slice_get xs k ≡ Some x → slice_get ys k ≡ Some y → x ≡ y) → xs ≡ ys
+same-lists : {A : Type 0} (xs ys : List A) → length xs ≡ length ys
+    → ((k : ℕ) (x y : A) → slice_get xs k ≡ Some x → slice_get ys k ≡ Some y → x ≡ y) → xs ≡ ys
 same-lists [] [] e each = refl
 same-lists [] (y ∷ ys) e each = absurd (omega (arith, e))
 same-lists (x ∷ xs) [] e each = absurd (omega (arith, e))
-same-lists (x ∷ xs) (y ∷ ys) e each = let here = each zero x y refl refl in let rest = same-lists xs ys (omega (arith, e)) (λ k a b at at'. each (suc k) a b at at') in λ i. here i ∷ rest i
+same-lists (x ∷ xs) (y ∷ ys) e each = let here = each zero x y refl refl in let rest = same-lists xs ys (omega (arith, e))
+    (λ k a b at at'. each (suc k) a b at at') in λ i. here i ∷ rest i
 
 module _ (h : Pool) where
   few-from : (more k : ℕ) → length (placed_from h more k) ≤ more
   few-from zero k = omega arith
   few-from (suc more) k = go (place_at h k) (few-from more (k + 1))
     where
-      go : (o : Option Batch) → length (placed_from h more (k + 1)) ≤ more → length {A = Batch} (elim o [ None ↦ [] | Some b ↦ b ∷ placed_from h more (k + 1) ]) ≤ suc more
+      go : (o : Option Batch) → length (placed_from h more (k + 1)) ≤ more
+          → length {A = Batch} (elim o [ None ↦ [] | Some b ↦ b ∷ placed_from h more (k + 1) ]) ≤ suc more
       go None le = omega arith
       go (Some b) le = omega (arith, le)
 
@@ -40,8 +43,11 @@ module _ (h : Pool) where
   stop-from zero k j e lt = absurd (omega (arith, lt))
   stop-from (suc more) k j e lt = go (place_at h k) refl e lt (stop-from more (k + 1) j)
     where
-      go : (o : Option Batch) → place_at h k ≡ o → j ≡ k + length {A = Batch} (elim o [ None ↦ [] | Some b ↦ b ∷ placed_from h more (k + 1) ]) → length {A = Batch} (elim o [ None ↦ [] | Some b ↦ b ∷ placed_from h more (k + 1) ]) < suc more
-          → (j ≡ k + 1 + length (placed_from h more (k + 1)) → length (placed_from h more (k + 1)) < more → place_at h j ≡ None) → place_at h j ≡ None
+      go : (o : Option Batch) → place_at h k ≡ o
+          → j ≡ k + length {A = Batch} (elim o [ None ↦ [] | Some b ↦ b ∷ placed_from h more (k + 1) ])
+          → length {A = Batch} (elim o [ None ↦ [] | Some b ↦ b ∷ placed_from h more (k + 1) ]) < suc more
+          → (j ≡ k + 1 + length (placed_from h more (k + 1)) → length (placed_from h more (k + 1)) < more → place_at h j ≡ None)
+          → place_at h j ≡ None
       go None is e lt rest = let same : k ≡ j = omega (arith, e) in ap (place_at h) (sym same) ∙ is
       go (Some b) is e lt rest = rest (omega (arith, e)) (omega (arith, lt))
 
@@ -54,11 +60,13 @@ module _ (h : Pool) where
   stop lt = stop-from 1024 0 (length (placed_from h 1024 0)) (omega arith) lt
 
   -- places that are certified from the first on, up to one that is not
-  last : (n : ℕ) → n ≤ 1024 → ((k : ℕ) → k < n → (b : Batch) × (place_at h k ≡ Some b)) → (n < 1024 → place_at h n ≡ None) → n ≡ length (placed h)
+  last : (n : ℕ) → n ≤ 1024 → ((k : ℕ) → k < n → (b : Batch) × (place_at h k ≡ Some b)) → (n < 1024 → place_at h n ≡ None)
+      → n ≡ length (placed h)
   last n few are next = go (compared n (length (placed h)))
     where
       go : Compared n (length (placed h)) → n ≡ length (placed h)
-      go (ahead lt) = absurd (let at = get-some (placed h) n lt in let some = placed-at h n at.0 at.1 in let le = few-placed in let none = next (omega (arith, lt, le)) in cc)
+      go (ahead lt) = absurd (let at = get-some
+          (placed h) n lt in let some = placed-at h n at.0 at.1 in let le = few-placed in let none = next (omega (arith, lt, le)) in cc)
       go (level e) = e
       go (behind gt) = absurd (let some = are (length (placed h)) gt in let is = some.1 in let none = stop (omega (arith, gt, few)) in cc)
 
@@ -69,7 +77,8 @@ module _ (h : Pool) where
       (λ k x y at at'. let one = are.each k x at in let two = placed-at h k y at' in some-same x y (sym one ∙ two))
 
   -- with the next place
-  pub placed-push : (bs : List Batch) (b : Batch) → ArePlaced h bs → length bs < 1024 → place_at h (length bs) ≡ Some b → ArePlaced h (bs ++ b ∷ [])
+  pub placed-push : (bs : List Batch) (b : Batch) → ArePlaced h bs → length bs < 1024 → place_at h (length bs) ≡ Some b
+      → ArePlaced h (bs ++ b ∷ [])
   placed-push bs b are lt at = record {
     each = λ k x e. elim (slice_get-snoc bs b k x e) [
       | inl early ↦ are.each k x early
@@ -79,11 +88,13 @@ module _ (h : Pool) where
   }
 
 -- which they are behind the last of them
-pub placed-prefix : (h : Pool) (p : Prefix) → p.view ≡ h.view → ArePlaced h p.batches → (length p.batches < 1024 → place_at h (length p.batches) ≡ None) → p ≡ placed_in h
+pub placed-prefix : (h : Pool) (p : Prefix) → p.view ≡ h.view → ArePlaced h p.batches
+    → (length p.batches < 1024 → place_at h (length p.batches) ≡ None) → p ≡ placed_in h
 placed-prefix h p view are next = λ i. record { view = view i; batches = placed-are h p.batches are next i }
 
 -- with one claim more all stay
-pub more-placed : (h : Pool) (c : Claim) → claim_on h.heard c.signer (slot_of c.statement) ≡ None → 1 ≤ number_of_members h → ArePlaced (with_heard h c) (placed h)
+pub more-placed : (h : Pool) (c : Claim) → claim_on h.heard c.signer (slot_of c.statement) ≡ None → 1 ≤ number_of_members h
+    → ArePlaced (with_heard h c) (placed h)
 more-placed h c fresh some = record {
   each = λ k b at.
       let was = then-some batch_of (certified_on h (PlaceAt h.view.number k)) b (placed-at h k b at) in
@@ -97,11 +108,13 @@ not-place : (st : Statement) (x k : ℕ) → (kind_number st ≡ 4 → ⊥) → 
 not-place (Place y j b) x k other at = other refl
 not-place _ x k other at = cc
 
-module _ (h : Pool) (c : Claim) (fresh : claim_on h.heard c.signer (slot_of c.statement) ≡ None) (some : 1 ≤ number_of_members h) (other : kind_number c.statement ≡ 4 → ⊥) where
+module _ (h : Pool) (c : Claim) (fresh : claim_on h.heard c.signer (slot_of c.statement) ≡ None) (some : 1 ≤ number_of_members h)
+    (other : kind_number c.statement ≡ 4 → ⊥) where
   same-at : (k : ℕ) → place_at (with_heard h c) k ≡ place_at h k
   same-at k = ap (option_and_then batch_of) (go (certified_on h (PlaceAt h.view.number k)) refl)
     where
-      go : (o : Option Statement) → certified_on h (PlaceAt h.view.number k) ≡ o → certified_on (with_heard h c) (PlaceAt h.view.number k) ≡ certified_on h (PlaceAt h.view.number k)
+      go : (o : Option Statement) → certified_on h (PlaceAt h.view.number k) ≡ o
+          → certified_on (with_heard h c) (PlaceAt h.view.number k) ≡ certified_on h (PlaceAt h.view.number k)
       go None e = none-stays h c fresh some (PlaceAt h.view.number k) e (λ at _. not-place c.statement h.view.number k other at) ∙ sym e
       go (Some st) e = certified-stays h c fresh some (PlaceAt h.view.number k) st e ∙ sym e
 
@@ -123,8 +136,10 @@ same-after most None = refl
 same-after most (Some k) = refl
 
 -- with one claim more
-pub more-fixed : (h : Pool) (c : Claim) (kept_to : ℕ) → claim_on h.heard c.signer (slot_of c.statement) ≡ None → kept_to ≡ fixed_length h → after_one kept_to (place_kept (with_heard h c) c.statement) ≡ fixed_length (with_heard h c)
-more-fixed h c kept_to fresh e = ap (λ n. after_one n (place_kept (with_heard h c) c.statement)) e ∙ same-after (fixed_length h) (place_kept (with_heard h c) c.statement) ∙ sym (fixed_length-grown h c fresh)
+pub more-fixed : (h : Pool) (c : Claim) (kept_to : ℕ) → claim_on h.heard c.signer (slot_of c.statement) ≡ None → kept_to ≡ fixed_length h
+    → after_one kept_to (place_kept (with_heard h c) c.statement) ≡ fixed_length (with_heard h c)
+more-fixed h c kept_to fresh e = ap (λ n. after_one n (place_kept (with_heard h c) c.statement)) e ∙ same-after (fixed_length h)
+    (place_kept (with_heard h c) c.statement) ∙ sym (fixed_length-grown h c fresh)
 
 -- ---- of an empty pool
 
@@ -132,13 +147,15 @@ nobody : (v : View) (st : Statement) (ms : List ℕ) → filter (says (empty_poo
 nobody v st [] = refl
 nobody v st (m ∷ ms) = nobody v st ms
 
-pub empty-counted : (v : View) (p : Prefix) (h : Pool) (s : UpdateSet) → p ≡ record { view = v; batches = [] } → h ≡ empty_pool v → ((u : Update) → has_update s u ≡ false) → (ends : List ℕ) → AreInitsEnds h ends → AreCounted h p 0 s ends
+pub empty-counted : (v : View) (p : Prefix) (h : Pool) (s : UpdateSet) → p ≡ record { view = v; batches = [] } → h ≡ empty_pool v
+    → ((u : Update) → has_update s u ≡ false) → (ends : List ℕ) → AreInitsEnds h ends → AreCounted h p 0 s ends
 unfolding placed
 empty-counted v p h s prefix pool none ends inits = record {
   places = prefix ∙ ap placed_in (sym pool);
   fixed = ap fixed_length (sym pool);
   updates = λ u.
-      none u ∙ sym (ap (λ (ms : List ℕ). nat_lt (faulty (length v.members)) (length ms)) (nobody v (Notify v.number u) v.members) ∙ le-ltb (faulty (length v.members)) 0 (omega arith))
+      none u ∙ sym (ap (λ (ms : List ℕ). nat_lt (faulty (length v.members)) (length ms))
+      (nobody v (Notify v.number u) v.members) ∙ le-ltb (faulty (length v.members)) 0 (omega arith))
       ∙ ap (λ h. is_notified h u) (sym pool);
   inits = inits;
 }

@@ -36,7 +36,8 @@ players w = map (λ (c : Player). c.listed.process) w.players
 abbrev Same : World → World → Type 0
 Same w v = players v ≡ players w
 
-takes-same : (s : Setting) (p : ℕ) (t : Turn) (cs : List Player) → map (λ (c : Player). c.listed.process) (map (takes s p t) cs) ≡ map (λ (c : Player). c.listed.process) cs
+takes-same : (s : Setting) (p : ℕ) (t : Turn) (cs : List Player)
+    → map (λ (c : Player). c.listed.process) (map (takes s p t) cs) ≡ map (λ (c : Player). c.listed.process) cs
 takes-same s p t [] = refl
 takes-same s p t (c ∷ cs) = cc (takes-same s p t cs, go (c.listed.process == p))
   where
@@ -78,7 +79,8 @@ module _ (h : Header) where
   next-same : (mask : ℕ) (w : World) (d : ℕ × ℕ) → Same w (next_delivery s mask w d)
   next-same mask w d = go (is_in mask d.1)
     where
-      go : (b : Bool) → Same w (let v : World = if b then delivers s (record w { pending = drop 1 w.pending }) d.1 d.0 else record w { pending = drop 1 w.pending } in v)
+      go : (b : Bool) → Same w (let v : World = if b then delivers s (record w { pending = drop 1 w.pending }) d.1 d.0
+          else record w { pending = drop 1 w.pending } in v)
       go true = delivers-same (record w { pending = drop 1 w.pending }) d.1 d.0
       go false = refl
 
@@ -87,7 +89,8 @@ module _ (h : Header) where
   drains-same mask zero w = refl
   drains-same mask (suc more) w = go (slice_get w.pending 0) (drains-same mask more)
     where
-      go : (o : Option (ℕ × ℕ)) → ((v : World) → Same v (drains s mask more v)) → Same w (let v : World = elim o [ None ↦ w | Some d ↦ drains s mask more (next_delivery s mask w d) ] in v)
+      go : (o : Option (ℕ × ℕ)) → ((v : World) → Same v (drains s mask more v))
+          → Same w (let v : World = elim o [ None ↦ w | Some d ↦ drains s mask more (next_delivery s mask w d) ] in v)
       go None rest = refl
       go (Some d) rest = rest (next_delivery s mask w d) ∙ next-same mask w d
 
@@ -101,11 +104,17 @@ module _ (h : Header) where
   lies-same : (w : World) (signer mask : ℕ) (statement : List ℕ) → Same w (lies h w signer mask statement)
   lies-same w signer mask statement = of_listed (find (λ l. l.process == signer) h.processes)
     where
-      of_statement : (l : Listed) (r : Result Statement FrameFault) → Same w (let v : World = elim r [ Ok st ↦ sends_lie h w mask l st | Err fault ↦ w ] in v)
+      of_statement : (l : Listed) (r : Result Statement FrameFault)
+          → Same w (let v : World = elim r [ Ok st ↦ sends_lie h w mask l st | Err fault ↦ w ] in v)
       of_statement l (Ok st) = lie-same w mask l st
       of_statement l (Err fault) = refl
 
-      of_listed : (o : Option Listed) → Same w (let v : World = elim o [ None ↦ w | Some l ↦ elim (statement_of statement) [ Ok st ↦ sends_lie h w mask l st | Err fault ↦ w ] ] in v)
+      of_listed : (o : Option Listed)
+          → Same w (let v : World = elim o [
+            | None ↦ w
+            | Some l ↦ elim
+                (statement_of statement) [ Ok st ↦ sends_lie h w mask l st | Err fault ↦ w ]
+          ] in v)
       of_listed None = refl
       of_listed (Some l) = of_statement l (statement_of statement)
 
@@ -118,7 +127,11 @@ module _ (h : Header) where
   happens-same w v (Raw to from bytes) is = made w v _ is (hands-same w to (group.Hand from (frame_said bytes)))
   happens-same w v (Pass frame to) is = go (slice_get w.frames frame) is
     where
-      go : (o : Option Sent) → (let r : Result World WorldFault = elim o [ None ↦ Err (NoSuchFrame w.count frame (length w.frames)) | Some f ↦ Ok (hands_frame s w to f) ] in r) ≡ Ok v → Same w v
+      go : (o : Option Sent) → (let r : Result World WorldFault = elim o [
+        | None ↦ Err
+            (NoSuchFrame w.count frame (length w.frames))
+        | Some f ↦ Ok (hands_frame s w to f)
+      ] in r) ≡ Ok v → Same w v
       go None e = absurd cc
       go (Some f) e = made w v (hands_frame s w to f) e (hands-same w to (group.Hand f.sender (frame_said f.bytes)))
   happens-same w v (Drain count mask) is = made w v _ is (drains-same mask count w)
@@ -131,7 +144,11 @@ module _ (h : Header) where
   counts-same : (w v : World) → counts w ≡ Ok v → Same w v
   counts-same w v is = go (sum_above 0 w.frames) is
     where
-      go : (o : Option ℕ) → (let r : Result World WorldFault = elim o [ None ↦ Ok (record w { count = w.count + 1 }) | Some bytes ↦ Err (TooMuchSent w.count bytes) ] in r) ≡ Ok v → Same w v
+      go : (o : Option ℕ) → (let r : Result World WorldFault = elim o [
+        | None ↦ Ok (record w { count = w.count + 1 })
+        | Some bytes ↦ Err
+            (TooMuchSent w.count bytes)
+      ] in r) ≡ Ok v → Same w v
       go None e = made w v (record w { count = w.count + 1 }) e refl
       go (Some bytes) e = absurd cc
 
@@ -141,7 +158,8 @@ module _ (h : Header) where
   run-same : (es : List ScheduleEvent) (w v : World) → run_events h w es ≡ Ok v → Same w v
   unfolding run_events
   run-same [] w v is = made w v w is refl
-  run-same (e ∷ es) w v is = let a = bind_ok (after_event h w e) (λ u. run_events h u es) v is in run-same es a.0 v a.2 ∙ event-same w a.0 e a.1
+  run-same (e ∷ es) w v is = let a = bind_ok (after_event h w e)
+      (λ u. run_events h u es) v is in run-same es a.0 v a.2 ∙ event-same w a.0 e a.1
 
 -- ---- the numbers rise
 
@@ -174,7 +192,9 @@ module _ (h : Header) where
   starters-rise scheme least [] rises = tt
   starters-rise scheme least (l ∷ ls) rises = go l.corrupt (starters-rise scheme (l.process + 1) ls rises.3)
     where
-      go : (b : Bool) → Rises (l.process + 1) (numbers_in (starters ls)) → Rises least (numbers_in (cons_option (if b then None else Some (record { listed = l; now = start (setting_of h) l.process h.batch_limit; turns = [] })) (starters ls)))
+      go : (b : Bool) → Rises (l.process + 1) (numbers_in (starters ls))
+          → Rises least (numbers_in (cons_option
+          (if b then None else Some (record { listed = l; now = start (setting_of h) l.process h.batch_limit; turns = [] })) (starters ls)))
       go true rest = rises-weaken least (l.process + 1) (numbers_in (starters ls)) (omega (arith, rises.0)) rest
       go false rest = (rises.0, rest)
 
@@ -197,7 +217,8 @@ module _ (sch : Schedule) (w : World) (fits : IsSchedule sch) (ran : world_of sc
   premises honest bounded =
       let h = fits.header in
       let some = in-range 1 16 (length sch.header.genesis) h.members in
-      let rising = rises-increasing 0 (players (start_of sch.header)) (starters-rise sch.header sch.header.scheme 0 sch.header.processes h.processes) in
+      let rising = rises-increasing 0 (players (start_of sch.header))
+      (starters-rise sch.header sch.header.scheme 0 sch.header.processes h.processes) in
       let same = run-same sch.header sch.events (start_of sch.header) w ran in
       record {
         genesis = record { some = some.0; few = some.1; distinct = h.distinct };

@@ -19,10 +19,12 @@ module _ (h : Pool) (own : Own) (s : Setting) (from : ℕ) where
 
   -- no rank below passes both tests
   module _ (before : (j : ℕ) → j < from → IsFalse (is_ack_open h own j && more j)) where
-    pub none-left : IsLeastFrom from (number_of_members h) (is_ack_open h own) None → IsLeastBelow (number_of_members h) (λ j. is_ack_open h own j && more j) None
+    pub none-left : IsLeastFrom from (number_of_members h) (is_ack_open h own) None
+        → IsLeastBelow (number_of_members h) (λ j. is_ack_open h own j && more j) None
     none-left least = next_candidate from (number_of_members h) (is_ack_open h own) more None before least
 
-    module _ (rank : ℕ) (v : Value) (least : IsLeastFrom from (number_of_members h) (is_ack_open h own) (Some rank)) (said : suggested h rank ≡ Some v) where
+    module _ (rank : ℕ) (v : Value) (least : IsLeastFrom from (number_of_members h) (is_ack_open h own) (Some rank))
+        (said : suggested h rank ≡ Some v) where
       more-is : (b : Bool) → b ≡ is_justified s h rank v → more rank ≡ b
       more-is b e = ap (λ o. is_some_and o (is_justified s h rank)) said ∙ sym e
 
@@ -30,4 +32,5 @@ module _ (h : Pool) (own : Own) (s : Setting) (from : ℕ) where
       this-one e = (next_candidate from (number_of_members h) (is_ack_open h own) more (Some rank) before least).0 (more-is true e)
 
       pub not-this : false ≡ is_justified s h rank v → (k : ℕ) → k < rank + 1 → IsFalse (is_ack_open h own k && more k)
-      not-this e k lt = (next_candidate from (number_of_members h) (is_ack_open h own) more (Some rank) before least).1 (more-is false e) k (omega (arith, lt))
+      not-this e k lt = (next_candidate from (number_of_members h) (is_ack_open h own) more (Some rank) before least).1 (more-is false e) k
+          (omega (arith, lt))

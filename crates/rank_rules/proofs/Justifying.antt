@@ -39,7 +39,8 @@ same-report lower q v w = same-test _ _ forth back
     back e =
         let one : ℕ × Value = (lower, v) in
         let other : ℕ × Value = (q, w) in
-        let same : one ≡ other = some-same one other (yes-is (option_discrete (pair_discrete ℕ_discrete Value-discrete) (Some one) (Some other)) e) in
+        let same : one ≡ other = some-same one other
+        (yes-is (option_discrete (pair_discrete ℕ_discrete Value-discrete) (Some one) (Some other)) e) in
         both-true _ _ (eq-eqb q lower (λ i. (sym same i).0)) (is-yes (Value-discrete w v) (λ i. (sym same i).1))
 
 -- of two tests the first passes, so the second decides; or it fails
@@ -64,7 +65,8 @@ module _ (h : Pool) where
   first-way-by : (r : ℕ) → ((r == 0) || is_quorum h (count_by (λ m. is_some_and (last_of h r m) is_none) h.view.members)) ≡ is_first_way h r
   first-way-by r = sym (λ i. (r == 0) || is_quorum h ((lasts_by_member h r is_none).0 i))
 
-  pub first-way-above : (r : ℕ) → (r ≡ 0 → ⊥) → (b : Bool) → b ≡ is_quorum h (count_by (λ m. is_some_and (last_of h r m) is_none) h.view.members) → b ≡ is_first_way h r
+  pub first-way-above : (r : ℕ) → (r ≡ 0 → ⊥) → (b : Bool)
+      → b ≡ is_quorum h (count_by (λ m. is_some_and (last_of h r m) is_none) h.view.members) → b ≡ is_first_way h r
   first-way-above r above b is = go (r == 0) refl ∙ first-way-by r
     where
       go : (e : Bool) → (r == 0) ≡ e → b ≡ (e || is_quorum h (count_by (λ m. is_some_and (last_of h r m) is_none) h.view.members))
@@ -72,15 +74,19 @@ module _ (h : Pool) where
       go false e = is
 
   -- the four parts of the second way
-  pub second-way-is : (r r0 : ℕ) (v : Value) → (nat_lt r0 r && is_bounded h r r0 && is_told h r r0 v && is_certified h (Ack h.view.number r0 v)) ≡ is_second_way h r r0 v
-  second-way-is r r0 v = sym (λ i. nat_lt r0 r && is_quorum h ((lasts_by_member h r (is_at_most r0)).0 i) && (lasts_by_member h r (same_ready (Some (r0, v)))).1 i && is_certified h (Ack h.view.number r0 v))
+  pub second-way-is : (r r0 : ℕ) (v : Value)
+      → (nat_lt r0 r && is_bounded h r r0 && is_told h r r0 v && is_certified h (Ack h.view.number r0 v)) ≡ is_second_way h r r0 v
+  second-way-is r r0 v = sym (λ i. nat_lt r0 r && is_quorum h ((lasts_by_member h r (is_at_most r0)).0 i)
+      && (lasts_by_member h r (same_ready (Some (r0, v)))).1 i && is_certified h (Ack h.view.number r0 v))
 
   -- the greatest rank that may have decided is chosen
-  pub choose-by : IsPool h → (s : Setting) (r : ℕ) (o : Option ℕ) → IsGreatestBelow r (λ r0. is_some_and (acked h r0) (is_second_way h r r0)) o
+  pub choose-by : IsPool h → (s : Setting) (r : ℕ) (o : Option ℕ)
+      → IsGreatestBelow r (λ r0. is_some_and (acked h r0) (is_second_way h r r0)) o
       → (elim o [ None ↦ (if is_first_way h r then free_value s h else None) | Some r0 ↦ acked h r0 ]) ≡ choose s h r
   choose-by pool s r o greatest = sym (choose_is s h r o pool greatest)
 
   -- a value is justified where it is free and none was decided, or a rank is found that may have decided it
-  pub justified-by : (s : Setting) (r : ℕ) (v : Value) (free : Bool) → free ≡ is_free s h v → (o : Option ℕ) → IsLeastBelow r (λ r0. is_second_way h r r0 v) o
+  pub justified-by : (s : Setting) (r : ℕ) (v : Value) (free : Bool) → free ≡ is_free s h v → (o : Option ℕ)
+      → IsLeastBelow r (λ r0. is_second_way h r r0 v) o
       → ((free && is_first_way h r) || is_some o) ≡ is_justified s h r v
   justified-by s r v free is o least = λ i. (is i && is_first_way h r) || sym (any_is_found r (λ r0. is_second_way h r r0 v) o least) i

@@ -31,7 +31,8 @@ module _ (s : Setting) (p : Process) (h : Pool) (own : Own) (tells : Tells s p h
   may-last : may_last p ≡ is_last_open h own
   may-last = λ i. member-is s p h own tells i && nat_lt (tells.signed.greatest i) (removed_rank (tells.pool i)) && not (last-signed i)
 
-  pub last-is : (b : Bool) → b ≡ is_last_open h own → least_due s p Lasts ≡ (if b then Some (Last h.view.number (removed_rank h) (report own.ready)) else None)
+  pub last-is : (b : Bool) → b ≡ is_last_open h own
+      → least_due s p Lasts ≡ (if b then Some (Last h.view.number (removed_rank h) (report own.ready)) else None)
   last-is b e =
       last_is_least s p
       ∙ (λ i. if may-last i then Some (Last (tells.pool i).view.number (removed_rank (tells.pool i)) (tells.signed.last_ready i)) else None)
@@ -50,7 +51,8 @@ module _ (s : Setting) (p : Process) (h : Pool) (own : Own) (tells : Tells s p h
   pub ready-is : IsPool h → (q : ℕ) → own.position ≡ Some q → (o : Option ℕ) → IsLeastBelow 16 (is_ready_open h own) o
       → least_due s p Readies ≡ option_and_then (λ r. option_map (Ready h.view.number r) (acked h r)) o
   ready-is pool q position o least =
-      ready_is_least s p o (same-pool s p h own tells pool) (inside s p h own tells q position) (least-same 0 16 (is_ready_open h own) (may_ready p) o (λ k _ _. sym (may-ready k)) least)
+      ready_is_least s p o (same-pool s p h own tells pool) (inside s p h own tells q position)
+      (least-same 0 16 (is_ready_open h own) (may_ready p) o (λ k _ _. sym (may-ready k)) least)
       ∙ ap (λ (k : Pool). option_and_then (λ r. option_map (Ready k.view.number r) (acked k r)) o) tells.pool
 
   -- ---- Suggests
@@ -63,10 +65,12 @@ module _ (s : Setting) (p : Process) (h : Pool) (own : Own) (tells : Tells s p h
   may-suggest : (r : ℕ) → may_suggest p r ≡ is_suggest_open h own r
   may-suggest r = λ i. nat_le (tells.signed.greatest i) r && not (suggest-signed r i)
 
-  pub suggest-is : (r : ℕ) → own.position ≡ Some r → (b : Bool) → b ≡ is_suggest_open h own r → least_due s p Suggests ≡ (if b then option_map (Suggest h.view.number r) (choose s h r) else None)
+  pub suggest-is : (r : ℕ) → own.position ≡ Some r → (b : Bool) → b ≡ is_suggest_open h own r
+      → least_due s p Suggests ≡ (if b then option_map (Suggest h.view.number r) (choose s h r) else None)
   suggest-is r position b e =
       suggest_is_least s p
-      ∙ ap (option_and_then (λ r. if may_suggest p r then option_map (Suggest p.pool.view.number r) (choose s p.pool r) else None)) (tells.position ∙ position)
+      ∙ ap (option_and_then (λ r. if may_suggest p r then option_map (Suggest p.pool.view.number r) (choose s p.pool r) else None))
+      (tells.position ∙ position)
       ∙ (λ i. if may-suggest r i then option_map (Suggest (tells.pool i).view.number r) (choose s (tells.pool i) r) else None)
       ∙ ap (λ b. if b then option_map (Suggest h.view.number r) (choose s h r) else None) (sym e)
 
@@ -77,20 +81,30 @@ module _ (s : Setting) (p : Process) (h : Pool) (own : Own) (tells : Tells s p h
       tells.signed.slots (Ack p.pool.view.number r some-value) refl
       ∙ ap (λ (k : Pool). has_slot own.signed (AckAt k.view.number r)) tells.pool
 
-  ack-due : (q : ℕ) → own.position ≡ Some q → (r : ℕ) → is_ack_due s p r ≡ (is_ack_open h own r && is_some_and (suggested h r) (is_justified s h r))
+  ack-due : (q : ℕ) → own.position ≡ Some q → (r : ℕ)
+      → is_ack_due s p r ≡ (is_ack_open h own r && is_some_and (suggested h r) (is_justified s h r))
   ack-due q position r =
-      (λ i. (is_some (suggested (tells.pool i) r) && nat_le (tells.signed.greatest i) r && not (ack-signed r i)) && is_some_and (suggested (tells.pool i) r) (is_justified s (tells.pool i) r))
-      ∙ ap (λ b. (b && is_some (suggested h r) && nat_le own.rank r && not (has_slot own.signed (AckAt h.view.number r))) && is_some_and (suggested h r) (is_justified s h r)) (sym (ap is_some position))
+      (λ i. (is_some (suggested (tells.pool i) r) && nat_le (tells.signed.greatest i) r && not (ack-signed r i))
+      && is_some_and (suggested (tells.pool i) r) (is_justified s (tells.pool i) r))
+      ∙ ap (λ b. (b && is_some (suggested h r) && nat_le own.rank r && not (has_slot own.signed (AckAt h.view.number r)))
+      && is_some_and (suggested h r) (is_justified s h r)) (sym (ap is_some position))
 
-  pub ack-is : IsPool h → (o : Option ℕ) → IsLeastBelow (number_of_members h) (λ r. is_ack_open h own r && is_some_and (suggested h r) (is_justified s h r)) o
+  pub ack-is : IsPool h → (o : Option ℕ)
+      → IsLeastBelow (number_of_members h) (λ r. is_ack_open h own r && is_some_and (suggested h r) (is_justified s h r)) o
       → least_due s p Acks ≡ option_and_then (λ r. option_map (Ack h.view.number r) (suggested h r)) o
   ack-is pool o least = go own.position refl o least
     where
-      go : (q : Option ℕ) → own.position ≡ q → (o : Option ℕ) → IsLeastBelow (number_of_members h) (λ r. is_ack_open h own r && is_some_and (suggested h r) (is_justified s h r)) o
+      go : (q : Option ℕ) → own.position ≡ q → (o : Option ℕ)
+          → IsLeastBelow (number_of_members h) (λ r. is_ack_open h own r && is_some_and (suggested h r) (is_justified s h r)) o
           → least_due s p Acks ≡ option_and_then (λ r. option_map (Ack h.view.number r) (suggested h r)) o
       go None e None least = outside s p h own tells Acks e
-      go None e (Some r) least = absurd (let shut : (is_ack_open h own r && is_some_and (suggested h r) (is_justified s h r)) ≡ false = ap (λ b. (b && is_some (suggested h r) && nat_le own.rank r && not (has_slot own.signed (AckAt h.view.number r))) && is_some_and (suggested h r) (is_justified s h r)) (ap is_some e) in both_ways _ shut least.2)
+      go None e (Some r) least = absurd
+          (let shut : (is_ack_open h own r && is_some_and (suggested h r) (is_justified s h r))
+          ≡ false = ap (λ b. (b && is_some (suggested h r) && nat_le own.rank r && not (has_slot own.signed (AckAt h.view.number r)))
+          && is_some_and (suggested h r) (is_justified s h r)) (ap is_some e) in both_ways _ shut least.2)
       go (Some q) e o least =
-          ack_is_least s p o (same-pool s p h own tells pool) (inside s p h own tells q e) (subst (λ (k : Pool). IsLeastBelow (number_of_members k) (is_ack_due s p) o) (sym tells.pool)
-          (least-same 0 (number_of_members h) (λ r. is_ack_open h own r && is_some_and (suggested h r) (is_justified s h r)) (is_ack_due s p) o (λ k _ _. sym (ack-due q e k)) least))
+          ack_is_least s p o (same-pool s p h own tells pool) (inside s p h own tells q e)
+          (subst (λ (k : Pool). IsLeastBelow (number_of_members k) (is_ack_due s p) o) (sym tells.pool)
+          (least-same 0 (number_of_members h) (λ r. is_ack_open h own r && is_some_and (suggested h r) (is_justified s h r))
+          (is_ack_due s p) o (λ k _ _. sym (ack-due q e k)) least))
           ∙ ap (λ (k : Pool). option_and_then (λ r. option_map (Ack k.view.number r) (suggested k r)) o) tells.pool

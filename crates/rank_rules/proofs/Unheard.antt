@@ -42,17 +42,20 @@ module _ (h : Pool) where
       go (Some m) = ap (option_and_then value_of) (unheard h (SuggestAt h.view.number r) none m)
 
   pub undecided : is_kind_heard h.heard 11 ≡ false → (s : Setting) (r : ℕ) → decided_at s h r ≡ None
-  undecided none s r = ap (λ o. option_and_then (λ v. if is_possible (keyed s) h.view v.update then Some (r, v) else None) (option_and_then value_of o)) (uncertified h (ReadyAt h.view.number r) none)
+  undecided none s r = ap (λ o. option_and_then (λ v. if is_possible (keyed s) h.view v.update then Some (r, v) else None)
+      (option_and_then value_of o)) (uncertified h (ReadyAt h.view.number r) none)
 
   -- without an update that is notified no value is free
   unfree : nat_lt 0 (length (notified_updates h)) ≡ false → (s : Setting) → free_value s h ≡ None
-  unfree none s = ap (λ (us : List Update). least value_numbers (filter (is_free s h) (flat_map (λ u. map (λ k. record { update = u; cut = k }) (ends h)) us))) (empty (notified_updates h) none)
+  unfree none s = ap (λ (us : List Update). least value_numbers
+      (filter (is_free s h) (flat_map (λ u. map (λ k. record { update = u; cut = k }) (ends h)) us))) (empty (notified_updates h) none)
     where
       empty : (us : List Update) → nat_lt 0 (length us) ≡ false → us ≡ []
       empty [] e = refl
       empty (u ∷ us) e = absurd (let le = ltb-false 0 (length (u ∷ us)) e in omega (arith, le))
 
-  pub unchosen : is_kind_heard h.heard 10 ≡ false → nat_lt 0 (length (notified_updates h)) ≡ false → IsPool h → (s : Setting) (r : ℕ) → choose s h r ≡ None
+  pub unchosen : is_kind_heard h.heard 10 ≡ false → nat_lt 0 (length (notified_updates h)) ≡ false → IsPool h → (s : Setting) (r : ℕ)
+      → choose s h r ≡ None
   unchosen acks updates pool s r =
       sym (choose-by h pool s r None (λ k lt. ap (λ o. is_some_and o (is_second_way h r k)) (unacked acks k)))
       ∙ in-no-case (is_first_way h r) (free_value s h) (unfree updates s)

@@ -36,22 +36,35 @@ none-below : (vs : List Left) (n x : ℕ) → AreNumbered n vs → x < n → com
 none-below [] n x e lt = refl
 none-below (v ∷ vs) n x e lt = go (v.view.number == x) refl (none-below vs (n + 1) x (tail-is v.view.number n _ _ e) (omega (arith, lt)))
   where
-    go : (b : Bool) → (v.view.number == x) ≡ b → commits_in x vs ≡ [] → flat_map (λ (v : Left). v.commit) (if b then v ∷ filter (λ (v : Left). v.view.number == x) vs else filter (λ (v : Left). v.view.number == x) vs) ≡ []
-    go true f rest = absurd (let same = eqb-true v.view.number x f in let first = head-is v.view.number n _ _ e in omega (arith, same, first, lt))
+    go : (b : Bool) → (v.view.number == x) ≡ b → commits_in x vs ≡ []
+        → flat_map (λ (v : Left). v.commit)
+        (if b then v ∷ filter (λ (v : Left). v.view.number == x) vs else filter (λ (v : Left). v.view.number == x) vs) ≡ []
+    go true f rest = absurd (let same = eqb-true v.view.number x f in let first = head-is v.view.number n _ _ e in omega
+        (arith, same, first, lt))
     go false f rest = rest
 
-commits-at : (vs : List Left) (n i x : ℕ) → AreNumbered n vs → x ≡ n + i → all_signed (commits_in x vs) ≡ unwrap_or (slice_get (map (λ (v : Left). all_signed v.commit) vs) i) []
+commits-at : (vs : List Left) (n i x : ℕ) → AreNumbered n vs → x ≡ n + i
+    → all_signed (commits_in x vs) ≡ unwrap_or (slice_get (map (λ (v : Left). all_signed v.commit) vs) i) []
 commits-at [] n i x e at = refl
-commits-at (v ∷ vs) n zero x e at = go (v.view.number == x) refl (none-below vs (n + 1) x (tail-is v.view.number n _ _ e) (omega (arith, at)))
+commits-at (v ∷ vs) n zero x e at = go (v.view.number == x) refl
+    (none-below vs (n + 1) x (tail-is v.view.number n _ _ e) (omega (arith, at)))
   where
-    go : (b : Bool) → (v.view.number == x) ≡ b → commits_in x vs ≡ [] → all_signed (flat_map (λ (v : Left). v.commit) (if b then v ∷ filter (λ (v : Left). v.view.number == x) vs else filter (λ (v : Left). v.view.number == x) vs)) ≡ all_signed v.commit
+    go : (b : Bool) → (v.view.number == x) ≡ b → commits_in x vs ≡ []
+        → all_signed (flat_map (λ (v : Left). v.commit)
+        (if b then v ∷ filter (λ (v : Left). v.view.number == x) vs else filter (λ (v : Left). v.view.number == x) vs))
+        ≡ all_signed v.commit
     go true f none = ap (λ cs. all_signed (v.commit ++ cs)) none ∙ ap all_signed (append-nil v.commit)
     go false f none = absurd (eqb-false v.view.number x f (let first = head-is v.view.number n _ _ e in omega (arith, first, at)))
-commits-at (v ∷ vs) n (suc i) x e at = go (v.view.number == x) refl (commits-at vs (n + 1) i x (tail-is v.view.number n _ _ e) (omega (arith, at)))
+commits-at (v ∷ vs) n (suc i) x e at = go (v.view.number == x) refl
+    (commits-at vs (n + 1) i x (tail-is v.view.number n _ _ e) (omega (arith, at)))
   where
-    go : (b : Bool) → (v.view.number == x) ≡ b → all_signed (commits_in x vs) ≡ unwrap_or (slice_get (map (λ (v : Left). all_signed v.commit) vs) i) []
-        → all_signed (flat_map (λ (v : Left). v.commit) (if b then v ∷ filter (λ (v : Left). v.view.number == x) vs else filter (λ (v : Left). v.view.number == x) vs)) ≡ unwrap_or (slice_get (map (λ (v : Left). all_signed v.commit) vs) i) []
-    go true f rest = absurd (let same = eqb-true v.view.number x f in let first = head-is v.view.number n _ _ e in omega (arith, same, first, at))
+    go : (b : Bool) → (v.view.number == x) ≡ b
+        → all_signed (commits_in x vs) ≡ unwrap_or (slice_get (map (λ (v : Left). all_signed v.commit) vs) i) []
+        → all_signed (flat_map (λ (v : Left). v.commit)
+        (if b then v ∷ filter (λ (v : Left). v.view.number == x) vs else filter (λ (v : Left). v.view.number == x) vs))
+        ≡ unwrap_or (slice_get (map (λ (v : Left). all_signed v.commit) vs) i) []
+    go true f rest = absurd (let same = eqb-true v.view.number x f in let first = head-is v.view.number n _ _ e in omega
+        (arith, same, first, at))
     go false f rest = rest
 
 -- ---- the answer
@@ -60,13 +73,17 @@ pub answer-is : (a : Archived) (h : Pool) (p : Process) (x k : ℕ) → Keeps a 
 answer-is a h p x k keeps same =
     let at : x ≡ 0 + x = omega arith in
     map-append signed_of (commits_of p x) (places_kept (pools_of p x) k)
-    ∙ (λ i. (commits-at p.left 0 x x keeps.numbers at ∙ ap (λ cs. unwrap_or (slice_get cs x) []) keeps.commits) i ++ all_signed (places_kept (filter (λ (g : Pool). g.view.number == x) (same i ∷ option_to_list (keeps.previous i))) k))
+    ∙ (λ i. (commits-at p.left 0 x x keeps.numbers at ∙ ap (λ cs. unwrap_or (slice_get cs x) []) keeps.commits) i
+    ++ all_signed (places_kept (filter (λ (g : Pool). g.view.number == x) (same i ∷ option_to_list (keeps.previous i))) k))
 
 -- its pools, the current one and the previous one
 abbrev pub pools_in : List Pool → ℕ → List Pool
 pools_in hs x = filter (λ (g : Pool). g.view.number == x) hs
 
-pub pools-parts : (h : Pool) (hs : List Pool) (x k : ℕ) → all_signed (places_kept (filter (λ (g : Pool). g.view.number == x) (h ∷ hs)) k) ≡ all_signed (places_kept (filter (λ (g : Pool). g.view.number == x) (h ∷ [])) k) ++ all_signed (places_kept (filter (λ (g : Pool). g.view.number == x) hs) k)
+pub pools-parts : (h : Pool) (hs : List Pool) (x k : ℕ)
+    → all_signed (places_kept (filter (λ (g : Pool). g.view.number == x) (h ∷ hs)) k)
+    ≡ all_signed (places_kept (filter (λ (g : Pool). g.view.number == x) (h ∷ [])) k)
+    ++ all_signed (places_kept (filter (λ (g : Pool). g.view.number == x) hs) k)
 pools-parts h hs x k = go (h.view.number == x)
   where
     rest : List Pool
@@ -75,8 +92,10 @@ pools-parts h hs x k = go (h.view.number == x)
     here : List Claim
     here = flat_map (place_certificates h) (range_with_len k 8)
 
-    go : (b : Bool) → all_signed (places_kept (if b then h ∷ rest else rest) k) ≡ all_signed (places_kept (if b then h ∷ [] else []) k) ++ all_signed (places_kept rest k)
-    go true = map-append signed_of here (places_kept rest k) ∙ ap (λ cs. all_signed cs ++ all_signed (places_kept rest k)) (sym (append-nil here))
+    go : (b : Bool) → all_signed (places_kept (if b then h ∷ rest else rest) k) ≡ all_signed (places_kept (if b then h ∷ [] else []) k)
+        ++ all_signed (places_kept rest k)
+    go true = map-append signed_of here (places_kept rest k) ∙ ap (λ cs. all_signed cs ++ all_signed (places_kept rest k))
+        (sym (append-nil here))
     go false = refl
 
 -- its frames
@@ -91,13 +110,17 @@ proofs-are (c ∷ cs) = refl
 -- ---- the three parts of an answer, one behind the other
 
 -- where nothing was in the list, the three parts are the answer
-pub parts-are : (a : Archived) (h : Pool) (x k : ℕ) (commits : List (List Signed)) (f f1 f2 f3 : Packing) → commits ≡ a.commits → f.claims ≡ [] → Fills f f1 (extended false f.claims (unwrap_or (slice_get commits x) [])) → Fills f1 f2 (extended false f1.claims (all_signed (places_kept (pools_in (h ∷ []) x) k)))
-    → Fills f2 f3 (extended false f2.claims (all_signed (places_kept (pools_in (option_to_list a.previous) x) k))) → f3.claims ≡ answer_kept a h x k
+pub parts-are : (a : Archived) (h : Pool) (x k : ℕ) (commits : List (List Signed)) (f f1 f2 f3 : Packing) → commits ≡ a.commits
+    → f.claims ≡ [] → Fills f f1 (extended false f.claims (unwrap_or (slice_get commits x) []))
+    → Fills f1 f2 (extended false f1.claims (all_signed (places_kept (pools_in (h ∷ []) x) k)))
+    → Fills f2 f3 (extended false f2.claims (all_signed (places_kept (pools_in (option_to_list a.previous) x) k)))
+    → f3.claims ≡ answer_kept a h x k
 parts-are a h x k commits f f1 f2 f3 same empty one two three =
     let commit : List Signed = unwrap_or (slice_get commits x) [] in
     let current : List Signed = all_signed (places_kept (pools_in (h ∷ []) x) k) in
     let before : List Signed = all_signed (places_kept (pools_in (option_to_list a.previous) x) k) in
-    three.claims ∙ ap (λ cs. extended false cs before) (two.claims ∙ ap (λ cs. extended false cs current) (one.claims ∙ ap (λ cs. extended false cs commit) empty))
+    three.claims ∙ ap (λ cs. extended false cs before)
+    (two.claims ∙ ap (λ cs. extended false cs current) (one.claims ∙ ap (λ cs. extended false cs commit) empty))
     ∙ extended-all (extended false (extended false [] commit) current) before
     ∙ ap (λ cs. cs ++ before) (extended-all (extended false [] commit) current ∙ ap (λ cs. cs ++ current) (extended-all [] commit))
     ∙ append_assoc commit current before

@@ -17,8 +17,11 @@ range_stays bytes more i j le within =
 
 claim_stays : (bytes more : List ℕ) (l : Listed) → IsListed bytes l → listed_claim (bytes ++ more) l ≡ listed_claim bytes l
 claim_stays bytes more l is =
-    let statement : slice_range (bytes ++ more) l.start (middle l) ≡ slice_range bytes l.start (middle l) = range_stays bytes more l.start (l.start + l.said) (omega arith) (omega (arith, is.within)) in
-    let signature : slice_range (bytes ++ more) (middle l) (past l) ≡ slice_range bytes (middle l) (past l) = range_stays bytes more (l.start + l.said) (l.start + l.said + l.signed) (omega arith) is.within in
+    let statement : slice_range (bytes ++ more) l.start (middle l)
+    ≡ slice_range bytes l.start (middle l) = range_stays bytes more l.start (l.start + l.said) (omega arith) (omega (arith, is.within)) in
+    let signature : slice_range (bytes ++ more) (middle l) (past l)
+    ≡ slice_range bytes (middle l) (past l) = range_stays bytes more (l.start + l.said) (l.start + l.said + l.signed)
+    (omega arith) is.within in
     λ i. signed (statement i) l.signer (signature i)
 
 claims_stay : (bytes more : List ℕ) (ls : List Listed) → AreListed bytes ls → listed_claims (bytes ++ more) ls ≡ listed_claims bytes ls
@@ -27,13 +30,21 @@ claims_stay bytes more (l ∷ ls) are = λ i. claim_stays bytes more l are.0 i �
 
 pub are_stay : (bytes more : List ℕ) (ls : List Listed) → AreListed bytes ls → AreListed (bytes ++ more) ls
 are_stay bytes more [] are = tt
-are_stay bytes more (l ∷ ls) are = (record { within = omega (arith, are.0.within, length-append bytes more); said = are.0.said; signed = are.0.signed }, are_stay bytes more ls are.1)
+are_stay bytes more (l ∷ ls) are = (
+  record {
+    within = omega (arith, are.0.within, length-append bytes more);
+    said = are.0.said;
+    signed = are.0.signed;
+  },
+  are_stay bytes more ls are.1,
+)
 
 all-snoc : {A : Type 0} (P : A → Type 0) (xs : List A) (x : A) → AllByRecursion P xs → P x → AllByRecursion P (xs ++ x ∷ [])
 all-snoc P [] x all p = (p, tt)
 all-snoc P (y ∷ xs) x all p = (all.0, all-snoc P xs x all.1 p)
 
-module _ (bytes statement signature : List ℕ) (l : Listed) (start : l.start ≡ length bytes) (said : l.said ≡ length statement) (signed' : l.signed ≡ length signature) where
+module _ (bytes statement signature : List ℕ) (l : Listed) (start : l.start ≡ length bytes) (said : l.said ≡ length statement)
+    (signed' : l.signed ≡ length signature) where
   abbrev now : List ℕ
   now = bytes ++ statement ++ signature
 
@@ -52,17 +63,21 @@ module _ (bytes statement signature : List ℕ) (l : Listed) (start : l.start �
       ∙ ap (λ n. take n signature) (sym count) ∙ take-length signature
 
   -- the list ends with the claim
-  pub claims-push : (ls : List Listed) → AreListed bytes ls → listed_claims now (ls ++ l ∷ []) ≡ listed_claims bytes ls ++ signed statement l.signer signature ∷ []
+  pub claims-push : (ls : List Listed) → AreListed bytes ls
+      → listed_claims now (ls ++ l ∷ []) ≡ listed_claims bytes ls ++ signed statement l.signer signature ∷ []
   claims-push ls are =
       map-append (listed_claim now) ls (l ∷ [])
-      ∙ (λ i. (ap (λ b. listed_claims b ls) (append_assoc bytes statement signature) ∙ claims_stay bytes (statement ++ signature) ls are) i ++ signed (new_statement i) l.signer (new_signature i) ∷ [])
+      ∙ (λ i. (ap (λ b. listed_claims b ls) (append_assoc bytes statement signature) ∙ claims_stay bytes (statement ++ signature) ls are) i
+      ++ signed (new_statement i) l.signer (new_signature i) ∷ [])
 
   now-long : length now ≡ length bytes + (length statement + length signature)
   now-long = omega (arith, length-append (bytes ++ statement) signature, length-append bytes statement)
 
   -- and it is there
   pub are-push : (ls : List Listed) → AreListed bytes ls → l.said ≤ 1032 → l.signed ≤ 16384 → AreListed now (ls ++ l ∷ [])
-  are-push ls are few many = all-snoc (IsListed now) ls l (subst (λ b. AreListed b ls) (sym (append_assoc bytes statement signature)) (are_stay bytes (statement ++ signature) ls are)) (record { within = omega (arith, now-long); said = few; signed = many })
+  are-push ls are few many = all-snoc (IsListed now) ls l
+      (subst (λ b. AreListed b ls) (sym (append_assoc bytes statement signature)) (are_stay bytes (statement ++ signature) ls are))
+      (record { within = omega (arith, now-long); said = few; signed = many })
 
 -- ---- each claim is short
 

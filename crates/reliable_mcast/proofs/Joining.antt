@@ -50,14 +50,17 @@ same-claims c d p q =
     (λ i. ((c.signer == d.signer) && same-said c.statement d.statement p.1 q.1 i) && same-signature c.signature d.signature i)
     ∙ regrouped (c.signer == d.signer) (same_bytes (spelling c.statement) (spelling d.statement)) (same_bytes c.signature d.signature)
 
-is-among : (c : Claim) (cs : List Claim) → IsClaim c → AllByRecursion IsClaim cs → list_any (same_claim c) cs ≡ list_any (same_signed (signed_of c)) (all_signed cs)
+is-among : (c : Claim) (cs : List Claim) → IsClaim c → AllByRecursion IsClaim cs
+    → list_any (same_claim c) cs ≡ list_any (same_signed (signed_of c)) (all_signed cs)
 is-among c [] p all = refl
 is-among c (d ∷ cs) p all = λ i. same-claims c d p all.0 i || is-among c cs p all.1 i
 
 -- ---- a claim is joined, and then others
 
-joined-signed : (cs : List Claim) (c : Claim) → IsClaim c → AllByRecursion IsClaim cs → all_signed (sending.joined cs c) ≡ added true (all_signed cs) (signed_of c)
-joined-signed cs c p all = go (list_any (same_claim c) cs) ∙ ap (λ (b : Bool). if b then all_signed cs else all_signed cs ++ signed_of c ∷ []) (is-among c cs p all)
+joined-signed : (cs : List Claim) (c : Claim) → IsClaim c → AllByRecursion IsClaim cs
+    → all_signed (sending.joined cs c) ≡ added true (all_signed cs) (signed_of c)
+joined-signed cs c p all = go (list_any (same_claim c) cs) ∙ ap
+    (λ (b : Bool). if b then all_signed cs else all_signed cs ++ signed_of c ∷ []) (is-among c cs p all)
   where
     go : (b : Bool) → all_signed (if b then cs else cs ++ c ∷ []) ≡ (if b then all_signed cs else all_signed cs ++ signed_of c ∷ [])
     go true = refl
@@ -70,9 +73,11 @@ joined-ranged cs c p all = go (list_any (same_claim c) cs)
     go true = all
     go false = all-append IsClaim cs (c ∷ []) all (p, tt)
 
-all-joined : (cs ds : List Claim) → AllByRecursion IsClaim cs → AllByRecursion IsClaim ds → all_signed (fold sending.joined cs ds) ≡ extended true (all_signed cs) (all_signed ds)
+all-joined : (cs ds : List Claim) → AllByRecursion IsClaim cs → AllByRecursion IsClaim ds
+    → all_signed (fold sending.joined cs ds) ≡ extended true (all_signed cs) (all_signed ds)
 all-joined cs [] p q = refl
-all-joined cs (d ∷ ds) p q = all-joined (sending.joined cs d) ds (joined-ranged cs d q.0 p) q.1 ∙ ap (λ es. extended true es (all_signed ds)) (joined-signed cs d q.0 p)
+all-joined cs (d ∷ ds) p q = all-joined (sending.joined cs d) ds (joined-ranged cs d q.0 p) q.1 ∙ ap
+    (λ es. extended true es (all_signed ds)) (joined-signed cs d q.0 p)
 
 -- ---- what goes beside is in range
 
@@ -88,25 +93,33 @@ orders-ranged began h (Order x k b) ranged = go (nat_lt k (places_in began.deliv
   where
     go : (t : Bool) → AllByRecursion IsClaim (if t then [] else message_certificates h b)
     go true = tt
-    go false = all-flat IsClaim (λ m. certificate_on h (EchoAt h.view.number m)) b (λ m. certificate_on-ranged h (EchoAt h.view.number m) ranged)
+    go false = all-flat IsClaim (λ m. certificate_on h (EchoAt h.view.number m)) b
+        (λ m. certificate_on-ranged h (EchoAt h.view.number m) ranged)
 orders-ranged began h _ ranged = tt
 
 suggests-ranged : (h : Pool) (st : Statement) → IsRanged h → AllByRecursion IsClaim (beside_suggest h st)
 suggests-ranged h (Suggest x r v) ranged =
-    mem-all IsClaim (sorted claim_numbers (filter (λ (c : Claim). is_beside v.cut c.statement) h.heard)) (λ c m. all-mem IsClaim h.heard c ranged (filter-mem (λ (c : Claim). is_beside v.cut c.statement) h.heard c (mem-sorted claim_numbers (filter (λ (c : Claim). is_beside v.cut c.statement) h.heard) c m)).0)
+    mem-all IsClaim (sorted claim_numbers (filter (λ (c : Claim). is_beside v.cut c.statement) h.heard))
+    (λ c m. all-mem IsClaim h.heard c ranged
+    (filter-mem (λ (c : Claim). is_beside v.cut c.statement) h.heard c
+    (mem-sorted claim_numbers (filter (λ (c : Claim). is_beside v.cut c.statement) h.heard) c m)).0)
 suggests-ranged h _ ranged = tt
 
 -- ---- the list
 
-pub bundle-is : (began : Process) (h : Pool) (base : List Claim) (l0 l1 l2 l3 : List Signed) → IsRanged h → AllByRecursion IsClaim base → l0 ≡ [] → l1 ≡ extended false l0 (all_signed base)
-    → l2 ≡ extended true l1 (all_signed (flat_map (beside_order began h) (map (λ (c : Claim). c.statement) base))) → l3 ≡ extended true l2 (all_signed (flat_map (beside_suggest h) (map (λ (c : Claim). c.statement) base)))
+pub bundle-is : (began : Process) (h : Pool) (base : List Claim) (l0 l1 l2 l3 : List Signed) → IsRanged h → AllByRecursion IsClaim base
+    → l0 ≡ [] → l1 ≡ extended false l0 (all_signed base)
+    → l2 ≡ extended true l1 (all_signed (flat_map (beside_order began h) (map (λ (c : Claim). c.statement) base)))
+    → l3 ≡ extended true l2 (all_signed (flat_map (beside_suggest h) (map (λ (c : Claim). c.statement) base)))
     → l3 ≡ all_signed (with_what_goes_beside began h base)
 bundle-is began h base l0 l1 l2 l3 ranged said empty one two three =
     let statements : List Statement = map (λ (c : Claim). c.statement) base in
     let orders : List Claim = flat_map (beside_order began h) statements in
     let suggests : List Claim = flat_map (beside_suggest h) statements in
     let first : l1 ≡ all_signed base = one ∙ ap (λ cs. extended false cs (all_signed base)) empty ∙ extended-all [] (all_signed base) in
-    let ranges = all-append IsClaim orders suggests (all-flat IsClaim (beside_order began h) statements (λ st. orders-ranged began h st ranged)) (all-flat IsClaim (beside_suggest h) statements (λ st. suggests-ranged h st ranged)) in
+    let ranges = all-append IsClaim orders suggests
+    (all-flat IsClaim (beside_order began h) statements (λ st. orders-ranged began h st ranged))
+    (all-flat IsClaim (beside_suggest h) statements (λ st. suggests-ranged h st ranged)) in
     three ∙ ap (λ cs. extended true cs (all_signed suggests)) (two ∙ ap (λ cs. extended true cs (all_signed orders)) first)
     ∙ sym (extended-append true (all_signed base) (all_signed orders) (all_signed suggests))
     ∙ ap (extended true (all_signed base)) (sym (map-append signed_of orders suggests))

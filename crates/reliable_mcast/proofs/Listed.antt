@@ -19,7 +19,8 @@ chosen-next xs p ps = go (slice_get xs p)
     go None = refl
     go (Some x) = refl
 
-pub signed-chosen : (cs : List Claim) (p : ℕ) (ps : List ℕ) → all_signed (chosen cs (p ∷ ps)) ≡ all_signed (chosen cs (p ∷ [])) ++ all_signed (chosen cs ps)
+pub signed-chosen : (cs : List Claim) (p : ℕ) (ps : List ℕ)
+    → all_signed (chosen cs (p ∷ ps)) ≡ all_signed (chosen cs (p ∷ [])) ++ all_signed (chosen cs ps)
 signed-chosen cs p ps = ap all_signed (chosen-next cs p ps) ∙ map-append signed_of (chosen cs (p ∷ [])) (chosen cs ps)
 
 pub flat-append : {A B : Type 0} (f : A → List B) (xs ys : List A) → flat_map f (xs ++ ys) ≡ flat_map f xs ++ flat_map f ys
@@ -31,7 +32,9 @@ flat-append f (x ∷ xs) ys = ap (λ rest. f x ++ rest) (flat-append f xs ys) �
     shifted (z ∷ zs) = ap (λ more. z ∷ more) (shifted zs)
 
 -- what goes beside the claims at these places
-pub beside-next : (f : Statement → List Claim) (cs : List Claim) (p : ℕ) (ps : List ℕ) → all_signed (flat_map f (statements_at cs (p ∷ ps))) ≡ all_signed (flat_map f (statements_at cs (p ∷ []))) ++ all_signed (flat_map f (statements_at cs ps))
+pub beside-next : (f : Statement → List Claim) (cs : List Claim) (p : ℕ) (ps : List ℕ)
+    → all_signed (flat_map f (statements_at cs (p ∷ ps))) ≡ all_signed (flat_map f (statements_at cs (p ∷ [])))
+    ++ all_signed (flat_map f (statements_at cs ps))
 beside-next f cs p ps =
     let say : Claim → Statement = λ c. c.statement in
     ap (λ es. all_signed (flat_map f (map say es))) (chosen-next cs p ps)
@@ -49,7 +52,8 @@ pub all-append : {A : Type 0} (P : A → Type 0) (xs ys : List A) → AllByRecur
 all-append P [] ys a b = b
 all-append P (x ∷ xs) ys a b = (a.0, all-append P xs ys a.1 b)
 
-pub all-flat : {A B : Type 0} (P : B → Type 0) (f : A → List B) (xs : List A) → ((x : A) → AllByRecursion P (f x)) → AllByRecursion P (flat_map f xs)
+pub all-flat : {A B : Type 0} (P : B → Type 0) (f : A → List B) (xs : List A) → ((x : A) → AllByRecursion P (f x))
+    → AllByRecursion P (flat_map f xs)
 all-flat P f [] each = tt
 all-flat P f (x ∷ xs) each = all-append P (f x) (flat_map f xs) (each x) (all-flat P f xs each)
 

@@ -58,20 +58,27 @@ less-both m n k a b = go (nat_lt m n) refl
 
 module _ (a b : List ℕ) (i : ℕ) where
   -- at place i they are equal
-  pub on-same : i < length a → i < length b → get_or a i 0 ≡ get_or b i 0 → numbers_below (drop i a) (drop i b) ≡ numbers_below (drop (i + 1) a) (drop (i + 1) b)
-  on-same la lb same = (λ j. numbers_below (drop-number a i la j) (drop-number b i lb j)) ∙ below-same (get_or a i 0) (get_or b i 0) (drop (i + 1) a) (drop (i + 1) b) same
+  pub on-same : i < length a → i < length b → get_or a i 0 ≡ get_or b i 0
+      → numbers_below (drop i a) (drop i b) ≡ numbers_below (drop (i + 1) a) (drop (i + 1) b)
+  on-same la lb same = (λ j. numbers_below (drop-number a i la j) (drop-number b i lb j)) ∙ below-same (get_or a i 0) (get_or b i 0)
+      (drop (i + 1) a) (drop (i + 1) b) same
 
   -- they differ there
-  pub on-first : i < length a → i < length b → (get_or a i 0 ≡ get_or b i 0 → ⊥) → numbers_below (drop i a) (drop i b) ≡ nat_lt (get_or a i 0) (get_or b i 0)
-  on-first la lb differ = (λ j. numbers_below (drop-number a i la j) (drop-number b i lb j)) ∙ below-first (get_or a i 0) (get_or b i 0) (drop (i + 1) a) (drop (i + 1) b) differ
+  pub on-first : i < length a → i < length b → (get_or a i 0 ≡ get_or b i 0 → ⊥)
+      → numbers_below (drop i a) (drop i b) ≡ nat_lt (get_or a i 0) (get_or b i 0)
+  on-first la lb differ = (λ j. numbers_below (drop-number a i la j) (drop-number b i lb j)) ∙ below-first (get_or a i 0) (get_or b i 0)
+      (drop (i + 1) a) (drop (i + 1) b) differ
 
   -- one of them ends there
-  pub on-end : i ≤ length a → i ≤ length b → min (length a) (length b) ≤ i → numbers_below (drop i a) (drop i b) ≡ nat_lt (length a) (length b)
+  pub on-end : i ≤ length a → i ≤ length b → min (length a) (length b) ≤ i
+      → numbers_below (drop i a) (drop i b) ≡ nat_lt (length a) (length b)
   on-end la lb past =
       let da = length-drop i a in
       let db = length-drop i b in
-      below-end (drop i a) (drop i b) (go (nat_lt (length a) (length b)) refl da db) ∙ (λ j. nat_lt (da j) (db j)) ∙ less-both (length a) (length b) i la lb
+      below-end (drop i a) (drop i b) (go (nat_lt (length a) (length b)) refl da db) ∙ (λ j. nat_lt (da j) (db j)) ∙ less-both (length a)
+      (length b) i la lb
     where
-      go : (t : Bool) → nat_lt (length a) (length b) ≡ t → length (drop i a) ≡ length a - i → length (drop i b) ≡ length b - i → (length (drop i a) ≡ 0) ⊎ (length (drop i b) ≡ 0)
+      go : (t : Bool) → nat_lt (length a) (length b) ≡ t → length (drop i a) ≡ length a - i → length (drop i b) ≡ length b - i
+          → (length (drop i a) ≡ 0) ⊎ (length (drop i b) ≡ 0)
       go true e da db = inl (let lt = ltb-true (length a) (length b) e in omega (arith, lt, da, past))
       go false e da db = inr (let ge = ltb-false (length a) (length b) e in omega (arith, ge, db, past))

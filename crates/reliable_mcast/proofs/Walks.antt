@@ -8,7 +8,8 @@ use Rattle.std.proofs.Math.Seq.{drop-cons}
 pub drop-get : {A : Type 0} (xs : List A) (i : ℕ) (x : A) → slice_get xs i ≡ Some x → drop i xs ≡ x ∷ drop (i + 1) xs
 drop-get [] i x e = absurd cc
 drop-get (y ∷ xs) zero x e = let same : y ≡ x = cc in ap (λ z. z ∷ xs) same
-drop-get (y ∷ xs) (suc i) x e = let next : suc i + 1 ≡ suc (i + 1) = omega arith in drop-get xs i x e ∙ ap (λ n. x ∷ drop n (y ∷ xs)) (sym next)
+drop-get (y ∷ xs) (suc i) x e = let next : suc i + 1
+    ≡ suc (i + 1) = omega arith in drop-get xs i x e ∙ ap (λ n. x ∷ drop n (y ∷ xs)) (sym next)
 
 pub drop-at : {A : Type 0} (xs : List A) (i : ℕ) (x : A) → i < length xs → x ≡ get_or xs i x → drop i xs ≡ x ∷ drop (i + 1) xs
 drop-at xs i x lt at = drop-cons xs i x lt ∙ ap (λ y. y ∷ drop (suc i) xs) (sym at) ∙ ap (λ n. x ∷ drop n xs) (sym (add-one i))
@@ -23,7 +24,8 @@ module _ {A B : Type 0} (f : A → B) (test : B → Bool) (xs : List A) (i : ℕ
   pub any-found : test (f x) ≡ true → list_any test (map f (drop i xs)) ≡ true
   any-found e = split ∙ ap (λ b. b || list_any test (map f (drop (i + 1) xs))) e
 
-pub all-passed : {A : Type 0} (P : A → Type 0) (xs : List A) (i : ℕ) (x : A) → i < length xs → x ≡ get_or xs i x → AllByRecursion P (drop i xs) → P x × AllByRecursion P (drop (i + 1) xs)
+pub all-passed : {A : Type 0} (P : A → Type 0) (xs : List A) (i : ℕ) (x : A) → i < length xs → x ≡ get_or xs i x
+    → AllByRecursion P (drop i xs) → P x × AllByRecursion P (drop (i + 1) xs)
 all-passed P xs i x lt at all = subst (AllByRecursion P) (drop-at xs i x lt at) all
 
 -- the list at a place, of what is made of each element

@@ -45,7 +45,8 @@ all_first {X} P x xs here behind = at
 
 all_from : (sch : Scheme) (least : ℕ) (ls : List Listed) → AreListed sch least ls → All (λ k. least ≤ k.0) (map listed_key ls)
 all_from sch least [] h = λ k d low. absurd (omega arith)
-all_from sch least (l ∷ ls) h = all_first (λ k. least ≤ k.0) (listed_key l) (map listed_key ls) h.0 (λ k d low. omega (arith, h.0, all_from sch (l.process + 1) ls h.3 k d low))
+all_from sch least (l ∷ ls) h = all_first (λ k. least ≤ k.0) (listed_key l)
+    (map listed_key ls) h.0 (λ k d low. omega (arith, h.0, all_from sch (l.process + 1) ls h.3 k d low))
 
 all_above : (p : ℕ) (key : List ℕ) (keys : List (ℕ × List ℕ)) → All (λ k. p + 1 ≤ k.0) keys → All (λ k. p < k.0) keys
 all_above p key keys h = λ k d low. omega (arith, h k d low)
@@ -55,36 +56,43 @@ pub roster_rises : (sch : Scheme) (least : ℕ) (ls : List Listed) → AreListed
 roster_rises sch least [] h = λ i j d below low. absurd (omega arith)
 roster_rises sch least (l ∷ ls) h =
     AllPairs-cons (λ (k : ℕ × List ℕ) (m : ℕ × List ℕ). k.0 < m.0) (listed_key l) (map listed_key ls)
-    (all_above l.process (key_public l.key) (map listed_key ls) (all_from sch (l.process + 1) ls h.3)) (roster_rises sch (l.process + 1) ls h.3)
+    (all_above l.process (key_public l.key) (map listed_key ls) (all_from sch (l.process + 1) ls h.3))
+    (roster_rises sch (l.process + 1) ls h.3)
 
 -- ---- one process more
 
-filter_more : (test : Listed → Bool) (ls : List Listed) (l : Listed) → filter test (ls ++ l ∷ []) ≡ filter test ls ++ cond (test l) (l ∷ []) []
+filter_more : (test : Listed → Bool) (ls : List Listed) (l : Listed)
+    → filter test (ls ++ l ∷ []) ≡ filter test ls ++ cond (test l) (l ∷ []) []
 filter_more test [] l = refl
 filter_more test (x ∷ xs) l = by_test (test x) (filter_more test xs l)
   where
     by_test : (b : Bool) → filter test (xs ++ l ∷ []) ≡ filter test xs ++ cond (test l) (l ∷ []) []
-        → cond b (x ∷ filter test (xs ++ l ∷ [])) (filter test (xs ++ l ∷ [])) ≡ cond b (x ∷ filter test xs) (filter test xs) ++ cond (test l) (l ∷ []) []
+        → cond b (x ∷ filter test (xs ++ l ∷ [])) (filter test (xs ++ l ∷ [])) ≡ cond b (x ∷ filter test xs) (filter test xs)
+        ++ cond (test l) (l ∷ []) []
     by_test true rest = ap (λ ys. x ∷ ys) rest
     by_test false rest = rest
 
-players_more : (h : Header) (ls : List Listed) (l : Listed) (b : Bool) → l.corrupt ≡ b → filter_map (begins h) (ls ++ l ∷ []) ≡ filter_map (begins h) ls ++ cond b [] (starting h l ∷ [])
+players_more : (h : Header) (ls : List Listed) (l : Listed) (b : Bool) → l.corrupt ≡ b
+    → filter_map (begins h) (ls ++ l ∷ []) ≡ filter_map (begins h) ls ++ cond b [] (starting h l ∷ [])
 players_more h [] l true e = ap (λ b. cons_option (cond b None (Some (starting h l))) []) e
 players_more h [] l false e = ap (λ b. cons_option (cond b None (Some (starting h l))) []) e
 players_more h (x ∷ xs) l b e = by_test x.corrupt (players_more h xs l b e)
   where
     by_test : (c : Bool) → filter_map (begins h) (xs ++ l ∷ []) ≡ filter_map (begins h) xs ++ cond b [] (starting h l ∷ [])
-        → cons_option (cond c None (Some (starting h x))) (filter_map (begins h) (xs ++ l ∷ [])) ≡ cons_option (cond c None (Some (starting h x))) (filter_map (begins h) xs) ++ cond b [] (starting h l ∷ [])
+        → cons_option (cond c None (Some (starting h x))) (filter_map (begins h) (xs ++ l ∷ []))
+        ≡ cons_option (cond c None (Some (starting h x))) (filter_map (begins h) xs) ++ cond b [] (starting h l ∷ [])
     by_test true rest = rest
     by_test false rest = ap (λ ys. starting h x ∷ ys) rest
 
-players_push : (s : Setting) (ps : List Player) (cs : List plain.Player) (p : Player) (c : plain.Player) → ArePlayers s ps cs → Plays s p c → ArePlayers s (ps ++ p ∷ []) (cs ++ c ∷ [])
+players_push : (s : Setting) (ps : List Player) (cs : List plain.Player) (p : Player) (c : plain.Player) → ArePlayers s ps cs → Plays s p c
+    → ArePlayers s (ps ++ p ∷ []) (cs ++ c ∷ [])
 players_push s [] [] p c all one = (one, tt)
 players_push s (x ∷ ps) (y ∷ cs) p c all one = (all.0, players_push s ps cs p c all.1 one)
 players_push s [] (y ∷ cs) p c all one = absurd all
 players_push s (x ∷ ps) [] p c all one = absurd all
 
-liars_push : (xs : List Liar) (ls : List Listed) (x : Liar) (l : Listed) → AreLiars [] xs ls → Lies [] x l → AreLiars [] (xs ++ x ∷ []) (ls ++ l ∷ [])
+liars_push : (xs : List Liar) (ls : List Listed) (x : Liar) (l : Listed) → AreLiars [] xs ls → Lies [] x l
+    → AreLiars [] (xs ++ x ∷ []) (ls ++ l ∷ [])
 liars_push [] [] x l all one = (one, tt)
 liars_push (y ∷ xs) (z ∷ ls) x l all one = (all.0, liars_push xs ls x l all.1 one)
 liars_push [] (z ∷ ls) x l all one = absurd all
@@ -97,8 +105,14 @@ adds_liar h k old new corrupt players liars = λ ls l keyed part.
     let is : l.corrupt ≡ true = sym keyed.corrupt ∙ corrupt in
     let all : filter (λ x. x.corrupt) (ls ++ l ∷ []) ≡ filter (λ x. x.corrupt) ls ++ l ∷ [] =
     filter_more (λ x. x.corrupt) ls l ∙ ap (λ b. filter (λ x. x.corrupt) ls ++ cond b (l ∷ []) []) is in
-    let cs : filter_map (begins h) (ls ++ l ∷ []) ≡ filter_map (begins h) ls = players_more h ls l true is ∙ append-nil (filter_map (begins h) ls) in
-    let lies : Lies [] (record { process = k.process; signer = k.signer }) l = record { process = keyed.process; used = keyed.signer.unused; total = keyed.signer.total; signs = keyed.signer.signs } in
+    let cs : filter_map (begins h) (ls ++ l ∷ [])
+    ≡ filter_map (begins h) ls = players_more h ls l true is ∙ append-nil (filter_map (begins h) ls) in
+    let lies : Lies [] (record { process = k.process; signer = k.signer }) l = record {
+      process = keyed.process;
+      used = keyed.signer.unused;
+      total = keyed.signer.total;
+      signs = keyed.signer.signs;
+    } in
     let P : List plain.Player → Type 0 = λ xs. ArePlayers (setting_of h) new.players.items xs in
     let Q : List Player → Type 0 = λ ps. ArePlayers (setting_of h) ps (filter_map (begins h) ls) in
     let R : List Listed → Type 0 = λ xs. AreLiars [] new.liars.items xs in
@@ -109,19 +123,22 @@ adds_liar h k old new corrupt players liars = λ ls l keyed part.
     }
 
 -- a correct one as a player
-pub adds_player : (h : Header) (k : Keyed) (p : Player) (old new : Cast) → k.corrupt ≡ false → Starts h k p → new.players.items ≡ old.players.items ++ p ∷ []
+pub adds_player : (h : Header) (k : Keyed) (p : Player) (old new : Cast) → k.corrupt ≡ false → Starts h k p
+    → new.players.items ≡ old.players.items ++ p ∷ []
     → new.liars.items ≡ old.liars.items → Adds h k old new
 adds_player h k p old new correct starts players liars = λ ls l keyed part.
     let is : l.corrupt ≡ false = sym keyed.corrupt ∙ correct in
     let all : filter (λ x. x.corrupt) (ls ++ l ∷ []) ≡ filter (λ x. x.corrupt) ls =
-    filter_more (λ x. x.corrupt) ls l ∙ (ap (λ b. filter (λ x. x.corrupt) ls ++ cond b (l ∷ []) []) is ∙ append-nil (filter (λ x. x.corrupt) ls)) in
+    filter_more (λ x. x.corrupt) ls l ∙
+    (ap (λ b. filter (λ x. x.corrupt) ls ++ cond b (l ∷ []) []) is ∙ append-nil (filter (λ x. x.corrupt) ls)) in
     let cs : filter_map (begins h) (ls ++ l ∷ []) ≡ filter_map (begins h) ls ++ starting h l ∷ [] = players_more h ls l false is in
     let P : List plain.Player → Type 0 = λ xs. ArePlayers (setting_of h) new.players.items xs in
     let Q : List Player → Type 0 = λ ps. ArePlayers (setting_of h) ps (filter_map (begins h) ls ++ starting h l ∷ []) in
     let R : List Listed → Type 0 = λ xs. AreLiars [] new.liars.items xs in
     let S : List Liar → Type 0 = λ xs. AreLiars [] xs (filter (λ x. x.corrupt) ls) in
     record {
-      players = subst P (sym cs) (subst Q (sym players) (players_push (setting_of h) old.players.items (filter_map (begins h) ls) p (starting h l) part.players (starts l keyed)));
+      players = subst P (sym cs) (subst Q (sym players)
+          (players_push (setting_of h) old.players.items (filter_map (begins h) ls) p (starting h l) part.players (starts l keyed)));
       liars = subst R (sym all) (subst S (sym liars) part.liars);
     }
 
@@ -162,7 +179,15 @@ next_of h c k left u = by_rest u.rest u.all u.keyed
   where
     by_rest : (rest : List Listed) → u.done ++ rest ≡ h.processes → AreKeyed rest (k ∷ left) → Next h c k left
     by_rest [] all keyed = absurd keyed
-    by_rest (l ∷ rest) all keyed = record { done = u.done; listed = l; rest = rest; all = all; part = u.part; is = keyed.0; keyed = keyed.1 }
+    by_rest (l ∷ rest) all keyed = record {
+      done = u.done;
+      listed = l;
+      rest = rest;
+      all = all;
+      part = u.part;
+      is = keyed.0;
+      keyed = keyed.1;
+    }
 
 pub cast_on : (h : Header) (old new : Cast) (k : Keyed) (left : List Keyed) → Next h old k left → Adds h k old new → Underway h new left
 cast_on h old new k left n adds = record {

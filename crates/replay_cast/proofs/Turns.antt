@@ -31,16 +31,19 @@ abbrev turn_with : group.Event → ℕ → Signer → Turn
 turn_with e allowance signer = record { event = e; allowance = allowance; signer = signer }
 
 -- the turn of the player's core is the player's
-turn_same : (s : Setting) (c : plain.Player) (core : Core AnySigner) (e : group.Event) → HasCore s c core → cores.turn_of used total signature core e ≡ plain.turn_of c e
+turn_same : (s : Setting) (c : plain.Player) (core : Core AnySigner) (e : group.Event) → HasCore s c core
+    → cores.turn_of used total signature core e ≡ plain.turn_of c e
 turn_same s c core e has =
     ap (λ n. turn_with e (n - used (signer_of core)) (signature (signer_of core))) has.total
     ∙ (ap (λ n. turn_with e (key_total c.listed.key - n) (signature (signer_of core))) (sym (signed_count s c.now core has.is))
     ∙ ap (turn_with e (key_total c.listed.key - length c.now.signed)) has.signs)
 
 -- the core after a step has its seat again
-pub stepped : (s : Setting) (c : plain.Player) (old new : Core AnySigner) (p q : Player) (e : Event) (r : Outcome) → HasCore s c old → Steps used total signature s c.now old new (event e) r
+pub stepped : (s : Setting) (c : plain.Player) (old new : Core AnySigner) (p q : Player) (e : Event) (r : Outcome) → HasCore s c old
+    → Steps used total signature s c.now old new (event e) r
     → total (signer_of new) ≡ total (signer_of old) → signature (signer_of new) ≡ signature (signer_of old) → Plays s p c
-    → q.process ≡ p.process → q.seat ≡ Taken new → ((x : List ℕ) → is_said x q.said ≡ (is_said x p.said || is_among_claims x r.signed.items))
+    → q.process ≡ p.process → q.seat ≡ Taken new
+    → ((x : List ℕ) → is_said x q.said ≡ (is_said x p.said || is_among_claims x r.signed.items))
     → Stepped s c q e r
 stepped s c old new p q e r has steps same_total same_secret plays process seat said =
     let S : Seat → Type 0 = λ x. Sits s (with_turn s (plain.turn_of c (event e)) c) x in
@@ -48,7 +51,11 @@ stepped s c old new p q e r has steps same_total same_secret plays process seat 
     let R : Turn → Type 0 = λ t. IsOutcome (outcome s c.now t) r in
     let turn = turn_same s c old (event e) has in
     let came : IsOutcome (outcome s c.now (plain.turn_of c (event e))) r = subst R turn steps.outcome in
-    let core : HasCore s (with_turn s (plain.turn_of c (event e)) c) new = record { is = subst Q turn steps.core; total = same_total ∙ has.total; signs = same_secret ∙ has.signs } in
+    let core : HasCore s (with_turn s (plain.turn_of c (event e)) c) new = record {
+      is = subst Q turn steps.core;
+      total = same_total ∙ has.total;
+      signs = same_secret ∙ has.signs;
+    } in
     record {
       plays = record {
         process = process ∙ plays.process;

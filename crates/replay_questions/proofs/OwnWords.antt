@@ -39,12 +39,18 @@ read_or other (Err fault) = other
 
 spelled_same : (a b : Statement) → IsStatement a → IsStatement b → bytes_eq (spelling a) (spelling b) ≡ same_statement a b
 spelled_same a b one other =
-    same_from_decides {P = spelling a ≡ spelling b} (bytes_eq (spelling a) (spelling b)) (same_statement a b) (bytes_eq-Decides (spelling a) (spelling b))
-    (λ e. ap spelling (same_statement-is a b e), λ e. is-same_statement a b (sym (ap (read_or a) (spelling_again a one)) ∙ (ap (λ bytes. read_or a (statement_of bytes)) e ∙ ap (read_or a) (spelling_again b other))))
+    same_from_decides {P = spelling a ≡ spelling b} (bytes_eq (spelling a) (spelling b)) (same_statement a b)
+    (bytes_eq-Decides (spelling a) (spelling b)) (
+      λ e. ap spelling (same_statement-is a b e),
+      λ e. is-same_statement a b (sym (ap (read_or a) (spelling_again a one)) ∙
+          (ap (λ bytes. read_or a (statement_of bytes)) e ∙ ap (read_or a) (spelling_again b other))),
+    )
 
-said_same : (st : Statement) (cs : List Claim) → IsStatement st → ((c : Claim) → Mem c cs → IsClaim c) → list_any (λ c. bytes_eq (spelling st) (spelling c.statement)) cs ≡ list_any (same_statement st) (map (λ c. c.statement) cs)
+said_same : (st : Statement) (cs : List Claim) → IsStatement st → ((c : Claim) → Mem c cs → IsClaim c)
+    → list_any (λ c. bytes_eq (spelling st) (spelling c.statement)) cs ≡ list_any (same_statement st) (map (λ c. c.statement) cs)
 said_same st [] fits each = refl
-said_same st (c ∷ cs) fits each = λ i. spelled_same st c.statement fits (each c (inl refl)).1 i || said_same st cs fits (λ d m. each d (inr m)) i
+said_same st (c ∷ cs) fits each = λ i. spelled_same st c.statement fits (each c (inl refl)).1 i
+    || said_same st cs fits (λ d m. each d (inr m)) i
 
 -- ---- what a process signed is in range
 
@@ -63,12 +69,15 @@ abbrev pub says_own : Claim → Player → Bool
 says_own c p = not (p.process == c.signer) || is_said (spelling c.statement) p.said
 
 module _ (h : Header) (c : Claim) (fits : IsStatement c.statement) where
-  word_same : (p : Player) (d : plain.Player) → Plays (setting_of h) p d → IsRun h d → says_own c p ≡ is_word_of c (end_of (setting_of h) (correct_of h d))
+  word_same : (p : Player) (d : plain.Player) → Plays (setting_of h) p d → IsRun h d
+      → says_own c p ≡ is_word_of c (end_of (setting_of h) (correct_of h d))
   word_same p d plays ran =
       let me : p.process ≡ (end_of (setting_of h) (correct_of h d)).me = plays.process ∙ sym (me-end_of (setting_of h) (correct_of h d)) in
       let said : is_said (spelling c.statement) p.said ≡ list_any (same_statement c.statement) (statements_of d.now) =
-      plays.said (spelling c.statement) ∙ said_same c.statement d.now.signed fits (λ e m. All-mem IsClaim d.now.signed e (seat_said (setting_of h) d p.seat plays.seat) m) in
-      let there : is_said (spelling c.statement) p.said ≡ list_any (same_statement c.statement) (statements_of (end_of (setting_of h) (correct_of h d))) =
+      plays.said (spelling c.statement) ∙ said_same c.statement d.now.signed fits
+      (λ e m. All-mem IsClaim d.now.signed e (seat_said (setting_of h) d p.seat plays.seat) m) in
+      let there : is_said (spelling c.statement) p.said
+      ≡ list_any (same_statement c.statement) (statements_of (end_of (setting_of h) (correct_of h d))) =
       said ∙ ap (λ (q : Process). list_any (same_statement c.statement) (statements_of q)) ran in
       λ i. not (me i == c.signer) || there i
 

@@ -6,7 +6,8 @@ use Rattle.std.proofs.lemmas.List.Folds.{list_all-append, list_all_more}
 
 module _ {X : Type 0} (test : X → Bool) where
   -- so far all pass, and the next one does
-  pub passes_next : (xs : List X) (i : ℕ) (x : X) → i < length xs → x ≡ get_or xs i x → list_all test (take i xs) ≡ true → test x ≡ true → list_all test (take (i + 1) xs) ≡ true
+  pub passes_next : (xs : List X) (i : ℕ) (x : X) → i < length xs → x ≡ get_or xs i x → list_all test (take i xs) ≡ true → test x ≡ true
+      → list_all test (take (i + 1) xs) ≡ true
   passes_next xs i x low at so_far here = list_all_more test xs i x low ∙ ((λ j. so_far j && test (sym at j)) ∙ here)
 
   -- one does not
@@ -20,7 +21,8 @@ module _ {X : Type 0} (test : X → Bool) where
       and_false false = refl
 
 -- list by list
-pub list_by_list : {X Y : Type 0} (test : Y → Bool) (f : X → List Y) (xs : List X) → list_all test (flat_map f xs) ≡ list_all (λ x. list_all test (f x)) xs
+pub list_by_list : {X Y : Type 0} (test : Y → Bool) (f : X → List Y) (xs : List X)
+    → list_all test (flat_map f xs) ≡ list_all (λ x. list_all test (f x)) xs
 list_by_list test f [] = refl
 list_by_list test f (x ∷ xs) = list_all-append test (f x) (flat_map f xs) ∙ ap (λ b. list_all test (f x) && b) (list_by_list test f xs)
 
@@ -31,6 +33,7 @@ chosen_by_list chosen of f test [] = refl
 chosen_by_list chosen of f test (x ∷ xs) = go (chosen x) (chosen_by_list chosen of f test xs)
   where
     go : (b : Bool) → list_all test (flat_map f (map of (filter chosen xs))) ≡ list_all (λ y. not (chosen y) || list_all test (f (of y))) xs
-        → list_all test (flat_map f (map of (cond b (x ∷ filter chosen xs) (filter chosen xs)))) ≡ ((not b || list_all test (f (of x))) && list_all (λ y. not (chosen y) || list_all test (f (of y))) xs)
+        → list_all test (flat_map f (map of (cond b (x ∷ filter chosen xs) (filter chosen xs))))
+        ≡ ((not b || list_all test (f (of x))) && list_all (λ y. not (chosen y) || list_all test (f (of y))) xs)
     go true rest = list_all-append test (f (of x)) (flat_map f (map of (filter chosen xs))) ∙ ap (λ b. list_all test (f (of x)) && b) rest
     go false rest = rest

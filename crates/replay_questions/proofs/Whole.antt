@@ -27,21 +27,27 @@ or_comm false true = refl
 or_comm false false = refl
 
 -- the world judges signatures as the family's setting does
-pub valid_same : (h : Header) (w : World) (v : plain.World) (c : Claim) → Shows h w v → is_valid (as_setting (schemes.is_valid (scheme_in w.scheme)) w.group w.roster) c ≡ is_valid (setting_of h) c
+pub valid_same : (h : Header) (w : World) (v : plain.World) (c : Claim) → Shows h w v
+    → is_valid (as_setting (schemes.is_valid (scheme_in w.scheme)) w.group w.roster) c ≡ is_valid (setting_of h) c
 valid_same h w v c shows =
     ap (λ valid. is_valid (as_setting valid w.group w.roster) c) (sym shows.scheme)
     ∙ (λ i. is_valid (as_setting (setting_of h).valid (shows.group i) (shows.roster i)) c)
 
-pub owned_same : (h : Header) (w : World) (v : plain.World) (c : Claim) (own valid : Bool) → IsClaim c → Shows h w v → own ≡ list_all (says_own c) w.players.items
-    → valid ≡ is_valid (as_setting (schemes.is_valid (scheme_in w.scheme)) w.group w.roster) c → (own || not valid) ≡ is_owned (family_of h v) c
+pub owned_same : (h : Header) (w : World) (v : plain.World) (c : Claim) (own valid : Bool) → IsClaim c → Shows h w v
+    → own ≡ list_all (says_own c) w.players.items
+    → valid ≡ is_valid (as_setting (schemes.is_valid (scheme_in w.scheme)) w.group w.roster) c
+    → (own || not valid) ≡ is_owned (family_of h v) c
 owned_same h w v c own valid fits shows said judged =
-    let word : own ≡ list_all (is_word_of c) (ends (family_of h v)) = said ∙ words_same h c fits.1 w.players.items v.players shows.players shows.ran in
+    let word : own ≡ list_all (is_word_of c)
+    (ends (family_of h v)) = said ∙ words_same h c fits.1 w.players.items v.players shows.players shows.ran in
     let rule : valid ≡ is_valid (setting_of h) c = judged ∙ valid_same h w v c shows in
     or_comm own (not valid) ∙ (λ i. not (rule i) || word i)
 
 -- all kept bytes together
-pub all_owned : (h : Header) (w : World) (v : plain.World) (frames raws : Bool) → Shows h w v → frames ≡ list_all (is_unhanded_or_owned (family_of h v)) (frames_of w)
-    → raws ≡ list_all (λ bytes. list_all (is_owned (family_of h v)) (claims_of bytes)) (raws_of w) → (frames && raws) ≡ honest (family_of h v)
+pub all_owned : (h : Header) (w : World) (v : plain.World) (frames raws : Bool) → Shows h w v
+    → frames ≡ list_all (is_unhanded_or_owned (family_of h v)) (frames_of w)
+    → raws ≡ list_all (λ bytes. list_all (is_owned (family_of h v)) (claims_of bytes)) (raws_of w)
+    → (frames && raws) ≡ honest (family_of h v)
 all_owned h w v frames raws shows first second =
     let test : Claim → Bool = is_owned (family_of h v) in
     let one : frames ≡ list_all test (flat_map claims_of (handed_frames w.traffic.frames.items)) =

@@ -18,21 +18,26 @@ use Rattle.replay_run.specs.Midway.{IsMidway, IsAfter, Gives}
 use Rattle.replay_run.proofs.Feeding.{gives_event, gives_none, gives_fault}
 
 -- an event makes what waits shorter
-pub moves_on : (old new : Reading) (next : Option ScheduleEvent) → MovesOn old new (Ok next) → IfSome next (λ e. length new.waiting < length old.waiting)
+pub moves_on : (old new : Reading) (next : Option ScheduleEvent) → MovesOn old new (Ok next)
+    → IfSome next (λ e. length new.waiting < length old.waiting)
 moves_on old new (Some e) moves = moves
 moves_on old new None moves = tt
 
-module _ (old new : Reading) (run : Run) (fed : List ℕ) (midway : IsMidway old run fed) (answer : Result (Option ScheduleEvent) ScheduleFault)
+module _ (old new : Reading) (run : Run) (fed : List ℕ) (midway : IsMidway old run fed)
+    (answer : Result (Option ScheduleEvent) ScheduleFault)
     (gives : (fed : List ℕ) (es : List plain.ScheduleEvent) → Stands old fed es → GivesNext fed es new (plainly answer))
-    (again : (f : Fault) → old.fault ≡ Some f → (new ≡ old) × (plainly answer ≡ Err (Some f))) (moves : MovesOn old new answer) (room : LeavesRoom new answer) where
+    (again : (f : Fault) → old.fault ≡ Some f → (new ≡ old) × (plainly answer ≡ Err (Some f))) (moves : MovesOn old new answer)
+    (room : LeavesRoom new answer) where
   pub gives_next : (next : Option ScheduleEvent) → answer ≡ Ok next → Gives new run fed (option_map event next)
   gives_next (Some e) is = gives_event old new run fed midway (plainly answer) gives again (event e) (ap plainly is)
   gives_next None is = gives_none old new run fed midway (plainly answer) gives again (ap plainly is) (rw is at moves) (rw is at room)
 
-  pub gives_stop : (e : ScheduleFault) (g : ReplayFault) → answer ≡ Err e → (let o : Option reports.ReplayFault = Some (fault g) in o) ≡ option_map reports.NoSchedule (fault_of e) → IsAfter new run fed
+  pub gives_stop : (e : ScheduleFault) (g : ReplayFault) → answer ≡ Err e
+      → (let o : Option reports.ReplayFault = Some (fault g) in o) ≡ option_map reports.NoSchedule (fault_of e) → IsAfter new run fed
   gives_stop e g is of = go (fault_of e) refl of
     where
-      go : (o : Option Fault) → fault_of e ≡ o → (let s : Option reports.ReplayFault = Some (fault g) in s) ≡ option_map reports.NoSchedule o → IsAfter new run fed
+      go : (o : Option Fault) → fault_of e ≡ o
+          → (let s : Option reports.ReplayFault = Some (fault g) in s) ≡ option_map reports.NoSchedule o → IsAfter new run fed
       go None at of = absurd cc
       go (Some f) at of =
           let same : MovesOn old new (Err e) = rw is at moves in

@@ -35,14 +35,16 @@ pub record HasRunWhole (fed : List ℕ) (run : Run) : Type 0 where
   pub ran : IsRunOf schedule.header schedule.events run
 
 module _ (r : Reading) (run : Run) (fed : List ℕ) (after : IsAfter r run fed) (answer : Result (Unit {0}) ScheduleFault)
-    (ends : (fed : List ℕ) (es : List ScheduleEvent) → Stands r fed es → Ends r fed es answer) (again : (f : Fault) → r.fault ≡ Some f → IsFault f answer) where
+    (ends : (fed : List ℕ) (es : List ScheduleEvent) → Stands r fed es → Ends r fed es answer)
+    (again : (f : Fault) → r.fault ≡ Some f → IsFault f answer) where
   pub ran_whole : (u : Unit {0}) → answer ≡ Ok u → HasRunWhole fed run
   ran_whole u is = go r.fault refl after.midway.holds
     where
       go : (o : Option Fault) → r.fault ≡ o → Holds o r run fed → HasRunWhole fed run
       go None going has =
           let whole : IsWhole r fed has.0 = subst (Ends r fed has.0) is (ends fed has.0 has.1) in
-          let all : has.0 ++ whole.others ≡ has.0 = ap (λ (es : List ScheduleEvent). has.0 ++ es) (whole.no_others (after.none_whole going)) ∙ append-nil has.0 in
+          let all : has.0 ++ whole.others
+          ≡ has.0 = ap (λ (es : List ScheduleEvent). has.0 ++ es) (whole.no_others (after.none_whole going)) ∙ append-nil has.0 in
           let range : IsHeader whole.header = subst (λ (o : Option Header). IfSome o IsHeader) whole.has_header after.midway.ranges in
           record {
             schedule = scheduled whole.header has.0;
@@ -62,9 +64,11 @@ module _ (r : Reading) (run : Run) (fed : List ℕ) (after : IsAfter r run fed) 
           subst (λ (o : Option Fault). IfSome o (λ f. schedule_of fed ≡ Err f)) (sym fails.1) fails.2
       go (Some f) stopped has =
           let same : IsFault f (Err e) = subst (IsFault f) is (again f stopped) in
-          subst (λ (o : Option Fault). IfSome o (λ f. schedule_of fed ≡ Err f)) (sym same) (ap schedule_of (sym (append-nil fed)) ∙ has.0 [])
+          subst (λ (o : Option Fault). IfSome o (λ f. schedule_of fed ≡ Err f)) (sym same)
+          (ap schedule_of (sym (append-nil fed)) ∙ has.0 [])
 
-  pub no_schedule : (short : Bool) (e : ScheduleFault) (s : Stop) → answer ≡ Err e → IsOfBytes e s → IfSome (fault_in s) (λ f. report_of short fed ≡ Err f)
+  pub no_schedule : (short : Bool) (e : ScheduleFault) (s : Stop) → answer ≡ Err e → IsOfBytes e s
+      → IfSome (fault_in s) (λ f. report_of short fed ≡ Err f)
   no_schedule short e s is of = bytes_stop short fed (fault_of e) (fault_in s) of (known e is)
 
 -- ---- the report
@@ -75,13 +79,16 @@ stopped_whole short fed f whole =
     read_so short fed whole.schedule whole.read
     ∙ (ap (report_if_run short whole.schedule) whole.ran.1 ∙ ap (λ (g : plain.ReplayFault). Err g) (sym whole.ran.2))
 
-pub written_whole : (short : Bool) (fed : List ℕ) (w : World) (text : List ℕ) (whole : HasRunWhole fed (Runs w)) → text ≡ report_by short whole.ran.world (family_of whole.schedule.header whole.ran.world)
+pub written_whole : (short : Bool) (fed : List ℕ) (w : World) (text : List ℕ) (whole : HasRunWhole fed (Runs w))
+    → text ≡ report_by short whole.ran.world (family_of whole.schedule.header whole.ran.world)
     → (report_of short fed ≡ Ok text) × IsReported short fed text
 written_whole short fed w text whole written = (
-  read_so short fed whole.schedule whole.read ∙ (ap (report_if_run short whole.schedule) whole.ran.leads ∙ ap (λ (t : List ℕ). Ok t) (sym written)),
+  read_so short fed whole.schedule whole.read ∙
+      (ap (report_if_run short whole.schedule) whole.ran.leads ∙ ap (λ (t : List ℕ). Ok t) (sym written)),
   record {
     schedule = whole.schedule;
     read = whole.read;
-    report = is_report_of short whole.schedule w text whole.header (record { world = whole.ran.world; is = whole.ran.leads; shows = whole.ran.shows }) written;
+    report = is_report_of short whole.schedule w text whole.header
+        (record { world = whole.ran.world; is = whole.ran.leads; shows = whole.ran.shows }) written;
   },
 )

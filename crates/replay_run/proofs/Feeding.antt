@@ -26,7 +26,8 @@ nothing_fed r stands =
       midway = record {
         bytes = λ i. omega arith;
         ranges = subst (λ (o : Option Header). IfSome o IsHeader) (sym none.0) tt;
-        holds = subst (λ (o : Option Fault). Holds o r Waits []) (sym stands.unstopped) ([], stands, subst (λ (o : Option Header). HasRun o [] Waits) (sym none.0) refl);
+        holds = subst (λ (o : Option Fault). Holds o r Waits []) (sym stands.unstopped)
+            ([], stands, subst (λ (o : Option Header). HasRun o [] Waits) (sym none.0) refl);
       };
       none_whole = λ going. subst (λ (o : Option Header). NoneWhole o r) (sym none.0) none.2;
       room = rw none.1 (omega arith);
@@ -40,7 +41,8 @@ IsBytes-append (x ∷ xs) ys fits more zero = fits 0
 IsBytes-append (x ∷ xs) ys fits more (suc i) = IsBytes-append xs ys (λ j. fits (suc j)) more i
 
 module _ (old new : Reading) (run : Run) (fed piece : List ℕ) (after : IsAfter old run fed) (fits : IsBytes piece)
-    (feeds : (fed : List ℕ) (es : List ScheduleEvent) → Stands old fed es → Stands new (fed ++ piece) es) (stopped : IsSome old.fault → new ≡ old) where
+    (feeds : (fed : List ℕ) (es : List ScheduleEvent) → Stands old fed es → Stands new (fed ++ piece) es)
+    (stopped : IsSome old.fault → new ≡ old) where
   all_fit : IsBytes (fed ++ piece)
   all_fit = IsBytes-append fed piece after.midway.bytes fits
 
@@ -56,7 +58,8 @@ module _ (old new : Reading) (run : Run) (fed piece : List ℕ) (after : IsAfter
       go (Some f) e has = subst (λ (r : Reading). IfSome r.header IsHeader) (sym (same f e)) after.midway.ranges
 
   -- the run that had begun goes on
-  begun : (es : List ScheduleEvent) (now : Run) → Stands old fed es → HasRun old.header es run → Begins new.header run now → HasRun new.header es now
+  begun : (es : List ScheduleEvent) (now : Run) → Stands old fed es → HasRun old.header es run → Begins new.header run now
+      → HasRun new.header es now
   begun es now stands has begins = by_header old.header refl has
     where
       by_run : (h : Header) (run : Run) → IsRunOf h es run → Begins new.header run now → IsRunOf h es now
@@ -78,10 +81,13 @@ module _ (old new : Reading) (run : Run) (fed piece : List ℕ) (after : IsAfter
       go : (o : Option Fault) → old.fault ≡ o → Holds o old run fed → Holds new.fault new now (fed ++ piece)
       go None e has =
           let stands = feeds fed has.0 has.1 in
-          subst (λ (o : Option Fault). Holds o new now (fed ++ piece)) (sym stands.unstopped) (has.0, stands, begun has.0 now has.1 has.2 begins)
+          subst (λ (o : Option Fault). Holds o new now (fed ++ piece)) (sym stands.unstopped)
+          (has.0, stands, begun has.0 now has.1 has.2 begins)
       go (Some f) e has =
-          let on : (more : List ℕ) → schedule_of ((fed ++ piece) ++ more) ≡ Err f = λ more. ap schedule_of (append_assoc fed piece more) ∙ has.0 (piece ++ more) in
-          let here : Holds old.fault old now (fed ++ piece) = subst (λ (o : Option Fault). Holds o old now (fed ++ piece)) (sym e) (on, has.1) in
+          let on : (more : List ℕ) → schedule_of ((fed ++ piece) ++ more)
+          ≡ Err f = λ more. ap schedule_of (append_assoc fed piece more) ∙ has.0 (piece ++ more) in
+          let here : Holds old.fault old now (fed ++ piece) = subst (λ (o : Option Fault). Holds o old now (fed ++ piece)) (sym e)
+          (on, has.1) in
           subst (λ (r : Reading). Holds r.fault r now (fed ++ piece)) (sym (same f e)) here
 
 -- ---- the next event
@@ -91,7 +97,8 @@ abbrev Answer : Type 0
 Answer = Result (Option ScheduleEvent) (Option Fault)
 
 module _ (old new : Reading) (run : Run) (fed : List ℕ) (midway : IsMidway old run fed) (answer : Answer)
-    (gives : (fed : List ℕ) (es : List ScheduleEvent) → Stands old fed es → GivesNext fed es new answer) (again : (f : Fault) → old.fault ≡ Some f → (new ≡ old) × (answer ≡ Err (Some f))) where
+    (gives : (fed : List ℕ) (es : List ScheduleEvent) → Stands old fed es → GivesNext fed es new answer)
+    (again : (f : Fault) → old.fault ≡ Some f → (new ≡ old) × (answer ≡ Err (Some f))) where
   counts : (h : Header) (es : List ScheduleEvent) (run : Run) → IsRunOf h es run → length es ≤ most_bytes → CanCount run
   unfolding most_bytes
   counts h es (Runs w) of few = omega (arith, of.count, few)
@@ -103,7 +110,8 @@ module _ (old new : Reading) (run : Run) (fed : List ℕ) (midway : IsMidway old
   gives_event e is = go old.fault refl midway.holds
     where
       -- behind the header
-      behind : (es : List ScheduleEvent) (h : Header) → Stands old fed es → Stands new fed (es ++ e ∷ []) → old.header ≡ Some h → IsRunOf h es run → Gives new run fed (Some e)
+      behind : (es : List ScheduleEvent) (h : Header) → Stands old fed es → Stands new fed (es ++ e ∷ []) → old.header ≡ Some h
+          → IsRunOf h es run → Gives new run fed (Some e)
       behind es h stands now has of =
           let here : new.header ≡ Some h = header_stays old new fed fed [] es (es ++ e ∷ []) h (sym (append-nil fed)) stands now has in
           let range : IsEvent h.processes e = last_in h.processes es e (events_ranges new fed (es ++ e ∷ []) h midway.bytes now here).0 in (
@@ -111,11 +119,13 @@ module _ (old new : Reading) (run : Run) (fed : List ℕ) (midway : IsMidway old
             λ later on. record {
               bytes = midway.bytes;
               ranges = header_ranges new fed (es ++ e ∷ []) midway.bytes now;
-              holds = subst (λ (o : Option Fault). Holds o new later fed) (sym now.unstopped) (es ++ e ∷ [], now, subst (λ (o : Option Header). HasRun o (es ++ e ∷ []) later) (sym here) (on h es of range));
+              holds = subst (λ (o : Option Fault). Holds o new later fed) (sym now.unstopped)
+                  (es ++ e ∷ [], now, subst (λ (o : Option Header). HasRun o (es ++ e ∷ []) later) (sym here) (on h es of range));
             },
           )
 
-      by_header : (es : List ScheduleEvent) → Stands old fed es → Stands new fed (es ++ e ∷ []) → (o : Option Header) → old.header ≡ o → HasRun o es run → Gives new run fed (Some e)
+      by_header : (es : List ScheduleEvent) → Stands old fed es → Stands new fed (es ++ e ∷ []) → (o : Option Header) → old.header ≡ o
+          → HasRun o es run → Gives new run fed (Some e)
       by_header es stands now None none waits = absurd (some_header old new fed es e none stands now)
       by_header es stands now (Some h) has of = behind es h stands now has of
 
@@ -132,10 +142,12 @@ module _ (old new : Reading) (run : Run) (fed : List ℕ) (midway : IsMidway old
   }
     where
       go : (o : Option Fault) → old.fault ≡ o → Holds o old run fed → NoneWhole new.header new
-      go None going has = let none : GivesNext fed has.0 new (Ok None) = subst (GivesNext fed has.0 new) is (gives fed has.0 has.1) in none.1
+      go None going has = let none : GivesNext fed has.0 new (Ok None) = subst (GivesNext fed has.0 new) is
+          (gives fed has.0 has.1) in none.1
       go (Some f) stopped has = let wrong : (let a : Answer = Ok None in a) ≡ Err (Some f) = sym is ∙ (again f stopped).1 in absurd cc
 
-  stopped_after : (f : Fault) → new.fault ≡ Some f → new.waiting ≡ [] → new.header ≡ old.header → ((more : List ℕ) → schedule_of (fed ++ more) ≡ Err f) → IsAfter new run fed
+  stopped_after : (f : Fault) → new.fault ≡ Some f → new.waiting ≡ [] → new.header ≡ old.header
+      → ((more : List ℕ) → schedule_of (fed ++ more) ≡ Err f) → IsAfter new run fed
   unfolding most_waiting
   stopped_after f at empty header on = record {
     midway = record {

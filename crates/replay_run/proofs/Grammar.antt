@@ -20,7 +20,8 @@ pub record AreInRange (ls : List Listed) (bytes : List ℕ) (es : List ScheduleE
   pub events : AllByRecursion (IsEvent ls) es
   pub few : length es ≤ length bytes
 
-pub in_range : (ls : List Listed) (left : ℕ) (bytes : List ℕ) (es : List ScheduleEvent) (steps : ℕ) (rest : List ℕ) → IsBytes bytes → AreRead (roles_of ls) left bytes es steps rest → AreInRange ls bytes es
+pub in_range : (ls : List Listed) (left : ℕ) (bytes : List ℕ) (es : List ScheduleEvent) (steps : ℕ) (rest : List ℕ) → IsBytes bytes
+    → AreRead (roles_of ls) left bytes es steps rest → AreInRange ls bytes es
 in_range ls left bytes [] steps rest fits read = record { events = tt; few = omega arith }
 in_range ls left bytes (e ∷ es) steps rest fits read =
     let first = event_takes ls left bytes (e, read.0) fits read.1 in
@@ -43,7 +44,10 @@ pub record HasHeader (h : Header) (fed : List ℕ) : Type 0 where
   pub read : header_at fed ≡ Ok (h, rest)
 
 longer : (h : Header) (front more : List ℕ) → HasHeader h front → HasHeader h (front ++ more)
-longer h front more has = record { rest = has.rest ++ more; read = (front_stands (roles_of h.processes) 0 front more has.rest).0 h has.read }
+longer h front more has = record {
+  rest = has.rest ++ more;
+  read = (front_stands (roles_of h.processes) 0 front more has.rest).0 h has.read;
+}
 
 pub header_of : (r : Reading) (fed : List ℕ) (es : List ScheduleEvent) (h : Header) → Stands r fed es → r.header ≡ Some h → HasHeader h fed
 header_of r fed es h stands has =
@@ -61,7 +65,8 @@ unfolding header_in
 same_header a b fed one other = ap (header_in a) (sym one.read ∙ other.read)
 
 no_header : (h : Header) (fed : List ℕ) → HasHeader h fed → IsErr (header_at fed) → ⊥
-no_header h fed has none = let wrong : IsErr (let r : Result (Header × List ℕ) Found = Ok (h, has.rest) in r) = subst (λ (r : Result (Header × List ℕ) Found). IsErr r) has.read none in absurd cc
+no_header h fed has none = let wrong : IsErr (let r : Result (Header × List ℕ) Found = Ok (h, has.rest) in r) = subst
+    (λ (r : Result (Header × List ℕ) Found). IsErr r) has.read none in absurd cc
 
 nothing_whole : IsShort (header_at [])
 unfolding header_at setting_at
@@ -78,11 +83,13 @@ none_yet r stands =
     go None e = e
     go (Some h) e =
         let has = header_of r [] [] h stands e in
-        let wrong : IsShort (let read : Step Header = Ok (h, has.rest) in read) = subst (λ (read : Step Header). IsShort read) has.read nothing_whole in
+        let wrong : IsShort (let read : Step Header = Ok (h, has.rest) in read) = subst
+        (λ (read : Step Header). IsShort read) has.read nothing_whole in
         absurd wrong
 
 -- a reader that has a header keeps it, however much it is fed and gives
-pub header_stays : (old new : Reading) (fed all more : List ℕ) (es fs : List ScheduleEvent) (h : Header) → all ≡ fed ++ more → Stands old fed es → Stands new all fs → old.header ≡ Some h → new.header ≡ Some h
+pub header_stays : (old new : Reading) (fed all more : List ℕ) (es fs : List ScheduleEvent) (h : Header) → all ≡ fed ++ more
+    → Stands old fed es → Stands new all fs → old.header ≡ Some h → new.header ≡ Some h
 header_stays old new fed all more es fs h is stands now has = go new.header refl
   where
     here : HasHeader h all
@@ -93,7 +100,8 @@ header_stays old new fed all more es fs h is stands now has = go new.header refl
     go (Some g) e = ap Some (same_header g h all (header_of new all fs g now e) here)
 
 -- one that gave an event has one
-pub some_header : (old new : Reading) (fed : List ℕ) (es : List ScheduleEvent) (e : ScheduleEvent) → old.header ≡ None → Stands old fed es → Stands new fed (es ++ e ∷ []) → ⊥
+pub some_header : (old new : Reading) (fed : List ℕ) (es : List ScheduleEvent) (e : ScheduleEvent) → old.header ≡ None → Stands old fed es
+    → Stands new fed (es ++ e ∷ []) → ⊥
 some_header old new fed es e none stands now = go new.header refl
   where
     not_none : (ds : List ScheduleEvent) → (ds ++ e ∷ []) ≡ [] → ⊥
@@ -113,9 +121,18 @@ header_ranges r fed es fits stands = go r.header refl
     go (Some h) e = let has = header_of r fed es h stands e in (header_takes fed (h, has.rest) fits has.read).1
 
 -- the events behind it are in theirs, and are no more than the bytes that are read
-pub events_ranges : (r : Reading) (fed : List ℕ) (es : List ScheduleEvent) (h : Header) → IsBytes fed → Stands r fed es → r.header ≡ Some h → AllByRecursion (IsEvent h.processes) es × (length es ≤ most_bytes)
+pub events_ranges : (r : Reading) (fed : List ℕ) (es : List ScheduleEvent) (h : Header) → IsBytes fed → Stands r fed es → r.header ≡ Some h
+    → AllByRecursion (IsEvent h.processes) es × (length es ≤ most_bytes)
 events_ranges r fed es h fits stands has =
     let given = subst (λ (o : Option Header). HasGiven o r fed es) has stands.given in
     let front = header_takes (within_limit fed) (h, given.0) (IsBytes-take most_bytes fed fits) given.1 in
-    let are = in_range h.processes most_steps given.0 es r.steps (readable r) front.0.rest_fits given.2 in
-    (are.events, omega (arith, are.few, ap (λ (t : List ℕ). length t) front.0.parts, length-append (header_bytes h) given.0, length-take most_bytes fed))
+    let are = in_range h.processes most_steps given.0 es r.steps (readable r) front.0.rest_fits given.2 in (
+      are.events,
+      omega (
+        arith,
+        are.few,
+        ap (λ (t : List ℕ). length t) front.0.parts,
+        length-append (header_bytes h) given.0,
+        length-take most_bytes fed,
+      ),
+    )

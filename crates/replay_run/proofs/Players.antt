@@ -14,10 +14,12 @@ pub record At (s : Setting) (p : Player) (cs : List plain.Player) (i : ℕ) : Ty
   pub low : i < length cs
   pub is : at ≡ get_or cs i at
 
-pub at_same_place : (s : Setting) (ps : List Player) (cs : List plain.Player) (i : ℕ) (p : Player) → ArePlayers s ps cs → i < length ps → p ≡ get_or ps i p → At s p cs i
+pub at_same_place : (s : Setting) (ps : List Player) (cs : List plain.Player) (i : ℕ) (p : Player) → ArePlayers s ps cs → i < length ps
+    → p ≡ get_or ps i p → At s p cs i
 at_same_place s [] cs i p are low is = absurd (omega arith)
 at_same_place s (q ∷ qs) [] i p are low is = absurd are
-at_same_place s (q ∷ qs) (c ∷ cs) zero p are low is = let P : Player → Type 0 = λ x. Plays s x c in record { at = c; plays = subst P (sym is) are.0; low = omega arith; is = refl }
+at_same_place s (q ∷ qs) (c ∷ cs) zero p are low is = let P : Player
+    → Type 0 = λ x. Plays s x c in record { at = c; plays = subst P (sym is) are.0; low = omega arith; is = refl }
 at_same_place s (q ∷ qs) (c ∷ cs) (suc i) p are low is =
     let rest = at_same_place s qs cs i p are.1 (omega arith) is in
     record { at = rest.at; plays = rest.plays; low = omega (arith, rest.low); is = rest.is }
@@ -29,7 +31,8 @@ as_many s [] (c ∷ cs) are = absurd are
 as_many s (p ∷ ps) [] are = absurd are
 
 -- what is still to be written is that of the next player, and of those behind it
-pub written_next : {A : Type 0} (f : plain.Player → List A) (s : Setting) (cs : List plain.Player) (i : ℕ) (p : Player) (a : At s p cs i) (before after all : List A)
+pub written_next : {A : Type 0} (f : plain.Player → List A) (s : Setting) (cs : List plain.Player) (i : ℕ) (p : Player) (a : At s p cs i)
+    (before after all : List A)
     → before ++ flat_map f (drop i cs) ≡ all → after ≡ before ++ f a.at → after ++ flat_map f (drop (i + 1) cs) ≡ all
 written_next f s cs i p a before after all so_far more =
     let behind : drop i cs ≡ a.at ∷ drop (i + 1) cs = drop_more cs i a.at a.low ∙ ap (λ c. c ∷ drop (i + 1) cs) (sym a.is) in
@@ -38,7 +41,8 @@ written_next f s cs i p a before after all so_far more =
     ∙ (ap (λ ds. before ++ flat_map f ds) (sym behind) ∙ so_far))
 
 -- and where no player is left, nothing is
-pub written_all : {A : Type 0} (f : plain.Player → List A) (s : Setting) (ps : List Player) (cs : List plain.Player) (i : ℕ) (done all : List A) → ArePlayers s ps cs → length ps ≤ i
+pub written_all : {A : Type 0} (f : plain.Player → List A) (s : Setting) (ps : List Player) (cs : List plain.Player) (i : ℕ)
+    (done all : List A) → ArePlayers s ps cs → length ps ≤ i
     → done ++ flat_map f (drop i cs) ≡ all → done ≡ all
 written_all f s ps cs i done all are past so_far =
     let none : drop i cs ≡ [] = drop_all i cs (omega (arith, as_many s ps cs are)) in

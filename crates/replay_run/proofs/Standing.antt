@@ -20,6 +20,14 @@ core_own : (s : Setting) (p : Process) (core : Core AnySigner) → IsCore used s
 unfolding IsCore
 core_own s p core is = is.state.lawful.own
 
-pub stands : (s : Setting) (p : Process) (core : Core AnySigner) (t : Standing) → IsCore used s p core → account_of p ≡ account t.account.now → phase_of p ≡ word t.phase → length p.signed ≡ t.signed
+pub stands : (s : Setting) (p : Process) (core : Core AnySigner) (t : Standing) → IsCore used s p core
+    → account_of p ≡ account t.account.now → phase_of p ≡ word t.phase → length p.signed ≡ t.signed
     → liars_of p ≡ t.liars → halted_at p ≡ t.halted → StandsAs t p
-stands s p core t is told phase signed liars halted = record { account = told; phase = phase; signed = signed; own = core_own s p core is; liars = liars; halted = halted }
+stands s p core t is told phase signed liars halted = record {
+  account = told;
+  phase = phase;
+  signed = signed;
+  own = core_own s p core is;
+  liars = liars;
+  halted = halted;
+}

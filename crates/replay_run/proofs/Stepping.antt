@@ -27,17 +27,20 @@ last_of h v e = go (after_event h v e)
     go (Err f) = refl
 
 -- behind some events
-pub run_more : (h : Header) (v : plain.World) (es : List ScheduleEvent) (e : ScheduleEvent) → run_events h v (es ++ e ∷ []) ≡ (run_events h v es >>= λ x. after_event h x e)
+pub run_more : (h : Header) (v : plain.World) (es : List ScheduleEvent) (e : ScheduleEvent)
+    → run_events h v (es ++ e ∷ []) ≡ (run_events h v es >>= λ x. after_event h x e)
 unfolding run_events
 run_more h v [] e = last_of h v e
 run_more h v (d ∷ es) e = go (after_event h v d) (λ x. run_more h x es e)
   where
-    go : (r : Result plain.World plain.WorldFault) → ((x : plain.World) → run_events h x (es ++ e ∷ []) ≡ (run_events h x es >>= λ y. after_event h y e))
+    go : (r : Result plain.World plain.WorldFault)
+        → ((x : plain.World) → run_events h x (es ++ e ∷ []) ≡ (run_events h x es >>= λ y. after_event h y e))
         → (r >>= λ x. run_events h x (es ++ e ∷ [])) ≡ ((r >>= λ x. run_events h x es) >>= λ x. after_event h x e)
     go (Ok x) more = more x
     go (Err f) more = refl
 
-then_runs : (h : Header) (es : List ScheduleEvent) (e : ScheduleEvent) (r : Result plain.World plain.WorldFault) → run_events h (start_of h) es ≡ r → run_events h (start_of h) (es ++ e ∷ []) ≡ (r >>= λ x. after_event h x e)
+then_runs : (h : Header) (es : List ScheduleEvent) (e : ScheduleEvent) (r : Result plain.World plain.WorldFault)
+    → run_events h (start_of h) es ≡ r → run_events h (start_of h) (es ++ e ∷ []) ≡ (r >>= λ x. after_event h x e)
 then_runs h es e r is = run_more h (start_of h) es e ∙ ap (λ (o : Result plain.World plain.WorldFault). o >>= λ x. after_event h x e) is
 
 -- ---- of the code
@@ -48,7 +51,8 @@ unfolding run_events
 first_world h w shows count = record { world = start_of h; leads = refl; shows = shows; count = count }
 
 -- it happened
-pub happened : (old new : World) (e : ScheduleEvent) → Happens old new e → count_of new ≡ count_of old + 1 → RunsOn e (runs.Runs old) (runs.Runs new)
+pub happened : (old new : World) (e : ScheduleEvent) → Happens old new e → count_of new ≡ count_of old + 1
+    → RunsOn e (runs.Runs old) (runs.Runs new)
 happened old new e happens count = λ h es of is.
     let next = happens h of.world of.shows is in
     record {
@@ -59,14 +63,16 @@ happened old new e happens count = λ h es of is.
     }
 
 -- it stopped the run
-pub stopped_at : (old : World) (e : ScheduleEvent) (f : WorldFault) (now : Run) → Stops old e f → IsStoppedBy f now → RunsOn e (runs.Runs old) now
+pub stopped_at : (old : World) (e : ScheduleEvent) (f : WorldFault) (now : Run) → Stops old e f → IsStoppedBy f now
+    → RunsOn e (runs.Runs old) now
 stopped_at old e f (runs.Runs w) stops by = absurd by
 stopped_at old e f runs.Waits stops by = absurd by
 stopped_at old e f (runs.Stops g) stops by = λ h es of is.
     let why = reason f (after_event h of.world e) (stops h of.world of.shows is) by in
     (why.0, then_runs h es e _ of.leads ∙ why.1, why.2)
   where
-    reason : (f : WorldFault) (r : Result plain.World plain.WorldFault) → IsFault f r → option_map reports.Stops (fault_of_run f) ≡ Some (fault g)
+    reason : (f : WorldFault) (r : Result plain.World plain.WorldFault) → IsFault f r
+        → option_map reports.Stops (fault_of_run f) ≡ Some (fault g)
         → (why : plain.WorldFault) × (r ≡ Err why) × (fault g ≡ reports.Stops why)
     reason NoMemory r is by = absurd cc
     reason (NoSuchFrame event frame sent) r is by = (plain.NoSuchFrame event frame sent, is, cc)

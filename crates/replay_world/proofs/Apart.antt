@@ -41,9 +41,11 @@ corrupt_of ls = filter (λ l. l.corrupt) ls
 
 apart_first : (sch : Scheme) (p : ℕ) (l : Listed) (ls : List Listed) → AreListed sch (l.process + 1) ls
     → (has (map (λ x. x.process) (correct_of ls)) p ≡ true → NotOf p (corrupt_of ls))
-    → (b : Bool) → has (map (λ x. x.process) (cond (not b) (l ∷ correct_of ls) (correct_of ls))) p ≡ true → NotOf p (cond b (l ∷ corrupt_of ls) (corrupt_of ls))
+    → (b : Bool) → has (map (λ x. x.process) (cond (not b) (l ∷ correct_of ls) (correct_of ls))) p ≡ true
+    → NotOf p (cond b (l ∷ corrupt_of ls) (corrupt_of ls))
 apart_first sch p l ls listed rest true among =
-    let above : l.process + 1 ≤ p = has_from p (l.process + 1) (map (λ x. x.process) (correct_of ls)) (listed_rise sch (l.process + 1) (λ x. not x.corrupt) ls listed) among in
+    let above : l.process + 1 ≤ p = has_from p (l.process + 1) (map (λ x. x.process) (correct_of ls))
+    (listed_rise sch (l.process + 1) (λ x. not x.corrupt) ls listed) among in
     let other : p ≢ l.process = omega arith in
     (ne_eqb p l.process other, rest among)
 apart_first sch p l ls listed rest false among = elim (cases_eq l.process p) [
@@ -52,7 +54,8 @@ apart_first sch p l ls listed rest false among = elim (cases_eq l.process p) [
 ]
 
 -- a correct process has the number of no corrupt one
-pub correct_apart : (sch : Scheme) (least p : ℕ) (ls : List Listed) → AreListed sch least ls → has (map (λ l. l.process) (correct_of ls)) p ≡ true → NotOf p (corrupt_of ls)
+pub correct_apart : (sch : Scheme) (least p : ℕ) (ls : List Listed) → AreListed sch least ls
+    → has (map (λ l. l.process) (correct_of ls)) p ≡ true → NotOf p (corrupt_of ls)
 correct_apart sch least p [] h among = tt
 correct_apart sch least p (l ∷ ls) h among = apart_first sch p l ls h.3 (correct_apart sch (l.process + 1) p ls h.3) l.corrupt among
 
@@ -70,7 +73,8 @@ count_none p q other (d ∷ ds) =
     let none : cond (p == q) 1 0 ≡ 0 = ap (λ b. cond b 1 0) other in
     parts ∙ (ap (λ n. (0 + n) + sent_count q (map (sent_by p) ds)) none ∙ ap (λ n. (0 + 0) + n) (count_none p q other ds))
 
-pub count_other : (p q : ℕ) → (p == q) ≡ false → (fs : List Sent) (ds : Outgoing) → sent_count q (fs ++ map (sent_by p) ds) ≡ sent_count q fs
+pub count_other : (p q : ℕ) → (p == q) ≡ false → (fs : List Sent) (ds : Outgoing)
+    → sent_count q (fs ++ map (sent_by p) ds) ≡ sent_count q fs
 count_other p q other fs ds =
     let parts : sent_count q (fs ++ map (sent_by p) ds) ≡ sent_count q fs + sent_count q (map (sent_by p) ds) =
     sum_by-append (λ (f : Sent). cond (f.sender == q) 1 0) fs (map (sent_by p) ds) in
@@ -78,7 +82,8 @@ count_other p q other fs ds =
     parts ∙ omega arith
 
 -- the liars lied as often, whatever a correct process sends
-pub liars_keep : (p : ℕ) (fs : List Sent) (ds : Outgoing) (xs : List Liar) (ls : List Listed) → NotOf p ls → AreLiars fs xs ls → AreLiars (fs ++ map (sent_by p) ds) xs ls
+pub liars_keep : (p : ℕ) (fs : List Sent) (ds : Outgoing) (xs : List Liar) (ls : List Listed) → NotOf p ls → AreLiars fs xs ls
+    → AreLiars (fs ++ map (sent_by p) ds) xs ls
 liars_keep p fs ds [] [] other h = tt
 liars_keep p fs ds (x ∷ xs) (l ∷ ls) other h = (
   record { process = h.0.process; used = h.0.used ∙ sym (count_other p l.process other.0 fs ds); total = h.0.total; signs = h.0.signs },

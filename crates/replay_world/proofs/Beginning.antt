@@ -32,7 +32,8 @@ starts_listed h [] = refl
 starts_listed h (l ∷ ls) = by_role l.corrupt (starts_listed h ls)
   where
     by_role : (b : Bool) → map (λ (c : plain.Player). c.listed) (filter_map (begins h) ls) ≡ filter (λ x. not x.corrupt) ls
-        → map (λ (c : plain.Player). c.listed) (cons_option (cond b None (Some (starting h l))) (filter_map (begins h) ls)) ≡ cond (not b) (l ∷ filter (λ x. not x.corrupt) ls) (filter (λ x. not x.corrupt) ls)
+        → map (λ (c : plain.Player). c.listed) (cons_option (cond b None (Some (starting h l))) (filter_map (begins h) ls))
+        ≡ cond (not b) (l ∷ filter (λ x. not x.corrupt) ls) (filter (λ x. not x.corrupt) ls)
     by_role true rest = rest
     by_role false rest = ap (λ xs. l ∷ xs) rest
 
@@ -44,7 +45,8 @@ starts_ran : (h : Header) (ls : List Listed) → AllByRecursion (IsRun h) (filte
 starts_ran h [] = tt
 starts_ran h (l ∷ ls) = by_role l.corrupt (starts_ran h ls)
   where
-    by_role : (b : Bool) → AllByRecursion (IsRun h) (filter_map (begins h) ls) → AllByRecursion (IsRun h) (cons_option (cond b None (Some (starting h l))) (filter_map (begins h) ls))
+    by_role : (b : Bool) → AllByRecursion (IsRun h) (filter_map (begins h) ls)
+        → AllByRecursion (IsRun h) (cons_option (cond b None (Some (starting h l))) (filter_map (begins h) ls))
     by_role true rest = rest
     by_role false rest = (run_none (setting_of h) (start (setting_of h) l.process h.batch_limit), rest)
 
@@ -52,7 +54,8 @@ starts_handed : (h : Header) (ls : List Listed) → handed_in (filter_map (begin
 starts_handed h [] = refl
 starts_handed h (l ∷ ls) = by_role l.corrupt (starts_handed h ls)
   where
-    by_role : (b : Bool) → handed_in (filter_map (begins h) ls) ≡ [] → handed_in (cons_option (cond b None (Some (starting h l))) (filter_map (begins h) ls)) ≡ []
+    by_role : (b : Bool) → handed_in (filter_map (begins h) ls) ≡ []
+        → handed_in (cons_option (cond b None (Some (starting h l))) (filter_map (begins h) ls)) ≡ []
     by_role true rest = rest
     by_role false rest = rest
 
@@ -60,18 +63,22 @@ none_within : (n : ℕ) → n ≡ 0 → n ≤ most_sent
 none_within n none = omega (arith, none)
 
 -- a world of a cast, in which nothing happened yet
-pub world_begins : (h : Header) (c : Cast) (w : World) → IsHeader h → IsCast h c → w.group ≡ c.group → w.roster ≡ c.roster → w.scheme ≡ c.scheme → w.players.items ≡ c.players.items → w.liars.items ≡ c.liars.items
-    → w.traffic.frames.items ≡ [] → deque_items w.traffic.pending ≡ [] → w.traffic.bytes ≡ 0 → w.raws.items ≡ [] → w.refused.items ≡ [] → w.spent.items ≡ [] → w.count ≡ 0
+pub world_begins : (h : Header) (c : Cast) (w : World) → IsHeader h → IsCast h c → w.group ≡ c.group → w.roster ≡ c.roster
+    → w.scheme ≡ c.scheme → w.players.items ≡ c.players.items → w.liars.items ≡ c.liars.items
+    → w.traffic.frames.items ≡ [] → deque_items w.traffic.pending ≡ [] → w.traffic.bytes ≡ 0 → w.raws.items ≡ [] → w.refused.items ≡ []
+    → w.spent.items ≡ [] → w.count ≡ 0
     → Shows h w (start_of h)
 world_begins h c w header cast group roster scheme players liars frames pending bytes raws refused_none spent count = record {
   rising = header.processes;
   group = group ∙ cast.group;
   roster = roster ∙ cast.roster;
   scheme = cast.scheme ∙ ap (λ x. is_valid (scheme_of x)) (sym scheme);
-  players = let P : List Player → Type 0 = λ ps. ArePlayers (setting_of h) ps (filter_map (begins h) h.processes) in subst P (sym players) cast.processes.players;
+  players = let P : List Player → Type 0 = λ ps. ArePlayers (setting_of h) ps (filter_map (begins h) h.processes) in subst P
+      (sym players) cast.processes.players;
   listed = starts_listed h h.processes;
   ran = starts_ran h h.processes;
-  liars = let P : List Liar → Type 0 = λ xs. AreLiars [] xs (filter (λ l. l.corrupt) h.processes) in subst P (sym liars) cast.processes.liars;
+  liars = let P : List Liar → Type 0 = λ xs. AreLiars [] xs (filter (λ l. l.corrupt) h.processes) in subst P
+      (sym liars) cast.processes.liars;
   traffic = record {
     frames = ap (map sent) frames;
     pending = ap (map delivery) pending;

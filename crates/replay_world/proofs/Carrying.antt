@@ -25,7 +25,8 @@ use Rattle.replay_world.proofs.Sends.{Outgoing, sends_extend, too_much_later}
 abbrev pub waits_for : ℕ → List ℕ → List ℕ → List (ℕ × ℕ)
 waits_for frame to ps = map (λ p. (frame, p)) (filter (has to) ps)
 
-pub waits_first : (frame p : ℕ) (to ps : List ℕ) (b : Bool) → has to p ≡ b → waits_for frame to (p ∷ ps) ≡ cond b ((frame, p) ∷ waits_for frame to ps) (waits_for frame to ps)
+pub waits_first : (frame p : ℕ) (to ps : List ℕ) (b : Bool) → has to p ≡ b
+    → waits_for frame to (p ∷ ps) ≡ cond b ((frame, p) ∷ waits_for frame to ps) (waits_for frame to ps)
 waits_first frame p to ps true e = ap (λ b. map (λ q. (frame, q)) (cond b (p ∷ filter (has to) ps) (filter (has to) ps))) e
 waits_first frame p to ps false e = ap (λ b. map (λ q. (frame, q)) (cond b (p ∷ filter (has to) ps) (filter (has to) ps))) e
 
@@ -40,8 +41,10 @@ waits_one frame p to ps before false e =
     ∙ (ap (λ ds. ds ++ waits_for frame to ps) (append-nil before) ∙ ap (λ ds. before ++ ds) (sym (waits_first frame p to ps false e)))
 
 -- the player at a place, and those behind it
-pub waits_next : (frame : ℕ) (to : List ℕ) (ps : List Player) (i : ℕ) (p : Player) (before after all : List (ℕ × ℕ)) → i < length ps → p ≡ get_or ps i p
-    → before ++ waits_for frame to (map process_of (drop i ps)) ≡ all → after ≡ before ++ (if has to p.process then (frame, p.process) ∷ [] else [])
+pub waits_next : (frame : ℕ) (to : List ℕ) (ps : List Player) (i : ℕ) (p : Player) (before after all : List (ℕ × ℕ)) → i < length ps
+    → p ≡ get_or ps i p
+    → before ++ waits_for frame to (map process_of (drop i ps)) ≡ all
+    → after ≡ before ++ (if has to p.process then (frame, p.process) ∷ [] else [])
     → after ++ waits_for frame to (map process_of (drop (i + 1) ps)) ≡ all
 waits_next frame to ps i p before after all low at so_far more =
     let first : drop i ps ≡ p ∷ drop (i + 1) ps = drop_more ps i p low ∙ ap (λ (x : Player). x ∷ drop (i + 1) ps) (sym at) in
@@ -50,19 +53,24 @@ waits_next frame to ps i p before after all low at so_far more =
     ∙ (ap (λ xs. before ++ waits_for frame to (map process_of xs)) (sym first) ∙ so_far))
 
 -- none is left
-pub waits_done : (frame : ℕ) (to : List ℕ) (ps : List Player) (i : ℕ) (before all : List (ℕ × ℕ)) → length ps ≤ i → before ++ waits_for frame to (map process_of (drop i ps)) ≡ all → before ≡ all
+pub waits_done : (frame : ℕ) (to : List ℕ) (ps : List Player) (i : ℕ) (before all : List (ℕ × ℕ)) → length ps ≤ i
+    → before ++ waits_for frame to (map process_of (drop i ps)) ≡ all → before ≡ all
 waits_done frame to ps i before all past so_far =
     sym (append-nil before) ∙ (ap (λ xs. before ++ waits_for frame to (map process_of xs)) (sym (drop_all i ps past)) ∙ so_far)
 
 -- ---- a frame more
 
-pub send_carries : (players : List Player) (old new : Traffic) (v : plain.World) (sender : ℕ) (to bytes : List ℕ) (f : Sent) → Carries old v → map process_of players ≡ numbers v
+pub send_carries : (players : List Player) (old new : Traffic) (v : plain.World) (sender : ℕ) (to bytes : List ℕ) (f : Sent) → Carries old v
+    → map process_of players ≡ numbers v
     → f.sender ≡ sender → f.bytes ≡ bytes → new.frames.items ≡ old.frames.items ++ f ∷ []
-    → map delivery (deque_items new.pending) ≡ map delivery (deque_items old.pending) ++ waits_for (length old.frames.items) to (map process_of players)
+    → map delivery (deque_items new.pending) ≡ map delivery (deque_items old.pending)
+    ++ waits_for (length old.frames.items) to (map process_of players)
     → new.bytes ≡ old.bytes + length bytes → new.bytes ≤ most_sent
     → Carries new (plain.send sender (has to) v bytes)
 send_carries players old new v sender to bytes f carried same by spelled frames pending sum within = record {
-  frames = ap (map sent) frames ∙ (map_push sent old.frames.items f ∙ (ap (λ fs. fs ++ sent f ∷ []) carried.frames ∙ (λ i. v.frames ++ record { sender = by i; bytes = spelled i } ∷ [])));
+  frames = ap (map sent) frames ∙
+      (map_push sent old.frames.items f ∙
+      (ap (λ fs. fs ++ sent f ∷ []) carried.frames ∙ (λ i. v.frames ++ record { sender = by i; bytes = spelled i } ∷ [])));
   pending = pending ∙ (ap (λ ds. ds ++ waits_for (length old.frames.items) to (map process_of players)) carried.pending
       ∙ (ap (λ n. v.pending ++ waits_for n to (map process_of players)) (sym (length-map old.frames.items sent) ∙ ap length carried.frames)
       ∙ ap (λ ps. v.pending ++ waits_for (length v.frames) to ps) same));
@@ -71,7 +79,8 @@ send_carries players old new v sender to bytes f carried same by spelled frames 
 }
 
 -- too much
-pub send_exceeds : (old : Traffic) (v : plain.World) (sender event total : ℕ) (to bytes : List ℕ) → Carries old v → event ≡ v.count → total ≡ old.bytes + length bytes → most_sent < total
+pub send_exceeds : (old : Traffic) (v : plain.World) (sender event total : ℕ) (to bytes : List ℕ) → Carries old v → event ≡ v.count
+    → total ≡ old.bytes + length bytes → most_sent < total
     → IsTooMuch (TooMuchSent event total) (plain.send sender (has to) v bytes)
 send_exceeds old v sender event total to bytes carried at is over = (
   at,
@@ -101,12 +110,14 @@ pub record Underway (players : List Player) (sender : ℕ) (all left : Outgoing)
   pub count : world.count ≡ v.count
 
 abbrev pub SendsOn : List Player → ℕ → Outgoing → Traffic → Outgoing → Traffic → Type 0
-SendsOn players sender all first left now = (v : plain.World) → Carries first v → map process_of players ≡ numbers v → Underway players sender all left now v
+SendsOn players sender all first left now = (v : plain.World) → Carries first v → map process_of players ≡ numbers v
+    → Underway players sender all left now v
 
 pub sends_begin : (players : List Player) (sender : ℕ) (all : Outgoing) (first : Traffic) → SendsOn players sender all first all first
 sends_begin players sender all first = λ v carried same. record { world = v; leads = refl; carried = carried; same = same; count = refl }
 
-pub sends_on : (players : List Player) (sender : ℕ) (all : Outgoing) (d : List ℕ × List ℕ) (left : Outgoing) (first old new : Traffic) → SendsOn players sender all first (d ∷ left) old
+pub sends_on : (players : List Player) (sender : ℕ) (all : Outgoing) (d : List ℕ × List ℕ) (left : Outgoing) (first old new : Traffic)
+    → SendsOn players sender all first (d ∷ left) old
     → ((v : plain.World) → Carries old v → map process_of players ≡ numbers v → Carries new (plain.send sender (has d.0) v d.1))
     → SendsOn players sender all first left new
 sends_on players sender all d left first old new on sends = λ v carried same.
@@ -127,11 +138,14 @@ sends_done players sender all first now on v carried same =
     subst P way.leads way.carried
 
 -- too much at one frame is too much of all
-pub sends_exceed : (players : List Player) (sender event : ℕ) (all : Outgoing) (d : List ℕ × List ℕ) (left : Outgoing) (first old : Traffic) (fault : WorldFault) → SendsOn players sender all first (d ∷ left) old
-    → ((v : plain.World) → Carries old v → map process_of players ≡ numbers v → event ≡ v.count → IsTooMuch fault (plain.send sender (has d.0) v d.1))
+pub sends_exceed : (players : List Player) (sender event : ℕ) (all : Outgoing) (d : List ℕ × List ℕ) (left : Outgoing) (first old : Traffic)
+    (fault : WorldFault) → SendsOn players sender all first (d ∷ left) old
+    → ((v : plain.World) → Carries old v → map process_of players ≡ numbers v → event ≡ v.count
+    → IsTooMuch fault (plain.send sender (has d.0) v d.1))
     → (v : plain.World) → Carries first v → map process_of players ≡ numbers v → event ≡ v.count → IsTooMuch fault (sends_all sender all v)
 sends_exceed players sender event all d left first old fault on exceeds v carried same at =
     let way = on v carried same in
     let one : plain.World = plain.send sender (has d.0) way.world d.1 in
     let P : plain.World → Type 0 = λ w. IsTooMuch fault w in
-    subst P way.leads (too_much_later fault one (sends_all sender left one) (sends_extend sender left one) (exceeds way.world way.carried way.same (at ∙ sym way.count)))
+    subst P way.leads (too_much_later fault one (sends_all sender left one) (sends_extend sender left one)
+    (exceeds way.world way.carried way.same (at ∙ sym way.count)))

@@ -33,7 +33,8 @@ one_waits h mask left v None e waits = absurd cc
 one_waits h mask left v (Some d) e waits = sym (drains_one (setting_of h) mask left v d e)
 
 -- one delivery more
-pub drains_on : (mask all left : ℕ) (first old new : World) → DrainsOn mask all first (suc left) old → Becomes (λ h v. oldest_arrives (setting_of h) mask v) old new
+pub drains_on : (mask all left : ℕ) (first old new : World) → DrainsOn mask all first (suc left) old
+    → Becomes (λ h v. oldest_arrives (setting_of h) mask v) old new
     → ((h : Header) (v : plain.World) → Shows h old v → true ≡ is_some (slice_get v.pending 0)) → DrainsOn mask all first left new
 drains_on mask all left first old new on becomes waits = λ h v shows.
     let way = on h v shows in
@@ -44,40 +45,49 @@ drains_on mask all left first old new on becomes waits = λ h v shows.
     }
 
 -- none is left to make
-pub drains_done : (mask all : ℕ) (first now : World) → DrainsOn mask all first 0 now → Becomes (λ h v. drains (setting_of h) mask all v) first now
+pub drains_done : (mask all : ℕ) (first now : World) → DrainsOn mask all first 0 now
+    → Becomes (λ h v. drains (setting_of h) mask all v) first now
 drains_done mask all first now on = λ h v shows.
     let way = on h v shows in
     let P : plain.World → Type 0 = λ w. Shows h now w in
     subst P (sym (drains_zero (setting_of h) mask way.world) ∙ way.leads) way.shows
 
-none_waits : (h : Header) (mask left : ℕ) (v : plain.World) (r : Option (ℕ × ℕ)) → slice_get v.pending 0 ≡ r → is_some r ≡ false → drains (setting_of h) mask left v ≡ oldest_arrives (setting_of h) mask v
+none_waits : (h : Header) (mask left : ℕ) (v : plain.World) (r : Option (ℕ × ℕ)) → slice_get v.pending 0 ≡ r → is_some r ≡ false
+    → drains (setting_of h) mask left v ≡ oldest_arrives (setting_of h) mask v
 none_waits h mask left v None e none =
     drains_none (setting_of h) mask left v e
     ∙ sym (ap (λ r. elim r as (λ (x : Option (ℕ × ℕ)). plain.World) [ None ↦ v | Some d ↦ plain.next_delivery (setting_of h) mask v d ]) e)
 none_waits h mask left v (Some d) e none = absurd cc
 
 -- none waits any more
-pub drains_out : (mask all left : ℕ) (first old new : World) → DrainsOn mask all first left old → Becomes (λ h v. oldest_arrives (setting_of h) mask v) old new
-    → ((h : Header) (v : plain.World) → Shows h old v → false ≡ is_some (slice_get v.pending 0)) → Becomes (λ h v. drains (setting_of h) mask all v) first new
+pub drains_out : (mask all left : ℕ) (first old new : World) → DrainsOn mask all first left old
+    → Becomes (λ h v. oldest_arrives (setting_of h) mask v) old new
+    → ((h : Header) (v : plain.World) → Shows h old v → false ≡ is_some (slice_get v.pending 0))
+    → Becomes (λ h v. drains (setting_of h) mask all v) first new
 drains_out mask all left first old new on becomes waits = λ h v shows.
     let way = on h v shows in
     let P : plain.World → Type 0 = λ w. Shows h new w in
-    subst P (sym (none_waits h mask left way.world (slice_get way.world.pending 0) refl (sym (waits h way.world way.shows))) ∙ way.leads) (becomes h way.world way.shows)
+    subst P (sym (none_waits h mask left way.world (slice_get way.world.pending 0) refl (sym (waits h way.world way.shows))) ∙ way.leads)
+    (becomes h way.world way.shows)
 
 -- too much at one delivery is too much of all
-exceeds_at : (h : Header) (mask left : ℕ) (v : plain.World) (fault : WorldFault) (b : Bool) → is_some (slice_get v.pending 0) ≡ b → IsTooMuch fault (oldest_arrives (setting_of h) mask v)
+exceeds_at : (h : Header) (mask left : ℕ) (v : plain.World) (fault : WorldFault) (b : Bool) → is_some (slice_get v.pending 0) ≡ b
+    → IsTooMuch fault (oldest_arrives (setting_of h) mask v)
     → IsTooMuch fault (drains (setting_of h) mask (suc left) v)
 exceeds_at h mask left v fault true waits much =
     let P : plain.World → Type 0 = λ w. IsTooMuch fault w in
     let one = oldest_arrives (setting_of h) mask v in
-    subst P (one_waits h mask left v (slice_get v.pending 0) refl waits) (too_much_later fault one (drains (setting_of h) mask left one) (drains_extend (setting_of h) mask left one) much)
+    subst P (one_waits h mask left v (slice_get v.pending 0) refl waits)
+    (too_much_later fault one (drains (setting_of h) mask left one) (drains_extend (setting_of h) mask left one) much)
 exceeds_at h mask left v fault false waits much =
     let P : plain.World → Type 0 = λ w. IsTooMuch fault w in
     subst P (sym (none_waits h mask (suc left) v (slice_get v.pending 0) refl waits)) much
 
-pub drains_exceed : (mask all left : ℕ) (first old : World) (fault : WorldFault) → DrainsOn mask all first (suc left) old → Exceeds (λ h v. oldest_arrives (setting_of h) mask v) old fault
+pub drains_exceed : (mask all left : ℕ) (first old : World) (fault : WorldFault) → DrainsOn mask all first (suc left) old
+    → Exceeds (λ h v. oldest_arrives (setting_of h) mask v) old fault
     → Exceeds (λ h v. drains (setting_of h) mask all v) first fault
 drains_exceed mask all left first old fault on exceeds = λ h v shows.
     let way = on h v shows in
     let P : plain.World → Type 0 = λ w. IsTooMuch fault w in
-    subst P way.leads (exceeds_at h mask left way.world fault (is_some (slice_get way.world.pending 0)) refl (exceeds h way.world way.shows))
+    subst P way.leads (exceeds_at h mask left way.world fault (is_some (slice_get way.world.pending 0)) refl
+    (exceeds h way.world way.shows))

@@ -41,7 +41,8 @@ pub placed : (at : ℕ) (r : Option ℕ) (ps qs : List Player) (i : ℕ) → r �
 placed at r ps qs i is found same = sym (ap (place_in at) same) ∙ (sym found ∙ is)
 
 -- nobody has this number
-pub nobody : (old : World) (at : ℕ) (e : group.Event) (r : Option ℕ) (ps : List Player) → r ≡ None → r ≡ place_in at ps → ps ≡ old.players.items
+pub nobody : (old : World) (at : ℕ) (e : group.Event) (r : Option ℕ) (ps : List Player) → r ≡ None → r ≡ place_in at ps
+    → ps ≡ old.players.items
     → Becomes (λ h v. plain.hands (setting_of h) v at e) old old
 nobody old at e r ps none is same = λ h v shows.
     let P : Option ℕ → Type 0 = λ x. FindsAlike at v.players 0 x in
@@ -59,7 +60,8 @@ pub record Given (h : Header) (stepped : World) (v : plain.World) (at : ℕ) (e 
   pub is : IsOutcome out r
   pub hands : plain.hands (setting_of h) v at e ≡ noted at out world
 
-pub given : (h : Header) (old stepped : World) (v : plain.World) (at i : ℕ) (ev : Event) (r : Outcome) → Shows h old v → place_in at old.players.items ≡ Some i
+pub given : (h : Header) (old stepped : World) (v : plain.World) (at i : ℕ) (ev : Event) (r : Outcome) → Shows h old v
+    → place_in at old.players.items ≡ Some i
     → StepsAt old.scheme old.players.items stepped.players.items i ev r → Turned old stepped
     → (Carries old.traffic v → Carries stepped.traffic v)
     → ((t : Turn) → t.event ≡ event ev → KeepsTurn old stepped t)
@@ -75,21 +77,24 @@ given h old stepped v at i ev r shows is steps same carries keeps =
       world = turned_at h v i t found.at;
       out = outcome (setting_of h) found.at.now t;
       shows = turned_shows h old stepped v i found.at t shows get same step.players (carries shows.traffic) (keeps t refl);
-      among = ap (λ ps. has ps at) (map_kept (λ (c : plain.Player). c.listed.process) v.players i found.at (plain.with_turn (setting_of h) t found.at) get refl)
+      among = ap (λ ps. has ps at) (map_kept (λ (c : plain.Player). c.listed.process) v.players i found.at
+          (plain.with_turn (setting_of h) t found.at) get refl)
           ∙ among_at v.players i at found.at get found.is;
       is = step.outcome;
       hands = hands_placed h v at (event ev) found.at i (players_rise h old v shows) get found.is found.found;
     }
 
 -- what came of it is noted
-pub given_becomes : (h : Header) (stepped new : World) (v : plain.World) (at : ℕ) (e : group.Event) (r : Outcome) → Given h stepped v at e r → Notes stepped new at r
+pub given_becomes : (h : Header) (stepped new : World) (v : plain.World) (at : ℕ) (e : group.Event) (r : Outcome) → Given h stepped v at e r
+    → Notes stepped new at r
     → Shows h new (plain.hands (setting_of h) v at e)
 given_becomes h stepped new v at e r g notes =
     let Q : plain.World → Type 0 = λ w. Shows h new w in
     subst Q (sym g.hands) (notes h g.world g.out g.shows g.among g.is)
 
 -- or is too much
-pub given_exceeds : (h : Header) (stepped : World) (v : plain.World) (at : ℕ) (e : group.Event) (r : Outcome) (fault : WorldFault) → Given h stepped v at e r → NotesTooMuch stepped at r fault
+pub given_exceeds : (h : Header) (stepped : World) (v : plain.World) (at : ℕ) (e : group.Event) (r : Outcome) (fault : WorldFault)
+    → Given h stepped v at e r → NotesTooMuch stepped at r fault
     → IsTooMuch fault (plain.hands (setting_of h) v at e)
 given_exceeds h stepped v at e r fault g too_much =
     let Q : plain.World → Type 0 = λ w. IsTooMuch fault w in
@@ -98,7 +103,8 @@ given_exceeds h stepped v at e r fault g too_much =
 -- ---- what is kept
 
 -- bytes that no process sent
-pub raws_keep : (old new : World) (ev : Event) → new.traffic.frames.items ≡ old.traffic.frames.items → new.raws.items ≡ old.raws.items ++ bytes_in ev
+pub raws_keep : (old new : World) (ev : Event) → new.traffic.frames.items ≡ old.traffic.frames.items
+    → new.raws.items ≡ old.raws.items ++ bytes_in ev
     → (t : Turn) → t.event ≡ event ev → KeepsTurn old new t
 raws_keep old new ev frames raws t at = λ test.
     ap (λ fs. passes test (handed_frames fs ++ new.raws.items)) frames
@@ -123,8 +129,10 @@ marks_keep old new i f from get frames raws t at = λ test.
     ∙ ap (λ e. passes test (handed_bytes old) && list_all test (claims_in e)) (sym at))))))
 
 -- marking changes no frame
-pub marks_carry : (old new : Traffic) (v : plain.World) (i : ℕ) (f : Sent) → slice_get old.frames.items i ≡ Some f → new.frames.items ≡ slice_set old.frames.items i (record f { handed = true })
-    → map delivery (deque_items new.pending) ≡ map delivery (deque_items old.pending) → new.bytes ≡ old.bytes → Carries old v → Carries new v
+pub marks_carry : (old new : Traffic) (v : plain.World) (i : ℕ) (f : Sent) → slice_get old.frames.items i ≡ Some f
+    → new.frames.items ≡ slice_set old.frames.items i (record f { handed = true })
+    → map delivery (deque_items new.pending) ≡ map delivery (deque_items old.pending) → new.bytes ≡ old.bytes → Carries old v
+    → Carries new v
 marks_carry old new v i f get frames pending bytes carried = record {
   frames = ap (map sent) frames ∙ (map_kept sent old.frames.items i f (record f { handed = true }) get refl ∙ carried.frames);
   pending = pending ∙ carried.pending;
@@ -135,24 +143,33 @@ marks_carry old new v i f get frames pending bytes carried = record {
 -- ---- a frame that was sent
 
 -- the frame of this number is that of the code
-pub delivers_frame : (h : Header) (old : World) (v : plain.World) (to frame : ℕ) (f : Sent) → Shows h old v → slice_get old.traffic.frames.items frame ≡ Some f
+pub delivers_frame : (h : Header) (old : World) (v : plain.World) (to frame : ℕ) (f : Sent) → Shows h old v
+    → slice_get old.traffic.frames.items frame ≡ Some f
     → plain.delivers (setting_of h) v to frame ≡ plain.hands (setting_of h) v to (group.Hand f.sender (frame_said f.bytes))
 delivers_frame h old v to frame f shows get =
-    let there : slice_get v.frames frame ≡ Some (sent f) = ap (λ fs. slice_get fs frame) (sym shows.traffic.frames) ∙ (get_map sent old.traffic.frames.items frame ∙ ap (option_map sent) get) in
+    let there : slice_get v.frames frame
+    ≡ Some (sent f) = ap (λ fs. slice_get fs frame)
+    (sym shows.traffic.frames) ∙ (get_map sent old.traffic.frames.items frame ∙ ap (option_map sent) get) in
     ap (λ r. elim r as (λ (x : Option plain.Sent). plain.World) [ None ↦ v | Some g ↦ plain.hands_frame (setting_of h) v to g ]) there
 
 -- no frame has this number
-pub delivers_absent : (h : Header) (old : World) (v : plain.World) (to frame : ℕ) (xs : List Sent) → Shows h old v → xs ≡ old.traffic.frames.items → length xs ≤ frame
+pub delivers_absent : (h : Header) (old : World) (v : plain.World) (to frame : ℕ) (xs : List Sent) → Shows h old v
+    → xs ≡ old.traffic.frames.items → length xs ≤ frame
     → plain.delivers (setting_of h) v to frame ≡ v
 delivers_absent h old v to frame xs shows same past =
-    let long : length v.frames ≤ frame = omega (arith, past, ap length same, length-map old.traffic.frames.items sent, ap length shows.traffic.frames) in
-    ap (λ r. elim r as (λ (x : Option plain.Sent). plain.World) [ None ↦ v | Some g ↦ plain.hands_frame (setting_of h) v to g ]) (get_past v.frames frame long)
+    let long : length v.frames ≤ frame = omega
+    (arith, past, ap length same, length-map old.traffic.frames.items sent, ap length shows.traffic.frames) in
+    ap (λ r. elim r as (λ (x : Option plain.Sent). plain.World) [ None ↦ v | Some g ↦ plain.hands_frame (setting_of h) v to g ])
+    (get_past v.frames frame long)
 
 -- a world in which the player has taken the frame
-pub delivered : (h : Header) (old stepped : World) (v : plain.World) (to i frame : ℕ) (f : Sent) (ev : Event) (r : Outcome) → Shows h old v → place_in to old.players.items ≡ Some i
-    → StepsAt old.scheme old.players.items stepped.players.items i ev r → event ev ≡ group.Hand f.sender (frame_said f.bytes) → slice_get old.traffic.frames.items frame ≡ Some f
+pub delivered : (h : Header) (old stepped : World) (v : plain.World) (to i frame : ℕ) (f : Sent) (ev : Event) (r : Outcome) → Shows h old v
+    → place_in to old.players.items ≡ Some i
+    → StepsAt old.scheme old.players.items stepped.players.items i ev r → event ev ≡ group.Hand f.sender (frame_said f.bytes)
+    → slice_get old.traffic.frames.items frame ≡ Some f
     → Turned old stepped → stepped.traffic.frames.items ≡ slice_set old.traffic.frames.items frame (record f { handed = true })
-    → map delivery (deque_items stepped.traffic.pending) ≡ map delivery (deque_items old.traffic.pending) → stepped.traffic.bytes ≡ old.traffic.bytes → stepped.raws.items ≡ old.raws.items
+    → map delivery (deque_items stepped.traffic.pending) ≡ map delivery (deque_items old.traffic.pending)
+    → stepped.traffic.bytes ≡ old.traffic.bytes → stepped.raws.items ≡ old.raws.items
     → Given h stepped v to (group.Hand f.sender (frame_said f.bytes)) r
 delivered h old stepped v to i frame f ev r shows place steps same get turned frames pending bytes raws =
     let P : group.Event → Type 0 = λ e. Given h stepped v to e r in
@@ -161,16 +178,20 @@ delivered h old stepped v to i frame f ev r shows place steps same get turned fr
     (λ t at. marks_keep old stepped frame f f.sender get frames raws t (at ∙ same)))
 
 -- the frame is handed to nobody
-pub delivers_nobody : (old : World) (to frame : ℕ) (f : Sent) (r : Option ℕ) (ps : List Player) → slice_get old.traffic.frames.items frame ≡ Some f → r ≡ None → r ≡ place_in to ps → ps ≡ old.players.items
+pub delivers_nobody : (old : World) (to frame : ℕ) (f : Sent) (r : Option ℕ) (ps : List Player)
+    → slice_get old.traffic.frames.items frame ≡ Some f → r ≡ None → r ≡ place_in to ps → ps ≡ old.players.items
     → Becomes (λ h v. plain.delivers (setting_of h) v to frame) old old
 delivers_nobody old to frame f r ps get none is same = λ h v shows.
     let Q : plain.World → Type 0 = λ w. Shows h old w in
-    subst Q (sym (delivers_frame h old v to frame f shows get)) (nobody old to (group.Hand f.sender (frame_said f.bytes)) r ps none is same h v shows)
+    subst Q (sym (delivers_frame h old v to frame f shows get))
+    (nobody old to (group.Hand f.sender (frame_said f.bytes)) r ps none is same h v shows)
 
 -- an element of a list that was looked up
-pub looked_up : {A : Type 0} (xs ys : List A) (k : ℕ) (x : A) → xs ≡ ys → true ≡ nat_lt k (length xs) → x ≡ get_or xs k x → slice_get ys k ≡ Some x
+pub looked_up : {A : Type 0} (xs ys : List A) (k : ℕ) (x : A) → xs ≡ ys → true ≡ nat_lt k (length xs) → x ≡ get_or xs k x
+    → slice_get ys k ≡ Some x
 looked_up {A} xs ys k x same within at =
-    ap (λ (zs : List A). slice_get zs k) (sym same) ∙ (slice_get-get_or xs k x (ltb-true k (length xs) (sym within)) ∙ ap (λ (y : A). Some y) (sym at))
+    ap (λ (zs : List A). slice_get zs k)
+    (sym same) ∙ (slice_get-get_or xs k x (ltb-true k (length xs) (sym within)) ∙ ap (λ (y : A). Some y) (sym at))
 
 -- ---- two facts of one result
 

@@ -50,7 +50,8 @@ and_again false r = refl
 
 -- ---- turns
 
-turns_more : (test : Test) (ts : List Turn) (t : Turn) → list_all test (handed_to (ts ++ t ∷ [])) ≡ (list_all test (handed_to ts) && list_all test (claims_in t.event))
+turns_more : (test : Test) (ts : List Turn) (t : Turn)
+    → list_all test (handed_to (ts ++ t ∷ [])) ≡ (list_all test (handed_to ts) && list_all test (claims_in t.event))
 turns_more test [] t = ap (list_all test) (append-nil (claims_in t.event))
 turns_more test (u ∷ us) t =
     list_all-append test (claims_in u.event) (handed_to (us ++ t ∷ []))
@@ -63,7 +64,8 @@ abbrev pub handed_in : List plain.Player → List Claim
 handed_in cs = flat_map (λ c. handed_to c.turns) cs
 
 -- a player's turn adds the claims of its event
-pub turn_adds : (test : Test) (cs : List plain.Player) (i : ℕ) (c d : plain.Player) (t : Turn) → slice_get cs i ≡ Some c → d.turns ≡ c.turns ++ t ∷ []
+pub turn_adds : (test : Test) (cs : List plain.Player) (i : ℕ) (c d : plain.Player) (t : Turn) → slice_get cs i ≡ Some c
+    → d.turns ≡ c.turns ++ t ∷ []
     → list_all test (handed_in (slice_set cs i d)) ≡ (list_all test (handed_in cs) && list_all test (claims_in t.event))
 turn_adds test [] i c d t get turned = absurd cc
 turn_adds test (x ∷ xs) zero c d t get turned =
@@ -93,7 +95,8 @@ abbrev pub passes : Test → List (List ℕ) → Bool
 passes test kept = list_all test (flat_map claims_of kept)
 
 pub passes_parts : (test : Test) (a b : List (List ℕ)) → passes test (a ++ b) ≡ (passes test a && passes test b)
-passes_parts test a b = ap (list_all test) (flat_map-append claims_of a b) ∙ list_all-append test (flat_map claims_of a) (flat_map claims_of b)
+passes_parts test a b = ap (list_all test) (flat_map-append claims_of a b) ∙ list_all-append test (flat_map claims_of a)
+    (flat_map claims_of b)
 
 -- the bytes that an event hands over are those of its claims
 pub event_passes : (test : Test) (e : Event) → passes test (bytes_in e) ≡ list_all test (claims_in (event e))
@@ -105,14 +108,18 @@ event_passes test events.Renew = refl
 event_passes test events.Tick = refl
 
 mark_first : (test : Test) (f : Sent) (fs : List Sent) (b : Bool) → passes test (f.bytes ∷ handed_frames fs)
-    ≡ (passes test (map (λ g. g.bytes) (cond b (f ∷ filter (λ g. g.handed) fs) (filter (λ g. g.handed) fs))) && list_all test (claims_of f.bytes))
+    ≡ (passes test (map (λ g. g.bytes) (cond b (f ∷ filter (λ g. g.handed) fs) (filter (λ g. g.handed) fs)))
+    && list_all test (claims_of f.bytes))
 mark_first test f fs true =
     let parts = list_all-append test (claims_of f.bytes) (flat_map claims_of (handed_frames fs)) in
-    parts ∙ (sym (and_again (list_all test (claims_of f.bytes)) (passes test (handed_frames fs))) ∙ ap (λ b. b && list_all test (claims_of f.bytes)) (sym parts))
+    parts ∙ (sym (and_again (list_all test (claims_of f.bytes)) (passes test (handed_frames fs))) ∙ ap
+    (λ b. b && list_all test (claims_of f.bytes)) (sym parts))
 mark_first test f fs false =
-    list_all-append test (claims_of f.bytes) (flat_map claims_of (handed_frames fs)) ∙ and_comm (list_all test (claims_of f.bytes)) (passes test (handed_frames fs))
+    list_all-append test (claims_of f.bytes) (flat_map claims_of (handed_frames fs)) ∙ and_comm (list_all test (claims_of f.bytes))
+    (passes test (handed_frames fs))
 
-mark_behind : (test : Test) (g : Sent) (fs gs : List Sent) (extra : Bool) (b : Bool) → passes test (handed_frames gs) ≡ (passes test (handed_frames fs) && extra)
+mark_behind : (test : Test) (g : Sent) (fs gs : List Sent) (extra : Bool) (b : Bool)
+    → passes test (handed_frames gs) ≡ (passes test (handed_frames fs) && extra)
     → passes test (map (λ f. f.bytes) (cond b (g ∷ filter (λ f. f.handed) gs) (filter (λ f. f.handed) gs)))
     ≡ (passes test (map (λ f. f.bytes) (cond b (g ∷ filter (λ f. f.handed) fs) (filter (λ f. f.handed) fs))) && extra)
 mark_behind test g fs gs extra true h =
@@ -124,11 +131,15 @@ mark_behind test g fs gs extra false h = h
 
 -- a frame that is marked adds its claims
 pub mark_adds : (test : Test) (fs : List Sent) (i : ℕ) (f : Sent) → slice_get fs i ≡ Some f
-    → passes test (handed_frames (slice_set fs i (record f { handed = true }))) ≡ (passes test (handed_frames fs) && list_all test (claims_of f.bytes))
+    → passes test (handed_frames (slice_set fs i (record f { handed = true })))
+    ≡ (passes test (handed_frames fs) && list_all test (claims_of f.bytes))
 mark_adds test [] i f get = absurd cc
 mark_adds test (g ∷ gs) zero f get =
     let same : g ≡ f = cc in
-    let shown : passes test (g.bytes ∷ handed_frames gs) ≡ (passes test (handed_frames (g ∷ gs)) && list_all test (claims_of g.bytes)) = mark_first test g gs g.handed in
-    ap (λ (x : Sent). passes test (x.bytes ∷ handed_frames gs)) (sym same) ∙ (shown ∙ ap (λ (x : Sent). passes test (handed_frames (g ∷ gs)) && list_all test (claims_of x.bytes)) same)
+    let shown : passes test (g.bytes ∷ handed_frames gs)
+    ≡ (passes test (handed_frames (g ∷ gs)) && list_all test (claims_of g.bytes)) = mark_first test g gs g.handed in
+    ap (λ (x : Sent). passes test (x.bytes ∷ handed_frames gs))
+    (sym same) ∙ (shown ∙ ap (λ (x : Sent). passes test (handed_frames (g ∷ gs)) && list_all test (claims_of x.bytes)) same)
 mark_adds test (g ∷ gs) (suc i) f get =
-    mark_behind test g gs (slice_set gs i (record f { handed = true })) (list_all test (claims_of f.bytes)) g.handed (mark_adds test gs i f get)
+    mark_behind test g gs (slice_set gs i (record f { handed = true }))
+    (list_all test (claims_of f.bytes)) g.handed (mark_adds test gs i f get)

@@ -54,7 +54,8 @@ steps_extend s v e c =
       spent = cond o.spent (v.spent ++ p ∷ []) v.spent;
     } in
     let P : World → Type 0 = λ w. Extends v w in
-    subst P (sym (sends_flat p o.sends one)) (extends-trans v one _ (extends-refl v one refl refl) (sends_extend p (flat_map frames_to o.sends) one))
+    subst P (sym (sends_flat p o.sends one))
+    (extends-trans v one _ (extends-refl v one refl refl) (sends_extend p (flat_map frames_to o.sends) one))
 
 hands_extend : (s : Setting) (v : World) (p : ℕ) (e : group.Event) → Extends v (plain.hands s v p e)
 hands_extend s v p e = by_player (plain.player_of v p) where
@@ -64,7 +65,8 @@ hands_extend s v p e = by_player (plain.player_of v p) where
 
 delivers_extend : (s : Setting) (v : World) (to frame : ℕ) → Extends v (plain.delivers s v to frame)
 delivers_extend s v to frame = by_frame (slice_get v.frames frame) where
-  by_frame : (r : Option plain.Sent) → Extends v (elim r as (λ (x : Option plain.Sent). World) [ None ↦ v | Some f ↦ plain.hands_frame s v to f ])
+  by_frame : (r : Option plain.Sent)
+      → Extends v (elim r as (λ (x : Option plain.Sent). World) [ None ↦ v | Some f ↦ plain.hands_frame s v to f ])
   by_frame None = extends-refl v v refl refl
   by_frame (Some f) = hands_extend s v to (group.Hand f.sender (frame_said f.bytes))
 
@@ -74,7 +76,8 @@ next_extend s mask v d = by_mask (plain.is_in mask d.1) where
   others = record v { pending = drop 1 v.pending }
 
   by_mask : (b : Bool) → Extends v (cond b (plain.delivers s others d.1 d.0) others)
-  by_mask true = extends-trans v others (plain.delivers s others d.1 d.0) (extends-refl v others refl refl) (delivers_extend s others d.1 d.0)
+  by_mask true = extends-trans v others (plain.delivers s others d.1 d.0) (extends-refl v others refl refl)
+      (delivers_extend s others d.1 d.0)
   by_mask false = extends-refl v others refl refl
 
 -- draining goes on from what it made of the world
@@ -91,11 +94,17 @@ drains_extend s mask (suc n) v = by_oldest (slice_get v.pending 0) (λ w. drains
 -- ---- draining
 
 -- where a delivery waits, it is the first of so many
-pub drains_one : (s : Setting) (mask n : ℕ) (v : World) (d : ℕ × ℕ) → slice_get v.pending 0 ≡ Some d → plain.drains s mask (suc n) v ≡ plain.drains s mask n (oldest_arrives s mask v)
+pub drains_one : (s : Setting) (mask n : ℕ) (v : World) (d : ℕ × ℕ) → slice_get v.pending 0 ≡ Some d
+    → plain.drains s mask (suc n) v ≡ plain.drains s mask n (oldest_arrives s mask v)
 unfolding plain.drains
 drains_one s mask n v d oldest =
-    ap (λ r. elim r as (λ (x : Option (ℕ × ℕ)). World) [ None ↦ v | Some d ↦ plain.drains s mask n (plain.next_delivery s mask v d) ]) oldest
-    ∙ sym (ap (λ r. plain.drains s mask n (elim r as (λ (x : Option (ℕ × ℕ)). World) [ None ↦ v | Some d ↦ plain.next_delivery s mask v d ])) oldest)
+    ap (λ r. elim r as (λ (x : Option (ℕ × ℕ)). World) [
+      | None ↦ v
+      | Some d ↦ plain.drains s mask n
+          (plain.next_delivery s mask v d)
+    ]) oldest
+    ∙ sym (ap (λ r. plain.drains s mask n
+    (elim r as (λ (x : Option (ℕ × ℕ)). World) [ None ↦ v | Some d ↦ plain.next_delivery s mask v d ])) oldest)
 
 -- where none waits, nothing happens
 pub drains_none : (s : Setting) (mask n : ℕ) (v : World) → slice_get v.pending 0 ≡ None → plain.drains s mask n v ≡ v
@@ -119,32 +128,54 @@ stopped fault = Err fault
 -- ---- a Pass
 
 -- of a frame that was sent
-pub pass_sent : (h : Header) (v : World) (frame to : ℕ) → frame < length v.frames → plain.happens h v (Pass frame to) ≡ Ok (plain.delivers (setting_of h) v to frame)
+pub pass_sent : (h : Header) (v : World) (frame to : ℕ) → frame < length v.frames
+    → plain.happens h v (Pass frame to) ≡ Ok (plain.delivers (setting_of h) v to frame)
 pass_sent h v frame to low =
     let f = get_below v.frames frame low in
-    ap (λ r. elim r as (λ (x : Option plain.Sent). Result World plain.WorldFault) [ None ↦ Err (plain.NoSuchFrame v.count frame (length v.frames)) | Some g ↦ Ok (plain.hands_frame (setting_of h) v to g) ]) f.is
-    ∙ sym (ap (λ r. goes_on (elim r as (λ (x : Option plain.Sent). World) [ None ↦ v | Some g ↦ plain.hands_frame (setting_of h) v to g ])) f.is)
+    ap (λ r. elim r as (λ (x : Option plain.Sent). Result World plain.WorldFault) [
+      | None ↦ Err
+          (plain.NoSuchFrame v.count frame (length v.frames))
+      | Some g ↦ Ok (plain.hands_frame (setting_of h) v to g)
+    ]) f.is
+    ∙ sym (ap (λ r. goes_on (elim r as
+    (λ (x : Option plain.Sent). World) [ None ↦ v | Some g ↦ plain.hands_frame (setting_of h) v to g ])) f.is)
 
 -- of one that was not
-pub pass_unsent : (h : Header) (v : World) (frame to : ℕ) → length v.frames ≤ frame → plain.happens h v (Pass frame to) ≡ Err (plain.NoSuchFrame v.count frame (length v.frames))
+pub pass_unsent : (h : Header) (v : World) (frame to : ℕ) → length v.frames ≤ frame
+    → plain.happens h v (Pass frame to) ≡ Err (plain.NoSuchFrame v.count frame (length v.frames))
 pass_unsent h v frame to past =
-    ap (λ r. elim r as (λ (x : Option plain.Sent). Result World plain.WorldFault) [ None ↦ Err (plain.NoSuchFrame v.count frame (length v.frames)) | Some g ↦ Ok (plain.hands_frame (setting_of h) v to g) ]) (get_past v.frames frame past)
+    ap (λ r. elim r as (λ (x : Option plain.Sent). Result World plain.WorldFault) [
+      | None ↦ Err
+          (plain.NoSuchFrame v.count frame (length v.frames))
+      | Some g ↦ Ok (plain.hands_frame (setting_of h) v to g)
+    ])
+    (get_past v.frames frame past)
 
 -- ---- an event
 
 -- what is too much stops the world
-pub too_much_stops : (h : Header) (v x : World) (e : ScheduleEvent) (fault : WorldFault) → plain.happens h v e ≡ Ok x → IsTooMuch fault x → IsFault fault (plain.after_event h v e)
+pub too_much_stops : (h : Header) (v x : World) (e : ScheduleEvent) (fault : WorldFault) → plain.happens h v e ≡ Ok x → IsTooMuch fault x
+    → IsFault fault (plain.after_event h v e)
 too_much_stops h v x e NoMemory is much = tt
 too_much_stops h v x e (TooMuchSent event bytes) is much =
     let sum : sum_above 0 x.frames ≡ Some bytes = ap (sum_above 0) (sym (append-nil x.frames)) ∙ much.1 [] in
     ap (λ r. r >>= plain.counts) is
-    ∙ (ap (λ r. elim r as (λ (o : Option ℕ). Result World plain.WorldFault) [ None ↦ Ok (record x { count = x.count + 1 }) | Some n ↦ Err (plain.TooMuchSent x.count n) ]) sum
+    ∙ (ap (λ r. elim r as (λ (o : Option ℕ). Result World plain.WorldFault) [
+      | None ↦ Ok (record x { count = x.count + 1 })
+      | Some n ↦ Err
+          (plain.TooMuchSent x.count n)
+    ]) sum
     ∙ ap (λ n. stopped (plain.TooMuchSent n bytes)) (sym much.0))
 too_much_stops h v x e (NoSuchFrame event frame sent) is much = absurd much
 
 -- what is not too much is counted
-pub fits_counts : (h : Header) (v x : World) (e : ScheduleEvent) (t : Traffic) → plain.happens h v e ≡ Ok x → Carries t x → plain.after_event h v e ≡ Ok (record x { count = x.count + 1 })
+pub fits_counts : (h : Header) (v x : World) (e : ScheduleEvent) (t : Traffic) → plain.happens h v e ≡ Ok x → Carries t x
+    → plain.after_event h v e ≡ Ok (record x { count = x.count + 1 })
 fits_counts h v x e t is carried =
     let sum : sum_above 0 x.frames ≡ None = sum_within 0 x.frames (omega (arith, carried.bytes, carried.within)) in
     ap (λ r. r >>= plain.counts) is
-    ∙ ap (λ r. elim r as (λ (o : Option ℕ). Result World plain.WorldFault) [ None ↦ Ok (record x { count = x.count + 1 }) | Some n ↦ Err (plain.TooMuchSent x.count n) ]) sum
+    ∙ ap (λ r. elim r as (λ (o : Option ℕ). Result World plain.WorldFault) [
+      | None ↦ Ok (record x { count = x.count + 1 })
+      | Some n ↦ Err
+          (plain.TooMuchSent x.count n)
+    ]) sum

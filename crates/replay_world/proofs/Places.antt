@@ -22,7 +22,8 @@ use Rattle.replay_world.specs.Lying.{LiedAt, LiesAt, Lied}
 
 -- ---- players
 
-plays_at : (s : Setting) (ps : List Player) (cs : List plain.Player) (i : ℕ) (p : Player) (c : plain.Player) → ArePlayers s ps cs → slice_get ps i ≡ Some p → slice_get cs i ≡ Some c → Plays s p c
+plays_at : (s : Setting) (ps : List Player) (cs : List plain.Player) (i : ℕ) (p : Player) (c : plain.Player) → ArePlayers s ps cs
+    → slice_get ps i ≡ Some p → slice_get cs i ≡ Some c → Plays s p c
 plays_at s [] [] i p c all get at = absurd cc
 plays_at s (q ∷ ps) (d ∷ cs) zero p c all get at =
     let same : q ≡ p = cc in
@@ -34,7 +35,8 @@ plays_at s (q ∷ ps) (d ∷ cs) (suc i) p c all get at = plays_at s ps cs i p c
 plays_at s [] (d ∷ cs) i p c all get at = absurd all
 plays_at s (q ∷ ps) [] i p c all get at = absurd all
 
-plays_set : (s : Setting) (ps : List Player) (cs : List plain.Player) (i : ℕ) (p : Player) (c : plain.Player) → ArePlayers s ps cs → Plays s p c → ArePlayers s (slice_set ps i p) (slice_set cs i c)
+plays_set : (s : Setting) (ps : List Player) (cs : List plain.Player) (i : ℕ) (p : Player) (c : plain.Player) → ArePlayers s ps cs
+    → Plays s p c → ArePlayers s (slice_set ps i p) (slice_set cs i c)
 plays_set s [] [] i p c all one = tt
 plays_set s (q ∷ ps) (d ∷ cs) zero p c all one = (one, all.1)
 plays_set s (q ∷ ps) (d ∷ cs) (suc i) p c all one = (all.0, plays_set s ps cs i p c all.1 one)
@@ -42,7 +44,8 @@ plays_set s [] (d ∷ cs) i p c all one = absurd all
 plays_set s (q ∷ ps) [] i p c all one = absurd all
 
 -- the player at a place steps
-pub steps_at : (scheme : AnyScheme) (ps : List Player) (i : ℕ) (p q : Player) (e : Event) (r : Result Outcome NoMemory) → i < length ps → p ≡ get_or ps i p
+pub steps_at : (scheme : AnyScheme) (ps : List Player) (i : ℕ) (p q : Player) (e : Event) (r : Result Outcome NoMemory) → i < length ps
+    → p ≡ get_or ps i p
     → ((s : Setting) (c : plain.Player) → Plays s p c → s.valid ≡ is_valid (scheme_of scheme) → IfOk r (Stepped s c q e))
     → IfOk r (StepsAt scheme ps (slice_set ps i q) i e)
 steps_at scheme ps i p q e (Err none) low at steps = tt
@@ -53,12 +56,14 @@ steps_at scheme ps i p q e (Ok o) low at steps = λ s cs c valid all get.
 
 -- ---- liars
 
-lied_by : (group : List ℕ) (st : Statement) (x q : Liar) (lie : Option (List ℕ)) → IfSome lie (Told group st x q) → IfNone lie (Silent x q) → Lied group st x q lie
+lied_by : (group : List ℕ) (st : Statement) (x q : Liar) (lie : Option (List ℕ)) → IfSome lie (Told group st x q) → IfNone lie (Silent x q)
+    → Lied group st x q lie
 lied_by group st x q (Some frame) told silent = told
 lied_by group st x q None told silent = silent
 
 -- the liar at a place lies
-pub lies_at : (group : List ℕ) (st : Statement) (xs : List Liar) (i : ℕ) (x q : Liar) (r : Result (Option (List ℕ)) NoMemory) → i < length xs → x ≡ get_or xs i x
+pub lies_at : (group : List ℕ) (st : Statement) (xs : List Liar) (i : ℕ) (x q : Liar) (r : Result (Option (List ℕ)) NoMemory)
+    → i < length xs → x ≡ get_or xs i x
     → IfOk r (λ lie. IfSome lie (Told group st x q)) → IfOk r (λ lie. IfNone lie (Silent x q))
     → q.process ≡ x.process → total q.signer ≡ total x.signer → signature q.signer ≡ signature x.signer
     → IfOk r (LiesAt group st xs (slice_set xs i q) i)
@@ -67,7 +72,12 @@ lies_at group st xs i x q (Ok lie) low at told silent process all secret = λ y 
     let first : slice_get xs i ≡ Some x = slice_get-get_or xs i x low ∙ ap (λ (z : Liar). Some z) (sym at) in
     let same : x ≡ y = cc in
     let P : Liar → Type 0 = λ z. LiedAt group st xs (slice_set xs i q) i z lie in
-    subst P same (record { now = q; same = record { process = process; total = all; secret = secret }; all = refl; lied = lied_by group st x q lie told silent })
+    subst P same (record {
+      now = q;
+      same = record { process = process; total = all; secret = secret };
+      all = refl;
+      lied = lied_by group st x q lie told silent;
+    })
 
 -- ---- places
 
@@ -76,6 +86,7 @@ pub position_low : {X : Type 0} (f : X → Bool) (n : ℕ) (xs : List X) (i : �
 position_low f n [] i is = absurd cc
 position_low {X} f n (x ∷ xs) i is = by_test (f x) is (position_low f (n + 1) xs i)
   where
-    by_test : (b : Bool) → cond b (Some n) (position_from f (n + 1) xs) ≡ Some i → (position_from f (n + 1) xs ≡ Some i → i < n + 1 + length xs) → i < n + length (x ∷ xs)
+    by_test : (b : Bool) → cond b (Some n) (position_from f (n + 1) xs) ≡ Some i
+        → (position_from f (n + 1) xs ≡ Some i → i < n + 1 + length xs) → i < n + length (x ∷ xs)
     by_test true e rest = let same : n ≡ i = cc in omega arith
     by_test false e rest = omega (arith, rest e)

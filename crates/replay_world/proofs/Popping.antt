@@ -16,7 +16,8 @@ use Rattle.replay_world.specs.Steps.{arrives, oldest_arrives}
 abbrev pub others_of : plain.World → plain.World
 others_of v = record v { pending = drop 1 v.pending }
 
-pub popped_shows : (h : Header) (old mid : World) (v : plain.World) (d : Delivery) → Shows h old v → mid ≡ record old { traffic = record old.traffic { pending = mid.traffic.pending } }
+pub popped_shows : (h : Header) (old mid : World) (v : plain.World) (d : Delivery) → Shows h old v
+    → mid ≡ record old { traffic = record old.traffic { pending = mid.traffic.pending } }
     → deque_items old.traffic.pending ≡ d ∷ deque_items mid.traffic.pending → Shows h mid (others_of v)
 popped_shows h old mid v d s is popped =
     let P : World → Type 0 = λ w. Shows h w (others_of v) in
@@ -41,21 +42,26 @@ popped_shows h old mid v d s is popped =
       count = s.count;
     })
 
-oldest_is : (h : Header) (old mid : World) (v : plain.World) (d : Delivery) (mask : ℕ) → Shows h old v → deque_items old.traffic.pending ≡ d ∷ deque_items mid.traffic.pending
+oldest_is : (h : Header) (old mid : World) (v : plain.World) (d : Delivery) (mask : ℕ) → Shows h old v
+    → deque_items old.traffic.pending ≡ d ∷ deque_items mid.traffic.pending
     → oldest_arrives (setting_of h) mask v ≡ arrives (setting_of h) mask (others_of v) (delivery d)
 oldest_is h old mid v d mask s popped =
     let oldest : slice_get v.pending 0 ≡ Some (delivery d) = ap (λ ds. slice_get ds 0) (sym s.traffic.pending ∙ ap (map delivery) popped) in
     ap (λ r. elim r as (λ (x : Option (ℕ × ℕ)). plain.World) [ None ↦ v | Some e ↦ plain.next_delivery (setting_of h) mask v e ]) oldest
 
-pub pops_on : (old mid new : World) (d : Delivery) (mask : ℕ) → mid ≡ record old { traffic = record old.traffic { pending = mid.traffic.pending } }
-    → deque_items old.traffic.pending ≡ d ∷ deque_items mid.traffic.pending → Becomes (λ h v. arrives (setting_of h) mask v (delivery d)) mid new
+pub pops_on : (old mid new : World) (d : Delivery) (mask : ℕ)
+    → mid ≡ record old { traffic = record old.traffic { pending = mid.traffic.pending } }
+    → deque_items old.traffic.pending ≡ d ∷ deque_items mid.traffic.pending
+    → Becomes (λ h v. arrives (setting_of h) mask v (delivery d)) mid new
     → Becomes (λ h v. oldest_arrives (setting_of h) mask v) old new
 pops_on old mid new d mask is popped becomes = λ h v shows.
     let P : plain.World → Type 0 = λ w. Shows h new w in
     subst P (sym (oldest_is h old mid v d mask shows popped)) (becomes h (others_of v) (popped_shows h old mid v d shows is popped))
 
-pub pops_exceed : (old mid : World) (d : Delivery) (mask : ℕ) (fault : WorldFault) → mid ≡ record old { traffic = record old.traffic { pending = mid.traffic.pending } }
-    → deque_items old.traffic.pending ≡ d ∷ deque_items mid.traffic.pending → Exceeds (λ h v. arrives (setting_of h) mask v (delivery d)) mid fault
+pub pops_exceed : (old mid : World) (d : Delivery) (mask : ℕ) (fault : WorldFault)
+    → mid ≡ record old { traffic = record old.traffic { pending = mid.traffic.pending } }
+    → deque_items old.traffic.pending ≡ d ∷ deque_items mid.traffic.pending
+    → Exceeds (λ h v. arrives (setting_of h) mask v (delivery d)) mid fault
     → Exceeds (λ h v. oldest_arrives (setting_of h) mask v) old fault
 pops_exceed old mid d mask fault is popped exceeds = λ h v shows.
     let P : plain.World → Type 0 = λ w. IsTooMuch fault w in

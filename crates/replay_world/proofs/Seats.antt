@@ -31,7 +31,8 @@ pub record PlacedAt (p : ℕ) (cs : List plain.Player) (n i : ℕ) : Type 0 wher
 abbrev pub FindsAlike : ℕ → List plain.Player → ℕ → Option ℕ → Type 0
 FindsAlike p cs n r = MatchOption r (find (is_process p) cs ≡ None) (PlacedAt p cs n)
 
-finds_first : (p n : ℕ) (c : plain.Player) (cs : List plain.Player) (b : Bool) → is_process p c ≡ b → (r : Option ℕ) → FindsAlike p cs (n + 1) r → FindsAlike p (c ∷ cs) n (cond b (Some n) r)
+finds_first : (p n : ℕ) (c : plain.Player) (cs : List plain.Player) (b : Bool) → is_process p c ≡ b → (r : Option ℕ)
+    → FindsAlike p cs (n + 1) r → FindsAlike p (c ∷ cs) n (cond b (Some n) r)
 finds_first p n c cs true e r h = record {
   at = c;
   place = 0;
@@ -50,11 +51,13 @@ finds_first p n c cs false e (Some i) h = record {
   found = ap (λ b. cond b (Some c) (find (is_process p) cs)) e ∙ h.found;
 }
 
-pub finds_alike : (s : Setting) (p n : ℕ) (ps : List Player) (cs : List plain.Player) → ArePlayers s ps cs → FindsAlike p cs n (position_from (λ q. q.process == p) n ps)
+pub finds_alike : (s : Setting) (p n : ℕ) (ps : List Player) (cs : List plain.Player) → ArePlayers s ps cs
+    → FindsAlike p cs n (position_from (λ q. q.process == p) n ps)
 finds_alike s p n [] [] all = refl
 finds_alike s p n (q ∷ qs) (c ∷ cs) all =
     let P : Bool → Type 0 = λ b. FindsAlike p (c ∷ cs) n (cond b (Some n) (position_from (λ x. x.process == p) (n + 1) qs)) in
-    let first = finds_first p n c cs (c.listed.process == p) refl (position_from (λ x. x.process == p) (n + 1) qs) (finds_alike s p (n + 1) qs cs all.1) in
+    let first = finds_first p n c cs (c.listed.process == p) refl (position_from (λ x. x.process == p) (n + 1) qs)
+    (finds_alike s p (n + 1) qs cs all.1) in
     subst P (sym (ap (λ x. x == p) all.0.process)) first
 finds_alike s p n [] (c ∷ cs) all = absurd all
 finds_alike s p n (q ∷ qs) [] all = absurd all
@@ -71,12 +74,15 @@ rises_from_less a b [] le h = tt
 rises_from_less a b (p ∷ ps) le h = (omega (arith, h.0), h.1)
 
 listed_first : (least : ℕ) (test : Listed → Bool) (l : Listed) (ls : List Listed) (b : Bool) → test l ≡ b → least ≤ l.process
-    → Rises (l.process + 1) (map (λ x. x.process) (filter test ls)) → Rises least (map (λ x. x.process) (cond b (l ∷ filter test ls) (filter test ls)))
+    → Rises (l.process + 1) (map (λ x. x.process) (filter test ls))
+    → Rises least (map (λ x. x.process) (cond b (l ∷ filter test ls) (filter test ls)))
 listed_first least test l ls true e low rest = (low, rest)
-listed_first least test l ls false e low rest = rises_from_less least (l.process + 1) (map (λ x. x.process) (filter test ls)) (omega arith) rest
+listed_first least test l ls false e low rest = rises_from_less least (l.process + 1) (map (λ x. x.process) (filter test ls))
+    (omega arith) rest
 
 -- the numbers of those that pass a test rise
-pub listed_rise : (sch : Scheme) (least : ℕ) (test : Listed → Bool) (ls : List Listed) → AreListed sch least ls → Rises least (map (λ l. l.process) (filter test ls))
+pub listed_rise : (sch : Scheme) (least : ℕ) (test : Listed → Bool) (ls : List Listed) → AreListed sch least ls
+    → Rises least (map (λ l. l.process) (filter test ls))
 listed_rise sch least test [] h = tt
 listed_rise sch least test (l ∷ ls) h = listed_first least test l ls (test l) refl h.0 (listed_rise sch (l.process + 1) test ls h.3)
 
@@ -92,7 +98,8 @@ numbers_listed (c ∷ cs) = ap (λ ps. c.listed.process ∷ ps) (numbers_listed 
 -- ---- one turn more
 
 -- a player of a number below all does not take part
-takes_nothing : (s : Setting) (p : ℕ) (t : Turn) (least : ℕ) (cs : List plain.Player) → p < least → Rises least (numbers_of cs) → map (takes s p t) cs ≡ cs
+takes_nothing : (s : Setting) (p : ℕ) (t : Turn) (least : ℕ) (cs : List plain.Player) → p < least → Rises least (numbers_of cs)
+    → map (takes s p t) cs ≡ cs
 takes_nothing s p t least [] low h = refl
 takes_nothing s p t least (c ∷ cs) low h =
     let other : c.listed.process ≢ p = omega (arith, h.0) in
@@ -100,13 +107,15 @@ takes_nothing s p t least (c ∷ cs) low h =
     ap (λ x. x ∷ map (takes s p t) cs) kept ∙ ap (λ xs. c ∷ xs) (takes_nothing s p t (c.listed.process + 1) cs (omega (arith, h.0)) h.1)
 
 -- a number at a place is not below the least
-rises_at : (least : ℕ) (cs : List plain.Player) (i : ℕ) (c : plain.Player) → Rises least (numbers_of cs) → slice_get cs i ≡ Some c → least ≤ c.listed.process
+rises_at : (least : ℕ) (cs : List plain.Player) (i : ℕ) (c : plain.Player) → Rises least (numbers_of cs) → slice_get cs i ≡ Some c
+    → least ≤ c.listed.process
 rises_at least [] i c h get = absurd cc
 rises_at least (d ∷ ds) zero c h get = let same : d ≡ c = cc in omega (arith, h.0, ap (λ (x : plain.Player). x.listed.process) same)
 rises_at least (d ∷ ds) (suc i) c h get = omega (arith, h.0, rises_at (d.listed.process + 1) ds i c h.1 get)
 
 -- the player at a place takes the turn, and no other does
-pub takes_at : (s : Setting) (p : ℕ) (t : Turn) (least : ℕ) (cs : List plain.Player) (i : ℕ) (c : plain.Player) → Rises least (numbers_of cs) → slice_get cs i ≡ Some c → c.listed.process ≡ p
+pub takes_at : (s : Setting) (p : ℕ) (t : Turn) (least : ℕ) (cs : List plain.Player) (i : ℕ) (c : plain.Player)
+    → Rises least (numbers_of cs) → slice_get cs i ≡ Some c → c.listed.process ≡ p
     → map (takes s p t) cs ≡ slice_set cs i (with_turn s t c)
 takes_at s p t least [] i c h get is = absurd cc
 takes_at s p t least (d ∷ ds) zero c h get is =

@@ -17,7 +17,8 @@ Outgoing = List (List ℕ × List ℕ)
 
 -- ---- in parts
 
-one_sending : (p : ℕ) (to : List ℕ) (frames : List (List ℕ)) (v : World) → fold (plain.send p (has to)) v frames ≡ sends_all p (map (λ bytes. (to, bytes)) frames) v
+one_sending : (p : ℕ) (to : List ℕ) (frames : List (List ℕ)) (v : World)
+    → fold (plain.send p (has to)) v frames ≡ sends_all p (map (λ bytes. (to, bytes)) frames) v
 one_sending p to [] v = refl
 one_sending p to (b ∷ bs) v = one_sending p to bs (plain.send p (has to) v b)
 
@@ -89,6 +90,7 @@ pub too_much_later : (fault : WorldFault) (v w : World) → Extends v w → IsTo
 too_much_later NoMemory v w x h = tt
 too_much_later (TooMuchSent event bytes) v w x h = (
   h.0 ∙ sym x.count,
-  λ more. ap (λ fs. plain.sum_above 0 (fs ++ more)) x.frames ∙ (ap (plain.sum_above 0) (append_assoc v.frames x.more more) ∙ h.1 (x.more ++ more)),
+  λ more. ap (λ fs. plain.sum_above 0 (fs ++ more)) x.frames ∙
+      (ap (plain.sum_above 0) (append_assoc v.frames x.more more) ∙ h.1 (x.more ++ more)),
 )
 too_much_later (NoSuchFrame event frame sent) v w x h = absurd h

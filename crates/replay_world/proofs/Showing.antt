@@ -38,7 +38,8 @@ use Rattle.replay_world.proofs.HandedOver.{Test, passes, family_handed, turn_add
 
 -- ---- lists
 
-pub map_kept : {X Y : Type 0} (f : X → Y) (xs : List X) (i : ℕ) (x y : X) → slice_get xs i ≡ Some x → f y ≡ f x → map f (slice_set xs i y) ≡ map f xs
+pub map_kept : {X Y : Type 0} (f : X → Y) (xs : List X) (i : ℕ) (x y : X) → slice_get xs i ≡ Some x → f y ≡ f x
+    → map f (slice_set xs i y) ≡ map f xs
 map_kept f [] i x y get same = refl
 map_kept f (z ∷ zs) zero x y get same = let at : z ≡ x = cc in ap (λ v. v ∷ map f zs) (same ∙ ap f (sym at))
 map_kept f (z ∷ zs) (suc i) x y get same = ap (λ vs. f z ∷ vs) (map_kept f zs i x y get same)
@@ -57,7 +58,8 @@ all_at P (z ∷ zs) (suc i) x get h = all_at P zs i x get h.1
 
 pub players_numbers : (s : Setting) (ps : List Player) (cs : List plain.Player) → ArePlayers s ps cs → map process_of ps ≡ numbers_of cs
 players_numbers s [] [] h = refl
-players_numbers s (p ∷ ps) (c ∷ cs) h = ap (λ q. q ∷ map process_of ps) h.0.process ∙ ap (λ qs. c.listed.process ∷ qs) (players_numbers s ps cs h.1)
+players_numbers s (p ∷ ps) (c ∷ cs) h = ap (λ q. q ∷ map process_of ps) h.0.process ∙ ap (λ qs. c.listed.process ∷ qs)
+    (players_numbers s ps cs h.1)
 players_numbers s [] (c ∷ cs) h = absurd h
 players_numbers s (p ∷ ps) [] h = absurd h
 
@@ -81,7 +83,8 @@ players_rise h w v s =
     subst P (sym listed) (listed_rise h.scheme 0 (λ l. not l.corrupt) h.processes s.rising)
 
 -- a player's number is that of no liar
-pub player_apart : (h : Header) (w : World) (v : plain.World) (p : ℕ) → Shows h w v → has (numbers v) p ≡ true → NotOf p (corrupt_of h.processes)
+pub player_apart : (h : Header) (w : World) (v : plain.World) (p : ℕ) → Shows h w v → has (numbers v) p ≡ true
+    → NotOf p (corrupt_of h.processes)
 player_apart h w v p s among =
     let listed : numbers_of v.players ≡ map (λ l. l.process) (filter (λ l. not l.corrupt) h.processes) =
     numbers_listed v.players ∙ ap (map (λ (l : Listed). l.process)) s.listed in
@@ -107,8 +110,10 @@ pub record Turned (old new : World) : Type 0 where
 abbrev pub turned_at : Header → plain.World → ℕ → Turn → plain.Player → plain.World
 turned_at h v i t c = record v { players = slice_set v.players i (with_turn (setting_of h) t c) }
 
-pub turned_shows : (h : Header) (old new : World) (v : plain.World) (i : ℕ) (c : plain.Player) (t : Turn) → Shows h old v → slice_get v.players i ≡ Some c
-    → Turned old new → ArePlayers (setting_of h) new.players.items (slice_set v.players i (with_turn (setting_of h) t c)) → Carries new.traffic v → KeepsTurn old new t
+pub turned_shows : (h : Header) (old new : World) (v : plain.World) (i : ℕ) (c : plain.Player) (t : Turn) → Shows h old v
+    → slice_get v.players i ≡ Some c
+    → Turned old new → ArePlayers (setting_of h) new.players.items (slice_set v.players i (with_turn (setting_of h) t c))
+    → Carries new.traffic v → KeepsTurn old new t
     → Shows h new (turned_at h v i t c)
 turned_shows h old new v i c t s get same players traffic kept = record {
   rising = s.rising;
@@ -148,10 +153,12 @@ abbrev pub written : ℕ → group.Outcome → plain.World → plain.World
 written p o v = record v { refused = v.refused ++ plain.refused_if v p o.verdict; spent = if o.spent then v.spent ++ p ∷ [] else v.spent }
 
 -- what goes out of it, frame by frame
-pub noted_flat : (p : ℕ) (o : group.Outcome) (r : Outcome) (v : plain.World) → IsOutcome o r → noted p o v ≡ sends_all p (map frame_to r.sends.items) (written p o v)
+pub noted_flat : (p : ℕ) (o : group.Outcome) (r : Outcome) (v : plain.World) → IsOutcome o r
+    → noted p o v ≡ sends_all p (map frame_to r.sends.items) (written p o v)
 noted_flat p o r v is = sends_flat p o.sends (written p o v) ∙ ap (λ (ds : Outgoing). sends_all p ds (written p o v)) is.sends
 
-pub refusal_written : (v : plain.World) (old new : List Refused) (event p : ℕ) (verdict : EventVerdict) → map refused old ≡ v.refused → event ≡ v.count → Refuses old event p verdict new
+pub refusal_written : (v : plain.World) (old new : List Refused) (event p : ℕ) (verdict : EventVerdict) → map refused old ≡ v.refused
+    → event ≡ v.count → Refuses old event p verdict new
     → map refused new ≡ v.refused ++ plain.refused_if v p (refusal verdict)
 refusal_written v old new event p verdicts.Taken same at h = ap (map refused) h ∙ (same ∙ sym (append-nil v.refused))
 refusal_written v old new event p (verdicts.Refused f) same at h =
@@ -160,7 +167,8 @@ refusal_written v old new event p (verdicts.Refused f) same at h =
     ∙ (ap (λ rs. rs ++ refused (record { event = event; process = p; fault = f }) ∷ []) same
     ∙ ap (λ n. v.refused ++ record { event = n; process = p; fault = fault_of f } ∷ []) at))
 
-pub noted_shows : (h : Header) (old new : World) (v : plain.World) (p : ℕ) (o : group.Outcome) (r : Outcome) → Shows h old v → has (numbers v) p ≡ true → IsOutcome o r
+pub noted_shows : (h : Header) (old new : World) (v : plain.World) (p : ℕ) (o : group.Outcome) (r : Outcome) → Shows h old v
+    → has (numbers v) p ≡ true → IsOutcome o r
     → Noted old new → Refuses old.refused.items old.count p r.verdict new.refused.items → Spends old.spent.items p r.spent new.spent.items
     → Sends old.players.items old.traffic new.traffic (sends_all p (map frame_to r.sends.items))
     → Shows h new (noted p o v)
@@ -178,7 +186,12 @@ noted_shows h old new v p o r s among is same refuses spends sends =
     all = sends_all p ds one
 
     carried : Carries new.traffic all
-    carried = sends one (record { frames = s.traffic.frames; pending = s.traffic.pending; bytes = s.traffic.bytes; within = s.traffic.within })
+    carried = sends one (record {
+      frames = s.traffic.frames;
+      pending = s.traffic.pending;
+      bytes = s.traffic.bytes;
+      within = s.traffic.within;
+    })
         (players_numbers (setting_of h) old.players.items v.players s.players)
 
     cs : all.players ≡ v.players
@@ -197,11 +210,14 @@ noted_shows h old new v p o r s among is same refuses spends sends =
       ran = let A : List plain.Player → Type 0 = λ xs. AllByRecursion (IsRun h) xs in subst A (sym cs) s.ran;
       liars = let A : List plain.Sent → Type 0 = λ fs. AreLiars fs new.liars.items (corrupt_of h.processes) in
           let B : List Liar → Type 0 = λ xs. AreLiars (v.frames ++ map (sent_by p) ds) xs (corrupt_of h.processes) in
-          subst A (sym (sends_frames p ds one)) (subst B (sym same.liars) (liars_keep p v.frames ds old.liars.items (corrupt_of h.processes) (player_apart h old v p s among) s.liars));
+          subst A (sym (sends_frames p ds one))
+          (subst B (sym same.liars) (liars_keep p v.frames ds old.liars.items (corrupt_of h.processes)
+          (player_apart h old v p s among) s.liars));
       traffic = carried;
       handed = λ test.
           ap (λ xs. list_all test (handed (record { setting = setting_of h; correct = map (correct_of h) xs }))) cs
-          ∙ (s.handed test ∙ ap (λ kept. list_all test (flat_map claims_of kept)) (ap (λ fs. fs ++ old.raws.items) (sym same.frames) ∙ ap (λ rs. handed_frames new.traffic.frames.items ++ rs) (sym same.raws)));
+          ∙ (s.handed test ∙ ap (λ kept. list_all test (flat_map claims_of kept))
+          (ap (λ fs. fs ++ old.raws.items) (sym same.frames) ∙ ap (λ rs. handed_frames new.traffic.frames.items ++ rs) (sym same.raws)));
       refused = refusal_written v old.refused.items new.refused.items old.count p r.verdict s.refused s.count refuses
           ∙ (ap (λ x. v.refused ++ plain.refused_if v p x) (sym is.verdict) ∙ sym (sends_refused p ds one));
       spent = spends
@@ -211,17 +227,26 @@ noted_shows h old new v p o r s among is same refuses spends sends =
     }
 
 -- too much of it goes out
-pub noted_exceeds : (h : Header) (old : World) (v : plain.World) (p : ℕ) (o : group.Outcome) (r : Outcome) (fault : WorldFault) → Shows h old v → IsOutcome o r
+pub noted_exceeds : (h : Header) (old : World) (v : plain.World) (p : ℕ) (o : group.Outcome) (r : Outcome) (fault : WorldFault)
+    → Shows h old v → IsOutcome o r
     → SendsTooMuch old.players.items old.count old.traffic (sends_all p (map frame_to r.sends.items)) fault → IsTooMuch fault (noted p o v)
 noted_exceeds h old v p o r fault s is much =
     let P : plain.World → Type 0 = λ w. IsTooMuch fault w in
-    let carried : Carries old.traffic (written p o v) = record { frames = s.traffic.frames; pending = s.traffic.pending; bytes = s.traffic.bytes; within = s.traffic.within } in
-    subst P (sym (noted_flat p o r v is)) (much (written p o v) carried (players_numbers (setting_of h) old.players.items v.players s.players) s.count)
+    let carried : Carries old.traffic
+    (written p o v) = record {
+      frames = s.traffic.frames;
+      pending = s.traffic.pending;
+      bytes = s.traffic.bytes;
+      within = s.traffic.within;
+    } in
+    subst P (sym (noted_flat p o r v is))
+    (much (written p o v) carried (players_numbers (setting_of h) old.players.items v.players s.players) s.count)
 
 -- ---- an event that is handed over
 
 -- the player of this number, and what it makes of the event
-pub hands_placed : (h : Header) (v : plain.World) (p : ℕ) (e : group.Event) (c : plain.Player) (i : ℕ) → Rises 0 (numbers_of v.players) → slice_get v.players i ≡ Some c → c.listed.process ≡ p
+pub hands_placed : (h : Header) (v : plain.World) (p : ℕ) (e : group.Event) (c : plain.Player) (i : ℕ) → Rises 0 (numbers_of v.players)
+    → slice_get v.players i ≡ Some c → c.listed.process ≡ p
     → find (λ x. x.listed.process == p) v.players ≡ Some c
     → plain.hands (setting_of h) v p e ≡ noted p (outcome (setting_of h) c.now (turn_of c e)) (turned_at h v i (turn_of c e) c)
 hands_placed h v p e c i rises get is found =
@@ -236,15 +261,18 @@ hands_placed h v p e c i rises get is found =
     }) (outcome s c.now t).sends) (takes_at s p t 0 v.players i c rises get is))
 
 -- no player has this number
-pub hands_absent : (h : Header) (v : plain.World) (p : ℕ) (e : group.Event) → find (λ x. x.listed.process == p) v.players ≡ None → plain.hands (setting_of h) v p e ≡ v
-hands_absent h v p e none = ap (λ r. elim r as (λ (x : Option plain.Player). plain.World) [ None ↦ v | Some d ↦ plain.steps (setting_of h) v e d ]) none
+pub hands_absent : (h : Header) (v : plain.World) (p : ℕ) (e : group.Event) → find (λ x. x.listed.process == p) v.players ≡ None
+    → plain.hands (setting_of h) v p e ≡ v
+hands_absent h v p e none = ap
+    (λ r. elim r as (λ (x : Option plain.Player). plain.World) [ None ↦ v | Some d ↦ plain.steps (setting_of h) v e d ]) none
 
 or_true : (b : Bool) → (b || true) ≡ true
 or_true true = refl
 or_true false = refl
 
 -- the number of a player at a place is among them
-pub among_at : (cs : List plain.Player) (i p : ℕ) (c : plain.Player) → slice_get cs i ≡ Some c → c.listed.process ≡ p → has (numbers_of cs) p ≡ true
+pub among_at : (cs : List plain.Player) (i p : ℕ) (c : plain.Player) → slice_get cs i ≡ Some c → c.listed.process ≡ p
+    → has (numbers_of cs) p ≡ true
 among_at [] i p c get is = absurd cc
 among_at (d ∷ ds) zero p c get is =
     let at : d ≡ c = cc in
@@ -254,7 +282,8 @@ among_at (d ∷ ds) (suc i) p c get is = rw (among_at ds i p c get is) (or_true 
 
 -- ---- one event more
 
-pub counted_shows : (h : Header) (w : World) (v : plain.World) → Shows h w v → Shows h (record w { count = w.count + 1 }) (record v { count = v.count + 1 })
+pub counted_shows : (h : Header) (w : World) (v : plain.World) → Shows h w v
+    → Shows h (record w { count = w.count + 1 }) (record v { count = v.count + 1 })
 counted_shows h w v s = record {
   rising = s.rising;
   group = s.group;

@@ -30,7 +30,8 @@ sum_within before (f ∷ fs) h =
     ap (λ b. cond b (Some (before + length f.bytes)) (sum_above (before + length f.bytes) fs)) low ∙ rest
 
 -- the frame after these passes it, whatever comes behind
-pub sum_passes : (before : ℕ) (fs : List Sent) (f : Sent) (more : List Sent) → before + bytes_of fs ≤ most_sent → most_sent < before + bytes_of fs + length f.bytes
+pub sum_passes : (before : ℕ) (fs : List Sent) (f : Sent) (more : List Sent) → before + bytes_of fs ≤ most_sent
+    → most_sent < before + bytes_of fs + length f.bytes
     → sum_above before (fs ++ f ∷ more) ≡ Some (before + bytes_of fs + length f.bytes)
 sum_passes before [] f more h over =
     let high : nat_lt most_sent (before + length f.bytes) ≡ true = lt-ltb most_sent (before + length f.bytes) (omega arith) in

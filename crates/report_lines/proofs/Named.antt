@@ -35,15 +35,20 @@ module _ (me n : ℕ) where
 
   own-end : (c : Claim) → c.signer ≡ me → is_end_of n c.statement ≡ on_slot c
   own-end c is = same-truth (is_end_of n c.statement) (on_slot c)
-      (λ e. both-true (c.signer == me) (same_slot (slot_of c.statement) (EndAt n)) (eq-eqb c.signer me is) (is-same_slot (slot_of c.statement) (EndAt n) (end-slot n c.statement e)))
-      (λ e. slot-end n c.statement (same_slot-is (slot_of c.statement) (EndAt n) (and-second (c.signer == me) (same_slot (slot_of c.statement) (EndAt n)) e)))
+      (λ e. both-true (c.signer == me) (same_slot (slot_of c.statement) (EndAt n)) (eq-eqb c.signer me is)
+      (is-same_slot (slot_of c.statement) (EndAt n) (end-slot n c.statement e)))
+      (λ e. slot-end n c.statement (same_slot-is (slot_of c.statement) (EndAt n)
+      (and-second (c.signer == me) (same_slot (slot_of c.statement) (EndAt n)) e)))
 
-  own-ends : (cs : List Claim) → ((c : Claim) → Mem c cs → c.signer ≡ me) → list_any (is_end_of n) (map (λ c. c.statement) cs) ≡ is_some (option_map (λ c. c.statement) (find on_slot cs))
+  own-ends : (cs : List Claim) → ((c : Claim) → Mem c cs → c.signer ≡ me)
+      → list_any (is_end_of n) (map (λ c. c.statement) cs) ≡ is_some (option_map (λ c. c.statement) (find on_slot cs))
   own-ends [] each = refl
   own-ends (c ∷ cs) each = go (is_end_of n c.statement) (on_slot c) (own-end c (each c (inl refl))) (own-ends cs (λ d m. each d (inr m)))
     where
-      go : (a b : Bool) → a ≡ b → list_any (is_end_of n) (map (λ d. d.statement) cs) ≡ is_some (option_map (λ d. d.statement) (find on_slot cs))
-          → (a || list_any (is_end_of n) (map (λ d. d.statement) cs)) ≡ is_some (option_map (λ d. d.statement) (if b then Some c else find on_slot cs))
+      go : (a b : Bool) → a ≡ b → list_any (is_end_of n) (map (λ d. d.statement) cs)
+          ≡ is_some (option_map (λ d. d.statement) (find on_slot cs))
+          → (a || list_any (is_end_of n) (map (λ d. d.statement) cs))
+          ≡ is_some (option_map (λ d. d.statement) (if b then Some c else find on_slot cs))
       go true true e rest = refl
       go true false e rest = absurd cc
       go false true e rest = absurd cc
@@ -58,8 +63,10 @@ pub phase-named : (p : Process) → All (λ c. c.signer ≡ p.me) p.signed → p
 phase-named p own = go p.halted (is_some p.decision) (is_member p.pool.view p.me) (has_ended p) (is_ended p) (ended-same p own)
   where
     go : (h d m e f : Bool) → e ≡ f
-        → (if h then codes "halted" else (if d then codes "decided" else (if m then (if e then codes "closing" else codes "open") else codes "observer")))
-        ≡ phase_name (unwrap_or (first_that_holds ((h, HaltedView) ∷ (d, DecidedView) ∷ (not m, Observing) ∷ (f, ClosingView) ∷ [])) OpenView)
+        → (if h then codes "halted" else (if d then codes "decided"
+        else (if m then (if e then codes "closing" else codes "open") else codes "observer")))
+        ≡ phase_name (unwrap_or (first_that_holds
+        ((h, HaltedView) ∷ (d, DecidedView) ∷ (not m, Observing) ∷ (f, ClosingView) ∷ [])) OpenView)
     go true d m e f same = refl
     go false true m e f same = refl
     go false false false e f same = refl

@@ -27,10 +27,12 @@ payload-bytes (b ∷ bytes) = refl
 -- ---- a view
 
 view-line : (me : ℕ) (v : View)
-    → view_line me v ≡ (join_with_byte space (codes "view" ∷ decimal me ∷ decimal v.number ∷ codes ":" ∷ []) ++ flat_map (λ m. space ∷ decimal m) v.members) ++ line_feed ∷ []
+    → view_line me v ≡ (join_with_byte space (codes "view" ∷ decimal me ∷ decimal v.number ∷ codes ":" ∷ [])
+    ++ flat_map (λ m. space ∷ decimal m) v.members) ++ line_feed ∷ []
 view-line me v =
     ap (λ (t : List ℕ). (codes "view" ++ space ∷ (decimal me ++ space ∷ (decimal v.number ++ space ∷ t))) ++ line_feed ∷ [])
-    (words-behind space (codes ":") (map decimal v.members) ∙ ap (λ (t : List ℕ). codes ":" ++ t) (flat_map-map (λ w. space ∷ w) decimal v.members))
+    (words-behind space (codes ":") (map decimal v.members) ∙ ap (λ (t : List ℕ). codes ":" ++ t)
+    (flat_map-map (λ w. space ∷ w) decimal v.members))
     ∙ simp append_assoc
 
 -- a view's line, in three pieces
@@ -40,19 +42,23 @@ pub view-written : (me : ℕ) (v : View) (members before one two new : List ℕ)
 view-written me v members before one two new are e f g =
     let name : List ℕ = join_with_byte space (codes "view" ∷ decimal me ∷ decimal v.number ∷ codes ":" ∷ []) in
     let ranks : List ℕ = flat_map (λ m. space ∷ decimal m) v.members in
-    behind before (name ++ ranks) (line_feed ∷ []) two new (behind before name ranks one two e (f ∙ ap (λ (ms : List ℕ). one ++ flat_map (λ m. space ∷ decimal m) ms) are)) g
+    behind before (name ++ ranks) (line_feed ∷ []) two new
+    (behind before name ranks one two e (f ∙ ap (λ (ms : List ℕ). one ++ flat_map (λ m. space ∷ decimal m) ms) are)) g
     ∙ ap (λ (t : List ℕ). before ++ t) (sym (view-line me v))
 
 -- ---- deliveries by view
 
-enumerate-more : {A : Type 0} (n : ℕ) (xs : List A) (x : A) → enumerate_from n (xs ++ x ∷ []) ≡ enumerate_from n xs ++ (n + length xs, x) ∷ []
+enumerate-more : {A : Type 0} (n : ℕ) (xs : List A) (x : A)
+    → enumerate_from n (xs ++ x ∷ []) ≡ enumerate_from n xs ++ (n + length xs, x) ∷ []
 enumerate-more {A} n [] x = let same : n ≡ n + 0 = omega arith in λ i. let e : ℕ × A = (same i, x) in e ∷ []
 enumerate-more {A} n (y ∷ ys) x =
     let same : (n + 1) + length ys ≡ n + length (y ∷ ys) = omega arith in
-    ap (λ (es : List (ℕ × A)). (n, y) ∷ es) (enumerate-more (n + 1) ys x ∙ (λ i. let e : ℕ × A = (same i, x) in enumerate_from (n + 1) ys ++ e ∷ []))
+    ap (λ (es : List (ℕ × A)). (n, y) ∷ es)
+    (enumerate-more (n + 1) ys x ∙ (λ i. let e : ℕ × A = (same i, x) in enumerate_from (n + 1) ys ++ e ∷ []))
 
 -- one view more
-pub view-more : {X : Type 0} (inner : X → List Delivered) (me : ℕ) (xs : List X) (i : ℕ) (x : X) (before out new : List ℕ) → i < length xs → x ≡ get_or xs i x
+pub view-more : {X : Type 0} (inner : X → List Delivered) (me : ℕ) (xs : List X) (i : ℕ) (x : X) (before out new : List ℕ) → i < length xs
+    → x ≡ get_or xs i x
     → out ≡ before ++ flat_map (message_lines me) (enumerate_from 0 (map inner (take i xs))) → new ≡ out ++ message_lines me (i, inner x)
     → new ≡ before ++ flat_map (message_lines me) (enumerate_from 0 (map inner (take (i + 1) xs)))
 view-more {X} inner me xs i x before out new lt at so_far wrote =
@@ -64,9 +70,11 @@ view-more {X} inner me xs i x before out new lt at so_far wrote =
     ap (λ ys. enumerate_from 0 (map inner ys)) more ∙ ap (enumerate_from 0) (map-append inner taken (x ∷ []))
     ∙ enumerate-more 0 (map inner taken) (inner x)
     ∙ ap (λ (n : ℕ). enumerate_from 0 (map inner taken) ++ entry n ∷ []) long in
-    let lines : flat_map (message_lines me) (enumerate_from 0 (map inner (take (i + 1) xs))) ≡ flat_map (message_lines me) (enumerate_from 0 (map inner taken)) ++ message_lines me (i, inner x) =
+    let lines : flat_map (message_lines me) (enumerate_from 0 (map inner (take (i + 1) xs)))
+    ≡ flat_map (message_lines me) (enumerate_from 0 (map inner taken)) ++ message_lines me (i, inner x) =
     ap (flat_map (message_lines me)) entries
     ∙ flat_map-append (message_lines me) (enumerate_from 0 (map inner taken)) (entry i ∷ [])
-    ∙ ap (λ (t : List ℕ). flat_map (message_lines me) (enumerate_from 0 (map inner taken)) ++ t) (append-nil (message_lines me (entry i))) in
+    ∙ ap (λ (t : List ℕ). flat_map (message_lines me) (enumerate_from 0 (map inner taken)) ++ t)
+    (append-nil (message_lines me (entry i))) in
     behind before (flat_map (message_lines me) (enumerate_from 0 (map inner taken))) (message_lines me (i, inner x)) out new so_far wrote
     ∙ ap (λ (t : List ℕ). before ++ t) (sym lines)

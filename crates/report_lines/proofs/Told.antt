@@ -20,7 +20,8 @@ use Rattle.report_lines.specs.Standings.{StandsAs, halted_text}
 use Rattle.report_lines.proofs.Named.{phase-named}
 use Rattle.report_lines.proofs.Pieces.{behind}
 
-pub lengths-same : {A B X : Type 0} (inner : X → List A) (f : A → B) (xs : List X) → map length (map (λ x. map f (inner x)) xs) ≡ map (λ x. length (inner x)) xs
+pub lengths-same : {A B X : Type 0} (inner : X → List A) (f : A → B) (xs : List X)
+    → map length (map (λ x. map f (inner x)) xs) ≡ map (λ x. length (inner x)) xs
 lengths-same inner f [] = refl
 lengths-same inner f (x ∷ xs) = λ i. length-map (inner x) f i ∷ lengths-same inner f xs i
 
@@ -32,10 +33,12 @@ module _ (t : Standing) (p : Process) (so : StandsAs t p) where
   phase-is = phase-named p so.own ∙ ap phase_name so.phase
 
   abbrev line : told.Account → List ℕ → ℕ → List ℕ
-  line a w n = line_text (codes "process" ∷ decimal a.me ∷ w ∷ decimal (length a.views) ∷ decimal (sum (map length a.delivered)) ∷ decimal n ∷ [])
+  line a w n = line_text (codes "process" ∷ decimal a.me ∷ w ∷ decimal (length a.views) ∷ decimal (sum (map length a.delivered)) ∷ decimal n
+      ∷ [])
 
   -- the first line, in two pieces
-  pub process-written : (views delivered : ℕ) (before one new : List ℕ) → views ≡ length of.views → delivered ≡ sum (map length of.delivered)
+  pub process-written : (views delivered : ℕ) (before one new : List ℕ) → views ≡ length of.views
+      → delivered ≡ sum (map length of.delivered)
       → one ≡ before ++ join_with_byte space (codes "process" ∷ decimal of.me ∷ phase_name (word t.phase) ∷ [])
       → new ≡ one ++ space ∷ line_text (decimal views ∷ decimal delivered ∷ decimal t.signed ∷ []) → new ≡ before ++ process_line p
   process-written views delivered before one new v d e f =
@@ -55,7 +58,8 @@ module _ (t : Standing) (p : Process) (so : StandsAs t p) where
   views-are : flat_map (view_line of.me) of.views ≡ flat_map (view_line p.me) (account_of p).views
   views-are = ap (λ (a : told.Account). flat_map (view_line a.me) a.views) (sym so.account)
 
-  deliveries-are : flat_map (message_lines of.me) (enumerate_from 0 of.delivered) ≡ flat_map (message_lines p.me) (enumerate_from 0 (account_of p).delivered)
+  deliveries-are : flat_map (message_lines of.me) (enumerate_from 0 of.delivered)
+      ≡ flat_map (message_lines p.me) (enumerate_from 0 (account_of p).delivered)
   deliveries-are = ap (λ (a : told.Account). flat_map (message_lines a.me) (enumerate_from 0 a.delivered)) (sym so.account)
 
   me-is : of.me ≡ p.me
@@ -70,11 +74,16 @@ module _ (t : Standing) (p : Process) (so : StandsAs t p) where
   spent-is : (keys_spent : List ℕ) (spent : Bool) → has keys_spent p.me ≡ spent → spent_text spent of.me ≡ spent_line keys_spent p.me
   spent-is keys_spent spent e = ap (spent_text spent) me-is ∙ ap (λ (b : Bool). spent_text b p.me) (sym e)
 
-  halted-said : halted_line p ≡ halted_text p.me (option_and_then (λ d. if p.halted then Some (places_in p.delivered, d.1.cut) else None) p.decision)
+  halted-said : halted_line p ≡ halted_text p.me
+      (option_and_then (λ d. if p.halted then Some (places_in p.delivered, d.1.cut) else None) p.decision)
   halted-said = go p.decision p.halted
     where
       go : (o : Option (ℕ × Value)) (b : Bool)
-          → (elim o [ None ↦ [] | Some d ↦ if b then line_text (codes "halted" ∷ decimal p.me ∷ decimal (places_in p.delivered) ∷ decimal d.1.cut ∷ []) else [] ])
+          → (elim o [
+            | None ↦ []
+            | Some d ↦ if b
+                then line_text (codes "halted" ∷ decimal p.me ∷ decimal (places_in p.delivered) ∷ decimal d.1.cut ∷ []) else []
+          ])
           ≡ halted_text p.me (option_and_then (λ d. if b then Some (places_in p.delivered, d.1.cut) else None) o)
       go None b = refl
       go (Some d) true = refl
@@ -89,8 +98,11 @@ module _ (t : Standing) (p : Process) (so : StandsAs t p) where
       → three ≡ two ++ flat_map (message_lines of.me) (enumerate_from 0 of.delivered) → four ≡ three ++ flat_map (liar_line of.me) t.liars
       → five ≡ four ++ spent_text spent of.me → new ≡ five ++ halted_text of.me t.halted → new ≡ before ++ block keys_spent p
   block-written keys_spent spent has_it before one two three four five new e f g h k l =
-      let second = behind before (process_line p) (flat_map (view_line p.me) (account_of p).views) one two e (f ∙ ap (λ (t : List ℕ). one ++ t) views-are) in
-      let third = behind before _ (flat_map (message_lines p.me) (enumerate_from 0 (account_of p).delivered)) two three second (g ∙ ap (λ (t : List ℕ). two ++ t) deliveries-are) in
+      let second = behind before (process_line p)
+      (flat_map (view_line p.me) (account_of p).views) one two e (f ∙ ap (λ (t : List ℕ). one ++ t) views-are) in
+      let third = behind before _ (flat_map (message_lines p.me) (enumerate_from 0 (account_of p).delivered)) two three second
+      (g ∙ ap (λ (t : List ℕ). two ++ t) deliveries-are) in
       let fourth = behind before _ (flat_map (liar_line p.me) (liars p)) three four third (h ∙ ap (λ (t : List ℕ). three ++ t) liars-are) in
-      let fifth = behind before _ (spent_line keys_spent p.me) four five fourth (k ∙ ap (λ (t : List ℕ). four ++ t) (spent-is keys_spent spent has_it)) in
+      let fifth = behind before _ (spent_line keys_spent p.me) four five fourth
+      (k ∙ ap (λ (t : List ℕ). four ++ t) (spent-is keys_spent spent has_it)) in
       behind before _ (halted_line p) five new fifth (l ∙ ap (λ (t : List ℕ). five ++ t) halted-is)

@@ -54,7 +54,8 @@ has_within f a (suc n) p from below =
 put_above : (f : ℕ → Bool) (a n p : ℕ) → p < a → put_once p (among f a n) ≡ p ∷ among f a n
 put_above f a zero p above = refl
 put_above f a (suc n) p above =
-    elim (f a) as (λ b. put_once p (cond b (a ∷ among f (a + 1) n) (among f (a + 1) n)) ≡ p ∷ cond b (a ∷ among f (a + 1) n) (among f (a + 1) n)) [
+    elim (f a) as (λ b. put_once p (cond b (a ∷ among f (a + 1) n) (among f (a + 1) n))
+    ≡ p ∷ cond b (a ∷ among f (a + 1) n) (among f (a + 1) n)) [
       | true ↦ rw (le-ltb a p (omega arith), ne_eqb a p (λ e. omega arith)) refl
       | false ↦ put_above f (a + 1) n p (omega arith)
     ]
@@ -82,14 +83,16 @@ module _ (f g : ℕ → Bool) (p : ℕ) (others : (q : ℕ) → q ≢ p → g q 
         | inr ne ↦
             let more : put_once p (among f (a + 1) n) ≡ among g (a + 1) n = put_within (a + 1) n (omega arith) (omega arith) in
             rw (others a ne)
-            (elim (f a) as (λ b. put_once p (cond b (a ∷ among f (a + 1) n) (among f (a + 1) n)) ≡ cond b (a ∷ among g (a + 1) n) (among g (a + 1) n)) [
+            (elim (f a) as (λ b. put_once p (cond b (a ∷ among f (a + 1) n) (among f (a + 1) n))
+            ≡ cond b (a ∷ among g (a + 1) n) (among g (a + 1) n)) [
               | true ↦ rw (lt-ltb a p (omega arith)) (ap (λ xs. a ∷ xs) more)
               | false ↦ more
             ])
       ]
 
 -- g passes what f passes but t, the first
-module _ (f g : ℕ → Bool) (t : ℕ) (others : (q : ℕ) → q ≢ t → g q ≡ f q) (passes : f t ≡ true) (taken : g t ≡ false) (none : (q : ℕ) → q < t → f q ≡ false) where
+module _ (f g : ℕ → Bool) (t : ℕ) (others : (q : ℕ) → q ≢ t → g q ≡ f q) (passes : f t ≡ true) (taken : g t ≡ false)
+    (none : (q : ℕ) → q < t → f q ≡ false) where
   take_first : (a n : ℕ) → a ≤ t → t < a + n → among f a n ≡ t ∷ among g a n
   take_first a zero from below = absurd (omega arith)
   take_first a (suc n) from below =
@@ -128,7 +131,9 @@ same_members m n m-fits n-fits =
           rw (eq-eqb m n e) (subst P e (sym (matches_itself (members m))))
       | inr ne ↦
           rw (ne_eqb m n ne)
-          (sym (false_from_ne_true (pointwise nat_eq (members m) (members n)) (λ same. ne (sym (mask_of-members m m-fits) ∙ ap mask_of ((bytes_eq-Decides (members m) (members n)).0 same) ∙ mask_of-members n n-fits))))
+          (sym (false_from_ne_true (pointwise nat_eq (members m) (members n))
+          (λ same. ne (sym (mask_of-members m m-fits) ∙ ap mask_of
+          ((bytes_eq-Decides (members m) (members n)).0 same) ∙ mask_of-members n n-fits))))
     ]
 
 -- the mask without its lowest bit
@@ -138,7 +143,8 @@ rest_of m = bit_and m (bit_not w64 (1 * 2 ^ trailing_zeros w64 m % 2 ^ 64))
 -- its other bits stay
 bit_of_rest : (m q : ℕ) → 0 < m → m < 2 ^ 64 → q ≢ trailing_zeros w64 m → bit_at (rest_of m) q ≡ bit_at m q
 bit_of_rest m q some fits ne =
-    let low : (trailing_zeros w64 m < 64) × (bit_at m (trailing_zeros w64 m) ≡ 1) × ((i : ℕ) → i < trailing_zeros w64 m → bit_at m i ≡ 0) = bit_at-trailing_zeros w64 m some fits in
+    let low : (trailing_zeros w64 m < 64) × (bit_at m (trailing_zeros w64 m) ≡ 1)
+    × ((i : ℕ) → i < trailing_zeros w64 m → bit_at m i ≡ 0) = bit_at-trailing_zeros w64 m some fits in
     elim (cases_lt q 64) [
       | inl below ↦ bit_at_clear_other w64 m (trailing_zeros w64 m) low.0 q below ne
       | inr above ↦
@@ -150,7 +156,8 @@ bit_of_rest m q some fits ne =
 pub take_member : (m : ℕ) → 0 < m → m < 2 ^ 64 → members m ≡ trailing_zeros w64 m ∷ members (rest_of m)
 unfolding members all_numbers
 take_member m some fits =
-    let low : (trailing_zeros w64 m < 64) × (bit_at m (trailing_zeros w64 m) ≡ 1) × ((i : ℕ) → i < trailing_zeros w64 m → bit_at m i ≡ 0) = bit_at-trailing_zeros w64 m some fits in
+    let low : (trailing_zeros w64 m < 64) × (bit_at m (trailing_zeros w64 m) ≡ 1)
+    × ((i : ℕ) → i < trailing_zeros w64 m → bit_at m i ≡ 0) = bit_at-trailing_zeros w64 m some fits in
     take_first (λ q. bit_at m q == 1) (λ q. bit_at (rest_of m) q == 1) (trailing_zeros w64 m)
     (λ q ne. rw (bit_of_rest m q some fits ne) refl)
     (rw low.1 refl)

@@ -25,8 +25,11 @@ backer h st some e =
 pub certified-on : (h : Pool) → IsPool h → (st : Statement) → is_certified h st ≡ true → certified_on h (slot_of st) ≡ Some st
 certified-on h pool st e =
     let said = (backer h st pool.view.some e).1 in
-    is-certified h pool.view.some (slot_of st) st (subst (λ st. Mem st (map (λ (c : Claim). c.statement) h.heard)) said.3 (mem-map (λ (c : Claim). c.statement) h.heard said.0 said.1)) refl e
+    is-certified h pool.view.some (slot_of st) st
+    (subst (λ st. Mem st (map (λ (c : Claim). c.statement) h.heard)) said.3
+    (mem-map (λ (c : Claim). c.statement) h.heard said.0 said.1)) refl e
 
 -- and in range
 pub certified-ranges : (h : Pool) → IsPool h → (st : Statement) → is_certified h st ≡ true → IsStatement st
-certified-ranges h pool st e = let said = (backer h st pool.view.some e).1 in subst IsStatement said.3 (All-mem IsClaim h.heard said.0 pool.in_range said.1).1
+certified-ranges h pool st e = let said = (backer h st pool.view.some e).1 in subst IsStatement said.3
+    (All-mem IsClaim h.heard said.0 pool.in_range said.1).1

@@ -32,7 +32,8 @@ adopted_is h r r0 pool = go (adopted h r r0) refl
     it : Option Value → Option Value
     it o = option_and_then (λ v. if is_second_way h r r0 v then Some v else None) o
 
-    none : adopted h r r0 ≡ None → (o : Option Value) → acked h r0 ≡ o → None ≡ option_and_then (λ v. if is_second_way h r r0 v then Some v else None) o
+    none : adopted h r r0 ≡ None → (o : Option Value) → acked h r0 ≡ o
+        → None ≡ option_and_then (λ v. if is_second_way h r r0 v then Some v else None) o
     none e None f = refl
     none e (Some w) f = pick (is_second_way h r r0 w) refl
       where
@@ -44,7 +45,8 @@ adopted_is h r r0 pool = go (adopted h r r0) refl
     go None e = none e (acked h r0) refl
     go (Some v) e =
         let way = adopted-is h r r0 v e in
-        sym (ap (option_and_then (λ v. if is_second_way h r r0 v then Some v else None)) (second-acked h pool r r0 v way) ∙ ap (λ b. if b then Some v else None) way)
+        sym (ap (option_and_then (λ v. if is_second_way h r r0 v then Some v else None))
+        (second-acked h pool r r0 v way) ∙ ap (λ b. if b then Some v else None) way)
 
 module _ (s : Setting) (h : Pool) (r : ℕ) (pool : IsPool h) where
   abbrev way : ℕ → Bool
@@ -64,10 +66,13 @@ module _ (s : Setting) (h : Pool) (r : ℕ) (pool : IsPool h) where
 
   none-chosen : ((k : ℕ) → k < r → way k ≡ false) → (o : Option Value) → first_falling (adopted h r) r ≡ o → option_or o rest ≡ rest
   none-chosen none None e = refl
-  none-chosen none (Some v) e = let last = last-of (adopted h r) r v e in absurd (both_ways _ (none last.at last.below) (adopted-way last.at v last.answers).0)
+  none-chosen none (Some v) e = let last = last-of (adopted h r) r v e in absurd
+      (both_ways _ (none last.at last.below) (adopted-way last.at v last.answers).0)
 
-  one-chosen : (k : ℕ) → k < r → way k ≡ true → ((j : ℕ) → k < j → j < r → way j ≡ false) → (o : Option Value) → first_falling (adopted h r) r ≡ o → option_or o rest ≡ acked h k
-  one-chosen k lt here later None e = absurd (let v = way-adopted k here in let clash : None ≡ Some v.0 = sym (none-of (adopted h r) r e k lt) ∙ v.1 in cc)
+  one-chosen : (k : ℕ) → k < r → way k ≡ true → ((j : ℕ) → k < j → j < r → way j ≡ false) → (o : Option Value)
+      → first_falling (adopted h r) r ≡ o → option_or o rest ≡ acked h k
+  one-chosen k lt here later None e = absurd
+      (let v = way-adopted k here in let clash : None ≡ Some v.0 = sym (none-of (adopted h r) r e k lt) ∙ v.1 in cc)
   one-chosen k lt here later (Some v) e = let last = last-of (adopted h r) r v e in go last (compared last.at k)
     where
       go : (last : LastOf (adopted h r) r v) → Compared last.at k → Some v ≡ acked h k

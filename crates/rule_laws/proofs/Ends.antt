@@ -33,7 +33,8 @@ module _ {A B : Type 0} (g : A → Option B) (test : B → Bool) where
   any-said [] = refl
   any-said (x ∷ xs) = go (g x) (any-said xs)
     where
-      go : (o : Option B) → list_any test (filter_map g xs) ≡ list_any (λ x. is_some_and (g x) test) xs → list_any test (cons_option o (filter_map g xs)) ≡ (is_some_and o test || list_any (λ x. is_some_and (g x) test) xs)
+      go : (o : Option B) → list_any test (filter_map g xs) ≡ list_any (λ x. is_some_and (g x) test) xs
+          → list_any test (cons_option o (filter_map g xs)) ≡ (is_some_and o test || list_any (λ x. is_some_and (g x) test) xs)
       go None e = e
       go (Some y) e = ap (λ b. test y || b) e
 
@@ -46,7 +47,9 @@ lasts_by_member h r test = (count-said (last_of h r) test h.view.members, any-sa
 -- ---- the two parts of a value
 
 pub free_in_parts : FreeInParts
-free_in_parts s h v = go (is_notified h v.update) (is_possible (keyed s) h.view v.update) (is_quorum h (count_by (λ k. nat_le k v.cut) (ends h))) (list_any (λ k. k == v.cut) (ends h)) ((v.cut == 0) || is_some (place_at h (v.cut - 1)))
+free_in_parts s h v = go (is_notified h v.update) (is_possible (keyed s) h.view v.update)
+    (is_quorum h (count_by (λ k. nat_le k v.cut) (ends h))) (list_any (λ k. k == v.cut) (ends h))
+    ((v.cut == 0) || is_some (place_at h (v.cut - 1)))
   where
     go : (a b c d e : Bool) → (a && b && c && d && e) ≡ ((a && b) && (c && d && e))
     go true true true d e = refl
@@ -62,7 +65,8 @@ front-below [] (b ∷ ns) xs ys same below = absurd (omega (arith, same))
 front-below (a ∷ ms) [] xs ys same below = absurd (omega (arith, same))
 front-below (a ∷ ms) (b ∷ ns) xs ys same below = go (nat_lt a b) (a == b) below (front-below ms ns xs ys (omega (arith, same)))
   where
-    go : (l e : Bool) → (l || (e && numbers_below ms ns)) ≡ true → (numbers_below ms ns ≡ true → numbers_below (ms ++ xs) (ns ++ ys) ≡ true) → (l || (e && numbers_below (ms ++ xs) (ns ++ ys))) ≡ true
+    go : (l e : Bool) → (l || (e && numbers_below ms ns)) ≡ true → (numbers_below ms ns ≡ true → numbers_below (ms ++ xs) (ns ++ ys) ≡ true)
+        → (l || (e && numbers_below (ms ++ xs) (ns ++ ys))) ≡ true
     go true e below rest = refl
     go false true below rest = rest below
     go false false below rest = absurd cc
@@ -97,11 +101,16 @@ module _ (s : Setting) (h : Pool) (pool : IsPool h) where
   free-there : (v : Value) → is_free s h v ≡ true → Mem v (filter (is_free s h) candidates)
   free-there v e =
       let parts : (may_update s h v.update && may_cut h v.cut) ≡ true = sym (free_in_parts s h v) ∙ e in
-      let notified = and-first (is_notified h v.update) (is_possible (keyed s) h.view v.update) (and-first (may_update s h v.update) (may_cut h v.cut) parts) in
-      let said = and-second (is_quorum h (count_by (λ e. nat_le e v.cut) (ends h))) (list_any (λ e. e == v.cut) (ends h)) (and-first (is_quorum h (count_by (λ e. nat_le e v.cut) (ends h)) && list_any (λ e. e == v.cut) (ends h)) ((v.cut == 0) || is_some (place_at h (v.cut - 1))) (and-second (may_update s h v.update) (may_cut h v.cut) parts)) in
+      let notified = and-first (is_notified h v.update) (is_possible (keyed s) h.view v.update)
+      (and-first (may_update s h v.update) (may_cut h v.cut) parts) in
+      let said = and-second (is_quorum h (count_by (λ e. nat_le e v.cut) (ends h))) (list_any (λ e. e == v.cut) (ends h))
+      (and-first (is_quorum h (count_by (λ e. nat_le e v.cut) (ends h)) && list_any (λ e. e == v.cut) (ends h))
+      ((v.cut == 0) || is_some (place_at h (v.cut - 1))) (and-second (may_update s h v.update) (may_cut h v.cut) parts)) in
       let end = list_any-mem (λ e. e == v.cut) (ends h) said in
       let cut : Mem v.cut (ends h) = subst (λ k. Mem k (ends h)) (eqb-true end.0 v.cut end.2) end.1 in
-      mem-filter (is_free s h) candidates v (mem-flat_map with_cuts (notified_updates h) v.update v (notified-heard h v.update notified) (mem-map (λ k. record { update = v.update; cut = k }) (ends h) v.cut cut)) e
+      mem-filter (is_free s h) candidates v
+      (mem-flat_map with_cuts (notified_updates h) v.update v (notified-heard h v.update notified)
+      (mem-map (λ k. record { update = v.update; cut = k }) (ends h) v.cut cut)) e
 
   -- and what is free is made of an update and a cut that may end the view
   record FreeParts (v : Value) : Type 0 where
@@ -119,10 +128,13 @@ module _ (s : Setting) (h : Pool) (pool : IsPool h) where
   free-parts v e =
       let parts : (may_update s h v.update && may_cut h v.cut) ≡ true = sym (free_in_parts s h v) ∙ e in
       let may = and-first (may_update s h v.update) (may_cut h v.cut) parts in
-      let range = (heard-notified h pool v.update (notified-heard h v.update (and-first (is_notified h v.update) (is_possible (keyed s) h.view v.update) may))).1 in
+      let range = (heard-notified h pool v.update
+      (notified-heard h v.update (and-first (is_notified h v.update) (is_possible (keyed s) h.view v.update) may))).1 in
       let number = numbered-update v.update range in
       let cuts = and-second (may_update s h v.update) (may_cut h v.cut) parts in
-      let said = and-second (is_quorum h (count_by (λ e. nat_le e v.cut) (ends h))) (list_any (λ e. e == v.cut) (ends h)) (and-first (is_quorum h (count_by (λ e. nat_le e v.cut) (ends h)) && list_any (λ e. e == v.cut) (ends h)) ((v.cut == 0) || is_some (place_at h (v.cut - 1))) cuts) in
+      let said = and-second (is_quorum h (count_by (λ e. nat_le e v.cut) (ends h))) (list_any (λ e. e == v.cut) (ends h))
+      (and-first (is_quorum h (count_by (λ e. nat_le e v.cut) (ends h)) && list_any (λ e. e == v.cut) (ends h))
+      ((v.cut == 0) || is_some (place_at h (v.cut - 1))) cuts) in
       let end = list_any-mem (λ e. e == v.cut) (ends h) said in
       let m = filter_map-mem (end_of h) h.view.members end.0 end.1 in
       let r = mem-slice_get h.view.members m.0 m.1 in
@@ -146,7 +158,8 @@ module _ (s : Setting) (h : Pool) (pool : IsPool h) where
       empty (v ∷ vs) never = absurd (never v (inl refl))
 
   -- the value of the least update and the least cut stands before each other one that is free
-  module _ (i cut : ℕ) (update : IsLeastBelow 129 (λ i. may_update s h (update_at i)) (Some i)) (cuts : IsLeastCut h (number_of_members h) (Some cut)) where
+  module _ (i cut : ℕ) (update : IsLeastBelow 129 (λ i. may_update s h (update_at i)) (Some i))
+      (cuts : IsLeastCut h (number_of_members h) (Some cut)) where
     abbrev value : Value
     value = record { update = update_at i; cut = cut }
 
@@ -162,15 +175,19 @@ module _ (s : Setting) (h : Pool) (pool : IsPool h) where
         go : (i ≡ it.number) ⊎ ((i < it.number) ⊎ (it.number < i)) → v ≡ value
         go (inr (inr lt)) = absurd (both_ways _ (update.3 it.number (omega arith) lt) it.may)
         go (inr (inl lt)) =
-            let below = front-below (update_numbers (update_at i)) (update_numbers (update_at it.number)) (cut ∷ []) (v.cut ∷ []) (two-numbers (update_at i) ∙ sym (two-numbers (update_at it.number))) (updates-rise i it.number lt it.few) in
-            absurd (both_ways _ not (subst (λ u. numbers_below (value_numbers value) (update_numbers u ++ v.cut ∷ []) ≡ true) it.update below))
+            let below = front-below (update_numbers (update_at i)) (update_numbers (update_at it.number)) (cut ∷ []) (v.cut ∷ [])
+            (two-numbers (update_at i) ∙ sym (two-numbers (update_at it.number))) (updates-rise i it.number lt it.few) in
+            absurd (both_ways _ not (subst
+            (λ u. numbers_below (value_numbers value) (update_numbers u ++ v.cut ∷ []) ≡ true) it.update below))
         go (inl same) = last (cases_lt cut v.cut)
           where
             update_is : v.update ≡ update_at i
             update_is = sym it.update ∙ ap update_at (sym same)
 
             last : (cut < v.cut) ⊎ (v.cut ≤ cut) → v ≡ value
-            last (inl lt) = absurd (both_ways _ not (subst (λ u. numbers_below (value_numbers value) (update_numbers u ++ v.cut ∷ []) ≡ true) (sym update_is) (behind-below (update_numbers (update_at i)) (cut ∷ []) (v.cut ∷ []) (one-below cut v.cut lt))))
+            last (inl lt) = absurd (both_ways _ not
+                (subst (λ u. numbers_below (value_numbers value) (update_numbers u ++ v.cut ∷ []) ≡ true) (sym update_is)
+                (behind-below (update_numbers (update_at i)) (cut ∷ []) (v.cut ∷ []) (one-below cut v.cut lt))))
             last (inr le) = let cut_is : v.cut ≡ cut = omega (arith, least-cut, le) in λ j. record { update = update_is j; cut = cut_is j }
 
     least-value : free_value s h ≡ Some value
@@ -182,6 +199,9 @@ module _ (s : Setting) (h : Pool) (pool : IsPool h) where
         y.1 ∙ ap Some (is-value y.0 (free-parts y.0 passes.1) not)
 
 pub free_value_is : FreeValueIs
-free_value_is s h None cut pool none cuts = none-free s h pool (λ v e. let it = free-parts s h pool v e in both_ways _ (none it.number (omega arith) it.few) it.may)
-free_value_is s h (Some i) None pool update none = none-free s h pool (λ v e. let it = free-parts s h pool v e in both_ways _ (none it.rank it.member v.cut (slice_get-length h.view.members it.rank it.member it.at) it.at it.said) it.cut)
+free_value_is s h None cut pool none cuts = none-free s h pool
+    (λ v e. let it = free-parts s h pool v e in both_ways _ (none it.number (omega arith) it.few) it.may)
+free_value_is s h (Some i) None pool update none = none-free s h pool
+    (λ v e. let it = free-parts s h pool v e in both_ways _
+    (none it.rank it.member v.cut (slice_get-length h.view.members it.rank it.member it.at) it.at it.said) it.cut)
 free_value_is s h (Some i) (Some cut) pool update cuts = least-value s h pool i cut update cuts

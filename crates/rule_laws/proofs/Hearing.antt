@@ -38,13 +38,16 @@ heard-is h pool a slot st e =
 
 -- it says the statement where that is heard on the statement's slot
 pub says-heard : (h : Pool) (st : Statement) (a : ℕ) → says h st a ≡ true → heard_on h a (slot_of st) ≡ Some st
-says-heard h st a e = let at = some-and (heard_on h a (slot_of st)) (same_statement st) e in at.1 ∙ ap Some (sym (same_statement-is st at.0 at.2))
+says-heard h st a e = let at = some-and (heard_on h a (slot_of st))
+    (same_statement st) e in at.1 ∙ ap Some (sym (same_statement-is st at.0 at.2))
 
 pub heard-says : (h : Pool) (st : Statement) (a : ℕ) → heard_on h a (slot_of st) ≡ Some st → says h st a ≡ true
 heard-says h st a e = ap (λ o. is_some_and o (same_statement st)) e ∙ is-same_statement st st refl
 
-pub rank-heard : (members : List ℕ) (h : Pool) (r : ℕ) (st : Statement) → is_some_and (slice_get members r) (says h st) ≡ true → (m : ℕ) × (slice_get members r ≡ Some m) × (heard_on h m (slot_of st) ≡ Some st)
+pub rank-heard : (members : List ℕ) (h : Pool) (r : ℕ) (st : Statement) → is_some_and (slice_get members r) (says h st) ≡ true
+    → (m : ℕ) × (slice_get members r ≡ Some m) × (heard_on h m (slot_of st) ≡ Some st)
 rank-heard members h r st e = let at = some-and (slice_get members r) (says h st) e in (at.0, at.1, says-heard h st at.0 at.2)
 
-pub heard-rank : (members : List ℕ) (h : Pool) (r m : ℕ) (st : Statement) → slice_get members r ≡ Some m → heard_on h m (slot_of st) ≡ Some st → is_some_and (slice_get members r) (says h st) ≡ true
+pub heard-rank : (members : List ℕ) (h : Pool) (r m : ℕ) (st : Statement) → slice_get members r ≡ Some m
+    → heard_on h m (slot_of st) ≡ Some st → is_some_and (slice_get members r) (says h st) ≡ true
 heard-rank members h r m st at e = ap (λ o. is_some_and o (says h st)) at ∙ heard-says h st m e

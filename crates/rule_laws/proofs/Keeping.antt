@@ -21,7 +21,8 @@ few-from : (h : Pool) (more k : ℕ) → length (placed_from h more k) ≤ more
 few-from h zero k = omega arith
 few-from h (suc more) k = go (place_at h k) (few-from h more (k + 1))
   where
-    go : (o : Option Batch) → length (placed_from h more (k + 1)) ≤ more → (let it : List Batch = elim o [ None ↦ [] | Some b ↦ b ∷ placed_from h more (k + 1) ] in length it ≤ suc more)
+    go : (o : Option Batch) → length (placed_from h more (k + 1)) ≤ more
+        → (let it : List Batch = elim o [ None ↦ [] | Some b ↦ b ∷ placed_from h more (k + 1) ] in length it ≤ suc more)
     go None le = omega arith
     go (Some b) le = omega (arith, le)
 
@@ -39,7 +40,8 @@ module _ (s : Setting) (p : Process) where
   abbrev pub keep : ℕ → Batch → Statement
   keep k b = Keep x k b
 
-  keep-parts : (st : Statement) → may_sign s p st ≡ true → kind_of st ≡ Keeps → (k : ℕ) × (b : Batch) × (k < 1024) × (batch k ≡ Some b) × (keep k b ≡ st)
+  keep-parts : (st : Statement) → may_sign s p st ≡ true → kind_of st ≡ Keeps
+      → (k : ℕ) × (b : Batch) × (k < 1024) × (batch k ≡ Some b) × (keep k b ≡ st)
   keep-parts (Keep y k b) may is =
       let it = may-parts s p (Keep y k b) may in
       let at = some-and (batch k) (same_batch b) (and-first _ _ it.due) in
@@ -49,7 +51,8 @@ module _ (s : Setting) (p : Process) where
       (k, b, omega (arith, far, few), at.1 ∙ ap Some (sym same), λ i. Keep (sym it.current i) k b)
   keep-parts _ may is = absurd cc
 
-  keep-now : (k : ℕ) (b : Batch) → is_member p.pool.view p.me ≡ true → is_ended p ≡ false → is_signed p (KeepAt x k) ≡ false → batch k ≡ Some b → may_sign s p (keep k b) ≡ true
+  keep-now : (k : ℕ) (b : Batch) → is_member p.pool.view p.me ≡ true → is_ended p ≡ false → is_signed p (KeepAt x k) ≡ false
+      → batch k ≡ Some b → may_sign s p (keep k b) ≡ true
   keep-now k b member open_ unsigned at = may-now s p (keep k b) (record {
     member = member;
     current = refl;
@@ -61,7 +64,11 @@ module _ (s : Setting) (p : Process) where
   unsigned-keep k may = let b = some-and (batch k) (λ b. may_sign s p (keep k b)) may in ap not ((may-parts s p (keep k b.0) b.2).unsigned)
 
   beyond : (k : ℕ) (o : Option Batch) → batch k ≡ o → is_some o ≡ false → length (placed p.pool) ≤ k
-  beyond k None e not = elim (far k) [ inl lt ↦ absurd (let some = get-some (placed p.pool) k lt in let clash : None ≡ Some some.0 = sym e ∙ some.1 in cc) | inr le ↦ le ]
+  beyond k None e not = elim (far k) [
+    | inl lt ↦ absurd
+        (let some = get-some (placed p.pool) k lt in let clash : None ≡ Some some.0 = sym e ∙ some.1 in cc)
+    | inr le ↦ le
+  ]
     where
       far : (k : ℕ) → (k < length (placed p.pool)) ⊎ (length (placed p.pool) ≤ k)
       far k = cases_lt k (length (placed p.pool))
@@ -73,7 +80,9 @@ module _ (s : Setting) (p : Process) where
   module _ (member : is_member p.pool.view p.me ≡ true) (open_ : is_ended p ≡ false) where
     -- a Keep may be signed exactly where its place is placed and it is not signed
     may-keep : (k : ℕ) → may_at s p (made keep batch) k ≡ (is_keep_open p k && is_some (batch k))
-    may-keep k = may-made keep batch s p k ∙ same-test _ _ (λ may. both-true _ _ (unsigned-keep k may) (let b = some-and (batch k) (λ b. may_sign s p (keep k b)) may in ap is_some b.1)) (go (batch k) refl)
+    may-keep k = may-made keep batch s p k ∙ same-test _ _
+        (λ may. both-true _ _ (unsigned-keep k may) (let b = some-and (batch k) (λ b. may_sign s p (keep k b)) may in ap is_some b.1))
+        (go (batch k) refl)
       where
         go : (o : Option Batch) → batch k ≡ o → (is_keep_open p k && is_some o) ≡ true → is_some_and o (λ b. may_sign s p (keep k b)) ≡ true
         go None e f = absurd (let no' = and-second (is_keep_open p k) false f in cc)
@@ -82,7 +91,8 @@ module _ (s : Setting) (p : Process) where
     opens : (k : ℕ) → k < 1024 → may_at s p (made keep batch) k ≡ true → is_keep_open p k ≡ true
     opens k lt may = and-first (is_keep_open p k) (is_some (batch k)) (sym (may-keep k) ∙ may)
 
-    ends : (j k : ℕ) → j ≤ k → k < 1024 → is_keep_open p j ≡ true → may_at s p (made keep batch) j ≡ false → may_at s p (made keep batch) k ≡ false
+    ends : (j k : ℕ) → j ≤ k → k < 1024 → is_keep_open p j ≡ true → may_at s p (made keep batch) j ≡ false
+        → may_at s p (made keep batch) k ≡ false
     ends j k le lt is_open not =
         let unplaced : is_some (batch j) ≡ false = second-false (is_keep_open p j) (is_some (batch j)) is_open (sym (may-keep j) ∙ not) in
         let far = beyond j (batch j) refl unplaced in
@@ -100,20 +110,26 @@ module _ (s : Setting) (p : Process) where
         unplaced-at k far None e = refl
         unplaced-at k far (Some b) e = absurd (let lt = slice_get-length (placed p.pool) k b e in omega (arith, lt, far))
 
-    first : (o : Option ℕ) → IsLeastBelow 1024 (is_keep_open p) o → (k : ℕ) → is_keep_open p k ≡ true → (if may_at s p (made keep batch) k then made keep batch k else None) ≡ made keep batch k
+    first : (o : Option ℕ) → IsLeastBelow 1024 (is_keep_open p) o → (k : ℕ) → is_keep_open p k ≡ true
+        → (if may_at s p (made keep batch) k then made keep batch k else None) ≡ made keep batch k
     first o least k is_open = go (batch k) refl
       where
-        go : (b : Option Batch) → batch k ≡ b → (if may_at s p (made keep batch) k then option_map (keep k) b else None) ≡ option_map (keep k) b
+        go : (b : Option Batch) → batch k ≡ b
+            → (if may_at s p (made keep batch) k then option_map (keep k) b else None) ≡ option_map (keep k) b
         go None e = pick (may_at s p (made keep batch) k)
           where
             pick : (b : Bool) → (let it : Option Statement = if b then None else None in it ≡ None)
             pick true = refl
             pick false = refl
-        go (Some b) e = ap (λ t. if t then Some (keep k b) else None) (may-keep k ∙ ap (λ o. is_keep_open p k && is_some o) e ∙ both-true _ true is_open refl)
+        go (Some b) e = ap (λ t. if t then Some (keep k b) else None)
+            (may-keep k ∙ ap (λ o. is_keep_open p k && is_some o) e ∙ both-true _ true is_open refl)
 
 pub keep_is_least : KeepIsLeast
-keep_is_least s p o member open_ least = first-open s p Keeps _ 1024 (is_keep_open p) o (keeps-numbered s p) (opens s p member open_) (ends s p member open_) least ∙ go o least
+keep_is_least s p o member open_ least = first-open s p Keeps _ 1024 (is_keep_open p) o (keeps-numbered s p) (opens s p member open_)
+    (ends s p member open_) least ∙ go o least
   where
-    go : (o : Option ℕ) → IsLeastBelow 1024 (is_keep_open p) o → option_and_then (λ k. if may_at s p (made (keep s p) (batch s p)) k then made (keep s p) (batch s p) k else None) o ≡ option_and_then (made (keep s p) (batch s p)) o
+    go : (o : Option ℕ) → IsLeastBelow 1024 (is_keep_open p) o
+        → option_and_then (λ k. if may_at s p (made (keep s p) (batch s p)) k then made (keep s p) (batch s p) k else None) o
+        ≡ option_and_then (made (keep s p) (batch s p)) o
     go None least = refl
     go (Some k) least = first s p member open_ (Some k) least k least.2

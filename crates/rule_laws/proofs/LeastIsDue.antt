@@ -25,7 +25,8 @@ module _ {A : Type 0} (key : A → List ℕ) where
   least-mem [] y e = absurd cc
   least-mem (x ∷ xs) y e = let is : least_from key x xs ≡ y = cc in subst (λ y. Mem y (x ∷ xs)) is (least_from-mem x xs)
 
-pub least_due-passes : (s : Setting) (p : Process) (kind : Kind) (st : Statement) → least_due s p kind ≡ Some st → Mem st (filter (may_sign s p) (offers kind s p))
+pub least_due-passes : (s : Setting) (p : Process) (kind : Kind) (st : Statement) → least_due s p kind ≡ Some st
+    → Mem st (filter (may_sign s p) (offers kind s p))
 unfolding least_due
 least_due-passes s p kind st e = least-mem (due_numbers p.pool.view) (filter (may_sign s p) (offers kind s p)) st e
 
@@ -71,9 +72,11 @@ below-asym [] [] e = absurd cc
 below-asym [] (n ∷ ns) e = refl
 below-asym (m ∷ ms) [] e = absurd cc
 below-asym (m ∷ ms) (n ∷ ns) e = elim (or-cases (nat_lt m n) ((m == n) && numbers_below ms ns) e) [
-  | inl lt ↦ (let mn : m < n = ltb-true m n lt in no (nat_lt n m) ((n == m) && numbers_below ns ms) (le-ltb n m (omega (arith, mn))) (not-and (n == m) (numbers_below ns ms) (λ same. absurd (let is : n ≡ m = eqb-true n m same in omega (arith, mn, is)))))
+  | inl lt ↦ (let mn : m < n = ltb-true m n lt in no (nat_lt n m) ((n == m) && numbers_below ns ms) (le-ltb n m (omega (arith, mn)))
+      (not-and (n == m) (numbers_below ns ms) (λ same. absurd (let is : n ≡ m = eqb-true n m same in omega (arith, mn, is)))))
   | inr rest ↦ (let parts = and-parts (m == n) (numbers_below ms ns) rest in let is : m ≡ n = eqb-true m n parts.0 in
-      no (nat_lt n m) ((n == m) && numbers_below ns ms) (le-ltb n m (omega (arith, is))) (not-and (n == m) (numbers_below ns ms) (λ same. below-asym ms ns parts.1)))
+      no (nat_lt n m) ((n == m) && numbers_below ns ms) (le-ltb n m (omega (arith, is)))
+      (not-and (n == m) (numbers_below ns ms) (λ same. below-asym ms ns parts.1)))
 ]
 
 module _ {A : Type 0} (key : A → List ℕ) where
@@ -84,7 +87,8 @@ module _ {A : Type 0} (key : A → List ℕ) where
   unfolding NotBelow
   chosen x a y = go (numbers_below (key x) (key a)) refl
     where
-      go : (b : Bool) → numbers_below (key x) (key a) ≡ b → numbers_below (key (if b then x else a)) (key y) ≡ false → (numbers_below (key x) (key y) ≡ false) × (numbers_below (key a) (key y) ≡ false)
+      go : (b : Bool) → numbers_below (key x) (key a) ≡ b → numbers_below (key (if b then x else a)) (key y) ≡ false
+          → (numbers_below (key x) (key y) ≡ false) × (numbers_below (key a) (key y) ≡ false)
       go true e h = (h, below-trans (key a) (key x) (key y) (below-asym (key x) (key a) e) h)
       go false e h = (below-trans (key x) (key a) (key y) e h, h)
 
@@ -94,7 +98,8 @@ module _ {A : Type 0} (key : A → List ℕ) where
     where
       self : (ns : List ℕ) → numbers_below ns ns ≡ false
       self [] = refl
-      self (n ∷ ns) = no (nat_lt n n) ((n == n) && numbers_below ns ns) (le-ltb n n (omega arith)) (not-and (n == n) (numbers_below ns ns) (λ same. self ns))
+      self (n ∷ ns) = no (nat_lt n n) ((n == n) && numbers_below ns ns) (le-ltb n n (omega arith))
+          (not-and (n == n) (numbers_below ns ns) (λ same. self ns))
   start-least (x ∷ xs) a = unfold NotBelow in (chosen x a _ (start-least xs _)).1
 
   rest-least : (xs : List A) (a z : A) → Mem z xs → NotBelow z (least_from key a xs)
@@ -105,7 +110,8 @@ module _ {A : Type 0} (key : A → List ℕ) where
   pub least-not-below : (xs : List A) (y z : A) → least key xs ≡ Some y → Mem z xs → numbers_below (key z) (key y) ≡ false
   unfolding NotBelow
   least-not-below [] y z e m = absurd m
-  least-not-below (x ∷ xs) y z e (inl same) = let is : least_from key x xs ≡ y = cc in subst (λ y. NotBelow z y) is (subst (λ z. NotBelow z (least_from key x xs)) same (start-least xs x))
+  least-not-below (x ∷ xs) y z e (inl same) = let is : least_from key x xs
+      ≡ y = cc in subst (λ y. NotBelow z y) is (subst (λ z. NotBelow z (least_from key x xs)) same (start-least xs x))
   least-not-below (x ∷ xs) y z e (inr m) = let is : least_from key x xs ≡ y = cc in subst (λ y. NotBelow z y) is (rest-least xs x z m)
 
 some-least : {A : Type 0} (key : A → List ℕ) (xs : List A) (x : A) → Mem x xs → is_some (least key xs) ≡ true
@@ -115,7 +121,8 @@ some-least key (y ∷ ys) x m = refl
 pub some_is_least : SomeIsLeast
 unfolding least_due
 some_is_least s p st may = some-least (due_numbers p.pool.view) (filter (may_sign s p) (offers (kind_of st) s p)) st
-    (mem-filter (may_sign s p) (offers (kind_of st) s p) st (Contains-mem (offers (kind_of st) s p) st (each_due_is_offered s p st may)) may)
+    (mem-filter (may_sign s p) (offers (kind_of st) s p) st
+    (Contains-mem (offers (kind_of st) s p) st (each_due_is_offered s p st may)) may)
 
 pub least_is_due : LeastIsDue
 unfolding least_due

@@ -49,13 +49,16 @@ third : (i : ℕ) → Third i
 third i = elim (cases_lt i 64) [
   | inl lt ↦ removal lt (removes i lt)
   | inr ge ↦ elim (cases_lt i 128) [
-    | inl lt ↦ addition ge lt (ap (λ b. if b then Remove i else (if nat_lt i 128 then Add (i - 64) else Renew)) (le-ltb i 64 ge) ∙ ap (λ b. if b then Add (i - 64) else Renew) (lt-ltb i 128 lt))
-    | inr far ↦ renewal far (ap (λ b. if b then Remove i else (if nat_lt i 128 then Add (i - 64) else Renew)) (le-ltb i 64 ge) ∙ ap (λ b. if b then Add (i - 64) else Renew) (le-ltb i 128 far))
+    | inl lt ↦ addition ge lt (ap (λ b. if b then Remove i else (if nat_lt i 128 then Add (i - 64) else Renew))
+        (le-ltb i 64 ge) ∙ ap (λ b. if b then Add (i - 64) else Renew) (lt-ltb i 128 lt))
+    | inr far ↦ renewal far (ap (λ b. if b then Remove i else (if nat_lt i 128 then Add (i - 64) else Renew))
+        (le-ltb i 64 ge) ∙ ap (λ b. if b then Add (i - 64) else Renew) (le-ltb i 128 far))
   ]
 ]
 
 -- of two updates the one of lower number stands before the other
-notify-below : (x : ℕ) (u w : Update) → numbers_below (update_numbers u) (update_numbers w) ≡ true → numbers_below (6 ∷ x ∷ update_numbers u) (6 ∷ x ∷ update_numbers w) ≡ true
+notify-below : (x : ℕ) (u w : Update) → numbers_below (update_numbers u) (update_numbers w) ≡ true
+    → numbers_below (6 ∷ x ∷ update_numbers u) (6 ∷ x ∷ update_numbers w) ≡ true
 notify-below x u w below = go (x == x) (eq-eqb x x refl) (nat_lt x x)
   where
     go : (b : Bool) → b ≡ true → (c : Bool) → (c || (b && numbers_below (update_numbers u) (update_numbers w))) ≡ true
@@ -76,15 +79,18 @@ updates-rise i j lt few = go (third i) (third j)
     Below : Update → Update → Type 0
     Below u w = numbers_below (update_numbers u) (update_numbers w) ≡ true
 
-    put : (u w : Update) → update_at i ≡ u → update_at j ≡ w → numbers_below (update_numbers u) (update_numbers w) ≡ true → numbers_below (update_numbers (update_at i)) (update_numbers (update_at j)) ≡ true
-    put u w e f below = subst (λ u. numbers_below (update_numbers u) (update_numbers (update_at j)) ≡ true) (sym e) (subst (λ w. numbers_below (update_numbers u) (update_numbers w) ≡ true) (sym f) below)
+    put : (u w : Update) → update_at i ≡ u → update_at j ≡ w → numbers_below (update_numbers u) (update_numbers w) ≡ true
+        → numbers_below (update_numbers (update_at i)) (update_numbers (update_at j)) ≡ true
+    put u w e f below = subst (λ u. numbers_below (update_numbers u) (update_numbers (update_at j)) ≡ true) (sym e)
+        (subst (λ w. numbers_below (update_numbers u) (update_numbers w) ≡ true) (sym f) below)
 
     go : Third i → Third j → numbers_below (update_numbers (update_at i)) (update_numbers (update_at j)) ≡ true
     go (removal a e) (removal b f) = put (Remove i) (Remove j) e f (second-below 1 i j lt)
     go (removal a e) (addition b c f) = put (Remove i) (Add (j - 64)) e f refl
     go (removal a e) (renewal b f) = put (Remove i) Renew e f refl
     go (addition a b e) (removal c f) = absurd (omega (arith, a, c, lt))
-    go (addition a b e) (addition c d f) = put (Add (i - 64)) (Add (j - 64)) e f (second-below 2 (i - 64) (j - 64) (omega (arith, a, b, c, d, lt)))
+    go (addition a b e) (addition c d f) = put (Add (i - 64))
+        (Add (j - 64)) e f (second-below 2 (i - 64) (j - 64) (omega (arith, a, b, c, d, lt)))
     go (addition a b e) (renewal c f) = put (Add (i - 64)) Renew e f refl
     go (renewal a e) (removal c f) = absurd (omega (arith, a, c, lt))
     go (renewal a e) (addition c d f) = absurd (omega (arith, a, d, lt))
@@ -103,7 +109,8 @@ module _ (s : Setting) (p : Process) (member : is_member p.pool.view p.me ≡ tr
   notify-is : (i : ℕ) (st : Statement) → notify i ≡ Some st → (i < 129) × (Notify x (update_at i) ≡ st)
   notify-is i st e = go (nat_lt i 129) refl e
     where
-      go : (b : Bool) → nat_lt i 129 ≡ b → (let it : Option Statement = if b then Some (Notify x (update_at i)) else None in it ≡ Some st) → (i < 129) × (Notify x (update_at i) ≡ st)
+      go : (b : Bool) → nat_lt i 129 ≡ b → (let it : Option Statement = if b then Some (Notify x (update_at i)) else None in it ≡ Some st)
+          → (i < 129) × (Notify x (update_at i) ≡ st)
       go true f e = (ltb-true i 129 f, cc)
       go false f e = absurd cc
 
@@ -125,7 +132,8 @@ module _ (s : Setting) (p : Process) (member : is_member p.pool.view p.me ≡ tr
         let one = notify-is i a at in
         let two = notify-is j b at' in
         subst (λ a. numbers_below (due_numbers p.pool.view a) (due_numbers p.pool.view b) ≡ true) one.1
-        (subst (λ b. numbers_below (due_numbers p.pool.view (Notify x (update_at i))) (due_numbers p.pool.view b) ≡ true) two.1 (notify-below x (update_at i) (update_at j) (updates-rise i j lt two.0)));
+        (subst (λ b. numbers_below (due_numbers p.pool.view (Notify x (update_at i))) (due_numbers p.pool.view b) ≡ true) two.1
+        (notify-below x (update_at i) (update_at j) (updates-rise i j lt two.0)));
     whole = notify-parts;
   }
 
@@ -136,13 +144,21 @@ module _ (s : Setting) (p : Process) (member : is_member p.pool.view p.me ≡ tr
       forth may = let it = may-parts s p (Notify x (update_at i)) may in both-true _ _ it.due (ap not it.unsigned)
 
       back : may_notify s p i ≡ true → may_sign s p (Notify x (update_at i)) ≡ true
-      back e = may-now s p (Notify x (update_at i)) (record { member = member; current = refl; unsigned = not-true _ (and-second _ (not (is_signed p (NotifyAt x (update_at i)))) e); due = and-first _ (not (is_signed p (NotifyAt x (update_at i)))) e })
+      back e = may-now s p (Notify x (update_at i))
+          (record {
+            member = member;
+            current = refl;
+            unsigned = not-true _ (and-second _ (not (is_signed p (NotifyAt x (update_at i)))) e);
+            due = and-first _ (not (is_signed p (NotifyAt x (update_at i)))) e;
+          })
 
 pub notify_is_least : NotifyIsLeast
-notify_is_least s p o member in_range least = least_number s p Notifies (notify s p member in_range) 129 o (notify-numbered s p member in_range)
+notify_is_least s p o member in_range least = least_number s p Notifies (notify s p member in_range) 129 o
+    (notify-numbered s p member in_range)
     (least-same 0 129 (may_notify s p) _ o (λ i le lt. sym (may-notify-at s p member in_range i lt)) least) ∙ go o least
   where
-    go : (o : Option ℕ) → IsLeastBelow 129 (may_notify s p) o → option_and_then (notify s p member in_range) o ≡ option_map (λ i. Notify p.pool.view.number (update_at i)) o
+    go : (o : Option ℕ) → IsLeastBelow 129 (may_notify s p) o
+        → option_and_then (notify s p member in_range) o ≡ option_map (λ i. Notify p.pool.view.number (update_at i)) o
     go None least = refl
     go (Some i) least = notify-at s p member in_range i least.1
 
@@ -155,18 +171,26 @@ module _ (s : Setting) (p : Process) where
   pub only-end : (st : Statement) → may_sign s p st ≡ true → kind_of st ≡ Ends → (st ≡ end) × (may_end p ≡ true)
   only-end (End y k) may is =
       let it = may-parts s p (End y k) may in
-      let k_is : k ≡ length (placed p.pool) = eqb-true k (length (placed p.pool)) (and-second (nat_lt 0 (length (notified_updates p.pool))) (k == length (placed p.pool)) it.due) in
-      ((λ i. End (it.current i) (k_is i)), both-true _ _ (both-true _ _ it.member (and-first (nat_lt 0 (length (notified_updates p.pool))) (k == length (placed p.pool)) it.due)) (ap not (subst (λ y. is_signed p (EndAt y) ≡ false) it.current it.unsigned)))
+      let k_is : k ≡ length (placed p.pool) = eqb-true k (length (placed p.pool))
+      (and-second (nat_lt 0 (length (notified_updates p.pool))) (k == length (placed p.pool)) it.due) in (
+        (λ i. End (it.current i) (k_is i)),
+        both-true _ _ (both-true _ _ it.member
+            (and-first (nat_lt 0 (length (notified_updates p.pool))) (k == length (placed p.pool)) it.due))
+            (ap not (subst (λ y. is_signed p (EndAt y) ≡ false) it.current it.unsigned)),
+      )
   only-end _ may is = absurd cc
 
   end-now : may_end p ≡ true → may_sign s p end ≡ true
   end-now e =
-      let first = and-first (is_member p.pool.view p.me && nat_lt 0 (length (notified_updates p.pool))) (not (is_signed p (EndAt p.pool.view.number))) e in
+      let first = and-first (is_member p.pool.view p.me && nat_lt 0 (length (notified_updates p.pool)))
+      (not (is_signed p (EndAt p.pool.view.number))) e in
       may-now s p end (record {
         member = and-first (is_member p.pool.view p.me) (nat_lt 0 (length (notified_updates p.pool))) first;
         current = refl;
-        unsigned = not-true _ (and-second (is_member p.pool.view p.me && nat_lt 0 (length (notified_updates p.pool))) (not (is_signed p (EndAt p.pool.view.number))) e);
-        due = both-true _ _ (and-second (is_member p.pool.view p.me) (nat_lt 0 (length (notified_updates p.pool))) first) (eq-eqb (length (placed p.pool)) (length (placed p.pool)) refl);
+        unsigned = not-true _ (and-second (is_member p.pool.view p.me && nat_lt 0 (length (notified_updates p.pool)))
+            (not (is_signed p (EndAt p.pool.view.number))) e);
+        due = both-true _ _ (and-second (is_member p.pool.view p.me) (nat_lt 0 (length (notified_updates p.pool))) first)
+            (eq-eqb (length (placed p.pool)) (length (placed p.pool)) refl);
       })
 
 pub end_is_least : EndIsLeast
@@ -203,9 +227,12 @@ heard-notified h pool u m =
     (at.1, (subst IsStatement is.1 (All-mem IsClaim h.heard c.0 pool.in_range c.1).1).1)
 
 pub notified_is_found : NotifiedIsFound
-notified_is_found h None pool none = le-ltb 0 (length (notified_updates h)) (empty (notified_updates h) (λ u m. let at = heard-notified h pool u m in let i = numbered-update u at.1 in both_ways _ (none i.0 (omega arith) i.1) (ap (is_notified h) i.2 ∙ at.0)))
+notified_is_found h None pool none = le-ltb 0 (length (notified_updates h))
+    (empty (notified_updates h) (λ u m. let at = heard-notified h pool u m in let i = numbered-update u at.1 in both_ways _
+    (none i.0 (omega arith) i.1) (ap (is_notified h) i.2 ∙ at.0)))
   where
     empty : (us : List Update) → ((u : Update) → Mem u us → ⊥) → length us ≤ 0
     empty [] never = omega arith
     empty (u ∷ us) never = absurd (never u (inl refl))
-notified_is_found h (Some i) pool least = lt-ltb 0 (length (notified_updates h)) (mem-some (notified_updates h) (update_at i) (notified-heard h (update_at i) least.2))
+notified_is_found h (Some i) pool least = lt-ltb 0 (length (notified_updates h))
+    (mem-some (notified_updates h) (update_at i) (notified-heard h (update_at i) least.2))

@@ -20,8 +20,10 @@ outsider_signs_none s p kind outside = none_of_all s p kind (λ st is. never st 
 
 open-due : (s : Setting) (p : Process) (st : Statement) → is_of_open_view (kind_of st) ≡ true → is_due s p st ≡ true → is_ended p ≡ false
 open-due s p (Echo x m b) is due = not-true _ (and-second _ (not (is_ended p)) due)
-open-due s p (Order x k b) is due = not-true _ (and-second _ (not (is_ended p)) (and-first _ _ (and-first _ _ (and-first _ _ (and-first _ _ (and-first _ _ due))))))
-open-due s p (Place x k b) is due = not-true _ (and-second _ (not (is_ended p)) (and-first _ _ (and-first _ _ (and-first _ _ (and-first _ _ due)))))
+open-due s p (Order x k b) is due = not-true _
+    (and-second _ (not (is_ended p)) (and-first _ _ (and-first _ _ (and-first _ _ (and-first _ _ (and-first _ _ due))))))
+open-due s p (Place x k b) is due = not-true _
+    (and-second _ (not (is_ended p)) (and-first _ _ (and-first _ _ (and-first _ _ (and-first _ _ due)))))
 open-due s p (Keep x k b) is due = not-true _ (and-second _ (not (is_ended p)) due)
 open-due s p _ is due = absurd cc
 

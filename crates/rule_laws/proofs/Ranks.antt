@@ -44,24 +44,29 @@ module _ {A B : Type 0} (f : A → Option B) (d : A) where
   first-none [] not = refl
   first-none (x ∷ xs) not = go (f x) (not zero (omega arith)) (first-none xs (λ r lt. not (suc r) (omega (arith, lt))))
     where
-      go : (o : Option B) → is_some o ≡ false → first_some f xs ≡ None → (let it : Option B = elim o [ None ↦ first_some f xs | Some y ↦ Some y ] in it ≡ None)
+      go : (o : Option B) → is_some o ≡ false → first_some f xs ≡ None
+          → (let it : Option B = elim o [ None ↦ first_some f xs | Some y ↦ Some y ] in it ≡ None)
       go None e rest = rest
       go (Some y) e rest = absurd cc
 
-  first-at : (xs : List A) (k : ℕ) → k < length xs → ((j : ℕ) → j < k → is_some (f (slice_index_or xs j d)) ≡ false) → is_some (f (slice_index_or xs k d)) ≡ true → first_some f xs ≡ f (slice_index_or xs k d)
+  first-at : (xs : List A) (k : ℕ) → k < length xs → ((j : ℕ) → j < k → is_some (f (slice_index_or xs j d)) ≡ false)
+      → is_some (f (slice_index_or xs k d)) ≡ true → first_some f xs ≡ f (slice_index_or xs k d)
   first-at [] k lt not e = absurd (omega (arith, lt))
   first-at (x ∷ xs) zero lt not e = go (f x) e
     where
       go : (o : Option B) → is_some o ≡ true → (let it : Option B = elim o [ None ↦ first_some f xs | Some y ↦ Some y ] in it ≡ o)
       go None e = absurd cc
       go (Some y) e = refl
-  first-at (x ∷ xs) (suc k) lt not e = go (f x) (not zero (omega arith)) (first-at xs k (omega (arith, lt)) (λ j less. not (suc j) (omega (arith, less))) e)
+  first-at (x ∷ xs) (suc k) lt not e = go (f x) (not zero (omega arith))
+      (first-at xs k (omega (arith, lt)) (λ j less. not (suc j) (omega (arith, less))) e)
     where
-      go : (o : Option B) → is_some o ≡ false → first_some f xs ≡ f (slice_index_or xs k d) → (let it : Option B = elim o [ None ↦ first_some f xs | Some y ↦ Some y ] in it ≡ f (slice_index_or xs k d))
+      go : (o : Option B) → is_some o ≡ false → first_some f xs ≡ f (slice_index_or xs k d)
+          → (let it : Option B = elim o [ None ↦ first_some f xs | Some y ↦ Some y ] in it ≡ f (slice_index_or xs k d))
       go None e rest = rest
       go (Some y) e rest = absurd cc
 
   -- what is found first is found at the least rank that has an answer
-  pub first-by-rank : (xs : List A) (o : Option ℕ) → IsLeastBelow (length xs) (λ r. is_some (f (slice_index_or xs r d))) o → first_some f xs ≡ option_and_then (λ r. f (slice_index_or xs r d)) o
+  pub first-by-rank : (xs : List A) (o : Option ℕ) → IsLeastBelow (length xs) (λ r. is_some (f (slice_index_or xs r d))) o
+      → first_some f xs ≡ option_and_then (λ r. f (slice_index_or xs r d)) o
   first-by-rank xs None least = first-none xs (λ r lt. least r (omega arith) lt)
   first-by-rank xs (Some k) least = first-at xs k least.1 (λ j lt. least.3 j (omega arith) lt) least.2

@@ -36,9 +36,11 @@ may-now s p st it = both-true _ _ (both-true _ _ (both-true _ _ it.member (eq-eq
 -- ---- a statement of each number
 
 pub third-below : (a x i j : ℕ) → i < j → numbers_below (a ∷ x ∷ i ∷ []) (a ∷ x ∷ j ∷ []) ≡ true
-third-below a x i j lt = go (nat_lt a a) (le-ltb a a (omega arith)) (a == a) (eq-eqb a a refl) (nat_lt x x) (le-ltb x x (omega arith)) (x == x) (eq-eqb x x refl) (nat_lt i j) (lt-ltb i j lt)
+third-below a x i j lt = go (nat_lt a a) (le-ltb a a (omega arith)) (a == a) (eq-eqb a a refl) (nat_lt x x) (le-ltb x x (omega arith))
+    (x == x) (eq-eqb x x refl) (nat_lt i j) (lt-ltb i j lt)
   where
-    go : (b : Bool) → b ≡ false → (c : Bool) → c ≡ true → (d : Bool) → d ≡ false → (e : Bool) → e ≡ true → (f : Bool) → f ≡ true → (b || (c && (d || (e && (f || ((i == j) && false)))))) ≡ true
+    go : (b : Bool) → b ≡ false → (c : Bool) → c ≡ true → (d : Bool) → d ≡ false → (e : Bool) → e ≡ true → (f : Bool) → f ≡ true
+        → (b || (c && (d || (e && (f || ((i == j) && false)))))) ≡ true
     go b is c is' d is'' e is''' f is'''' = cc
 
 module _ {A : Type 0} (f : ℕ → A → Statement) (g : ℕ → Option A) where
@@ -52,15 +54,18 @@ module _ {A : Type 0} (f : ℕ → A → Statement) (g : ℕ → Option A) where
       go None = refl
       go (Some a) = refl
 
-  pub numbered-made : (s : Setting) (p : Process) (kind : Kind) (number n : ℕ) → ((k : ℕ) (a : A) → kind_of (f k a) ≡ kind) → ((k : ℕ) (a : A) → due_numbers p.pool.view (f k a) ≡ number ∷ p.pool.view.number ∷ k ∷ [])
-      → ((st : Statement) → may_sign s p st ≡ true → kind_of st ≡ kind → (k : ℕ) × (a : A) × (k < n) × (g k ≡ Some a) × (f k a ≡ st)) → IsNumbered s p kind made n
+  pub numbered-made : (s : Setting) (p : Process) (kind : Kind) (number n : ℕ) → ((k : ℕ) (a : A) → kind_of (f k a) ≡ kind)
+      → ((k : ℕ) (a : A) → due_numbers p.pool.view (f k a) ≡ number ∷ p.pool.view.number ∷ k ∷ [])
+      → ((st : Statement) → may_sign s p st ≡ true → kind_of st ≡ kind → (k : ℕ) × (a : A) × (k < n) × (g k ≡ Some a) × (f k a ≡ st))
+      → IsNumbered s p kind made n
   numbered-made s p kind number n kinds numbers whole = record {
     kinds = λ k st e. let a = map-some (f k) (g k) st e in ap kind_of (sym a.2) ∙ kinds k a.0;
     rising = λ i j lt a b at at'.
         let one = map-some (f i) (g i) a at in
         let two = map-some (f j) (g j) b at' in
         subst (λ ns. numbers_below ns (due_numbers p.pool.view b) ≡ true) (sym (numbers i one.0) ∙ ap (due_numbers p.pool.view) one.2)
-        (subst (λ ns. numbers_below (number ∷ p.pool.view.number ∷ i ∷ []) ns ≡ true) (sym (numbers j two.0) ∙ ap (due_numbers p.pool.view) two.2) (third-below number p.pool.view.number i j lt));
+        (subst (λ ns. numbers_below (number ∷ p.pool.view.number ∷ i ∷ []) ns ≡ true)
+        (sym (numbers j two.0) ∙ ap (due_numbers p.pool.view) two.2) (third-below number p.pool.view.number i j lt));
     whole = λ st may is. let it = whole st may is in (it.0, it.2, ap (option_map (f it.0)) it.3 ∙ ap Some it.4);
   }
 
@@ -68,11 +73,13 @@ module _ {A : Type 0} (f : ℕ → A → Statement) (g : ℕ → Option A) where
 
 -- Where each statement that may be signed is open, and behind an open one that may not be signed none may be, the first that is open is the
 -- least that is due, or none is due.
-pub first-open : (s : Setting) (p : Process) (kind : Kind) (at : ℕ → Option Statement) (n : ℕ) (open_ : ℕ → Bool) (o : Option ℕ) → IsNumbered s p kind at n
+pub first-open : (s : Setting) (p : Process) (kind : Kind) (at : ℕ → Option Statement) (n : ℕ) (open_ : ℕ → Bool) (o : Option ℕ)
+    → IsNumbered s p kind at n
     → ((k : ℕ) → k < n → may_at s p at k ≡ true → open_ k ≡ true)
     → ((j k : ℕ) → j ≤ k → k < n → open_ j ≡ true → may_at s p at j ≡ false → may_at s p at k ≡ false)
     → IsLeastBelow n open_ o → least_due s p kind ≡ option_and_then (λ k. if may_at s p at k then at k else None) o
-first-open s p kind at n open_ None numbered opens ends least = least_number s p kind at n None numbered (λ k le lt. closed k lt (may_at s p at k) refl (least k le lt))
+first-open s p kind at n open_ None numbered opens ends least = least_number s p kind at n None numbered
+    (λ k le lt. closed k lt (may_at s p at k) refl (least k le lt))
   where
     closed : (k : ℕ) → k < n → (b : Bool) → may_at s p at k ≡ b → open_ k ≡ false → b ≡ false
     closed k lt true may not = absurd (both_ways _ not (opens k lt may))
@@ -84,7 +91,11 @@ first-open s p kind at n open_ (Some k) numbered opens ends least = go (may_at s
     closed j lt false may = refl
 
     none : may_at s p at k ≡ false → (j : ℕ) → 0 ≤ j → j < n → may_at s p at j ≡ false
-    none not j le lt = elim (cases_lt j k) [ inl before ↦ closed j before (may_at s p at j) refl | inr behind ↦ ends k j behind lt least.2 not ]
+    none not j le lt = elim (cases_lt j k) [
+      | inl before ↦ closed j before
+          (may_at s p at j) refl
+      | inr behind ↦ ends k j behind lt least.2 not
+    ]
 
     go : (b : Bool) → may_at s p at k ≡ b → least_due s p kind ≡ (if b then at k else None)
     go true may = least_number s p kind at n (Some k) numbered (least.0, least.1, may, λ j from lt. closed j lt (may_at s p at j) refl)

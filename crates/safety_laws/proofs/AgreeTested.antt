@@ -14,7 +14,8 @@ use Rattle.pool_laws.proofs.Places.{get-some, index-beyond, length-snoc, mem-ran
 use Rattle.pool_laws.proofs.Tests.{and-first, and-second, both-true, is-yes, yes-is}
 
 pub accounts_have_lists : AccountsHaveLists
-accounts_have_lists ps = mem-All HasListOfEachView (map account_of ps) (λ a m. let p = map-mem account_of ps a m in subst HasListOfEachView p.2 (of-process p.0))
+accounts_have_lists ps = mem-All HasListOfEachView (map account_of ps)
+    (λ a m. let p = map-mem account_of ps a m in subst HasListOfEachView p.2 (of-process p.0))
   where
     of-process : (p : Process) → HasListOfEachView (account_of p)
     of-process p =
@@ -43,7 +44,10 @@ module _ {A : Type 0} (E : A → A → Bool) (decides : Decides E) where
   is-same xs ys e = (pointwise_decides {E = E} decides xs ys).1 e
 
   pub prefix-is : (xs ys : List A) → pointwise E xs (take (length xs) ys) ≡ true → IsPrefixOf xs ys
-  prefix-is xs ys e = (drop (length xs) ys, ap (λ zs. zs ++ drop (length xs) ys) (same-is xs (take (length xs) ys) e) ∙ take-append-drop (length xs) ys)
+  prefix-is xs ys e = (
+    drop (length xs) ys,
+    ap (λ zs. zs ++ drop (length xs) ys) (same-is xs (take (length xs) ys) e) ∙ take-append-drop (length xs) ys,
+  )
 
   pub is-prefix : (xs ys : List A) → IsPrefixOf xs ys → pointwise E xs (take (length xs) ys) ≡ true
   is-prefix xs ys p = is-same xs (take (length xs) ys) (sym (take_at xs p.0 (length xs) refl) ∙ ap (take (length xs)) p.1)
@@ -101,7 +105,8 @@ module _ (g : Group) (a : Account) (full : HasListOfEachView a) where
   agrees-there x e = (
     prefix-is same_letter sequence-decides (own x) (g.sequence x) (and-first _ _ e),
     λ v at member left. same-is same_letter sequence-decides (own x) (g.sequence x)
-        (either-way (left_as_member x) (nat_lt (x + 1) (length a.views)) (same_sequence (own x) (g.sequence x)) (and-second _ _ e) (member-there x v at ∙ or-false (is_member v a.me) ∙ member) (lt-ltb (x + 1) (length a.views) left)),
+        (either-way (left_as_member x) (nat_lt (x + 1) (length a.views)) (same_sequence (own x) (g.sequence x)) (and-second _ _ e)
+        (member-there x v at ∙ or-false (is_member v a.me) ∙ member) (lt-ltb (x + 1) (length a.views) left)),
   )
 
   there-agrees : (x : ℕ) → x < length a.views → IsPrefixOf (own x) (g.sequence x) → Whole x → agrees_in g a x ≡ true
@@ -109,8 +114,10 @@ module _ (g : Group) (a : Account) (full : HasListOfEachView a) where
   there-agrees x lt p whole =
       let v = get-some a.views x lt in
       both-true _ _ (is-prefix same_letter sequence-decides (own x) (g.sequence x) p)
-      (unless (left_as_member x) (nat_lt (x + 1) (length a.views)) (same_sequence (own x) (g.sequence x)) (λ member left. is-same same_letter sequence-decides (own x) (g.sequence x)
-      (whole v.0 v.1 (sym (or-false (is_member v.0 a.me)) ∙ sym (member-there x v.0 v.1) ∙ member) (ltb-true (x + 1) (length a.views) left))))
+      (unless (left_as_member x) (nat_lt (x + 1) (length a.views)) (same_sequence (own x) (g.sequence x))
+      (λ member left. is-same same_letter sequence-decides (own x) (g.sequence x)
+      (whole v.0 v.1 (sym (or-false (is_member v.0 a.me)) ∙ sym (member-there x v.0 v.1) ∙ member)
+      (ltb-true (x + 1) (length a.views) left))))
 
   -- nothing is delivered beyond the views
   beyond : (x : ℕ) → length a.views ≤ x → own x ≡ []
@@ -127,20 +134,33 @@ module _ (g : Group) (a : Account) (full : HasListOfEachView a) where
   unfolding Whole
   tested-agrees e = record {
     views = prefix-is same_view views-decide a.views g.views (and-first _ _ e);
-    prefixes = λ x. elim (within x) [ inl lt ↦ (agrees-there x (at x lt)).0 | inr le ↦ (g.sequence x, ap (λ ds. ds ++ g.sequence x) (beyond x le)) ];
+    prefixes = λ x. elim (within x) [
+      | inl lt ↦ (agrees-there x (at x lt)).0
+      | inr le ↦
+          (g.sequence x, ap (λ ds. ds ++ g.sequence x) (beyond x le))
+    ];
     whole = λ x v there member left. (agrees-there x (at x (slice_get-length a.views x v there))).1 v there member left;
   }
     where
       at : (x : ℕ) → x < length a.views → agrees_in g a x ≡ true
-      at x lt = list_all-mem (agrees_in g a) (range_with_len 0 (length a.views)) x (and-second (same_views a.views (take (length a.views) g.views)) (list_all (agrees_in g a) (range_with_len 0 (length a.views))) e) (range-mem 0 (length a.views) x (omega arith) (omega (arith, lt)))
+      at x lt = list_all-mem (agrees_in g a)
+          (range_with_len 0 (length a.views)) x
+          (and-second (same_views a.views (take (length a.views) g.views)) (list_all (agrees_in g a) (range_with_len 0 (length a.views))) e)
+          (range-mem 0 (length a.views) x (omega arith) (omega (arith, lt)))
 
   agrees-tested : AgreesWith g a → agrees_with g a ≡ true
   unfolding Whole
   agrees-tested agrees = both-true _ _ (is-prefix same_view views-decide a.views g.views agrees.views)
-      (each-list_all (agrees_in g a) (range_with_len 0 (length a.views)) (λ x m. there-agrees x (let lt = mem-range 0 (length a.views) x m in omega (arith, lt)) (agrees.prefixes x) (λ v there member left. agrees.whole x v there member left)))
+      (each-list_all (agrees_in g a) (range_with_len 0 (length a.views))
+      (λ x m. there-agrees x (let lt = mem-range 0 (length a.views) x m in omega (arith, lt)) (agrees.prefixes x)
+      (λ v there member left. agrees.whole x v there member left)))
 
 pub agree_is_tested : AgreeIsTested
 agree_is_tested accounts full = (
-  λ e. mem-All (AgreesWith (group_of accounts)) accounts (λ a m. tested-agrees (group_of accounts) a (All-mem HasListOfEachView accounts a full m) (list_all-mem (agrees_with (group_of accounts)) accounts a e m)),
-  λ all. each-list_all (agrees_with (group_of accounts)) accounts (λ a m. agrees-tested (group_of accounts) a (All-mem HasListOfEachView accounts a full m) (All-mem (AgreesWith (group_of accounts)) accounts a all m)),
+  λ e. mem-All (AgreesWith (group_of accounts)) accounts
+      (λ a m. tested-agrees (group_of accounts) a (All-mem HasListOfEachView accounts a full m)
+      (list_all-mem (agrees_with (group_of accounts)) accounts a e m)),
+  λ all. each-list_all (agrees_with (group_of accounts)) accounts
+      (λ a m. agrees-tested (group_of accounts) a (All-mem HasListOfEachView accounts a full m)
+      (All-mem (AgreesWith (group_of accounts)) accounts a all m)),
 )

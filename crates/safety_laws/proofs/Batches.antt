@@ -35,11 +35,13 @@ places-at-most ds es are =
     let le = no-more (places_in ds) (places_in ds) es (omega arith) are in
     omega (arith, split, le)
 
-pub places-one-more : (ds es : List Delivered) (e : Delivered) → AreAt (places_in ds) (e ∷ es) → places_in (ds ++ e ∷ es) ≡ suc (places_in ds)
+pub places-one-more : (ds es : List Delivered) (e : Delivered) → AreAt (places_in ds) (e ∷ es)
+    → places_in (ds ++ e ∷ es) ≡ suc (places_in ds)
 places-one-more ds es e are =
     let k : ℕ = places_in ds in
     let same : max k (e.place + 1) ≡ suc k = (let at = are e (inl refl) in omega (arith, at)) in
-    fold-append (λ (most : ℕ) (d : Delivered). max most (d.place + 1)) 0 ds (e ∷ es) ∙ ap (λ n. behind n es) same ∙ as-many k es (λ d m. are d (inr m))
+    fold-append (λ (most : ℕ) (d : Delivered). max most (d.place + 1)) 0 ds (e ∷ es) ∙ ap (λ n. behind n es) same ∙ as-many k es
+    (λ d m. are d (inr m))
 
 -- ---- what a place delivers
 
@@ -55,26 +57,31 @@ one k m payload = record { place = k; message = m; payload = payload }
 
 module _ (h : Pool) (k : ℕ) where
   delivery-cons : (m : Message) (ms : Batch) (ds : List Delivered) → delivery h k (m ∷ ms) ≡ Some ds
-      → (payload : List ℕ) × (rest : List Delivered) × (payload_at h m ≡ Some payload) × (delivery h k ms ≡ Some rest) × (one k m payload ∷ rest ≡ ds)
+      → (payload : List ℕ) × (rest : List Delivered) × (payload_at h m ≡ Some payload) × (delivery h k ms ≡ Some rest)
+      × (one k m payload ∷ rest ≡ ds)
   delivery-cons m ms ds e =
-      let paid = then-some (λ payload. option_map (λ (ds : List Delivered). one k m payload ∷ ds) (delivery h k ms)) (payload_at h m) ds e in
+      let paid = then-some (λ payload. option_map (λ (ds : List Delivered). one k m payload ∷ ds) (delivery h k ms))
+      (payload_at h m) ds e in
       let rest = map-some (λ (ds : List Delivered). one k m paid.0 ∷ ds) (delivery h k ms) ds paid.2 in
       (paid.0, rest.0, paid.1, rest.1, rest.2)
 
-  pub delivery-each : (P : Delivered → Type 0) → ((m : Message) (payload : List ℕ) → payload_at h m ≡ Some payload → P (one k m payload)) → (b : Batch) (ds : List Delivered) → delivery h k b ≡ Some ds → (d : Delivered) → Mem d ds → P d
+  pub delivery-each : (P : Delivered → Type 0) → ((m : Message) (payload : List ℕ) → payload_at h m ≡ Some payload → P (one k m payload))
+      → (b : Batch) (ds : List Delivered) → delivery h k b ≡ Some ds → (d : Delivered) → Mem d ds → P d
   delivery-each P each [] ds e d there = absurd (let none : [] ≡ ds = cc in subst (Mem d) (sym none) there)
   delivery-each P each (m ∷ ms) ds e d there =
       let parts = delivery-cons m ms ds e in
       go parts.0 parts.1 parts.2 (λ m. delivery-each P each ms parts.1 parts.3 d m) (subst (Mem d) (sym parts.4) there)
     where
-      go : (payload : List ℕ) (rest : List Delivered) → payload_at h m ≡ Some payload → (Mem d rest → P d) → Mem d (one k m payload ∷ rest) → P d
+      go : (payload : List ℕ) (rest : List Delivered) → payload_at h m ≡ Some payload → (Mem d rest → P d) → Mem d (one k m payload ∷ rest)
+          → P d
       go payload rest paid later (inl is) = subst P is (each m payload paid)
       go payload rest paid later (inr m') = later m'
 
   pub delivery-at : (b : Batch) (ds : List Delivered) → delivery h k b ≡ Some ds → AreAt k ds
   delivery-at b ds e = delivery-each (λ d. d.place ≡ k) (λ m payload paid. refl) b ds e
 
-  pub delivery-paid : (b : Batch) (ds : List Delivered) → delivery h k b ≡ Some ds → (d : Delivered) → Mem d ds → payload_at h d.message ≡ Some d.payload
+  pub delivery-paid : (b : Batch) (ds : List Delivered) → delivery h k b ≡ Some ds → (d : Delivered) → Mem d ds
+      → payload_at h d.message ≡ Some d.payload
   delivery-paid b ds e = delivery-each (λ d. payload_at h d.message ≡ Some d.payload) (λ m payload paid. paid) b ds e
 
   pub delivery-names : (b : Batch) (ds : List Delivered) → delivery h k b ≡ Some ds → map named_at ds ≡ map (with_place k) b
@@ -84,7 +91,8 @@ module _ (h : Pool) (k : ℕ) where
       ap (map named_at) (sym parts.4) ∙ (λ i. with_place k m ∷ delivery-names ms parts.1 parts.3 i)
 
 -- the batch that the next place delivers
-pub next-place : (p : Process) (ds : List Delivered) → deliverable p ≡ Some ds → (b : Batch) × (place_at p.pool (places_in p.delivered) ≡ Some b) × (delivery p.pool (places_in p.delivered) b ≡ Some ds)
+pub next-place : (p : Process) (ds : List Delivered) → deliverable p ≡ Some ds
+    → (b : Batch) × (place_at p.pool (places_in p.delivered) ≡ Some b) × (delivery p.pool (places_in p.delivered) b ≡ Some ds)
 next-place p ds e = then-some (delivery p.pool (places_in p.delivered)) (place_at p.pool (places_in p.delivered)) ds e
 
 pub next-at : (p : Process) (ds : List Delivered) → deliverable p ≡ Some ds → AreAt (places_in p.delivered) ds
@@ -104,7 +112,8 @@ spread-append a (b ∷ bs) cs =
     ∙ sym (append_assoc (map (with_place a) b) (spread (a + 1) bs) (spread (a + suc (length bs)) cs))
 
 pub spread-snoc : (bs : List Batch) (b : Batch) → spread 0 (bs ++ b ∷ []) ≡ spread 0 bs ++ map (with_place (length bs)) b
-spread-snoc bs b = spread-append 0 bs (b ∷ []) ∙ ap (λ es. spread 0 bs ++ es) (append-nil (map (with_place (0 + length bs)) b) ∙ ap (λ n. map (with_place n) b) same)
+spread-snoc bs b = spread-append 0 bs (b ∷ []) ∙ ap (λ es. spread 0 bs ++ es)
+    (append-nil (map (with_place (0 + length bs)) b) ∙ ap (λ n. map (with_place n) b) same)
   where
     same : 0 + length bs ≡ length bs
     same = omega arith
@@ -115,17 +124,20 @@ spread-longer a bs cs =
     let both = length-append (spread a bs) (spread (a + length bs) cs) in
     omega (arith, split, both)
 
-append-same : {A : Type 0} (zs xs ys : List A) → ((i : ℕ) (x y : A) → slice_get xs i ≡ Some x → slice_get ys i ≡ Some y → x ≡ y) → (i : ℕ) (x y : A) → slice_get (zs ++ xs) i ≡ Some x → slice_get (zs ++ ys) i ≡ Some y → x ≡ y
+append-same : {A : Type 0} (zs xs ys : List A) → ((i : ℕ) (x y : A) → slice_get xs i ≡ Some x → slice_get ys i ≡ Some y → x ≡ y)
+    → (i : ℕ) (x y : A) → slice_get (zs ++ xs) i ≡ Some x → slice_get (zs ++ ys) i ≡ Some y → x ≡ y
 append-same [] xs ys same i x y at at' = same i x y at at'
 append-same (z ∷ zs) xs ys same zero x y at at' = cc
 append-same (z ∷ zs) xs ys same (suc i) x y at at' = append-same zs xs ys same i x y at at'
 
 -- where the batches are the same as far as both lists reach, so are their messages
-pub spread-same : (a : ℕ) (bs cs : List Batch) → ((k : ℕ) (b c : Batch) → slice_get bs k ≡ Some b → slice_get cs k ≡ Some c → b ≡ c) → (i : ℕ) (x y : ℕ × Message) → slice_get (spread a bs) i ≡ Some x → slice_get (spread a cs) i ≡ Some y → x ≡ y
+pub spread-same : (a : ℕ) (bs cs : List Batch) → ((k : ℕ) (b c : Batch) → slice_get bs k ≡ Some b → slice_get cs k ≡ Some c → b ≡ c)
+    → (i : ℕ) (x y : ℕ × Message) → slice_get (spread a bs) i ≡ Some x → slice_get (spread a cs) i ≡ Some y → x ≡ y
 spread-same a [] cs same i x y at at' = absurd cc
 spread-same a (b ∷ bs) [] same i x y at at' = absurd cc
 spread-same a (b ∷ bs) (c ∷ cs) same i x y at at' =
-    append-same (map (with_place a) b) (spread (a + 1) bs) (spread (a + 1) cs) (spread-same (a + 1) bs cs (λ k b' c'. same (suc k) b' c')) i x y at
+    append-same (map (with_place a) b) (spread (a + 1) bs) (spread (a + 1) cs)
+    (spread-same (a + 1) bs cs (λ k b' c'. same (suc k) b' c')) i x y at
     (ap (λ b. slice_get (map (with_place a) b ++ spread (a + 1) cs) i) (same zero b c refl refl) ∙ at')
 
 pub of-one : (a : ℕ) (b : Batch) → map (λ (e : ℕ × Message). e.1) (map (with_place a) b) ≡ b
@@ -134,4 +146,5 @@ of-one a (m ∷ ms) = ap (λ ms. m ∷ ms) (of-one a ms)
 
 pub spread-messages : (a : ℕ) (bs : List Batch) → map (λ (e : ℕ × Message). e.1) (spread a bs) ≡ messages bs
 spread-messages a [] = refl
-spread-messages a (b ∷ bs) = map-append (λ (e : ℕ × Message). e.1) (map (with_place a) b) (spread (a + 1) bs) ∙ (λ i. of-one a b i ++ spread-messages (a + 1) bs i)
+spread-messages a (b ∷ bs) = map-append (λ (e : ℕ × Message). e.1) (map (with_place a) b)
+    (spread (a + 1) bs) ∙ (λ i. of-one a b i ++ spread-messages (a + 1) bs i)

@@ -46,7 +46,8 @@ split {A} {B} g (d ∷ ds) (x ∷ xs) ys e =
     tail-is : (zs ws : List B) → g d ∷ zs ≡ x ∷ ws → zs ≡ ws
     tail-is zs ws e = cc
 
-flat_map-range : {A : Type 0} (g h : ℕ → List A) (a n : ℕ) → ((k : ℕ) → a ≤ k → g k ≡ h k) → flat_map g (range_with_len a n) ≡ flat_map h (range_with_len a n)
+flat_map-range : {A : Type 0} (g h : ℕ → List A) (a n : ℕ) → ((k : ℕ) → a ≤ k → g k ≡ h k)
+    → flat_map g (range_with_len a n) ≡ flat_map h (range_with_len a n)
 flat_map-range g h a zero same = refl
 flat_map-range g h a (suc n) same = λ i. same a (omega arith) i ++ flat_map-range g h (a + 1) n (λ k le. same k (omega (arith, le))) i
 
@@ -83,11 +84,13 @@ spread-from a (b ∷ bs) x m = elim (append-mem (map (with_place a) b) (spread (
 later-from : (a : ℕ) (bs : List Batch) (fs : List Delivered) → map named_at fs ≡ spread a bs → (d : Delivered) → Mem d fs → a ≤ d.place
 later-from a bs fs e d m = spread-from a bs (named_at d) (subst (Mem (named_at d)) e (mem-map named_at fs d m))
 
-module _ (a : ℕ) (b : Batch) (bs : List Batch) (es fs : List Delivered) (first : map named_at es ≡ map (with_place a) b) (second : map named_at fs ≡ spread (a + 1) bs) where
+module _ (a : ℕ) (b : Batch) (bs : List Batch) (es fs : List Delivered) (first : map named_at es ≡ map (with_place a) b)
+    (second : map named_at fs ≡ spread (a + 1) bs) where
   at-first : at_place a (es ++ fs) ≡ es
   at-first =
       filter-append (λ (d : Delivered). d.place == a) es fs
-      ∙ (λ i. all-at a es (first-at a b es first) i ++ none-at a fs (λ d m is. (let le = later-from (a + 1) bs fs second d m in absurd (omega (arith, le, is)))) i)
+      ∙ (λ i. all-at a es (first-at a b es first) i
+      ++ none-at a fs (λ d m is. (let le = later-from (a + 1) bs fs second d m in absurd (omega (arith, le, is)))) i)
       ∙ append-nil es
 
   at-later : (k : ℕ) → a + 1 ≤ k → at_place k (es ++ fs) ≡ at_place k fs
@@ -95,23 +98,27 @@ module _ (a : ℕ) (b : Batch) (bs : List Batch) (es fs : List Delivered) (first
       filter-append (λ (d : Delivered). d.place == k) es fs
       ∙ ap (λ es. es ++ at_place k fs) (none-at k es (λ d m is. (let at = first-at a b es first d m in absurd (omega (arith, le, is, at)))))
 
-together-from : (a : ℕ) (bs : List Batch) (ds : List Delivered) → map named_at ds ≡ spread a bs → flat_map (λ k. at_place k ds) (range_with_len a (length bs)) ≡ ds
+together-from : (a : ℕ) (bs : List Batch) (ds : List Delivered) → map named_at ds ≡ spread a bs
+    → flat_map (λ k. at_place k ds) (range_with_len a (length bs)) ≡ ds
 together-from a [] [] e = refl
 together-from a [] (d ∷ ds) e = absurd cc
 together-from a (b ∷ bs) ds e =
     let parts = split named_at ds (map (with_place a) b) (spread (a + 1) bs) e in
     subst (λ ds. flat_map (λ k. at_place k ds) (range_with_len a (suc (length bs))) ≡ ds) (sym parts.is)
     (λ i. at-first a b bs parts.one parts.two parts.first parts.second i
-    ++ (flat_map-range (λ k. at_place k (parts.one ++ parts.two)) (λ k. at_place k parts.two) (a + 1) (length bs) (at-later a b bs parts.one parts.two parts.first parts.second)
+    ++ (flat_map-range (λ k. at_place k (parts.one ++ parts.two)) (λ k. at_place k parts.two) (a + 1) (length bs)
+    (at-later a b bs parts.one parts.two parts.first parts.second)
     ∙ together-from (a + 1) bs parts.two parts.second) i)
 
-batch-from : (a : ℕ) (bs : List Batch) (ds : List Delivered) → map named_at ds ≡ spread a bs → (j : ℕ) (b : Batch) → slice_get bs j ≡ Some b → batch_at (a + j) ds ≡ b
+batch-from : (a : ℕ) (bs : List Batch) (ds : List Delivered) → map named_at ds ≡ spread a bs → (j : ℕ) (b : Batch) → slice_get bs j ≡ Some b
+    → batch_at (a + j) ds ≡ b
 batch-from a [] ds e j b at = absurd cc
 batch-from a (b ∷ bs) ds e zero c at =
     let parts = split named_at ds (map (with_place a) b) (spread (a + 1) bs) e in
     let here : a + 0 ≡ a = omega arith in
     let is : b ≡ c = cc in
-    ap (λ k. batch_at k ds) here ∙ ap (batch_at a) parts.is ∙ ap (map (λ (d : Delivered). d.message)) (at-first a b bs parts.one parts.two parts.first parts.second)
+    ap (λ k. batch_at k ds) here ∙ ap (batch_at a) parts.is ∙ ap (map (λ (d : Delivered). d.message))
+    (at-first a b bs parts.one parts.two parts.first parts.second)
     ∙ two-ways parts.one ∙ ap (map (λ (n : ℕ × Message). n.1)) parts.first ∙ of-one a b ∙ is
   where
     two-ways : (es : List Delivered) → map (λ (d : Delivered). d.message) es ≡ map (λ (n : ℕ × Message). n.1) (map named_at es)
@@ -125,7 +132,8 @@ batch-from a (b ∷ bs) ds e (suc j) c at =
     ∙ batch-from (a + 1) bs parts.two parts.second j c at
 
 -- what stands at a place is its batch
-batch-of : (bs : List Batch) (ds : List Delivered) → map named_at ds ≡ spread 0 bs → (k : ℕ) (b : Batch) → slice_get bs k ≡ Some b → batch_at k ds ≡ b
+batch-of : (bs : List Batch) (ds : List Delivered) → map named_at ds ≡ spread 0 bs → (k : ℕ) (b : Batch) → slice_get bs k ≡ Some b
+    → batch_at k ds ≡ b
 batch-of bs ds e k b at = let same : k ≡ 0 + k = omega arith in ap (λ k. batch_at k ds) same ∙ batch-from 0 bs ds e k b at
 
 -- ---- so it is at the end
@@ -135,7 +143,8 @@ module _ (f : Family) (premises : Premises f) where
   nothing-stands [] e = record { together = refl; batches = λ k lt. absurd (omega (arith, lt)) }
   nothing-stands (d ∷ ds) e = absurd cc
 
-  pub view-stands : (v : View) → IsOneView f v → (c : Correct) → Mem c f.correct → (ds : List Delivered) → ViewSo f.setting c.turns (end_of f.setting c) v ds → StandsByPlace ds
+  pub view-stands : (v : View) → IsOneView f v → (c : Correct) → Mem c f.correct → (ds : List Delivered)
+      → ViewSo f.setting c.turns (end_of f.setting c) v ds → StandsByPlace ds
   view-stands v one c m ds so = record {
     together = ap (λ n. flat_map (λ k. at_place k ds) (range_with_len 0 n)) so.count ∙ together-from 0 so.batches ds so.as_placed;
     batches = λ k lt.
@@ -163,24 +172,30 @@ module _ (f : Family) (premises : Premises f) where
   views-same v one c c' m m' ds es so so' k lt lt' =
       let b = get-some so.batches k (let count = so.count in omega (arith, lt, count)) in
       let b' = get-some so'.batches k (let count = so'.count in omega (arith, lt', count)) in
-      batch-of so.batches ds so.as_placed k b.0 b.1 ∙ same-batch f v one c c' m m' ds es so so' k b.0 b'.0 b.1 b'.1 ∙ sym (batch-of so'.batches es so'.as_placed k b'.0 b'.1)
+      batch-of so.batches ds so.as_placed k b.0 b.1 ∙ same-batch f v one c c' m m' ds es so so' k b.0 b'.0 b.1 b'.1 ∙ sym
+      (batch-of so'.batches es so'.as_placed k b'.0 b'.1)
 
   abbrev of_view : Correct → ℕ → List Delivered
   of_view c x = delivered_in (account_of (end_of f.setting c)) x
 
   same : (c c' : Correct) → Mem c f.correct → Mem c' f.correct → (x : ℕ) → HaveSameBatches (of_view c x) (of_view c' x)
-  same c c' m m' x k lt lt' = go (part f.setting c.turns (end_of f.setting c) (of-history f premises c) x) (part f.setting c'.turns (end_of f.setting c') (of-history f premises c') x)
+  same c c' m m' x k lt lt' = go (part f.setting c.turns (end_of f.setting c) (of-history f premises c) x)
+      (part f.setting c'.turns (end_of f.setting c') (of-history f premises c') x)
     where
-      go : Part f.setting c.turns (end_of f.setting c) x → Part f.setting c'.turns (end_of f.setting c') x → batch_at k (of_view c x) ≡ batch_at k (of_view c' x)
+      go : Part f.setting c.turns (end_of f.setting c) x → Part f.setting c'.turns (end_of f.setting c') x
+          → batch_at k (of_view c x) ≡ batch_at k (of_view c' x)
       go (nothing none) there = absurd (none-there (of_view c x) k none lt)
       go here (nothing none) = absurd (none-there (of_view c' x) k none lt')
       go (something v in_v so) (something w in_w so_w) =
           let is : v ≡ w = views-agree f premises x c c' m m' v w in_v in_w in
           let one = one-view f premises c m v (slice_get-mem (views_of (end_of f.setting c)) x v in_v) in
-          views-same v one c c' m m' (of_view c x) (of_view c' x) so (subst (λ v. ViewSo f.setting c'.turns (end_of f.setting c') v (of_view c' x)) (sym is) so_w) k lt lt'
+          views-same v one c c' m m' (of_view c x)
+          (of_view c' x) so (subst (λ v. ViewSo f.setting c'.turns (end_of f.setting c') v (of_view c' x)) (sym is) so_w) k lt lt'
 
   pub are-placed : ArePlaced (accounts f)
   are-placed = record {
     by_place = each-account f (λ a. (x : ℕ) → StandsByPlace (delivered_in a x)) stands;
-    same = each-account f (λ a. All (λ b. (x : ℕ) → HaveSameBatches (delivered_in a x) (delivered_in b x)) (accounts f)) (λ c m. each-account f (λ b. (x : ℕ) → HaveSameBatches (delivered_in (account_of (end_of f.setting c)) x) (delivered_in b x)) (λ c' m'. same c c' m m'));
+    same = each-account f (λ a. All (λ b. (x : ℕ) → HaveSameBatches (delivered_in a x) (delivered_in b x)) (accounts f))
+        (λ c m. each-account f (λ b. (x : ℕ) → HaveSameBatches (delivered_in (account_of (end_of f.setting c)) x) (delivered_in b x))
+        (λ c' m'. same c c' m m'));
   }

@@ -39,7 +39,8 @@ abbrev PerceivedIn : Family → View → Update → Type 0
 PerceivedIn f v u = (p : Process) × Mem p (family.ends f) × (is_member v p.me ≡ true) × Contains p.perceived (v.number, u)
 
 -- a correct member that signed the Notify perceived it
-signed-perceived : (f : Family) (v : View) → IsOneView f v → (c : Correct) → Mem c f.correct → (u : Update) → Mem (Notify v.number u) (statements_of (end_of f.setting c)) → PerceivedIn f v u
+signed-perceived : (f : Family) (v : View) → IsOneView f v → (c : Correct) → Mem c f.correct → (u : Update)
+    → Mem (Notify v.number u) (statements_of (end_of f.setting c)) → PerceivedIn f v u
 signed-perceived f v one c m u signed = go (due-at f v one c m (Notify v.number u) signed refl)
   where
     go : DueAt f v (Notify v.number u) → PerceivedIn f v u
@@ -47,32 +48,45 @@ signed-perceived f v one c m u signed = go (due-at f v one c m (Notify v.number 
         let by : Process = stood.by in (
           by,
           Contains-mem (family.ends f) by stood.correct,
-          subst (λ me. is_member v me ≡ true) (sym stood.grown.me) (subst (λ (v : View). is_member v q.me ≡ true) at (signing-member f.setting q (Notify v.number u) may)),
-          All-mem (Contains by.perceived) q.perceived (v.number, u) stood.grown.perceived (perceived-mem q (v.number, u) (notify-perceived f.setting q v.number u may)),
+          subst (λ me. is_member v me ≡ true) (sym stood.grown.me)
+              (subst (λ (v : View). is_member v q.me ≡ true) at (signing-member f.setting q (Notify v.number u) may)),
+          All-mem (Contains by.perceived) q.perceived (v.number, u) stood.grown.perceived
+              (perceived-mem q (v.number, u) (notify-perceived f.setting q v.number u may)),
         )
 
-notified-perceived : (f : Family) (v : View) → IsOneView f v → (q : Process) → StoodSo f q → q.pool.view ≡ v → (u : Update) → is_notified q.pool u ≡ true → PerceivedIn f v u
-notified-perceived f v one q stood at u e = go (some-correct f v one (says q.pool st) (subst (λ (v : View). faulty (length v.members) < length (filter (says q.pool st) v.members)) at (ltb-true _ (length (backers q.pool st)) e)))
+notified-perceived : (f : Family) (v : View) → IsOneView f v → (q : Process) → StoodSo f q → q.pool.view ≡ v → (u : Update)
+    → is_notified q.pool u ≡ true → PerceivedIn f v u
+notified-perceived f v one q stood at u e = go
+    (some-correct f v one (says q.pool st)
+    (subst (λ (v : View). faulty (length v.members) < length (filter (says q.pool st) v.members)) at
+    (ltb-true _ (length (backers q.pool st)) e)))
   where
     st : Statement
     st = Notify q.pool.view.number u
 
     go : (c : Correct) × Mem c f.correct × (says q.pool (Notify q.pool.view.number u) c.me ≡ true) → PerceivedIn f v u
     go (c, m, said) =
-        let signed : Mem (Notify q.pool.view.number u) (statements_of (end_of f.setting c)) = signed-by f (Notify q.pool.view.number u) c m (said-may_back f v q one stood (Notify q.pool.view.number u) c.me said) in
+        let signed : Mem (Notify q.pool.view.number u)
+        (statements_of (end_of f.setting c)) = signed-by f (Notify q.pool.view.number u) c m
+        (said-may_back f v q one stood (Notify q.pool.view.number u) c.me said) in
         signed-perceived f v one c m u (subst (λ (w : View). Mem (Notify w.number u) (statements_of (end_of f.setting c))) at signed)
 
 free-notified : (s : Setting) (h : Pool) (w : Value) → is_free s h w ≡ true → is_notified h w.update ≡ true
-free-notified s h w e = and-first (is_notified h w.update) (is_possible (keyed s) h.view w.update) (and-four (is_notified h w.update && is_possible (keyed s) h.view w.update) (is_quorum h (count_by (λ k. nat_le k w.cut) (ends h))) (list_any (λ k. k == w.cut) (ends h)) ((w.cut == 0) || is_some (place_at h (w.cut - 1))) e).0
+free-notified s h w e = and-first (is_notified h w.update) (is_possible (keyed s) h.view w.update)
+    (and-four (is_notified h w.update && is_possible (keyed s) h.view w.update) (is_quorum h (count_by (λ k. nat_le k w.cut) (ends h)))
+    (list_any (λ k. k == w.cut) (ends h)) ((w.cut == 0) || is_some (place_at h (w.cut - 1))) e).0
 
-causes-of : (f : Family) → Premises f → (c : Correct) → Mem c f.correct → (x : ℕ) (v w : View) → slice_get (views_of (end_of f.setting c)) x ≡ Some v → slice_get (views_of (end_of f.setting c)) (suc x) ≡ Some w → HasCause (accounts f) (keyed f.setting) v w
+causes-of : (f : Family) → Premises f → (c : Correct) → Mem c f.correct → (x : ℕ) (v w : View)
+    → slice_get (views_of (end_of f.setting c)) x ≡ Some v → slice_get (views_of (end_of f.setting c)) (suc x) ≡ Some w
+    → HasCause (accounts f) (keyed f.setting) v w
 causes-of f premises c m x v w at_v at_w =
     let p : Process = end_of f.setting c in
     let l = left-before p x w at_w in
     let so = (of-history f premises c).lefts x l.0 l.1 in
     let in_l = left-view p x l.0 l.1 in
     let one = one-view f premises c m l.0.view (slice_get-mem (views_of p) x l.0.view in_l) in
-    let free = acked_was_free f l.0.view so.rank so.value one (ready-ack f l.0.view one so.rank so.value (backed f l.0.view one c m _ so.decided)) in
+    let free = acked_was_free f l.0.view so.rank so.value one
+    (ready-ack f l.0.view one so.rank so.value (backed f l.0.view one c m _ so.decided)) in
     let by = notified-perceived f l.0.view one free.0 free.1 free.2 so.value.update (free-notified f.setting free.0.pool so.value free.4) in
     subst (λ v. HasCause (accounts f) (keyed f.setting) v w) (some-is l.0.view v _ in_l at_v) (record {
       update = so.value.update;
@@ -84,7 +98,8 @@ causes-of f premises c m x v w at_v at_w =
       perceived = by.3;
     })
 
-pub causes : (f : Family) → Premises f → (x : ℕ) (v w : View) → slice_get (group_of (accounts f)).views x ≡ Some v → slice_get (group_of (accounts f)).views (x + 1) ≡ Some w → HasCause (accounts f) (keyed f.setting) v w
+pub causes : (f : Family) → Premises f → (x : ℕ) (v w : View) → slice_get (group_of (accounts f)).views x ≡ Some v
+    → slice_get (group_of (accounts f)).views (x + 1) ≡ Some w → HasCause (accounts f) (keyed f.setting) v w
 causes f premises x v w at_v at_w = go (whose f (λ (a : Account). a.views))
   where
     next-is : x + 1 ≡ suc x
@@ -96,4 +111,5 @@ causes f premises x v w at_v at_w = go (whose f (λ (a : Account). a.views))
 
     go : Whose f (λ (a : Account). a.views) → HasCause (accounts f) (keyed f.setting) v w
     go (nobody none) = absurd (none-at (group_of (accounts f)).views none at_v)
-    go (its c m is) = causes-of f premises c m x v w (ap (λ vs. slice_get vs x) is ∙ at_v) (ap (λ vs. slice_get vs (suc x)) is ∙ ap (slice_get (group_of (accounts f)).views) (sym next-is) ∙ at_w)
+    go (its c m is) = causes-of f premises c m x v w (ap (λ vs. slice_get vs x) is ∙ at_v)
+        (ap (λ vs. slice_get vs (suc x)) is ∙ ap (slice_get (group_of (accounts f)).views) (sym next-is) ∙ at_w)

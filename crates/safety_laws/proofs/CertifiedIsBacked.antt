@@ -22,7 +22,8 @@ use Rattle.pool_laws.proofs.Slots.{is-same_statement}
 -- ---- each process of a family has a number of its own
 
 increasing-at : (xs : List ℕ) → IsStrictlyIncreasing xs → (d i : ℕ) → i + suc d < length xs → slice_index xs i < slice_index xs (i + suc d)
-increasing-at xs up zero i lt = let next : i + suc zero ≡ i + 1 = omega arith in subst (λ j. slice_index xs i < slice_index xs j) (sym next) (up i (omega (arith, lt)))
+increasing-at xs up zero i lt = let next : i + suc zero
+    ≡ i + 1 = omega arith in subst (λ j. slice_index xs i < slice_index xs j) (sym next) (up i (omega (arith, lt)))
 increasing-at xs up (suc d) i lt =
     let before = increasing-at xs up d i (omega (arith, lt)) in
     let step = up (i + suc d) (omega (arith, lt)) in
@@ -45,7 +46,8 @@ module _ (f : Family) (rising : IsStrictlyIncreasing (numbers f)) where
       let long = length-numbers f.correct in
       let gap : i + suc (j - suc i) ≡ j = omega (arith, lt) in
       let up = increasing-at (numbers f) rising (j - suc i) i (omega (arith, gap, far, long)) in
-      let up' : slice_index (numbers f) i < slice_index (numbers f) j = subst (λ k. slice_index (numbers f) i < slice_index (numbers f) k) gap up in
+      let up' : slice_index (numbers f) i < slice_index (numbers f) j = subst
+      (λ k. slice_index (numbers f) i < slice_index (numbers f) k) gap up in
       let one = index-map f.correct i a at_i in
       let two = index-map f.correct j b at_j in
       omega (arith, up', one, two)
@@ -65,25 +67,31 @@ module _ (f : Family) (rising : IsStrictlyIncreasing (numbers f)) where
 
 module _ (f : Family) (v : View) (q : Process) (one : IsOneView f v) (stood : StoodSo f q) where
   -- a claim on st from a correct process p stands in its signed list
-  pub own-word : (c : Claim) → IsFrom f.setting (handed f) q.signed c → (p : Process) → Mem p (ends f) → p.me ≡ c.signer → Mem c.statement (statements_of p)
+  pub own-word : (c : Claim) → IsFrom f.setting (handed f) q.signed c → (p : Process) → Mem p (ends f) → p.me ≡ c.signer
+      → Mem c.statement (statements_of p)
   own-word c (inl handed') p m e = Contains-mem (statements_of p) c.statement
-      (All-mem (λ (p : Process). p.me ≡ c.signer → Contains (statements_of p) c.statement) (ends f) p (All-mem (IsOwned f) (handed f) c one.premises.honest (Contains-mem (handed f) c handed'.0) handed'.1) m e)
+      (All-mem (λ (p : Process). p.me ≡ c.signer → Contains (statements_of p) c.statement)
+      (ends f) p (All-mem (IsOwned f) (handed f) c one.premises.honest (Contains-mem (handed f) c handed'.0) handed'.1) m e)
   own-word c (inr own) p m e =
       let a = map-mem (end_of f.setting) f.correct p m in
       let b = map-mem (end_of f.setting) f.correct stood.by (Contains-mem (ends f) stood.by stood.correct) in
-      let in_by : Mem c stood.by.signed = subst (Mem c) stood.grown.signed.1 (mem-append q.signed stood.grown.signed.0 c (Contains-mem q.signed c own)) in
+      let in_by : Mem c stood.by.signed = subst (Mem c) stood.grown.signed.1
+      (mem-append q.signed stood.grown.signed.0 c (Contains-mem q.signed c own)) in
       let in_end : Mem c (end_of f.setting b.0).signed = subst (λ (p : Process). Mem c p.signed) (sym b.2) in_by in
       let signer : c.signer ≡ b.0.me = own-signers f.setting b.0.me b.0.batch_limit b.0.turns c in_end ∙ me-end_of f.setting b.0 in
       let number : a.0.me ≡ b.0.me = sym (me-end_of f.setting a.0) ∙ ap (λ (p : Process). p.me) a.2 ∙ e ∙ signer in
       let same : a.0 ≡ b.0 = one-of-number f one.premises.rising a.0 b.0 a.1 b.1 number in
-      subst (λ (p : Process). Mem c.statement (statements_of p)) (ap (end_of f.setting) (sym same) ∙ a.2) (mem-map (λ (c : Claim). c.statement) (end_of f.setting b.0).signed c in_end)
+      subst (λ (p : Process). Mem c.statement (statements_of p)) (ap (end_of f.setting) (sym same) ∙ a.2)
+      (mem-map (λ (c : Claim). c.statement) (end_of f.setting b.0).signed c in_end)
 
   -- what was heard of a correct process on a slot stands in its signed list
-  pub heard-word : (c : Correct) → Mem c f.correct → (slot : Slot) (st : Statement) → heard_on q.pool c.me slot ≡ Some st → Mem st (statements_of (end_of f.setting c)) × (slot_of st ≡ slot)
+  pub heard-word : (c : Correct) → Mem c f.correct → (slot : Slot) (st : Statement) → heard_on q.pool c.me slot ≡ Some st
+      → Mem st (statements_of (end_of f.setting c)) × (slot_of st ≡ slot)
   heard-word c m slot st e =
       let said = heard_on-said q.pool c.me slot st e in
       let claim = said.0 in
-      let word = own-word claim.0 (All-mem (IsFrom f.setting (handed f) q.signed) q.pool.heard claim.0 stood.heard claim.1) (end_of f.setting c) (in-ends f c m) (me-end_of f.setting c ∙ sym claim.2) in
+      let word = own-word claim.0 (All-mem (IsFrom f.setting (handed f) q.signed) q.pool.heard claim.0 stood.heard claim.1)
+      (end_of f.setting c) (in-ends f c m) (me-end_of f.setting c ∙ sym claim.2) in
       (subst (λ st. Mem st (statements_of (end_of f.setting c))) claim.3 word, said.1)
 
   pub said-may_back : (st : Statement) (m : ℕ) → says q.pool st m ≡ true → may_back f st m ≡ true
@@ -95,7 +103,8 @@ module _ (f : Family) (v : View) (q : Process) (one : IsOneView f v) (stood : St
       (subst (λ st. Mem st (statements_of p)) c.3 (own-word c.0 source p at (is ∙ sym c.2)))
       (is-same_statement st st refl)))
     where
-      go : (p : Process) (b : Bool) → (p.me == m) ≡ b → (p.me ≡ m → list_any (same_statement st) (statements_of p) ≡ true) → (not b || list_any (same_statement st) (statements_of p)) ≡ true
+      go : (p : Process) (b : Bool) → (p.me == m) ≡ b → (p.me ≡ m → list_any (same_statement st) (statements_of p) ≡ true)
+          → (not b || list_any (same_statement st) (statements_of p)) ≡ true
       go p true e said = said (eqb-true p.me m e)
       go p false e said = refl
 

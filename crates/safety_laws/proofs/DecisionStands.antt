@@ -21,7 +21,11 @@ keeps s from = record {
   hears = λ p c m e ok d decided. is_certified-stays p.pool (c ∷ []) (Ready p.pool.view.number d.0 d.1) (ok d decided);
   doubts = λ p conflicts ok. ok;
   signs = λ p signer st next none ok d decided. absurd (none-some none decided);
-  decides = λ p ok d e. elim (option_or-is p.decision (decided_by s p.pool) d e) [ inl before ↦ ok d before | inr by ↦ (decided_by-is s p.pool d by).1 ];
+  decides = λ p ok d e. elim (option_or-is p.decision (decided_by s p.pool) d e) [
+    | inl before ↦ ok d before
+    | inr by ↦
+        (decided_by-is s p.pool d by).1
+  ];
   delivers = λ p ds member room e ok. ok;
   installs = λ p d decided whole ok d' e. absurd cc;
   halts = λ p d decided member ok. ok;

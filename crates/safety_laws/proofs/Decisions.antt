@@ -43,22 +43,27 @@ module _ (f : Family) (c : Correct) (q : Process) (at : Mem q (settlings f c)) w
   done = deliver (decide f.setting q)
 
   to-end : (old : Process) → HasGrown old done → HasGrown old (end_of f.setting c)
-  to-end old g = goes-on f.setting (HasGrown old) c.turns (grows f.setting (handed_to c.turns) old) (start f.setting c.me c.batch_limit) q at g
+  to-end old g = goes-on f.setting (HasGrown old) c.turns (grows f.setting (handed_to c.turns) old)
+      (start f.setting c.me c.batch_limit) q at g
 
   from-decided : (old : Process) → HasGrown old (decide f.setting q) → HasGrown old (end_of f.setting c)
-  from-decided old g = to-end old (deliver-keeps f.setting (handed_to c.turns) (HasGrown old) (grows f.setting (handed_to c.turns) old) (decide f.setting q) g)
+  from-decided old g = to-end old
+      (deliver-keeps f.setting (handed_to c.turns) (HasGrown old) (grows f.setting (handed_to c.turns) old) (decide f.setting q) g)
 
   from-settling : (old : Process) → HasGrown old q → HasGrown old (end_of f.setting c)
   from-settling old g = from-decided old ((grows f.setting (handed_to c.turns) old).decides q g)
 
   history-at : Premises f → History f.setting c.turns q
-  history-at premises = reaches f.setting (History f.setting c.turns) c.turns (history-keeps f.setting c.turns) (start f.setting c.me c.batch_limit) q (history-start f.setting c.turns c.me c.batch_limit premises.first) at
+  history-at premises = reaches f.setting (History f.setting c.turns) c.turns (history-keeps f.setting c.turns)
+      (start f.setting c.me c.batch_limit) q (history-start f.setting c.turns c.me c.batch_limit premises.first) at
 
   due-there : EachDue f.setting c.turns q
-  due-there = reaches f.setting (EachDue f.setting c.turns) c.turns (was.keeps f.setting c.turns) (start f.setting c.me c.batch_limit) q (record { heard = λ c m. absurd m; dues = λ i st at. absurd cc }) at
+  due-there = reaches f.setting (EachDue f.setting c.turns) c.turns (was.keeps f.setting c.turns)
+      (start f.setting c.me c.batch_limit) q (record { heard = λ c m. absurd m; dues = λ i st at. absurd cc }) at
 
 -- what it has heard was handed over or is own
-pub stands-so : (f : Family) (c : Correct) (q : Process) → Mem c f.correct → HasGrown q (end_of f.setting c) → EachDue f.setting c.turns q → StoodSo f q
+pub stands-so : (f : Family) (c : Correct) (q : Process) → Mem c f.correct → HasGrown q (end_of f.setting c) → EachDue f.setting c.turns q
+    → StoodSo f q
 stands-so f c q m grown due = record {
   by = end_of f.setting c;
   correct = mem-Contains (ends f) (end_of f.setting c) (in-ends f c m);
@@ -80,18 +85,24 @@ pub end_stood : (f : Family) (p : Process) → Contains (ends f) p → StoodSo f
 end_stood f p there =
     let c = map-mem (end_of f.setting) f.correct p (Contains-mem (ends f) p there) in
     subst (StoodSo f) c.2 (stands-so f c.0 (end_of f.setting c.0) c.1 (grown-self (end_of f.setting c.0))
-    (run-keeps f.setting (EachDue f.setting c.0.turns) c.0.turns (was.keeps f.setting c.0.turns) (start f.setting c.0.me c.0.batch_limit) (record { heard = λ c m. absurd m; dues = λ i st at. absurd cc })))
+    (run-keeps f.setting (EachDue f.setting c.0.turns) c.0.turns (was.keeps f.setting c.0.turns) (start f.setting c.0.me c.0.batch_limit)
+    (record { heard = λ c m. absurd m; dues = λ i st at. absurd cc })))
 
 -- the Ready behind a decision
-decided-backed : (f : Family) (v : View) (q : Process) (w : Value) → IsOneView f v → Decides f v q w → (r : ℕ) × IsBacked f v (Ready v.number r w)
+decided-backed : (f : Family) (v : View) (q : Process) (w : Value) → IsOneView f v → Decides f v q w
+    → (r : ℕ) × IsBacked f v (Ready v.number r w)
 decided-backed f v q w one d =
     let c : Correct = d.0.0 in
     let m : Mem c f.correct = Contains-mem f.correct c d.0.1 in
     let at : Mem q (settlings f c) = Contains-mem (settlings f c) q d.0.2 in
     let ok = (history-keeps f.setting c.turns).decides q (history-at f c q at one.premises) in
     let seen = ok.decided (d.2.0, w) d.2.1 in
-    let seen' = certifies-on f.setting c.turns (decide f.setting q) (end_of f.setting c) (from-decided f c q at) q.pool.view (Ready q.pool.view.number d.2.0 w) seen in
-    (d.2.0, backed f v one c m (Ready v.number d.2.0 w) (subst (λ (v : View). Certifies f.setting c.turns (end_of f.setting c) v (Ready v.number d.2.0 w)) d.1 seen'))
+    let seen' = certifies-on f.setting c.turns (decide f.setting q) (end_of f.setting c)
+    (from-decided f c q at) q.pool.view (Ready q.pool.view.number d.2.0 w) seen in (
+      d.2.0,
+      backed f v one c m (Ready v.number d.2.0 w)
+          (subst (λ (v : View). Certifies f.setting c.turns (end_of f.setting c) v (Ready v.number d.2.0 w)) d.1 seen'),
+    )
 
 pub one_decision : OneDecision
 one_decision f v q q' w w' one d d' =
@@ -104,15 +115,18 @@ unfolding deliver_more
 deliver_more-view zero p = refl
 deliver_more-view (suc more) p = go (deliverable p) (λ ds. deliver_more-view more (record p { delivered = p.delivered ++ ds }))
   where
-    go : (o : Option (List Delivered)) → ((ds : List Delivered) → (deliver_more more (record p { delivered = p.delivered ++ ds })).pool.view ≡ p.pool.view)
-        → let it : Process = elim o [ None ↦ p | Some ds ↦ deliver_more more (record p { delivered = p.delivered ++ ds }) ] in it.pool.view ≡ p.pool.view
+    go : (o : Option (List Delivered))
+        → ((ds : List Delivered) → (deliver_more more (record p { delivered = p.delivered ++ ds })).pool.view ≡ p.pool.view)
+        → let it : Process = elim o [ None ↦ p | Some ds ↦ deliver_more more (record p { delivered = p.delivered ++ ds }) ] in it.pool.view
+        ≡ p.pool.view
     go None rest = refl
     go (Some ds) rest = rest ds
 
 deliver-view : (p : Process) → (deliver p).pool.view ≡ p.pool.view
 deliver-view p = go (is_member p.pool.view p.me) (deliver_more-view _ p)
   where
-    go : (b : Bool) → (deliver_more (limit p - places_in p.delivered) p).pool.view ≡ p.pool.view → let it : Process = if b then deliver_more (limit p - places_in p.delivered) p else p in it.pool.view ≡ p.pool.view
+    go : (b : Bool) → (deliver_more (limit p - places_in p.delivered) p).pool.view ≡ p.pool.view → let it : Process = if b
+        then deliver_more (limit p - places_in p.delivered) p else p in it.pool.view ≡ p.pool.view
     go true e = e
     go false e = refl
 
@@ -123,6 +137,9 @@ delivers_within_cut f v q q' w one d so at_v =
     let m : Mem c f.correct = Contains-mem f.correct c so.1 in
     let at : Mem q' (settlings f c) = Contains-mem (settlings f c) q' so.2 in
     let p : Process = deliver (decide f.setting q') in
-    let ok = delivering-keeps f.setting (handed_to c.turns) (History f.setting c.turns) (history-keeps f.setting c.turns) q' (history-at f c q' at one.premises) in
+    let ok = delivering-keeps f.setting (handed_to c.turns) (History f.setting c.turns)
+    (history-keeps f.setting c.turns) q' (history-at f c q' at one.premises) in
     let reach = reach-on f.setting c.turns p (end_of f.setting c) (to-end f c q' at) p.pool.view (places_in p.delivered) ok.so.reach in
-    within f v one r.0 w r.1 c m (places_in p.delivered) (subst (λ v. Reach f.setting c.turns (end_of f.setting c) v (places_in p.delivered)) (deliver-view (decide f.setting q') ∙ at_v) reach)
+    within f v one r.0 w r.1 c m (places_in p.delivered)
+    (subst (λ v. Reach f.setting c.turns (end_of f.setting c) v (places_in p.delivered))
+    (deliver-view (decide f.setting q') ∙ at_v) reach)

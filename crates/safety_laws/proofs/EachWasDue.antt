@@ -23,16 +23,31 @@ use Rattle.pool_laws.proofs.Places.{prefix-more, prefix-self, slice_get-index, s
 -- ---- prefixes
 
 each-contained : {A : Type 0} (xs : List A) → All (Contains xs) xs
-each-contained xs = λ k d lt. mem-Contains xs (slice_index_or xs k d) (slice_get-mem xs k (slice_index_or xs k d) (slice_get-index xs k d lt))
+each-contained xs = λ k d lt. mem-Contains xs (slice_index_or xs k d)
+    (slice_get-mem xs k (slice_index_or xs k d) (slice_get-index xs k d lt))
 
 -- ---- growing
 
 pub grown-self : (p : Process) → HasGrown p p
-grown-self p = record { me = refl; left = prefix-self p.left; views = prefix-self (views_of p); signed = prefix-self p.signed; accepted = prefix-self p.accepted; perceived = each-contained p.perceived }
+grown-self p = record {
+  me = refl;
+  left = prefix-self p.left;
+  views = prefix-self (views_of p);
+  signed = prefix-self p.signed;
+  accepted = prefix-self p.accepted;
+  perceived = each-contained p.perceived;
+}
 
 module _ (old p : Process) (g : HasGrown old p) where
   pub accepting : (payload : List ℕ) → HasGrown old (record p { accepted = p.accepted ++ payload ∷ [] })
-  accepting payload = record { me = g.me; left = g.left; views = g.views; signed = g.signed; accepted = prefix-more old.accepted p.accepted (payload ∷ []) g.accepted; perceived = g.perceived }
+  accepting payload = record {
+    me = g.me;
+    left = g.left;
+    views = g.views;
+    signed = g.signed;
+    accepted = prefix-more old.accepted p.accepted (payload ∷ []) g.accepted;
+    perceived = g.perceived;
+  }
 
   pub perceiving : (e : ℕ × Update) → HasGrown old (record p { perceived = put perceived_numbers e p.perceived })
   perceiving e = record {
@@ -45,20 +60,30 @@ module _ (old p : Process) (g : HasGrown old p) where
   }
 
   pub signing : (s : Setting) (signer : Signer) (st : Statement) → HasGrown old (signs s signer p st)
-  signing s signer st = record { me = g.me; left = g.left; views = g.views; signed = prefix-more old.signed p.signed (own_claim s signer p st ∷ []) g.signed; accepted = g.accepted; perceived = g.perceived }
+  signing s signer st = record {
+    me = g.me;
+    left = g.left;
+    views = g.views;
+    signed = prefix-more old.signed p.signed (own_claim s signer p st ∷ []) g.signed;
+    accepted = g.accepted;
+    perceived = g.perceived;
+  }
 
   pub installing : (d : ℕ × Value) → HasGrown old (install d p)
   installing d = record {
     me = g.me;
     left = prefix-more old.left p.left _ g.left;
-    views = subst (IsPrefixOf (views_of old)) (ap (λ vs. vs ++ (install d p).pool.view ∷ []) (sym (map-append (λ (v : Left). v.view) p.left _))) (prefix-more (views_of old) (views_of p) ((install d p).pool.view ∷ []) g.views);
+    views = subst (IsPrefixOf (views_of old))
+        (ap (λ vs. vs ++ (install d p).pool.view ∷ []) (sym (map-append (λ (v : Left). v.view) p.left _)))
+        (prefix-more (views_of old) (views_of p) ((install d p).pool.view ∷ []) g.views);
     signed = g.signed;
     accepted = g.accepted;
     perceived = g.perceived;
   }
 
   -- what HasGrown does not read
-  pub otherwise : (q : Process) → q.me ≡ p.me → p.left ≡ q.left → p.pool.view ≡ q.pool.view → p.signed ≡ q.signed → p.accepted ≡ q.accepted → p.perceived ≡ q.perceived → HasGrown old q
+  pub otherwise : (q : Process) → q.me ≡ p.me → p.left ≡ q.left → p.pool.view ≡ q.pool.view → p.signed ≡ q.signed → p.accepted ≡ q.accepted
+      → p.perceived ≡ q.perceived → HasGrown old q
   otherwise q me left view signed accepted perceived = record {
     me = me ∙ g.me;
     left = subst (IsPrefixOf old.left) left g.left;
@@ -79,13 +104,22 @@ pub record EachDue (s : Setting) (turns : List Turn) (p : Process) : Type 0 wher
   pub dues : (i : ℕ) (st : Statement) → SignsAt p i st → WasDue s turns p i st
 
 module _ (s : Setting) (turns : List Turn) where
-  goes-on : (p q : Process) → ((old : Process) → HasGrown old p → HasGrown old q) → (i : ℕ) (st : Statement) → WasDue s turns p i st → WasDue s turns q i st
-  goes-on p q grow i st was = record { moment = was.moment; grown = grow was.moment was.grown; next = was.next; due = was.due; heard = was.heard }
+  goes-on : (p q : Process) → ((old : Process) → HasGrown old p → HasGrown old q) → (i : ℕ) (st : Statement) → WasDue s turns p i st
+      → WasDue s turns q i st
+  goes-on p q grow i st was = record {
+    moment = was.moment;
+    grown = grow was.moment was.grown;
+    next = was.next;
+    due = was.due;
+    heard = was.heard;
+  }
 
-  signing-keeps : (p : Process) (signer : Signer) (st : Statement) → may_sign s p st ≡ true → EachDue s turns p → EachDue s turns (signs s signer p st)
+  signing-keeps : (p : Process) (signer : Signer) (st : Statement) → may_sign s p st ≡ true → EachDue s turns p
+      → EachDue s turns (signs s signer p st)
   signing-keeps p signer st may ok = record {
     heard = λ c m. go c (is_some (heard_on p.pool p.me (slot_of st))) m;
-    dues = λ i st' at. now i st' (slice_get-snoc (statements_of p) st i st' (subst (λ sts. slice_get sts i ≡ Some st') (map-append (λ c. c.statement) p.signed (own_claim s signer p st ∷ [])) at));
+    dues = λ i st' at. now i st' (slice_get-snoc (statements_of p) st i st'
+        (subst (λ sts. slice_get sts i ≡ Some st') (map-append (λ c. c.statement) p.signed (own_claim s signer p st ∷ [])) at));
   }
     where
       own : Claim
@@ -103,7 +137,8 @@ module _ (s : Setting) (turns : List Turn) where
       one c (inl m) = later c (ok.heard c m)
       one c (inr e) = inr (subst (λ c. Mem c (p.signed ++ own ∷ [])) e (last p.signed))
 
-      go : (c : Claim) (b : Bool) → Mem c (if b then p.pool.heard else p.pool.heard ++ own ∷ []) → From s (handed_to turns) (p.signed ++ own ∷ []) c
+      go : (c : Claim) (b : Bool) → Mem c (if b then p.pool.heard else p.pool.heard ++ own ∷ [])
+          → From s (handed_to turns) (p.signed ++ own ∷ []) c
       go c true m = later c (ok.heard c m)
       go c false m = one c (snoc-mem p.pool.heard own c m)
 
@@ -111,7 +146,8 @@ module _ (s : Setting) (turns : List Turn) where
       heard-now c (inl m) = inl (mem-Contains (handed_to turns) c m.0, m.1)
       heard-now c (inr m) = inr (mem-Contains p.signed c m)
 
-      now : (i : ℕ) (st' : Statement) → (slice_get (statements_of p) i ≡ Some st') ⊎ ((i ≡ length (statements_of p)) × (st ≡ st')) → WasDue s turns (signs s signer p st) i st'
+      now : (i : ℕ) (st' : Statement) → (slice_get (statements_of p) i ≡ Some st') ⊎ ((i ≡ length (statements_of p)) × (st ≡ st'))
+          → WasDue s turns (signs s signer p st) i st'
       now i st' (inl before) = goes-on p (signs s signer p st) (λ old g. signing old p g s signer st) i st' (ok.dues i st' before)
       now i st' (inr end) = record {
         moment = p;
@@ -123,20 +159,43 @@ module _ (s : Setting) (turns : List Turn) where
 
   pub keeps : Keeps s (handed_to turns) (EachDue s turns)
   keeps = record {
-    accepts = λ p payload ok. record { heard = ok.heard; dues = λ i st at. goes-on p _ (λ old g. accepting old p g payload) i st (ok.dues i st at) };
+    accepts = λ p payload ok. record {
+      heard = ok.heard;
+      dues = λ i st at. goes-on p _ (λ old g. accepting old p g payload) i st (ok.dues i st at);
+    };
     perceives = λ p e ok. record { heard = ok.heard; dues = λ i st at. goes-on p _ (λ old g. perceiving old p g e) i st (ok.dues i st at) };
-    hears = λ p c m e ok. record { heard = λ d there. either p c m e ok d (snoc-mem p.pool.heard c d there); dues = λ i st at. goes-on p _ (λ old g. otherwise old p g _ refl refl refl refl refl refl) i st (ok.dues i st at) };
-    doubts = λ p conflicts ok. record { heard = ok.heard; dues = λ i st at. goes-on p _ (λ old g. otherwise old p g _ refl refl refl refl refl refl) i st (ok.dues i st at) };
+    hears = λ p c m e ok. record {
+      heard = λ d there. either p c m e ok d (snoc-mem p.pool.heard c d there);
+      dues = λ i st at. goes-on p _ (λ old g. otherwise old p g _ refl refl refl refl refl refl) i st (ok.dues i st at);
+    };
+    doubts = λ p conflicts ok. record {
+      heard = ok.heard;
+      dues = λ i st at. goes-on p _ (λ old g. otherwise old p g _ refl refl refl refl refl refl) i st (ok.dues i st at);
+    };
     signs = λ p signer st next none ok. signing-keeps p signer st next.may ok;
-    decides = λ p ok. record { heard = ok.heard; dues = λ i st at. goes-on p _ (λ old g. otherwise old p g _ refl refl refl refl refl refl) i st (ok.dues i st at) };
-    delivers = λ p ds member room e ok. record { heard = ok.heard; dues = λ i st at. goes-on p _ (λ old g. otherwise old p g _ refl refl refl refl refl refl) i st (ok.dues i st at) };
-    installs = λ p d decided whole ok. record { heard = λ c m. absurd m; dues = λ i st at. goes-on p _ (λ old g. installing old p g d) i st (ok.dues i st at) };
-    halts = λ p d decided member ok. record { heard = ok.heard; dues = λ i st at. goes-on p _ (λ old g. otherwise old p g _ refl refl refl refl refl refl) i st (ok.dues i st at) };
+    decides = λ p ok. record {
+      heard = ok.heard;
+      dues = λ i st at. goes-on p _ (λ old g. otherwise old p g _ refl refl refl refl refl refl) i st (ok.dues i st at);
+    };
+    delivers = λ p ds member room e ok. record {
+      heard = ok.heard;
+      dues = λ i st at. goes-on p _ (λ old g. otherwise old p g _ refl refl refl refl refl refl) i st (ok.dues i st at);
+    };
+    installs = λ p d decided whole ok. record {
+      heard = λ c m. absurd m;
+      dues = λ i st at. goes-on p _ (λ old g. installing old p g d) i st (ok.dues i st at);
+    };
+    halts = λ p d decided member ok. record {
+      heard = ok.heard;
+      dues = λ i st at. goes-on p _ (λ old g. otherwise old p g _ refl refl refl refl refl refl) i st (ok.dues i st at);
+    };
   }
     where
-      either : (p : Process) (c : Claim) → Mem c (handed_to turns) → verdict s p c ≡ Heard → EachDue s turns p → (d : Claim) → Mem d p.pool.heard ⊎ (c ≡ d) → From s (handed_to turns) p.signed d
+      either : (p : Process) (c : Claim) → Mem c (handed_to turns) → verdict s p c ≡ Heard → EachDue s turns p → (d : Claim)
+          → Mem d p.pool.heard ⊎ (c ≡ d) → From s (handed_to turns) p.signed d
       either p c m e ok d (inl before) = ok.heard d before
       either p c m e ok d (inr is) = inl (subst (λ c. Mem c (handed_to turns) × (is_valid s c ≡ true)) is (m, verdict-valid s p c e))
 
 pub each_was_due : EachWasDue
-each_was_due s me limit turns = (run-keeps s (EachDue s turns) turns (keeps s turns) (start s me limit) (record { heard = λ c m. absurd m; dues = λ i st at. absurd cc })).dues
+each_was_due s me limit turns = (run-keeps s (EachDue s turns) turns (keeps s turns) (start s me limit)
+    (record { heard = λ c m. absurd m; dues = λ i st at. absurd cc })).dues

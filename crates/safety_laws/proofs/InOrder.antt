@@ -35,7 +35,8 @@ by_sender s d = d.message.sender == s
 
 -- so many of the sender stood before
 abbrev pub Numbered : (ℕ → ℕ) → List Letter → Type 0
-Numbered start ds = (k : ℕ) (d : Letter) → slice_get ds k ≡ Some d → d.message.number ≡ start d.message.sender + length (filter (by_sender d.message.sender) (take k ds))
+Numbered start ds = (k : ℕ) (d : Letter) → slice_get ds k ≡ Some d
+    → d.message.number ≡ start d.message.sender + length (filter (by_sender d.message.sender) (take k ds))
 
 abbrev one-if : Bool → ℕ
 one-if true = 1
@@ -54,12 +55,16 @@ numbered-tail start d ds all k e at =
     let split = length-if (by_sender e.message.sender d) d (filter (by_sender e.message.sender) (take k ds)) in
     omega (arith, is, split)
 
-numbered-order : (start : ℕ → ℕ) (s : ℕ) (ds : List Letter) → Numbered start ds → map (λ (d : Letter). d.message.number) (filter (by_sender s) ds) ≡ range_with_len (start s) (length (filter (by_sender s) ds))
+numbered-order : (start : ℕ → ℕ) (s : ℕ) (ds : List Letter) → Numbered start ds
+    → map (λ (d : Letter). d.message.number) (filter (by_sender s) ds) ≡ range_with_len (start s) (length (filter (by_sender s) ds))
 numbered-order start s [] all = refl
 numbered-order start s (d ∷ ds) all = go (by_sender s d) refl (numbered-order (bump start d) s ds (numbered-tail start d ds all))
   where
-    go : (b : Bool) → by_sender s d ≡ b → map (λ (d : Letter). d.message.number) (filter (by_sender s) ds) ≡ range_with_len (bump start d s) (length (filter (by_sender s) ds))
-        → map (λ (d : Letter). d.message.number) (if b then d ∷ filter (by_sender s) ds else filter (by_sender s) ds) ≡ range_with_len (start s) (length (if b then d ∷ filter (by_sender s) ds else filter (by_sender s) ds))
+    go : (b : Bool) → by_sender s d ≡ b
+        → map (λ (d : Letter). d.message.number) (filter (by_sender s) ds)
+        ≡ range_with_len (bump start d s) (length (filter (by_sender s) ds))
+        → map (λ (d : Letter). d.message.number) (if b then d ∷ filter (by_sender s) ds else filter (by_sender s) ds)
+        ≡ range_with_len (start s) (length (if b then d ∷ filter (by_sender s) ds else filter (by_sender s) ds))
     go true e rest =
         let sender : d.message.sender ≡ s = eqb-true d.message.sender s e in
         let first = all zero d refl in
@@ -75,7 +80,8 @@ numbered-order start s (d ∷ ds) all = go (by_sender s d) refl (numbered-order 
         no-more = omega arith
 
 -- one that passes counts
-take-more : (test : Letter → Bool) (ds : List Letter) (i j : ℕ) (d : Letter) → i < j → slice_get ds i ≡ Some d → test d ≡ true → length (filter test (take i ds)) < length (filter test (take j ds))
+take-more : (test : Letter → Bool) (ds : List Letter) (i j : ℕ) (d : Letter) → i < j → slice_get ds i ≡ Some d → test d ≡ true
+    → length (filter test (take i ds)) < length (filter test (take j ds))
 take-more test [] i j d lt at e = absurd cc
 take-more test (x ∷ xs) i zero d lt at e = absurd (omega (arith, lt))
 take-more test (x ∷ xs) zero (suc j) d lt at e = go (test x) (let is : x ≡ d = cc in ap test is ∙ e)
@@ -85,14 +91,17 @@ take-more test (x ∷ xs) zero (suc j) d lt at e = go (test x) (let is : x ≡ d
     go false f = absurd cc
 take-more test (x ∷ xs) (suc i) (suc j) d lt at e = go (test x) (take-more test xs i j d (omega (arith, lt)) at e)
   where
-    go : (b : Bool) → length (filter test (take i xs)) < length (filter test (take j xs)) → length (if b then x ∷ filter test (take i xs) else filter test (take i xs)) < length (if b then x ∷ filter test (take j xs) else filter test (take j xs))
+    go : (b : Bool) → length (filter test (take i xs)) < length (filter test (take j xs))
+        → length (if b then x ∷ filter test (take i xs) else filter test (take i xs)) < length
+        (if b then x ∷ filter test (take j xs) else filter test (take j xs))
     go true less = omega (arith, less)
     go false less = less
 
 pub numbered-once : (ds : List Letter) → Numbered (λ s. 0) ds → AllPairs (λ d e. d.message ≢ e.message) ds
 numbered-once ds all = pairs-all (λ d e. d.message ≢ e.message) ds (λ i j a b lt at_a at_b. λ same.
     let n_a = all i a at_a in
-    let n_b : a.message.number ≡ 0 + length (filter (by_sender a.message.sender) (take j ds)) = subst (λ (m : Message). m.number ≡ 0 + length (filter (by_sender m.sender) (take j ds))) (sym same) (all j b at_b) in
+    let n_b : a.message.number ≡ 0 + length (filter (by_sender a.message.sender) (take j ds)) = subst
+    (λ (m : Message). m.number ≡ 0 + length (filter (by_sender m.sender) (take j ds))) (sym same) (all j b at_b) in
     let more = take-more (by_sender a.message.sender) ds i j a lt at_a (eq-eqb a.message.sender a.message.sender refl) in
     omega (arith, n_a, n_b, more))
 
@@ -103,7 +112,9 @@ named-snoc s ms m =
     let test : Message → Bool = λ (m : Message). m.sender == s in
     let all = length-filter test (ms ++ m ∷ []) in
     let before = length-filter test ms in
-    let split : length (filter test (ms ++ m ∷ [])) ≡ length (filter test ms) + length (filter test (m ∷ [])) = ap length (filter-append test ms (m ∷ [])) ∙ length-append (filter test ms) (filter test (m ∷ [])) in
+    let split : length (filter test (ms ++ m ∷ []))
+    ≡ length (filter test ms) + length (filter test (m ∷ [])) = ap length (filter-append test ms (m ∷ [])) ∙ length-append
+    (filter test ms) (filter test (m ∷ [])) in
     let last = single (m.sender == s) in
     omega (arith, all, before, split, last)
   where
@@ -112,11 +123,14 @@ named-snoc s ms m =
     single false = refl
 
 -- messages that follow are numbered
-follow-numbered : (before : List Message) (ds : List Letter) → follows before (map (λ (d : Letter). d.message) ds) ≡ true → Numbered (λ s. named s before) ds
+follow-numbered : (before : List Message) (ds : List Letter) → follows before (map (λ (d : Letter). d.message) ds) ≡ true
+    → Numbered (λ s. named s before) ds
 follow-numbered before [] e k d at = absurd cc
 follow-numbered before (x ∷ xs) e zero d at =
     let is : x ≡ d = cc in
-    let number : d.message.number ≡ named d.message.sender before = subst (λ (d : Letter). d.message.number ≡ named d.message.sender before) is (eqb-true x.message.number (named x.message.sender before) (and-first _ _ e)) in
+    let number : d.message.number ≡ named d.message.sender before = subst
+    (λ (d : Letter). d.message.number ≡ named d.message.sender before) is
+    (eqb-true x.message.number (named x.message.sender before) (and-first _ _ e)) in
     omega (arith, number)
 follow-numbered before (x ∷ xs) e (suc k) d at =
     let rest = follow-numbered (before ++ x.message ∷ []) xs (and-second _ _ e) k d at in
@@ -127,13 +141,18 @@ follow-numbered before (x ∷ xs) e (suc k) d at =
 follows-append : (before b c : List Message) → follows before b ≡ true → follows (before ++ b) c ≡ true → follows before (b ++ c) ≡ true
 follows-append before [] c one two = subst (λ ms. follows ms c ≡ true) (append-nil before) two
 follows-append before (m ∷ ms) c one two =
-    both-true _ _ (and-first _ _ one) (follows-append (before ++ m ∷ []) ms c (and-second _ _ one) (subst (λ ms. follows ms c ≡ true) (sym (append_assoc before (m ∷ []) ms)) two))
+    both-true _ _ (and-first _ _ one)
+    (follows-append (before ++ m ∷ []) ms c (and-second _ _ one)
+    (subst (λ ms. follows ms c ≡ true) (sym (append_assoc before (m ∷ []) ms)) two))
 
-follows-all : (before : List Message) (bs : List Batch) → ((k : ℕ) (b : Batch) → slice_get bs k ≡ Some b → follows (before ++ messages (take k bs)) b ≡ true) → follows before (messages bs) ≡ true
+follows-all : (before : List Message) (bs : List Batch)
+    → ((k : ℕ) (b : Batch) → slice_get bs k ≡ Some b → follows (before ++ messages (take k bs)) b ≡ true)
+    → follows before (messages bs) ≡ true
 follows-all before [] each = refl
 follows-all before (b ∷ bs) each =
     follows-append before b (messages bs) (subst (λ ms. follows ms b ≡ true) (append-nil before) (each zero b refl))
-    (follows-all (before ++ b) bs (λ k c at. subst (λ ms. follows ms c ≡ true) (sym (append_assoc before b (messages (take k bs)))) (each (suc k) c at)))
+    (follows-all (before ++ b) bs (λ k c at. subst (λ ms. follows ms c ≡ true) (sym (append_assoc before b (messages (take k bs))))
+    (each (suc k) c at)))
 
 -- what a Place needs of its batch
 record PlaceDue (q : Process) (k : ℕ) (b : Batch) : Type 0 where
@@ -152,32 +171,39 @@ place-due s q x k b may =
       follows = and-second _ (follows (messages (take k (placed q.pool))) b) five;
     }
 
-messages-are : (ds : List Delivered) (bs : List Batch) → map named_at ds ≡ spread 0 bs → map (λ (d : Letter). d.message) (without_places ds) ≡ messages bs
+messages-are : (ds : List Delivered) (bs : List Batch) → map named_at ds ≡ spread 0 bs
+    → map (λ (d : Letter). d.message) (without_places ds) ≡ messages bs
 messages-are ds bs e = two-ways ds ∙ ap (map (λ (e : ℕ × Message). e.1)) e ∙ spread-messages 0 bs
   where
-    two-ways : (ds : List Delivered) → map (λ (d : Letter). d.message) (without_places ds) ≡ map (λ (e : ℕ × Message). e.1) (map named_at ds)
+    two-ways : (ds : List Delivered)
+        → map (λ (d : Letter). d.message) (without_places ds) ≡ map (λ (e : ℕ × Message). e.1) (map named_at ds)
     two-ways [] = refl
     two-ways (d ∷ ds) = ap (λ ms. d.message ∷ ms) (two-ways ds)
 
-module _ (f : Family) (v : View) (one : IsOneView f v) (c : Correct) (m : Mem c f.correct) (ds : List Delivered) (so : ViewSo f.setting c.turns (end_of f.setting c) v ds) where
+module _ (f : Family) (v : View) (one : IsOneView f v) (c : Correct) (m : Mem c f.correct) (ds : List Delivered)
+    (so : ViewSo f.setting c.turns (end_of f.setting c) v ds) where
   place-backed : (j : ℕ) (b : Batch) → slice_get so.batches j ≡ Some b → IsBacked f v (Place v.number j b)
   place-backed j b at = backed f v one c m (Place v.number j b) (so.places j b at)
 
   -- where a Place was due, the places before it hold what was delivered
-  same-before : (q : Process) → StoodSo f q → q.pool.view ≡ v → (k : ℕ) → k ≤ length (placed q.pool) → k ≤ length so.batches → take k (placed q.pool) ≡ take k so.batches
+  same-before : (q : Process) → StoodSo f q → q.pool.view ≡ v → (k : ℕ) → k ≤ length (placed q.pool) → k ≤ length so.batches
+      → take k (placed q.pool) ≡ take k so.batches
   same-before q stood at_v k some far =
       let one_long = take-length k (placed q.pool) some in
       let other_long = take-length k so.batches far in
-      equal-by (take k (placed q.pool)) (take k so.batches) (omega (arith, one_long, other_long)) (λ j a b at_a at_b. placed-same j a (take-get k (placed q.pool) j a at_a) b (take-get k so.batches j b at_b))
+      equal-by (take k (placed q.pool)) (take k so.batches) (omega (arith, one_long, other_long))
+      (λ j a b at_a at_b. placed-same j a (take-get k (placed q.pool) j a at_a) b (take-get k so.batches j b at_b))
     where
       placed-same : (j : ℕ) (a : Batch) → slice_get (placed q.pool) j ≡ Some a → (b : Batch) → slice_get so.batches j ≡ Some b → a ≡ b
       placed-same j a at b at' =
           let certified = place-certified q.pool j a (placed-at q.pool j a at) in
-          let there : IsBacked f v (Place v.number j a) = certified_is_backed f v q (Place v.number j a) one stood at_v (subst (λ (u : View). is_certified q.pool (Place u.number j a) ≡ true) at_v certified) in
+          let there : IsBacked f v (Place v.number j a) = certified_is_backed f v q (Place v.number j a) one stood at_v
+          (subst (λ (u : View). is_certified q.pool (Place u.number j a) ≡ true) at_v certified) in
           place-batch v.number j a b (one_content f v (Place v.number j a) (Place v.number j b) one there (place-backed j b at') refl)
 
   -- its batch was due at a correct member
-  due-there : (k : ℕ) (b : Batch) → slice_get so.batches k ≡ Some b → (is_batch b ≡ true) × (follows (messages (take k so.batches)) b ≡ true)
+  due-there : (k : ℕ) (b : Batch) → slice_get so.batches k ≡ Some b
+      → (is_batch b ≡ true) × (follows (messages (take k so.batches)) b ≡ true)
   due-there k b at = go (backed-due f v (Place v.number k b) one (place-backed k b at) refl)
     where
       go : DueAt f v (Place v.number k b) → (is_batch b ≡ true) × (follows (messages (take k so.batches)) b ≡ true)
@@ -191,17 +217,21 @@ module _ (f : Family) (v : View) (one : IsOneView f v) (c : Correct) (m : Mem c 
   batch-there k b at = (due-there k b at).0
 
   numbered-view : Numbered (λ s. 0) (without_places ds)
-  numbered-view = follow-numbered [] (without_places ds) (ap (follows []) (messages-are ds so.batches so.as_placed) ∙ follows-all [] so.batches (λ k b at. (due-there k b at).1))
+  numbered-view = follow-numbered [] (without_places ds)
+      (ap (follows []) (messages-are ds so.batches so.as_placed) ∙ follows-all [] so.batches (λ k b at. (due-there k b at).1))
 
 pub numbered-sequence : (f : Family) → Premises f → (x : ℕ) → Numbered (λ s. 0) ((group_of (accounts f)).sequence x)
 numbered-sequence f premises x = go (sequence-so f premises x)
   where
     go : SequenceSo f x → Numbered (λ s. 0) ((group_of (accounts f)).sequence x)
     go (empty none) = subst (Numbered (λ s. 0)) (sym none) (λ k d at. absurd cc)
-    go (delivered_by c m v at ds so is) = subst (Numbered (λ s. 0)) is (numbered-view f v (one-view f premises c m v (slice_get-mem (views_of (end_of f.setting c)) x v at)) c m ds so)
+    go (delivered_by c m v at ds so is) = subst (Numbered (λ s. 0)) is
+        (numbered-view f v (one-view f premises c m v (slice_get-mem (views_of (end_of f.setting c)) x v at)) c m ds so)
 
 pub each-once : (f : Family) → Premises f → (x : ℕ) → AllPairs (λ d e. d.message ≢ e.message) ((group_of (accounts f)).sequence x)
 each-once f premises x = numbered-once ((group_of (accounts f)).sequence x) (numbered-sequence f premises x)
 
-pub each-in-order : (f : Family) → Premises f → (x sender : ℕ) → let ds = of_sender sender ((group_of (accounts f)).sequence x) in map (λ (d : Letter). d.message.number) ds ≡ range_with_len 0 (length ds)
+pub each-in-order : (f : Family) → Premises f → (x sender : ℕ)
+    → let ds = of_sender sender ((group_of (accounts f)).sequence x) in map (λ (d : Letter). d.message.number) ds
+    ≡ range_with_len 0 (length ds)
 each-in-order f premises x sender = numbered-order (λ s. 0) sender ((group_of (accounts f)).sequence x) (numbered-sequence f premises x)

@@ -25,7 +25,8 @@ pub first_some-is : {A B : Type 0} (g : A → Option B) (xs : List A) (y : B) �
 first_some-is g [] y e = absurd cc
 first_some-is {A} {B} g (x ∷ xs) y e = go (g x) refl e (first_some-is g xs y)
   where
-    go : (o : Option B) → g x ≡ o → elim o [ None ↦ first_some g xs | Some z ↦ Some z ] ≡ Some y → (first_some g xs ≡ Some y → (x : A) × (g x ≡ Some y)) → (x : A) × (g x ≡ Some y)
+    go : (o : Option B) → g x ≡ o → elim o [ None ↦ first_some g xs | Some z ↦ Some z ] ≡ Some y
+        → (first_some g xs ≡ Some y → (x : A) × (g x ≡ Some y)) → (x : A) × (g x ≡ Some y)
     go None f e rest = rest e
     go (Some z) f e rest = (x, f ∙ e)
 
@@ -35,10 +36,12 @@ IsDecided s h d = (is_possible (keyed s) h.view d.1.update ≡ true) × (is_cert
 pub decided_by-is : (s : Setting) (h : Pool) (d : ℕ × Value) → decided_by s h ≡ Some d → IsDecided s h d
 decided_by-is s h d e =
     let at = first_some-is (decided_at s h) (range_with_len 0 (number_of_members h)) d e in
-    let v = then-some (λ v. if is_possible (keyed s) h.view v.update then Some (at.0, v) else None) (value_at h (ReadyAt h.view.number at.0)) d at.1 in
+    let v = then-some (λ v. if is_possible (keyed s) h.view v.update then Some (at.0, v) else None)
+    (value_at h (ReadyAt h.view.number at.0)) d at.1 in
     go at.0 v.0 v.1 (is_possible (keyed s) h.view v.0.update) refl v.2
   where
-    go : (r : ℕ) (w : Value) → value_at h (ReadyAt h.view.number r) ≡ Some w → (b : Bool) → is_possible (keyed s) h.view w.update ≡ b → (if b then Some (r, w) else None) ≡ Some d → IsDecided s h d
+    go : (r : ℕ) (w : Value) → value_at h (ReadyAt h.view.number r) ≡ Some w → (b : Bool) → is_possible (keyed s) h.view w.update ≡ b
+        → (if b then Some (r, w) else None) ≡ Some d → IsDecided s h d
     go r w e true f is = subst (IsDecided s h) (some-same (r, w) d is) (f, value-certified h r w e)
     go r w e false f is = absurd cc
 
@@ -58,16 +61,32 @@ keeps s from = record {
   hears = λ p c m e ok. record { views = ok.views; possible = ok.possible };
   doubts = λ p conflicts ok. record { views = ok.views; possible = ok.possible };
   signs = λ p signer st next none ok. record { views = ok.views; possible = ok.possible };
-  decides = λ p ok. record { views = ok.views; possible = λ d e. elim (option_or-is p.decision (decided_by s p.pool) d e) [ inl was ↦ ok.possible d was | inr now ↦ (decided_by-is s p.pool d now).0 ] };
+  decides = λ p ok. record {
+    views = ok.views;
+    possible = λ d e. elim (option_or-is p.decision (decided_by s p.pool) d e) [
+      | inl was ↦ ok.possible d was
+      | inr now ↦
+          (decided_by-is s p.pool d now).0
+    ];
+  };
   delivers = λ p ds member room e ok. record { views = ok.views; possible = ok.possible };
-  installs = λ p d decided whole ok. record { views = λ v m. installed p d decided ok v (snoc-mem (views_of p) (next_view p.pool.view d.1.update) v (subst (λ vs. Mem v (vs ++ next_view p.pool.view d.1.update ∷ [])) (map-append (λ (l : Left). l.view) p.left _) m)); possible = λ d e. absurd cc };
+  installs = λ p d decided whole ok. record {
+    views = λ v m. installed p d decided ok v
+        (snoc-mem (views_of p) (next_view p.pool.view d.1.update) v
+        (subst (λ vs. Mem v (vs ++ next_view p.pool.view d.1.update ∷ [])) (map-append (λ (l : Left). l.view) p.left _) m));
+    possible = λ d e. absurd cc;
+  };
   halts = λ p d decided member ok. record { views = ok.views; possible = ok.possible };
 }
   where
-    installed : (p : Process) (d : ℕ × Value) → p.decision ≡ Some d → Fine s p → (v : View) → Mem v (views_of p) ⊎ (next_view p.pool.view d.1.update ≡ v) → IsView v
+    installed : (p : Process) (d : ℕ × Value) → p.decision ≡ Some d → Fine s p → (v : View)
+        → Mem v (views_of p) ⊎ (next_view p.pool.view d.1.update ≡ v) → IsView v
     installed p d decided ok v (inl before) = ok.views v before
     installed p d decided ok v (inr e) = subst IsView e
-        (next_is_view p.pool.view d.1.update (none-is (next_fault p.pool.view d.1.update) (and-first (is_none (next_fault p.pool.view d.1.update)) (has_keys (keyed s) d.1.update) (ok.possible d decided))) (ok.views p.pool.view (current-view p)))
+        (next_is_view p.pool.view d.1.update
+        (none-is (next_fault p.pool.view d.1.update)
+        (and-first (is_none (next_fault p.pool.view d.1.update)) (has_keys (keyed s) d.1.update) (ok.possible d decided)))
+        (ok.views p.pool.view (current-view p)))
 
 pub installed_is_view : InstalledIsView
 installed_is_view f premises k d lt =
@@ -81,5 +100,6 @@ installed_is_view f premises k d lt =
 
     of-run : (c : Correct) → All IsView (views_of (end_of f.setting c))
     of-run c i d lt =
-        let fine = run-keeps f.setting (Fine f.setting) c.turns (keeps f.setting _) (start f.setting c.me c.batch_limit) (record { views = genesis; possible = λ d e. absurd cc }) in
+        let fine = run-keeps f.setting (Fine f.setting) c.turns (keeps f.setting _) (start f.setting c.me c.batch_limit)
+        (record { views = genesis; possible = λ d e. absurd cc }) in
         fine.views (slice_index_or (views_of (end_of f.setting c)) i d) (index-mem (views_of (end_of f.setting c)) i d lt)

@@ -37,7 +37,8 @@ record InOrder (p : Process) : Type 0 where
 
 -- ---- an End that was signed is found
 
-pub is_signed-mem : (p : Process) (st : Statement) → ((c : Claim) → Mem c p.signed → c.signer ≡ p.me) → Mem st (statements_of p) → is_signed p (slot_of st) ≡ true
+pub is_signed-mem : (p : Process) (st : Statement) → ((c : Claim) → Mem c p.signed → c.signer ≡ p.me) → Mem st (statements_of p)
+    → is_signed p (slot_of st) ≡ true
 is_signed-mem p st own m =
     let c = map-mem (λ (c : Claim). c.statement) p.signed st m in
     let found = mem-find (λ d. (d.signer == p.me) && same_slot (slot_of d.statement) (slot_of st)) p.signed c.0 c.1
@@ -53,7 +54,8 @@ module _ (s : Setting) (p : Process) (signer : Signer) where
   heard-grows : (c : Claim) → length (placed p.pool) ≤ length (placed (record { view = p.pool.view; heard = own_heard p c }))
   heard-grows c = go (is_some (heard_on p.pool p.me (slot_of c.statement)))
     where
-      go : (b : Bool) → length (placed p.pool) ≤ length (placed (record { view = p.pool.view; heard = if b then p.pool.heard else p.pool.heard ++ c ∷ [] }))
+      go : (b : Bool) → length (placed p.pool)
+          ≤ length (placed (record { view = p.pool.view; heard = if b then p.pool.heard else p.pool.heard ++ c ∷ [] }))
       go true = omega arith
       go false = placed-grows p.pool (c ∷ [])
 
@@ -68,7 +70,8 @@ module _ (s : Setting) (p : Process) (signer : Signer) where
 
   owes : InOrder p → (a st : Statement) → may_sign s p st ≡ true → Mem a (statements_of p) → Owes a st
   owes ok (End x n) (Keep y k b) may there = λ same.
-      not-both (is_ended p) (ap (λ v. is_signed p (EndAt v)) (sym (same ∙ current (Keep y k b) may)) ∙ is_signed-mem p (End x n) ok.signers there) (and-second _ _ (and-second _ _ may))
+      not-both (is_ended p) (ap (λ v. is_signed p (EndAt v))
+      (sym (same ∙ current (Keep y k b) may)) ∙ is_signed-mem p (End x n) ok.signers there) (and-second _ _ (and-second _ _ may))
   owes ok (Keep x k b) (End y n) may there = λ same.
       let all : n ≡ length (placed p.pool) = end-placed s p y n may in
       let below = ok.placed x k b there (same ∙ current (End y n) may) in
@@ -86,14 +89,16 @@ module _ (s : Setting) (p : Process) (signer : Signer) where
     pairs = subst (Pairs Owes) (with-last st) (pairs-snoc Owes (statements_of p) st ok.pairs (λ a m. owes ok a st may m));
     signers = each-snoc (λ (c : Claim). c.signer ≡ p.me) p.signed (own_claim s signer p st) ok.signers refl;
     views = λ other m. below other (was st other m);
-    placed = λ x k b there e. let far = kept x k b e (was st (Keep x k b) there) in let more = heard-grows (own_claim s signer p st) in omega (arith, far, more);
+    placed = λ x k b there e. let far = kept x k b e (was st (Keep x k b) there) in let more = heard-grows
+        (own_claim s signer p st) in omega (arith, far, more);
   }
     where
       below : (other : Statement) → Mem other (statements_of p) ⊎ (st ≡ other) → view_of other ≤ p.pool.view.number
       below other (inl m) = ok.views other m
       below other (inr e) = let now = current st may in let is = ap view_of e in omega (arith, now, is)
 
-      kept : (x k : ℕ) (b : Batch) → x ≡ p.pool.view.number → Mem (Keep x k b) (statements_of p) ⊎ (st ≡ Keep x k b) → k < length (placed p.pool)
+      kept : (x k : ℕ) (b : Batch) → x ≡ p.pool.view.number → Mem (Keep x k b) (statements_of p) ⊎ (st ≡ Keep x k b)
+          → k < length (placed p.pool)
       kept x k b e (inl there) = ok.placed x k b there e
       kept x k b e (inr is) = keep-placed x k b (subst (λ st. may_sign s p st ≡ true) is may)
 
@@ -119,10 +124,13 @@ installing-keeps p d ok = record {
 same-keeps : (p q : Process) → p.signed ≡ q.signed → p.me ≡ q.me → p.pool ≡ q.pool → InOrder p → InOrder q
 same-keeps p q signed me pool ok = record {
   pairs = subst (λ cs. Pairs Owes (map (λ c. c.statement) cs)) signed ok.pairs;
-  signers = subst (λ n. (c : Claim) → Mem c q.signed → c.signer ≡ n) me (subst (λ cs. (c : Claim) → Mem c cs → c.signer ≡ p.me) signed ok.signers);
-  views = subst (λ h. (st : Statement) → Mem st (statements_of q) → view_of st ≤ h.view.number) pool (subst (λ cs. (st : Statement) → Mem st (map (λ c. c.statement) cs) → view_of st ≤ p.pool.view.number) signed ok.views);
+  signers = subst (λ n. (c : Claim) → Mem c q.signed → c.signer ≡ n) me
+      (subst (λ cs. (c : Claim) → Mem c cs → c.signer ≡ p.me) signed ok.signers);
+  views = subst (λ h. (st : Statement) → Mem st (statements_of q) → view_of st ≤ h.view.number) pool
+      (subst (λ cs. (st : Statement) → Mem st (map (λ c. c.statement) cs) → view_of st ≤ p.pool.view.number) signed ok.views);
   placed = subst (λ h. (x k : ℕ) (b : Batch) → Mem (Keep x k b) (statements_of q) → x ≡ h.view.number → k < length (placed h)) pool
-      (subst (λ cs. (x k : ℕ) (b : Batch) → Mem (Keep x k b) (map (λ c. c.statement) cs) → x ≡ p.pool.view.number → k < length (placed p.pool)) signed ok.placed);
+      (subst (λ cs. (x k : ℕ) (b : Batch) → Mem (Keep x k b) (map (λ c. c.statement) cs) → x ≡ p.pool.view.number
+      → k < length (placed p.pool)) signed ok.placed);
 }
 
 keeps : (s : Setting) (from : List Claim) → Keeps s from InOrder
@@ -145,7 +153,13 @@ keeps_before_end s me limit turns i j x k n b at_keep at_end = go (compared i j)
     sts = statements_of (run s (start s me limit) turns)
 
     order : InOrder (run s (start s me limit) turns)
-    order = run-keeps s InOrder turns (keeps s _) (start s me limit) (record { pairs = λ i j a b lt at. absurd cc; signers = λ c m. absurd m; views = λ st m. absurd m; placed = λ x k b there. absurd there })
+    order = run-keeps s InOrder turns (keeps s _) (start s me limit)
+        (record {
+          pairs = λ i j a b lt at. absurd cc;
+          signers = λ c m. absurd m;
+          views = λ st m. absurd m;
+          placed = λ x k b there. absurd there;
+        })
 
     go : Compared i j → (i < j) × (k < n)
     go (ahead first) = (first, order.pairs i j (Keep x k b) (End x n) first at_keep at_end refl)

@@ -23,7 +23,8 @@ keeps s from = record {
   perceives = λ p e ok. ok;
   hears = λ p c m e ok. ok;
   doubts = λ p conflicts ok. ok;
-  signs = λ p signer st next none ok. each-snoc (λ (c : Claim). Mem (kind_of c.statement) s.signs) p.signed (own_claim s signer p st) ok (subst (λ kind. Mem kind s.signs) (sym (offers-kind next.kind s p st next.offered)) next.signed);
+  signs = λ p signer st next none ok. each-snoc (λ (c : Claim). Mem (kind_of c.statement) s.signs) p.signed (own_claim s signer p st) ok
+      (subst (λ kind. Mem kind s.signs) (sym (offers-kind next.kind s p st next.offered)) next.signed);
   decides = λ p ok. ok;
   delivers = λ p ds member room e ok. ok;
   installs = λ p d decided whole ok. ok;
@@ -33,4 +34,6 @@ keeps s from = record {
 pub signs_its_kinds : SignsItsKinds
 signs_its_kinds s me limit turns =
     let p : Process = run s (start s me limit) turns in
-    mem-All (λ (c : Claim). Contains s.signs (kind_of c.statement)) p.signed (λ c m. mem-Contains s.signs (kind_of c.statement) (induction.run-keeps s (OfKinds s) turns (keeps s _) (start s me limit) (λ c m. absurd m) c m))
+    mem-All (λ (c : Claim). Contains s.signs (kind_of c.statement)) p.signed
+    (λ c m. mem-Contains s.signs (kind_of c.statement)
+    (induction.run-keeps s (OfKinds s) turns (keeps s _) (start s me limit) (λ c m. absurd m) c m))

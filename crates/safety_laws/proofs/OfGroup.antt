@@ -13,8 +13,10 @@ account-of f a there =
     let c = map-mem (end_of f.setting) f.correct p.0 p.1 in
     (c.0, c.1, ap account_of c.2 ∙ p.2)
 
-pub each-account : (f : Family) (R : Account → Type 0) → ((c : Correct) → Mem c f.correct → R (account_of (end_of f.setting c))) → All R (accounts f)
-each-account f R each k d lt = let c = account-of f (slice_index_or (accounts f) k d) (index-mem (accounts f) k d lt) in subst R c.2 (each c.0 c.1)
+pub each-account : (f : Family) (R : Account → Type 0) → ((c : Correct) → Mem c f.correct → R (account_of (end_of f.setting c)))
+    → All R (accounts f)
+each-account f R each k d lt = let c = account-of f (slice_index_or (accounts f) k d)
+    (index-mem (accounts f) k d lt) in subst R c.2 (each c.0 c.1)
 
 pub in-accounts : (f : Family) (c : Correct) → Mem c f.correct → Mem (account_of (end_of f.setting c)) (accounts f)
 in-accounts f c m = mem-map account_of (ends f) (end_of f.setting c) (in-ends f c m)
@@ -39,15 +41,19 @@ module _ (f : Family) {A : Type 0} (g : Account → List A) where
       go : (xss : List (List A)) → map g (accounts f) ≡ xss → Whose
       go [] e = nobody (ap longest e)
       go (xs ∷ more) e =
-          let there = map-mem g (accounts f) (longest (map g (accounts f))) (longest-mem (map g (accounts f)) xs (subst (Mem xs) (sym e) (inl refl))) in
+          let there = map-mem g (accounts f) (longest (map g (accounts f)))
+          (longest-mem (map g (accounts f)) xs (subst (Mem xs) (sym e) (inl refl))) in
           of-account there.0 there.1 there.2
 
   -- where there is one, it is a correct process's
-  pub its-longest : (c : Correct) → Mem c f.correct → (c' : Correct) × Mem c' f.correct × (g (account_of (end_of f.setting c')) ≡ longest_of)
+  pub its-longest : (c : Correct) → Mem c f.correct
+      → (c' : Correct) × Mem c' f.correct × (g (account_of (end_of f.setting c')) ≡ longest_of)
   its-longest c m =
-      let there = map-mem g (accounts f) (longest (map g (accounts f))) (longest-mem (map g (accounts f)) (g (account_of (end_of f.setting c))) (mem-map g (accounts f) _ (in-accounts f c m))) in
+      let there = map-mem g (accounts f) (longest (map g (accounts f)))
+      (longest-mem (map g (accounts f)) (g (account_of (end_of f.setting c))) (mem-map g (accounts f) _ (in-accounts f c m))) in
       let c' = account-of f there.0 there.1 in
       (c'.0, c'.1, ap g c'.2 ∙ there.2)
 
   pub at-most-longest : (c : Correct) → Mem c f.correct → length (g (account_of (end_of f.setting c))) ≤ length longest_of
-  at-most-longest c m = longest-most (map g (accounts f)) (g (account_of (end_of f.setting c))) (mem-map g (accounts f) _ (in-accounts f c m))
+  at-most-longest c m = longest-most (map g (accounts f)) (g (account_of (end_of f.setting c)))
+      (mem-map g (accounts f) _ (in-accounts f c m))

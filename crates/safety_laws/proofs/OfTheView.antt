@@ -38,11 +38,14 @@ members-all v ms each = mem-All (λ m. IsTrue (is_member v m.sender)) ms each
 
 pub verdict-of-view : (s : Setting) (p : Process) (c : Claim) → verdict s p c ≡ Heard → IsOfView p.pool.view c
 verdict-of-view s p c heard =
-    let two = neither (not (is_member p.pool.view c.signer)) (list_any (λ m. not (is_member p.pool.view m.sender)) (messages_of c.statement)) (passed s p c heard).2 in
+    let two = neither (not (is_member p.pool.view c.signer))
+    (list_any (λ m. not (is_member p.pool.view m.sender)) (messages_of c.statement)) (passed s p c heard).2 in
     record {
       number = verdict-view s p c heard;
       signer = not-false (is_member p.pool.view c.signer) two.0;
-      senders = members-all p.pool.view (messages_of c.statement) (λ m there. not-false (is_member p.pool.view m.sender) (none-any (λ (m : Message). not (is_member p.pool.view m.sender)) (messages_of c.statement) two.1 m there));
+      senders = members-all p.pool.view (messages_of c.statement)
+          (λ m there. not-false (is_member p.pool.view m.sender)
+          (none-any (λ (m : Message). not (is_member p.pool.view m.sender)) (messages_of c.statement) two.1 m there));
     }
 
 -- ---- what an own statement names
@@ -52,7 +55,8 @@ module _ (h : Pool) (all : (c : Claim) → Mem c h.heard → IsOfView h.view c) 
   certified-senders : (st : Statement) → is_certified h st ≡ true → AreMembers h.view (messages_of st)
   certified-senders st certified m there =
       let said = (certified-heard h st me member certified).1 in
-      All-mem (λ (m : Message). IsTrue (is_member h.view m.sender)) (messages_of said.0.statement) m (all said.0 said.1).senders (subst (λ st. Mem m (messages_of st)) (sym said.3) there)
+      All-mem (λ (m : Message). IsTrue (is_member h.view m.sender))
+      (messages_of said.0.statement) m (all said.0 said.1).senders (subst (λ st. Mem m (messages_of st)) (sym said.3) there)
 
   payload-sender : (m : Message) → is_some (payload_at h m) ≡ true → is_member h.view m.sender ≡ true
   payload-sender m e = go (payload_at h m) refl e
@@ -62,36 +66,52 @@ module _ (h : Pool) (all : (c : Claim) → Mem c h.heard → IsOfView h.view c) 
       go (Some b) is e = certified-senders (Echo h.view.number m b) (payload-certified h m b is) m (inl refl)
 
 -- what is ordered next is certified
-next-of-certified : (h : Pool) (before : List Message) (sender : ℕ) (n : Message) → next_of h before sender ≡ Some n → is_some (payload_at h n) ≡ true
+next-of-certified : (h : Pool) (before : List Message) (sender : ℕ) (n : Message) → next_of h before sender ≡ Some n
+    → is_some (payload_at h n) ≡ true
 next-of-certified h before sender n e = go (is_some (payload_at h (record { sender = sender; number = named_by sender before }))) refl e
   where
-    go : (b : Bool) → is_some (payload_at h (record { sender = sender; number = named_by sender before })) ≡ b → (if b then Some (record { sender = sender; number = named_by sender before }) else None) ≡ Some n → is_some (payload_at h n) ≡ true
+    go : (b : Bool) → is_some (payload_at h (record { sender = sender; number = named_by sender before })) ≡ b
+        → (if b then Some (record { sender = sender; number = named_by sender before }) else None) ≡ Some n
+        → is_some (payload_at h n) ≡ true
     go true is e = subst (λ n. is_some (payload_at h n) ≡ true) (some-same _ n e) is
     go false is e = absurd cc
 
-pub next-certified : (more : ℕ) (h : Pool) (before : List Message) (m : Message) → Mem m (next_messages more h before) → is_some (payload_at h m) ≡ true
+pub next-certified : (more : ℕ) (h : Pool) (before : List Message) (m : Message) → Mem m (next_messages more h before)
+    → is_some (payload_at h m) ≡ true
 unfolding next_messages
 next-certified zero h before m there = absurd there
 next-certified (suc more) h before m there = go (next_message h before) refl there (λ n. next-certified more h (before ++ n ∷ []) m)
   where
-    go : (o : Option Message) → next_message h before ≡ o → Mem m (elim o [ None ↦ [] | Some n ↦ n ∷ next_messages more h (before ++ n ∷ []) ]) → ((n : Message) → Mem m (next_messages more h (before ++ n ∷ [])) → is_some (payload_at h m) ≡ true) → is_some (payload_at h m) ≡ true
+    go : (o : Option Message) → next_message h before ≡ o
+        → Mem m (elim o [ None ↦ [] | Some n ↦ n ∷ next_messages more h (before ++ n ∷ []) ])
+        → ((n : Message) → Mem m (next_messages more h (before ++ n ∷ [])) → is_some (payload_at h m) ≡ true)
+        → is_some (payload_at h m) ≡ true
     go None is there later = absurd there
-    go (Some n) is (inl e) later = let from = first_some-is (next_of h before) h.view.members n is in subst (λ m. is_some (payload_at h m) ≡ true) e (next-of-certified h before from.0 n from.1)
+    go (Some n) is (inl e) later = let from = first_some-is (next_of h before) h.view.members n is in subst
+        (λ m. is_some (payload_at h m) ≡ true) e (next-of-certified h before from.0 n from.1)
     go (Some n) is (inr there) later = later n there
 
-pub named : (s : Setting) (p : Process) → ((c : Claim) → Mem c p.pool.heard → IsOfView p.pool.view c) → (st : Statement) → may_sign s p st ≡ true → AreMembers p.pool.view (messages_of st)
+pub named : (s : Setting) (p : Process) → ((c : Claim) → Mem c p.pool.heard → IsOfView p.pool.view c) → (st : Statement)
+    → may_sign s p st ≡ true → AreMembers p.pool.view (messages_of st)
 named s p all (Echo x n b) may m (inl same) =
-    let said = heard-says p.pool (Init x n.number b) n.sender (and-first (says p.pool (Init x n.number b) n.sender) (not (is_ended p)) (signing-due s p (Echo x n b) may)) in
-    subst (λ (m : Message). is_member p.pool.view m.sender ≡ true) same (subst (λ a. is_member p.pool.view a ≡ true) said.2 (all said.0 said.1).signer)
+    let said = heard-says p.pool (Init x n.number b) n.sender
+    (and-first (says p.pool (Init x n.number b) n.sender) (not (is_ended p)) (signing-due s p (Echo x n b) may)) in
+    subst (λ (m : Message). is_member p.pool.view m.sender ≡ true) same
+    (subst (λ a. is_member p.pool.view a ≡ true) said.2 (all said.0 said.1).signer)
 named s p all (Echo x n b) may m (inr none) = absurd none
 named s p all (Order x k b) may m there =
     let is : b ≡ next_batch p = yes-is (Batch-discrete b (next_batch p)) (and-second _ _ (signing-due s p (Order x k b) may)) in
-    payload-sender p.pool all p.me (signing-member s p (Order x k b) may) m (next-certified p.batch_limit p.pool (messages (own_orders p)) m (subst (Mem m) is there))
+    payload-sender p.pool all p.me (signing-member s p (Order x k b) may) m
+    (next-certified p.batch_limit p.pool (messages (own_orders p)) m (subst (Mem m) is there))
 named s p all (Place x k b) may m there =
-    payload-sender p.pool all p.me (signing-member s p (Place x k b) may) m (list_all-mem (λ m. is_some (payload_at p.pool m)) b m (and-second _ (are_certified p.pool b) (signing-due s p (Place x k b) may)) there)
+    payload-sender p.pool all p.me (signing-member s p (Place x k b) may) m
+    (list_all-mem (λ m. is_some (payload_at p.pool m)) b m
+    (and-second _ (are_certified p.pool b) (signing-due s p (Place x k b) may)) there)
 named s p all (Keep x k b) may m there =
-    let at = some-and (slice_get (placed p.pool) k) (same_batch b) (and-first (is_some_and (slice_get (placed p.pool) k) (same_batch b)) (not (is_ended p)) (signing-due s p (Keep x k b) may)) in
-    certified-senders p.pool all p.me (signing-member s p (Keep x k b) may) (Place p.pool.view.number k at.0) (place-certified p.pool k at.0 (placed-at p.pool k at.0 at.1)) m (subst (Mem m) (yes-is (Batch-discrete b at.0) at.2) there)
+    let at = some-and (slice_get (placed p.pool) k) (same_batch b)
+    (and-first (is_some_and (slice_get (placed p.pool) k) (same_batch b)) (not (is_ended p)) (signing-due s p (Keep x k b) may)) in
+    certified-senders p.pool all p.me (signing-member s p (Keep x k b) may) (Place p.pool.view.number k at.0)
+    (place-certified p.pool k at.0 (placed-at p.pool k at.0 at.1)) m (subst (Mem m) (yes-is (Batch-discrete b at.0) at.2) there)
 named s p all _ may m there = absurd there
 
 -- ---- each run keeps it
@@ -101,23 +121,39 @@ record OfTheView (p : Process) : Type 0 where
   pub current : DeliversIn p.me p.pool.view p.delivered
   pub lefts : (l : Left) → Mem l p.left → DeliversIn p.me l.view l.delivered
 
-hearing : (p : Process) (c : Claim) → OfTheView p → IsOfView p.pool.view c → (d : Claim) → Mem d (p.pool.heard ++ c ∷ []) → IsOfView p.pool.view d
+hearing : (p : Process) (c : Claim) → OfTheView p → IsOfView p.pool.view c → (d : Claim) → Mem d (p.pool.heard ++ c ∷ [])
+    → IsOfView p.pool.view d
 hearing p c ok new = each-snoc (IsOfView p.pool.view) p.pool.heard c ok.heard new
 
-signing : (s : Setting) (p : Process) (signer : Signer) (st : Statement) → may_sign s p st ≡ true → OfTheView p → OfTheView (signs s signer p st)
-signing s p signer st may ok = record { heard = heard (is_some (heard_on p.pool p.me (slot_of st))); current = ok.current; lefts = ok.lefts }
+signing : (s : Setting) (p : Process) (signer : Signer) (st : Statement) → may_sign s p st ≡ true → OfTheView p
+    → OfTheView (signs s signer p st)
+signing s p signer st may ok = record {
+  heard = heard (is_some (heard_on p.pool p.me (slot_of st)));
+  current = ok.current;
+  lefts = ok.lefts;
+}
   where
     own : Claim
     own = own_claim s signer p st
 
     heard : (b : Bool) → (c : Claim) → Mem c (if b then p.pool.heard else p.pool.heard ++ own ∷ []) → IsOfView p.pool.view c
     heard true c m = ok.heard c m
-    heard false c m = hearing p own ok (record { number = signing-view s p st may; signer = signing-member s p st may; senders = members-all p.pool.view (messages_of st) (named s p ok.heard st may) }) c m
+    heard false c m = hearing p own ok
+        (record {
+          number = signing-view s p st may;
+          signer = signing-member s p st may;
+          senders = members-all p.pool.view (messages_of st) (named s p ok.heard st may);
+        }) c m
 
-delivering : (p : Process) (ds : List Delivered) → is_member p.pool.view p.me ≡ true → deliverable p ≡ Some ds → OfTheView p → OfTheView (record p { delivered = p.delivered ++ ds })
+delivering : (p : Process) (ds : List Delivered) → is_member p.pool.view p.me ≡ true → deliverable p ≡ Some ds → OfTheView p
+    → OfTheView (record p { delivered = p.delivered ++ ds })
 delivering p ds member e ok = record {
   heard = ok.heard;
-  current = record { outside = λ not'. absurd (let clash : true ≡ false = sym member ∙ not' in cc); senders = mem-All (λ d. IsTrue (is_member p.pool.view d.message.sender)) (p.delivered ++ ds) (λ x m. each x (append-mem p.delivered ds x m)) };
+  current = record {
+    outside = λ not'. absurd (let clash : true ≡ false = sym member ∙ not' in cc);
+    senders = mem-All (λ d. IsTrue (is_member p.pool.view d.message.sender)) (p.delivered ++ ds)
+        (λ x m. each x (append-mem p.delivered ds x m));
+  };
   lefts = ok.lefts;
 }
   where
@@ -143,17 +179,25 @@ keeps s from = record {
   signs = λ p signer st next none ok. signing s p signer st next.may ok;
   decides = λ p ok. record { heard = ok.heard; current = ok.current; lefts = ok.lefts };
   delivers = λ p ds member room e ok. delivering p ds member e ok;
-  installs = λ p d decided whole ok. record { heard = λ c m. absurd m; current = nothing-yet p.me (install d p).pool.view; lefts = each-snoc (λ (l : Left). DeliversIn p.me l.view l.delivered) p.left _ ok.lefts ok.current };
+  installs = λ p d decided whole ok. record {
+    heard = λ c m. absurd m;
+    current = nothing-yet p.me (install d p).pool.view;
+    lefts = each-snoc (λ (l : Left). DeliversIn p.me l.view l.delivered) p.left _ ok.lefts ok.current;
+  };
   halts = λ p d decided member ok. record { heard = ok.heard; current = ok.current; lefts = ok.lefts };
 }
 
 of-the-view : (s : Setting) (me limit : ℕ) (turns : List Turn) → OfTheView (run s (start s me limit) turns)
-of-the-view s me limit turns = run-keeps s OfTheView turns (keeps s _) (start s me limit) (record { heard = λ c m. absurd m; current = nothing-yet me s.genesis; lefts = λ l m. absurd m })
+of-the-view s me limit turns = run-keeps s OfTheView turns (keeps s _) (start s me limit)
+    (record { heard = λ c m. absurd m; current = nothing-yet me s.genesis; lefts = λ l m. absurd m })
 
 pub heard_is_of_view : HeardIsOfView
-heard_is_of_view s me limit turns = let p : Process = run s (start s me limit) turns in mem-All (IsOfView p.pool.view) p.pool.heard (of-the-view s me limit turns).heard
+heard_is_of_view s me limit turns = let p : Process = run s (start s me limit) turns in mem-All (IsOfView p.pool.view) p.pool.heard
+    (of-the-view s me limit turns).heard
 
 pub members_deliver : MembersDeliver
 members_deliver s me limit turns =
-    let p : Process = run s (start s me limit) turns in
-    (mem-All (λ (l : Left). DeliversIn p.me l.view l.delivered) p.left (of-the-view s me limit turns).lefts, (of-the-view s me limit turns).current)
+    let p : Process = run s (start s me limit) turns in (
+      mem-All (λ (l : Left). DeliversIn p.me l.view l.delivered) p.left (of-the-view s me limit turns).lefts,
+      (of-the-view s me limit turns).current,
+    )

@@ -11,7 +11,8 @@ use Rattle.safety_laws.proofs.Quorums.{enough-of, meeting, signed-by}
 use Rattle.pool_laws.proofs.Tests.{some-same}
 
 -- one signed list has one claim of a slot
-one-claim : (cs : List Claim) → Pairs (λ c d. slot_of c.statement ≢ slot_of d.statement) cs → (a b : Claim) → Mem a cs → Mem b cs → slot_of a.statement ≡ slot_of b.statement → a ≡ b
+one-claim : (cs : List Claim) → Pairs (λ c d. slot_of c.statement ≢ slot_of d.statement) cs → (a b : Claim) → Mem a cs → Mem b cs
+    → slot_of a.statement ≡ slot_of b.statement → a ≡ b
 one-claim cs once a b m n e =
     let i = mem-slice_get cs a m in
     let j = mem-slice_get cs b n in
@@ -22,13 +23,16 @@ one-claim cs once a b m n e =
     go i j at_i at_j (behind lt) = absurd (once j i b a lt at_j at_i (sym e))
     go i j at_i at_j (level same) = some-same a b (sym at_i ∙ ap (slice_get cs) same ∙ at_j)
 
-one-of-slot : (s : Setting) (c : Correct) (st other : Statement) → Mem st (statements_of (end_of s c)) → Mem other (statements_of (end_of s c)) → slot_of st ≡ slot_of other → st ≡ other
+one-of-slot : (s : Setting) (c : Correct) (st other : Statement) → Mem st (statements_of (end_of s c))
+    → Mem other (statements_of (end_of s c)) → slot_of st ≡ slot_of other → st ≡ other
 one-of-slot s c st other m n same =
     let cs : List Claim = (end_of s c).signed in
     let a = map-mem (λ (c : Claim). c.statement) cs st m in
     let b = map-mem (λ (c : Claim). c.statement) cs other n in
     let slots : slot_of a.0.statement ≡ slot_of b.0.statement = ap slot_of a.2 ∙ same ∙ sym (ap slot_of b.2) in
-    sym a.2 ∙ ap (λ (c : Claim). c.statement) (one-claim cs (all-pairs (λ c d. slot_of c.statement ≢ slot_of d.statement) cs (one_per_slot s c.me c.batch_limit c.turns)) a.0 b.0 a.1 b.1 slots) ∙ b.2
+    sym a.2 ∙ ap (λ (c : Claim). c.statement)
+    (one-claim cs (all-pairs (λ c d. slot_of c.statement ≢ slot_of d.statement) cs
+    (one_per_slot s c.me c.batch_limit c.turns)) a.0 b.0 a.1 b.1 slots) ∙ b.2
 
 pub one_content : OneContent
 one_content f v st other one backed backed' same =

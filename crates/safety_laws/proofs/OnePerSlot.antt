@@ -20,8 +20,11 @@ record SignsOnce (p : Process) : Type 0 where
   pub pairs : Pairs Differ p.signed
   pub signers : (c : Claim) → Mem c p.signed → c.signer ≡ p.me
 
-fresh : (s : Setting) (p : Process) (st : Statement) → may_sign s p st ≡ true → ((c : Claim) → Mem c p.signed → c.signer ≡ p.me) → (c : Claim) → Mem c p.signed → slot_of c.statement ≢ slot_of st
-fresh s p st may own c m = λ e. not-both (is_signed p (slot_of st)) (ap (is_signed p) (sym e) ∙ is_signed-mem p c.statement own (mem-map (λ (c : Claim). c.statement) p.signed c m)) (and-second _ _ (and-first _ _ may))
+fresh : (s : Setting) (p : Process) (st : Statement) → may_sign s p st ≡ true → ((c : Claim) → Mem c p.signed → c.signer ≡ p.me)
+    → (c : Claim) → Mem c p.signed → slot_of c.statement ≢ slot_of st
+fresh s p st may own c m = λ e. not-both (is_signed p (slot_of st))
+    (ap (is_signed p) (sym e) ∙ is_signed-mem p c.statement own (mem-map (λ (c : Claim). c.statement) p.signed c m))
+    (and-second _ _ (and-first _ _ may))
 
 keeps : (s : Setting) (from : List Claim) → Keeps s from SignsOnce
 keeps s from = record {
@@ -40,10 +43,12 @@ keeps s from = record {
 }
 
 signs-once : (s : Setting) (me limit : ℕ) (turns : List Turn) → SignsOnce (run s (start s me limit) turns)
-signs-once s me limit turns = run-keeps s SignsOnce turns (keeps s _) (start s me limit) (record { pairs = λ i j a b lt at. absurd cc; signers = λ c m. absurd m })
+signs-once s me limit turns = run-keeps s SignsOnce turns (keeps s _) (start s me limit)
+    (record { pairs = λ i j a b lt at. absurd cc; signers = λ c m. absurd m })
 
 pub one_per_slot : OnePerSlot
 one_per_slot s me limit turns = pairs-all Differ (run s (start s me limit) turns).signed (signs-once s me limit turns).pairs
 
-pub own-signers : (s : Setting) (me limit : ℕ) (turns : List Turn) → (c : Claim) → Mem c (run s (start s me limit) turns).signed → c.signer ≡ (run s (start s me limit) turns).me
+pub own-signers : (s : Setting) (me limit : ℕ) (turns : List Turn) → (c : Claim) → Mem c (run s (start s me limit) turns).signed
+    → c.signer ≡ (run s (start s me limit) turns).me
 own-signers s me limit turns = (signs-once s me limit turns).signers

@@ -21,7 +21,8 @@ unfolding next_messages
 few zero h before = omega arith
 few (suc more) h before = go (next_message h before) (λ m. few more h (before ++ m ∷ []))
   where
-    go : (o : Option Message) → ((m : Message) → length (next_messages more h (before ++ m ∷ [])) ≤ more) → (let it : Batch = elim o [ None ↦ [] | Some m ↦ m ∷ next_messages more h (before ++ m ∷ []) ] in length it ≤ suc more)
+    go : (o : Option Message) → ((m : Message) → length (next_messages more h (before ++ m ∷ [])) ≤ more)
+        → (let it : Batch = elim o [ None ↦ [] | Some m ↦ m ∷ next_messages more h (before ++ m ∷ []) ] in length it ≤ suc more)
     go None rest = omega arith
     go (Some m) rest = let le = rest m in omega (arith, le)
 
@@ -29,7 +30,8 @@ record Within (limit : ℕ) (p : Process) : Type 0 where
   pub same : p.batch_limit ≡ limit
   pub orders : (x k : ℕ) (b : Batch) → Mem (Order x k b) (statements_of p) → (1 ≤ length b) × (length b ≤ limit)
 
-pub order-within : (s : Setting) (p : Process) (x k : ℕ) (b : Batch) → may_sign s p (Order x k b) ≡ true → (1 ≤ length b) × (length b ≤ p.batch_limit)
+pub order-within : (s : Setting) (p : Process) (x k : ℕ) (b : Batch) → may_sign s p (Order x k b) ≡ true
+    → (1 ≤ length b) × (length b ≤ p.batch_limit)
 order-within s p x k b may =
     let due = signing-due s p (Order x k b) may in
     let is : b ≡ next_batch p = yes-is (Batch-discrete b (next_batch p)) (and-second _ _ due) in
@@ -46,7 +48,9 @@ keeps limit s from = record {
   doubts = λ p conflicts ok. record { same = ok.same; orders = ok.orders };
   signs = λ p signer st next none ok. record {
     same = ok.same;
-    orders = λ x k b m. signed p st next.may ok x k b (snoc-mem (statements_of p) st (Order x k b) (subst (Mem (Order x k b)) (map-append (λ (c : Claim). c.statement) p.signed (own_claim s signer p st ∷ [])) m));
+    orders = λ x k b m. signed p st next.may ok x k b
+        (snoc-mem (statements_of p) st (Order x k b)
+        (subst (Mem (Order x k b)) (map-append (λ (c : Claim). c.statement) p.signed (own_claim s signer p st ∷ [])) m));
   };
   decides = λ p ok. record { same = ok.same; orders = ok.orders };
   delivers = λ p ds member room e ok. record { same = ok.same; orders = ok.orders };
@@ -54,10 +58,14 @@ keeps limit s from = record {
   halts = λ p d decided member ok. record { same = ok.same; orders = ok.orders };
 }
   where
-    signed : (p : Process) (st : Statement) → may_sign s p st ≡ true → Within limit p → (x k : ℕ) (b : Batch) → Mem (Order x k b) (statements_of p) ⊎ (st ≡ Order x k b) → (1 ≤ length b) × (length b ≤ limit)
+    signed : (p : Process) (st : Statement) → may_sign s p st ≡ true → Within limit p → (x k : ℕ) (b : Batch)
+        → Mem (Order x k b) (statements_of p) ⊎ (st ≡ Order x k b) → (1 ≤ length b) × (length b ≤ limit)
     signed p st may ok x k b (inl before) = ok.orders x k b before
-    signed p st may ok x k b (inr is) = subst (λ limit. (1 ≤ length b) × (length b ≤ limit)) ok.same (order-within s p x k b (subst (λ st. may_sign s p st ≡ true) is may))
+    signed p st may ok x k b (inr is) = subst (λ limit. (1 ≤ length b) × (length b ≤ limit)) ok.same
+        (order-within s p x k b (subst (λ st. may_sign s p st ≡ true) is may))
 
 pub orders_within_limit : OrdersWithinLimit
 orders_within_limit s me limit turns x k b there =
-    (run-keeps s (Within limit) turns (keeps limit s _) (start s me limit) (record { same = refl; orders = λ x k b m. absurd m })).orders x k b (Contains-mem (statements_of (run s (start s me limit) turns)) (Order x k b) there)
+    (run-keeps s (Within limit) turns (keeps limit s _) (start s me limit)
+    (record { same = refl; orders = λ x k b m. absurd m })).orders x k b
+    (Contains-mem (statements_of (run s (start s me limit) turns)) (Order x k b) there)

@@ -62,20 +62,27 @@ module _ (f : Family) (premises : Premises f) (c : Correct) (m : Mem c f.correct
       }
 
   -- an Echo of its message was due where its Init is heard
-  of-echo : (v : View) → IsOneView f v → (d : Letter) → d.message.sender ≡ me → DueAt f v (Echo v.number d.message d.payload) → OwnInit v.number d.message.number d.payload
+  of-echo : (v : View) → IsOneView f v → (d : Letter) → d.message.sender ≡ me → DueAt f v (Echo v.number d.message d.payload)
+      → OwnInit v.number d.message.number d.payload
   of-echo v one d sender (q, stood, at, may) =
       let init : Statement = Init v.number d.message.number d.payload in
-      let said : says q.pool init d.message.sender ≡ true = and-first (says q.pool init d.message.sender) (not (is_ended q)) (signing-due f.setting q (Echo v.number d.message d.payload) may) in
+      let said : says q.pool init d.message.sender
+      ≡ true = and-first (says q.pool init d.message.sender) (not (is_ended q))
+      (signing-due f.setting q (Echo v.number d.message d.payload) may) in
       let claim = heard-says q.pool init d.message.sender said in
       let source = All-mem (IsFrom f.setting (handed f) q.signed) q.pool.heard claim.0 stood.heard claim.1 in
       let word = own-word f v q one stood claim.0 source (end_of f.setting c) (in-ends f c m) (sym (claim.2 ∙ sender)) in
       of-signed v d.message.number d.payload (subst (λ st. Mem st (statements_of (end_of f.setting c))) claim.3 word)
 
-  in-view : (v : View) → IsOneView f v → (c' : Correct) → Mem c' f.correct → (ds : List Delivered) → ViewSo f.setting c'.turns (end_of f.setting c') v ds → (d : Letter) → Mem d (without_places ds) → d.message.sender ≡ me → OwnInit v.number d.message.number d.payload
+  in-view : (v : View) → IsOneView f v → (c' : Correct) → Mem c' f.correct → (ds : List Delivered)
+      → ViewSo f.setting c'.turns (end_of f.setting c') v ds → (d : Letter) → Mem d (without_places ds) → d.message.sender ≡ me
+      → OwnInit v.number d.message.number d.payload
   in-view v one c' m' ds so d there sender =
       let e = map-mem letter_of ds d there in
       let k = mem-slice_get ds e.0 e.1 in
-      let echo : IsBacked f v (Echo v.number d.message d.payload) = subst (λ (d : Letter). IsBacked f v (Echo v.number d.message d.payload)) e.2 (backed f v one c' m' (Echo v.number e.0.message e.0.payload) (so.payloads k.0 e.0 k.1)) in
+      let echo : IsBacked f v (Echo v.number d.message d.payload) = subst
+      (λ (d : Letter). IsBacked f v (Echo v.number d.message d.payload)) e.2
+      (backed f v one c' m' (Echo v.number e.0.message e.0.payload) (so.payloads k.0 e.0 k.1)) in
       of-echo v one d sender (backed-due f v (Echo v.number d.message d.payload) one echo refl)
 
   own-init : (x : ℕ) (d : Letter) → Mem d (seq x) → d.message.sender ≡ me → OwnInit x d.message.number d.payload
@@ -84,12 +91,15 @@ module _ (f : Family) (premises : Premises f) (c : Correct) (m : Mem c f.correct
       go : SequenceSo f x → OwnInit x d.message.number d.payload
       go (empty none) = absurd (subst (Mem d) none there)
       go (delivered_by c' m' v at ds so is) =
-          subst (λ x. OwnInit x d.message.number d.payload) (indexed f.setting c'.turns (end_of f.setting c') (of-history f premises c') x v at)
-          (in-view v (one-view f premises c' m' v (slice_get-mem (views_of (end_of f.setting c')) x v at)) c' m' ds so d (subst (Mem d) (sym is) there) sender)
+          subst (λ x. OwnInit x d.message.number d.payload)
+          (indexed f.setting c'.turns (end_of f.setting c') (of-history f premises c') x v at)
+          (in-view v (one-view f premises c' m' v (slice_get-mem (views_of (end_of f.setting c')) x v at)) c' m' ds so d
+          (subst (Mem d) (sym is) there) sender)
 
   -- the view of a moment stands behind those that were left
   moment-at : (q : Process) → HasGrown q (end_of f.setting c) → slice_get (views_of (end_of f.setting c)) (length q.left) ≡ Some q.pool.view
-  moment-at q g = subst (λ vs. slice_get vs (length q.left) ≡ Some q.pool.view) g.views.1 (slice_get-front (views_of q) g.views.0 (length q.left) q.pool.view (current-at q))
+  moment-at q g = subst (λ vs. slice_get vs (length q.left) ≡ Some q.pool.view) g.views.1
+      (slice_get-front (views_of q) g.views.0 (length q.left) q.pool.view (current-at q))
 
   -- ---- how many stood before
 
@@ -114,13 +124,16 @@ module _ (f : Family) (premises : Premises f) (c : Correct) (m : Mem c f.correct
     where
       go : (es : List Letter) → of_sender me ds ≡ es → length es ≡ 0
       go [] e = refl
-      go (d ∷ es) e = absurd (let there = filter-mem (λ (d : Letter). d.message.sender == me) ds d (subst (Mem d) (sym e) (inl refl)) in no' d there.0 (eqb-true d.message.sender me there.1))
+      go (d ∷ es) e = absurd (let there = filter-mem (λ (d : Letter). d.message.sender == me) ds d
+          (subst (Mem d) (sym e) (inl refl)) in no' d there.0 (eqb-true d.message.sender me there.1))
 
   agrees : AgreesWith (group_of (accounts f)) (account_of (end_of f.setting c))
-  agrees = All-mem (AgreesWith (group_of (accounts f))) (accounts f) (account_of (end_of f.setting c)) (agreement f premises) (mem-map account_of (ends f) (end_of f.setting c) (in-ends f c m))
+  agrees = All-mem (AgreesWith (group_of (accounts f))) (accounts f) (account_of (end_of f.setting c)) (agreement f premises)
+      (mem-map account_of (ends f) (end_of f.setting c) (in-ends f c m))
 
   -- what it delivered of its own in a view that it left is all of it
-  left-count : (y : ℕ) (l : Left) → slice_get (end_of f.setting c).left y ≡ Some l → y + 1 < length (views_of (end_of f.setting c)) → length (of_sender me (without_places l.delivered)) ≡ count y
+  left-count : (y : ℕ) (l : Left) → slice_get (end_of f.setting c).left y ≡ Some l → y + 1 < length (views_of (end_of f.setting c))
+      → length (of_sender me (without_places l.delivered)) ≡ count y
   left-count y l at far = go (is_member l.view me) refl
     where
       mine : messages_in (account_of (end_of f.setting c)) y ≡ without_places l.delivered
@@ -131,7 +144,8 @@ module _ (f : Family) (premises : Premises f) (c : Correct) (m : Mem c f.correct
       go false e = none-own (without_places l.delivered) (λ d there. outside d (prefixed d there)) ∙ sym (none-own (seq y) outside)
         where
           prefixed : (d : Letter) → Mem d (without_places l.delivered) → Mem d (seq y)
-          prefixed d there = let p = agrees.prefixes y in subst (Mem d) p.1 (mem-append (messages_in (account_of (end_of f.setting c)) y) p.0 d (subst (Mem d) (sym mine) there))
+          prefixed d there = let p = agrees.prefixes y in subst (Mem d) p.1
+              (mem-append (messages_in (account_of (end_of f.setting c)) y) p.0 d (subst (Mem d) (sym mine) there))
 
           clash : {b : Bool} → b ≡ false → b ≡ true → ⊥
           clash e e' = absurd cc
@@ -141,11 +155,16 @@ module _ (f : Family) (premises : Premises f) (c : Correct) (m : Mem c f.correct
               let init = own-init y d there sender in
               let q : Process = init.moment in
               let at' = moment-at q init.grown in
-              let y_is : length q.left ≡ y = sym (indexed f.setting c.turns (end_of f.setting c) (of-history f premises c) (length q.left) q.pool.view at') ∙ init.number in
-              let is : q.pool.view ≡ l.view = some-is q.pool.view l.view _ (ap (slice_get (views_of (end_of f.setting c))) (sym y_is) ∙ at') (left-view (end_of f.setting c) y l at) in
-              clash e (subst (λ (v : View). is_member v me ≡ true) is (subst (λ n. is_member q.pool.view n ≡ true) (sym init.grown.me) init.member))
+              let y_is : length q.left ≡ y = sym
+              (indexed f.setting c.turns (end_of f.setting c) (of-history f premises c) (length q.left) q.pool.view at') ∙ init.number in
+              let is : q.pool.view ≡ l.view = some-is q.pool.view l.view _ (ap (slice_get (views_of (end_of f.setting c))) (sym y_is) ∙ at')
+              (left-view (end_of f.setting c) y l at) in
+              clash e (subst (λ (v : View). is_member v me ≡ true) is
+              (subst (λ n. is_member q.pool.view n ≡ true) (sym init.grown.me) init.member))
 
-  sum-lefts : (ls : List Left) (a : ℕ) → ((i : ℕ) (l : Left) → slice_get ls i ≡ Some l → length (of_sender me (without_places l.delivered)) ≡ count (a + i)) → sum (map (λ (l : Left). delivered_from me l.delivered) ls) ≡ total a (length ls)
+  sum-lefts : (ls : List Left) (a : ℕ)
+      → ((i : ℕ) (l : Left) → slice_get ls i ≡ Some l → length (of_sender me (without_places l.delivered)) ≡ count (a + i))
+      → sum (map (λ (l : Left). delivered_from me l.delivered) ls) ≡ total a (length ls)
   unfolding total
   sum-lefts [] a each = refl
   sum-lefts (l ∷ ls) a each =
@@ -165,16 +184,19 @@ module _ (f : Family) (premises : Premises f) (c : Correct) (m : Mem c f.correct
       ap (λ n. sum (map (λ (l : Left). delivered_from n l.delivered) q.left)) (sym g.me)
       ∙ sum-lefts q.left 0 (λ i l in_left. let short = slice_get-length q.left i l in_left in
       let same : i ≡ 0 + i = omega arith in
-      left-count i l (subst (λ ls. slice_get ls i ≡ Some l) g.left.1 (slice_get-front q.left g.left.0 i l in_left)) (omega (arith, short, far)) ∙ ap count same)
+      left-count i l (subst (λ ls. slice_get ls i ≡ Some l) g.left.1 (slice_get-front q.left g.left.0 i l in_left))
+      (omega (arith, short, far)) ∙ ap count same)
       ∙ ap (total 0) (sym x_is)
 
-  own-at : (x l : ℕ) (d : Letter) → slice_get (of_sender me (seq x)) l ≡ Some d → slice_get (end_of f.setting c).accepted (total 0 x + l) ≡ Some d.payload
+  own-at : (x l : ℕ) (d : Letter) → slice_get (of_sender me (seq x)) l ≡ Some d
+      → slice_get (end_of f.setting c).accepted (total 0 x + l) ≡ Some d.payload
   own-at x l d at =
       let there = filter-mem (λ (d : Letter). d.message.sender == me) (seq x) d (slice_get-mem (of_sender me (seq x)) l d at) in
       let init = own-init x d there.0 (eqb-true d.message.sender me there.1) in
       let q : Process = init.moment in
       let numbered = map-get (λ (d : Letter). d.message.number) (of_sender me (seq x)) l d at in
-      let number : d.message.number ≡ 0 + l = range-get 0 (length (of_sender me (seq x))) l d.message.number (ap (λ ns. slice_get ns l) (sym (each-in-order f premises x me)) ∙ numbered) in
+      let number : d.message.number ≡ 0 + l = range-get 0 (length (of_sender me (seq x))) l d.message.number
+      (ap (λ ns. slice_get ns l) (sym (each-in-order f premises x me)) ∙ numbered) in
       let base : earlier q ≡ total 0 x = earlier-is q init.grown ∙ ap (total 0) init.number in
       let same : earlier q + d.message.number ≡ total 0 x + l = omega (arith, number, base) in
       subst (λ bs. slice_get bs (total 0 x + l) ≡ Some d.payload) init.grown.accepted.1
@@ -184,14 +206,23 @@ module _ (f : Family) (premises : Premises f) (c : Correct) (m : Mem c f.correct
   payloads ds = map (λ (d : Letter). d.payload) (of_sender me ds)
 
   payloads-append : (xs ys : List Letter) → payloads (xs ++ ys) ≡ payloads xs ++ payloads ys
-  payloads-append xs ys = ap (map (λ (d : Letter). d.payload)) (filter-append (λ (d : Letter). d.message.sender == me) xs ys) ∙ map-append (λ (d : Letter). d.payload) (of_sender me xs) (of_sender me ys)
+  payloads-append xs ys = ap (map (λ (d : Letter). d.payload))
+      (filter-append (λ (d : Letter). d.message.sender == me) xs ys) ∙ map-append (λ (d : Letter). d.payload) (of_sender me xs)
+      (of_sender me ys)
 
-  from-on : (n a i : ℕ) (b : List ℕ) → slice_get (payloads (flat_map seq (range_with_len a n))) i ≡ Some b → slice_get (end_of f.setting c).accepted (total 0 a + i) ≡ Some b
+  from-on : (n a i : ℕ) (b : List ℕ) → slice_get (payloads (flat_map seq (range_with_len a n))) i ≡ Some b
+      → slice_get (end_of f.setting c).accepted (total 0 a + i) ≡ Some b
   from-on zero a i b e = absurd cc
-  from-on (suc n) a i b e = go (get-append (payloads (seq a)) (payloads (flat_map seq (range_with_len (a + 1) n))) i b (ap (λ bs. slice_get bs i) (sym (payloads-append (seq a) (flat_map seq (range_with_len (a + 1) n)))) ∙ e)) (λ j b e. from-on n (a + 1) j b e)
+  from-on (suc n) a i b e = go (get-append (payloads (seq a))
+      (payloads (flat_map seq (range_with_len (a + 1) n))) i b
+      (ap (λ bs. slice_get bs i) (sym (payloads-append (seq a) (flat_map seq (range_with_len (a + 1) n)))) ∙ e))
+      (λ j b e. from-on n (a + 1) j b e)
     where
-      go : (slice_get (payloads (seq a)) i ≡ Some b) ⊎ ((j : ℕ) × (i ≡ length (payloads (seq a)) + j) × (slice_get (payloads (flat_map seq (range_with_len (a + 1) n))) j ≡ Some b))
-          → ((j : ℕ) (b : List ℕ) → slice_get (payloads (flat_map seq (range_with_len (a + 1) n))) j ≡ Some b → slice_get (end_of f.setting c).accepted (total 0 (a + 1) + j) ≡ Some b) → slice_get (end_of f.setting c).accepted (total 0 a + i) ≡ Some b
+      go : (slice_get (payloads (seq a)) i ≡ Some b)
+          ⊎ ((j : ℕ) × (i ≡ length (payloads (seq a)) + j) × (slice_get (payloads (flat_map seq (range_with_len (a + 1) n))) j ≡ Some b))
+          → ((j : ℕ) (b : List ℕ) → slice_get (payloads (flat_map seq (range_with_len (a + 1) n))) j ≡ Some b
+          → slice_get (end_of f.setting c).accepted (total 0 (a + 1) + j) ≡ Some b)
+          → slice_get (end_of f.setting c).accepted (total 0 a + i) ≡ Some b
       go (inl here) rest = let d = get-map (λ (d : Letter). d.payload) (of_sender me (seq a)) i b here in own-at a i d.0 d.1 ∙ ap Some d.2
       go (inr there) rest =
           let long = length-map (of_sender me (seq a)) (λ (d : Letter). d.payload) in
@@ -229,6 +260,8 @@ cause_and_order f premises = record {
   causes = causes f premises;
   once = each-once f premises;
   in_order = each-in-order f premises;
-  accepted = each-account f (λ a. IsPrefixOf (map (λ (d : Letter). d.payload) (of_sender a.me (history (group_of (accounts f))))) a.accepted) (λ c m. accepted-prefix f premises c m);
+  accepted = each-account f (λ a. IsPrefixOf
+      (map (λ (d : Letter). d.payload) (of_sender a.me (history (group_of (accounts f))))) a.accepted)
+      (λ c m. accepted-prefix f premises c m);
   placed = are-placed f premises;
 }

@@ -45,11 +45,13 @@ highest-of [] best b m = absurd m
 highest-of (c ∷ bs) None b (inl same) = highest-start bs c b (let e = ap (λ (z : ℕ × Value). z.0) same in omega (arith, e))
 highest-of (c ∷ bs) (Some a) b (inl same) =
     let two = higher-is a c in
-    subst (λ o. IsHighest bs o b) (sym two.1) (highest-start bs two.0 b (let e = ap (λ (z : ℕ × Value). z.0) same in let up = two.3 in omega (arith, e, up)))
+    subst (λ o. IsHighest bs o b) (sym two.1)
+    (highest-start bs two.0 b (let e = ap (λ (z : ℕ × Value). z.0) same in let up = two.3 in omega (arith, e, up)))
 highest-of (c ∷ bs) best b (inr m) = highest-of bs (higher best c) b m
 
 -- it is one of them, or was there before
-pub highest-mem : (bs : List (ℕ × Value)) (best : Option (ℕ × Value)) (of : ℕ × Value) → fold higher best bs ≡ Some of → Mem of bs ⊎ (best ≡ Some of)
+pub highest-mem : (bs : List (ℕ × Value)) (best : Option (ℕ × Value)) (of : ℕ × Value) → fold higher best bs ≡ Some of
+    → Mem of bs ⊎ (best ≡ Some of)
 highest-mem [] best of e = inr e
 highest-mem (c ∷ bs) best of e = elim (highest-mem bs (higher best c) of e) [ inl m ↦ inl (inr m) | inr was ↦ either best was ]
   where
@@ -81,7 +83,8 @@ module _ (s : Setting) (p : Process) (st : Statement) (may : may_sign s p st ≡
 pub rank_said-own : (p : Process) (a : Statement) → Mem a (own p) → rank_said a ≤ own_rank p
 rank_said-own p a m = fold-max rank_said (own p) 0 a m
 
-pub own_ready-mem : (s : Setting) (p : Process) (y r' : ℕ) (best : ℕ × Value) → may_sign s p (Last y r' (Some best)) ≡ true → Mem (Ready y best.0 best.1) (statements_of p)
+pub own_ready-mem : (s : Setting) (p : Process) (y r' : ℕ) (best : ℕ × Value) → may_sign s p (Last y r' (Some best)) ≡ true
+    → Mem (Ready y best.0 best.1) (statements_of p)
 own_ready-mem s p y r' best may = elim (highest-mem (filter_map readied (own p)) None best (sym (last-rank s p y r' (Some best) may).1)) [
   | inl m ↦ named (filter_map-mem readied (own p) best m)
   | inr was ↦ absurd cc
@@ -90,7 +93,8 @@ own_ready-mem s p y r' best may = elim (highest-mem (filter_map readied (own p))
     named : (a : Statement) × Mem a (own p) × (readied a ≡ Some best) → Mem (Ready y best.0 best.1) (statements_of p)
     named found =
         let in_own = filter-mem (λ st. view_of st == p.pool.view.number) (statements_of p) found.0 found.1 in
-        subst (λ a. Mem a (statements_of p)) (readied-is found.0 y best found.2 (eqb-true _ _ in_own.1 ∙ sym (current s p (Last y r' (Some best)) may))) in_own.0
+        subst (λ a. Mem a (statements_of p))
+        (readied-is found.0 y best found.2 (eqb-true _ _ in_own.1 ∙ sym (current s p (Last y r' (Some best)) may))) in_own.0
 
 owes : (s : Setting) (p : Process) (a st : Statement) → may_sign s p st ≡ true → Mem a (statements_of p) → Owes a st
 owes s p (Last x r' ready) (Ready y r v) may m = λ same.
@@ -99,9 +103,11 @@ owes s p (Last x r' ready) (Ready y r v) may m = λ same.
     omega (arith, least, said)
 owes s p (Ready x r v) (Last y r' ready) may m = λ same.
     let above : own_rank p < r' = (last-rank s p y r' ready may).0 in
-    let high = highest-of (filter_map readied (own p)) None (r, v) (mem-filter_map readied (own p) (Ready x r v) (r, v) (own-mem s p (Last y r' ready) may (Ready x r v) m same) refl) in
+    let high = highest-of (filter_map readied (own p)) None (r, v)
+    (mem-filter_map readied (own p) (Ready x r v) (r, v) (own-mem s p (Last y r' ready) may (Ready x r v) m same) refl) in
     let is : ready ≡ Some high.0 = (last-rank s p y r' ready may).1 ∙ high.1 in
-    let there : Mem (Ready y high.0.0 high.0.1) (statements_of p) = own_ready-mem s p y r' high.0 (subst (λ o. may_sign s p (Last y r' o) ≡ true) is may) in
+    let there : Mem (Ready y high.0.0 high.0.1)
+    (statements_of p) = own_ready-mem s p y r' high.0 (subst (λ o. may_sign s p (Last y r' o) ≡ true) is may) in
     let said = rank_said-own p (Ready y high.0.0 high.0.1) (own-mem s p (Last y r' ready) may (Ready y high.0.0 high.0.1) there refl) in
     (high.0, is, high.2, omega (arith, above, said))
 owes s p _ _ may m = tt
@@ -115,12 +121,14 @@ record InOrder (sts : List Statement) : Type 0 where
   pub pairs : Pairs Owes sts
   pub reports : Reports sts
 
-signing-keeps : (s : Setting) (p : Process) (signer : Signer) (st : Statement) → may_sign s p st ≡ true → InOrder (statements_of p) → InOrder (statements_of (signs s signer p st))
+signing-keeps : (s : Setting) (p : Process) (signer : Signer) (st : Statement) → may_sign s p st ≡ true → InOrder (statements_of p)
+    → InOrder (statements_of (signs s signer p st))
 signing-keeps s p signer st may ok = subst InOrder (sym (map-append (λ c. c.statement) p.signed (own_claim s signer p st ∷ []))) (record {
   pairs = pairs-snoc Owes (statements_of p) st ok.pairs (λ a m. owes s p a st may m);
   reports = λ x r' best m. elim (snoc-mem (statements_of p) st (Last x r' (Some best)) m) [
     | inl before ↦ mem-snoc (statements_of p) st (Ready x best.0 best.1) (ok.reports x r' best before)
-    | inr is ↦ mem-snoc (statements_of p) st (Ready x best.0 best.1) (own_ready-mem s p x r' best (subst (λ st. may_sign s p st ≡ true) is may))
+    | inr is ↦ mem-snoc (statements_of p) st (Ready x best.0 best.1)
+        (own_ready-mem s p x r' best (subst (λ st. may_sign s p st ≡ true) is may))
   ];
 })
 
@@ -138,7 +146,8 @@ keeps s from = record {
 }
 
 in_order : (s : Setting) (me limit : ℕ) (turns : List Turn) → InOrder (statements_of (run s (start s me limit) turns))
-in_order s me limit turns = run-keeps s (λ p. InOrder (statements_of p)) turns (keeps s _) (start s me limit) (record { pairs = λ i j a b lt at. absurd cc; reports = λ x r' best m. absurd m })
+in_order s me limit turns = run-keeps s (λ p. InOrder (statements_of p)) turns (keeps s _) (start s me limit)
+    (record { pairs = λ i j a b lt at. absurd cc; reports = λ x r' best m. absurd m })
 
 pub ready_before_last : ReadyBeforeLast
 ready_before_last s me limit turns i j x r r' v ready at_ready at_last lt = go (compared i j)
@@ -149,14 +158,16 @@ ready_before_last s me limit turns i j x r r' v ready at_ready at_last lt = go (
     order : InOrder sts
     order = in_order s me limit turns
 
-    reports : (best : ℕ × Value) × (ready ≡ Some best) × (r ≤ best.0) × (best.0 < r') → ReportsReady (run s (start s me limit) turns) x r r' ready
+    reports : (best : ℕ × Value) × (ready ≡ Some best) × (r ≤ best.0) × (best.0 < r')
+        → ReportsReady (run s (start s me limit) turns) x r r' ready
     reports found = (
       found.0.0,
       found.0.1,
       found.1,
       found.2,
       found.3,
-      mem-Contains sts (Ready x found.0.0 found.0.1) (order.reports x r' found.0 (subst (λ o. Mem (Last x r' o) sts) found.1 (slice_get-mem sts j (Last x r' ready) at_last))),
+      mem-Contains sts (Ready x found.0.0 found.0.1)
+          (order.reports x r' found.0 (subst (λ o. Mem (Last x r' o) sts) found.1 (slice_get-mem sts j (Last x r' ready) at_last))),
     )
 
     go : Compared i j → (i < j) × ReportsReady (run s (start s me limit) turns) x r r' ready

@@ -15,10 +15,14 @@ use Rattle.pool_laws.proofs.Tests.{implied, implies}
 
 pub bounded_is_tested : BoundedIsTested
 bounded_is_tested accounts correct = (
-  tested-all (λ a. list_all (λ v. nat_le (corrupt_in correct v) (faulty (length v.members))) a.views) (λ (a : Account). All (λ v. corrupt_in correct v ≤ faulty (length v.members)) a.views) accounts
-      (λ a e. tested-all (λ v. nat_le (corrupt_in correct v) (faulty (length v.members))) (λ (v : View). corrupt_in correct v ≤ faulty (length v.members)) a.views (λ v e. leb-true _ _ e) e),
-  all-tested (λ a. list_all (λ v. nat_le (corrupt_in correct v) (faulty (length v.members))) a.views) (λ (a : Account). All (λ v. corrupt_in correct v ≤ faulty (length v.members)) a.views) accounts
-      (λ a all. all-tested (λ v. nat_le (corrupt_in correct v) (faulty (length v.members))) (λ (v : View). corrupt_in correct v ≤ faulty (length v.members)) a.views (λ v le. le-leb _ _ le) all),
+  tested-all (λ a. list_all (λ v. nat_le (corrupt_in correct v) (faulty (length v.members))) a.views)
+      (λ (a : Account). All (λ v. corrupt_in correct v ≤ faulty (length v.members)) a.views) accounts
+      (λ a e. tested-all (λ v. nat_le (corrupt_in correct v) (faulty (length v.members)))
+      (λ (v : View). corrupt_in correct v ≤ faulty (length v.members)) a.views (λ v e. leb-true _ _ e) e),
+  all-tested (λ a. list_all (λ v. nat_le (corrupt_in correct v) (faulty (length v.members))) a.views)
+      (λ (a : Account). All (λ v. corrupt_in correct v ≤ faulty (length v.members)) a.views) accounts
+      (λ a all. all-tested (λ v. nat_le (corrupt_in correct v) (faulty (length v.members)))
+      (λ (v : View). corrupt_in correct v ≤ faulty (length v.members)) a.views (λ v le. le-leb _ _ le) all),
 )
 
 module _ (f : Family) (c : Claim) where
@@ -30,16 +34,23 @@ module _ (f : Family) (c : Claim) where
 
   own-there : (p : Process) → own_test p ≡ true → IsOwn p
   own-there p e is =
-      let found = list_any-mem (same_statement c.statement) (statements_of p) (implied (p.me == c.signer) (list_any (same_statement c.statement) (statements_of p)) e (eq-eqb p.me c.signer is)) in
-      mem-Contains (statements_of p) c.statement (subst (λ st. Mem st (statements_of p)) (sym (same_statement-is c.statement found.0 found.2)) found.1)
+      let found = list_any-mem (same_statement c.statement) (statements_of p)
+      (implied (p.me == c.signer) (list_any (same_statement c.statement) (statements_of p)) e (eq-eqb p.me c.signer is)) in
+      mem-Contains (statements_of p) c.statement
+      (subst (λ st. Mem st (statements_of p)) (sym (same_statement-is c.statement found.0 found.2)) found.1)
 
   there-own : (p : Process) → IsOwn p → own_test p ≡ true
   there-own p own = implies (p.me == c.signer) (list_any (same_statement c.statement) (statements_of p)) (λ e.
-      mem-list_any (same_statement c.statement) (statements_of p) c.statement (Contains-mem (statements_of p) c.statement (own (eqb-true p.me c.signer e)))
+      mem-list_any (same_statement c.statement)
+      (statements_of p) c.statement (Contains-mem (statements_of p) c.statement (own (eqb-true p.me c.signer e)))
       (is-same_statement c.statement c.statement refl))
 
 pub honest_is_tested : HonestIsTested
 honest_is_tested f = (
-  tested-all (λ c. not (is_valid f.setting c) || list_all (own_test f c) (ends f)) (IsOwned f) (handed f) (λ c e valid. tested-all (own_test f c) (IsOwn f c) (ends f) (own-there f c) (implied (is_valid f.setting c) (list_all (own_test f c) (ends f)) e valid)),
-  all-tested (λ c. not (is_valid f.setting c) || list_all (own_test f c) (ends f)) (IsOwned f) (handed f) (λ c owned. implies (is_valid f.setting c) (list_all (own_test f c) (ends f)) (λ valid. all-tested (own_test f c) (IsOwn f c) (ends f) (there-own f c) (owned valid))),
+  tested-all (λ c. not (is_valid f.setting c) || list_all (own_test f c) (ends f)) (IsOwned f) (handed f)
+      (λ c e valid. tested-all (own_test f c) (IsOwn f c) (ends f) (own-there f c)
+      (implied (is_valid f.setting c) (list_all (own_test f c) (ends f)) e valid)),
+  all-tested (λ c. not (is_valid f.setting c) || list_all (own_test f c) (ends f)) (IsOwned f) (handed f)
+      (λ c owned. implies (is_valid f.setting c) (list_all (own_test f c) (ends f))
+      (λ valid. all-tested (own_test f c) (IsOwn f c) (ends f) (there-own f c) (owned valid))),
 )

@@ -21,7 +21,8 @@ record InARow (s : Setting) (p : Process) : Type 0 where
 next-is : (v : View) (u : Update) → next_fault v u ≡ None → next v u ≡ Ok (next_view v u)
 next-is v u e = ap (λ (o : Option UpdateFault). elim o [ None ↦ Ok (next_view v u) | Some fault ↦ Err fault ]) e
 
-module _ (s : Setting) (p : Process) (u : Update) (possible : is_possible (keyed s) p.pool.view u ≡ true) (row : AreInARow s (views_of p)) where
+module _ (s : Setting) (p : Process) (u : Update) (possible : is_possible (keyed s) p.pool.view u ≡ true)
+    (row : AreInARow s (views_of p)) where
   abbrev after : View
   after = next_view p.pool.view u
 
@@ -32,21 +33,35 @@ module _ (s : Setting) (p : Process) (u : Update) (possible : is_possible (keyed
   one-more = record {
     first = slice_get-front (views_of p) (after ∷ []) 0 s.genesis row.first;
     behind = λ i v w at next. elim (slice_get-snoc (views_of p) after (i + 1) w next) [
-      | inl before ↦ (let lt = slice_get-length (views_of p) (i + 1) w before in elim (slice_get-snoc (views_of p) after i v at) [ inl here ↦ row.behind i v w here before | inr end ↦ absurd (let is = end.0 in omega (arith, lt, is)) ])
+      | inl before ↦ (let lt = slice_get-length (views_of p)
+          (i + 1) w before in elim (slice_get-snoc (views_of p) after i v at) [
+            | inl here ↦ row.behind i v w here before
+            | inr end ↦ absurd
+                (let is = end.0 in omega (arith, lt, is))
+          ])
       | inr end ↦ (let i_is : i ≡ last = (let is = end.0 in let long = length-views p in omega (arith, is, long)) in
           elim (slice_get-snoc (views_of p) after i v at) [
-            | inl here ↦ (let v_is : p.pool.view ≡ v = some-is p.pool.view v _ (current-at p) (ap (slice_get (views_of p)) (sym i_is) ∙ here) in subst (λ v. IsBehind s v w) v_is (subst (IsBehind s p.pool.view) end.1 follows))
+            | inl here ↦ (let v_is : p.pool.view
+                ≡ v = some-is p.pool.view v _ (current-at p)
+                (ap (slice_get (views_of p)) (sym i_is) ∙ here) in subst (λ v. IsBehind s v w) v_is
+                (subst (IsBehind s p.pool.view) end.1 follows))
             | inr there ↦ absurd (let is = there.0 in let is' = end.0 in omega (arith, is, is'))
           ])
     ];
     numbers = λ i v at. elim (slice_get-snoc (views_of p) after i v at) [
       | inl here ↦ row.numbers i v here
-      | inr end ↦ (let before = row.numbers last p.pool.view (current-at p) in let long = length-views p in let is = end.0 in subst (λ (v : View). v.number ≡ s.genesis.number + i) end.1 (omega (arith, before, long, is)))
+      | inr end ↦ (let before = row.numbers last p.pool.view (current-at p) in let long = length-views p in let is = end.0 in subst
+          (λ (v : View). v.number ≡ s.genesis.number + i) end.1 (omega (arith, before, long, is)))
     ];
   }
     where
       follows : IsBehind s p.pool.view after
-      follows = (u, possible, next-is p.pool.view u (none-is (next_fault p.pool.view u) (and-first (is_none (next_fault p.pool.view u)) (has_keys (keyed s) u) possible)))
+      follows = (
+        u,
+        possible,
+        next-is p.pool.view u
+            (none-is (next_fault p.pool.view u) (and-first (is_none (next_fault p.pool.view u)) (has_keys (keyed s) u) possible)),
+      )
 
 keeps : (s : Setting) (from : List Claim) → Keeps s from (InARow s)
 keeps s from = record {
@@ -55,10 +70,18 @@ keeps s from = record {
   hears = λ p c m e ok. record { row = ok.row; possible = ok.possible };
   doubts = λ p conflicts ok. record { row = ok.row; possible = ok.possible };
   signs = λ p signer st next none ok. record { row = ok.row; possible = ok.possible };
-  decides = λ p ok. record { row = ok.row; possible = λ d e. elim (option_or-is p.decision (decided_by s p.pool) d e) [ inl was ↦ ok.possible d was | inr now ↦ (decided_by-is s p.pool d now).0 ] };
+  decides = λ p ok. record {
+    row = ok.row;
+    possible = λ d e. elim (option_or-is p.decision (decided_by s p.pool) d e) [
+      | inl was ↦ ok.possible d was
+      | inr now ↦
+          (decided_by-is s p.pool d now).0
+    ];
+  };
   delivers = λ p ds member room e ok. record { row = ok.row; possible = ok.possible };
   installs = λ p d decided whole ok. record {
-    row = subst (λ vs. AreInARow s (vs ++ next_view p.pool.view d.1.update ∷ [])) (sym (map-append (λ (l : Left). l.view) p.left _)) (one-more s p d.1.update (ok.possible d decided) ok.row);
+    row = subst (λ vs. AreInARow s (vs ++ next_view p.pool.view d.1.update ∷ [])) (sym (map-append (λ (l : Left). l.view) p.left _))
+        (one-more s p d.1.update (ok.possible d decided) ok.row);
     possible = λ d e. absurd cc;
   };
   halts = λ p d decided member ok. record { row = ok.row; possible = ok.possible };
@@ -67,7 +90,8 @@ keeps s from = record {
 at-start : (s : Setting) → AreInARow s (s.genesis ∷ [])
 at-start s = record { first = refl; behind = none-behind; numbers = numbers }
   where
-    none-behind : (i : ℕ) (v w : View) → slice_get (s.genesis ∷ []) i ≡ Some v → slice_get (s.genesis ∷ []) (i + 1) ≡ Some w → IsBehind s v w
+    none-behind : (i : ℕ) (v w : View) → slice_get (s.genesis ∷ []) i ≡ Some v → slice_get (s.genesis ∷ []) (i + 1) ≡ Some w
+        → IsBehind s v w
     none-behind i v w at next = absurd (let lt = slice_get-length (s.genesis ∷ []) (i + 1) w next in omega (arith, lt))
 
     numbers : (i : ℕ) (v : View) → slice_get (s.genesis ∷ []) i ≡ Some v → v.number ≡ s.genesis.number + i
@@ -75,4 +99,5 @@ at-start s = record { first = refl; behind = none-behind; numbers = numbers }
     numbers (suc i) v at = absurd (let lt = slice_get-length (s.genesis ∷ []) (suc i) v at in omega (arith, lt))
 
 pub views_in_a_row : ViewsInARow
-views_in_a_row s me limit turns = (run-keeps s (InARow s) turns (keeps s _) (start s me limit) (record { row = at-start s; possible = λ d e. absurd cc })).row
+views_in_a_row s me limit turns = (run-keeps s (InARow s) turns (keeps s _) (start s me limit)
+    (record { row = at-start s; possible = λ d e. absurd cc })).row

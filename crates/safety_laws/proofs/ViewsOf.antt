@@ -20,20 +20,30 @@ length-views p = length-snoc (map (λ (l : Left). l.view) p.left) p.pool.view �
 
 -- the current view stands behind those that were left
 pub current-at : (p : Process) → slice_get (views_of p) (length p.left) ≡ Some p.pool.view
-current-at p = slice_get-last (map (λ (l : Left). l.view) p.left) p.pool.view (length p.left) (sym (length-map p.left (λ (l : Left). l.view)))
+current-at p = slice_get-last (map (λ (l : Left). l.view) p.left) p.pool.view (length p.left)
+    (sym (length-map p.left (λ (l : Left). l.view)))
 
 -- the view before another was left
 pub left-before : (p : Process) (x : ℕ) (v : View) → slice_get (views_of p) (suc x) ≡ Some v → (l : Left) × (slice_get p.left x ≡ Some l)
-left-before p x v at = get-some p.left x (let lt = slice_get-length (views_of p) (suc x) v at in let long = length-views p in omega (arith, lt, long))
+left-before p x v at = get-some p.left x
+    (let lt = slice_get-length (views_of p) (suc x) v at in let long = length-views p in omega (arith, lt, long))
 
 pub left-view : (p : Process) (x : ℕ) (l : Left) → slice_get p.left x ≡ Some l → slice_get (views_of p) x ≡ Some l.view
-left-view p x l at = slice_get-front (map (λ (l : Left). l.view) p.left) (p.pool.view ∷ []) x l.view (map-get (λ (l : Left). l.view) p.left x l at)
+left-view p x l at = slice_get-front (map (λ (l : Left). l.view) p.left)
+    (p.pool.view ∷ []) x l.view (map-get (λ (l : Left). l.view) p.left x l at)
 
 pub left-delivered : (p : Process) (y : ℕ) (l : Left) → slice_get p.left y ≡ Some l → slice_index_or (deliveries_of p) y [] ≡ l.delivered
-left-delivered p y l at = index-is (deliveries_of p) y [] l.delivered (slice_get-front (map (λ (l : Left). l.delivered) p.left) (p.delivered ∷ []) y l.delivered (map-get (λ (l : Left). l.delivered) p.left y l at))
+left-delivered p y l at = index-is (deliveries_of p) y [] l.delivered
+    (slice_get-front (map (λ (l : Left). l.delivered) p.left)
+    (p.delivered ∷ []) y l.delivered (map-get (λ (l : Left). l.delivered) p.left y l at))
 
 pub current-delivered : (p : Process) → slice_index_or (deliveries_of p) (length p.left) [] ≡ p.delivered
-current-delivered p = index-is (deliveries_of p) (length p.left) [] p.delivered (slice_get-last (map (λ (l : Left). l.delivered) p.left) p.delivered (length p.left) (sym (length-map p.left (λ (l : Left). l.delivered))))
+current-delivered p = index-is (deliveries_of p)
+    (length p.left) [] p.delivered
+    (slice_get-last (map (λ (l : Left). l.delivered) p.left) p.delivered (length p.left)
+    (sym (length-map p.left (λ (l : Left). l.delivered))))
 
 pub nothing-later : (p : Process) (y : ℕ) → length p.left < y → slice_index_or (deliveries_of p) y [] ≡ []
-nothing-later p y lt = index-beyond (deliveries_of p) y [] (let one = length-snoc (map (λ (l : Left). l.delivered) p.left) p.delivered in let two = length-map p.left (λ (l : Left). l.delivered) in omega (arith, one, two, lt))
+nothing-later p y lt = index-beyond (deliveries_of p) y []
+    (let one = length-snoc (map (λ (l : Left). l.delivered) p.left) p.delivered in let two = length-map p.left
+    (λ (l : Left). l.delivered) in omega (arith, one, two, lt))

@@ -23,14 +23,16 @@ or_true true = refl
 or_true false = refl
 
 -- they are among these anyhow
-there_already : (x : List ℕ) (ks : List (Vec ℕ)) (k : Vec ℕ) → list_any (same_items k) ks ≡ true → (b : Bool) → bytes_eq x k.items ≡ b → among x ks ≡ (among x ks || b)
+there_already : (x : List ℕ) (ks : List (Vec ℕ)) (k : Vec ℕ) → list_any (same_items k) ks ≡ true → (b : Bool) → bytes_eq x k.items ≡ b
+    → among x ks ≡ (among x ks || b)
 there_already x ks k is true e =
     let same : x ≡ k.items = (bytes_eq-Decides x k.items).0 e in
     let there : among x ks ≡ true = ap (λ y. among y ks) same ∙ is in
     there ∙ sym (or_true (among x ks))
 there_already x ks k is false e = sym (or_false (among x ks))
 
-pub among_inserted : (x : List ℕ) (ks : List (Vec ℕ)) (k : Vec ℕ) → among x (insert_key same_items ks k) ≡ (among x ks || bytes_eq x k.items)
+pub among_inserted : (x : List ℕ) (ks : List (Vec ℕ)) (k : Vec ℕ)
+    → among x (insert_key same_items ks k) ≡ (among x ks || bytes_eq x k.items)
 among_inserted x ks k = go (list_any (same_items k) ks) refl
   where
     go : (b : Bool) → list_any (same_items k) ks ≡ b → among x (cond b ks (ks ++ k ∷ [])) ≡ (among x ks || bytes_eq x k.items)

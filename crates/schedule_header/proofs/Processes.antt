@@ -24,18 +24,22 @@ pub begins : (read : Step (List Listed)) → from_here [] read ≡ read
 begins (Ok more) = refl
 begins (Err e) = refl
 
-regroup : (before : List Listed) (l : Listed) (read : Step (List Listed)) → from_here before (read >>= λ others. Ok (l ∷ others.0, others.1)) ≡ from_here (before ++ l ∷ []) read
+regroup : (before : List Listed) (l : Listed) (read : Step (List Listed))
+    → from_here before (read >>= λ others. Ok (l ∷ others.0, others.1)) ≡ from_here (before ++ l ∷ []) read
 regroup before l (Ok more) = ap (λ (ls : List Listed). Ok (ls, more.1)) (sym (append_assoc before (l ∷ []) more.0))
 regroup before l (Err e) = refl
 
-pub one_more : (count i : ℕ) (scheme : Scheme) (least : ℕ) (bytes : List ℕ) (l : Listed) (after : List ℕ) (before : List Listed) (all : Step (List Listed)) → i < count → listed_at scheme least bytes ≡ Ok (l, after)
-    → from_here before (all_listed_at (count - i) scheme least bytes) ≡ all → from_here (before ++ l ∷ []) (all_listed_at (count - (i + 1)) scheme (l.process + 1) after) ≡ all
+pub one_more : (count i : ℕ) (scheme : Scheme) (least : ℕ) (bytes : List ℕ) (l : Listed) (after : List ℕ) (before : List Listed)
+    (all : Step (List Listed)) → i < count → listed_at scheme least bytes ≡ Ok (l, after)
+    → from_here before (all_listed_at (count - i) scheme least bytes) ≡ all
+    → from_here (before ++ l ∷ []) (all_listed_at (count - (i + 1)) scheme (l.process + 1) after) ≡ all
 unfolding all_listed_at
 one_more count i scheme least bytes l after before all lt e so_far =
     let k : count - i ≡ suc (count - (i + 1)) = omega arith in
     sym (regroup before l (all_listed_at (count - (i + 1)) scheme (l.process + 1) after)) ∙ sym (rw (k, e) refl) ∙ so_far
 
-pub fails : (count i : ℕ) (scheme : Scheme) (least : ℕ) (bytes : List ℕ) (f : Found) (before : List Listed) (all : Step (List Listed)) → i < count → listed_at scheme least bytes ≡ Err f
+pub fails : (count i : ℕ) (scheme : Scheme) (least : ℕ) (bytes : List ℕ) (f : Found) (before : List Listed) (all : Step (List Listed))
+    → i < count → listed_at scheme least bytes ≡ Err f
     → from_here before (all_listed_at (count - i) scheme least bytes) ≡ all → all ≡ Err f
 unfolding all_listed_at
 fails count i scheme least bytes f before all lt e so_far =
@@ -51,14 +55,16 @@ is_done count i scheme least bytes before all le so_far =
 
 -- ---- members
 
-pub one_member : (count i : ℕ) (listed : ℕ → Bool) (before : List ℕ) (bytes : List ℕ) (m : ℕ) (after : List ℕ) (all : Step (List ℕ)) → i < count → process_that (λ m. listed m && not (has before m)) faults.Roster bytes ≡ Ok (m, after)
+pub one_member : (count i : ℕ) (listed : ℕ → Bool) (before : List ℕ) (bytes : List ℕ) (m : ℕ) (after : List ℕ) (all : Step (List ℕ))
+    → i < count → process_that (λ m. listed m && not (has before m)) faults.Roster bytes ≡ Ok (m, after)
     → members_at (count - i) listed before bytes ≡ all → members_at (count - (i + 1)) listed (before ++ m ∷ []) after ≡ all
 unfolding members_at
 one_member count i listed before bytes m after all lt e so_far =
     let k : count - i ≡ suc (count - (i + 1)) = omega arith in
     sym (rw (k, e) refl) ∙ so_far
 
-pub no_member : (count i : ℕ) (listed : ℕ → Bool) (before bytes : List ℕ) (f : Found) (all : Step (List ℕ)) → i < count → process_that (λ m. listed m && not (has before m)) faults.Roster bytes ≡ Err f
+pub no_member : (count i : ℕ) (listed : ℕ → Bool) (before bytes : List ℕ) (f : Found) (all : Step (List ℕ)) → i < count
+    → process_that (λ m. listed m && not (has before m)) faults.Roster bytes ≡ Err f
     → members_at (count - i) listed before bytes ≡ all → all ≡ Err f
 unfolding members_at
 no_member count i listed before bytes f all lt e so_far =
@@ -101,7 +107,8 @@ list_any-snoc test [] x = refl
 list_any-snoc test (y ∷ ys) x = ap (λ (b : Bool). test y || b) (list_any-snoc test ys x) ∙ or_swap (test y) (test x) (list_any test ys)
 
 -- a test of the views of one more element
-pub list_any-next : {X Y : Type 0} (view : X → Y) (test : Y → Bool) (xs : List X) (i : ℕ) (x : X) → i < length xs → x ≡ get_or xs i x → list_any test (map view (take (i + 1) xs)) ≡ (test (view x) || list_any test (map view (take i xs)))
+pub list_any-next : {X Y : Type 0} (view : X → Y) (test : Y → Bool) (xs : List X) (i : ℕ) (x : X) → i < length xs → x ≡ get_or xs i x
+    → list_any test (map view (take (i + 1) xs)) ≡ (test (view x) || list_any test (map view (take i xs)))
 list_any-next view test xs i x lt is = rw (map_more view xs i x lt, ← is) (list_any-snoc test (map view (take i xs)) (view x))
 
 -- a correct process is taken, another passed over

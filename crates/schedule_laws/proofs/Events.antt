@@ -108,7 +108,8 @@ module _ (ls : List Listed) where
       subst (λ (y : ScheduleEvent × List ℕ). IsTaken 5 bytes y) {x = made} {y = x} (ok_is made x d.2)
       (Takes-behind 5 bytes (a.0.0 ∷ (eight_bytes b.0.0 ++ text d.0.0)) d.0.1 all, (t0.2, t1.1, omega (arith, t3.1, t2.1), g.1))
 
-  about_takes : (kind : ℕ → ℕ → ScheduleEvent) (tag : ℕ) (bytes : List ℕ) (x : ScheduleEvent × List ℕ) → ((p q : ℕ) → event_bytes (kind p q) ≡ tag ∷ p ∷ q ∷ []) → ((p q : ℕ) → is_correct ls p ≡ true → q ≤ 63 → IsEvent ls (kind p q))
+  about_takes : (kind : ℕ → ℕ → ScheduleEvent) (tag : ℕ) (bytes : List ℕ) (x : ScheduleEvent × List ℕ)
+      → ((p q : ℕ) → event_bytes (kind p q) ≡ tag ∷ p ∷ q ∷ []) → ((p q : ℕ) → is_correct ls p ≡ true → q ≤ 63 → IsEvent ls (kind p q))
       → IsBytes bytes → about_at roles kind bytes ≡ Ok x → IsTaken tag bytes x
   unfolding about_at
   about_takes kind tag bytes x spelled ranged fits e =
@@ -121,7 +122,8 @@ module _ (ls : List Listed) where
       subst (λ (y : ScheduleEvent × List ℕ). IsTaken tag bytes y) {x = made} {y = x} (ok_is made x b.2)
       (rw (spelled a.0.0 b.0.0) (Takes-behind tag bytes (a.0.0 ∷ b.0.0 ∷ []) b.0.1 both), ranged a.0.0 b.0.0 t0.2 t1.1)
 
-  alone_takes : (kind : ℕ → ScheduleEvent) (tag : ℕ) (bytes : List ℕ) (x : ScheduleEvent × List ℕ) → ((p : ℕ) → event_bytes (kind p) ≡ tag ∷ p ∷ []) → ((p : ℕ) → is_correct ls p ≡ true → IsEvent ls (kind p))
+  alone_takes : (kind : ℕ → ScheduleEvent) (tag : ℕ) (bytes : List ℕ) (x : ScheduleEvent × List ℕ)
+      → ((p : ℕ) → event_bytes (kind p) ≡ tag ∷ p ∷ []) → ((p : ℕ) → is_correct ls p ≡ true → IsEvent ls (kind p))
       → IsBytes bytes → alone_at roles kind bytes ≡ Ok x → IsTaken tag bytes x
   unfolding alone_at
   alone_takes kind tag bytes x spelled ranged fits e =
@@ -131,7 +133,8 @@ module _ (ls : List Listed) where
       subst (λ (y : ScheduleEvent × List ℕ). IsTaken tag bytes y) {x = made} {y = x} (ok_is made x a.2)
       (rw (spelled a.0.0) (Takes-behind tag bytes (a.0.0 ∷ []) a.0.1 t0.0), ranged a.0.0 t0.2)
 
-  fields_take : (tag : ℕ) (rest : List ℕ) (x : ScheduleEvent × List ℕ) → 1 ≤ tag → tag ≤ 9 → IsBytes rest → fields_at roles tag rest ≡ Ok x → IsTaken tag rest x
+  fields_take : (tag : ℕ) (rest : List ℕ) (x : ScheduleEvent × List ℕ) → 1 ≤ tag → tag ≤ 9 → IsBytes rest → fields_at roles tag rest ≡ Ok x
+      → IsTaken tag rest x
   unfolding fields_at
   fields_take zero rest x least most fits e = absurd (omega arith)
   fields_take (suc zero) rest x least most fits e = submit_takes rest x fits e
@@ -139,20 +142,26 @@ module _ (ls : List Listed) where
   fields_take (suc (suc (suc zero))) rest x least most fits e = pass_takes rest x fits e
   fields_take (suc (suc (suc (suc zero)))) rest x least most fits e = drain_takes rest x fits e
   fields_take (suc (suc (suc (suc (suc zero))))) rest x least most fits e = lie_takes rest x fits e
-  fields_take (suc (suc (suc (suc (suc (suc zero)))))) rest x least most fits e = about_takes Suspect 6 rest x (λ p q. refl) (λ p q c o. (c, o)) fits e
-  fields_take (suc (suc (suc (suc (suc (suc (suc zero))))))) rest x least most fits e = about_takes Join 7 rest x (λ p q. refl) (λ p q c o. (c, o)) fits e
-  fields_take (suc (suc (suc (suc (suc (suc (suc (suc zero)))))))) rest x least most fits e = alone_takes Renew 8 rest x (λ p. refl) (λ p c. c) fits e
-  fields_take (suc (suc (suc (suc (suc (suc (suc (suc (suc zero))))))))) rest x least most fits e = alone_takes Tick 9 rest x (λ p. refl) (λ p c. c) fits e
+  fields_take (suc (suc (suc (suc (suc (suc zero)))))) rest x least most fits e = about_takes Suspect 6 rest x (λ p q. refl)
+      (λ p q c o. (c, o)) fits e
+  fields_take (suc (suc (suc (suc (suc (suc (suc zero))))))) rest x least most fits e = about_takes Join 7 rest x (λ p q. refl)
+      (λ p q c o. (c, o)) fits e
+  fields_take (suc (suc (suc (suc (suc (suc (suc (suc zero)))))))) rest x least most fits e = alone_takes Renew 8 rest x (λ p. refl)
+      (λ p c. c) fits e
+  fields_take (suc (suc (suc (suc (suc (suc (suc (suc (suc zero))))))))) rest x least most fits e = alone_takes Tick 9 rest x (λ p. refl)
+      (λ p c. c) fits e
   fields_take (suc (suc (suc (suc (suc (suc (suc (suc (suc (suc tag)))))))))) rest x least most fits e = absurd (omega arith)
 
   -- an event that takes one step
-  one_step : (n : ℕ × List ℕ) (bytes : List ℕ) (made x : ScheduleEvent × List ℕ) → 1 ≡ steps_of made.0 → (let told : Step ℕ = Ok (1, bytes) in told) ≡ Ok n → (let read : Step ScheduleEvent = Ok made in read) ≡ Ok x → n.0 ≡ steps_of x.0
+  one_step : (n : ℕ × List ℕ) (bytes : List ℕ) (made x : ScheduleEvent × List ℕ) → 1 ≡ steps_of made.0
+      → (let told : Step ℕ = Ok (1, bytes) in told) ≡ Ok n → (let read : Step ScheduleEvent = Ok made in read) ≡ Ok x → n.0 ≡ steps_of x.0
   one_step n bytes made x one e f =
       let told : ℕ × List ℕ = (1, bytes) in
       ap (λ (m : ℕ × List ℕ). m.0) (sym (ok_is told n e)) ∙ one ∙ ap (λ (y : ScheduleEvent × List ℕ). steps_of y.0) (ok_is made x f)
 
   -- how many steps the event takes, as told behind its tag
-  steps_are : (tag : ℕ) (bytes : List ℕ) (n : ℕ × List ℕ) (x : ScheduleEvent × List ℕ) → 1 ≤ tag → tag ≤ 9 → steps_at tag bytes ≡ Ok n → fields_at roles tag bytes ≡ Ok x → n.0 ≡ steps_of x.0
+  steps_are : (tag : ℕ) (bytes : List ℕ) (n : ℕ × List ℕ) (x : ScheduleEvent × List ℕ) → 1 ≤ tag → tag ≤ 9 → steps_at tag bytes ≡ Ok n
+      → fields_at roles tag bytes ≡ Ok x → n.0 ≡ steps_of x.0
   unfolding steps_at fields_at submit_at raw_at pass_at drain_at lie_at about_at alone_at
   steps_are zero bytes n x least most e f = absurd (omega arith)
   steps_are (suc zero) bytes n x least most e f =
@@ -202,7 +211,8 @@ module _ (ls : List Listed) where
   abbrev is_room : ℕ → ℕ × ℕ → Bool
   is_room left tag = leb tag.1 left
 
-  pub event_takes : (left : ℕ) (bytes : List ℕ) (x : ScheduleEvent × List ℕ) → IsBytes bytes → event_at roles left bytes ≡ Ok x → Takes bytes (event_bytes x.0) x.1 × IsEvent ls x.0 × (steps_of x.0 ≤ left)
+  pub event_takes : (left : ℕ) (bytes : List ℕ) (x : ScheduleEvent × List ℕ) → IsBytes bytes → event_at roles left bytes ≡ Ok x
+      → Takes bytes (event_bytes x.0) x.1 × IsEvent ls x.0 × (steps_of x.0 ≤ left)
   unfolding event_at tag_at
   event_takes left bytes x fits e =
       let a = bind_ok (tested (is_room left) faults.TooMany tag_at bytes) _ x e in
@@ -218,8 +228,11 @@ module _ (ls : List Listed) where
       let fields : fields_at roles t.0.0 t.0.1 ≡ Ok x = subst (λ (y : (ℕ × ℕ) × List ℕ). fields_at roles y.0.0 y.1 ≡ Ok x) (sym same) a.2 in
       let room : leb s.0.0 left ≡ true = subst (λ (y : (ℕ × ℕ) × List ℕ). leb y.0.1 left ≡ true) (sym same) g.1 in
       let taken = fields_take t.0.0 t.0.1 x least most t0.0.rest_fits fields in
-      let steps : s.0.0 ≡ steps_of x.0 = steps_are t.0.0 t.0.1 s.0 x least most s.1 fields in
-      (record { parts = t0.0.parts ∙ taken.0.parts; rest_fits = taken.0.rest_fits }, taken.1, omega (arith, steps, leb-true s.0.0 left room))
+      let steps : s.0.0 ≡ steps_of x.0 = steps_are t.0.0 t.0.1 s.0 x least most s.1 fields in (
+        record { parts = t0.0.parts ∙ taken.0.parts; rest_fits = taken.0.rest_fits },
+        taken.1,
+        omega (arith, steps, leb-true s.0.0 left room),
+      )
 
   -- ---- what is spelled so is read
 
@@ -261,13 +274,17 @@ module _ (ls : List Listed) where
     correct_again : (p : ℕ) (rest : List ℕ) → is_correct ls p ≡ true → correct_at roles (p ∷ rest) ≡ Ok (p, rest)
     correct_again p rest is = process_that_again (is_correct ls) faults.Field p rest (correct_below p is) is
 
-    lie_again : (signer mask : ℕ) (st rest : List ℕ) → IsEvent ls (Lie signer mask st) → lie_at roles (field_bytes (Lie signer mask st) ++ rest) ≡ Ok (Lie signer mask st, rest)
+    lie_again : (signer mask : ℕ) (st rest : List ℕ) → IsEvent ls (Lie signer mask st)
+        → lie_at roles (field_bytes (Lie signer mask st) ++ rest) ≡ Ok (Lie signer mask st, rest)
     unfolding lie_at
     lie_again signer mask st rest fits =
         let behind : List ℕ = two_bytes (length st) ++ (st ++ rest) in
         let statement : tested is_statement faults.Field (field_at (length st)) (st ++ rest) ≡ Ok (st, rest) =
-        tested_again is_statement faults.Field (field_at (length st)) (st ++ rest) st rest (bytes_again (fault_at faults.Short (st ++ rest)) st rest) fits.3 in
-        ap (λ (t : List ℕ). lie_at roles (signer ∷ t)) (append_assoc (eight_bytes mask) (text st) rest ∙ ap (λ (t : List ℕ). eight_bytes mask ++ t) (append_assoc (two_bytes (length st)) st rest))
+        tested_again is_statement faults.Field (field_at (length st))
+        (st ++ rest) st rest (bytes_again (fault_at faults.Short (st ++ rest)) st rest) fits.3 in
+        ap (λ (t : List ℕ). lie_at roles (signer ∷ t))
+        (append_assoc (eight_bytes mask) (text st) rest ∙ ap (λ (t : List ℕ). eight_bytes mask ++ t)
+        (append_assoc (two_bytes (length st)) st rest))
         ∙ rw (
           process_that_again (is_corrupt ls) faults.Field signer (eight_bytes mask ++ behind) (corrupt_below signer fits.0) fits.0,
           mask_again mask behind fits.1,
@@ -280,41 +297,59 @@ module _ (ls : List Listed) where
     fields_again (Submit at payload) rest fits =
         rw (correct_again at (text payload ++ rest) fits.0, text_again 65535 payload rest fits.1 (omega (arith, fits.1))) refl
     fields_again (Raw to from bytes) rest fits =
-        rw (correct_again to (from ∷ (text bytes ++ rest)) fits.0, other_again from (text bytes ++ rest) fits.1, text_again most_raw_bytes bytes rest (omega (arith, fits.2)) fits.2) refl
+        rw (
+          correct_again to (from ∷ (text bytes ++ rest)) fits.0,
+          other_again from (text bytes ++ rest) fits.1,
+          text_again most_raw_bytes bytes rest (omega (arith, fits.2)) fits.2,
+        ) refl
     fields_again (Pass frame to) rest fits =
         ap (pass_at roles) (append_assoc (four_bytes frame) (to ∷ []) rest)
-        ∙ rw (long_again (fault_at faults.Short (four_bytes frame ++ (to ∷ rest))) frame (to ∷ rest) fits.0, correct_again to rest fits.1) refl
+        ∙ rw (
+          long_again (fault_at faults.Short (four_bytes frame ++ (to ∷ rest))) frame (to ∷ rest) fits.0,
+          correct_again to rest fits.1,
+        ) refl
     fields_again (Drain count mask) rest fits =
         ap (drain_at roles) (append_assoc (four_bytes count) (eight_bytes mask) rest)
-        ∙ rw (long_again (fault_at faults.Short (four_bytes count ++ (eight_bytes mask ++ rest))) count (eight_bytes mask ++ rest) fits.0, mask_again mask rest fits.1) refl
+        ∙ rw (
+          long_again (fault_at faults.Short (four_bytes count ++ (eight_bytes mask ++ rest))) count (eight_bytes mask ++ rest) fits.0,
+          mask_again mask rest fits.1,
+        ) refl
     fields_again (Lie signer mask st) rest fits = lie_again signer mask st rest fits
     fields_again (Suspect at other) rest fits = rw (correct_again at (other ∷ rest) fits.0, other_again other rest fits.1) refl
     fields_again (Join at other) rest fits = rw (correct_again at (other ∷ rest) fits.0, other_again other rest fits.1) refl
     fields_again (Renew at) rest fits = rw (correct_again at rest fits) refl
     fields_again (Tick at) rest fits = rw (correct_again at rest fits) refl
 
-    steps_again : (e : ScheduleEvent) (rest : List ℕ) → IsEvent ls e → (after : List ℕ) × (steps_at (tag_of e) (field_bytes e ++ rest) ≡ Ok (steps_of e, after))
+    steps_again : (e : ScheduleEvent) (rest : List ℕ) → IsEvent ls e
+        → (after : List ℕ) × (steps_at (tag_of e) (field_bytes e ++ rest) ≡ Ok (steps_of e, after))
     unfolding steps_at
     steps_again (Submit at payload) rest fits = (field_bytes (Submit at payload) ++ rest, refl)
     steps_again (Raw to from bytes) rest fits = (field_bytes (Raw to from bytes) ++ rest, refl)
     steps_again (Pass frame to) rest fits = (field_bytes (Pass frame to) ++ rest, refl)
-    steps_again (Drain count mask) rest fits =
-        (eight_bytes mask ++ rest, ap (wide_at w32) (append_assoc (four_bytes count) (eight_bytes mask) rest) ∙ long_again (fault_at faults.Short (four_bytes count ++ (eight_bytes mask ++ rest))) count (eight_bytes mask ++ rest) fits.0)
+    steps_again (Drain count mask) rest fits = (
+      eight_bytes mask ++ rest,
+      ap (wide_at w32)
+          (append_assoc (four_bytes count) (eight_bytes mask) rest) ∙ long_again
+          (fault_at faults.Short (four_bytes count ++ (eight_bytes mask ++ rest))) count (eight_bytes mask ++ rest) fits.0,
+    )
     steps_again (Lie signer mask st) rest fits = (field_bytes (Lie signer mask st) ++ rest, refl)
     steps_again (Suspect at other) rest fits = (field_bytes (Suspect at other) ++ rest, refl)
     steps_again (Join at other) rest fits = (field_bytes (Join at other) ++ rest, refl)
     steps_again (Renew at) rest fits = (field_bytes (Renew at) ++ rest, refl)
     steps_again (Tick at) rest fits = (field_bytes (Tick at) ++ rest, refl)
 
-    pub event_again : (left : ℕ) (e : ScheduleEvent) (rest : List ℕ) → steps_of e ≤ left → IsEvent ls e → event_at roles left (event_bytes e ++ rest) ≡ Ok (e, rest)
+    pub event_again : (left : ℕ) (e : ScheduleEvent) (rest : List ℕ) → steps_of e ≤ left → IsEvent ls e
+        → event_at roles left (event_bytes e ++ rest) ≡ Ok (e, rest)
     unfolding event_at tag_at
     event_again left e rest room fits =
         let p = parts_of e in
         let behind : List ℕ = field_bytes e ++ rest in
         let steps = steps_again e rest fits in
-        let tag : tag_at (tag_of e ∷ behind) ≡ Ok ((tag_of e, steps_of e), behind) = rw (byte_that_again is_tag faults.Tag (tag_of e) behind p.1, steps.1) refl in
+        let tag : tag_at (tag_of e ∷ behind)
+        ≡ Ok ((tag_of e, steps_of e), behind) = rw (byte_that_again is_tag faults.Tag (tag_of e) behind p.1, steps.1) refl in
         let tagged : tested (is_room left) faults.TooMany tag_at (tag_of e ∷ behind) ≡ Ok ((tag_of e, steps_of e), behind) =
-        tested_again (is_room left) faults.TooMany tag_at (tag_of e ∷ behind) (tag_of e, steps_of e) behind tag (le-leb (steps_of e) left room) in
+        tested_again (is_room left) faults.TooMany tag_at (tag_of e ∷ behind)
+        (tag_of e, steps_of e) behind tag (le-leb (steps_of e) left room) in
         ap (λ (t : List ℕ). event_at roles left (t ++ rest)) p.0
         ∙ ap (λ (read : Step (ℕ × ℕ)). read >>= λ t. fields_at roles t.0.0 t.1) tagged
         ∙ fields_again e rest fits

@@ -30,21 +30,27 @@ use Rattle.schedule_laws.proofs.Steps.{known_ok, known_again, byte_that_takes, b
 
 -- ---- keys
 
-chosen : (levels : ℕ) (k kind : OtsType) → (if length_in_range levels k then Some k else None) ≡ Some kind → (k ≡ kind) × (length_in_range levels kind ≡ true)
+chosen : (levels : ℕ) (k kind : OtsType) → (if length_in_range levels k then Some k else None) ≡ Some kind
+    → (k ≡ kind) × (length_in_range levels kind ≡ true)
 chosen levels k kind e =
-    elim (length_in_range levels k) as (λ b. length_in_range levels k ≡ b → (if b then Some k else None) ≡ Some kind → (k ≡ kind) × (length_in_range levels kind ≡ true)) [
+    elim (length_in_range levels k) as
+    (λ b. length_in_range levels k ≡ b → (if b then Some k else None) ≡ Some kind → (k ≡ kind) × (length_in_range levels kind ≡ true)) [
       | true ↦ λ fits f. let same : k ≡ kind = cc in (same, subst (λ (o : OtsType). length_in_range levels o ≡ true) same fits)
       | false ↦ λ out f. absurd cc
     ] refl e
 
-ots_is : (levels code : ℕ) (kind : OtsType) → ots_for levels code ≡ Some kind → (code ≡ ots_typecode kind) × (length_in_range levels kind ≡ true)
+ots_is : (levels code : ℕ) (kind : OtsType) → ots_for levels code ≡ Some kind
+    → (code ≡ ots_typecode kind) × (length_in_range levels kind ≡ true)
 ots_is levels code kind e =
-    elim (ots_type_of code) as (λ o. ots_type_of code ≡ o → option_and_then (λ k. if length_in_range levels k then Some k else None) o ≡ Some kind → (code ≡ ots_typecode kind) × (length_in_range levels kind ≡ true)) [
+    elim (ots_type_of code) as (λ o. ots_type_of code ≡ o
+    → option_and_then (λ k. if length_in_range levels k then Some k else None) o ≡ Some kind
+    → (code ≡ ots_typecode kind) × (length_in_range levels kind ≡ true)) [
       | None ↦ λ is f. absurd cc
       | Some k ↦ λ is f. let c = chosen levels k kind f in (typecode_of_type code kind (is ∙ ap (λ (o : OtsType). Some o) c.0), c.1)
     ] refl e
 
-ots_takes : (levels : ℕ) (bytes : List ℕ) (x : OtsType × List ℕ) → IsBytes bytes → ots_at levels bytes ≡ Ok x → Takes bytes (ots_typecode x.0 ∷ []) x.1 × (length_in_range levels x.0 ≡ true)
+ots_takes : (levels : ℕ) (bytes : List ℕ) (x : OtsType × List ℕ) → IsBytes bytes → ots_at levels bytes ≡ Ok x
+    → Takes bytes (ots_typecode x.0 ∷ []) x.1 × (length_in_range levels x.0 ≡ true)
 unfolding ots_at
 ots_takes levels bytes x fits e =
     let k = known_ok (ots_for levels) faults.Key byte_at bytes x e in
@@ -52,12 +58,14 @@ ots_takes levels bytes x fits e =
     let is = ots_is levels k.0 x.0 k.2 in
     (subst (λ (n : ℕ). Takes bytes (n ∷ []) x.1) is.0 t.0, is.1)
 
-ots_again : (levels : ℕ) (kind : OtsType) (rest : List ℕ) → length_in_range levels kind ≡ true → ots_at levels (ots_typecode kind ∷ rest) ≡ Ok (kind, rest)
+ots_again : (levels : ℕ) (kind : OtsType) (rest : List ℕ) → length_in_range levels kind ≡ true
+    → ots_at levels (ots_typecode kind ∷ rest) ≡ Ok (kind, rest)
 unfolding ots_at
 ots_again levels kind rest fits =
     let bytes : List ℕ = ots_typecode kind ∷ rest in
     let is : ots_for levels (ots_typecode kind) ≡ Some kind = rw (type_of_typecode kind, fits) refl in
-    known_again (ots_for levels) faults.Key byte_at bytes (ots_typecode kind) kind rest (byte_again (fault_at faults.Short bytes) (ots_typecode kind) rest) is
+    known_again (ots_for levels) faults.Key byte_at bytes (ots_typecode kind) kind rest
+    (byte_again (fault_at faults.Short bytes) (ots_typecode kind) rest) is
 
 abbrev Tree : Type 0
 Tree = ℕ × OtsType × List ℕ × List ℕ
@@ -78,13 +86,15 @@ tree_takes levels bytes x fits e =
     let last = Takes-then b.0.1 c.0.0 c.0.1 d.0.0 d.0.1 t2.0 t3.0 in
     let more = Takes-then a.0.1 (ots_typecode b.0.0 ∷ []) b.0.1 (c.0.0 ++ d.0.0) d.0.1 t1.0 last in
     let whole = Takes-then bytes (a.0.0 ∷ []) a.0.1 (ots_typecode b.0.0 ∷ (c.0.0 ++ d.0.0)) d.0.1 t0.0 more in
-    subst (λ (y : Tree × List ℕ). Takes bytes (tree_bytes y.0.0 y.0.1 y.0.2 y.0.3) y.1 × IsTree levels y.0.0 y.0.1 y.0.2 y.0.3) {x = made} {y = x} (ok_is made x d.2)
+    subst (λ (y : Tree × List ℕ). Takes bytes (tree_bytes y.0.0 y.0.1 y.0.2 y.0.3) y.1
+    × IsTree levels y.0.0 y.0.1 y.0.2 y.0.3) {x = made} {y = x} (ok_is made x d.2)
     (whole, (t0.2, t1.1, t2.1, t3.1))
 
 field_again : (n : ℕ) (out rest : List ℕ) → length out ≡ n → field_at n (out ++ rest) ≡ Ok (out, rest)
 field_again n out rest len = ap (λ (k : ℕ). field_at k (out ++ rest)) (sym len) ∙ bytes_again (fault_at faults.Short (out ++ rest)) out rest
 
-tree_again : (levels code : ℕ) (kind : OtsType) (id seed rest : List ℕ) → IsTree levels code kind id seed → tree_at levels (tree_bytes code kind id seed ++ rest) ≡ Ok ((code, kind, id, seed), rest)
+tree_again : (levels code : ℕ) (kind : OtsType) (id seed rest : List ℕ) → IsTree levels code kind id seed
+    → tree_at levels (tree_bytes code kind id seed ++ rest) ≡ Ok ((code, kind, id, seed), rest)
 unfolding tree_at
 tree_again levels code kind id seed rest fits =
     ap (λ (t : List ℕ). tree_at levels (code ∷ ots_typecode kind ∷ t)) (append_assoc id seed rest)
@@ -95,7 +105,8 @@ tree_again levels code kind id seed rest fits =
       field_again 32 seed rest fits.3,
     ) refl
 
-plain_takes : (bytes : List ℕ) (x : Key × List ℕ) → IsBytes bytes → plain_at bytes ≡ Ok x → Takes bytes (key_bytes x.0) x.1 × IsKey schemes.Plain x.0
+plain_takes : (bytes : List ℕ) (x : Key × List ℕ) → IsBytes bytes → plain_at bytes ≡ Ok x
+    → Takes bytes (key_bytes x.0) x.1 × IsKey schemes.Plain x.0
 unfolding plain_at
 plain_takes bytes x fits e =
     let a = bind_ok (field_at 32 bytes) _ x e in
@@ -106,7 +117,8 @@ plain_takes bytes x fits e =
     subst (λ (y : Key × List ℕ). Takes bytes (key_bytes y.0) y.1 × IsKey schemes.Plain y.0) {x = made} {y = x} (ok_is made x b.2)
     (Takes-then bytes a.0.0 a.0.1 (four_bytes b.0.0) b.0.1 t0.0 t1.0, (t0.1, t1.1))
 
-lms_takes : (bytes : List ℕ) (x : Key × List ℕ) → IsBytes bytes → lms_at bytes ≡ Ok x → Takes bytes (key_bytes x.0) x.1 × IsKey schemes.Lms x.0
+lms_takes : (bytes : List ℕ) (x : Key × List ℕ) → IsBytes bytes → lms_at bytes ≡ Ok x
+    → Takes bytes (key_bytes x.0) x.1 × IsKey schemes.Lms x.0
 unfolding lms_at
 lms_takes bytes x fits e =
     let a = bind_ok (tree_at 1 bytes) _ x e in
@@ -114,7 +126,8 @@ lms_takes bytes x fits e =
     let made : Key × List ℕ = (Lms a.0.0.0 a.0.0.1 a.0.0.2 a.0.0.3, a.0.1) in
     subst (λ (y : Key × List ℕ). Takes bytes (key_bytes y.0) y.1 × IsKey schemes.Lms y.0) {x = made} {y = x} (ok_is made x a.2) t
 
-hss_takes : (bytes : List ℕ) (x : Key × List ℕ) → IsBytes bytes → hss_at bytes ≡ Ok x → Takes bytes (key_bytes x.0) x.1 × IsKey schemes.Hss x.0
+hss_takes : (bytes : List ℕ) (x : Key × List ℕ) → IsBytes bytes → hss_at bytes ≡ Ok x
+    → Takes bytes (key_bytes x.0) x.1 × IsKey schemes.Hss x.0
 unfolding hss_at
 hss_takes bytes x fits e =
     let a = bind_ok (byte_that levels_in_range faults.Key bytes) _ x e in
@@ -125,7 +138,8 @@ hss_takes bytes x fits e =
     subst (λ (y : Key × List ℕ). Takes bytes (key_bytes y.0) y.1 × IsKey schemes.Hss y.0) {x = made} {y = x} (ok_is made x b.2)
     (Takes-then bytes (a.0.0 ∷ []) a.0.1 (tree_bytes b.0.0.0 b.0.0.1 b.0.0.2 b.0.0.3) b.0.1 t0.0 t1.0, (t0.2, t1.1))
 
-key_takes : (scheme : Scheme) (bytes : List ℕ) (x : Key × List ℕ) → IsBytes bytes → key_at scheme bytes ≡ Ok x → Takes bytes (key_bytes x.0) x.1 × IsKey scheme x.0
+key_takes : (scheme : Scheme) (bytes : List ℕ) (x : Key × List ℕ) → IsBytes bytes → key_at scheme bytes ≡ Ok x
+    → Takes bytes (key_bytes x.0) x.1 × IsKey scheme x.0
 unfolding key_at
 key_takes schemes.Plain bytes x fits e = plain_takes bytes x fits e
 key_takes schemes.Lms bytes x fits e = lms_takes bytes x fits e
@@ -135,10 +149,16 @@ key_again : (scheme : Scheme) (key : Key) (rest : List ℕ) → IsKey scheme key
 unfolding key_at plain_at lms_at hss_at
 key_again schemes.Plain (Plain key total) rest fits =
     ap plain_at (append_assoc key (four_bytes total) rest)
-    ∙ rw (field_again 32 key (four_bytes total ++ rest) fits.0, long_again (fault_at faults.Short (four_bytes total ++ rest)) total rest fits.1) refl
+    ∙ rw (
+      field_again 32 key (four_bytes total ++ rest) fits.0,
+      long_again (fault_at faults.Short (four_bytes total ++ rest)) total rest fits.1,
+    ) refl
 key_again schemes.Lms (Lms code kind id seed) rest fits = rw (tree_again 1 code kind id seed rest fits) refl
 key_again schemes.Hss (Hss levels code kind id seed) rest fits =
-    rw (byte_that_again levels_in_range faults.Key levels (tree_bytes code kind id seed ++ rest) fits.0, tree_again levels code kind id seed rest fits.1) refl
+    rw (
+      byte_that_again levels_in_range faults.Key levels (tree_bytes code kind id seed ++ rest) fits.0,
+      tree_again levels code kind id seed rest fits.1,
+    ) refl
 key_again schemes.Plain (Lms code kind id seed) rest fits = absurd fits
 key_again schemes.Plain (Hss levels code kind id seed) rest fits = absurd fits
 key_again schemes.Lms (Plain key total) rest fits = absurd fits
@@ -163,7 +183,8 @@ role_again false = (refl, refl)
 abbrev is_role : ℕ → Bool
 is_role n = is_from 0 1 n
 
-listed_takes : (scheme : Scheme) (least : ℕ) (bytes : List ℕ) (x : Listed × List ℕ) → IsBytes bytes → listed_at scheme least bytes ≡ Ok x → Takes bytes (listed_bytes x.0) x.1 × IsListed scheme least x.0
+listed_takes : (scheme : Scheme) (least : ℕ) (bytes : List ℕ) (x : Listed × List ℕ) → IsBytes bytes → listed_at scheme least bytes ≡ Ok x
+    → Takes bytes (listed_bytes x.0) x.1 × IsListed scheme least x.0
 unfolding listed_at
 listed_takes scheme least bytes x fits e =
     let a = bind_ok (process_that (leb least) faults.Roster bytes) _ x e in
@@ -174,15 +195,19 @@ listed_takes scheme least bytes x fits e =
     let t2 = key_takes scheme b.0.1 c.0 t1.0.rest_fits c.1 in
     let made : Listed × List ℕ = (record { process = a.0.0; corrupt = eqb b.0.0 1; key = c.0.0 }, c.0.1) in
     let role : b.0.0 ≡ role_byte (eqb b.0.0 1) = role_spelled b.0.0 (leb-true b.0.0 1 (and_parts (leb 0 b.0.0) (leb b.0.0 1) t1.2).1) in
-    let roled : Takes a.0.1 (role_byte (eqb b.0.0 1) ∷ key_bytes c.0.0) c.0.1 = subst (λ (n : ℕ). Takes a.0.1 (n ∷ key_bytes c.0.0) c.0.1) role (Takes-then a.0.1 (b.0.0 ∷ []) b.0.1 (key_bytes c.0.0) c.0.1 t1.0 t2.0) in
+    let roled : Takes a.0.1 (role_byte (eqb b.0.0 1) ∷ key_bytes c.0.0) c.0.1 = subst
+    (λ (n : ℕ). Takes a.0.1 (n ∷ key_bytes c.0.0) c.0.1) role (Takes-then a.0.1 (b.0.0 ∷ []) b.0.1 (key_bytes c.0.0) c.0.1 t1.0 t2.0) in
     let whole = Takes-then bytes (a.0.0 ∷ []) a.0.1 (role_byte (eqb b.0.0 1) ∷ key_bytes c.0.0) c.0.1 t0.0 roled in
-    subst (λ (y : Listed × List ℕ). Takes bytes (listed_bytes y.0) y.1 × IsListed scheme least y.0) {x = made} {y = x} (ok_is made x c.2) (whole, (leb-true least a.0.0 t0.2, t0.1, t2.1))
+    subst (λ (y : Listed × List ℕ). Takes bytes (listed_bytes y.0) y.1 × IsListed scheme least y.0) {x = made} {y = x} (ok_is made x c.2)
+    (whole, (leb-true least a.0.0 t0.2, t0.1, t2.1))
 
-listed_again : (scheme : Scheme) (least : ℕ) (l : Listed) (rest : List ℕ) → IsListed scheme least l → listed_at scheme least (listed_bytes l ++ rest) ≡ Ok (l, rest)
+listed_again : (scheme : Scheme) (least : ℕ) (l : Listed) (rest : List ℕ) → IsListed scheme least l
+    → listed_at scheme least (listed_bytes l ++ rest) ≡ Ok (l, rest)
 unfolding listed_at
 listed_again scheme least l rest fits =
     rw (
-      process_that_again (leb least) faults.Roster l.process (role_byte l.corrupt ∷ (key_bytes l.key ++ rest)) fits.1 (le-leb least l.process fits.0),
+      process_that_again (leb least) faults.Roster l.process (role_byte l.corrupt ∷ (key_bytes l.key ++ rest)) fits.1
+          (le-leb least l.process fits.0),
       byte_that_again is_role faults.Roster (role_byte l.corrupt) (key_bytes l.key ++ rest) (role_again l.corrupt).0,
       key_again scheme l.key rest fits.2,
       (role_again l.corrupt).1,
@@ -190,11 +215,13 @@ listed_again scheme least l rest fits =
 
 -- ---- all of them
 
-all_listed_take : (n : ℕ) (scheme : Scheme) (least : ℕ) (bytes : List ℕ) (x : List Listed × List ℕ) → IsBytes bytes → all_listed_at n scheme least bytes ≡ Ok x
+all_listed_take : (n : ℕ) (scheme : Scheme) (least : ℕ) (bytes : List ℕ) (x : List Listed × List ℕ) → IsBytes bytes
+    → all_listed_at n scheme least bytes ≡ Ok x
     → Takes bytes (flat_map listed_bytes x.0) x.1 × (length x.0 ≡ n) × AreListed scheme least x.0
 unfolding all_listed_at
 all_listed_take zero scheme least bytes x fits e =
-    subst (λ (y : List Listed × List ℕ). Takes bytes (flat_map listed_bytes y.0) y.1 × (length y.0 ≡ 0) × AreListed scheme least y.0) {x = ([], bytes)} {y = x} (ok_is ([], bytes) x e) (record { parts = refl; rest_fits = fits }, refl, tt)
+    subst (λ (y : List Listed × List ℕ). Takes bytes (flat_map listed_bytes y.0) y.1 × (length y.0 ≡ 0)
+    × AreListed scheme least y.0) {x = ([], bytes)} {y = x} (ok_is ([], bytes) x e) (record { parts = refl; rest_fits = fits }, refl, tt)
 all_listed_take (suc n) scheme least bytes x fits e =
     let a = bind_ok (listed_at scheme least bytes) _ x e in
     let b = bind_ok (all_listed_at n scheme (a.0.0.process + 1) a.0.1) _ x a.2 in
@@ -202,16 +229,23 @@ all_listed_take (suc n) scheme least bytes x fits e =
     let others = all_listed_take n scheme (a.0.0.process + 1) a.0.1 b.0 first.0.rest_fits b.1 in
     let both = Takes-then bytes (listed_bytes a.0.0) a.0.1 (flat_map listed_bytes b.0.0) b.0.1 first.0 others.0 in
     let made : List Listed × List ℕ = (a.0.0 ∷ b.0.0, b.0.1) in
-    subst (λ (y : List Listed × List ℕ). Takes bytes (flat_map listed_bytes y.0) y.1 × (length y.0 ≡ suc n) × AreListed scheme least y.0) {x = made} {y = x} (ok_is made x b.2)
+    subst (λ (y : List Listed × List ℕ). Takes bytes (flat_map listed_bytes y.0) y.1 × (length y.0 ≡ suc n)
+    × AreListed scheme least y.0) {x = made} {y = x} (ok_is made x b.2)
     (rw flat_map-cons both, ap suc others.1, (first.1.0, first.1.1, first.1.2, others.2))
 
-all_listed_again : (scheme : Scheme) (least : ℕ) (ls : List Listed) (rest : List ℕ) → AreListed scheme least ls → all_listed_at (length ls) scheme least (flat_map listed_bytes ls ++ rest) ≡ Ok (ls, rest)
+all_listed_again : (scheme : Scheme) (least : ℕ) (ls : List Listed) (rest : List ℕ) → AreListed scheme least ls
+    → all_listed_at (length ls) scheme least (flat_map listed_bytes ls ++ rest) ≡ Ok (ls, rest)
 unfolding all_listed_at
 all_listed_again scheme least [] rest fits = refl
 all_listed_again scheme least (l ∷ ls) rest fits =
-    let regrouped : flat_map listed_bytes (l ∷ ls) ++ rest ≡ listed_bytes l ++ (flat_map listed_bytes ls ++ rest) = ap (λ (t : List ℕ). t ++ rest) (flat_map-cons listed_bytes l ls) ∙ append_assoc (listed_bytes l) (flat_map listed_bytes ls) rest in
+    let regrouped : flat_map listed_bytes (l ∷ ls) ++ rest ≡ listed_bytes l
+    ++ (flat_map listed_bytes ls ++ rest) = ap (λ (t : List ℕ). t ++ rest)
+    (flat_map-cons listed_bytes l ls) ∙ append_assoc (listed_bytes l) (flat_map listed_bytes ls) rest in
     ap (all_listed_at (suc (length ls)) scheme least) regrouped
-    ∙ rw (listed_again scheme least l (flat_map listed_bytes ls ++ rest) (fits.0, fits.1, fits.2), all_listed_again scheme (l.process + 1) ls rest fits.3) refl
+    ∙ rw (
+      listed_again scheme least l (flat_map listed_bytes ls ++ rest) (fits.0, fits.1, fits.2),
+      all_listed_again scheme (l.process + 1) ls rest fits.3,
+    ) refl
 
 processes_take : (scheme : Scheme) (bytes : List ℕ) (x : List Listed × List ℕ) → IsBytes bytes → processes_at scheme bytes ≡ Ok x
     → Takes bytes (length x.0 ∷ flat_map listed_bytes x.0) x.1 × (is_from 1 most_processes (length x.0) ≡ true) × AreListed scheme 0 x.0
@@ -220,14 +254,18 @@ processes_take scheme bytes x fits e =
     let a = bind_ok (byte_that (is_from 1 most_processes) faults.Roster bytes) _ x e in
     let t0 = byte_that_takes (is_from 1 most_processes) faults.Roster bytes a.0 fits a.1 in
     let t1 = all_listed_take a.0.0 scheme 0 a.0.1 x t0.0.rest_fits a.2 in
-    let whole : Takes bytes (length x.0 ∷ flat_map listed_bytes x.0) x.1 = rw t1.1 (Takes-then bytes (a.0.0 ∷ []) a.0.1 (flat_map listed_bytes x.0) x.1 t0.0 t1.0) in
+    let whole : Takes bytes (length x.0 ∷ flat_map listed_bytes x.0) x.1 = rw t1.1
+    (Takes-then bytes (a.0.0 ∷ []) a.0.1 (flat_map listed_bytes x.0) x.1 t0.0 t1.0) in
     (whole, rw t1.1 t0.2, t1.2)
 
 processes_again : (scheme : Scheme) (ls : List Listed) (rest : List ℕ) → is_from 1 most_processes (length ls) ≡ true → AreListed scheme 0 ls
     → processes_at scheme (length ls ∷ (flat_map listed_bytes ls ++ rest)) ≡ Ok (ls, rest)
 unfolding processes_at
 processes_again scheme ls rest some fits =
-    rw (byte_that_again (is_from 1 most_processes) faults.Roster (length ls) (flat_map listed_bytes ls ++ rest) some, all_listed_again scheme 0 ls rest fits) refl
+    rw (
+      byte_that_again (is_from 1 most_processes) faults.Roster (length ls) (flat_map listed_bytes ls ++ rest) some,
+      all_listed_again scheme 0 ls rest fits,
+    ) refl
 
 -- ---- tests
 
@@ -248,7 +286,8 @@ is_listed_below scheme least (l ∷ ls) p fits e =
       | inr h ↦ is_listed_below scheme (l.process + 1) ls p fits.3 h
     ]
 
-pub is_correct_below : (scheme : Scheme) (least : ℕ) (ls : List Listed) (p : ℕ) → AreListed scheme least ls → is_correct ls p ≡ true → p ≤ 63
+pub is_correct_below : (scheme : Scheme) (least : ℕ) (ls : List Listed) (p : ℕ) → AreListed scheme least ls → is_correct ls p ≡ true
+    → p ≤ 63
 is_correct_below scheme least [] p fits e = absurd cc
 is_correct_below scheme least (l ∷ ls) p fits e =
     elim (or_true ((eqb l.process p) && not l.corrupt) (is_correct ls p) e) [
@@ -256,7 +295,8 @@ is_correct_below scheme least (l ∷ ls) p fits e =
       | inr h ↦ is_correct_below scheme (l.process + 1) ls p fits.3 h
     ]
 
-pub is_corrupt_below : (scheme : Scheme) (least : ℕ) (ls : List Listed) (p : ℕ) → AreListed scheme least ls → is_corrupt ls p ≡ true → p ≤ 63
+pub is_corrupt_below : (scheme : Scheme) (least : ℕ) (ls : List Listed) (p : ℕ) → AreListed scheme least ls → is_corrupt ls p ≡ true
+    → p ≤ 63
 is_corrupt_below scheme least [] p fits e = absurd cc
 is_corrupt_below scheme least (l ∷ ls) p fits e =
     elim (or_true ((eqb l.process p) && l.corrupt) (is_corrupt ls p) e) [
@@ -298,7 +338,8 @@ module _ (listed : ℕ → Bool) where
     count : length more ≡ n
     members : AreMembers before more
 
-  members_take : (n : ℕ) (before bytes : List ℕ) (x : List ℕ × List ℕ) → IsBytes bytes → members_at n listed before bytes ≡ Ok x → AreRead before bytes n x
+  members_take : (n : ℕ) (before bytes : List ℕ) (x : List ℕ × List ℕ) → IsBytes bytes → members_at n listed before bytes ≡ Ok x
+      → AreRead before bytes n x
   unfolding members_at
   members_take zero before bytes x fits e =
       subst (λ (y : List ℕ × List ℕ). AreRead before bytes 0 y) {x = (before, bytes)} {y = x} (ok_is (before, bytes) x e)
@@ -320,12 +361,16 @@ module _ (listed : ℕ → Bool) where
       not_true true e = absurd cc
       not_true false e = refl
 
-  members_again : (before ms rest : List ℕ) → AreMembers before ms → members_at (length ms) listed before (ms ++ rest) ≡ Ok (before ++ ms, rest)
+  members_again : (before ms rest : List ℕ) → AreMembers before ms
+      → members_at (length ms) listed before (ms ++ rest) ≡ Ok (before ++ ms, rest)
   unfolding members_at
   members_again before [] rest fits = ap (λ (ps : List ℕ). Ok (ps, rest)) (sym (append-nil before))
   members_again before (m ∷ ms) rest fits =
       let new : not (has before m) ≡ true = rw fits.2 refl in
-      rw (process_that_again (is_next before) faults.Roster m (ms ++ rest) fits.0 (and_from (listed m) (not (has before m)) fits.1 new), members_again (before ++ m ∷ []) ms rest fits.3)
+      rw (
+        process_that_again (is_next before) faults.Roster m (ms ++ rest) fits.0 (and_from (listed m) (not (has before m)) fits.1 new),
+        members_again (before ++ m ∷ []) ms rest fits.3,
+      )
       (ap (λ (ps : List ℕ). Ok (ps, rest)) (append_assoc before (m ∷ []) ms))
 
   -- members are listed, and differ in pairs
@@ -339,11 +384,16 @@ module _ (listed : ℕ → Bool) where
       rw (← append_assoc before (m ∷ []) ms)
       (are_distinct (before ++ m ∷ []) ms (all_pairs_push Differ before m pairs (λ k d lt. among_not before m fits.2 k d lt)) fits.3)
 
-  are_members : ((m : ℕ) → listed m ≡ true → m ≤ 63) → (before ms : List ℕ) → AllPairs Differ (before ++ ms) → AllByRecursion (λ m. listed m ≡ true) ms → AreMembers before ms
+  are_members : ((m : ℕ) → listed m ≡ true → m ≤ 63) → (before ms : List ℕ) → AllPairs Differ (before ++ ms)
+      → AllByRecursion (λ m. listed m ≡ true) ms → AreMembers before ms
   are_members below before [] pairs fits = tt
   are_members below before (m ∷ ms) pairs fits =
-      let two_places : (k d : ℕ) → k < length before → get_or (before ++ m ∷ ms) k d ≢ get_or (before ++ m ∷ ms) (length before) d = λ k d lt. pairs k (length before) d lt (omega (arith, length-append before (m ∷ ms))) in
-      let new : (k d : ℕ) → k < length before → get_or before k d ≢ m = λ k d lt. rw (get_or-append before (m ∷ ms) d k lt, get_or-append_seam before m ms d) at (two_places k d lt) in
+      let two_places : (k d : ℕ) → k < length before
+      → get_or (before ++ m ∷ ms) k d ≢ get_or (before ++ m ∷ ms)
+      (length before) d = λ k d lt. pairs k (length before) d lt (omega (arith, length-append before (m ∷ ms))) in
+      let new : (k d : ℕ) → k < length before
+      → get_or before k d ≢ m = λ k d lt. rw (get_or-append before (m ∷ ms) d k lt, get_or-append_seam before m ms d) at
+      (two_places k d lt) in
       (below m fits.0, fits.0, not_among before m new, are_members below (before ++ m ∷ []) ms (rw append_assoc pairs) fits.1)
 
 genesis_takes : (listed : ℕ → Bool) (bytes : List ℕ) (x : List ℕ × List ℕ) → IsBytes bytes → genesis_at listed bytes ≡ Ok x
@@ -353,11 +403,14 @@ genesis_takes listed bytes x fits e =
     let a = bind_ok (byte_that (is_from 1 most_members) faults.Roster bytes) _ x e in
     let t0 = byte_that_takes (is_from 1 most_members) faults.Roster bytes a.0 fits a.1 in
     let read = members_take listed a.0.0 [] a.0.1 x t0.0.rest_fits a.2 in
-    let whole : Takes bytes (length read.more ∷ read.more) x.1 = rw read.count (Takes-then bytes (a.0.0 ∷ []) a.0.1 read.more x.1 t0.0 read.takes) in
-    subst (λ (ms : List ℕ). Takes bytes (length ms ∷ ms) x.1 × (is_from 1 most_members (length ms) ≡ true) × AreMembers listed [] ms) {x = read.more} {y = x.0} read.all
+    let whole : Takes bytes (length read.more ∷ read.more) x.1 = rw read.count
+    (Takes-then bytes (a.0.0 ∷ []) a.0.1 read.more x.1 t0.0 read.takes) in
+    subst (λ (ms : List ℕ). Takes bytes (length ms ∷ ms) x.1 × (is_from 1 most_members (length ms) ≡ true)
+    × AreMembers listed [] ms) {x = read.more} {y = x.0} read.all
     (whole, rw read.count t0.2, read.members)
 
-genesis_again : (listed : ℕ → Bool) (ms rest : List ℕ) → is_from 1 most_members (length ms) ≡ true → AreMembers listed [] ms → genesis_at listed (length ms ∷ (ms ++ rest)) ≡ Ok (ms, rest)
+genesis_again : (listed : ℕ → Bool) (ms rest : List ℕ) → is_from 1 most_members (length ms) ≡ true → AreMembers listed [] ms
+    → genesis_at listed (length ms ∷ (ms ++ rest)) ≡ Ok (ms, rest)
 unfolding genesis_at
 genesis_again listed ms rest some fits =
     rw (byte_that_again (is_from 1 most_members) faults.Roster (length ms) (ms ++ rest) some, members_again listed [] ms rest fits) refl
@@ -373,7 +426,8 @@ version_is m version e =
     by (same_bytes m (magic 1)) (same_bytes m (magic 2)) (same_bytes m (magic 3))
     (λ t. (bytes_eq-Decides m (magic 1)).0 t) (λ t. (bytes_eq-Decides m (magic 2)).0 t) (λ t. (bytes_eq-Decides m (magic 3)).0 t) e
   where
-    by : (a b c : Bool) → (a ≡ true → m ≡ magic 1) → (b ≡ true → m ≡ magic 2) → (c ≡ true → m ≡ magic 3) → first_that_holds ((a, 1) ∷ (b, 2) ∷ (c, 3) ∷ []) ≡ Some version → (m ≡ magic version) × IsVersion version
+    by : (a b c : Bool) → (a ≡ true → m ≡ magic 1) → (b ≡ true → m ≡ magic 2) → (c ≡ true → m ≡ magic 3)
+        → first_that_holds ((a, 1) ∷ (b, 2) ∷ (c, 3) ∷ []) ≡ Some version → (m ≡ magic version) × IsVersion version
     by true b c one two three e = let is : 1 ≡ version = cc in (one refl ∙ ap magic is, inl (sym is))
     by false true c one two three e = let is : 2 ≡ version = cc in (two refl ∙ ap magic is, inr (inl (sym is)))
     by false false true one two three e = let is : 3 ≡ version = cc in (three refl ∙ ap magic is, inr (inr (sym is)))
@@ -398,7 +452,8 @@ not_true false e = refl
 abbrev Told : ℕ → ℕ → Scheme → Type 0
 Told version b s = (b ≡ scheme_byte s) × HasVersion s version
 
-first_told : (version b : ℕ) (s : Scheme) (x y z : Bool) → (x ≡ true → Told version b schemes.Plain) → (y ≡ true → Told version b schemes.Lms) → (z ≡ true → Told version b schemes.Hss)
+first_told : (version b : ℕ) (s : Scheme) (x y z : Bool) → (x ≡ true → Told version b schemes.Plain)
+    → (y ≡ true → Told version b schemes.Lms) → (z ≡ true → Told version b schemes.Hss)
     → first_that_holds ((x, schemes.Plain) ∷ (y, schemes.Lms) ∷ (z, schemes.Hss) ∷ []) ≡ Some s → Told version b s
 first_told version b s true y z one two three e = let is : schemes.Plain ≡ s = cc in subst (Told version b) is (one refl)
 first_told version b s false true z one two three e = let is : schemes.Lms ≡ s = cc in subst (Told version b) is (two refl)
@@ -429,7 +484,9 @@ second_makes schemes.Plain has = absurd cc
 second_makes schemes.Lms has = absurd cc
 second_makes schemes.Hss has = refl
 
-no_limit : (version : ℕ) (bytes : List ℕ) (x : ℕ × List ℕ) → IsBytes bytes → ((s : Scheme) → HasVersion s version → version_of s 1 ≡ version) → (let none : Step ℕ = Ok (1, bytes) in none) ≡ Ok x → IsLimit version bytes x
+no_limit : (version : ℕ) (bytes : List ℕ) (x : ℕ × List ℕ) → IsBytes bytes
+    → ((s : Scheme) → HasVersion s version → version_of s 1 ≡ version) → (let none : Step ℕ = Ok (1, bytes) in none) ≡ Ok x
+    → IsLimit version bytes x
 no_limit version bytes x fits makes e =
     let made : ℕ × List ℕ = (1, bytes) in
     subst (λ (y : ℕ × List ℕ). IsLimit version bytes y) {x = made} {y = x} (ok_is made x e)
@@ -450,7 +507,8 @@ third_limit bytes x fits e =
       makes = λ s has. rw other refl;
     }
 
-limit_takes : (version : ℕ) (bytes : List ℕ) (x : ℕ × List ℕ) → IsVersion version → IsBytes bytes → limit_at version bytes ≡ Ok x → IsLimit version bytes x
+limit_takes : (version : ℕ) (bytes : List ℕ) (x : ℕ × List ℕ) → IsVersion version → IsBytes bytes → limit_at version bytes ≡ Ok x
+    → IsLimit version bytes x
 unfolding limit_at
 limit_takes version bytes x (inl is) fits e =
     subst (λ (v : ℕ). IsLimit v bytes x) (sym is) (no_limit 1 bytes x fits first_makes (rw is at e))
@@ -468,7 +526,8 @@ setting_bytes x = magic (version_of x.0 x.1) ++ (scheme_byte x.0 ∷ (limit_byte
 abbrev IsSetting : Setting → Type 0
 IsSetting x = (is_from 1 most_messages x.1 ≡ true) × (length x.2 ≡ 16)
 
-setting_takes : (bytes : List ℕ) (x : Setting × List ℕ) → IsBytes bytes → setting_at bytes ≡ Ok x → Takes bytes (setting_bytes x.0) x.1 × IsSetting x.0
+setting_takes : (bytes : List ℕ) (x : Setting × List ℕ) → IsBytes bytes → setting_at bytes ≡ Ok x
+    → Takes bytes (setting_bytes x.0) x.1 × IsSetting x.0
 unfolding setting_at
 setting_takes bytes x fits e =
     let a = bind_ok (known version_by faults.Magic (field_at 4) bytes) _ x e in
@@ -486,11 +545,15 @@ setting_takes bytes x fits e =
     let version : a.0.0 ≡ version_of b.0.0 c.0.0 = sym (limit.makes b.0.0 s.1) in
     let last = Takes-then b.0.1 (limit_bytes c.0.0) c.0.1 d.0.0 d.0.1 limit.takes t3.0 in
     let more : Takes a.0.1 (scheme_byte b.0.0 ∷ (limit_bytes c.0.0 ++ d.0.0)) d.0.1 =
-    subst (λ (n : ℕ). Takes a.0.1 (n ∷ (limit_bytes c.0.0 ++ d.0.0)) d.0.1) s.0 (Takes-then a.0.1 (k.0 ∷ []) b.0.1 (limit_bytes c.0.0 ++ d.0.0) d.0.1 t1.0 last) in
-    let front : Takes bytes (magic (version_of b.0.0 c.0.0)) a.0.1 = subst (λ (m : List ℕ). Takes bytes m a.0.1) (is.0 ∙ ap magic version) t0.0 in
-    let whole = Takes-then bytes (magic (version_of b.0.0 c.0.0)) a.0.1 (scheme_byte b.0.0 ∷ (limit_bytes c.0.0 ++ d.0.0)) d.0.1 front more in
+    subst (λ (n : ℕ). Takes a.0.1 (n ∷ (limit_bytes c.0.0 ++ d.0.0)) d.0.1) s.0
+    (Takes-then a.0.1 (k.0 ∷ []) b.0.1 (limit_bytes c.0.0 ++ d.0.0) d.0.1 t1.0 last) in
+    let front : Takes bytes (magic (version_of b.0.0 c.0.0)) a.0.1 = subst (λ (m : List ℕ). Takes bytes m a.0.1)
+    (is.0 ∙ ap magic version) t0.0 in
+    let whole = Takes-then bytes (magic (version_of b.0.0 c.0.0)) a.0.1
+    (scheme_byte b.0.0 ∷ (limit_bytes c.0.0 ++ d.0.0)) d.0.1 front more in
     let made : Setting × List ℕ = ((b.0.0, c.0.0, d.0.0), d.0.1) in
-    subst (λ (y : Setting × List ℕ). Takes bytes (setting_bytes y.0) y.1 × IsSetting y.0) {x = made} {y = x} (ok_is made x d.2) (whole, (limit.fits, t3.1))
+    subst (λ (y : Setting × List ℕ). Takes bytes (setting_bytes y.0) y.1 × IsSetting y.0) {x = made} {y = x} (ok_is made x d.2)
+    (whole, (limit.fits, t3.1))
 
 -- the version, where it is known whether the limit is 1
 abbrev version_where : Scheme → Bool → ℕ
@@ -525,9 +588,11 @@ third_again : (n : ℕ) (rest : List ℕ) → from_2 n ≡ true → limit_at 3 (
 unfolding limit_at
 third_again n rest t = byte_that_again from_2 faults.Field n rest t
 
-limit_again : (s : Scheme) (limit : ℕ) (rest : List ℕ) → is_from 1 most_messages limit ≡ true → limit_at (version_of s limit) (limit_bytes limit ++ rest) ≡ Ok (limit, rest)
+limit_again : (s : Scheme) (limit : ℕ) (rest : List ℕ) → is_from 1 most_messages limit ≡ true
+    → limit_at (version_of s limit) (limit_bytes limit ++ rest) ≡ Ok (limit, rest)
 limit_again s limit rest fits =
-    elim (eqb limit 1) as (λ b. eqb limit 1 ≡ b → limit_at (version_where s b) ((if b then [] else limit ∷ []) ++ rest) ≡ Ok (limit, rest)) [
+    elim (eqb limit 1) as (λ b. eqb limit 1 ≡ b
+    → limit_at (version_where s b) ((if b then [] else limit ∷ []) ++ rest) ≡ Ok (limit, rest)) [
       | true ↦ λ t. let is : limit ≡ 1 = eqb-true limit 1 t in rw is (no_limit_again s rest)
       | false ↦ λ t.
           let p = and_parts (leb 1 limit) (leb limit 16) fits in
@@ -543,9 +608,11 @@ setting_again s limit group rest fits =
     let v : ℕ = version_of s limit in
     let behind : List ℕ = scheme_byte s ∷ (limit_bytes limit ++ (group ++ rest)) in
     let front : known version_by faults.Magic (field_at 4) (magic v ++ behind) ≡ Ok (v, behind) =
-    known_again version_by faults.Magic (field_at 4) (magic v ++ behind) (magic v) v behind (field_again 4 (magic v) behind refl) (version_again v (where_is s (eqb limit 1))) in
+    known_again version_by faults.Magic (field_at 4) (magic v ++ behind) (magic v) v behind (field_again 4 (magic v) behind refl)
+    (version_again v (where_is s (eqb limit 1))) in
     let named : known (scheme_by v) faults.Scheme byte_at behind ≡ Ok (s, limit_bytes limit ++ (group ++ rest)) =
-    known_again (scheme_by v) faults.Scheme byte_at behind (scheme_byte s) s (limit_bytes limit ++ (group ++ rest)) (byte_again (fault_at faults.Short behind) (scheme_byte s) (limit_bytes limit ++ (group ++ rest))) (where_has s (eqb limit 1)) in
+    known_again (scheme_by v) faults.Scheme byte_at behind (scheme_byte s) s (limit_bytes limit ++ (group ++ rest))
+    (byte_again (fault_at faults.Short behind) (scheme_byte s) (limit_bytes limit ++ (group ++ rest))) (where_has s (eqb limit 1)) in
     rw (front, named, limit_again s limit (group ++ rest) fits.0, field_again 16 group rest fits.1) refl
 
 -- ---- the header
@@ -553,7 +620,8 @@ setting_again s limit group rest fits =
 no_pairs : AllPairs Differ []
 no_pairs i j d lt within = absurd (omega arith)
 
-joined : (m l g f gen rest : List ℕ) (s n k : ℕ) → (m ++ (s ∷ (l ++ (g ++ (n ∷ (f ++ (k ∷ gen))))))) ++ rest ≡ m ++ (s ∷ (l ++ (g ++ (n ∷ (f ++ (k ∷ (gen ++ rest)))))))
+joined : (m l g f gen rest : List ℕ) (s n k : ℕ)
+    → (m ++ (s ∷ (l ++ (g ++ (n ∷ (f ++ (k ∷ gen))))))) ++ rest ≡ m ++ (s ∷ (l ++ (g ++ (n ∷ (f ++ (k ∷ (gen ++ rest)))))))
 joined m l g f gen rest s n k =
     append_assoc m (s ∷ (l ++ (g ++ (n ∷ (f ++ (k ∷ gen)))))) rest
     ∙ ap (λ (t : List ℕ). m ++ (s ∷ t)) (append_assoc l (g ++ (n ∷ (f ++ (k ∷ gen)))) rest
@@ -563,7 +631,8 @@ joined m l g f gen rest s n k =
 behind_group : (m l g rest : List ℕ) (s : ℕ) → (m ++ (s ∷ (l ++ g))) ++ rest ≡ m ++ (s ∷ (l ++ (g ++ rest)))
 behind_group m l g rest s = append_assoc m (s ∷ (l ++ g)) rest ∙ ap (λ (t : List ℕ). m ++ (s ∷ t)) (append_assoc l g rest)
 
-pub header_takes : (bytes : List ℕ) (x : Header × List ℕ) → IsBytes bytes → header_at bytes ≡ Ok x → Takes bytes (header_bytes x.0) x.1 × IsHeader x.0
+pub header_takes : (bytes : List ℕ) (x : Header × List ℕ) → IsBytes bytes → header_at bytes ≡ Ok x
+    → Takes bytes (header_bytes x.0) x.1 × IsHeader x.0
 unfolding header_at
 header_takes bytes x fits e =
     let a = bind_ok (setting_at bytes) _ x e in
@@ -575,9 +644,11 @@ header_takes bytes x fits e =
     let h : Header = record { scheme = a.0.0.0; batch_limit = a.0.0.1; group = a.0.0.2; processes = b.0.0; genesis = c.0.0 } in
     let made : Header × List ℕ = (h, c.0.1) in
     let more = Takes-then a.0.1 (length b.0.0 ∷ flat_map listed_bytes b.0.0) b.0.1 (length c.0.0 ∷ c.0.0) c.0.1 t1.0 t2.0 in
-    let all = Takes-then bytes (setting_bytes a.0.0) a.0.1 (length b.0.0 ∷ (flat_map listed_bytes b.0.0 ++ (length c.0.0 ∷ c.0.0))) c.0.1 t0.0 more in
+    let all = Takes-then bytes (setting_bytes a.0.0) a.0.1
+    (length b.0.0 ∷ (flat_map listed_bytes b.0.0 ++ (length c.0.0 ∷ c.0.0))) c.0.1 t0.0 more in
     let whole : Takes bytes (header_bytes h) c.0.1 = subst (λ (t : List ℕ). Takes bytes t c.0.1)
-    (behind_group (magic (version_of a.0.0.0 a.0.0.1)) (limit_bytes a.0.0.1) a.0.0.2 (length b.0.0 ∷ (flat_map listed_bytes b.0.0 ++ (length c.0.0 ∷ c.0.0))) (scheme_byte a.0.0.0)) all in
+    (behind_group (magic (version_of a.0.0.0 a.0.0.1))
+    (limit_bytes a.0.0.1) a.0.0.2 (length b.0.0 ∷ (flat_map listed_bytes b.0.0 ++ (length c.0.0 ∷ c.0.0))) (scheme_byte a.0.0.0)) all in
     let fine : IsHeader h = record {
       limit = t0.1.0;
       group = t0.1.1;
@@ -594,8 +665,11 @@ unfolding header_at
 header_again h rest fits =
     let genesis : List ℕ = length h.genesis ∷ (h.genesis ++ rest) in
     let processes : List ℕ = length h.processes ∷ (flat_map listed_bytes h.processes ++ genesis) in
-    let members : AreMembers (is_listed h.processes) [] h.genesis = are_members (is_listed h.processes) (λ m is. is_listed_below h.scheme 0 h.processes m fits.processes is) [] h.genesis fits.distinct fits.listed in
-    ap header_at (joined (magic (version_of h.scheme h.batch_limit)) (limit_bytes h.batch_limit) h.group (flat_map listed_bytes h.processes) h.genesis rest (scheme_byte h.scheme) (length h.processes) (length h.genesis))
+    let members : AreMembers (is_listed h.processes) [] h.genesis = are_members (is_listed h.processes)
+    (λ m is. is_listed_below h.scheme 0 h.processes m fits.processes is) [] h.genesis fits.distinct fits.listed in
+    ap header_at (joined (magic (version_of h.scheme h.batch_limit))
+    (limit_bytes h.batch_limit) h.group (flat_map listed_bytes h.processes) h.genesis rest (scheme_byte h.scheme) (length h.processes)
+    (length h.genesis))
     ∙ rw (
       setting_again h.scheme h.batch_limit h.group processes (fits.limit, fits.group),
       processes_again h.scheme h.processes genesis fits.some fits.processes,

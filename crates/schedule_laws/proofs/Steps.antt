@@ -20,7 +20,8 @@ ok_or_is : {A : Type 0} (o : Option A) (f : Found) (a : A) → ok_or o f ≡ Ok 
 ok_or_is None f a e = absurd cc
 ok_or_is (Some b) f a e = cc
 
-pub known_ok : {A B : Type 0} (table : A → Option B) (kind : FaultKind) (step : List ℕ → Step A) (bytes : List ℕ) (y : B × List ℕ) → known table kind step bytes ≡ Ok y
+pub known_ok : {A B : Type 0} (table : A → Option B) (kind : FaultKind) (step : List ℕ → Step A) (bytes : List ℕ) (y : B × List ℕ)
+    → known table kind step bytes ≡ Ok y
     → (x : A) × (step bytes ≡ Ok (x, y.1)) × (table x ≡ Some y.0)
 known_ok {A} {B} table kind step bytes y e =
     let a = bind_ok (step bytes) _ y e in
@@ -29,7 +30,8 @@ known_ok {A} {B} table kind step bytes y e =
     subst (λ (z : B × List ℕ). (x : A) × (step bytes ≡ Ok (x, z.1)) × (table x ≡ Some z.0)) {x = made} {y = y} (ok_is made y b.2)
     (a.0.0, a.1, ok_or_is (table a.0.0) (fault_at kind bytes) b.0 b.1)
 
-pub known_again : {A B : Type 0} (table : A → Option B) (kind : FaultKind) (step : List ℕ → Step A) (bytes : List ℕ) (x : A) (b : B) (rest : List ℕ)
+pub known_again : {A B : Type 0} (table : A → Option B) (kind : FaultKind) (step : List ℕ → Step A) (bytes : List ℕ) (x : A) (b : B)
+    (rest : List ℕ)
     → step bytes ≡ Ok (x, rest) → table x ≡ Some b → known table kind step bytes ≡ Ok (b, rest)
 known_again table kind step bytes x b rest e f = rw (e, f) refl
 
@@ -40,7 +42,8 @@ passing_is {A} test x y e =
       | false ↦ λ t p. absurd cc
     ] refl e
 
-pub tested_ok : {A : Type 0} (test : A → Bool) (kind : FaultKind) (step : List ℕ → Step A) (bytes : List ℕ) (y : A × List ℕ) → tested test kind step bytes ≡ Ok y
+pub tested_ok : {A : Type 0} (test : A → Bool) (kind : FaultKind) (step : List ℕ → Step A) (bytes : List ℕ) (y : A × List ℕ)
+    → tested test kind step bytes ≡ Ok y
     → (step bytes ≡ Ok y) × (test y.0 ≡ true)
 tested_ok {A} test kind step bytes y e =
     let k = known_ok (passing test) kind step bytes y e in
@@ -63,7 +66,8 @@ wide64 = record {
   below = λ bytes fits. omega (arith, fits 0, fits 1, fits 2, fits 3, fits 4, fits 5, fits 6, fits 7);
 }
 
-pub mask_takes : (bytes : List ℕ) (x : ℕ × List ℕ) → IsBytes bytes → wide_at w64 bytes ≡ Ok x → Takes bytes (eight_bytes x.0) x.1 × (x.0 < 18446744073709551616)
+pub mask_takes : (bytes : List ℕ) (x : ℕ × List ℕ) → IsBytes bytes → wide_at w64 bytes ≡ Ok x
+    → Takes bytes (eight_bytes x.0) x.1 × (x.0 < 18446744073709551616)
 mask_takes bytes x fits e = number_takes (fault_at faults.Short bytes) w64 18446744073709551616 wide64 bytes x.0 x.1 fits e
 
 pub mask_again : (n : ℕ) (rest : List ℕ) → n < 18446744073709551616 → wide_at w64 (eight_bytes n ++ rest) ≡ Ok (n, rest)
@@ -71,7 +75,8 @@ mask_again n rest lt = number_again (fault_at faults.Short (eight_bytes n ++ res
 
 -- ---- bytes, processes and texts
 
-pub byte_that_takes : (test : ℕ → Bool) (kind : FaultKind) (bytes : List ℕ) (x : ℕ × List ℕ) → IsBytes bytes → byte_that test kind bytes ≡ Ok x
+pub byte_that_takes : (test : ℕ → Bool) (kind : FaultKind) (bytes : List ℕ) (x : ℕ × List ℕ) → IsBytes bytes
+    → byte_that test kind bytes ≡ Ok x
     → Takes bytes (x.0 ∷ []) x.1 × (x.0 < 256) × (test x.0 ≡ true)
 unfolding byte_that
 byte_that_takes test kind bytes x fits e =
@@ -79,11 +84,14 @@ byte_that_takes test kind bytes x fits e =
     let t = byte_takes (fault_at faults.Short bytes) bytes x.0 x.1 fits a.0 in
     (t.0, t.1, a.1)
 
-pub byte_that_again : (test : ℕ → Bool) (kind : FaultKind) (b : ℕ) (rest : List ℕ) → test b ≡ true → byte_that test kind (b ∷ rest) ≡ Ok (b, rest)
+pub byte_that_again : (test : ℕ → Bool) (kind : FaultKind) (b : ℕ) (rest : List ℕ) → test b ≡ true
+    → byte_that test kind (b ∷ rest) ≡ Ok (b, rest)
 unfolding byte_that
-byte_that_again test kind b rest t = tested_again test kind byte_at (b ∷ rest) b rest (byte_again (fault_at faults.Short (b ∷ rest)) b rest) t
+byte_that_again test kind b rest t = tested_again test kind byte_at (b ∷ rest) b rest
+    (byte_again (fault_at faults.Short (b ∷ rest)) b rest) t
 
-pub process_that_takes : (test : ℕ → Bool) (kind : FaultKind) (bytes : List ℕ) (x : ℕ × List ℕ) → IsBytes bytes → process_that test kind bytes ≡ Ok x
+pub process_that_takes : (test : ℕ → Bool) (kind : FaultKind) (bytes : List ℕ) (x : ℕ × List ℕ) → IsBytes bytes
+    → process_that test kind bytes ≡ Ok x
     → Takes bytes (x.0 ∷ []) x.1 × (x.0 ≤ 63) × (test x.0 ≡ true)
 unfolding process_that
 process_that_takes test kind bytes x fits e =
@@ -91,11 +99,14 @@ process_that_takes test kind bytes x fits e =
     let parts = and_parts (leb x.0 63) (test x.0) t.2 in
     (t.0, leb-true x.0 63 parts.0, parts.1)
 
-pub process_that_again : (test : ℕ → Bool) (kind : FaultKind) (p : ℕ) (rest : List ℕ) → p ≤ 63 → test p ≡ true → process_that test kind (p ∷ rest) ≡ Ok (p, rest)
+pub process_that_again : (test : ℕ → Bool) (kind : FaultKind) (p : ℕ) (rest : List ℕ) → p ≤ 63 → test p ≡ true
+    → process_that test kind (p ∷ rest) ≡ Ok (p, rest)
 unfolding process_that
-process_that_again test kind p rest le t = byte_that_again (λ q. leb q 63 && test q) kind p rest (and_from (leb p 63) (test p) (le-leb p 63 le) t)
+process_that_again test kind p rest le t = byte_that_again (λ q. leb q 63 && test q) kind p rest
+    (and_from (leb p 63) (test p) (le-leb p 63 le) t)
 
-pub text_takes : (most : ℕ) (bytes : List ℕ) (x : List ℕ × List ℕ) → IsBytes bytes → text_at most bytes ≡ Ok x → Takes bytes (text x.0) x.1 × (length x.0 < 65536) × (length x.0 ≤ most)
+pub text_takes : (most : ℕ) (bytes : List ℕ) (x : List ℕ × List ℕ) → IsBytes bytes → text_at most bytes ≡ Ok x
+    → Takes bytes (text x.0) x.1 × (length x.0 < 65536) × (length x.0 ≤ most)
 unfolding text_at
 text_takes most bytes x fits e =
     let a = bind_ok (tested (λ n. leb n most) faults.Field (wide_at w16) bytes) _ x e in
@@ -110,7 +121,8 @@ unfolding text_at
 text_again most out rest fits le =
     let bytes : List ℕ = two_bytes (length out) ++ (out ++ rest) in
     let len : tested (λ n. leb n most) faults.Field (wide_at w16) bytes ≡ Ok (length out, out ++ rest) =
-    tested_again (λ n. leb n most) faults.Field (wide_at w16) bytes (length out) (out ++ rest) (short_again (fault_at faults.Short bytes) (length out) (out ++ rest) fits) (le-leb (length out) most le) in
+    tested_again (λ n. leb n most) faults.Field (wide_at w16) bytes (length out) (out ++ rest)
+    (short_again (fault_at faults.Short bytes) (length out) (out ++ rest) fits) (le-leb (length out) most le) in
     ap (text_at most) (append_assoc (two_bytes (length out)) out rest)
     ∙ ap (λ (read : Step ℕ). read >>= λ n. field_at n.0 n.1) len
     ∙ bytes_again (fault_at faults.Short (out ++ rest)) out rest
@@ -134,32 +146,40 @@ pub done_stable : {A : Type 0} (a : A) → IsStable (λ bytes. Ok (a, bytes))
 done_stable a bytes more = (refl, omega arith)
 
 -- the same beside more bytes before
-goes_behind : {A : Type 0} (all bytes more : List ℕ) (short longer : Step A) → length bytes ≤ length all → Goes bytes more short longer → Goes all more short longer
+goes_behind : {A : Type 0} (all bytes more : List ℕ) (short longer : Step A) → length bytes ≤ length all → Goes bytes more short longer
+    → Goes all more short longer
 goes_behind all bytes more (Ok x) longer le goes = (goes.0, omega (arith, goes.1))
 goes_behind all bytes more (Err found) longer le goes = goes
 
-pub then_goes : {A B : Type 0} (bytes more : List ℕ) (short longer : Step A) (k : A → List ℕ → Step B) → Goes bytes more short longer → ((a : A) → IsStable (k a))
+pub then_goes : {A B : Type 0} (bytes more : List ℕ) (short longer : Step A) (k : A → List ℕ → Step B) → Goes bytes more short longer
+    → ((a : A) → IsStable (k a))
     → Goes bytes more (short >>= λ x. k x.0 x.1) (longer >>= λ x. k x.0 x.1)
-then_goes bytes more (Ok x) longer k goes stable = rw goes.0 (goes_behind bytes x.1 more (k x.0 x.1) (k x.0 (x.1 ++ more)) goes.1 (stable x.0 x.1 more))
+then_goes bytes more (Ok x) longer k goes stable = rw goes.0
+    (goes_behind bytes x.1 more (k x.0 x.1) (k x.0 (x.1 ++ more)) goes.1 (stable x.0 x.1 more))
 then_goes bytes more (Err found) longer k (inl short) stable = inl short
 then_goes bytes more (Err found) longer k (inr same) stable = inr (rw same refl)
 
-pub then_stable : {A B : Type 0} (step : List ℕ → Step A) (k : A → List ℕ → Step B) → IsStable step → ((a : A) → IsStable (k a)) → IsStable (λ bytes. step bytes >>= λ x. k x.0 x.1)
+pub then_stable : {A B : Type 0} (step : List ℕ → Step A) (k : A → List ℕ → Step B) → IsStable step → ((a : A) → IsStable (k a))
+    → IsStable (λ bytes. step bytes >>= λ x. k x.0 x.1)
 then_stable step k first others bytes more = then_goes bytes more (step bytes) (step (bytes ++ more)) k (first bytes more) others
 
 -- the table's answer at a longer input
 answer_goes : {B : Type 0} (kind : FaultKind) (bytes rest more : List ℕ) (o : Option B) → length rest ≤ length bytes
-    → Goes bytes more (ok_or o (fault_at kind bytes) >>= λ is. Ok (is, rest)) (ok_or o (fault_at kind (bytes ++ more)) >>= λ is. Ok (is, rest ++ more))
+    → Goes bytes more (ok_or o (fault_at kind bytes) >>= λ is. Ok (is, rest))
+    (ok_or o (fault_at kind (bytes ++ more)) >>= λ is. Ok (is, rest ++ more))
 answer_goes kind bytes rest more None le = inr (ap (λ (n : ℕ). Err (record { kind = kind; left = n })) (length-append bytes more))
 answer_goes kind bytes rest more (Some b) le = (refl, le)
 
-known_goes : {A B : Type 0} (table : A → Option B) (kind : FaultKind) (bytes more : List ℕ) (short longer : Step A) → Goes bytes more short longer
-    → Goes bytes more (short >>= λ read. ok_or (table read.0) (fault_at kind bytes) >>= λ is. Ok (is, read.1)) (longer >>= λ read. ok_or (table read.0) (fault_at kind (bytes ++ more)) >>= λ is. Ok (is, read.1))
+known_goes : {A B : Type 0} (table : A → Option B) (kind : FaultKind) (bytes more : List ℕ) (short longer : Step A)
+    → Goes bytes more short longer
+    → Goes bytes more (short >>= λ read. ok_or (table read.0) (fault_at kind bytes) >>= λ is. Ok (is, read.1))
+    (longer >>= λ read. ok_or (table read.0) (fault_at kind (bytes ++ more)) >>= λ is. Ok (is, read.1))
 known_goes table kind bytes more (Ok x) longer goes = rw goes.0 (answer_goes kind bytes x.1 more (table x.0) goes.1)
 known_goes table kind bytes more (Err found) longer (inl short) = inl short
 known_goes table kind bytes more (Err found) longer (inr same) = inr (rw same refl)
 
-pub known_stable : {A B : Type 0} (table : A → Option B) (kind : FaultKind) (step : List ℕ → Step A) → IsStable step → IsStable (known table kind step)
+pub known_stable : {A B : Type 0} (table : A → Option B) (kind : FaultKind) (step : List ℕ → Step A) → IsStable step
+    → IsStable (known table kind step)
 known_stable table kind step stable bytes more = known_goes table kind bytes more (step bytes) (step (bytes ++ more)) (stable bytes more)
 
 pub wide_stable : (w : Width) → IsStable (wide_at w)
@@ -169,7 +189,8 @@ wide_stable w bytes more =
       | inr le ↦
           let here : ltb (length bytes) (byte_len w) ≡ false = le-ltb _ _ le in
           let there : ltb (length (bytes ++ more)) (byte_len w) ≡ false = le-ltb _ _ (omega (arith, length-append bytes more)) in
-          rw (here, there, take-append-le (byte_len w) bytes more le, drop-append-le (byte_len w) bytes more le) (refl, omega (arith, length-drop (byte_len w) bytes))
+          rw (here, there, take-append-le (byte_len w) bytes more le, drop-append-le (byte_len w) bytes more le)
+          (refl, omega (arith, length-drop (byte_len w) bytes))
     ]
 
 pub field_stable : (n : ℕ) → IsStable (field_at n)
@@ -192,4 +213,5 @@ process_that_stable test kind = byte_that_stable (λ p. leb p 63 && test p) kind
 
 pub text_stable : (most : ℕ) → IsStable (text_at most)
 unfolding text_at
-text_stable most = then_stable (tested (λ n. leb n most) faults.Field (wide_at w16)) (λ n rest. field_at n rest) (known_stable (passing (λ n. leb n most)) faults.Field (wide_at w16) (wide_stable w16)) (λ n. field_stable n)
+text_stable most = then_stable (tested (λ n. leb n most) faults.Field (wide_at w16)) (λ n rest. field_at n rest)
+    (known_stable (passing (λ n. leb n most)) faults.Field (wide_at w16) (wide_stable w16)) (λ n. field_stable n)

@@ -79,7 +79,8 @@ submitted_small i state =
     let payload : List ℕ = (bytes_drawn count len).0 in
     let size : length payload ≡ count = length_drawn count len in
     let few : length payload < 64 = omega (arith, size) in
-    both 1 67 60 13 (Submit (i % 3) payload ∷ []) (Drain 60 all_four ∷ []) (submit_small (i % 3) payload (omega arith) few) (drain_small 60 (lit< tt))
+    both 1 67 60 13 (Submit (i % 3) payload ∷ []) (Drain 60 all_four ∷ []) (submit_small (i % 3) payload (omega arith) few)
+    (drain_small 60 (lit< tt))
 
 hostile_small : (state : ℕ) → Small 1 13 (hostile state).0
 unfolding hostile
@@ -110,7 +111,8 @@ unfolding rounds
 rounds_small zero i state = none 0 0
 rounds_small (suc n) i state =
     wider (264 + n * 264) (110 + n * 110) (suc n * 264) (suc n * 110) _ (omega arith) (omega arith)
-    (both 264 110 (n * 264) (n * 110) (round i state).0 (rounds n (i + 1) (round i state).1) (round_small i state) (rounds_small n (i + 1) (round i state).1))
+    (both 264 110 (n * 264) (n * 110) (round i state).0 (rounds n (i + 1) (round i state).1) (round_small i state)
+    (rounds_small n (i + 1) (round i state).1))
 
 -- ---- the whole
 
@@ -128,7 +130,12 @@ header_fits number = record {
   limit = refl;
   group = refl;
   some = refl;
-  processes = (lit≤ tt, lit≤ tt, (refl, lit< tt), (lit≤ tt, lit≤ tt, (refl, lit< tt), (lit≤ tt, lit≤ tt, (refl, lit< tt), (lit≤ tt, lit≤ tt, (refl, lit< tt), tt))));
+  processes = (
+    lit≤ tt,
+    lit≤ tt,
+    (refl, lit< tt),
+    (lit≤ tt, lit≤ tt, (refl, lit< tt), (lit≤ tt, lit≤ tt, (refl, lit< tt), (lit≤ tt, lit≤ tt, (refl, lit< tt), tt))),
+  );
   members = refl;
   listed = (refl, (refl, (refl, (refl, tt))));
   distinct = members_distinct;
@@ -154,5 +161,10 @@ generated_fits number =
       header = header_fits number;
       events = events_fit number;
       steps = omega (arith, small.few);
-      size = omega (arith, small.short, header_short number, length-append (header_bytes (generated number).header) (flat_map event_bytes (generated number).events));
+      size = omega (
+        arith,
+        small.short,
+        header_short number,
+        length-append (header_bytes (generated number).header) (flat_map event_bytes (generated number).events),
+      );
     }

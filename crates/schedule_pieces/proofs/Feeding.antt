@@ -27,14 +27,16 @@ begins r none going taken steps empty =
 
 -- behind a header
 pub feeds_events : (r : Inside) (window piece : List ℕ) → r.has_header ≡ true → window ≡ r.window ++ piece
-    → (fed : List ℕ) (es : List ScheduleEvent) → Stands (reading r) fed es → Stands (reading (record r { window = window })) (fed ++ piece) es
+    → (fed : List ℕ) (es : List ScheduleEvent) → Stands (reading r) fed es
+    → Stands (reading (record r { window = window })) (fed ++ piece) es
 feeds_events r window piece has is fed es stands =
     let known : (reading r).header ≡ Some (views.header r.header) = rw has refl in
     rw is (stands_fed (views.header r.header) (reading r) fed piece es known stands)
 
 -- the header is not whole yet
 pub feeds_partial : (r : Inside) (window piece : List ℕ) → r.has_header ≡ false → window ≡ r.window ++ piece → IsErr (header_at window)
-    → (fed : List ℕ) (es : List ScheduleEvent) → Stands (reading r) fed es → Stands (reading (record r { window = window })) (fed ++ piece) es
+    → (fed : List ℕ) (es : List ScheduleEvent) → Stands (reading r) fed es
+    → Stands (reading (record r { window = window })) (fed ++ piece) es
 feeds_partial r window piece has is partial fed es stands =
     let none : (reading r).header ≡ None = rw has refl in
     let nothing = nothing_taken (reading r) fed es none stands in
@@ -46,7 +48,8 @@ feeds_partial r window piece has is partial fed es stands =
     subst (λ (t : List ℕ). Stands longer t es) all (subst (λ (given : List ScheduleEvent). Stands longer window given) (sym nothing.0) now)
 
 -- the header became whole
-pub feeds_header : (r : Inside) (s : Reading) (h : Header) (window piece : List ℕ) (size : ℕ) → r.has_header ≡ false → window ≡ r.window ++ piece → length window ≤ most_waiting
+pub feeds_header : (r : Inside) (s : Reading) (h : Header) (window piece : List ℕ) (size : ℕ) → r.has_header ≡ false
+    → window ≡ r.window ++ piece → length window ≤ most_waiting
     → header_at window ≡ Ok (h, drop size window) → size ≤ length window
     → s.header ≡ Some h → s.fault ≡ r.fault → s.steps ≡ r.steps → s.taken ≡ size → s.waiting ≡ drop size window
     → (fed : List ℕ) (es : List ScheduleEvent) → Stands (reading r) fed es → Stands s (fed ++ piece) es
@@ -56,6 +59,8 @@ feeds_header r s h window piece size has is few read within now going steps take
     let all : window ≡ fed ++ piece = is ∙ ap (λ (t : List ℕ). t ++ piece) nothing.1 in
     let small : length (fed ++ piece) ≤ most_bytes = omega (arith, few, window_is_less, ap (λ (t : List ℕ). length t) all) in
     let read_now : header_at (fed ++ piece) ≡ Ok (h, s.waiting) = rw (← all, waiting) read in
-    let sizes : s.taken + length s.waiting ≡ length (fed ++ piece) = rw (taken, waiting, ← all) (omega (arith, within, length-drop size window)) in
-    let behind : Stands s (fed ++ piece) [] = stands_behind h s (fed ++ piece) now (going ∙ stands.unstopped) (steps ∙ nothing.2) small read_now sizes in
+    let sizes : s.taken + length s.waiting
+    ≡ length (fed ++ piece) = rw (taken, waiting, ← all) (omega (arith, within, length-drop size window)) in
+    let behind : Stands s (fed ++ piece) [] = stands_behind h s (fed ++ piece) now (going ∙ stands.unstopped)
+    (steps ∙ nothing.2) small read_now sizes in
     subst (λ (given : List ScheduleEvent). Stands s (fed ++ piece) given) (sym nothing.0) behind

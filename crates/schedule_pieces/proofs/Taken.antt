@@ -18,7 +18,8 @@ end_of bytes front rest parts = record {
   is = end_rest bytes rest front parts;
 }
 
-pub end_of_event : (roles : Roles) (ls : List Listed) (left : ℕ) (bytes : List ℕ) (e : ScheduleEvent) (rest : List ℕ) → roles ≡ roles_of ls → IsBytes bytes → event_at roles left bytes ≡ Ok (e, rest) → IsEnd bytes rest
+pub end_of_event : (roles : Roles) (ls : List Listed) (left : ℕ) (bytes : List ℕ) (e : ScheduleEvent) (rest : List ℕ) → roles ≡ roles_of ls
+    → IsBytes bytes → event_at roles left bytes ≡ Ok (e, rest) → IsEnd bytes rest
 end_of_event roles ls left bytes e rest known fits read =
     let same : event_at (roles_of ls) left bytes ≡ Ok (e, rest) = subst (λ (r : Roles). event_at r left bytes ≡ Ok (e, rest)) known read in
     end_of bytes (event_bytes e) rest (event_takes ls left bytes (e, rest) fits same).0.parts

@@ -14,14 +14,18 @@ module _ (roles : Roles) where
   unfolding most_steps
   begins bytes = none_before (all_from roles 1000000 bytes)
 
-  pub goes_on : (left : ℕ) (bytes : List ℕ) (e : ScheduleEvent) (after : List ℕ) (before : List ScheduleEvent) (all : Result (List ScheduleEvent) Found) → event_at roles left bytes ≡ Ok (e, after)
-      → behind_events before (all_from roles left bytes) ≡ all → behind_events (before ++ e ∷ []) (all_from roles (left - steps_of e) after) ≡ all
+  pub goes_on : (left : ℕ) (bytes : List ℕ) (e : ScheduleEvent) (after : List ℕ) (before : List ScheduleEvent)
+      (all : Result (List ScheduleEvent) Found) → event_at roles left bytes ≡ Ok (e, after)
+      → behind_events before (all_from roles left bytes) ≡ all
+      → behind_events (before ++ e ∷ []) (all_from roles (left - steps_of e) after) ≡ all
   goes_on left bytes e after before all read so_far = sym (one_more roles left bytes before e after read) ∙ so_far
 
-  pub fails : (left : ℕ) (bytes : List ℕ) (e : ReadError) (before : List ScheduleEvent) (all : Result (List ScheduleEvent) Found) → 0 < length bytes → Fails found_of e (event_at roles left bytes)
+  pub fails : (left : ℕ) (bytes : List ℕ) (e : ReadError) (before : List ScheduleEvent) (all : Result (List ScheduleEvent) Found)
+      → 0 < length bytes → Fails found_of e (event_at roles left bytes)
       → behind_events before (all_from roles left bytes) ≡ all → Fails found_of e all
   fails left bytes errors.NoMemory before all some bad so_far = tt
   fails left bytes (errors.Found f) before all some bad so_far = sym so_far ∙ no_more roles left bytes before f (omega arith) bad
 
-  pub is_done : (left : ℕ) (bytes : List ℕ) (before : List ScheduleEvent) (all : Result (List ScheduleEvent) Found) → length bytes ≡ 0 → behind_events before (all_from roles left bytes) ≡ all → all ≡ Ok before
+  pub is_done : (left : ℕ) (bytes : List ℕ) (before : List ScheduleEvent) (all : Result (List ScheduleEvent) Found) → length bytes ≡ 0
+      → behind_events before (all_from roles left bytes) ≡ all → all ≡ Ok before
   is_done left bytes before all none so_far = sym so_far ∙ all_read roles left bytes before none

@@ -22,12 +22,14 @@ pass = 3 ∷ 0 ∷ 0 ∷ 0 ∷ 0 ∷ 0 ∷ []
 
 -- the event is the first, the frame's number 0, and 0 frames are sent
 frame_not_sent : report_of false (alone ++ pass) ≡ Err (Stops (NoSuchFrame 0 0 0))
-unfolding byte_that process_that setting_at limit_at header_at processes_at all_listed_at listed_at key_at plain_at genesis_at members_at whole_of schedule_of most_bytes most_steps events_at event_at tag_at steps_at fields_at pass_at report_of run_events most_sent
+unfolding byte_that process_that setting_at limit_at header_at processes_at all_listed_at listed_at key_at plain_at genesis_at members_at
+    whole_of schedule_of most_bytes most_steps events_at event_at tag_at steps_at fields_at pass_at report_of run_events most_sent
 frame_not_sent = refl
 
 -- with no tag behind it the bytes have a fault, which comes first
 tag_before_frame : report_of false (alone ++ pass ++ 10 ∷ []) ≡ Err (NoSchedule (record { kind = faults.Tag; place = 68 }))
-unfolding byte_that process_that setting_at limit_at header_at processes_at all_listed_at listed_at key_at plain_at genesis_at members_at whole_of schedule_of most_bytes most_steps events_at event_at tag_at steps_at fields_at pass_at report_of
+unfolding byte_that process_that setting_at limit_at header_at processes_at all_listed_at listed_at key_at plain_at genesis_at members_at
+    whole_of schedule_of most_bytes most_steps events_at event_at tag_at steps_at fields_at pass_at report_of
 tag_before_frame = refl
 
 -- what is told of both, behind `stop 7`
@@ -64,12 +66,16 @@ no_events : report_of false four ≡ Ok (lines (
     ∷ codes "process 1 open 1 0 0" ∷ codes "view 1 0 : 0 1 2 3"
     ∷ codes "process 2 open 1 0 0" ∷ codes "view 2 0 : 0 1 2 3"
     ∷ codes "process 3 open 1 0 0" ∷ codes "view 3 0 : 0 1 2 3" ∷ answers))
-unfolding ℕ_discrete bytes_discrete option_discrete pair_discrete Value-discrete Message-discrete list_discrete Batch-discrete View-discrete Letter-discrete Delivered-discrete after run byte_that process_that setting_at limit_at header_at processes_at all_listed_at listed_at key_at plain_at genesis_at members_at whole_of schedule_of most_bytes most_steps events_at report_of run_events digits
+unfolding ℕ_discrete bytes_discrete option_discrete pair_discrete Value-discrete Message-discrete list_discrete Batch-discrete View-discrete
+    Letter-discrete Delivered-discrete after run byte_that process_that setting_at limit_at header_at processes_at all_listed_at listed_at
+    key_at plain_at genesis_at members_at whole_of schedule_of most_bytes most_steps events_at report_of run_events digits
 no_events = refl
 
 -- and in short
 no_events_short : report_of true four ≡ Ok (lines (
     codes "rampart report 1" ∷ codes "events 0" ∷ codes "refused 0"
     ∷ codes "process 0 open 1 0 0" ∷ codes "process 1 open 1 0 0" ∷ codes "process 2 open 1 0 0" ∷ codes "process 3 open 1 0 0" ∷ answers))
-unfolding ℕ_discrete bytes_discrete option_discrete pair_discrete Value-discrete Message-discrete list_discrete Batch-discrete View-discrete Letter-discrete Delivered-discrete after run byte_that process_that setting_at limit_at header_at processes_at all_listed_at listed_at key_at plain_at genesis_at members_at whole_of schedule_of most_bytes most_steps events_at report_of run_events digits
+unfolding ℕ_discrete bytes_discrete option_discrete pair_discrete Value-discrete Message-discrete list_discrete Batch-discrete View-discrete
+    Letter-discrete Delivered-discrete after run byte_that process_that setting_at limit_at header_at processes_at all_listed_at listed_at
+    key_at plain_at genesis_at members_at whole_of schedule_of most_bytes most_steps events_at report_of run_events digits
 no_events_short = refl

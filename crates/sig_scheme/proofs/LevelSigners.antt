@@ -18,7 +18,14 @@ module _ (levels typecode : ℕ) (ots : OtsType) (id seed : List ℕ) (key : Hss
 
   -- its trees are made from the secret
   same : secret key.plan ≡ hss_secret levels typecode ots id seed
-  same = λ i. record { levels = made.plan.has_levels i; code = made.plan.has_typecode i; kind = made.plan.has_ots i; h = height_is i; id = made.plan.has_id i; seed = made.plan.has_seed i }
+  same = λ i. record {
+    levels = made.plan.has_levels i;
+    code = made.plan.has_typecode i;
+    kind = made.plan.has_ots i;
+    h = height_is i;
+    id = made.plan.has_id i;
+    seed = made.plan.has_seed i;
+  }
 
   pub hss_signer : IsSignerOf (secrets.Hss levels typecode ots id seed) (Hss key)
   hss_signer = record {

@@ -33,19 +33,24 @@ length-tree_id key d t size = ⊎_elim top lower (cases_Bool (d == 0))
 pub length-tree_key : (key : HssSecret) (d t : ℕ) → length key.id ≡ 16 → length (tree_key key d t) ≡ 56
 length-tree_key key d t size = key_length key.kind key.code key.h (tree_id key d t) (tree_seed key d t) (length-tree_id key d t size)
 
-pub length-level_signature : (key : HssSecret) (c d : ℕ) (text : List ℕ) → length (level_signature key c d text) ≡ lms_signature_length key.kind key.h
-length-level_signature key c d text = sig_length key.kind key.code key.h (tree_id key d (tree_number key d c)) (tree_seed key d (tree_number key d c)) (leaf_number key d c) text
+pub length-level_signature : (key : HssSecret) (c d : ℕ) (text : List ℕ)
+    → length (level_signature key c d text) ≡ lms_signature_length key.kind key.h
+length-level_signature key c d text = sig_length key.kind key.code key.h (tree_id key d (tree_number key d c))
+    (tree_seed key d (tree_number key d c)) (leaf_number key d c) text
 
-pub length-signed_key : (key : HssSecret) (c d : ℕ) → length key.id ≡ 16 → length (signed_key key c d) ≡ lms_signature_length key.kind key.h + 56
+pub length-signed_key : (key : HssSecret) (c d : ℕ) → length key.id ≡ 16
+    → length (signed_key key c d) ≡ lms_signature_length key.kind key.h + 56
 length-signed_key key c d size =
     let below : List ℕ = tree_key key (d + 1) (tree_number key (d + 1) c) in
     length-append (level_signature key c d below) below
     ∙ omega (arith, length-level_signature key c d below, length-tree_key key (d + 1) (tree_number key (d + 1) c) size)
 
-pub length-signed_keys : (key : HssSecret) (c : ℕ) → length key.id ≡ 16 → length (signed_keys key c) ≡ 4 + (key.levels - 1) * (lms_signature_length key.kind key.h + 56)
+pub length-signed_keys : (key : HssSecret) (c : ℕ) → length key.id ≡ 16
+    → length (signed_keys key c) ≡ 4 + (key.levels - 1) * (lms_signature_length key.kind key.h + 56)
 length-signed_keys key c size =
     length-append (u32str (key.levels - 1)) (strings (signed_key key c) (key.levels - 1))
-    ∙ ap (λ n. 4 + n) (length-strings (signed_key key c) (key.levels - 1) (lms_signature_length key.kind key.h + 56) (λ d. length-signed_key key c d size))
+    ∙ ap (λ n. 4 + n) (length-strings (signed_key key c) (key.levels - 1) (lms_signature_length key.kind key.h + 56)
+    (λ d. length-signed_key key c d size))
 
 -- ---- what is signed is valid
 
@@ -58,7 +63,8 @@ one_level n len key message s below rest known ls lb signed deeper =
     let front : take len (s ++ below ++ rest) ≡ s = ap (take len) whole ∙ take_at s (below ++ rest) len ls in
     let behind : drop len (s ++ below ++ rest) ≡ below ++ rest = ap (drop len) whole ∙ drop_at s (below ++ rest) len ls in
     let next : part len 56 (s ++ below ++ rest) ≡ below = ap (take 56) behind ∙ take_at below rest 56 lb in
-    let after : drop (len + 56) (s ++ below ++ rest) ≡ rest = sym (drop-drop 56 len (s ++ below ++ rest)) ∙ ap (drop 56) behind ∙ drop_at below rest 56 lb in
+    let after : drop (len + 56) (s ++ below ++ rest)
+    ≡ rest = sym (drop-drop 56 len (s ++ below ++ rest)) ∙ ap (drop 56) behind ∙ drop_at below rest 56 lb in
     some_and (length_under key) len _ known (rw (front, next, after) (and_from _ _ signed deeper))
 
 levels_none : (key message sig : List ℕ) → levels_valid 0 key message sig ≡ lms_valid key message sig
@@ -83,7 +89,8 @@ module _ (key : HssSecret) (c : ℕ) (message : List ℕ) (is : IsHssSecret key)
   level_is_valid d text =
       let t : ℕ = tree_number key d c in
       let q : ℕ = c / 2 ^ (key.h * (key.levels - 1 - d)) in
-      signature_is_valid key.kind key.code key.h (tree_id key d t) (tree_seed key d t) (leaf_number key d c) text is.known (length-tree_id key d t is.sized) (mod_below q (2 ^ key.h) (pow_pos key.h))
+      signature_is_valid key.kind key.code key.h (tree_id key d t) (tree_seed key d t)
+      (leaf_number key d c) text is.known (length-tree_id key d t is.sized) (mod_below q (2 ^ key.h) (pow_pos key.h))
 
   length_known : (d t : ℕ) → length_under (tree_key key d t) ≡ Some (lms_signature_length key.kind key.h)
   length_known d t =
@@ -93,18 +100,22 @@ module _ (key : HssSecret) (c : ℕ) (message : List ℕ) (is : IsHssSecret key)
       rw (height, kind) refl
 
   -- from level d on
-  from_level : (n d : ℕ) → n + d ≡ key.levels - 1 → levels_valid n (tree_key key d (tree_number key d c)) message (drop (k * d) below_top) ≡ true
+  from_level : (n d : ℕ) → n + d ≡ key.levels - 1
+      → levels_valid n (tree_key key d (tree_number key d c)) message (drop (k * d) below_top) ≡ true
   from_level zero d e =
       let at : d ≡ key.levels - 1 = omega arith in
       let size : length (strings (signed_key key c) (key.levels - 1)) ≡ k * d =
       length-strings (signed_key key c) (key.levels - 1) k (λ j. length-signed_key key c j is.sized) ∙ rw (← at) (mul_comm d k) in
-      rw (drop_at (strings (signed_key key c) (key.levels - 1)) last (k * d) size, levels_none, at) (level_is_valid (key.levels - 1) message)
+      rw (drop_at (strings (signed_key key c) (key.levels - 1)) last (k * d) size, levels_none, at)
+      (level_is_valid (key.levels - 1) message)
   from_level (suc n) d e =
       let below : List ℕ = tree_key key (d + 1) (tree_number key (d + 1) c) in
       let front = front_string (signed_key key c) k (λ j. length-signed_key key c j is.sized) (key.levels - 1) d last (omega arith) in
       rw front
-      (one_level n (lms_signature_length key.kind key.h) (tree_key key d (tree_number key d c)) message (level_signature key c d below) below (drop (k * (d + 1)) below_top)
-      (length_known d (tree_number key d c)) (length-level_signature key c d below) (length-tree_key key (d + 1) (tree_number key (d + 1) c) is.sized)
+      (one_level n (lms_signature_length key.kind key.h)
+      (tree_key key d (tree_number key d c)) message (level_signature key c d below) below (drop (k * (d + 1)) below_top)
+      (length_known d (tree_number key d c)) (length-level_signature key c d below)
+      (length-tree_key key (d + 1) (tree_number key (d + 1) c) is.sized)
       (level_is_valid d below) (from_level n (d + 1) (omega arith)))
 
 pub hss_signature_is_valid : HssSignatureIsValid
@@ -114,11 +125,13 @@ hss_signature_is_valid key c message is =
     let fits : key.levels < 2 ^ 32 = omega (arith, is.few) in
     let named : u32_at 0 public ≡ key.levels = from_be_bytes-to_be_bytes_4 key.levels fits in
     let counted : u32_at 0 sig ≡ key.levels - 1 = from_be_bytes-to_be_bytes_4 (key.levels - 1) (omega arith) in
-    let long : length public ≡ 60 = length-append (u32str key.levels) (tree_key key 0 0) ∙ ap (λ n. 4 + n) (length-tree_key key 0 0 is.sized) in
+    let long : length public ≡ 60 = length-append (u32str key.levels) (tree_key key 0 0) ∙ ap (λ n. 4 + n)
+    (length-tree_key key 0 0 is.sized) in
     let some : 1 ≤ u32_at 0 public = rw named is.some in
     let few : u32_at 0 public ≤ 8 = rw named is.few in
     let starts : 4 ≤ length sig = simp length-append (omega arith) in
-    let walk : levels_valid (key.levels - 1) (tree_key key 0 0) message (drop 4 sig) ≡ true = rw mul-zero at (from_level key c message is (key.levels - 1) 0 (omega arith)) in
+    let walk : levels_valid (key.levels - 1) (tree_key key 0 0) message (drop 4 sig)
+    ≡ true = rw mul-zero at (from_level key c message is (key.levels - 1) 0 (omega arith)) in
     and_from _ _
     (and_from _ _
     (and_from _ _
@@ -130,7 +143,8 @@ hss_signature_is_valid key c message is =
 -- ---- no leaf signs two texts
 
 -- a tree's number is that of the leaf's place along the level, cut to whole trees
-pub number_of_place : (key : HssSecret) (d c : ℕ) → d < key.levels → tree_number key d c ≡ c / 2 ^ (key.h * (key.levels - 1 - d)) / 2 ^ key.h
+pub number_of_place : (key : HssSecret) (d c : ℕ) → d < key.levels
+    → tree_number key d c ≡ c / 2 ^ (key.h * (key.levels - 1 - d)) / 2 ^ key.h
 number_of_place key d c lt =
     let e : ℕ = key.levels - 1 - d in
     let up : key.levels - d ≡ suc e = omega arith in
@@ -159,7 +173,8 @@ leaf_signs_one_text key d c c' message message' lt differ tree leaf = ⊎_elim l
 -- ---- signatures that use one tree of the lowest level
 
 -- the trees above it are then the same
-pub same_trees : (key : HssSecret) (c c' d : ℕ) → d < key.levels → tree_number key (key.levels - 1) c ≡ tree_number key (key.levels - 1) c' → tree_number key d c ≡ tree_number key d c'
+pub same_trees : (key : HssSecret) (c c' d : ℕ) → d < key.levels → tree_number key (key.levels - 1) c ≡ tree_number key (key.levels - 1) c'
+    → tree_number key d c ≡ tree_number key d c'
 same_trees key c c' d lt same =
     let e : ℕ = key.levels - 1 - d in
     let height : key.h * (key.levels - d) ≡ key.h * (key.levels - (key.levels - 1)) + key.h * e =
@@ -170,7 +185,8 @@ same_trees key c c' d lt same =
     λ n. rw height (sym (shr-shr n (key.h * (key.levels - (key.levels - 1))) (key.h * e))) in
     above c ∙ ap (λ t. t / 2 ^ (key.h * e)) same ∙ sym (above c')
 
-same_signed_key : (key : HssSecret) (c c' d : ℕ) → d + 1 < key.levels → tree_number key (key.levels - 1) c ≡ tree_number key (key.levels - 1) c' → signed_key key c d ≡ signed_key key c' d
+same_signed_key : (key : HssSecret) (c c' d : ℕ) → d + 1 < key.levels
+    → tree_number key (key.levels - 1) c ≡ tree_number key (key.levels - 1) c' → signed_key key c d ≡ signed_key key c' d
 same_signed_key key c c' d lt same =
     let next : key.levels - 1 - d ≡ key.levels - (d + 1) = omega arith in
     let here : tree_number key d c ≡ tree_number key d c' = same_trees key c c' d (omega arith) same in
@@ -179,7 +195,9 @@ same_signed_key key c c' d lt same =
     rw (here, below, leaf) refl
 
 -- and so are the signed keys
-pub same_signed_keys : (key : HssSecret) (c c' : ℕ) → tree_number key (key.levels - 1) c ≡ tree_number key (key.levels - 1) c' → signed_keys key c ≡ signed_keys key c'
+pub same_signed_keys : (key : HssSecret) (c c' : ℕ) → tree_number key (key.levels - 1) c ≡ tree_number key (key.levels - 1) c'
+    → signed_keys key c ≡ signed_keys key c'
 same_signed_keys key c c' same =
-    let keys = same_strings (signed_key key c) (signed_key key c') (key.levels - 1) (λ d lt. same_signed_key key c c' d (omega arith) same) in
+    let keys = same_strings (signed_key key c) (signed_key key c') (key.levels - 1)
+    (λ d lt. same_signed_key key c c' d (omega arith) same) in
     ap (λ (s : List ℕ). u32str (key.levels - 1) ++ s) keys

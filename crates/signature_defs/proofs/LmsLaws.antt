@@ -44,15 +44,21 @@ tested code c x small low t =
 pub known_height : (code h : ℕ) → lms_height_of code ≡ Some h → (code ≤ 9) × (h ≤ 25)
 known_height code h e =
     let rows : List (Bool × ℕ) = (code == 5, 5) ∷ (code == 6, 10) ∷ (code == 7, 15) ∷ (code == 8, 20) ∷ (code == 9, 25) ∷ [] in
-    chosen (λ x. (code ≤ 9) × (x ≤ 25)) rows h
-    (tested code 5 5 (lit≤ tt) (lit≤ tt), (tested code 6 10 (lit≤ tt) (lit≤ tt), (tested code 7 15 (lit≤ tt) (lit≤ tt), (tested code 8 20 (lit≤ tt) (lit≤ tt), (tested code 9 25 (lit≤ tt) (lit≤ tt), tt)))))
+    chosen (λ x. (code ≤ 9) × (x ≤ 25)) rows h (
+      tested code 5 5 (lit≤ tt) (lit≤ tt),
+      (
+        tested code 6 10 (lit≤ tt) (lit≤ tt),
+        (tested code 7 15 (lit≤ tt) (lit≤ tt), (tested code 8 20 (lit≤ tt) (lit≤ tt), (tested code 9 25 (lit≤ tt) (lit≤ tt), tt))),
+      ),
+    )
     e
 
 -- ---- the key's fields
 
 module _ (kind : OtsType) (code h : ℕ) (id seed : List ℕ) (size : length id ≡ 16) where
   root_is : part 24 32 (lms_public_key code kind h id seed) ≡ node kind h id seed h 1
-  root_is = part_behind id (node kind h id seed h 1) 16 0 32 size ∙ take_all 32 (node kind h id seed h 1) (omega (arith, length-node kind h id seed h 1))
+  root_is = part_behind id (node kind h id seed h 1) 16 0 32 size ∙ take_all 32 (node kind h id seed h 1)
+      (omega (arith, length-node kind h id seed h 1))
 
   id_is : part 8 16 (lms_public_key code kind h id seed) ≡ id
   id_is = part_front id (node kind h id seed h 1) 16 size
@@ -86,7 +92,13 @@ module _ (kind : OtsType) (code h : ℕ) (id seed : List ℕ) (q : ℕ) (message
   pub sig_length : length sig ≡ lms_signature_length kind h
   sig_length =
       let path = length-strings (path_node kind h id seed q) h 32 (λ i. length-node kind h id seed i _) in
-      omega (arith, length-append (u32str q ++ signed ++ u32str code) nodes, length-append (u32str q ++ signed) (u32str code), front_length, path)
+      omega (
+        arith,
+        length-append (u32str q ++ signed ++ u32str code) nodes,
+        length-append (u32str q ++ signed) (u32str code),
+        front_length,
+        path,
+      )
 
   leaf_is : q < 2 ^ 32 → u32_at 0 sig ≡ q
   leaf_is small = from_be_bytes-to_be_bytes_4 q small
@@ -95,7 +107,8 @@ module _ (kind : OtsType) (code h : ℕ) (id seed : List ℕ) (q : ℕ) (message
   ots_type_is = from_be_bytes-to_be_bytes_4 (ots_typecode kind) (typecode_small kind)
 
   ots_is : part 4 (ots_signature_length kind) sig ≡ signed
-  ots_is = ap (take (ots_signature_length kind)) (append_assoc signed (u32str code) nodes) ∙ take_at signed (u32str code ++ nodes) (ots_signature_length kind) (length-ots_signature kind id q seed message)
+  ots_is = ap (take (ots_signature_length kind)) (append_assoc signed (u32str code) nodes) ∙ take_at signed (u32str code ++ nodes)
+      (ots_signature_length kind) (length-ots_signature kind id q seed message)
 
   tree_type_is : code < 2 ^ 32 → u32_at (4 + ots_signature_length kind) sig ≡ code
   tree_type_is small =
@@ -105,7 +118,8 @@ module _ (kind : OtsType) (code h : ℕ) (id seed : List ℕ) (q : ℕ) (message
 
   path_is : (i : ℕ) → i < h → part (8 + ots_signature_length kind + 32 * i) 32 sig ≡ path_node kind h id seed q i
   path_is i lt =
-      let front : length (u32str q ++ signed ++ u32str code) ≡ 8 + ots_signature_length kind = omega (arith, length-append (u32str q ++ signed) (u32str code), front_length) in
+      let front : length (u32str q ++ signed ++ u32str code)
+      ≡ 8 + ots_signature_length kind = omega (arith, length-append (u32str q ++ signed) (u32str code), front_length) in
       part_behind (u32str q ++ signed ++ u32str code) nodes (8 + ots_signature_length kind) (32 * i) 32 front
       ∙ part_strings (path_node kind h id seed q) 32 (λ i. length-node kind h id seed i _) h i lt
 
@@ -117,11 +131,13 @@ module _ (kind : OtsType) (code h : ℕ) (id seed : List ℕ) (q : ℕ) (message
       let path : ℕ → List ℕ = λ i. part (8 + ots_signature_length kind + 32 * i) 32 sig in
       let start : leaf id (2 ^ h + q) (ots_public_key kind id q seed) ≡ node kind h id seed 0 (2 ^ h + q) =
       ap (λ (n : ℕ). leaf id (2 ^ h + q) (ots_public_key kind id n seed)) (sym number) ∙ leaf_node kind h id seed (2 ^ h + q) in
-      ap (λ (s : List ℕ). climbed id (2 ^ h + q) s path h) start ∙ climbs kind h id seed (2 ^ h + q) path h path_is ∙ ap (node kind h id seed h) top
+      ap (λ (s : List ℕ). climbed id (2 ^ h + q) s path h) start ∙ climbs kind h id seed (2 ^ h + q) path h path_is ∙ ap
+      (node kind h id seed h) top
 
 -- ---- the law
 
-module _ (kind : OtsType) (code h : ℕ) (id seed : List ℕ) (q : ℕ) (message : List ℕ) (known : lms_height_of code ≡ Some h) (size : length id ≡ 16) (lt : q < 2 ^ h) where
+module _ (kind : OtsType) (code h : ℕ) (id seed : List ℕ) (q : ℕ) (message : List ℕ) (known : lms_height_of code ≡ Some h)
+    (size : length id ≡ 16) (lt : q < 2 ^ h) where
   abbrev the_key : List ℕ
   the_key = lms_public_key code kind h id seed
 
@@ -160,7 +176,8 @@ module _ (kind : OtsType) (code h : ℕ) (id seed : List ℕ) (q : ℕ) (message
 
   root_same : root_candidate kind h (part 8 16 the_key) (u32_at 0 the_sig) (ots_public_key kind id q seed) the_sig ≡ part 24 32 the_key
   root_same =
-      ap (λ (i : List ℕ). root_candidate kind h i (u32_at 0 the_sig) (ots_public_key kind id q seed) the_sig) (id_is kind code h id seed size)
+      ap (λ (i : List ℕ). root_candidate kind h i (u32_at 0 the_sig) (ots_public_key kind id q seed) the_sig)
+      (id_is kind code h id seed size)
       ∙ ap (λ (n : ℕ). root_candidate kind h id n (ots_public_key kind id q seed) the_sig) names_leaf
       ∙ root_found kind code h id seed q message lt ∙ sym (root_is kind code h id seed size)
 

@@ -40,10 +40,12 @@ below_power x w = omega (arith, mod_below x (2 ^ w) (pow_pos w))
 pub digit_le : (kind : OtsType) (hash : List ℕ) (i : ℕ) → digit kind hash i ≤ ots_steps kind
 digit_le kind hash i = below_power _ _
 
-pub length-signed_value : (kind : OtsType) (id : List ℕ) (q : ℕ) (seed hash : List ℕ) (i : ℕ) → length (signed_value kind id q seed hash i) ≡ 32
+pub length-signed_value : (kind : OtsType) (id : List ℕ) (q : ℕ) (seed hash : List ℕ) (i : ℕ)
+    → length (signed_value kind id q seed hash i) ≡ 32
 length-signed_value kind id q seed hash i = length-chain (chain_head id q i) (secret id q seed i) 0 (digit kind hash i) (length-sha256 _)
 
-pub length-ots_signature : (kind : OtsType) (id : List ℕ) (q : ℕ) (seed message : List ℕ) → length (ots_signature kind id q seed message) ≡ ots_signature_length kind
+pub length-ots_signature : (kind : OtsType) (id : List ℕ) (q : ℕ) (seed message : List ℕ)
+    → length (ots_signature kind id q seed message) ≡ ots_signature_length kind
 length-ots_signature kind id q seed message =
     let c : List ℕ = randomizer id q seed in
     let value : ℕ → List ℕ = signed_value kind id q seed (message_hash id q c message) in
@@ -51,20 +53,25 @@ length-ots_signature kind id q seed message =
     let values = length-strings value (ots_chains kind) 32 (length-signed_value kind id q seed (message_hash id q c message)) in
     length-append (u32str (ots_typecode kind) ++ c) (strings value (ots_chains kind)) ∙ omega (arith, random, values)
 
-pub type_of_signature : (kind : OtsType) (id : List ℕ) (q : ℕ) (seed message : List ℕ) → ots_signature_type (ots_signature kind id q seed message) ≡ Some kind
+pub type_of_signature : (kind : OtsType) (id : List ℕ) (q : ℕ) (seed message : List ℕ)
+    → ots_signature_type (ots_signature kind id q seed message) ≡ Some kind
 type_of_signature kind id q seed message =
     let sig : List ℕ = ots_signature kind id q seed message in
     let c : List ℕ = randomizer id q seed in
     let rest : List ℕ = c ++ strings (signed_value kind id q seed (message_hash id q c message)) (ots_chains kind) in
-    let named : ots_type_of (u32_at 0 sig) ≡ Some kind = ap ots_type_of (u32_front (ots_typecode kind) rest (typecode_small kind)) ∙ type_of_typecode kind in
+    let named : ots_type_of (u32_at 0 sig)
+    ≡ Some kind = ap ots_type_of (u32_front (ots_typecode kind) rest (typecode_small kind)) ∙ type_of_typecode kind in
     let long : OtsType → Option OtsType = λ k. if length sig == ots_signature_length k then Some k else None in
-    ap (option_and_then long) named ∙ rw (eq-eqb (length sig) (ots_signature_length kind) (length-ots_signature kind id q seed message)) refl
+    ap (option_and_then long) named ∙ rw
+    (eq-eqb (length sig) (ots_signature_length kind) (length-ots_signature kind id q seed message)) refl
 
-random_part : (kind : OtsType) (id : List ℕ) (q : ℕ) (seed message : List ℕ) → part 4 32 (ots_signature kind id q seed message) ≡ randomizer id q seed
+random_part : (kind : OtsType) (id : List ℕ) (q : ℕ) (seed message : List ℕ)
+    → part 4 32 (ots_signature kind id q seed message) ≡ randomizer id q seed
 random_part kind id q seed message = part_front (randomizer id q seed) _ 32 (length-sha256 _)
 
 value_part : (kind : OtsType) (id : List ℕ) (q : ℕ) (seed message : List ℕ) (i : ℕ) → i < ots_chains kind
-    → part (36 + 32 * i) 32 (ots_signature kind id q seed message) ≡ signed_value kind id q seed (message_hash id q (randomizer id q seed) message) i
+    → part (36 + 32 * i) 32 (ots_signature kind id q seed message)
+    ≡ signed_value kind id q seed (message_hash id q (randomizer id q seed) message) i
 value_part kind id q seed message i lt =
     let c : List ℕ = randomizer id q seed in
     let hash : List ℕ = message_hash id q c message in
@@ -74,13 +81,15 @@ value_part kind id q seed message i lt =
     ∙ part_strings (signed_value kind id q seed hash) 32 (length-signed_value kind id q seed hash) (ots_chains kind) i lt
 
 reaches_end : (kind : OtsType) (id : List ℕ) (q : ℕ) (seed message : List ℕ) (i : ℕ) → i < ots_chains kind
-    → reached_end kind id q (message_hash id q (part 4 32 (ots_signature kind id q seed message)) message) (ots_signature kind id q seed message) i
+    → reached_end kind id q (message_hash id q (part 4 32 (ots_signature kind id q seed message)) message)
+    (ots_signature kind id q seed message) i
     ≡ chain (chain_head id q i) 0 (ots_steps kind) (secret id q seed i)
 reaches_end kind id q seed message i lt =
     let sig : List ℕ = ots_signature kind id q seed message in
     let hash : List ℕ = message_hash id q (randomizer id q seed) message in
     ap (λ (c : List ℕ). reached_end kind id q (message_hash id q c message) sig i) (random_part kind id q seed message)
-    ∙ chain_rest (chain_head id q i) (secret id q seed i) (part (36 + 32 * i) 32 sig) (digit kind hash i) (ots_steps kind) (digit_le kind hash i) (value_part kind id q seed message i lt)
+    ∙ chain_rest (chain_head id q i) (secret id q seed i) (part (36 + 32 * i) 32 sig) (digit kind hash i) (ots_steps kind)
+    (digit_le kind hash i) (value_part kind id q seed message i lt)
 
 pub candidate_is_key : CandidateIsKey
 candidate_is_key kind id q seed message =

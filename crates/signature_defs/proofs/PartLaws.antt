@@ -26,11 +26,13 @@ part_strings f k each (suc n) i lt =
     let len : length (strings f n) ≡ k * n = length-strings f n k each ∙ mul_comm n k in
     ⊎_elim (earlier len (part_strings f k each n i)) (last len) (cases_lt i n)
   where
-    earlier : length (strings f n) ≡ k * n → (i < n → part (k * i) k (strings f n) ≡ f i) → i < n → part (k * i) k (strings f n ++ f n) ≡ f i
+    earlier : length (strings f n) ≡ k * n → (i < n → part (k * i) k (strings f n) ≡ f i) → i < n
+        → part (k * i) k (strings f n ++ f n) ≡ f i
     earlier len before below =
         let room : k * i + k ≤ k * n = omega (arith, mul-le-mul_left k below) in
         let left : k ≤ length (drop (k * i) (strings f n)) = rw length-drop (omega arith) in
-        rw (drop-append-le (k * i) (strings f n) (f n) (omega arith), take-append-le k (drop (k * i) (strings f n)) (f n) left) (before below)
+        rw (drop-append-le (k * i) (strings f n) (f n) (omega arith), take-append-le k (drop (k * i) (strings f n)) (f n) left)
+        (before below)
 
     last : length (strings f n) ≡ k * n → n ≤ i → part (k * i) k (strings f n ++ f n) ≡ f i
     last len le =
@@ -41,9 +43,11 @@ part_strings f k each (suc n) i lt =
 pub front_string : (f : ℕ → List ℕ) (k : ℕ) → ((i : ℕ) → length (f i) ≡ k) → (n i : ℕ) (z : List ℕ) → i < n
     → drop (k * i) (strings f n ++ z) ≡ f i ++ drop (k * (i + 1)) (strings f n ++ z)
 front_string f k each n i z lt =
-    let room : k * i + k ≤ length (strings f n) = omega (arith, length-strings f n k each, mul_comm n k, mul-le-mul_left k lt, mul-suc k i) in
+    let room : k * i + k ≤ length (strings f n) = omega
+    (arith, length-strings f n k each, mul_comm n k, mul-le-mul_left k lt, mul-suc k i) in
     let long : k ≤ length (drop (k * i) (strings f n)) = rw length-drop (omega arith) in
     let first : take k (drop (k * i) (strings f n ++ z)) ≡ f i =
-    rw (drop-append-le (k * i) (strings f n) z (omega arith), take-append-le k (drop (k * i) (strings f n)) z long) (part_strings f k each n i lt) in
+    rw (drop-append-le (k * i) (strings f n) z (omega arith), take-append-le k (drop (k * i) (strings f n)) z long)
+    (part_strings f k each n i lt) in
     let rest : drop k (drop (k * i) (strings f n ++ z)) ≡ drop (k * (i + 1)) (strings f n ++ z) = rw (drop-drop, add-one, mul-suc) refl in
     sym (take-append-drop k (drop (k * i) (strings f n ++ z))) ∙ rw (first, rest) refl

@@ -14,7 +14,8 @@ unfolding node
 length-node kind h id seed zero r = length-sha256 _
 length-node kind h id seed (suc k) r = length-sha256 _
 
-pub leaf_node : (kind : OtsType) (h : ℕ) (id seed : List ℕ) (r : ℕ) → leaf id r (ots_public_key kind id (r - 2 ^ h) seed) ≡ node kind h id seed 0 r
+pub leaf_node : (kind : OtsType) (h : ℕ) (id seed : List ℕ) (r : ℕ)
+    → leaf id r (ots_public_key kind id (r - 2 ^ h) seed) ≡ node kind h id seed 0 r
 unfolding node
 leaf_node kind h id seed r = refl
 
@@ -31,7 +32,8 @@ pub climbed_none : (id : List ℕ) (r : ℕ) (value : List ℕ) (path : ℕ → 
 unfolding climbed
 climbed_none id r value path = refl
 
-pub climbed_more : (id : List ℕ) (r : ℕ) (value : List ℕ) (path : ℕ → List ℕ) (i : ℕ) → parent id (r / 2 ^ i) (climbed id r value path i) (path i) ≡ climbed id r value path (i + 1)
+pub climbed_more : (id : List ℕ) (r : ℕ) (value : List ℕ) (path : ℕ → List ℕ) (i : ℕ)
+    → parent id (r / 2 ^ i) (climbed id r value path i) (path i) ≡ climbed id r value path (i + 1)
 unfolding climbed
 climbed_more id r value path i = rw (add-one i) refl
 
@@ -41,13 +43,15 @@ parent-node : (kind : OtsType) (h : ℕ) (id seed : List ℕ) (k r : ℕ)
 unfolding node
 parent-node kind h id seed k r = ⊎_elim left right (cases_Bool (r % 2 == 0))
   where
-    left : (r % 2 == 0) ≡ true → parent id r (node kind h id seed k r) (node kind h id seed k (sibling r)) ≡ node kind h id seed (suc k) (r / 2)
+    left : (r % 2 == 0) ≡ true → parent id r (node kind h id seed k r) (node kind h id seed k (sibling r))
+        ≡ node kind h id seed (suc k) (r / 2)
     left e =
         let even : r % 2 ≡ 0 = eqb-true (r % 2) 0 e in
         let two : 2 * (r / 2) ≡ r = omega arith in
         rw (e, two) refl
 
-    right : (r % 2 == 0) ≡ false → parent id r (node kind h id seed k r) (node kind h id seed k (sibling r)) ≡ node kind h id seed (suc k) (r / 2)
+    right : (r % 2 == 0) ≡ false → parent id r (node kind h id seed k r) (node kind h id seed k (sibling r))
+        ≡ node kind h id seed (suc k) (r / 2)
     right e =
         let odd : r % 2 ≢ 0 = eqb-false (r % 2) 0 e in
         let two : 2 * (r / 2) ≡ r - 1 = omega arith in
@@ -62,4 +66,5 @@ unfolding climbed
 climbs kind h id seed r path zero each = ap (node kind h id seed 0) (sym (div-one r))
 climbs kind h id seed r path (suc i) each =
     let up : r / 2 ^ i / 2 ≡ r / 2 ^ suc i = halved_again r i ∙ ap (λ k. r / 2 ^ k) (add-one i) in
-    rw (climbs kind h id seed r path i (λ j lt. each j (omega arith)), each i (omega arith), ← up) (parent-node kind h id seed i (r / 2 ^ i))
+    rw (climbs kind h id seed r path i (λ j lt. each j (omega arith)), each i (omega arith), ← up)
+    (parent-node kind h id seed i (r / 2 ^ i))

@@ -31,7 +31,8 @@ unfolding members all_numbers
 few-members mask = few-between (λ p. bit_at mask p == 1) all_numbers
 
 -- what is certified, by whether a quorum says the cell's content
-shown : (h : Pool) (s : Slot) (cell : Cell) → (of : IsCell h s cell) → (b : Bool) → is_certified h of.said ≡ b → certified_on h s ≡ (if b then Some of.said else None)
+shown : (h : Pool) (s : Slot) (cell : Cell) → (of : IsCell h s cell) → (b : Bool) → is_certified h of.said ≡ b
+    → certified_on h s ≡ (if b then Some of.said else None)
 shown h s cell of b e = of.certified ∙ ap (λ (b : Bool). if b then Some of.said else None) e
 
 module _ (h : Pool) (es : List (SlotKey × Cell)) (are : AreCells h es) where
@@ -42,25 +43,30 @@ module _ (h : Pool) (es : List (SlotKey × Cell)) (are : AreCells h es) where
   counts s cell is = ap length is.backers ∙ length-sorted by_number (backers h is.said)
 
   -- its content is certified
-  pub enough : (o : Option Slot) (key : SlotKey) (cell : Cell) → Some key ≡ option_map slot_key o → Some cell ≡ lookup (same_slot_key key) es → quorum (number_of_members h) ≤ length cell.backers → IsCertifiedBy h o (Some cell)
+  pub enough : (o : Option Slot) (key : SlotKey) (cell : Cell) → Some key ≡ option_map slot_key o
+      → Some cell ≡ lookup (same_slot_key key) es → quorum (number_of_members h) ≤ length cell.backers → IsCertifiedBy h o (Some cell)
   enough None key cell is e le = absurd cc
   enough (Some s) key cell is e le =
       let same : key ≡ slot_key s = cc in
       let of : IsCell h s cell = found s key cell same e in
-      let many : is_certified h of.said ≡ true = (let n = counts s cell of in le-leb (quorum (number_of_members h)) (length (backers h of.said)) (omega (arith, le, n))) in
+      let many : is_certified h of.said
+      ≡ true = (let n = counts s cell of in le-leb (quorum (number_of_members h)) (length (backers h of.said)) (omega (arith, le, n))) in
       (of.said, shown h s cell of true many, of.there, of.backers)
 
   -- it is not, and so nothing is
-  pub too_few : (o : Option Slot) (key : SlotKey) (cell : Cell) → Some key ≡ option_map slot_key o → Some cell ≡ lookup (same_slot_key key) es → length cell.backers < quorum (number_of_members h) → IsCertifiedBy h o None
+  pub too_few : (o : Option Slot) (key : SlotKey) (cell : Cell) → Some key ≡ option_map slot_key o
+      → Some cell ≡ lookup (same_slot_key key) es → length cell.backers < quorum (number_of_members h) → IsCertifiedBy h o None
   too_few None key cell is e lt = absurd cc
   too_few (Some s) key cell is e lt =
       let same : key ≡ slot_key s = cc in
       let of : IsCell h s cell = found s key cell same e in
-      let few : is_certified h of.said ≡ false = (let n = counts s cell of in lt-leb (quorum (number_of_members h)) (length (backers h of.said)) (omega (arith, lt, n))) in
+      let few : is_certified h of.said
+      ≡ false = (let n = counts s cell of in lt-leb (quorum (number_of_members h)) (length (backers h of.said)) (omega (arith, lt, n))) in
       shown h s cell of false few
 
   -- who says what the cell has
-  pub count-is : (st : Statement) (cell : Cell) → Some cell ≡ lookup (same_slot_key (slot_key (slot_of st))) es → is_some_and (said_at h cell.place) (same_statement st) ≡ true → length cell.backers ≡ length (backers h st)
+  pub count-is : (st : Statement) (cell : Cell) → Some cell ≡ lookup (same_slot_key (slot_key (slot_of st))) es
+      → is_some_and (said_at h cell.place) (same_statement st) ≡ true → length cell.backers ≡ length (backers h st)
   count-is st cell e says =
       let of : IsCell h (slot_of st) cell = found (slot_of st) (slot_key (slot_of st)) cell refl e in
       let same : st ≡ of.said = same_statement-is st of.said (ap (λ o. is_some_and o (same_statement st)) (sym of.there) ∙ says) in
@@ -75,4 +81,5 @@ module _ (h : Pool) (es : List (SlotKey × Cell)) (are : AreCells h es) where
 
       nobody : (ms : List ℕ) → filter (says h st) ms ≡ []
       nobody [] = refl
-      nobody (m ∷ ms) = ap (λ o. if is_some_and o (same_statement st) then m ∷ filter (says h st) ms else filter (says h st) ms) (silent.speakers m) ∙ nobody ms
+      nobody (m ∷ ms) = ap (λ o. if is_some_and o (same_statement st) then m ∷ filter (says h st) ms else filter (says h st) ms)
+          (silent.speakers m) ∙ nobody ms

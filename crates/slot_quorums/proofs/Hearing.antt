@@ -42,7 +42,8 @@ module _ (h : Pool) (c : Claim) (fresh : claim_on h.heard c.signer (slot_of c.st
   on-grown p s = folds.find-append (λ (d : Claim). (d.signer == p) && same_slot (slot_of d.statement) s) h.heard (c ∷ [])
 
   as-before : (p : ℕ) (s : Slot) → its p s ≡ false → heard_on g p s ≡ heard_on h p s
-  as-before p s e = ap (option_map said) (on-grown p s ∙ ap (λ b. option_or (claim_on h.heard p s) (if b then Some c else None)) e ∙ or-none (claim_on h.heard p s))
+  as-before p s e = ap (option_map said)
+      (on-grown p s ∙ ap (λ b. option_or (claim_on h.heard p s) (if b then Some c else None)) e ∙ or-none (claim_on h.heard p s))
     where
       or-none : (o : Option Claim) → option_or o None ≡ o
       or-none None = refl
@@ -50,10 +51,16 @@ module _ (h : Pool) (c : Claim) (fresh : claim_on h.heard c.signer (slot_of c.st
 
   -- ---- who speaks
 
-  pub speaks-grown : (m : ℕ) → is_some (heard_on g m (slot_of c.statement)) ≡ ((c.signer == m) || is_some (heard_on h m (slot_of c.statement)))
-  speaks-grown m = ap (λ o. is_some (option_map said o)) (on-grown m (slot_of c.statement)) ∙ ap (λ b. is_some (option_map said (option_or (claim_on h.heard m (slot_of c.statement)) (if (c.signer == m) && b then Some c else None)))) (is-same_slot (slot_of c.statement) (slot_of c.statement) refl) ∙ go (claim_on h.heard m (slot_of c.statement)) (c.signer == m)
+  pub speaks-grown : (m : ℕ) → is_some (heard_on g m (slot_of c.statement))
+      ≡ ((c.signer == m) || is_some (heard_on h m (slot_of c.statement)))
+  speaks-grown m = ap (λ o. is_some (option_map said o))
+      (on-grown m (slot_of c.statement)) ∙ ap
+      (λ b. is_some (option_map said
+      (option_or (claim_on h.heard m (slot_of c.statement)) (if (c.signer == m) && b then Some c else None))))
+      (is-same_slot (slot_of c.statement) (slot_of c.statement) refl) ∙ go (claim_on h.heard m (slot_of c.statement)) (c.signer == m)
     where
-      go : (o : Option Claim) (b : Bool) → is_some (option_map said (option_or o (if b && true then Some c else None))) ≡ (b || is_some (option_map said o))
+      go : (o : Option Claim) (b : Bool)
+          → is_some (option_map said (option_or o (if b && true then Some c else None))) ≡ (b || is_some (option_map said o))
       go None true = refl
       go None false = refl
       go (Some d) true = refl
@@ -77,7 +84,8 @@ module _ (h : Pool) (c : Claim) (fresh : claim_on h.heard c.signer (slot_of c.st
       go true e =
           subst (λ p. says g c.statement p ≡ true) (eqb-true c.signer m e)
           (ap (λ o. is_some_and o (same_statement c.statement)) (heard_on-new h c fresh) ∙ is-same_statement c.statement c.statement refl)
-      go false e = ap (λ o. is_some_and o (same_statement c.statement)) (as-before m (slot_of c.statement) (ap (λ b. b && same_slot (slot_of c.statement) (slot_of c.statement)) e))
+      go false e = ap (λ o. is_some_and o (same_statement c.statement))
+          (as-before m (slot_of c.statement) (ap (λ b. b && same_slot (slot_of c.statement) (slot_of c.statement)) e))
 
   pub not-before : says h c.statement c.signer ≡ false
   not-before = ap (λ o. is_some_and (option_map said o) (same_statement c.statement)) fresh
@@ -93,10 +101,14 @@ module _ (h : Pool) (c : Claim) (fresh : claim_on h.heard c.signer (slot_of c.st
       go false e = ap (λ o. is_some_and o (same_statement st)) (as-before m (slot_of st) e)
       go true e =
           let signer : c.signer ≡ m = eqb-true c.signer m (and-first (c.signer == m) (same_slot (slot_of c.statement) (slot_of st)) e) in
-          let slot : slot_of c.statement ≡ slot_of st = same_slot-is (slot_of c.statement) (slot_of st) (and-second (c.signer == m) (same_slot (slot_of c.statement) (slot_of st)) e) in
+          let slot : slot_of c.statement
+          ≡ slot_of st = same_slot-is (slot_of c.statement) (slot_of st)
+          (and-second (c.signer == m) (same_slot (slot_of c.statement) (slot_of st)) e) in
           let none : claim_on h.heard m (slot_of st) ≡ None = (λ i. claim_on h.heard (sym signer i) (sym slot i)) ∙ fresh in
-          let now : claim_on g.heard m (slot_of st) ≡ Some c = on-grown m (slot_of st) ∙ (λ i. option_or (none i) (if e i then Some c else None)) in
-          ap (λ o. is_some_and (option_map said o) (same_statement st)) now ∙ unlike (same_statement st c.statement) refl ∙ sym (ap (λ o. is_some_and (option_map said o) (same_statement st)) none)
+          let now : claim_on g.heard m (slot_of st)
+          ≡ Some c = on-grown m (slot_of st) ∙ (λ i. option_or (none i) (if e i then Some c else None)) in
+          ap (λ o. is_some_and (option_map said o) (same_statement st)) now ∙ unlike (same_statement st c.statement) refl ∙ sym
+          (ap (λ o. is_some_and (option_map said o) (same_statement st)) none)
 
   pub other-backers : (st : Statement) → (st ≡ c.statement → ⊥) → backers g st ≡ backers h st
   other-backers st other = λ i. filter (λ m. other-says st other m i) h.view.members
@@ -116,7 +128,8 @@ module _ (h : Pool) (c : Claim) (fresh : claim_on h.heard c.signer (slot_of c.st
     certified-if s st = certified_on g s ≡ (if is_certified g st then Some st else None)
 
     -- where its content is certified only with a quorum of it, and none was before without
-    pub this-certified : (is_certified g c.statement ≡ false → certified_on h (slot_of c.statement) ≡ None) → certified_on g (slot_of c.statement) ≡ (if is_certified g c.statement then Some c.statement else None)
+    pub this-certified : (is_certified g c.statement ≡ false → certified_on h (slot_of c.statement) ≡ None)
+        → certified_on g (slot_of c.statement) ≡ (if is_certified g c.statement then Some c.statement else None)
     this-certified before = go (is_certified g c.statement) refl
       where
         go : (b : Bool) → is_certified g c.statement ≡ b → certified_on g (slot_of c.statement) ≡ (if b then Some c.statement else None)
@@ -124,9 +137,12 @@ module _ (h : Pool) (c : Claim) (fresh : claim_on h.heard c.signer (slot_of c.st
         go false e = none-stays h c fresh some (slot_of c.statement) (before e) (λ at is. let both : true ≡ false = sym is ∙ e in cc)
 
     -- of another content
-    pub other-certified : (s : Slot) (st : Statement) → (st ≡ c.statement → ⊥) → certified_on h s ≡ (if is_certified h st then Some st else None)
-        → (is_certified h st ≡ false → slot_of c.statement ≡ s → is_certified g c.statement ≡ true → ⊥) → certified_on g s ≡ (if is_certified g st then Some st else None)
-    other-certified s st other e not = go (is_certified h st) refl ∙ ap (λ (b : Bool). if b then Some st else None) (sym (other_certified h c fresh st other))
+    pub other-certified : (s : Slot) (st : Statement) → (st ≡ c.statement → ⊥)
+        → certified_on h s ≡ (if is_certified h st then Some st else None)
+        → (is_certified h st ≡ false → slot_of c.statement ≡ s → is_certified g c.statement ≡ true → ⊥)
+        → certified_on g s ≡ (if is_certified g st then Some st else None)
+    other-certified s st other e not = go (is_certified h st) refl ∙ ap (λ (b : Bool). if b then Some st else None)
+        (sym (other_certified h c fresh st other))
       where
         go : (b : Bool) → is_certified h st ≡ b → certified_on g s ≡ (if b then Some st else None)
         go true is = certified-stays h c fresh some s st (e ∙ ap (λ (b : Bool). if b then Some st else None) is)
@@ -139,7 +155,8 @@ module _ (h : Pool) (c : Claim) (fresh : claim_on h.heard c.signer (slot_of c.st
     was-not e = go (is_certified h c.statement) refl
       where
         go : (b : Bool) → is_certified h c.statement ≡ b → b ≡ false
-        go true is = let now : is_certified g c.statement ≡ true = is_certified-stays h (c ∷ []) c.statement is in let both : true ≡ false = sym now ∙ e in cc
+        go true is = let now : is_certified g c.statement ≡ true = is_certified-stays h (c ∷ []) c.statement is in let both : true
+            ≡ false = sym now ∙ e in cc
         go false is = refl
 
     -- ---- the cells
@@ -165,34 +182,42 @@ module _ (h : Pool) (c : Claim) (fresh : claim_on h.heard c.signer (slot_of c.st
       abbrev s : Slot
       s = slot_of c.statement
 
-      joined-speakers : (ps : List ℕ) → ((m : ℕ) → has ps m ≡ is_some (heard_on h m s)) → (m : ℕ) → has (put_once c.signer ps) m ≡ is_some (heard_on g m s)
+      joined-speakers : (ps : List ℕ) → ((m : ℕ) → has ps m ≡ is_some (heard_on h m s)) → (m : ℕ)
+          → has (put_once c.signer ps) m ≡ is_some (heard_on g m s)
       joined-speakers ps are m = has-put_once c.signer m ps ∙ ap (λ b. (c.signer == m) || b) (are m) ∙ sym (speaks-grown m)
 
       -- the claim says what the cell has
-      pub joins : (cell : Cell) → said_at g cell.place ≡ Some c.statement → cell.backers ≡ sorted by_number (backers h c.statement) → ((m : ℕ) → has cell.speakers m ≡ is_some (heard_on h m s))
-          → (is_certified h c.statement ≡ false → certified_on h s ≡ None) → IsCell g s (joining cell c.signer (has h.view.members c.signer))
+      pub joins : (cell : Cell) → said_at g cell.place ≡ Some c.statement → cell.backers ≡ sorted by_number (backers h c.statement)
+          → ((m : ℕ) → has cell.speakers m ≡ is_some (heard_on h m s))
+          → (is_certified h c.statement ≡ false → certified_on h s ≡ None)
+          → IsCell g s (joining cell c.signer (has h.view.members c.signer))
       joins cell there are speakers before = record {
         said = c.statement;
         there = there;
         slot = refl;
-        backers = ap (λ ps. if has h.view.members c.signer then put_once c.signer ps else ps) are ∙ sym (with-one c.signer (says h c.statement) (says g c.statement) not-before same-says h.view.members distinct);
+        backers = ap (λ ps. if has h.view.members c.signer then put_once c.signer ps else ps) are ∙ sym
+            (with-one c.signer (says h c.statement) (says g c.statement) not-before same-says h.view.members distinct);
         speakers = joined-speakers cell.speakers speakers;
         certified = this-certified (λ e. before (was-not e));
       }
 
       nobody : (ms : List ℕ) → ((m : ℕ) → heard_on h m s ≡ None) → filter (says h c.statement) ms ≡ []
       nobody [] none = refl
-      nobody (m ∷ ms) none = ap (λ o. if is_some_and o (same_statement c.statement) then m ∷ filter (says h c.statement) ms else filter (says h c.statement) ms) (none m) ∙ nobody ms none
+      nobody (m ∷ ms) none = ap (λ o. if is_some_and o (same_statement c.statement) then m ∷ filter (says h c.statement) ms
+          else filter (says h c.statement) ms) (none m) ∙ nobody ms none
 
       -- nobody spoke on the slot
-      pub first : (cell : Cell) → cell.place ≡ length h.heard → cell.backers ≡ [] → cell.speakers ≡ [] → IsSilent h s → IsCell g s (joining cell c.signer (has h.view.members c.signer))
+      pub first : (cell : Cell) → cell.place ≡ length h.heard → cell.backers ≡ [] → cell.speakers ≡ [] → IsSilent h s
+          → IsCell g s (joining cell c.signer (has h.view.members c.signer))
       first cell place none nobody_yet is =
           joins cell (ap (said_at g) place ∙ here) (none ∙ sym (ap (sorted by_number) (nobody h.view.members is.speakers)))
           (λ m. ap (λ ps. has ps m) nobody_yet ∙ sym (ap is_some (is.speakers m))) (λ _. is.certified)
 
-      pub again : (cell : Cell) → (is : IsCell h s cell) → is.said ≡ c.statement → IsCell g s (joining cell c.signer (has h.view.members c.signer))
+      pub again : (cell : Cell) → (is : IsCell h s cell) → is.said ≡ c.statement
+          → IsCell g s (joining cell c.signer (has h.view.members c.signer))
       again cell is same =
-          joins cell (there-stays cell.place is.said is.there ∙ ap Some same) (is.backers ∙ ap (λ st. sorted by_number (backers h st)) same) is.speakers
+          joins cell (there-stays cell.place is.said is.there ∙ ap Some same)
+          (is.backers ∙ ap (λ st. sorted by_number (backers h st)) same) is.speakers
           (λ e. is.certified ∙ ap (λ (b : Bool). if b then Some is.said else None) (ap (is_certified h) same ∙ e))
 
       -- ---- another content
@@ -209,7 +234,9 @@ module _ (h : Pool) (c : Claim) (fresh : claim_on h.heard c.signer (slot_of c.st
         apart m e f =
             let there = list_any-mem (λ q. q == m) cell.backers e in
             let same : there.0 ≡ m = eqb-true there.0 m there.2 in
-            let backs : says h is.said m ≡ true = subst (λ q. says h is.said q ≡ true) same (filter-mem (says h is.said) h.view.members there.0 (mem-sorted by_number (backers h is.said) there.0 (subst (Mem there.0) is.backers there.1))).1 in
+            let backs : says h is.said m ≡ true = subst (λ q. says h is.said q ≡ true) same
+            (filter-mem (says h is.said) h.view.members there.0
+            (mem-sorted by_number (backers h is.said) there.0 (subst (Mem there.0) is.backers there.1))).1 in
             let one = some-and (heard_on g m (slot_of is.said)) (same_statement is.said) (other-says is.said unlike m ∙ backs) in
             let two = some-and (heard_on g m s) (same_statement c.statement) f in
             let both : one.0 ≡ two.0 = some-same one.0 two.0 (sym one.1 ∙ ap (heard_on g m) is.slot ∙ two.1) in
@@ -218,7 +245,8 @@ module _ (h : Pool) (c : Claim) (fresh : claim_on h.heard c.signer (slot_of c.st
         test-is : (m : ℕ) → (speaks_otherwise next m && says g c.statement m) ≡ says g c.statement m
         test-is m = go (has next.speakers m) refl (has cell.backers m) refl (says g c.statement m) refl
           where
-            go : (a : Bool) → has next.speakers m ≡ a → (b : Bool) → has cell.backers m ≡ b → (d : Bool) → says g c.statement m ≡ d → ((a && not b) && d) ≡ d
+            go : (a : Bool) → has next.speakers m ≡ a → (b : Bool) → has cell.backers m ≡ b → (d : Bool) → says g c.statement m ≡ d
+                → ((a && not b) && d) ≡ d
             go a e b f false i = off a b
               where
                 off : (a b : Bool) → ((a && not b) && false) ≡ false
@@ -242,14 +270,16 @@ module _ (h : Pool) (c : Claim) (fresh : claim_on h.heard c.signer (slot_of c.st
         count = ap length is.backers ∙ length-sorted by_number (backers h is.said)
 
         -- no fewer say it
-        pub replaces : length cell.backers ≤ length (others next g c.statement) → IsCell g s (record { place = length h.heard; backers = others next g c.statement; speakers = next.speakers })
+        pub replaces : length cell.backers ≤ length (others next g c.statement)
+            → IsCell g s (record { place = length h.heard; backers = others next g c.statement; speakers = next.speakers })
         replaces few = record {
           said = c.statement;
           there = here;
           slot = refl;
           backers = others-are;
           speakers = next-speakers;
-          certified = this-certified (λ e. is.certified ∙ ap (λ (b : Bool). if b then Some is.said else None) (fewer (is_certified h is.said) refl e));
+          certified = this-certified (λ e. is.certified ∙ ap (λ (b : Bool). if b then Some is.said else None)
+              (fewer (is_certified h is.said) refl e));
         }
           where
             fewer : (b : Bool) → is_certified h is.said ≡ b → is_certified g c.statement ≡ false → b ≡ false
@@ -275,7 +305,8 @@ module _ (h : Pool) (c : Claim) (fresh : claim_on h.heard c.signer (slot_of c.st
 
 -- ---- in the pool with the claim
 
-module _ (h : Pool) (c : Claim) (fresh : claim_on h.heard c.signer (slot_of c.statement) ≡ None) (k : Pool) (grown : k ≡ with_heard h c) (view : IsView k.view) where
+module _ (h : Pool) (c : Claim) (fresh : claim_on h.heard c.signer (slot_of c.statement) ≡ None) (k : Pool) (grown : k ≡ with_heard h c)
+    (view : IsView k.view) where
   some_member : 1 ≤ number_of_members h
   some_member = subst (λ (k : Pool). 1 ≤ number_of_members k) grown view.some
 
@@ -288,55 +319,78 @@ module _ (h : Pool) (c : Claim) (fresh : claim_on h.heard c.signer (slot_of c.st
   back : (cell : Cell) → IsCell (with_heard h c) at cell → IsCell k at cell
   back cell is = subst (λ (k : Pool). IsCell k at cell) (sym grown) is
 
-  joined-is : (cell result : Cell) → result ≡ joining cell c.signer (has k.view.members c.signer) → result ≡ joining cell c.signer (has h.view.members c.signer)
+  joined-is : (cell result : Cell) → result ≡ joining cell c.signer (has k.view.members c.signer)
+      → result ≡ joining cell c.signer (has h.view.members c.signer)
   joined-is cell result e = e ∙ ap (λ (k : Pool). joining cell c.signer (has k.view.members c.signer)) grown
 
   -- the first that speaks on the slot
-  pub starts : (cell result : Cell) → cell ≡ record { place = length h.heard; backers = []; speakers = [] } → result ≡ joining cell c.signer (has k.view.members c.signer) → IsSilent h at → IsCell k at result
+  pub starts : (cell result : Cell) → cell ≡ record { place = length h.heard; backers = []; speakers = [] }
+      → result ≡ joining cell c.signer (has k.view.members c.signer) → IsSilent h at → IsCell k at result
   starts cell result empty e is =
       back result (subst (IsCell (with_heard h c) at) (sym (joined-is cell result e))
-      (first h c fresh some_member all_apart cell (ap (λ (d : Cell). d.place) empty) (ap (λ (d : Cell). d.backers) empty) (ap (λ (d : Cell). d.speakers) empty) is))
+      (first h c fresh some_member all_apart cell (ap (λ (d : Cell). d.place) empty) (ap (λ (d : Cell). d.backers) empty)
+      (ap (λ (d : Cell). d.speakers) empty) is))
 
   what-is-said : (cell : Cell) → (is : IsCell h at cell) → said_at k cell.place ≡ Some is.said
   what-is-said cell is = ap (λ (k : Pool). said_at k cell.place) grown ∙ there-stays h c fresh cell.place is.said is.there
 
   -- it says what the cell has
-  pub goes_on : (cell result : Cell) → IsCell h at cell → is_some_and (said_at k cell.place) (same_statement c.statement) ≡ true → result ≡ joining cell c.signer (has k.view.members c.signer) → IsCell k at result
+  pub goes_on : (cell result : Cell) → IsCell h at cell → is_some_and (said_at k cell.place) (same_statement c.statement) ≡ true
+      → result ≡ joining cell c.signer (has k.view.members c.signer) → IsCell k at result
   goes_on cell result is says e =
-      let same : c.statement ≡ is.said = same_statement-is c.statement is.said (ap (λ o. is_some_and o (same_statement c.statement)) (sym (what-is-said cell is)) ∙ says) in
-      back result (subst (IsCell (with_heard h c) at) (sym (joined-is cell result e)) (again h c fresh some_member all_apart cell is (sym same)))
+      let same : c.statement ≡ is.said = same_statement-is c.statement is.said
+      (ap (λ o. is_some_and o (same_statement c.statement)) (sym (what-is-said cell is)) ∙ says) in
+      back result (subst (IsCell (with_heard h c) at) (sym (joined-is cell result e))
+      (again h c fresh some_member all_apart cell is (sym same)))
 
   -- it says something else
-  pub turns : (cell next result : Cell) (place : ℕ) → IsCell h at cell → is_some_and (said_at k cell.place) (same_statement c.statement) ≡ false → next ≡ joining cell c.signer false → place ≡ length h.heard
-      → result ≡ (if nat_le (length next.backers) (length (others next k c.statement)) then record { place = place; backers = others next k c.statement; speakers = next.speakers } else next) → IsCell k at result
+  pub turns : (cell next result : Cell) (place : ℕ) → IsCell h at cell
+      → is_some_and (said_at k cell.place) (same_statement c.statement) ≡ false → next ≡ joining cell c.signer false
+      → place ≡ length h.heard
+      → result ≡ (if nat_le (length next.backers) (length (others next k c.statement))
+      then record { place = place; backers = others next k c.statement; speakers = next.speakers } else next) → IsCell k at result
   turns cell next result place is says e placed r =
-      back result (subst (IsCell (with_heard h c) at) (sym (r ∙ (λ i. choice (e i) (grown i) (placed i)))) (go (nat_le (length cell.backers) (length (others joined (with_heard h c) c.statement))) refl))
+      back result (subst (IsCell (with_heard h c) at) (sym (r ∙ (λ i. choice (e i) (grown i) (placed i))))
+      (go (nat_le (length cell.backers) (length (others joined (with_heard h c) c.statement))) refl))
     where
       choice : Cell → Pool → ℕ → Cell
-      choice next k place = if nat_le (length next.backers) (length (others next k c.statement)) then record { place = place; backers = others next k c.statement; speakers = next.speakers } else next
+      choice next k place = if nat_le (length next.backers) (length (others next k c.statement))
+          then record { place = place; backers = others next k c.statement; speakers = next.speakers } else next
 
       unlike : is.said ≡ c.statement → ⊥
       unlike same =
-          let both : true ≡ false = sym (is-same_statement c.statement is.said (sym same)) ∙ ap (λ o. is_some_and o (same_statement c.statement)) (sym (what-is-said cell is)) ∙ says in cc
+          let both : true ≡ false = sym (is-same_statement c.statement is.said (sym same)) ∙ ap
+          (λ o. is_some_and o (same_statement c.statement)) (sym (what-is-said cell is)) ∙ says in cc
 
       joined : Cell
       joined = joining cell c.signer false
 
       go : (b : Bool) → nat_le (length cell.backers) (length (others (joining cell c.signer false) (with_heard h c) c.statement)) ≡ b
-          → IsCell (with_heard h c) at (if b then record { place = length h.heard; backers = others (joining cell c.signer false) (with_heard h c) c.statement; speakers = put_once c.signer cell.speakers } else joining cell c.signer false)
-      go true f = replaces h c fresh some_member all_apart cell is unlike (leb-true (length cell.backers) (length (others (joining cell c.signer false) (with_heard h c) c.statement)) f)
-      go false f = stays h c fresh some_member all_apart cell is unlike (leb-false (length cell.backers) (length (others (joining cell c.signer false) (with_heard h c) c.statement)) f)
+          → IsCell (with_heard h c) at (if b
+          then record {
+            place = length h.heard;
+            backers = others (joining cell c.signer false) (with_heard h c) c.statement;
+            speakers = put_once c.signer cell.speakers;
+          } else joining cell c.signer false)
+      go true f = replaces h c fresh some_member all_apart cell is unlike
+          (leb-true (length cell.backers) (length (others (joining cell c.signer false) (with_heard h c) c.statement)) f)
+      go false f = stays h c fresh some_member all_apart cell is unlike
+          (leb-false (length cell.backers) (length (others (joining cell c.signer false) (with_heard h c) c.statement)) f)
 
   -- of all slots
   pub all_cells : (look look' : SlotKey → Option Cell) → ((s : Slot) → IsOf h s (look (slot_key s))) → (cell : Cell) → IsCell k at cell
-      → ((key : SlotKey) → look' key ≡ cond (same_slot_key (slot_key at) key) (Some cell) (look key)) → (s : Slot) → IsOf k s (look' (slot_key s))
+      → ((key : SlotKey) → look' key ≡ cond (same_slot_key (slot_key at) key) (Some cell) (look key)) → (s : Slot)
+      → IsOf k s (look' (slot_key s))
   all_cells look look' are cell is looks s = go (same_slot_key (slot_key at) (slot_key s)) refl
     where
       go : (b : Bool) → same_slot_key (slot_key at) (slot_key s) ≡ b → IsOf k s (look' (slot_key s))
       go true e =
           let same : at ≡ s = one_slot at s (same_slot_key-is (slot_key at) (slot_key s) e) in
-          subst (IsOf k s) (sym (looks (slot_key s) ∙ ap (λ b. cond b (Some cell) (look (slot_key s))) e)) (subst (λ t. IsCell k t cell) same is)
+          subst (IsOf k s) (sym (looks (slot_key s) ∙ ap (λ b. cond b (Some cell) (look (slot_key s))) e))
+          (subst (λ t. IsCell k t cell) same is)
       go false e =
           subst (IsOf k s) (sym (looks (slot_key s) ∙ ap (λ b. cond b (Some cell) (look (slot_key s))) e))
           (subst (λ (k : Pool). IsOf k s (look (slot_key s))) (sym grown)
-          (other-of h c fresh some_member s (λ same. let both : true ≡ false = sym (is-same_slot_key (slot_key at) (slot_key s) (ap slot_key same)) ∙ e in cc) (look (slot_key s)) (are s)))
+          (other-of h c fresh some_member s
+          (λ same. let both : true ≡ false = sym (is-same_slot_key (slot_key at) (slot_key s) (ap slot_key same)) ∙ e in cc)
+          (look (slot_key s)) (are s)))

@@ -81,13 +81,17 @@ module _ (p : ℕ) (t u : ℕ → Bool) (before : t p ≡ false) (now : (m : ℕ
   none-here [] e = refl
   none-here (m ∷ ms) e = go (m == p) refl e (none-here ms)
     where
-      go : (b : Bool) → (m == p) ≡ b → (b || has ms p) ≡ false → (has ms p ≡ false → sorted by_number (filter u ms) ≡ sorted by_number (filter t ms)) → sorted by_number (filter u (m ∷ ms)) ≡ sorted by_number (filter t (m ∷ ms))
+      go : (b : Bool) → (m == p) ≡ b → (b || has ms p) ≡ false
+          → (has ms p ≡ false → sorted by_number (filter u ms) ≡ sorted by_number (filter t ms))
+          → sorted by_number (filter u (m ∷ ms)) ≡ sorted by_number (filter t (m ∷ ms))
       go true f e rest = absurd cc
       go false f e rest =
           let other : (p == m) ≡ false = ne_eqb p m (λ same. eqb-false m p f (sym same)) in
           ap (λ b. sorted by_number (if b then m ∷ filter u ms else filter u ms)) (others-as-before m other) ∙ step (t m) (rest e)
         where
-          step : (b : Bool) → sorted by_number (filter u ms) ≡ sorted by_number (filter t ms) → sorted by_number (if b then m ∷ filter u ms else filter u ms) ≡ sorted by_number (if b then m ∷ filter t ms else filter t ms)
+          step : (b : Bool) → sorted by_number (filter u ms) ≡ sorted by_number (filter t ms)
+              → sorted by_number (if b then m ∷ filter u ms else filter u ms)
+              ≡ sorted by_number (if b then m ∷ filter t ms else filter t ms)
           step true rest = ap (put by_number m) rest
           step false rest = rest
 
@@ -96,9 +100,11 @@ module _ (p : ℕ) (t u : ℕ → Bool) (before : t p ≡ false) (now : (m : ℕ
       let passes : t q ≡ true = (filter-mem t ms q (mem-sorted by_number (filter t ms) q there)).1 in
       let both : true ≡ false = sym passes ∙ ap t same ∙ before in cc))
 
-  pub with-one : (ms : List ℕ) → Pairs (λ m n. m ≢ n) ms → sorted by_number (filter u ms) ≡ (if has ms p then put_once p (sorted by_number (filter t ms)) else sorted by_number (filter t ms))
+  pub with-one : (ms : List ℕ) → Pairs (λ m n. m ≢ n) ms
+      → sorted by_number (filter u ms) ≡ (if has ms p then put_once p (sorted by_number (filter t ms)) else sorted by_number (filter t ms))
   with-one [] distinct = refl
-  with-one (m ∷ ms) distinct = go (m == p) refl (with-one ms (λ i j a b lt at_i at_j. distinct (suc i) (suc j) a b (omega (arith, lt)) at_i at_j))
+  with-one (m ∷ ms) distinct = go (m == p) refl
+      (with-one ms (λ i j a b lt at_i at_j. distinct (suc i) (suc j) a b (omega (arith, lt)) at_i at_j))
     where
       absent : m ≡ p → (b : Bool) → has ms p ≡ b → b ≡ false
       absent same true e = absurd (distinct-from (mem-has ms e))
@@ -115,8 +121,11 @@ module _ (p : ℕ) (t u : ℕ → Bool) (before : t p ≡ false) (now : (m : ℕ
           distinct-from there = let place = mem-slice_get ms p there in distinct 0 (suc place.0) m p (omega arith) refl place.1 same
       absent same false e = refl
 
-      go : (b : Bool) → (m == p) ≡ b → sorted by_number (filter u ms) ≡ (if has ms p then put_once p (sorted by_number (filter t ms)) else sorted by_number (filter t ms))
-          → sorted by_number (filter u (m ∷ ms)) ≡ (if (b || has ms p) then put_once p (sorted by_number (filter t (m ∷ ms))) else sorted by_number (filter t (m ∷ ms)))
+      go : (b : Bool) → (m == p) ≡ b
+          → sorted by_number (filter u ms)
+          ≡ (if has ms p then put_once p (sorted by_number (filter t ms)) else sorted by_number (filter t ms))
+          → sorted by_number (filter u (m ∷ ms))
+          ≡ (if (b || has ms p) then put_once p (sorted by_number (filter t (m ∷ ms))) else sorted by_number (filter t (m ∷ ms)))
       go true f rest =
           let same : m ≡ p = eqb-true m p f in
           let passes : u m ≡ true = now m ∙ ap (λ b. b || t m) (eq-eqb p m (sym same)) in
@@ -128,10 +137,14 @@ module _ (p : ℕ) (t u : ℕ → Bool) (before : t p ≡ false) (now : (m : ℕ
           ∙ ap (λ (b : Bool). put_once p (sorted by_number (if b then m ∷ filter t ms else filter t ms))) (sym not)
       go false f rest =
           let other : m ≡ p → ⊥ = eqb-false m p f in
-          ap (λ (b : Bool). sorted by_number (if b then m ∷ filter u ms else filter u ms)) (others-as-before m (ne_eqb p m (λ same. other (sym same)))) ∙ step other (t m) (has ms p) rest
+          ap (λ (b : Bool). sorted by_number (if b then m ∷ filter u ms else filter u ms))
+          (others-as-before m (ne_eqb p m (λ same. other (sym same)))) ∙ step other (t m) (has ms p) rest
         where
-          step : (m ≡ p → ⊥) → (b c : Bool) → sorted by_number (filter u ms) ≡ (if c then put_once p (sorted by_number (filter t ms)) else sorted by_number (filter t ms))
-              → sorted by_number (if b then m ∷ filter u ms else filter u ms) ≡ (if c then put_once p (sorted by_number (if b then m ∷ filter t ms else filter t ms)) else sorted by_number (if b then m ∷ filter t ms else filter t ms))
+          step : (m ≡ p → ⊥) → (b c : Bool)
+              → sorted by_number (filter u ms) ≡ (if c then put_once p (sorted by_number (filter t ms)) else sorted by_number (filter t ms))
+              → sorted by_number (if b then m ∷ filter u ms else filter u ms)
+              ≡ (if c then put_once p (sorted by_number (if b then m ∷ filter t ms else filter t ms))
+              else sorted by_number (if b then m ∷ filter t ms else filter t ms))
           step other true true rest = ap (put by_number m) rest ∙ put-both m p other (sorted by_number (filter t ms))
           step other true false rest = ap (put by_number m) rest
           step other false true rest = rest

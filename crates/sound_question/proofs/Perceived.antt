@@ -17,12 +17,15 @@ module _ (keyed : List ℕ) (v w : View) where
   abbrev led : ℕ × Update → Bool
   led e = (e.0 == v.number) && gives keyed v w (update e.1)
 
-  led-by : (es : List (ℕ × Update)) → list_any (gives keyed v w) (map (λ e. e.1) (filter (λ e. e.0 == v.number) (map perceived es))) ≡ list_any led es
+  led-by : (es : List (ℕ × Update))
+      → list_any (gives keyed v w) (map (λ e. e.1) (filter (λ e. e.0 == v.number) (map perceived es))) ≡ list_any led es
   led-by [] = refl
   led-by (e ∷ es) = go (e.0 == v.number) (led-by es)
     where
       go : (b : Bool) → list_any (gives keyed v w) (map (λ e. e.1) (filter (λ e. e.0 == v.number) (map perceived es))) ≡ list_any led es
-          → list_any (gives keyed v w) (map (λ e. e.1) (if b then perceived e ∷ filter (λ e. e.0 == v.number) (map perceived es) else filter (λ e. e.0 == v.number) (map perceived es))) ≡ ((b && gives keyed v w (update e.1)) || list_any led es)
+          → list_any (gives keyed v w) (map (λ e. e.1)
+          (if b then perceived e ∷ filter (λ e. e.0 == v.number) (map perceived es)
+          else filter (λ e. e.0 == v.number) (map perceived es))) ≡ ((b && gives keyed v w (update e.1)) || list_any led es)
       go true same = λ i. gives keyed v w (update e.1) || same i
       go false same = same
 
@@ -32,13 +35,17 @@ module _ (keyed : List ℕ) (v w : View) where
   abbrev perceived_by : told.Account → List plain.Update
   perceived_by a = if is_member v a.me then map (λ e. e.1) (filter (λ e. e.0 == v.number) a.perceived) else []
 
-  one : (a : Account) → list_any (gives keyed v w) (if is_member v a.me then map (λ e. e.1) (filter (λ e. e.0 == v.number) (map perceived a.perceived.items)) else []) ≡ leads a
+  one : (a : Account) → list_any (gives keyed v w)
+      (if is_member v a.me then map (λ e. e.1) (filter (λ e. e.0 == v.number) (map perceived a.perceived.items)) else []) ≡ leads a
   one a = go (is_member v a.me)
     where
-      go : (b : Bool) → list_any (gives keyed v w) (if b then map (λ e. e.1) (filter (λ e. e.0 == v.number) (map perceived a.perceived.items)) else []) ≡ (b && list_any led a.perceived.items)
+      go : (b : Bool) → list_any (gives keyed v w)
+          (if b then map (λ e. e.1) (filter (λ e. e.0 == v.number) (map perceived a.perceived.items)) else [])
+          ≡ (b && list_any led a.perceived.items)
       go true = led-by a.perceived.items
       go false = refl
 
   pub cause-by : (accounts : List Account) → list_any leads accounts ≡ has_cause (map account accounts) keyed (v, w)
   cause-by [] = refl
-  cause-by (a ∷ more) = sym (list_any-append (gives keyed v w) (perceived_by (account a)) (flat_map perceived_by (map account more)) ∙ (λ i. one a i || sym (cause-by more) i))
+  cause-by (a ∷ more) = sym (list_any-append (gives keyed v w) (perceived_by (account a))
+      (flat_map perceived_by (map account more)) ∙ (λ i. one a i || sym (cause-by more) i))

@@ -17,10 +17,12 @@ most-from m [] = omega arith
 most-from m (d ∷ ds) =
     let here = most-from (max m (d.place + 1)) ds in
     let there = most-from (max 0 (d.place + 1)) ds in
-    here ∙ (let e : max (max m (d.place + 1)) (places_in ds) ≡ max m (max (max 0 (d.place + 1)) (places_in ds)) = omega arith in e) ∙ ap (max m) (sym there)
+    here ∙ (let e : max (max m (d.place + 1)) (places_in ds) ≡ max m (max (max 0 (d.place + 1)) (places_in ds)) = omega arith in e) ∙ ap
+    (max m) (sym there)
 
 pub places-more : (d : Delivered) (ds : List Delivered) → places_in (d ∷ ds) ≡ max (d.place + 1) (places_in ds)
-places-more d ds = most-from (max 0 (d.place + 1)) ds ∙ (let e : max (max 0 (d.place + 1)) (places_in ds) ≡ max (d.place + 1) (places_in ds) = omega arith in e)
+places-more d ds = most-from (max 0 (d.place + 1)) ds ∙
+    (let e : max (max 0 (d.place + 1)) (places_in ds) ≡ max (d.place + 1) (places_in ds) = omega arith in e)
 
 -- ---- what is at a place
 
@@ -52,12 +54,14 @@ later-same : (a n : ℕ) (d : Delivered) (ds : List Delivered) → d.place < a �
 later-same a zero d ds lt = refl
 later-same a (suc n) d ds lt = λ i. at-other a d ds (λ e. omega (arith, lt, e)) i ++ later-same (a + 1) n d ds (omega (arith, lt)) i
 
-goes-in-front : (a n : ℕ) (d : Delivered) (ds : List Delivered) → a ≤ d.place → d.place < a + n → ((k : ℕ) → a ≤ k → k < d.place → at_place k ds ≡ []) → one_by_one a n (d ∷ ds) ≡ d ∷ one_by_one a n ds
+goes-in-front : (a n : ℕ) (d : Delivered) (ds : List Delivered) → a ≤ d.place → d.place < a + n
+    → ((k : ℕ) → a ≤ k → k < d.place → at_place k ds ≡ []) → one_by_one a n (d ∷ ds) ≡ d ∷ one_by_one a n ds
 goes-in-front a zero d ds le lt none = absurd (omega (arith, le, lt))
 goes-in-front a (suc n) d ds le lt none = elim (cases_eq d.place a) [
   | inl is ↦ (λ i. at-here a d ds is i ++ later-same (a + 1) n d ds (omega (arith, is)) i)
   | inr differs ↦
-      (λ i. at-other a d ds differs i ++ goes-in-front (a + 1) n d ds (omega (arith, le, differs)) (omega (arith, lt)) (λ k le lt. none k (omega (arith, le)) lt) i)
+      (λ i. at-other a d ds differs i
+      ++ goes-in-front (a + 1) n d ds (omega (arith, le, differs)) (omega (arith, lt)) (λ k le lt. none k (omega (arith, le)) lt) i)
       ∙ (λ i. none a (omega arith) (omega (arith, le, differs)) i ++ d ∷ one_by_one (a + 1) n ds)
       ∙ ap (λ es. d ∷ es) (λ i. sym (none a (omega arith) (omega (arith, le, differs))) i ++ one_by_one (a + 1) n ds)
 ]
@@ -70,12 +74,14 @@ record First (a n : ℕ) (d : Delivered) (ds : List Delivered) : Type 0 where
 
 first : (a n : ℕ) (d : Delivered) (rest ds : List Delivered) → one_by_one a n ds ≡ d ∷ rest → First a n d ds
 first a zero d rest ds e = absurd cc
-first a (suc n) d rest ds e = go (at_place a ds) refl (λ x m. (filter-mem (λ (d : Delivered). d.place == a) ds x m).1) e (λ e. first (a + 1) n d rest ds e)
+first a (suc n) d rest ds e = go (at_place a ds) refl (λ x m. (filter-mem (λ (d : Delivered). d.place == a) ds x m).1) e
+    (λ e. first (a + 1) n d rest ds e)
   where
     head-is : (x : Delivered) (xs ys : List Delivered) → x ∷ xs ≡ d ∷ ys → x ≡ d
     head-is x xs ys e = cc
 
-    go : (here : List Delivered) → at_place a ds ≡ here → ((x : Delivered) → Mem x here → (x.place == a) ≡ true) → here ++ one_by_one (a + 1) n ds ≡ d ∷ rest
+    go : (here : List Delivered) → at_place a ds ≡ here → ((x : Delivered) → Mem x here → (x.place == a) ≡ true)
+        → here ++ one_by_one (a + 1) n ds ≡ d ∷ rest
         → (one_by_one (a + 1) n ds ≡ d ∷ rest → First (a + 1) n d ds) → First a (suc n) d ds
     go [] none at e behind =
         let later = behind e in
@@ -84,10 +90,15 @@ first a (suc n) d rest ds e = go (at_place a ds) refl (λ x m. (filter-mem (λ (
         record {
           from = omega (arith, from);
           within = omega (arith, within);
-          none = λ k le lt. elim (cases_eq k a) [ inl is ↦ ap (λ k. at_place k ds) is ∙ none | inr differs ↦ later.none k (omega (arith, le, differs)) lt ];
+          none = λ k le lt. elim (cases_eq k a) [
+            | inl is ↦ ap (λ k. at_place k ds) is ∙ none
+            | inr differs ↦ later.none k
+                (omega (arith, le, differs)) lt
+          ];
         }
     go (x ∷ xs) some at e behind =
-        let is : d.place ≡ a = ap (λ (d : Delivered). d.place) (sym (head-is x (xs ++ one_by_one (a + 1) n ds) rest e)) ∙ eqb-true x.place a (at x (inl refl)) in
+        let is : d.place ≡ a = ap (λ (d : Delivered). d.place)
+        (sym (head-is x (xs ++ one_by_one (a + 1) n ds) rest e)) ∙ eqb-true x.place a (at x (inl refl)) in
         record { from = omega (arith, is); within = omega (arith, is); none = λ k le lt. absurd (omega (arith, le, lt, is)) }
 
 -- ---- the walk
@@ -106,7 +117,8 @@ module _ (p l n : ℕ) (d : Delivered) (ds : List Delivered) (is : d.place ≡ p
   next-goes few g =
       let enough = g.enough in
       record {
-        together = goes-in-front 0 n d ds (omega arith) (omega (arith, is, enough)) (λ k le lt. g.before k (omega (arith, lt, is))) ∙ ap (λ es. d ∷ es) g.together;
+        together = goes-in-front 0 n d ds (omega arith) (omega (arith, is, enough))
+            (λ k le lt. g.before k (omega (arith, lt, is))) ∙ ap (λ es. d ∷ es) g.together;
         enough = omega (arith, enough);
         whole = λ k le lt. elim (cases_eq d.place k) [
           | inl here ↦
@@ -121,7 +133,8 @@ module _ (p l n : ℕ) (d : Delivered) (ds : List Delivered) (is : d.place ≡ p
               (omega (arith, long, some), omega (arith, long, most))
         ];
         last = λ k e.
-            let none : length (at_place k (d ∷ ds)) ≡ 0 = ap length (at-other k d ds (λ here. omega (arith, here, e, is)) ∙ g.before k (omega (arith, e))) in
+            let none : length (at_place k (d ∷ ds))
+            ≡ 0 = ap length (at-other k d ds (λ here. omega (arith, here, e, is)) ∙ g.before k (omega (arith, e))) in
             omega (arith, none, few);
         before = λ k lt. at-other k d ds (λ here. omega (arith, here, lt, is)) ∙ g.before k (omega (arith, lt));
       }
@@ -133,7 +146,8 @@ module _ (p l n : ℕ) (d : Delivered) (ds : List Delivered) (is : d.place ≡ p
         together = together;
         enough = omega (arith, within, is);
         whole = λ k le lt.
-            let long : length (at_place k (d ∷ ds)) ≡ length (at_place k ds) = ap length (at-other k d ds (λ here. omega (arith, here, le, is))) in
+            let long : length (at_place k (d ∷ ds))
+            ≡ length (at_place k ds) = ap length (at-other k d ds (λ here. omega (arith, here, le, is))) in
             let both = g.whole k (omega (arith, le)) lt in
             let some = both.0 in
             let most = both.1 in
@@ -152,10 +166,12 @@ module _ (p l n : ℕ) (d : Delivered) (ds : List Delivered) (is : d.place + 1 �
   more-goes g =
       let enough = g.enough in
       record {
-        together = goes-in-front 0 n d ds (omega arith) (omega (arith, is, enough)) (λ k le lt. g.before k (omega (arith, lt, is))) ∙ ap (λ es. d ∷ es) g.together;
+        together = goes-in-front 0 n d ds (omega arith) (omega (arith, is, enough))
+            (λ k le lt. g.before k (omega (arith, lt, is))) ∙ ap (λ es. d ∷ es) g.together;
         enough = enough;
         whole = λ k le lt.
-            let long : length (at_place k (d ∷ ds)) ≡ length (at_place k ds) = ap length (at-other k d ds (λ here. omega (arith, here, le, is))) in
+            let long : length (at_place k (d ∷ ds))
+            ≡ length (at_place k ds) = ap length (at-other k d ds (λ here. omega (arith, here, le, is))) in
             let both = g.whole k le lt in
             let some = both.0 in
             let most = both.1 in
@@ -176,7 +192,8 @@ module _ (p l n : ℕ) (d : Delivered) (ds : List Delivered) (is : d.place + 1 �
           together = together;
           enough = g.enough;
           whole = λ k le lt.
-              let long : length (at_place k (d ∷ ds)) ≡ length (at_place k ds) = ap length (at-other k d ds (λ here. omega (arith, here, le, is))) in
+              let long : length (at_place k (d ∷ ds))
+              ≡ length (at_place k ds) = ap length (at-other k d ds (λ here. omega (arith, here, le, is))) in
               let both = g.whole k le lt in
               let some = both.0 in
               let most = both.1 in
@@ -205,8 +222,10 @@ step p l d ds = go (d.place == p) refl (d.place + 1 == p) refl (nat_lt l 16) ref
     go : (a : Bool) → (d.place == p) ≡ a → (b : Bool) → (d.place + 1 == p) ≡ b → (c : Bool) → nat_lt l 16 ≡ c → Step p l d ds
     go true here b after c few = next (eqb-true d.place p here) (rw here refl)
     go false here true after true few = more (eqb-true (d.place + 1) p after) (ltb-true l 16 few) (rw (here, after, few) refl)
-    go false here true after false few = stop (eqb-false d.place p here) (λ e lt. (let yes' : nat_lt l 16 ≡ true = lt-ltb l 16 lt in absurd cc)) (rw (here, after, few) refl)
-    go false here false after c few = stop (eqb-false d.place p here) (λ e lt. (let yes' : (d.place + 1 == p) ≡ true = eq-eqb (d.place + 1) p e in absurd cc)) (rw (here, after) refl)
+    go false here true after false few = stop (eqb-false d.place p here)
+        (λ e lt. (let yes' : nat_lt l 16 ≡ true = lt-ltb l 16 lt in absurd cc)) (rw (here, after, few) refl)
+    go false here false after c few = stop (eqb-false d.place p here)
+        (λ e lt. (let yes' : (d.place + 1 == p) ≡ true = eq-eqb (d.place + 1) p e in absurd cc)) (rw (here, after) refl)
 
 walked : (p l : ℕ) (ds : List Delivered) → l ≤ 16 → steps p l ds ≡ true → Goes p l ds (max p (places_in ds))
 walked p l [] few e =
@@ -218,9 +237,11 @@ walked p l [] few e =
       last = λ k e. omega (arith, few);
       before = λ k lt. refl;
     })
-walked p l (d ∷ ds) few e = go (step p l d ds) (λ e. walked (p + 1) 1 ds (omega arith) e) (λ lt e. walked p (l + 1) ds (omega (arith, lt)) e)
+walked p l (d ∷ ds) few e = go (step p l d ds) (λ e. walked (p + 1) 1 ds (omega arith) e)
+    (λ lt e. walked p (l + 1) ds (omega (arith, lt)) e)
   where
-    go : Step p l d ds → (steps (p + 1) 1 ds ≡ true → Goes (p + 1) 1 ds (max (p + 1) (places_in ds))) → (l < 16 → steps p (l + 1) ds ≡ true → Goes p (l + 1) ds (max p (places_in ds)))
+    go : Step p l d ds → (steps (p + 1) 1 ds ≡ true → Goes (p + 1) 1 ds (max (p + 1) (places_in ds)))
+        → (l < 16 → steps p (l + 1) ds ≡ true → Goes p (l + 1) ds (max p (places_in ds)))
         → Goes p l (d ∷ ds) (max p (places_in (d ∷ ds)))
     go (next is to) next-rest more-rest =
         let count = places-more d ds in
@@ -244,9 +265,11 @@ walks p l n (d ∷ ds) g = go (step p l d ds) (λ g. walks (p + 1) 1 n ds g) (λ
 
     together : one_by_one 0 n ds ≡ ds
     together = tail-is (one_by_one 0 n ds) ds
-        (sym (goes-in-front 0 n d ds (omega arith) (let within = at.within in omega (arith, within)) (λ k le lt. sym (at-other k d ds (λ here. omega (arith, here, lt))) ∙ at.none k le lt)) ∙ g.together)
+        (sym (goes-in-front 0 n d ds (omega arith) (let within = at.within in omega (arith, within))
+        (λ k le lt. sym (at-other k d ds (λ here. omega (arith, here, lt))) ∙ at.none k le lt)) ∙ g.together)
 
-    go : Step p l d ds → (Goes (p + 1) 1 ds n → steps (p + 1) 1 ds ≡ true) → (Goes p (l + 1) ds n → steps p (l + 1) ds ≡ true) → steps p l (d ∷ ds) ≡ true
+    go : Step p l d ds → (Goes (p + 1) 1 ds n → steps (p + 1) 1 ds ≡ true) → (Goes p (l + 1) ds n → steps p (l + 1) ds ≡ true)
+        → steps p l (d ∷ ds) ≡ true
     go (next is to) next-rest more-rest = to ∙ next-rest (goes-next p l n d ds is g at together)
     go (more is lt to) next-rest more-rest = to ∙ more-rest (goes-more p l n d ds is g together).1
     go (stop other over to) next-rest more-rest = absurd (elim (cases_lt d.place p) [

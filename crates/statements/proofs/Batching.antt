@@ -28,11 +28,14 @@ put_behind len ms m kept few =
     record {
       some = omega arith;
       few = omega arith;
-      behind = ap (λ (xs : List (ℕ × ℕ)). set xs len m) kept.behind ∙ next_filled (take len ms) m len (taken len ms kept) few ∙ ap filled (sym more);
+      behind = ap (λ (xs : List (ℕ × ℕ)). set xs len m) kept.behind ∙ next_filled (take len ms) m len (taken len ms kept) few ∙ ap filled
+          (sym more);
     }
 
 -- pair by pair
-pub same_pairs : (xs ys : List (ℕ × ℕ)) → pointwise (λ (a b : ℕ × ℕ). same_message (message_of a) (message_of b)) xs ys ≡ pointwise same_message (map message_of xs) (map message_of ys)
+pub same_pairs : (xs ys : List (ℕ × ℕ))
+    → pointwise (λ (a b : ℕ × ℕ). same_message (message_of a) (message_of b)) xs ys
+    ≡ pointwise same_message (map message_of xs) (map message_of ys)
 same_pairs [] [] = refl
 same_pairs [] (y ∷ ys) = refl
 same_pairs (x ∷ xs) [] = refl
@@ -40,7 +43,8 @@ same_pairs (x ∷ xs) (y ∷ ys) = ap (λ b. same_message (message_of x) (messag
 
 message_decided : (a b : Message) → Decides (same_message a b) (a ≡ b)
 message_decided a b =
-    Decides-like (same_message a b) (λ parts. λ i. message (parts.0 i) (parts.1 i)) (λ e. (ap (λ (m : Message). m.sender) e, ap (λ (m : Message). m.number) e))
+    Decides-like (same_message a b) (λ parts. λ i. message (parts.0 i) (parts.1 i))
+    (λ e. (ap (λ (m : Message). m.sender) e, ap (λ (m : Message). m.number) e))
     (Decides-and (a.sender == b.sender) (a.number == b.number) (Decides-eqb a.sender b.sender) (Decides-eqb a.number b.number))
 
 pub batch_decided : (b c : Batch) → Decides (same_batch b c) (b ≡ c)

@@ -13,13 +13,16 @@ same_statement a b p q e = ok_is {E = FrameFault} a b (sym (spelling_again a p) 
 
 -- fronts of one length
 fronts : (g h s t : List ℕ) (n : ℕ) → length g ≡ n → length h ≡ n → g ++ s ≡ h ++ t → (g ≡ h) × (s ≡ t)
-fronts g h s t n lg lh e =
-    (sym (take_at g s n lg) ∙ ap (λ (x : List ℕ). take n x) e ∙ take_at h t n lh, sym (drop_at g s n lg) ∙ ap (λ (x : List ℕ). drop n x) e ∙ drop_at h t n lh)
+fronts g h s t n lg lh e = (
+  sym (take_at g s n lg) ∙ ap (λ (x : List ℕ). take n x) e ∙ take_at h t n lh,
+  sym (drop_at g s n lg) ∙ ap (λ (x : List ℕ). drop n x) e ∙ drop_at h t n lh,
+)
 
 heads : (p q : ℕ) (s t : List ℕ) → p ∷ s ≡ q ∷ t → (p ≡ q) × (s ≡ t)
 heads p q s t e = (cc, cc)
 
-pub same_body : (g h : List ℕ) (p q : ℕ) (a b : Statement) → length g ≡ 16 → length h ≡ 16 → IsStatement a → IsStatement b → body g p a ≡ body h q b → (g ≡ h) × (p ≡ q) × (a ≡ b)
+pub same_body : (g h : List ℕ) (p q : ℕ) (a b : Statement) → length g ≡ 16 → length h ≡ 16 → IsStatement a → IsStatement b
+    → body g p a ≡ body h q b → (g ≡ h) × (p ≡ q) × (a ≡ b)
 same_body g h p q a b lg lh fa fb e =
     let behind = append_cancel_left (82 ∷ 80 ∷ 66 ∷ 49 ∷ []) (g ++ (p ∷ spelling a)) (h ++ (q ∷ spelling b)) e in
     let parts = fronts g h (p ∷ spelling a) (q ∷ spelling b) 16 lg lh behind in

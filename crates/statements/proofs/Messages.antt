@@ -24,19 +24,22 @@ one_by_one (suc n) bytes = message_at bytes >>= λ m. message_within m.0 >>= λ 
 -- ---- bytes that hold so many messages
 
 -- there is a number, where there are bytes enough
-number_there : (w : Width) (bytes : List ℕ) → byte_len w ≤ length bytes → (x : ℕ × List ℕ) × (number_at faults.Statement w bytes ≡ Ok x) × (length x.1 + byte_len w ≡ length bytes)
+number_there : (w : Width) (bytes : List ℕ) → byte_len w ≤ length bytes
+    → (x : ℕ × List ℕ) × (number_at faults.Statement w bytes ≡ Ok x) × (length x.1 + byte_len w ≡ length bytes)
 number_there w bytes long =
     let enough : ltb (length bytes) (byte_len w) ≡ false = le-ltb _ _ long in
     ((from_be_bytes w (take (byte_len w) bytes), drop (byte_len w) bytes), rw enough refl, omega (arith, length-drop (byte_len w) bytes))
 
-pub message_there : (bytes : List ℕ) → 3 ≤ length bytes → (x : Message × List ℕ) × (message_at bytes ≡ Ok x) × (length x.1 + 3 ≡ length bytes)
+pub message_there : (bytes : List ℕ) → 3 ≤ length bytes
+    → (x : Message × List ℕ) × (message_at bytes ≡ Ok x) × (length x.1 + 3 ≡ length bytes)
 unfolding message_at
 message_there bytes long =
     let s = number_there w8 bytes (omega (arith, long)) in
     let n = number_there w16 s.0.1 (omega (arith, s.2)) in
     ((message s.0.0 n.0.0, n.0.1), rw (s.1, n.1) refl, omega (arith, s.2, n.2))
 
-more_there : (n : ℕ) (bytes rest tail : List ℕ) (m : Message) (ms : Batch) → message_at bytes ≡ Ok (m, rest) → messages_at n rest ≡ Ok (ms, tail) → messages_at (suc n) bytes ≡ Ok (m ∷ ms, tail)
+more_there : (n : ℕ) (bytes rest tail : List ℕ) (m : Message) (ms : Batch) → message_at bytes ≡ Ok (m, rest)
+    → messages_at n rest ≡ Ok (ms, tail) → messages_at (suc n) bytes ≡ Ok (m ∷ ms, tail)
 unfolding messages_at
 more_there n bytes rest tail m ms first others = rw (first, others) refl
 
@@ -65,7 +68,8 @@ message_short bytes short =
 
 -- the messages of other bytes end in a fault, or have bytes behind them
 abbrev IsOther : ℕ → List ℕ → Type 0
-IsOther n bytes = (messages_at n bytes ≡ Err faults.Statement) ⊎ ((x : Batch × List ℕ) × (messages_at n bytes ≡ Ok x) × (ended x.1 ≡ Err faults.Statement))
+IsOther n bytes = (messages_at n bytes ≡ Err faults.Statement)
+    ⊎ ((x : Batch × List ℕ) × (messages_at n bytes ≡ Ok x) × (ended x.1 ≡ Err faults.Statement))
 
 not_ended : (bytes : List ℕ) → (length bytes ≡ 0 → ⊥) → ended bytes ≡ Err faults.Statement
 not_ended [] some = absurd (some refl)
@@ -87,16 +91,21 @@ other_length (suc n) bytes other =
 
 -- ---- the ranges
 
-together : (m : Message) (ms : Batch) (first rest : Result (Unit {0}) FrameFault) → passed (first >>= λ _. rest) (m ∷ ms) ≡ first >>= λ _. passed rest ms >>= λ xs. Ok (m ∷ xs)
+together : (m : Message) (ms : Batch) (first rest : Result (Unit {0}) FrameFault)
+    → passed (first >>= λ _. rest) (m ∷ ms) ≡ first >>= λ _. passed rest ms >>= λ xs. Ok (m ∷ xs)
 together m ms (Err e) rest = refl
 together m ms (Ok u) (Err e) = refl
 together m ms (Ok u) (Ok v) = refl
 
-one_more : (n : ℕ) (bytes rest : List ℕ) (m : Message) (ms : Batch) → message_at bytes ≡ Ok (m, rest) → messages_at n rest ≡ Ok (ms, []) → in_range n rest ≡ one_by_one n rest → in_range (suc n) bytes ≡ one_by_one (suc n) bytes
+one_more : (n : ℕ) (bytes rest : List ℕ) (m : Message) (ms : Batch) → message_at bytes ≡ Ok (m, rest) → messages_at n rest ≡ Ok (ms, [])
+    → in_range n rest ≡ one_by_one n rest → in_range (suc n) bytes ≡ one_by_one (suc n) bytes
 unfolding messages_at
 one_more n bytes rest m ms first others same =
-    let again : passed (messages_within ms) ms ≡ one_by_one n rest = ap (λ (read : Result (Batch × List ℕ) FrameFault). read >>= λ x. passed (messages_within x.0) x.0) (sym others) ∙ same in
-    rw (first, others) (together m ms (message_within m) (messages_within ms) ∙ ap (λ (r : Result Batch FrameFault). message_within m >>= λ _. r >>= λ xs. done (m ∷ xs)) again)
+    let again : passed (messages_within ms) ms
+    ≡ one_by_one n rest = ap (λ (read : Result (Batch × List ℕ) FrameFault). read >>= λ x. passed (messages_within x.0) x.0)
+    (sym others) ∙ same in
+    rw (first, others) (together m ms (message_within m)
+    (messages_within ms) ∙ ap (λ (r : Result Batch FrameFault). message_within m >>= λ _. r >>= λ xs. done (m ∷ xs)) again)
 
 as_one_by_one : (n : ℕ) (bytes : List ℕ) → length bytes ≡ 3 * n → in_range n bytes ≡ one_by_one n bytes
 unfolding messages_at
@@ -124,14 +133,17 @@ pub behind_at : {n m : ℕ} (ms : Batch) (bytes : List ℕ) → n ≡ m → behi
 behind_at ms bytes same = ap (λ k. behind ms (one_by_one k bytes)) same
 
 -- a message that is out of range, and one in range
-refuse : (s : ℕ) (e : FrameFault) (test : Result (Unit {0}) FrameFault) (ms : Batch) (m : Message) (read : Result Batch FrameFault) → passed test s ≡ Err e → behind ms (test >>= λ _. read >>= λ more. Ok (m ∷ more)) ≡ Err e
+refuse : (s : ℕ) (e : FrameFault) (test : Result (Unit {0}) FrameFault) (ms : Batch) (m : Message) (read : Result Batch FrameFault)
+    → passed test s ≡ Err e → behind ms (test >>= λ _. read >>= λ more. Ok (m ∷ more)) ≡ Err e
 refuse s e (Ok u) ms m read refused = absurd cc
 refuse s e (Err d) ms m read refused = cc
 
-further : (s l p : ℕ) (test : Result (Unit {0}) FrameFault) (ms : Batch) (read : Result Batch FrameFault) → passed test s ≡ Ok p → behind ms (test >>= λ _. read >>= λ more. Ok (message s l ∷ more)) ≡ behind (ms ++ message p l ∷ []) read
+further : (s l p : ℕ) (test : Result (Unit {0}) FrameFault) (ms : Batch) (read : Result Batch FrameFault) → passed test s ≡ Ok p
+    → behind ms (test >>= λ _. read >>= λ more. Ok (message s l ∷ more)) ≡ behind (ms ++ message p l ∷ []) read
 further s l p (Err d) ms read fits = absurd cc
 further s l p (Ok u) ms (Err d) fits = refl
-further s l p (Ok u) ms (Ok xs) fits = let same : s ≡ p = ok_is s p fits in rw same (ap (λ (ys : Batch). Ok ys) (sym (append_assoc ms (message p l ∷ []) xs)))
+further s l p (Ok u) ms (Ok xs) fits = let same : s
+    ≡ p = ok_is s p fits in rw same (ap (λ (ys : Batch). Ok ys) (sym (append_assoc ms (message p l ∷ []) xs)))
 
 module _ (ms : Batch) (n : ℕ) (bytes : List ℕ) where
   -- the next message is not there
@@ -139,11 +151,13 @@ module _ (ms : Batch) (n : ℕ) (bytes : List ℕ) where
   none_there e none = rw none refl
 
   -- the next message is out of range
-  pub refused_there : (rest : List ℕ) (s l : ℕ) (e : FrameFault) → message_at bytes ≡ Ok (message s l, rest) → passed (message_within (message s l)) s ≡ Err e → behind ms (one_by_one (suc n) bytes) ≡ Err e
+  pub refused_there : (rest : List ℕ) (s l : ℕ) (e : FrameFault) → message_at bytes ≡ Ok (message s l, rest)
+      → passed (message_within (message s l)) s ≡ Err e → behind ms (one_by_one (suc n) bytes) ≡ Err e
   refused_there rest s l e read refused = rw read (refuse s e (message_within (message s l)) ms (message s l) (one_by_one n rest) refused)
 
   -- the next message is in range, and is put behind those before it
-  pub one_further : (rest : List ℕ) (s l p : ℕ) → message_at bytes ≡ Ok (message s l, rest) → passed (message_within (message s l)) s ≡ Ok p → behind ms (one_by_one (suc n) bytes) ≡ behind (ms ++ message p l ∷ []) (one_by_one n rest)
+  pub one_further : (rest : List ℕ) (s l p : ℕ) → message_at bytes ≡ Ok (message s l, rest) → passed (message_within (message s l)) s ≡ Ok p
+      → behind ms (one_by_one (suc n) bytes) ≡ behind (ms ++ message p l ∷ []) (one_by_one n rest)
   one_further rest s l p read fits = rw read (further s l p (message_within (message s l)) ms (one_by_one n rest) fits)
 
 -- ---- the view and the place before them
@@ -159,7 +173,8 @@ abbrev placed_from : ℕ → ℕ → ℕ → List ℕ → Read
 placed_from x k n bytes = messages_at n bytes >>= λ ms. ended ms.1 >>= λ _. placed x k (messages_within ms.0) ms.0
 
 -- the three fields were read
-pub placed_after : (several : Bool) (bytes : List ℕ) (x k n : ℕ) (after_view after_place after_count : List ℕ) → short_at bytes ≡ Ok (x, after_view) → short_at after_view ≡ Ok (k, after_place) → count_at several after_place ≡ Ok (n, after_count)
+pub placed_after : (several : Bool) (bytes : List ℕ) (x k n : ℕ) (after_view after_place after_count : List ℕ)
+    → short_at bytes ≡ Ok (x, after_view) → short_at after_view ≡ Ok (k, after_place) → count_at several after_place ≡ Ok (n, after_count)
     → placed_at several bytes ≡ placed_from x k n after_count
 unfolding placed_at
 placed_after several bytes x k n after_view after_place after_count view place count = rw (view, place, count) refl
@@ -174,7 +189,8 @@ wrong_length x k n bytes other =
 refused : (limit n : ℕ) → limit < n → within limit n ≡ Err faults.Range
 refused limit n above = let over : ltb limit n ≡ true = lt-ltb _ _ above in rw over refl
 
-pub wrong_number : (x k n : ℕ) (bytes : List ℕ) → length bytes ≡ 3 * n → (1023 < x) ⊎ ((x ≤ 1023) × (1023 < k)) → placed_from x k n bytes ≡ Err faults.Range
+pub wrong_number : (x k n : ℕ) (bytes : List ℕ) → length bytes ≡ 3 * n → (1023 < x) ⊎ ((x ≤ 1023) × (1023 < k))
+    → placed_from x k n bytes ≡ Err faults.Range
 wrong_number x k n bytes len either =
     let ms = messages_there n bytes len in
     elim either [
@@ -182,9 +198,12 @@ wrong_number x k n bytes len either =
       | inr place ↦ rw (ms.1, is_within 1023 x place.0, refused 1023 k place.1) refl
     ]
 
-all_pass : (x k : ℕ) (test : Result (Unit {0}) FrameFault) (ms : Batch) → x ≤ 1023 → k ≤ 1023 → placed x k test ms ≡ passed test ms >>= λ b. done (x, k, b)
+all_pass : (x k : ℕ) (test : Result (Unit {0}) FrameFault) (ms : Batch) → x ≤ 1023 → k ≤ 1023
+    → placed x k test ms ≡ passed test ms >>= λ b. done (x, k, b)
 all_pass x k (Err e) ms view place = rw (is_within 1023 x view, is_within 1023 k place) refl
 all_pass x k (Ok u) ms view place = rw (is_within 1023 x view, is_within 1023 k place) refl
 
-pub right_numbers : (x k n : ℕ) (bytes : List ℕ) → length bytes ≡ 3 * n → x ≤ 1023 → k ≤ 1023 → placed_from x k n bytes ≡ in_range n bytes >>= λ b. done (x, k, b)
-right_numbers x k n bytes len view place = let ms = messages_there n bytes len in rw ms.1 (all_pass x k (messages_within ms.0) ms.0 view place)
+pub right_numbers : (x k n : ℕ) (bytes : List ℕ) → length bytes ≡ 3 * n → x ≤ 1023 → k ≤ 1023
+    → placed_from x k n bytes ≡ in_range n bytes >>= λ b. done (x, k, b)
+right_numbers x k n bytes len view place = let ms = messages_there n bytes len in rw ms.1
+    (all_pass x k (messages_within ms.0) ms.0 view place)

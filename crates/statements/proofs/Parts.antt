@@ -73,11 +73,15 @@ message_takes bytes x fits e =
     let s = byte_takes faults.Statement bytes a.0.0 a.0.1 fits a.1 in
     let l = short_takes faults.Statement a.0.1 b.0.0 b.0.1 s.0.rest_fits b.1 in
     let made : Message × List ℕ = (record { sender = a.0.0; number = b.0.0 }, b.0.1) in
-    subst (λ (y : Message × List ℕ). Takes bytes (message_bytes y.0) y.1) (ok_is made x b.2) (Takes-then bytes (a.0.0 ∷ []) a.0.1 (two_bytes b.0.0) b.0.1 s.0 l.0)
+    subst (λ (y : Message × List ℕ). Takes bytes (message_bytes y.0) y.1) (ok_is made x b.2)
+    (Takes-then bytes (a.0.0 ∷ []) a.0.1 (two_bytes b.0.0) b.0.1 s.0 l.0)
 
 pub message_again : (m : Message) (rest : List ℕ) → IsMessage m → message_at (message_bytes m ++ rest) ≡ Ok (m, rest)
 unfolding message_at
-message_again m rest fits = rw (byte_again faults.Statement m.sender (two_bytes m.number ++ rest), short_again faults.Statement m.number rest (omega (arith, fits.1))) refl
+message_again m rest fits = rw (
+  byte_again faults.Statement m.sender (two_bytes m.number ++ rest),
+  short_again faults.Statement m.number rest (omega (arith, fits.1)),
+) refl
 
 pub payload_takes : (bytes payload : List ℕ) → IsBytes bytes → payload_at bytes ≡ Ok payload → bytes ≡ text payload
 unfolding payload_at
@@ -95,7 +99,8 @@ payload_again payload short =
     rw (short_again faults.Statement (length payload) payload (omega arith), same) refl
 
 -- a choice that was read: the first, or what comes after it
-chosen : {A : Type 0} (b : Bool) (x y : A) (after : Result A FrameFault) → (if b then Ok x else after) ≡ Ok y → ((b ≡ true) × (x ≡ y)) ⊎ (after ≡ Ok y)
+chosen : {A : Type 0} (b : Bool) (x y : A) (after : Result A FrameFault) → (if b then Ok x else after) ≡ Ok y
+    → ((b ≡ true) × (x ≡ y)) ⊎ (after ≡ Ok y)
 chosen true x y after e = inl (refl, cc)
 chosen false x y after e = inr e
 
@@ -125,7 +130,8 @@ update_takes bytes x fits e =
     let tag = byte_takes faults.Statement bytes a.0.0 a.0.1 fits a.1 in
     let p = byte_takes faults.Statement a.0.1 b.0.0 b.0.1 tag.0.rest_fits b.1 in
     let made : Update × List ℕ = (d.0, b.0.1) in
-    let spelled : Takes bytes (update_numbers d.0) b.0.1 = rw (update_by_is a.0.0 b.0.0 d.0 d.1) (Takes-then bytes (a.0.0 ∷ []) a.0.1 (b.0.0 ∷ []) b.0.1 tag.0 p.0) in
+    let spelled : Takes bytes (update_numbers d.0) b.0.1 = rw (update_by_is a.0.0 b.0.0 d.0 d.1)
+    (Takes-then bytes (a.0.0 ∷ []) a.0.1 (b.0.0 ∷ []) b.0.1 tag.0 p.0) in
     subst (λ (y : Update × List ℕ). Takes bytes (update_numbers y.0) y.1) (ok_is made x d.2) spelled
 
 pub update_again : (u : Update) (rest : List ℕ) → update_at (update_numbers u ++ rest) ≡ Ok (u, rest)
@@ -142,12 +148,14 @@ value_takes bytes x fits e =
     let u = update_takes bytes a.0 fits a.1 in
     let c = short_takes faults.Statement a.0.1 b.0.0 b.0.1 u.rest_fits b.1 in
     let made : Value × List ℕ = (record { update = a.0.0; cut = b.0.0 }, b.0.1) in
-    subst (λ (y : Value × List ℕ). Takes bytes (value_bytes y.0) y.1) (ok_is made x b.2) (Takes-then bytes (update_numbers a.0.0) a.0.1 (two_bytes b.0.0) b.0.1 u c.0)
+    subst (λ (y : Value × List ℕ). Takes bytes (value_bytes y.0) y.1) (ok_is made x b.2)
+    (Takes-then bytes (update_numbers a.0.0) a.0.1 (two_bytes b.0.0) b.0.1 u c.0)
 
 pub value_again : (v : Value) (rest : List ℕ) → IsValue v → value_at (value_bytes v ++ rest) ≡ Ok (v, rest)
 unfolding value_at
 value_again v rest fits =
-    ap value_at (append_assoc (update_numbers v.update) (two_bytes v.cut) rest) ∙ rw (update_again v.update (two_bytes v.cut ++ rest), short_again faults.Statement v.cut rest (omega (arith, fits.1))) refl
+    ap value_at (append_assoc (update_numbers v.update) (two_bytes v.cut) rest) ∙ rw
+    (update_again v.update (two_bytes v.cut ++ rest), short_again faults.Statement v.cut rest (omega (arith, fits.1))) refl
 
 -- the report of a Last
 abbrev Report : Type 0
@@ -164,7 +172,8 @@ some_takes bytes x fits e =
     let value = value_takes a.0.1 b.0 rank.0.rest_fits b.1 in
     let both = Takes-then bytes (a.0.0 ∷ []) a.0.1 (value_bytes b.0.0) b.0.1 rank.0 value in
     let made : Report × List ℕ = (Some (a.0.0, b.0.0), b.0.1) in
-    subst (λ (y : Report × List ℕ). Takes (1 ∷ bytes) (ready_bytes y.0) y.1) (ok_is made x b.2) (record { parts = ap (λ (t : List ℕ). 1 ∷ t) both.parts; rest_fits = both.rest_fits })
+    subst (λ (y : Report × List ℕ). Takes (1 ∷ bytes) (ready_bytes y.0) y.1) (ok_is made x b.2)
+    (record { parts = ap (λ (t : List ℕ). 1 ∷ t) both.parts; rest_fits = both.rest_fits })
 
 pub report_takes : (bytes : List ℕ) (x : Report × List ℕ) → IsBytes bytes → report_at bytes ≡ Ok x → Takes bytes (ready_bytes x.0) x.1
 unfolding report_at
@@ -173,7 +182,8 @@ report_takes bytes x fits e =
     let tag = byte_takes faults.Statement bytes a.0.0 a.0.1 fits a.1 in
     elim (chosen (eqb a.0.0 0) (None, a.0.1) x (refuse_if (not (eqb a.0.0 1)) faults.Statement >>= λ _. some_report a.0.1) a.2) [
       | inl none ↦ let zero : a.0.0 ≡ 0 = eqb-true _ _ none.0 in
-          subst (λ (y : Report × List ℕ). Takes bytes (ready_bytes y.0) y.1) none.1 (subst (λ (t : ℕ). Takes bytes (t ∷ []) a.0.1) zero tag.0)
+          subst (λ (y : Report × List ℕ). Takes bytes (ready_bytes y.0) y.1) none.1
+          (subst (λ (t : ℕ). Takes bytes (t ∷ []) a.0.1) zero tag.0)
       | inr some ↦
           let b = refuse_ok (not (eqb a.0.0 1)) faults.Statement (λ _. some_report a.0.1) x some in
           let one : a.0.0 ≡ 1 = eqb-true _ _ (not_false _ b.0) in
@@ -185,7 +195,11 @@ pub report_again : (r : ℕ) (ready : Report) (rest : List ℕ) → IsReport r r
 unfolding report_at
 report_again r None rest fits = rw (byte_again faults.Statement 0 rest) refl
 report_again r (Some ready) rest fits =
-    rw (byte_again faults.Statement 1 (ready.0 ∷ (value_bytes ready.1 ++ rest)), byte_again faults.Statement ready.0 (value_bytes ready.1 ++ rest), value_again ready.1 rest fits.1) refl
+    rw (
+      byte_again faults.Statement 1 (ready.0 ∷ (value_bytes ready.1 ++ rest)),
+      byte_again faults.Statement ready.0 (value_bytes ready.1 ++ rest),
+      value_again ready.1 rest fits.1,
+    ) refl
 
 pub report_within_ok : (r : ℕ) (ready : Report) → report_within r ready ≡ Ok tt → IsReport r ready
 report_within_ok r None e = tt

@@ -35,23 +35,27 @@ messages_many (suc n) bytes x e =
     let made : Batch × List ℕ = (a.0.0 ∷ b.0.0, b.0.1) in
     subst (λ (y : Batch × List ℕ). length y.0 ≡ suc n) (ok_is made x b.2) (ap suc (messages_many n a.0.1 b.0 b.1))
 
-messages_take : (n : ℕ) (bytes : List ℕ) (x : Batch × List ℕ) → IsBytes bytes → messages_at n bytes ≡ Ok x → Takes bytes (flat_map message_bytes x.0) x.1
+messages_take : (n : ℕ) (bytes : List ℕ) (x : Batch × List ℕ) → IsBytes bytes → messages_at n bytes ≡ Ok x
+    → Takes bytes (flat_map message_bytes x.0) x.1
 unfolding messages_at
-messages_take zero bytes x fits e = subst (λ (y : Batch × List ℕ). Takes bytes (flat_map message_bytes y.0) y.1) (ok_is ([], bytes) x e) (record { parts = refl; rest_fits = fits })
+messages_take zero bytes x fits e = subst (λ (y : Batch × List ℕ). Takes bytes (flat_map message_bytes y.0) y.1) (ok_is ([], bytes) x e)
+    (record { parts = refl; rest_fits = fits })
 messages_take (suc n) bytes x fits e =
     let a = bind_ok (message_at bytes) _ x e in
     let b = bind_ok (messages_at n a.0.1) _ x a.2 in
     let made : Batch × List ℕ = (a.0.0 ∷ b.0.0, b.0.1) in
     let first = message_takes bytes a.0 fits a.1 in
     let others = messages_take n a.0.1 b.0 first.rest_fits b.1 in
-    subst (λ (y : Batch × List ℕ). Takes bytes (flat_map message_bytes y.0) y.1) (ok_is made x b.2) (Takes-then bytes (message_bytes a.0.0) a.0.1 (flat_map message_bytes b.0.0) b.0.1 first others)
+    subst (λ (y : Batch × List ℕ). Takes bytes (flat_map message_bytes y.0) y.1) (ok_is made x b.2)
+    (Takes-then bytes (message_bytes a.0.0) a.0.1 (flat_map message_bytes b.0.0) b.0.1 first others)
 
 messages_again : (b : Batch) (rest : List ℕ) → AreMessages b → messages_at (length b) (flat_map message_bytes b ++ rest) ≡ Ok (b, rest)
 unfolding messages_at
 messages_again [] rest fits = refl
 messages_again (m ∷ ms) rest fits =
     let front = append_assoc (message_bytes m) (flat_map message_bytes ms) rest in
-    ap (messages_at (suc (length ms))) front ∙ rw (message_again m (flat_map message_bytes ms ++ rest) fits.0, messages_again ms rest fits.1) refl
+    ap (messages_at (suc (length ms))) front ∙ rw
+    (message_again m (flat_map message_bytes ms ++ rest) fits.0, messages_again ms rest fits.1) refl
 
 -- ---- how many they are
 
@@ -73,9 +77,11 @@ count_many true bytes x e =
     let d = refuse_ok (ltb 16 a.0.0) faults.Statement (λ _. Ok a.0) x b.1 in
     subst (λ (y : ℕ × List ℕ). (2 ≤ y.0) × (y.0 ≤ 16)) (ok_is a.0 x d.1) (ltb-false _ _ b.0, ltb-false _ _ d.0)
 
-count_takes : (several : Bool) (bytes : List ℕ) (x : ℕ × List ℕ) → IsBytes bytes → count_at several bytes ≡ Ok x → Takes bytes (count_bytes several x.0) x.1
+count_takes : (several : Bool) (bytes : List ℕ) (x : ℕ × List ℕ) → IsBytes bytes → count_at several bytes ≡ Ok x
+    → Takes bytes (count_bytes several x.0) x.1
 unfolding count_at
-count_takes false bytes x fits e = subst (λ (y : ℕ × List ℕ). Takes bytes [] y.1) (ok_is (1, bytes) x e) (record { parts = refl; rest_fits = fits })
+count_takes false bytes x fits e = subst (λ (y : ℕ × List ℕ). Takes bytes [] y.1) (ok_is (1, bytes) x e)
+    (record { parts = refl; rest_fits = fits })
 count_takes true bytes x fits e =
     let a = bind_ok (byte_at bytes) _ x e in
     let b = refuse_ok (ltb a.0.0 2) faults.Statement _ x a.2 in
@@ -103,7 +109,8 @@ are_some : (several : Bool) (n : ℕ) → HowMany several n → (1 ≤ n) × (n 
 are_some false n one = (omega (arith, one), omega (arith, one))
 are_some true n many = (omega (arith, many.0), many.1)
 
-pub placed_takes : (several : Bool) (bytes : List ℕ) (p : ℕ × ℕ × Batch) → placed_at several bytes ≡ Ok p → IsPlaced several bytes p.0 p.1 p.2
+pub placed_takes : (several : Bool) (bytes : List ℕ) (p : ℕ × ℕ × Batch) → placed_at several bytes ≡ Ok p
+    → IsPlaced several bytes p.0 p.1 p.2
 unfolding placed_at
 placed_takes several bytes p e =
     let a = bind_ok (short_at bytes) _ p e in
@@ -127,35 +134,53 @@ placed_takes several bytes p e =
       parts = λ fits.
           let view = short bytes a.0 fits a.1 in
           let place = short a.0.1 b.0 view.rest_fits b.1 in
-          let count = subst (λ m. Takes b.0.1 (count_bytes several m) n.0.1) (sym len) (count_takes several b.0.1 n.0 place.rest_fits n.1) in
+          let count = subst (λ m. Takes b.0.1 (count_bytes several m) n.0.1) (sym len)
+          (count_takes several b.0.1 n.0 place.rest_fits n.1) in
           let messages = messages_take n.0.0 n.0.1 d.0 count.rest_fits d.1 in
           let both = Takes-then bytes (two_bytes a.0.0) a.0.1 (two_bytes b.0.0) b.0.1 view place in
           let batch = Takes-then b.0.1 (count_bytes several (length d.0.0)) n.0.1 (flat_map message_bytes d.0.0) d.0.1 count messages in
-          let all = Takes-then bytes (two_bytes a.0.0 ++ two_bytes b.0.0) b.0.1 (count_bytes several (length d.0.0) ++ flat_map message_bytes d.0.0) d.0.1 both batch in
-          whole bytes (two_bytes a.0.0 ++ two_bytes b.0.0 ++ (count_bytes several (length d.0.0) ++ flat_map message_bytes d.0.0)) d.0.1 all.parts (ended_ok d.0.1 t.1);
+          let all = Takes-then bytes (two_bytes a.0.0 ++ two_bytes b.0.0) b.0.1
+          (count_bytes several (length d.0.0) ++ flat_map message_bytes d.0.0) d.0.1 both batch in
+          whole bytes (two_bytes a.0.0 ++ two_bytes b.0.0
+          ++ (count_bytes several (length d.0.0) ++ flat_map message_bytes d.0.0)) d.0.1 all.parts (ended_ok d.0.1 t.1);
     })
 
 -- one message has the kind's own byte, and several the byte that is nine more
-pub one_spelled : (kind x k : ℕ) (b : Batch) (bytes : List ℕ) → IsPlaced false bytes x k b → IsBytes bytes → kind ∷ bytes ≡ place_kind kind b ∷ (two_bytes x ++ two_bytes k ++ batch_bytes b)
+pub one_spelled : (kind x k : ℕ) (b : Batch) (bytes : List ℕ) → IsPlaced false bytes x k b → IsBytes bytes
+    → kind ∷ bytes ≡ place_kind kind b ∷ (two_bytes x ++ two_bytes k ++ batch_bytes b)
 one_spelled kind x k [] bytes p fits = absurd (omega (arith, p.many))
 one_spelled kind x k (m ∷ []) bytes p fits = ap (λ (t : List ℕ). kind ∷ t) (p.parts fits)
 one_spelled kind x k (m ∷ l ∷ ms) bytes p fits = absurd (omega (arith, p.many))
 
-pub several_spelled : (kind x k : ℕ) (b : Batch) (bytes : List ℕ) → IsPlaced true bytes x k b → IsBytes bytes → (kind + 9) ∷ bytes ≡ place_kind kind b ∷ (two_bytes x ++ two_bytes k ++ batch_bytes b)
+pub several_spelled : (kind x k : ℕ) (b : Batch) (bytes : List ℕ) → IsPlaced true bytes x k b → IsBytes bytes
+    → (kind + 9) ∷ bytes ≡ place_kind kind b ∷ (two_bytes x ++ two_bytes k ++ batch_bytes b)
 several_spelled kind x k [] bytes p fits = absurd (omega (arith, p.many.0))
 several_spelled kind x k (m ∷ []) bytes p fits = absurd (omega (arith, p.many.0))
 several_spelled kind x k (m ∷ l ∷ ms) bytes p fits = ap (λ (t : List ℕ). (kind + 9) ∷ t) (p.parts fits)
 
-placed_again : (several : Bool) (x k : ℕ) (b : Batch) (counted : List ℕ) → x ≤ 1023 → k ≤ 1023 → AreMessages b → count_at several counted ≡ Ok (length b, flat_map message_bytes b)
+placed_again : (several : Bool) (x k : ℕ) (b : Batch) (counted : List ℕ) → x ≤ 1023 → k ≤ 1023 → AreMessages b
+    → count_at several counted ≡ Ok (length b, flat_map message_bytes b)
     → placed_at several (two_bytes x ++ (two_bytes k ++ counted)) ≡ Ok (x, k, b)
 unfolding placed_at
 placed_again several x k b counted view place each count =
-    let messages : messages_at (length b) (flat_map message_bytes b) ≡ Ok (b, []) = ap (messages_at (length b)) (sym (append-nil (flat_map message_bytes b))) ∙ messages_again b [] each in
-    rw (short_again faults.Statement x (two_bytes k ++ counted) (omega (arith, view)), short_again faults.Statement k counted (omega (arith, place)), count, messages, is_within 1023 x view, is_within 1023 k place, are_messages_within b each) refl
+    let messages : messages_at (length b) (flat_map message_bytes b)
+    ≡ Ok (b, []) = ap (messages_at (length b)) (sym (append-nil (flat_map message_bytes b))) ∙ messages_again b [] each in
+    rw (
+      short_again faults.Statement x (two_bytes k ++ counted) (omega (arith, view)),
+      short_again faults.Statement k counted (omega (arith, place)),
+      count,
+      messages,
+      is_within 1023 x view,
+      is_within 1023 k place,
+      are_messages_within b each,
+    ) refl
 
-pub one_again : (x k : ℕ) (m : Message) → x ≤ 1023 → k ≤ 1023 → IsMessage m → placed_at false (two_bytes x ++ two_bytes k ++ message_bytes m) ≡ Ok (x, k, m ∷ [])
+pub one_again : (x k : ℕ) (m : Message) → x ≤ 1023 → k ≤ 1023 → IsMessage m
+    → placed_at false (two_bytes x ++ two_bytes k ++ message_bytes m) ≡ Ok (x, k, m ∷ [])
 unfolding count_at
 one_again x k m view place fits = placed_again false x k (m ∷ []) (message_bytes m) view place (fits, tt) refl
 
-pub several_again : (x k : ℕ) (b : Batch) → x ≤ 1023 → k ≤ 1023 → IsBatch b → 2 ≤ length b → placed_at true (two_bytes x ++ two_bytes k ++ (length b ∷ flat_map message_bytes b)) ≡ Ok (x, k, b)
-several_again x k b view place fits several = placed_again true x k b (length b ∷ flat_map message_bytes b) view place fits.each (count_again (length b) (flat_map message_bytes b) several fits.few)
+pub several_again : (x k : ℕ) (b : Batch) → x ≤ 1023 → k ≤ 1023 → IsBatch b → 2 ≤ length b
+    → placed_at true (two_bytes x ++ two_bytes k ++ (length b ∷ flat_map message_bytes b)) ≡ Ok (x, k, b)
+several_again x k b view place fits several = placed_again true x k b (length b ∷ flat_map message_bytes b) view place fits.each
+    (count_again (length b) (flat_map message_bytes b) several fits.few)

@@ -50,7 +50,8 @@ signatures_short (suc n) least bytes x e =
     let a = bind_ok (signature_at least bytes) _ x e in
     let b = bind_ok (signatures_at n (a.0.0.0 + 1) a.0.1) _ x a.2 in
     let made : List (ℕ × List ℕ) × List ℕ = (a.0.0 ∷ b.0.0, b.0.1) in
-    subst (λ (y : List (ℕ × List ℕ) × List ℕ). AreShort y.0) (ok_is made x b.2) (signature_short least bytes a.0 a.1, signatures_short n (a.0.0.0 + 1) a.0.1 b.0 b.1)
+    subst (λ (y : List (ℕ × List ℕ) × List ℕ). AreShort y.0) (ok_is made x b.2)
+    (signature_short least bytes a.0 a.1, signatures_short n (a.0.0.0 + 1) a.0.1 b.0 b.1)
 
 group_short : (bytes : List ℕ) (x : Group × List ℕ) → group_at bytes ≡ Ok x → AreShort x.0.signatures
 unfolding group_at
@@ -73,7 +74,8 @@ groups_short (suc n) bytes x e =
     let made : List Group × List ℕ = (a.0.0 ∷ b.0.0, b.0.1) in
     subst (λ (y : List Group × List ℕ). HaveShort y.0) (ok_is made x b.2) (group_short bytes a.0 a.1, groups_short n a.0.1 b.0 b.1)
 
-items_short : (n : ℕ) (bytes : List ℕ) (read : Result (List Group × List ℕ) FrameFault) → groups_at n bytes ≡ read → HaveShort (items_of read)
+items_short : (n : ℕ) (bytes : List ℕ) (read : Result (List Group × List ℕ) FrameFault) → groups_at n bytes ≡ read
+    → HaveShort (items_of read)
 items_short n bytes (Ok x) e = groups_short n bytes x e
 items_short n bytes (Err d) e = tt
 
@@ -89,14 +91,16 @@ are_both : (cs ds : List Claim) → AreClaims cs → AreClaims ds → AreClaims 
 are_both [] ds p q = q
 are_both (c ∷ cs) ds p q = (p.0, are_both cs ds p.1 q)
 
-on_fit : (st : Statement) (signatures : List (ℕ × List ℕ)) (cs : List Claim) → IsStatement st → AreShort signatures → claims_on st signatures ≡ Ok cs → AreClaims cs
+on_fit : (st : Statement) (signatures : List (ℕ × List ℕ)) (cs : List Claim) → IsStatement st → AreShort signatures
+    → claims_on st signatures ≡ Ok cs → AreClaims cs
 unfolding claims_on
 on_fit st [] cs fits short e = subst (λ (ds : List Claim). AreClaims ds) (ok_is [] cs e) tt
 on_fit st (s ∷ more) cs fits short e =
     let a = refuse_ok (ltb 63 s.0) faults.Range _ cs e in
     let b = bind_ok (claims_on st more) _ cs a.1 in
     let one : Claim = record { signer = s.0; statement = st; signature = s.1 } in
-    subst (λ (ds : List Claim). AreClaims ds) (ok_is (one ∷ b.0) cs b.2) ((ltb-false _ _ a.0, fits, short.0), on_fit st more b.0 fits short.1 b.1)
+    subst (λ (ds : List Claim). AreClaims ds) (ok_is (one ∷ b.0) cs b.2)
+    ((ltb-false _ _ a.0, fits, short.0), on_fit st more b.0 fits short.1 b.1)
 
 module _ (carries : ℕ → Bool) where
   group_fits : (g : Group) (cs : List Claim) → AreShort g.signatures → claims_of_group carries g ≡ Ok cs → AreClaims cs
@@ -111,9 +115,11 @@ module _ (carries : ℕ → Bool) where
   groups_fit (g ∷ gs) cs short e =
       let a = bind_ok (claims_of_group carries g) _ cs e in
       let b = bind_ok (claims_of_groups carries gs) _ cs a.2 in
-      subst (λ (ds : List Claim). AreClaims ds) (ok_is (a.0 ++ b.0) cs b.2) (are_both a.0 b.0 (group_fits g a.0 short.0 a.1) (groups_fit gs b.0 short.1 b.1))
+      subst (λ (ds : List Claim). AreClaims ds) (ok_is (a.0 ++ b.0) cs b.2)
+      (are_both a.0 b.0 (group_fits g a.0 short.0 a.1) (groups_fit gs b.0 short.1 b.1))
 
 -- those that an iterator has left where no group was begun
-pub are_given : (carries : ℕ → Bool) (gs : List Group) (read : Result (List Claim) FrameFault) → HaveShort gs → claims_of_groups carries gs ≡ read → AreClaims (given (both (Ok []) read))
+pub are_given : (carries : ℕ → Bool) (gs : List Group) (read : Result (List Claim) FrameFault) → HaveShort gs
+    → claims_of_groups carries gs ≡ read → AreClaims (given (both (Ok []) read))
 are_given carries gs (Ok cs) short e = groups_fit carries gs cs short e
 are_given carries gs (Err d) short e = tt

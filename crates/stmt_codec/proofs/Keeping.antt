@@ -15,11 +15,13 @@ first_dropped x (Ok others) = refl
 first_dropped x (Err e) = refl
 
 module _ (count i : ℕ) (bytes : List ℕ) (total : Result (List ℕ) (Unit {0})) where
-  pub kept_passes : (s after : List ℕ) → i < count → kept_at bytes ≡ Ok (s, after) → rest_of (all_kept_at (count - i) bytes) ≡ total → rest_of (all_kept_at (count - (i + 1)) after) ≡ total
+  pub kept_passes : (s after : List ℕ) → i < count → kept_at bytes ≡ Ok (s, after) → rest_of (all_kept_at (count - i) bytes) ≡ total
+      → rest_of (all_kept_at (count - (i + 1)) after) ≡ total
   unfolding all_kept_at
   kept_passes s after lt h so_far =
       let k : count - i ≡ suc (count - (i + 1)) = omega arith in
-      let one : rest_of (all_kept_at (count - i) bytes) ≡ rest_of (all_kept_at (count - (i + 1)) after) = rw (k, h) (first_dropped s (all_kept_at (count - (i + 1)) after)) in
+      let one : rest_of (all_kept_at (count - i) bytes)
+      ≡ rest_of (all_kept_at (count - (i + 1)) after) = rw (k, h) (first_dropped s (all_kept_at (count - (i + 1)) after)) in
       sym one ∙ so_far
 
   pub all_passed : count ≤ i → rest_of (all_kept_at (count - i) bytes) ≡ total → total ≡ Ok bytes
@@ -53,7 +55,8 @@ lends : (x : List ℕ) (others : Read (List (List ℕ))) → IsOk (with_first x 
 lends x (Ok ys) ok = record { readable = refl; items = refl }
 lends x (Err e) ok = absurd cc
 
-pub kept_lends : (n : ℕ) (bytes s after : List ℕ) → n ≢ 0 → IsOk (all_kept_at n bytes) → kept_at bytes ≡ Ok (s, after) → Lends s (all_kept_at n bytes) (all_kept_at (n - 1) after)
+pub kept_lends : (n : ℕ) (bytes s after : List ℕ) → n ≢ 0 → IsOk (all_kept_at n bytes) → kept_at bytes ≡ Ok (s, after)
+    → Lends s (all_kept_at n bytes) (all_kept_at (n - 1) after)
 unfolding all_kept_at
 kept_lends zero bytes s after some ok h = absurd (some refl)
 kept_lends (suc n) bytes s after some ok h =

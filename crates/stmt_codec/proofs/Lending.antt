@@ -26,7 +26,8 @@ unrefused false d f ok = refl
 
 -- ---- a group
 
-signer_fits : (st : Statement) (s : ℕ × List ℕ) (now more : List (ℕ × List ℕ)) → now ≡ s ∷ more → IsOk (claims_on st now) → ltb 63 s.0 ≡ false
+signer_fits : (st : Statement) (s : ℕ × List ℕ) (now more : List (ℕ × List ℕ)) → now ≡ s ∷ more → IsOk (claims_on st now)
+    → ltb 63 s.0 ≡ false
 unfolding claims_on
 signer_fits st s now more e ok = unrefused (ltb 63 s.0) Range _ (subst (λ (l : List (ℕ × List ℕ)). IsOk (claims_on st l)) e ok)
 
@@ -34,7 +35,8 @@ module _ (carries : ℕ → Bool) (text : List ℕ) where
   abbrev group : List (ℕ × List ℕ) → Claims
   group signatures = claims_of_group carries (record { statement = text; signatures = signatures })
 
-  statement_stands : (now : List (ℕ × List ℕ)) → IsOk (group now) → (st : Statement) × (statement_in carries text ≡ Ok st) × IsOk (claims_on st now)
+  statement_stands : (now : List (ℕ × List ℕ)) → IsOk (group now)
+      → (st : Statement) × (statement_in carries text ≡ Ok st) × IsOk (claims_on st now)
   unfolding claims_of_group
   statement_stands now ok = begun_ok (statement_in carries text) (λ st. claims_on st now) ok
 
@@ -52,7 +54,8 @@ module _ (carries : ℕ → Bool) (text : List ℕ) where
   pub same_claims : (now then : List (ℕ × List ℕ)) → then ≡ [] → now ≡ [] → group now ≡ Ok [] → group then ≡ Ok []
   same_claims now then e d h = ap group (e ∙ sym d) ∙ h
 
-  pub group_lends : (st : Statement) (s : ℕ × List ℕ) (signer : ℕ) (now more : List (ℕ × List ℕ)) → statement_in carries text ≡ Ok st → now ≡ s ∷ more → signer ≡ s.0 → IsOk (group now)
+  pub group_lends : (st : Statement) (s : ℕ × List ℕ) (signer : ℕ) (now more : List (ℕ × List ℕ)) → statement_in carries text ≡ Ok st
+      → now ≡ s ∷ more → signer ≡ s.0 → IsOk (group now)
       → group now ≡ with_first (record { signer = signer; statement = st; signature = s.1 }) (group more)
   unfolding claims_of_group claims_on
   group_lends st s signer now more h e same ok =
@@ -67,7 +70,8 @@ both-nothing (Ok cs) = refl
 both-nothing (Err e) = refl
 
 module _ (carries : ℕ → Bool) where
-  group_begins : (g : Group) (now more : List Group) → now ≡ g ∷ more → claims_of_groups carries now ≡ both (claims_of_group carries g) (claims_of_groups carries more)
+  group_begins : (g : Group) (now more : List Group) → now ≡ g ∷ more
+      → claims_of_groups carries now ≡ both (claims_of_group carries g) (claims_of_groups carries more)
   unfolding claims_of_groups
   group_begins g now more e = rw e refl
 
@@ -76,8 +80,11 @@ module _ (carries : ℕ → Bool) where
   no_group_waits now e = rw e refl
 
   -- nothing is left of the group that was begun, and one waits
-  pub next_begins : (begun : Claims) (g : Group) (now more : List Group) → begun ≡ Ok [] → now ≡ g ∷ more → both begun (claims_of_groups carries now) ≡ both (claims_of_group carries g) (claims_of_groups carries more)
-  next_begins begun g now more none e = ap (λ (c : Claims). both c (claims_of_groups carries now)) none ∙ both-nothing (claims_of_groups carries now) ∙ group_begins g now more e
+  pub next_begins : (begun : Claims) (g : Group) (now more : List Group) → begun ≡ Ok [] → now ≡ g ∷ more
+      → both begun (claims_of_groups carries now) ≡ both (claims_of_group carries g) (claims_of_groups carries more)
+  next_begins begun g now more none e = ap (λ (c : Claims). both c (claims_of_groups carries now)) none ∙ both-nothing
+      (claims_of_groups carries now) ∙ group_begins g now more e
 
   pub nothing_waits : (begun : Claims) (now : List Group) → begun ≡ Ok [] → now ≡ [] → both begun (claims_of_groups carries now) ≡ Ok []
-  nothing_waits begun now none e = ap (λ (c : Claims). both c (claims_of_groups carries now)) none ∙ both-nothing (claims_of_groups carries now) ∙ no_group_waits now e
+  nothing_waits begun now none e = ap (λ (c : Claims). both c (claims_of_groups carries now)) none ∙ both-nothing
+      (claims_of_groups carries now) ∙ no_group_waits now e

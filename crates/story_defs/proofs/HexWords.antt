@@ -27,7 +27,8 @@ other a b h = by_false (same_bytes a b) (λ e. h (same_is a b e))
 
 -- ---- what is spelled
 
-chosen : (dash empty : Bool) (o : Option (List ℕ)) (bytes : List ℕ) → dash ≡ false → empty ≡ false → o ≡ Some bytes → (if dash then Some [] else (if empty then None else o)) ≡ Some bytes
+chosen : (dash empty : Bool) (o : Option (List ℕ)) (bytes : List ℕ) → dash ≡ false → empty ≡ false → o ≡ Some bytes
+    → (if dash then Some [] else (if empty then None else o)) ≡ Some bytes
 chosen true empty o bytes d e is = absurd cc
 chosen false true o bytes d e is = absurd cc
 chosen false false o bytes d e is = is

@@ -56,26 +56,34 @@ numbers_are (n ∷ ns) few = (number_is n (omega (arith, few.0)), numbers_are ns
 -- ---- one word
 
 module _ (x : Expected) where
-  said_again : {A : Type 0} (says : List ℕ → Option A) (word : List ℕ) (a : A) (rest : Words) → says word ≡ Some a → said_at x says (word ∷ rest) ≡ Ok (a, rest)
+  said_again : {A : Type 0} (says : List ℕ → Option A) (word : List ℕ) (a : A) (rest : Words) → says word ≡ Some a
+      → said_at x says (word ∷ rest) ≡ Ok (a, rest)
   said_again says word a rest e = ap (λ o. ok_or o x >>= λ b. (let read : Step _ = Ok (b, rest) in read)) e
 
-  pub number_again : (least most n : ℕ) (rest : Words) → least ≤ n → n ≤ most → n < 2 ^ 64 → number_at x least most (decimal n ∷ rest) ≡ Ok (n, rest)
-  number_again least most n rest low high small = said_again (number_within least most) (decimal n) n rest (number_within_spelled least most n low high small)
+  pub number_again : (least most n : ℕ) (rest : Words) → least ≤ n → n ≤ most → n < 2 ^ 64
+      → number_at x least most (decimal n ∷ rest) ≡ Ok (n, rest)
+  number_again least most n rest low high small = said_again (number_within least most)
+      (decimal n) n rest (number_within_spelled least most n low high small)
 
   pub process_again : (p : ℕ) (rest : Words) → p ≤ 63 → process_at x (decimal p ∷ rest) ≡ Ok (p, rest)
   process_again p rest few = said_again process_of (decimal p) p rest (number_within_spelled 0 63 p (omega arith) few (omega (arith, few)))
 
-  few_bytes : (most : ℕ) (bytes : List ℕ) (o : Option (List ℕ)) → o ≡ Some bytes → length bytes ≤ most → and_then o (λ b. if nat_le (length b) most then Some b else None) ≡ Some bytes
-  few_bytes most bytes o e few = ap (λ t. and_then t (λ b. if nat_le (length b) most then Some b else None)) e ∙ rw (le-leb (length bytes) most few) refl
+  few_bytes : (most : ℕ) (bytes : List ℕ) (o : Option (List ℕ)) → o ≡ Some bytes → length bytes ≤ most
+      → and_then o (λ b. if nat_le (length b) most then Some b else None) ≡ Some bytes
+  few_bytes most bytes o e few = ap (λ t. and_then t (λ b. if nat_le (length b) most then Some b else None)) e ∙ rw
+      (le-leb (length bytes) most few) refl
 
-  pub payload_again : (most : ℕ) (bytes : List ℕ) (rest : Words) → IsBytes bytes → length bytes ≤ most → payload_at x most (bytes_word bytes ∷ rest) ≡ Ok (bytes, rest)
-  payload_again most bytes rest fits few = said_again (payload_of most) (bytes_word bytes) bytes rest (few_bytes most bytes (hex_word (bytes_word bytes)) (hex_again bytes fits) few)
+  pub payload_again : (most : ℕ) (bytes : List ℕ) (rest : Words) → IsBytes bytes → length bytes ≤ most
+      → payload_at x most (bytes_word bytes ∷ rest) ≡ Ok (bytes, rest)
+  payload_again most bytes rest fits few = said_again (payload_of most)
+      (bytes_word bytes) bytes rest (few_bytes most bytes (hex_word (bytes_word bytes)) (hex_again bytes fits) few)
 
   sized_word : (n : ℕ) (bytes : List ℕ) → IsBytes bytes → length bytes ≡ suc n → bytes_of (suc n) (bytes_word bytes) ≡ Some bytes
   sized_word n [] fits e = absurd (omega (arith, e))
   sized_word n (b ∷ bytes) fits e = bytes_spelled (suc n) (b ∷ bytes) (e, fits)
 
-  pub sized_again : (n : ℕ) (bytes : List ℕ) (rest : Words) → IsBytes bytes → length bytes ≡ suc n → sized_at x (suc n) (bytes_word bytes ∷ rest) ≡ Ok (bytes, rest)
+  pub sized_again : (n : ℕ) (bytes : List ℕ) (rest : Words) → IsBytes bytes → length bytes ≡ suc n
+      → sized_at x (suc n) (bytes_word bytes ∷ rest) ≡ Ok (bytes, rest)
   sized_again n bytes rest fits e = said_again (bytes_of (suc n)) (bytes_word bytes) bytes rest (sized_word n bytes fits e)
 
 -- ---- sets of processes
@@ -92,7 +100,8 @@ Below n (p ∷ ps) = (p < n) × Below n ps
 
 put_last : (p : ℕ) (ps : List ℕ) → Below p ps → put_once p ps ≡ ps ++ p ∷ []
 put_last p [] below = refl
-put_last p (q ∷ ps) below = let less : nat_lt q p ≡ true = grind (arith, below.0) in rw less (ap (λ (qs : List ℕ). q ∷ qs) (put_last p ps below.1))
+put_last p (q ∷ ps) below = let less : nat_lt q p
+    ≡ true = grind (arith, below.0) in rw less (ap (λ (qs : List ℕ). q ∷ qs) (put_last p ps below.1))
 
 below_more : (n m : ℕ) (ps : List ℕ) → n ≤ m → Below n ps → Below m ps
 below_more n m [] le below = tt
@@ -122,7 +131,8 @@ unfolding named
 no_more set [] none = refl
 no_more set (word ∷ rest) none = first_is set word rest ∙ ap (by_first set word rest) none
 
-all_named : (least : ℕ) (ps set : List ℕ) (rest : Words) → Rising least ps → Below least set → NoneNamed rest → named set (map decimal ps ++ rest) ≡ (set ++ ps, rest)
+all_named : (least : ℕ) (ps set : List ℕ) (rest : Words) → Rising least ps → Below least set → NoneNamed rest
+    → named set (map decimal ps ++ rest) ≡ (set ++ ps, rest)
 all_named least [] set rest rising below none =
     let pair : List ℕ → Named = λ s. (s, rest) in no_more set rest none ∙ ap pair (sym (append-nil set))
 all_named least (p ∷ ps) set rest rising below none =
@@ -131,7 +141,8 @@ all_named least (p ∷ ps) set rest rising below none =
     first_is set (decimal p) (map decimal ps ++ rest)
     ∙ ap (by_first set (decimal p) (map decimal ps ++ rest)) (number_within_spelled 0 63 p (omega arith) rising.1 (omega (arith, rising.1)))
     ∙ ap (λ s. named s (map decimal ps ++ rest)) (put_last p set under)
-    ∙ all_named (p + 1) ps (set ++ p ∷ []) rest rising.2 (below_last (p + 1) set p (below_more p (p + 1) set (omega arith) under) (omega arith)) none
+    ∙ all_named (p + 1) ps (set ++ p ∷ []) rest rising.2
+    (below_last (p + 1) set p (below_more p (p + 1) set (omega arith) under) (omega arith)) none
     ∙ ap pair (append_assoc set (p ∷ []) ps)
 
 -- the members of a mask rise
@@ -209,22 +220,31 @@ module _ (x : Expected) where
   abbrev step : ℕ → Words → Step ℕ
   step mask rest = Ok (mask, rest)
 
-  named_again : (p : ℕ) (ps : List ℕ) (rest : Words) → Rising 0 (p ∷ ps) → NoneNamed rest → named_at x (map decimal (p ∷ ps) ++ rest) ≡ Ok (mask_of (p ∷ ps), rest)
+  named_again : (p : ℕ) (ps : List ℕ) (rest : Words) → Rising 0 (p ∷ ps) → NoneNamed rest
+      → named_at x (map decimal (p ∷ ps) ++ rest) ≡ Ok (mask_of (p ∷ ps), rest)
   named_again p ps rest rising none =
-      ap (λ (r : Step ℕ). r >>= λ first. (let more : Named = named (first.0 ∷ []) first.1 in step (mask_of more.0) more.1)) (process_again x p (map decimal ps ++ rest) rising.1)
+      ap (λ (r : Step ℕ). r >>= λ first. (let more : Named = named (first.0 ∷ []) first.1 in step (mask_of more.0) more.1))
+      (process_again x p (map decimal ps ++ rest) rising.1)
       ∙ ap (λ (more : Named). step (mask_of more.0) more.1) (all_named (p + 1) ps (p ∷ []) rest rising.2 (omega arith, tt) none)
 
-  by_named : (ps : List ℕ) (rest : Words) → Rising 0 ps → NoneNamed rest → (ps ≡ [] → ⊥) → mask_at x (codes "to" ∷ (map decimal ps ++ rest)) ≡ Ok (mask_of ps, rest)
+  by_named : (ps : List ℕ) (rest : Words) → Rising 0 ps → NoneNamed rest → (ps ≡ [] → ⊥)
+      → mask_at x (codes "to" ∷ (map decimal ps ++ rest)) ≡ Ok (mask_of ps, rest)
   unfolding mask_at
   by_named [] rest rising none some = absurd (some refl)
   by_named (p ∷ ps) rest rising none some =
-      rw (other (decimal p) (codes "all") (not_number p rising.1 (codes "all") all_names), other (decimal p) (codes "nobody") (not_number p rising.1 (codes "nobody") nobody_names)) (named_again p ps rest rising none)
+      rw (
+        other (decimal p) (codes "all") (not_number p rising.1 (codes "all") all_names),
+        other (decimal p) (codes "nobody") (not_number p rising.1 (codes "nobody") nobody_names),
+      ) (named_again p ps rest rising none)
 
   no_members : (mask : ℕ) → mask < 2 ^ 64 → members mask ≡ [] → mask ≡ 0
   no_members mask small none = sym (mask_of-members mask small) ∙ ap mask_of none
 
-  by_tests : (mask : ℕ) (all nobody : Bool) (rest : Words) → mask < 2 ^ 64 → NoneNamed rest → (mask == everyone) ≡ all → (mask == 0) ≡ nobody
-      → mask_at x (codes "to" ∷ (map plain (if all then Word (codes "all") ∷ [] else (if nobody then Word (codes "nobody") ∷ [] else numbers (members mask))) ++ rest)) ≡ Ok (mask, rest)
+  by_tests : (mask : ℕ) (all nobody : Bool) (rest : Words) → mask < 2 ^ 64 → NoneNamed rest → (mask == everyone) ≡ all
+      → (mask == 0) ≡ nobody
+      → mask_at x (codes "to" ∷ (map plain
+      (if all then Word (codes "all") ∷ [] else (if nobody then Word (codes "nobody") ∷ [] else numbers (members mask))) ++ rest))
+      ≡ Ok (mask, rest)
   unfolding mask_at
   by_tests mask true nobody rest small none a n = let same : everyone ≡ mask = grind (arith, a) in ap (λ m. step m rest) same
   by_tests mask false true rest small none a n = let same : 0 ≡ mask = grind (arith, n) in ap (λ m. step m rest) same
@@ -233,10 +253,12 @@ module _ (x : Expected) where
       ∙ by_named (members mask) rest (members_rise mask) none (λ e. grind (arith, no_members mask small e, n))
       ∙ ap (λ m. step m rest) (mask_of-members mask small)
 
-  pub mask_again : (mask : ℕ) (rest : Words) → mask < 2 ^ 64 → NoneNamed rest → mask_at x (codes "to" ∷ mask_words mask rest) ≡ Ok (mask, rest)
+  pub mask_again : (mask : ℕ) (rest : Words) → mask < 2 ^ 64 → NoneNamed rest
+      → mask_at x (codes "to" ∷ mask_words mask rest) ≡ Ok (mask, rest)
   mask_again mask rest small none = by_tests mask (mask == everyone) (mask == 0) rest small none refl refl
 
-mask_are_by : (mask : ℕ) (all nobody : Bool) → AreTokens (if all then Word (codes "all") ∷ [] else (if nobody then Word (codes "nobody") ∷ [] else numbers (members mask)))
+mask_are_by : (mask : ℕ) (all nobody : Bool)
+    → AreTokens (if all then Word (codes "all") ∷ [] else (if nobody then Word (codes "nobody") ∷ [] else numbers (members mask)))
 mask_are_by mask true nobody = (inr refl, tt)
 mask_are_by mask false true = (inr refl, tt)
 mask_are_by mask false false = numbers_are (members mask) (few_members 0 (members mask) (members_rise mask))

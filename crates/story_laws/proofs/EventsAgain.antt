@@ -68,8 +68,10 @@ kind_again (schedules.Tick at) = refl
 text_fits : (bytes : List ℕ) → IsBytes (text bytes) → IsBytes bytes
 text_fits bytes h = fits_behind (two_bytes (length bytes)) bytes h
 
-module _ (ls : List Listed) (correct : (p : ℕ) → is_correct ls p ≡ true → p ≤ 63) (corrupt : (p : ℕ) → is_corrupt ls p ≡ true → p ≤ 63) where
-  about_again : (x : Expected) (tag at other : ℕ) → at ≤ 63 → other ≤ 63 → about_at x tag (decimal at ∷ codes "of" ∷ decimal other ∷ []) ≡ Ok (tag ∷ at ∷ other ∷ [])
+module _ (ls : List Listed) (correct : (p : ℕ) → is_correct ls p ≡ true → p ≤ 63)
+    (corrupt : (p : ℕ) → is_corrupt ls p ≡ true → p ≤ 63) where
+  about_again : (x : Expected) (tag at other : ℕ) → at ≤ 63 → other ≤ 63
+      → about_at x tag (decimal at ∷ codes "of" ∷ decimal other ∷ []) ≡ Ok (tag ∷ at ∷ other ∷ [])
   unfolding about_at
   about_again x tag at other low few = rw (process_again x at (codes "of" ∷ decimal other ∷ []) low, process_again x other [] few) refl
 
@@ -77,41 +79,68 @@ module _ (ls : List Listed) (correct : (p : ℕ) → is_correct ls p ≡ true �
   unfolding alone_at
   alone_again x tag at low = rw (process_again x at [] low) refl
 
-  submit_again : (at : ℕ) (payload : List ℕ) → at ≤ 63 → length payload ≤ 65535 → IsBytes payload → submit_at (decimal at ∷ bytes_word payload ∷ []) ≡ Ok (1 ∷ at ∷ text payload)
+  submit_again : (at : ℕ) (payload : List ℕ) → at ≤ 63 → length payload ≤ 65535 → IsBytes payload
+      → submit_at (decimal at ∷ bytes_word payload ∷ []) ≡ Ok (1 ∷ at ∷ text payload)
   unfolding submit_at
-  submit_again at payload low few fits = rw (process_again expected.Submit at (bytes_word payload ∷ []) low, payload_again expected.Submit 65535 payload [] fits few) refl
+  submit_again at payload low few fits = rw
+      (process_again expected.Submit at (bytes_word payload ∷ []) low, payload_again expected.Submit 65535 payload [] fits few) refl
 
-  raw_again : (to from : ℕ) (bytes : List ℕ) → to ≤ 63 → from ≤ 63 → length bytes ≤ 65535 → IsBytes bytes → raw_at (decimal to ∷ codes "from" ∷ decimal from ∷ bytes_word bytes ∷ []) ≡ Ok (2 ∷ to ∷ from ∷ text bytes)
+  raw_again : (to from : ℕ) (bytes : List ℕ) → to ≤ 63 → from ≤ 63 → length bytes ≤ 65535 → IsBytes bytes
+      → raw_at (decimal to ∷ codes "from" ∷ decimal from ∷ bytes_word bytes ∷ []) ≡ Ok (2 ∷ to ∷ from ∷ text bytes)
   unfolding raw_at
   raw_again to from bytes low few short fits =
-      rw (process_again expected.Raw to (codes "from" ∷ decimal from ∷ bytes_word bytes ∷ []) low, process_again expected.Raw from (bytes_word bytes ∷ []) few, payload_again expected.Raw 65535 bytes [] fits short) refl
+      rw (
+        process_again expected.Raw to (codes "from" ∷ decimal from ∷ bytes_word bytes ∷ []) low,
+        process_again expected.Raw from (bytes_word bytes ∷ []) few,
+        payload_again expected.Raw 65535 bytes [] fits short,
+      ) refl
 
-  pass_again : (frame to : ℕ) → frame < 2 ^ 32 → to ≤ 63 → pass_at (decimal frame ∷ codes "to" ∷ decimal to ∷ []) ≡ Ok (3 ∷ (four_bytes frame ++ to ∷ []))
+  pass_again : (frame to : ℕ) → frame < 2 ^ 32 → to ≤ 63
+      → pass_at (decimal frame ∷ codes "to" ∷ decimal to ∷ []) ≡ Ok (3 ∷ (four_bytes frame ++ to ∷ []))
   unfolding pass_at
   pass_again frame to small low =
-      rw (number_again expected.Pass 0 (2 ^ 32 - 1) frame (codes "to" ∷ decimal to ∷ []) (omega arith) (omega (arith, small)) (omega (arith, small)), process_again expected.Pass to [] low) refl
+      rw (
+        number_again expected.Pass 0 (2 ^ 32 - 1) frame (codes "to" ∷ decimal to ∷ []) (omega arith) (omega (arith, small))
+            (omega (arith, small)),
+        process_again expected.Pass to [] low,
+      ) refl
 
-  drain_again : (count mask : ℕ) → count < 2 ^ 32 → mask < 2 ^ 64 → drain_at (decimal count ∷ codes "to" ∷ map plain (mask_tokens mask)) ≡ Ok (4 ∷ (four_bytes count ++ eight_bytes mask))
+  drain_again : (count mask : ℕ) → count < 2 ^ 32 → mask < 2 ^ 64
+      → drain_at (decimal count ∷ codes "to" ∷ map plain (mask_tokens mask)) ≡ Ok (4 ∷ (four_bytes count ++ eight_bytes mask))
   unfolding drain_at
   drain_again count mask small wide =
       ap (λ (ws : Words). drain_at (decimal count ∷ codes "to" ∷ ws)) (sym (append-nil (map plain (mask_tokens mask))))
-      ∙ rw (number_again expected.Drain 0 (2 ^ 32 - 1) count (codes "to" ∷ mask_words mask []) (omega arith) (omega (arith, small)) (omega (arith, small)), mask_again expected.Drain mask [] wide tt) refl
+      ∙ rw (
+        number_again expected.Drain 0 (2 ^ 32 - 1) count (codes "to" ∷ mask_words mask []) (omega arith) (omega (arith, small))
+            (omega (arith, small)),
+        mask_again expected.Drain mask [] wide tt,
+      ) refl
 
   lie_again : (signer mask : ℕ) (st : List ℕ) → signer ≤ 63 → IsEvent ls (Lie signer mask st) → IsBytes st
-      → lie_at (decimal signer ∷ codes "to" ∷ (map plain (mask_tokens mask ++ Word (codes ":") ∷ statement_tokens st))) ≡ Ok (5 ∷ signer ∷ (eight_bytes mask ++ text st))
+      → lie_at (decimal signer ∷ codes "to" ∷ (map plain (mask_tokens mask ++ Word (codes ":") ∷ statement_tokens st)))
+      ≡ Ok (5 ∷ signer ∷ (eight_bytes mask ++ text st))
   unfolding lie_at
   lie_again signer mask st low fits bytes =
       let behind : Words = codes ":" ∷ map plain (statement_tokens st) in
-      ap (λ (ws : Words). lie_at (decimal signer ∷ codes "to" ∷ ws)) (map_joined (mask_tokens mask) (Word (codes ":") ∷ statement_tokens st))
-      ∙ rw (process_again expected.Lie signer (codes "to" ∷ mask_words mask behind) low, mask_again expected.Lie mask behind fits.1 colon_names, statement_again st fits.3 bytes) refl
+      ap (λ (ws : Words). lie_at (decimal signer ∷ codes "to" ∷ ws))
+      (map_joined (mask_tokens mask) (Word (codes ":") ∷ statement_tokens st))
+      ∙ rw (
+        process_again expected.Lie signer (codes "to" ∷ mask_words mask behind) low,
+        mask_again expected.Lie mask behind fits.1 colon_names,
+        statement_again st fits.3 bytes,
+      ) refl
 
   -- an event is read of its words
-  pub event_again : (e : ScheduleEvent) → IsEvent ls e → IsBytes (event_bytes e) → event_by (kind_of e) (map plain (tokens_behind e)) ≡ Ok (event_bytes e)
-  event_again (Submit at payload) fits h = submit_again at payload (correct at fits.0) (omega (arith, fits.1)) (text_fits payload (λ i. h (suc (suc i))))
-  event_again (Raw to from bytes) fits h = raw_again to from bytes (correct to fits.0) fits.1 (omega (arith, fits.2)) (text_fits bytes (λ i. h (suc (suc (suc i)))))
+  pub event_again : (e : ScheduleEvent) → IsEvent ls e → IsBytes (event_bytes e)
+      → event_by (kind_of e) (map plain (tokens_behind e)) ≡ Ok (event_bytes e)
+  event_again (Submit at payload) fits h = submit_again at payload (correct at fits.0) (omega (arith, fits.1))
+      (text_fits payload (λ i. h (suc (suc i))))
+  event_again (Raw to from bytes) fits h = raw_again to from bytes (correct to fits.0) fits.1 (omega (arith, fits.2))
+      (text_fits bytes (λ i. h (suc (suc (suc i)))))
   event_again (Pass frame to) fits h = pass_again frame to fits.0 (correct to fits.1)
   event_again (Drain count mask) fits h = drain_again count mask fits.0 fits.1
-  event_again (Lie signer mask st) fits h = lie_again signer mask st (corrupt signer fits.0) fits (text_fits st (fits_behind (eight_bytes mask) (text st) (λ i. h (suc (suc i)))))
+  event_again (Lie signer mask st) fits h = lie_again signer mask st (corrupt signer fits.0) fits
+      (text_fits st (fits_behind (eight_bytes mask) (text st) (λ i. h (suc (suc i)))))
   event_again (Suspect at other) fits h = about_again expected.Suspect 6 at other (correct at fits.0) fits.1
   event_again (Join at other) fits h = about_again expected.Join 7 at other (correct at fits.0) fits.1
   event_again (schedules.Renew at) fits h = alone_again expected.Renew 8 at (correct at fits)
@@ -122,12 +151,29 @@ module _ (ls : List Listed) (correct : (p : ℕ) → is_correct ls p ≡ true �
 
   pub event_are : (e : ScheduleEvent) → IsEvent ls e → AreTokens (event_tokens e)
   event_are (Submit at payload) fits = (inr refl, (number_is at (few at (correct at fits.0)), (tt, tt)))
-  event_are (Raw to from bytes) fits = (inr refl, (number_is to (few to (correct to fits.0)), (inr refl, (number_is from (few from fits.1), (tt, tt)))))
-  event_are (Pass frame to) fits = (inr refl, (number_is frame (omega (arith, fits.0)), (inr refl, (number_is to (few to (correct to fits.1)), tt))))
+  event_are (Raw to from bytes) fits = (
+    inr refl,
+    (number_is to (few to (correct to fits.0)), (inr refl, (number_is from (few from fits.1), (tt, tt)))),
+  )
+  event_are (Pass frame to) fits = (
+    inr refl,
+    (number_is frame (omega (arith, fits.0)), (inr refl, (number_is to (few to (correct to fits.1)), tt))),
+  )
   event_are (Drain count mask) fits = (inr refl, (number_is count (omega (arith, fits.0)), (inr refl, mask_are mask)))
-  event_are (Lie signer mask st) fits =
-      (inr refl, (number_is signer (few signer (corrupt signer fits.0)), (inr refl, are_joined (mask_tokens mask) (Word (codes ":") ∷ statement_tokens st) (mask_are mask) (inl refl, statement_are st))))
-  event_are (Suspect at other) fits = (inr refl, (number_is at (few at (correct at fits.0)), (inr refl, (number_is other (few other fits.1), tt))))
-  event_are (Join at other) fits = (inr refl, (number_is at (few at (correct at fits.0)), (inr refl, (number_is other (few other fits.1), tt))))
+  event_are (Lie signer mask st) fits = (
+    inr refl,
+    (
+      number_is signer (few signer (corrupt signer fits.0)),
+      (inr refl, are_joined (mask_tokens mask) (Word (codes ":") ∷ statement_tokens st) (mask_are mask) (inl refl, statement_are st)),
+    ),
+  )
+  event_are (Suspect at other) fits = (
+    inr refl,
+    (number_is at (few at (correct at fits.0)), (inr refl, (number_is other (few other fits.1), tt))),
+  )
+  event_are (Join at other) fits = (
+    inr refl,
+    (number_is at (few at (correct at fits.0)), (inr refl, (number_is other (few other fits.1), tt))),
+  )
   event_are (schedules.Renew at) fits = (inr refl, (number_is at (few at (correct at fits)), tt))
   event_are (schedules.Tick at) fits = (inr refl, (number_is at (few at (correct at fits)), tt))

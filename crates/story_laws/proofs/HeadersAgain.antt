@@ -28,7 +28,8 @@ use Rattle.story_laws.proofs.Again.{are_joined, fits_behind, fits_front, number_
 
 -- ---- the group
 
-limit_by : (limit : ℕ) (one : Bool) → (limit == 1) ≡ one → is_from 1 16 limit ≡ true → limit_at (map plain (if one then [] else Word (codes "batch") ∷ number limit ∷ [])) ≡ Ok limit
+limit_by : (limit : ℕ) (one : Bool) → (limit == 1) ≡ one → is_from 1 16 limit ≡ true
+    → limit_at (map plain (if one then [] else Word (codes "batch") ∷ number limit ∷ [])) ≡ Ok limit
 unfolding limit_at
 limit_by limit true e range = let done : ℕ → Result ℕ Expected = λ n. Ok n in let is : 1 ≡ limit = grind (arith, e) in ap done is
 limit_by limit false e range =
@@ -48,7 +49,11 @@ pub group_again : (scheme : Scheme) (limit : ℕ) (group : List ℕ) → is_from
     → group_at (bytes_word group ∷ scheme_word scheme ∷ map plain (limit_tokens limit)) ≡ Ok (scheme, front_bytes scheme limit group)
 unfolding group_at
 group_again scheme limit group range size fits =
-    rw (sized_again expected.Group 15 group (scheme_word scheme ∷ map plain (limit_tokens limit)) fits size, scheme_again scheme, limit_again limit range) refl
+    rw (
+      sized_again expected.Group 15 group (scheme_word scheme ∷ map plain (limit_tokens limit)) fits size,
+      scheme_again scheme,
+      limit_again limit range,
+    ) refl
 
 scheme_is : (scheme : Scheme) → IsWord (scheme_word scheme)
 scheme_is schemes.Plain = inr refl
@@ -70,9 +75,11 @@ abbrev done : List ℕ → Result (List ℕ) Expected
 done bytes = Ok bytes
 
 total_again : (total : ℕ) → total < 2 ^ 32 → total_at (decimal total ∷ []) ≡ Ok total
-total_again total small = rw (number_again expected.Process 0 (2 ^ 32 - 1) total [] (omega arith) (omega (arith, small)) (omega (arith, small))) refl
+total_again total small = rw (number_again expected.Process 0 (2 ^ 32 - 1) total [] (omega arith) (omega (arith, small))
+    (omega (arith, small))) refl
 
-plain_by : (p : ℕ) (key : List ℕ) (total : ℕ) (short : Bool) → same_bytes key (short_key p) ≡ short → length key ≡ 32 → total < 2 ^ 32 → IsBytes key
+plain_by : (p : ℕ) (key : List ℕ) (total : ℕ) (short : Bool) → same_bytes key (short_key p) ≡ short → length key ≡ 32 → total < 2 ^ 32
+    → IsBytes key
     → plain_at p (map plain ((if short then [] else Bytes key ∷ []) ++ number total ∷ [])) ≡ Ok (key ++ four_bytes total)
 unfolding plain_at
 plain_by p key total true e size small fits =
@@ -110,16 +117,22 @@ id_fits code kind id seed h = fits_front id seed (λ i. h (suc (suc i)))
 seed_fits : (code : ℕ) (kind : OtsType) (id seed : List ℕ) → IsBytes (tree_bytes code kind id seed) → IsBytes seed
 seed_fits code kind id seed h = fits_behind id seed (λ i. h (suc (suc i)))
 
-tree_is : (levels code : ℕ) (kind : OtsType) (id seed : List ℕ) → IsTree levels code kind id seed → IsBytes (tree_bytes code kind id seed) → tree_at (map plain (tree_tokens code kind id seed)) ≡ Ok (tree_bytes code kind id seed)
+tree_is : (levels code : ℕ) (kind : OtsType) (id seed : List ℕ) → IsTree levels code kind id seed → IsBytes (tree_bytes code kind id seed)
+    → tree_at (map plain (tree_tokens code kind id seed)) ≡ Ok (tree_bytes code kind id seed)
 tree_is levels code kind id seed fits h =
-    tree_again code (ots_typecode kind) id seed (code_low levels code fits.0) (kind_low kind) fits.2 fits.3 (id_fits code kind id seed h) (seed_fits code kind id seed h)
+    tree_again code (ots_typecode kind) id seed (code_low levels code fits.0) (kind_low kind) fits.2 fits.3 (id_fits code kind id seed h)
+    (seed_fits code kind id seed h)
 
-levels_again : (levels code : ℕ) (kind : OtsType) (id seed : List ℕ) → levels_in_range levels ≡ true → IsTree levels code kind id seed → IsBytes (tree_bytes code kind id seed)
+levels_again : (levels code : ℕ) (kind : OtsType) (id seed : List ℕ) → levels_in_range levels ≡ true → IsTree levels code kind id seed
+    → IsBytes (tree_bytes code kind id seed)
     → levels_at (decimal levels ∷ map plain (tree_tokens code kind id seed)) ≡ Ok (levels ∷ tree_bytes code kind id seed)
 unfolding levels_at
 levels_again levels code kind id seed range fits h =
     let low = levels_low levels range in
-    rw (number_again expected.Process 0 255 levels (map plain (tree_tokens code kind id seed)) (omega arith) low (omega (arith, low)), tree_is levels code kind id seed fits h) refl
+    rw (
+      number_again expected.Process 0 255 levels (map plain (tree_tokens code kind id seed)) (omega arith) low (omega (arith, low)),
+      tree_is levels code kind id seed fits h,
+    ) refl
 
 -- the tokens of a key behind the scheme's word
 abbrev behind_scheme : ℕ → Key → List Token
@@ -138,8 +151,10 @@ key_said schemes.Lms p (Hss levels code kind id seed) fits = absurd fits
 key_said schemes.Hss p (Plain key total) fits = absurd fits
 key_said schemes.Hss p (Lms code kind id seed) fits = absurd fits
 
-key_again : (scheme : Scheme) (p : ℕ) (key : Key) → IsKey scheme key → IsBytes (key_bytes key) → key_at scheme p (map plain (behind_scheme p key)) ≡ Ok (key_bytes key)
-key_again schemes.Plain p (Plain key total) fits h = plain_by p key total (same_bytes key (short_key p)) refl fits.0 fits.1 (fits_front key (four_bytes total) h)
+key_again : (scheme : Scheme) (p : ℕ) (key : Key) → IsKey scheme key → IsBytes (key_bytes key)
+    → key_at scheme p (map plain (behind_scheme p key)) ≡ Ok (key_bytes key)
+key_again schemes.Plain p (Plain key total) fits h = plain_by p key total (same_bytes key (short_key p)) refl fits.0 fits.1
+    (fits_front key (four_bytes total) h)
 key_again schemes.Lms p (Lms code kind id seed) fits h = tree_is 1 code kind id seed fits h
 key_again schemes.Hss p (Hss levels code kind id seed) fits h = levels_again levels code kind id seed fits.0 fits.1 (λ i. h (suc i))
 key_again schemes.Plain p (Lms code kind id seed) fits h = absurd fits
@@ -164,32 +179,46 @@ abbrev Step : Type 0
 Step = Result (List ℕ) Expected
 
 listed_of : (scheme : Scheme) (l : Listed) → l.process ≤ 63 → IsKey scheme l.key → IsBytes (listed_bytes l)
-    → listed_at scheme (decimal l.process ∷ role_word l.corrupt ∷ scheme_word scheme ∷ map plain (behind_scheme l.process l.key)) ≡ Ok (listed_bytes l)
+    → listed_at scheme (decimal l.process ∷ role_word l.corrupt ∷ scheme_word scheme ∷ map plain (behind_scheme l.process l.key))
+    ≡ Ok (listed_bytes l)
 unfolding listed_at
 listed_of scheme l low key h =
-    rw (process_again expected.Process l.process (role_word l.corrupt ∷ scheme_word scheme ∷ map plain (behind_scheme l.process l.key)) low, role_again l.corrupt, scheme_same scheme, key_again scheme l.process l.key key (λ i. h (suc (suc i)))) refl
+    rw (
+      process_again expected.Process l.process (role_word l.corrupt ∷ scheme_word scheme ∷ map plain (behind_scheme l.process l.key)) low,
+      role_again l.corrupt,
+      scheme_same scheme,
+      key_again scheme l.process l.key key (λ i. h (suc (suc i))),
+    ) refl
 
 pub listed_again : (scheme : Scheme) (l : Listed) → l.process ≤ 63 → IsKey scheme l.key → IsBytes (listed_bytes l)
     → listed_at scheme (decimal l.process ∷ role_word l.corrupt ∷ map plain (key_tokens l.process l.key)) ≡ Ok (listed_bytes l)
 listed_again scheme l low key h =
-    ap (λ (ts : List Token). listed_at scheme (decimal l.process ∷ role_word l.corrupt ∷ map plain ts)) (key_said scheme l.process l.key key) ∙ listed_of scheme l low key h
+    ap (λ (ts : List Token). listed_at scheme (decimal l.process ∷ role_word l.corrupt ∷ map plain ts))
+    (key_said scheme l.process l.key key) ∙ listed_of scheme l low key h
 
 role_is : (corrupt : Bool) → IsWord (role_word corrupt)
 role_is true = inr refl
 role_is false = inr refl
 
-tree_are : (levels code : ℕ) (kind : OtsType) (id seed : List ℕ) → IsTree levels code kind id seed → AreTokens (tree_tokens code kind id seed)
-tree_are levels code kind id seed fits =
-    (number_is code (omega (arith, code_low levels code fits.0)), (number_is (ots_typecode kind) (omega (arith, kind_low kind)), (tt, (tt, tt))))
+tree_are : (levels code : ℕ) (kind : OtsType) (id seed : List ℕ) → IsTree levels code kind id seed
+    → AreTokens (tree_tokens code kind id seed)
+tree_are levels code kind id seed fits = (
+  number_is code (omega (arith, code_low levels code fits.0)),
+  (number_is (ots_typecode kind) (omega (arith, kind_low kind)), (tt, (tt, tt))),
+)
 
-plain_are_by : (key : List ℕ) (total : ℕ) (short : Bool) → total < 2 ^ 32 → AreTokens ((if short then [] else Bytes key ∷ []) ++ number total ∷ [])
+plain_are_by : (key : List ℕ) (total : ℕ) (short : Bool) → total < 2 ^ 32
+    → AreTokens ((if short then [] else Bytes key ∷ []) ++ number total ∷ [])
 plain_are_by key total true small = (number_is total (omega (arith, small)), tt)
 plain_are_by key total false small = (tt, (number_is total (omega (arith, small)), tt))
 
 key_are : (scheme : Scheme) (p : ℕ) (key : Key) → IsKey scheme key → AreTokens (key_tokens p key)
 key_are schemes.Plain p (Plain key total) fits = (inr refl, plain_are_by key total (same_bytes key (short_key p)) fits.1)
 key_are schemes.Lms p (Lms code kind id seed) fits = (inr refl, tree_are 1 code kind id seed fits)
-key_are schemes.Hss p (Hss levels code kind id seed) fits = (inr refl, (number_is levels (omega (arith, levels_low levels fits.0)), tree_are levels code kind id seed fits.1))
+key_are schemes.Hss p (Hss levels code kind id seed) fits = (
+  inr refl,
+  (number_is levels (omega (arith, levels_low levels fits.0)), tree_are levels code kind id seed fits.1),
+)
 key_are schemes.Plain p (Lms code kind id seed) fits = absurd fits
 key_are schemes.Plain p (Hss levels code kind id seed) fits = absurd fits
 key_are schemes.Lms p (Plain key total) fits = absurd fits
@@ -198,7 +227,10 @@ key_are schemes.Hss p (Plain key total) fits = absurd fits
 key_are schemes.Hss p (Lms code kind id seed) fits = absurd fits
 
 pub listed_are : (scheme : Scheme) (l : Listed) → l.process ≤ 63 → IsKey scheme l.key → AreTokens (listed_tokens l)
-listed_are scheme l low key = (inr refl, (number_is l.process (omega (arith, low)), (role_is l.corrupt, key_are scheme l.process l.key key)))
+listed_are scheme l low key = (
+  inr refl,
+  (number_is l.process (omega (arith, low)), (role_is l.corrupt, key_are scheme l.process l.key key)),
+)
 
 -- ---- the first view
 
@@ -220,7 +252,8 @@ members_again before (m ∷ ms) few =
     ∙ ap (by_word before (map decimal ms)) (number_within_spelled 0 63 m (omega arith) few.0 (omega (arith, few.0)))
     ∙ members_again (before ++ m ∷ []) ms few.1 ∙ ap done (append_assoc before (m ∷ []) ms)
 
-pub genesis_again : (ms : List ℕ) → AllByRecursion (λ m. m ≤ 63) ms → length ms ≤ 16 → genesis_at (map plain (numbers ms)) ≡ Ok (length ms ∷ ms)
+pub genesis_again : (ms : List ℕ) → AllByRecursion (λ m. m ≤ 63) ms → length ms ≤ 16
+    → genesis_at (map plain (numbers ms)) ≡ Ok (length ms ∷ ms)
 unfolding genesis_at
 genesis_again ms few most = ap genesis_at (plain_numbers ms) ∙ rw (members_again [] ms few, le-leb (length ms) 16 most) refl
 

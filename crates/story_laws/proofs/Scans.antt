@@ -83,7 +83,8 @@ bare_on (c ∷ word) e out more =
     bare_step out (word ++ more) c (apart c both.0) ∙ bare_on word both.1 (out ++ c ∷ []) more
     ∙ ap (λ o. scan o Bare more) (append_assoc out (c ∷ []) word)
 
-word_on : (word : List ℕ) → is_bare word ≡ true → (out more : List ℕ) → scan out Between (word ++ more) ≡ scan (parted out ++ word) Bare more
+word_on : (word : List ℕ) → is_bare word ≡ true → (out more : List ℕ)
+    → scan out Between (word ++ more) ≡ scan (parted out ++ word) Bare more
 word_on [] e out more = absurd cc
 word_on (c ∷ word) e out more =
     let each = and_true (not (length (c ∷ word) == 0)) (all_stand (c ∷ word)) e in
@@ -100,7 +101,8 @@ colon_on out more = refl
 byte_is : (c : ℕ) (b : Bool) → is_escaped c ≡ b → quoted_byte c ≡ (if b then 92 ∷ c ∷ [] else c ∷ [])
 byte_is c b e = ap (λ v. if v then 92 ∷ c ∷ [] else c ∷ []) e
 
-behind_backslash : (out more : List ℕ) (c : ℕ) → is_escaped c ≡ true → scan out Escaped (c ∷ more) ≡ scan (out ++ encode_lower (c ∷ [])) Quoted more
+behind_backslash : (out more : List ℕ) (c : ℕ) → is_escaped c ≡ true
+    → scan out Escaped (c ∷ more) ≡ scan (out ++ encode_lower (c ∷ [])) Quoted more
 unfolding scan
 behind_backslash out more c e = rw e refl
 
@@ -115,24 +117,31 @@ first_backslash out more = refl
 not_low : (c : ℕ) → is_printable c ≡ true → nat_lt c 32 ≡ false
 not_low c e = let low = (and_true (nat_le 32 c) (nat_lt c 127) e).0 in grind (arith, low)
 
-quoted_itself : (out more : List ℕ) (c : ℕ) → is_printable c ≡ true → is_escaped c ≡ false → scan out Quoted (c ∷ more) ≡ scan (out ++ encode_lower (c ∷ [])) Quoted more
+quoted_itself : (out more : List ℕ) (c : ℕ) → is_printable c ≡ true → is_escaped c ≡ false
+    → scan out Quoted (c ∷ more) ≡ scan (out ++ encode_lower (c ∷ [])) Quoted more
 unfolding scan
 quoted_itself out more c p e = let k = or_false (c == 34) (c == 92) e in rw (k.0, k.1, not_low c p) refl
 
-first_itself : (out more : List ℕ) (c : ℕ) → is_printable c ≡ true → is_escaped c ≡ false → scan out Opened (c ∷ more) ≡ scan (out ++ encode_lower (c ∷ [])) Quoted more
+first_itself : (out more : List ℕ) (c : ℕ) → is_printable c ≡ true → is_escaped c ≡ false
+    → scan out Opened (c ∷ more) ≡ scan (out ++ encode_lower (c ∷ [])) Quoted more
 unfolding scan
 first_itself out more c p e = let k = or_false (c == 34) (c == 92) e in rw (k.0, k.1, not_low c p) refl
 
-quoted_by : (out more : List ℕ) (c : ℕ) (b : Bool) → is_printable c ≡ true → is_escaped c ≡ b → scan out Quoted (quoted_byte c ++ more) ≡ scan (out ++ encode_lower (c ∷ [])) Quoted more
-quoted_by out more c true p e = ap (λ bytes. scan out Quoted (bytes ++ more)) (byte_is c true e) ∙ to_backslash out (c ∷ more) ∙ behind_backslash out more c e
+quoted_by : (out more : List ℕ) (c : ℕ) (b : Bool) → is_printable c ≡ true → is_escaped c ≡ b
+    → scan out Quoted (quoted_byte c ++ more) ≡ scan (out ++ encode_lower (c ∷ [])) Quoted more
+quoted_by out more c true p e = ap (λ bytes. scan out Quoted (bytes ++ more))
+    (byte_is c true e) ∙ to_backslash out (c ∷ more) ∙ behind_backslash out more c e
 quoted_by out more c false p e = ap (λ bytes. scan out Quoted (bytes ++ more)) (byte_is c false e) ∙ quoted_itself out more c p e
 
-first_by : (out more : List ℕ) (c : ℕ) (b : Bool) → is_printable c ≡ true → is_escaped c ≡ b → scan out Opened (quoted_byte c ++ more) ≡ scan (out ++ encode_lower (c ∷ [])) Quoted more
-first_by out more c true p e = ap (λ bytes. scan out Opened (bytes ++ more)) (byte_is c true e) ∙ first_backslash out (c ∷ more) ∙ behind_backslash out more c e
+first_by : (out more : List ℕ) (c : ℕ) (b : Bool) → is_printable c ≡ true → is_escaped c ≡ b
+    → scan out Opened (quoted_byte c ++ more) ≡ scan (out ++ encode_lower (c ∷ [])) Quoted more
+first_by out more c true p e = ap (λ bytes. scan out Opened (bytes ++ more))
+    (byte_is c true e) ∙ first_backslash out (c ∷ more) ∙ behind_backslash out more c e
 first_by out more c false p e = ap (λ bytes. scan out Opened (bytes ++ more)) (byte_is c false e) ∙ first_itself out more c p e
 
 -- hexadecimal digits behind others
-digits_joined : (out : List ℕ) (c : ℕ) (bytes : List ℕ) → (out ++ encode_lower (c ∷ [])) ++ encode_lower bytes ≡ out ++ encode_lower (c ∷ bytes)
+digits_joined : (out : List ℕ) (c : ℕ) (bytes : List ℕ)
+    → (out ++ encode_lower (c ∷ [])) ++ encode_lower bytes ≡ out ++ encode_lower (c ∷ bytes)
 unfolding encode_with
 digits_joined out c bytes = append_assoc out (encode_lower (c ∷ [])) (encode_lower bytes)
 
@@ -140,7 +149,8 @@ no_digits : (out : List ℕ) → out ≡ out ++ encode_lower []
 unfolding encode_with
 no_digits out = sym (append-nil out)
 
-quoted_on : (bytes : List ℕ) → list_all is_printable bytes ≡ true → (out more : List ℕ) → scan out Quoted (flat_map quoted_byte bytes ++ more) ≡ scan (out ++ encode_lower bytes) Quoted more
+quoted_on : (bytes : List ℕ) → list_all is_printable bytes ≡ true → (out more : List ℕ)
+    → scan out Quoted (flat_map quoted_byte bytes ++ more) ≡ scan (out ++ encode_lower bytes) Quoted more
 quoted_on [] e out more = ap (λ o. scan o Quoted more) (no_digits out)
 quoted_on (c ∷ bytes) e out more =
     let both = and_true (is_printable c) (list_all is_printable bytes) e in
@@ -161,7 +171,8 @@ empty_text : (out more : List ℕ) → scan out Opened (34 ∷ more) ≡ scan (o
 unfolding scan
 empty_text out more = refl
 
-opened_on : (bytes : List ℕ) → list_all is_printable bytes ≡ true → (out more : List ℕ) → scan out Opened (flat_map quoted_byte bytes ++ 34 ∷ more) ≡ scan (out ++ bytes_word bytes) Between more
+opened_on : (bytes : List ℕ) → list_all is_printable bytes ≡ true → (out more : List ℕ)
+    → scan out Opened (flat_map quoted_byte bytes ++ 34 ∷ more) ≡ scan (out ++ bytes_word bytes) Between more
 opened_on [] e out more = empty_text out more
 opened_on (c ∷ bytes) e out more =
     let both = and_true (is_printable c) (list_all is_printable bytes) e in
@@ -171,7 +182,8 @@ opened_on (c ∷ bytes) e out more =
     ∙ ap (λ o. scan o Quoted (34 ∷ more)) (digits_joined out c bytes)
     ∙ to_quote (out ++ encode_lower (c ∷ bytes)) more
 
-text_on : (bytes : List ℕ) → list_all is_printable bytes ≡ true → (out more : List ℕ) → scan out Between (quoted_text bytes ++ more) ≡ scan (parted out ++ bytes_word bytes) Between more
+text_on : (bytes : List ℕ) → list_all is_printable bytes ≡ true → (out more : List ℕ)
+    → scan out Between (quoted_text bytes ++ more) ≡ scan (parted out ++ bytes_word bytes) Between more
 text_on bytes e out more =
     from_quote out ((flat_map quoted_byte bytes ++ 34 ∷ []) ++ more)
     ∙ ap (scan (parted out) Opened) (append_assoc (flat_map quoted_byte bytes) (34 ∷ []) more)
@@ -208,16 +220,21 @@ digits_bare b bytes = both_true (not (length (encode_lower (b ∷ bytes)) == 0))
 abbrev pub Follows : List ℕ → Type 0
 Follows more = (out : List ℕ) → scan out Bare more ≡ scan out Between more
 
-bytes_on : (bytes : List ℕ) (printed : Bool) → list_all is_printable bytes ≡ printed → (out more : List ℕ) → Follows more → scan out Between ((if printed then quoted_text bytes else bytes_word bytes) ++ more) ≡ scan (parted out ++ bytes_word bytes) Between more
+bytes_on : (bytes : List ℕ) (printed : Bool) → list_all is_printable bytes ≡ printed → (out more : List ℕ) → Follows more
+    → scan out Between ((if printed then quoted_text bytes else bytes_word bytes) ++ more)
+    ≡ scan (parted out ++ bytes_word bytes) Between more
 bytes_on bytes true e out more f = text_on bytes e out more
 bytes_on [] false e out more f = absurd cc
-bytes_on (b ∷ bytes) false e out more f = word_on (encode_lower (b ∷ bytes)) (digits_bare b bytes) out more ∙ f (parted out ++ encode_lower (b ∷ bytes))
+bytes_on (b ∷ bytes) false e out more f = word_on (encode_lower (b ∷ bytes))
+    (digits_bare b bytes) out more ∙ f (parted out ++ encode_lower (b ∷ bytes))
 
 shown_is : (bytes : List ℕ) → shown_bytes bytes ≡ (if list_all is_printable bytes then quoted_text bytes else bytes_word bytes)
 shown_is bytes = refl
 
-token_on : (t : Token) → IsToken t → (out more : List ℕ) → Follows more → scan out Between (shown t ++ more) ≡ scan (parted out ++ plain t) Between more
-token_on (Word word) (inl is) out more f = ap (λ w. scan out Between (w ++ more)) is ∙ colon_on out more ∙ ap (λ w. scan (parted out ++ w) Between more) (sym is)
+token_on : (t : Token) → IsToken t → (out more : List ℕ) → Follows more
+    → scan out Between (shown t ++ more) ≡ scan (parted out ++ plain t) Between more
+token_on (Word word) (inl is) out more f = ap (λ w. scan out Between (w ++ more)) is ∙ colon_on out more ∙ ap
+    (λ w. scan (parted out ++ w) Between more) (sym is)
 token_on (Word word) (inr e) out more f = word_on word e out more ∙ f (parted out ++ word)
 token_on (Bytes bytes) is out more f = bytes_on bytes (list_all is_printable bytes) refl out more f
 
@@ -269,7 +286,8 @@ joined out first more = append_assoc (out ++ first) (32 ∷ []) more ∙ append_
 abbrev ok : List ℕ → Result (List ℕ) Expected
 ok line = Ok line
 
-pub line_on : (t : Token) (ts : List Token) → AreTokens (t ∷ ts) → (out : List ℕ) → scan out Between (shown_line (t ∷ ts)) ≡ Ok (parted out ++ plain_words (t ∷ ts))
+pub line_on : (t : Token) (ts : List Token) → AreTokens (t ∷ ts) → (out : List ℕ)
+    → scan out Between (shown_line (t ∷ ts)) ≡ Ok (parted out ++ plain_words (t ∷ ts))
 line_on t [] are out =
     ap (scan out Between) (sym (append-nil (shown t))) ∙ token_on t are.0 out [] none_follows ∙ at_end (parted out ++ plain t)
 line_on t (u ∷ ts) are out =
@@ -309,9 +327,11 @@ quoted_has_no : (bytes : List ℕ) → list_all is_printable bytes ≡ true → 
 quoted_has_no [] e = refl
 quoted_has_no (c ∷ bytes) e =
     let both = and_true (is_printable c) (list_all is_printable bytes) e in
-    list_any-append (λ d. d == 10) (quoted_byte c) (flat_map quoted_byte bytes) ∙ rw (byte_has_no c _ refl both.0, quoted_has_no bytes both.1) refl
+    list_any-append (λ d. d == 10) (quoted_byte c)
+    (flat_map quoted_byte bytes) ∙ rw (byte_has_no c _ refl both.0, quoted_has_no bytes both.1) refl
 
-text_has_no : (bytes : List ℕ) (printed : Bool) → list_all is_printable bytes ≡ printed → has_byte 10 (if printed then quoted_text bytes else bytes_word bytes) ≡ false
+text_has_no : (bytes : List ℕ) (printed : Bool) → list_all is_printable bytes ≡ printed
+    → has_byte 10 (if printed then quoted_text bytes else bytes_word bytes) ≡ false
 text_has_no bytes true e = list_any-append (λ d. d == 10) (flat_map quoted_byte bytes) (34 ∷ []) ∙ rw (quoted_has_no bytes e) refl
 text_has_no [] false e = refl
 text_has_no (b ∷ bytes) false e = hex_has_no 10 (b ∷ bytes) (omega arith) (omega arith)

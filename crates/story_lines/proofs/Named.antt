@@ -17,7 +17,8 @@ Begins (Some p) words words' = (set : List ℕ) → named set words ≡ named (p
 abbrev by_first : List ℕ → List ℕ → Words → Option ℕ → Named
 by_first set word more o = elim o [ None ↦ (set, word ∷ more) | Some p ↦ named (put_once p set) more ]
 
-first_is : (set word : List ℕ) (more words : Words) (o : Option ℕ) → words ≡ word ∷ more → process_of word ≡ o → named set words ≡ by_first set word more o
+first_is : (set word : List ℕ) (more words : Words) (o : Option ℕ) → words ≡ word ∷ more → process_of word ≡ o
+    → named set words ≡ by_first set word more o
 unfolding named
 first_is set word more words o is says = ap (named set) is ∙ ap (by_first set word more) says
 
@@ -26,7 +27,8 @@ with_words set words = (set, words)
 
 module _ (words : Words) (r : Option ℕ) where
   abbrev pub Told : Words → Type 0
-  Told words' = MatchOption r ((set : List ℕ) → named set words ≡ (set, words')) (λ p. (set : List ℕ) → named set words ≡ named (put_once p set) words')
+  Told words' = MatchOption r ((set : List ℕ) → named set words ≡ (set, words'))
+      (λ p. (set : List ℕ) → named set words ≡ named (put_once p set) words')
 
 told_none : (words words' : Words) (r : Option ℕ) → r ≡ None → ((set : List ℕ) → named set words ≡ (set, words')) → Told words r words'
 told_none words words' None e h = h
@@ -36,8 +38,11 @@ pub none_left : (words : Words) (r : Option ℕ) → r ≡ None → words ≡ []
 unfolding named
 none_left words r e is = told_none words words r e (λ set. ap (named set) is ∙ ap (with_words set) (sym is))
 
-pub none_named : (words : Words) (word : List ℕ) (more : Words) (r : Option ℕ) → r ≡ None → words ≡ word ∷ more → process_of word ≡ None → Told words r words
-none_named words word more r e is says = told_none words words r e (λ set. first_is set word more words None is says ∙ ap (with_words set) (sym is))
+pub none_named : (words : Words) (word : List ℕ) (more : Words) (r : Option ℕ) → r ≡ None → words ≡ word ∷ more → process_of word ≡ None
+    → Told words r words
+none_named words word more r e is says = told_none words words r e
+    (λ set. first_is set word more words None is says ∙ ap (with_words set) (sym is))
 
-pub one_named : (words : Words) (word : List ℕ) (more : Words) (p : ℕ) → words ≡ word ∷ more → process_of word ≡ Some p → (set : List ℕ) → named set words ≡ named (put_once p set) more
+pub one_named : (words : Words) (word : List ℕ) (more : Words) (p : ℕ) → words ≡ word ∷ more → process_of word ≡ Some p → (set : List ℕ)
+    → named set words ≡ named (put_once p set) more
 one_named words word more p is says set = first_is set word more words (Some p) is says

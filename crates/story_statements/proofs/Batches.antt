@@ -23,7 +23,8 @@ room b = 16 - length b
 abbrev pub Behind : Batch → Words → Result Batch Expected
 Behind b words = messages_behind Lie (room b) b words
 
-step : (n : ℕ) (b : Batch) (words : Words) → (length words == 0) ≡ false → messages_behind Lie (suc n) b words ≡ (message_at Lie words >>= λ m. messages_behind Lie n (b ++ m.0 ∷ []) m.1)
+step : (n : ℕ) (b : Batch) (words : Words) → (length words == 0) ≡ false
+    → messages_behind Lie (suc n) b words ≡ (message_at Lie words >>= λ m. messages_behind Lie n (b ++ m.0 ∷ []) m.1)
 unfolding messages_behind
 step n b [] some = absurd (true≢false some)
 step n b (word ∷ words) some = refl
@@ -86,7 +87,8 @@ under b batch other = grind (arith, batch.few, other)
 
 -- ---- the first message, and the words that a message takes
 
-pub begins : (b : Batch) (m : Message) (words rest : Words) → b ≡ m ∷ [] → message_at Lie words ≡ Ok (m, rest) → Behind b rest ≡ batch_at Lie words
+pub begins : (b : Batch) (m : Message) (words rest : Words) → b ≡ m ∷ [] → message_at Lie words ≡ Ok (m, rest)
+    → Behind b rest ≡ batch_at Lie words
 unfolding batch_at
 begins b m words rest is read = ap (λ (x : Batch). Behind x rest) is ∙ sym (ap (λ r. r >>= λ t. messages_behind Lie 15 (t.0 ∷ []) t.1) read)
 
@@ -98,7 +100,8 @@ taken_by : {A : Type 0} (o : Option A) (words : Words) (x : A × Words) → (ok_
 taken_by None words x e = absurd cc
 taken_by {A} (Some a) words x e = let made : A × Words = (a, words) in ap (λ (y : A × Words). y.1) (ok_is made x e)
 
-taken : {A : Type 0} (says : List ℕ → Option A) (words : Words) (x : A × Words) → said_at Lie says words ≡ Ok x → length words ≡ suc (length x.1)
+taken : {A : Type 0} (says : List ℕ → Option A) (words : Words) (x : A × Words) → said_at Lie says words ≡ Ok x
+    → length words ≡ suc (length x.1)
 taken says [] x e = absurd cc
 taken says (word ∷ words) x e = ap (λ (ws : Words). suc (length ws)) (taken_by (says word) words x e)
 

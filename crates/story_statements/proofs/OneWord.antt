@@ -27,7 +27,8 @@ pub fails : (words : Words) (e : LineFault) → Fails expected_of e (next_at Lie
 fails words faults.NoMemory bad = tt
 fails words (faults.Expected x) bad = no_word words x bad
 
-one_word : (word : List ℕ) (words : Words) → (length words == 0) ≡ true → statement_at Lie (word ∷ words) ≡ (payload_at Lie 65535 (word ∷ words) >>= λ bytes. Ok bytes.0)
+one_word : (word : List ℕ) (words : Words) → (length words == 0) ≡ true
+    → statement_at Lie (word ∷ words) ≡ (payload_at Lie 65535 (word ∷ words) >>= λ bytes. Ok bytes.0)
 unfolding statement_at
 one_word word [] e = refl
 one_word word (next ∷ words) e = absurd (grind (arith, e))
@@ -42,13 +43,15 @@ module _ (words : Words) (word : List ℕ) (rest : Words) (read : next_at Lie wo
   parts = let x : List ℕ × Words = (word, rest) in rest_is words x read
 
   pub is_bytes : (length rest == 0) ≡ true → (payload_at Lie 65535 words >>= λ bytes. Ok bytes.0) ≡ statement_at Lie words
-  is_bytes e = ap (λ (ws : Words). payload_at Lie 65535 ws >>= λ bytes. Ok bytes.0) parts ∙ sym (ap (statement_at Lie) parts ∙ one_word word rest e)
+  is_bytes e = ap (λ (ws : Words). payload_at Lie 65535 ws >>= λ bytes. Ok bytes.0) parts ∙ sym
+      (ap (statement_at Lie) parts ∙ one_word word rest e)
 
   pub is_spelled : (length rest == 0) ≡ false → spelled_at Lie words ≡ statement_at Lie words
   is_spelled e = ap (spelled_at Lie) parts ∙ sym (ap (statement_at Lie) parts ∙ several word rest e)
 
 -- the value that a step reads, without the words after it
-pub value_alone : {X : Type 0} (view : X → List ℕ) (rest : Words) (r : Result X LineFault) (read : Step (List ℕ)) → Makes expected_of (λ x. (view x, rest)) r read → Makes expected_of view r (read >>= λ x. Ok x.0)
+pub value_alone : {X : Type 0} (view : X → List ℕ) (rest : Words) (r : Result X LineFault) (read : Step (List ℕ))
+    → Makes expected_of (λ x. (view x, rest)) r read → Makes expected_of view r (read >>= λ x. Ok x.0)
 value_alone view rest (Ok x) read made = ap (λ (t : Step (List ℕ)). t >>= λ y. Ok y.0) made
 value_alone view rest (Err faults.NoMemory) read made = tt
 value_alone view rest (Err (faults.Expected x)) read made = ap (λ (t : Step (List ℕ)). t >>= λ y. Ok y.0) made

@@ -22,7 +22,8 @@ pub cut_there : (c : ℕ) (text : List ℕ) (i : ℕ) → Some i ≡ position (�
     → slice_split (λ x. x == c) text ≡ take i text ∷ slice_split (λ x. x == c) (take (length text - (i + 1)) (drop (i + 1) text))
 cut_there c text i h =
     let at = place_is (position_or_len (λ x. x == c) text) (length text) i _ refl (sym h) in
-    let all : take (length text - (i + 1)) (drop (i + 1) text) ≡ drop (i + 1) text = take_all _ (drop (i + 1) text) (grind (arith, common_steps)) in
+    let all : take (length text - (i + 1)) (drop (i + 1) text)
+    ≡ drop (i + 1) text = take_all _ (drop (i + 1) text) (grind (arith, common_steps)) in
     rw (all, at.1) (slice_split_first (λ x. x == c) text 0 at.0)
 
 -- there is no such byte
@@ -32,7 +33,8 @@ not_cut c text h =
     slice_split_none (λ x. x == c) text (λ k d l. fails_before_first (λ x. x == c) text k d (omega (arith, past, l)))
 
 -- parts are left where there is a rest
-pub no_rest : (c : ℕ) (rest : Option (Bor (List ℕ))) (done : Bool) → is_some rest ≡ not done → done ≡ (length (option_map_or (λ r. slice_split (λ x. x == c) r.now) rest []) == 0)
+pub no_rest : (c : ℕ) (rest : Option (Bor (List ℕ))) (done : Bool) → is_some rest ≡ not done
+    → done ≡ (length (option_map_or (λ r. slice_split (λ x. x == c) r.now) rest []) == 0)
 no_rest c None true e = refl
 no_rest c None false e = absurd cc
 no_rest c (Some r) true e = absurd cc

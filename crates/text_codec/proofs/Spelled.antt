@@ -18,7 +18,8 @@ differs a b e other =
     cc (other, same)
 
 -- what is no dash, and spells bytes, is their digits
-digits : (word bytes : List ℕ) → pointwise nat_eq word (45 ∷ []) ≡ false → Spells word bytes → (word ≡ encode_lower bytes) × (0 < length bytes)
+digits : (word bytes : List ℕ) → pointwise nat_eq word (45 ∷ []) ≡ false → Spells word bytes
+    → (word ≡ encode_lower bytes) × (0 < length bytes)
 digits word [] other s = absurd (differs word (45 ∷ []) s.1 (sym other))
 digits word (b ∷ bytes) other s = (s.1, omega arith)
 
@@ -40,10 +41,12 @@ read_lower false o bytes upper read = absurd cc
 pub not_upper : (word bytes : List ℕ) → pointwise nat_eq word (45 ∷ []) ≡ false → Spells word bytes → list_any is_upper_case word ≡ true → ⊥
 unfolding bytes_of
 not_upper word bytes other s upper =
-    let read : bytes_of (length bytes) word ≡ Some bytes = ap (bytes_of (length bytes)) (digits word bytes other s).0 ∙ bytes_spelled (length bytes) bytes (refl, s.0) in
+    let read : bytes_of (length bytes) word
+    ≡ Some bytes = ap (bytes_of (length bytes)) (digits word bytes other s).0 ∙ bytes_spelled (length bytes) bytes (refl, s.0) in
     read_lower _ _ bytes upper read
 
-lower_read : (upper : Bool) (r : Result (List ℕ) FromHexError) (bytes : List ℕ) → upper ≡ false → r ≡ Ok bytes → (if upper then None else result_ok r) ≡ Some bytes
+lower_read : (upper : Bool) (r : Result (List ℕ) FromHexError) (bytes : List ℕ) → upper ≡ false → r ≡ Ok bytes
+    → (if upper then None else result_ok r) ≡ Some bytes
 lower_read true r bytes lower read = absurd cc
 lower_read false r bytes lower read = ap result_ok read
 
@@ -56,7 +59,8 @@ lower_spells : (word bytes : List ℕ) → 0 < length word → list_any is_upper
 unfolding bytes_of
 lower_spells word bytes some lower read =
     let ok = decode_of-ok word bytes read in
-    let sized : bytes_of (length bytes) word ≡ Some bytes = lower_read _ _ bytes lower (decode_sized-twice word (length bytes) ok.2 ∙ read) in
+    let sized : bytes_of (length bytes) word
+    ≡ Some bytes = lower_read _ _ bytes lower (decode_sized-twice word (length bytes) ok.2 ∙ read) in
     let found = bytes_found (length bytes) word bytes sized in
     spells word bytes some found.0 ok.3
 
@@ -77,7 +81,8 @@ spelled_once word [] (b ∷ ys) s t = absurd (dash_is_none b ys (sym s.1 ∙ t.1
 spelled_once word (a ∷ xs) [] s t = absurd (dash_is_none a xs (sym t.1 ∙ s.1))
 spelled_once word (a ∷ xs) (b ∷ ys) s t = digits_once (a ∷ xs) (b ∷ ys) s.0 t.0 (sym s.1 ∙ t.1)
 
-pub bytes_read : {E : Type 0} (word : List ℕ) (r : Result (Vec ℕ Global) E) → length word ≢ 0 → list_any is_upper_case word ≡ false → IfOk r (λ bytes. decode_of word ≡ Ok bytes.items)
+pub bytes_read : {E : Type 0} (word : List ℕ) (r : Result (Vec ℕ Global) E) → length word ≢ 0 → list_any is_upper_case word ≡ false
+    → IfOk r (λ bytes. decode_of word ≡ Ok bytes.items)
     → IfOk r (λ bytes. Spells word bytes.items)
 bytes_read word (Ok bytes) some lower read = lower_spells word bytes.items (omega (arith, some)) lower read
 bytes_read word (Err e) some lower read = tt

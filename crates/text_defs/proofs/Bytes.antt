@@ -36,7 +36,8 @@ digit_found c v lower h =
 
 -- ---- what is read
 
-bind_ok : {A B : Type 0} (r : Result A FromHexError) (f : A → Result B FromHexError) (y : B) → (r >>= f) ≡ Ok y → (x : A) × (r ≡ Ok x) × (f x ≡ Ok y)
+bind_ok : {A B : Type 0} (r : Result A FromHexError) (f : A → Result B FromHexError) (y : B) → (r >>= f) ≡ Ok y
+    → (x : A) × (r ≡ Ok x) × (f x ≡ Ok y)
 bind_ok (Ok x) f y h = (x, refl, h)
 bind_ok (Err e) f y h = absurd cc
 
@@ -44,7 +45,8 @@ value_found : (c i v : ℕ) (o : Option ℕ) → digit_or_error c i o ≡ Ok v �
 value_found c i v (Some w) h = ap result_ok h
 value_found c i v None h = absurd cc
 
-pairs_found : (i : ℕ) (text bytes : List ℕ) → list_any is_upper_case text ≡ false → decode_pairs i text ≡ Ok bytes → text ≡ encode_lower bytes
+pairs_found : (i : ℕ) (text bytes : List ℕ) → list_any is_upper_case text ≡ false → decode_pairs i text ≡ Ok bytes
+    → text ≡ encode_lower bytes
 unfolding decode_pairs encode_with
 pairs_found i [] bytes lower h = ap (λ r. encode_lower (result_unwrap_or r [])) h
 pairs_found i (a ∷ []) bytes lower h = absurd cc
@@ -67,19 +69,22 @@ ok_found : {A : Type 0} {a : A} (r : Result A FromHexError) → result_ok r ≡ 
 ok_found (Ok b) h = ap (λ o. Ok (unwrap_or o b)) h
 ok_found (Err e) h = absurd cc
 
-sized_found : (n : ℕ) (text bytes : List ℕ) → list_any is_upper_case text ≡ false → decode_sized text n ≡ Ok bytes → (text ≡ encode_lower bytes) × ((length bytes ≡ n) × IsBytes bytes)
+sized_found : (n : ℕ) (text bytes : List ℕ) → list_any is_upper_case text ≡ false → decode_sized text n ≡ Ok bytes
+    → (text ≡ encode_lower bytes) × ((length bytes ≡ n) × IsBytes bytes)
 sized_found n text bytes lower h =
     let twice = decode_sized-ok text n bytes h in
     let read = sym (decode_sized-twice text n twice) ∙ h in
     let ok = decode_of-ok text bytes read in
     (pairs_found 0 text bytes lower (sym (decode_of-even text ok.0) ∙ read), (omega (arith, twice, ok.2), ok.3))
 
-found_by : (n : ℕ) (text bytes : List ℕ) (upper : Bool) → list_any is_upper_case text ≡ upper → (if upper then None else result_ok (decode_sized text n)) ≡ Some bytes
+found_by : (n : ℕ) (text bytes : List ℕ) (upper : Bool) → list_any is_upper_case text ≡ upper
+    → (if upper then None else result_ok (decode_sized text n)) ≡ Some bytes
     → (text ≡ encode_lower bytes) × ((length bytes ≡ n) × IsBytes bytes)
 found_by n text bytes true upper h = absurd cc
 found_by n text bytes false upper h = sized_found n text bytes upper (ok_found (decode_sized text n) h)
 
-pub bytes_found : (n : ℕ) (word bytes : List ℕ) → bytes_of n word ≡ Some bytes → (word ≡ encode_lower bytes) × ((length bytes ≡ n) × IsBytes bytes)
+pub bytes_found : (n : ℕ) (word bytes : List ℕ) → bytes_of n word ≡ Some bytes
+    → (word ≡ encode_lower bytes) × ((length bytes ≡ n) × IsBytes bytes)
 unfolding bytes_of
 bytes_found n word bytes h = found_by n word bytes _ refl h
 

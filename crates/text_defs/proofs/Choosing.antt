@@ -30,7 +30,8 @@ pub map_some : {A B : Type 0} (f : A → B) (o : Option A) (b : B) → option_ma
 map_some f None b e = absurd cc
 map_some f (Some a) b e = (a, refl, some_is (f a) b e)
 
-pub then_some : {A B : Type 0} (f : A → Option B) (o : Option A) (b : B) → option_and_then f o ≡ Some b → (a : A) × (o ≡ Some a) × (f a ≡ Some b)
+pub then_some : {A B : Type 0} (f : A → Option B) (o : Option A) (b : B) → option_and_then f o ≡ Some b
+    → (a : A) × (o ≡ Some a) × (f a ≡ Some b)
 then_some f None b e = absurd cc
 then_some f (Some a) b e = (a, refl, e)
 
@@ -39,7 +40,8 @@ abbrev pub EachRow : {A : Type 0} → Type 0 → A → List (Bool × Option A) �
 EachRow P a [] = Unit {0}
 EachRow P a (row ∷ rows) = (row.0 ≡ true → row.1 ≡ Some a → P) × EachRow P a rows
 
-pub by_row : {A : Type 0} (P : Type 0) (a : A) (rows : List (Bool × Option A)) → option_flatten (first_that_holds rows) ≡ Some a → EachRow P a rows → P
+pub by_row : {A : Type 0} (P : Type 0) (a : A) (rows : List (Bool × Option A)) → option_flatten (first_that_holds rows) ≡ Some a
+    → EachRow P a rows → P
 by_row P a [] e each = absurd cc
 by_row P a ((true, o) ∷ rows) e each = each.0 refl e
 by_row P a ((false, o) ∷ rows) e each = by_row P a rows e each.1

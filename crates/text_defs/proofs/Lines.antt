@@ -29,7 +29,8 @@ other_digit c (d ∷ t) (suc k) h some low = other_digit c t k (and_true (nat_le
 pub hex_has_no : (c : ℕ) (bytes : List ℕ) → 0 < c → c < 48 → has_byte c (encode_lower bytes) ≡ false
 unfolding encode_with
 hex_has_no c [] some low = refl
-hex_has_no c (b ∷ bytes) some low = rw (other_digit c lower_digits (b / 16) refl some low, other_digit c lower_digits (b % 16) refl some low, hex_has_no c bytes some low) refl
+hex_has_no c (b ∷ bytes) some low = rw
+    (other_digit c lower_digits (b / 16) refl some low, other_digit c lower_digits (b % 16) refl some low, hex_has_no c bytes some low) refl
 
 digits_have_no : (c : ℕ) (ds : List ℕ) → c < 48 → AllDigits 10 ds → has_byte c ds ≡ false
 digits_have_no c [] low h = refl
@@ -51,19 +52,23 @@ none_is c (x ∷ xs) h (suc k) d l = none_is c xs (or_false (x == c) _ h).1 k d 
 is_itself : (c : ℕ) → (c == c) ≡ true
 is_itself c = grind arith
 
-parts_of_join : (c : ℕ) (word : List ℕ) (words : List (List ℕ)) → list_any (has_byte c) (word ∷ words) ≡ false → slice_split (λ d. d == c) (join_with_byte c (word ∷ words)) ≡ word ∷ words
+parts_of_join : (c : ℕ) (word : List ℕ) (words : List (List ℕ)) → list_any (has_byte c) (word ∷ words) ≡ false
+    → slice_split (λ d. d == c) (join_with_byte c (word ∷ words)) ≡ word ∷ words
 parts_of_join c word [] h = slice_split_none (λ d. d == c) word (none_is c word (or_false (has_byte c word) _ h).0)
 parts_of_join c word (next ∷ words) h =
     let none = or_false (has_byte c word) _ h in
-    slice_split_at (λ d. d == c) word c (join_with_byte c (next ∷ words)) (none_is c word none.0) (is_itself c) ∙ ap (λ parts. word ∷ parts) (parts_of_join c next words none.1)
+    slice_split_at (λ d. d == c) word c (join_with_byte c (next ∷ words)) (none_is c word none.0) (is_itself c) ∙ ap (λ parts. word ∷ parts)
+    (parts_of_join c next words none.1)
 
-pub words_of_join : (word : List ℕ) (words : List (List ℕ)) → list_any (has_byte space) (word ∷ words) ≡ false → words_of (join_with_byte space (word ∷ words)) ≡ word ∷ words
+pub words_of_join : (word : List ℕ) (words : List (List ℕ)) → list_any (has_byte space) (word ∷ words) ≡ false
+    → words_of (join_with_byte space (word ∷ words)) ≡ word ∷ words
 words_of_join word words h = parts_of_join space word words h
 
 pub join_words_of : (line : List ℕ) → join_with_byte space (words_of line) ≡ line
 join_words_of line = join_with_byte-slice_split space line
 
-pub join_has_no : (c : ℕ) (words : List (List ℕ)) → (space == c) ≡ false → list_any (has_byte c) words ≡ false → has_byte c (join_with_byte space words) ≡ false
+pub join_has_no : (c : ℕ) (words : List (List ℕ)) → (space == c) ≡ false → list_any (has_byte c) words ≡ false
+    → has_byte c (join_with_byte space words) ≡ false
 join_has_no c [] other h = refl
 join_has_no c (word ∷ []) other h = (or_false (has_byte c word) _ h).0
 join_has_no c (word ∷ next ∷ words) other h =
@@ -84,7 +89,8 @@ parts_of_lines (line ∷ lines) h =
 joined_lines : (lines : List (List ℕ)) → join_with_byte line_feed (lines ++ [] ∷ []) ≡ lines_text lines
 joined_lines [] = refl
 joined_lines (line ∷ []) = sym (append-nil (line ++ line_feed ∷ []))
-joined_lines (line ∷ next ∷ lines) = ap (λ more. line ++ line_feed ∷ more) (joined_lines (next ∷ lines)) ∙ sym (append_assoc line (line_feed ∷ []) (lines_text (next ∷ lines)))
+joined_lines (line ∷ next ∷ lines) = ap (λ more. line ++ line_feed ∷ more)
+    (joined_lines (next ∷ lines)) ∙ sym (append_assoc line (line_feed ∷ []) (lines_text (next ∷ lines)))
 
 pub lines_of_parts : (lines : List (List ℕ)) (text : List ℕ) → parts_of text ≡ lines ++ [] ∷ [] → text ≡ lines_text lines
 lines_of_parts lines text h = sym (join_with_byte-slice_split line_feed text) ∙ ap (join_with_byte line_feed) h ∙ joined_lines lines

@@ -49,11 +49,13 @@ number_spelled n h = taken_by (value_behind 0 (decimal n)) n (decimal n) (value_
 
 -- ---- between bounds
 
-within_by : (least most n : ℕ) (o : Option ℕ) → option_and_then (λ m. if nat_le least m && nat_le m most then Some m else None) o ≡ Some n → (o ≡ Some n) × (least ≤ n) × (n ≤ most)
+within_by : (least most n : ℕ) (o : Option ℕ) → option_and_then (λ m. if nat_le least m && nat_le m most then Some m else None) o ≡ Some n
+    → (o ≡ Some n) × (least ≤ n) × (n ≤ most)
 within_by least most n None h = absurd cc
 within_by least most n (Some m) h = grind arith
 
-pub number_within_found : (least most : ℕ) (word : List ℕ) (n : ℕ) → number_within least most word ≡ Some n → (word ≡ decimal n) × (least ≤ n) × (n ≤ most)
+pub number_within_found : (least most : ℕ) (word : List ℕ) (n : ℕ) → number_within least most word ≡ Some n
+    → (word ≡ decimal n) × (least ≤ n) × (n ≤ most)
 number_within_found least most word n h =
     let k = within_by least most n (number_of word) h in
     (number_found word n k.0, k.1, k.2)

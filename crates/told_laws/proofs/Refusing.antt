@@ -42,7 +42,8 @@ sends_keep p to (b ∷ bs) w =
 
 all_keep : (p : ℕ) (outs : List Sending) (w : World) → Keeps w (fold (send_all p) w outs)
 all_keep p [] w = record { refused = refl; count = refl }
-all_keep p (o ∷ os) w = keeps-trans w (send_all p w o) (fold (send_all p) (send_all p w o) os) (sends_keep p (has o.to) (frames_of o.parcel) w) (all_keep p os (send_all p w o))
+all_keep p (o ∷ os) w = keeps-trans w (send_all p w o) (fold (send_all p) (send_all p w o) os)
+    (sends_keep p (has o.to) (frames_of o.parcel) w) (all_keep p os (send_all p w o))
 
 -- ---- a change of a world, and what is told of it
 
@@ -75,7 +76,8 @@ refusal_same : (w : World) (p : ℕ) (v : Option EventFault) → refused_if w p 
 refusal_same w p None = refl
 refusal_same w p (Some fault) = refl
 
-found_first : (p : ℕ) (x c : Player) (rest : Option Player) (b : Bool) → (x.listed.process == p) ≡ b → (rest ≡ Some c → c.listed.process ≡ p) → cond b (Some x) rest ≡ Some c → c.listed.process ≡ p
+found_first : (p : ℕ) (x c : Player) (rest : Option Player) (b : Bool) → (x.listed.process == p) ≡ b
+    → (rest ≡ Some c → c.listed.process ≡ p) → cond b (Some x) rest ≡ Some c → c.listed.process ≡ p
 found_first p x c rest true t h e =
     let is : x ≡ c = cc in
     ap (λ (y : Player). y.listed.process) (sym is) ∙ eqb-true x.listed.process p t
@@ -103,11 +105,13 @@ steps_tell s w p handed e c is =
       refused =
           kept.refused
           ∙ ap (λ (rs : List Refused). w.refused ++ rs)
-          (refusal_same w c.listed.process o.verdict ∙ (ap (λ (q : ℕ). refusal_told w.count q o.verdict) is ∙ sym (append-nil (refusal_told w.count p o.verdict))));
+          (refusal_same w c.listed.process o.verdict ∙
+          (ap (λ (q : ℕ). refusal_told w.count q o.verdict) is ∙ sym (append-nil (refusal_told w.count p o.verdict))));
       count = kept.count;
     }
 
-hands_tell_by : (s : Setting) (w : World) (p : ℕ) (handed : Handed) (e : group.Event) (r : Option Player) → ((c : Player) → r ≡ Some c → c.listed.process ≡ p)
+hands_tell_by : (s : Setting) (w : World) (p : ℕ) (handed : Handed) (e : group.Event) (r : Option Player)
+    → ((c : Player) → r ≡ Some c → c.listed.process ≡ p)
     → Tells w (elim r as (λ x. World) [ None ↦ w | Some c ↦ steps s w e c ])
     (elim r as (λ x. List Happening) [ None ↦ [] | Some c ↦ Takes p handed (length w.frames) (seen (outcome s c.now (turn_of c e))) ∷ [] ])
 hands_tell_by s w p handed e None is = same w
@@ -120,7 +124,11 @@ hands_tell s w p handed e = hands_tell_by s w p handed e (player_of w p) (found_
 
 delivers_tell_by : (s : Setting) (w : World) (to frame : ℕ) (r : Option Sent)
     → Tells w (elim r as (λ x. World) [ None ↦ w | Some f ↦ hands_frame s w to f ])
-    (elim r as (λ x. List Happening) [ None ↦ [] | Some f ↦ takes_in s w to (Frame frame f.sender) (group.Hand f.sender (frame_said f.bytes)) ])
+    (elim r as (λ x. List Happening) [
+      | None ↦ []
+      | Some f ↦ takes_in s w to (Frame frame f.sender)
+          (group.Hand f.sender (frame_said f.bytes))
+    ])
 delivers_tell_by s w to frame None = same w
 delivers_tell_by s w to frame (Some f) = hands_tell s w to (Frame frame f.sender) (group.Hand f.sender (frame_said f.bytes))
 
@@ -130,17 +138,20 @@ delivers_tell s w to frame = delivers_tell_by s w to frame (slice_get w.frames f
 abbrev without_first : World → World
 without_first w = record w { pending = drop 1 w.pending }
 
-lost_tells : (w : World) (d : ℕ × ℕ) (r : Option Sent) → flat_map (refusals_in w.count) (elim r as (λ x. List Happening) [ None ↦ [] | Some f ↦ Loses d.0 f.sender d.1 ∷ [] ]) ≡ []
+lost_tells : (w : World) (d : ℕ × ℕ) (r : Option Sent)
+    → flat_map (refusals_in w.count) (elim r as (λ x. List Happening) [ None ↦ [] | Some f ↦ Loses d.0 f.sender d.1 ∷ [] ]) ≡ []
 lost_tells w d None = refl
 lost_tells w d (Some f) = refl
 
 next_tell_by : (s : Setting) (w : World) (d : ℕ × ℕ) (b : Bool)
-    → Tells w (cond b (delivers s (without_first w) d.1 d.0) (without_first w)) (cond b (gets_frame s (without_first w) d.1 d.0) (loses (without_first w) d))
+    → Tells w (cond b (delivers s (without_first w) d.1 d.0) (without_first w))
+    (cond b (gets_frame s (without_first w) d.1 d.0) (loses (without_first w) d))
 next_tell_by s w d true =
     let t = delivers_tell s (without_first w) d.1 d.0 in
     record { refused = t.refused; count = t.count }
 next_tell_by s w d false = record {
-  refused = sym (ap (λ (rs : List Refused). w.refused ++ rs) (lost_tells (without_first w) d (slice_get w.frames d.0)) ∙ append-nil w.refused);
+  refused = sym (ap (λ (rs : List Refused). w.refused ++ rs)
+      (lost_tells (without_first w) d (slice_get w.frames d.0)) ∙ append-nil w.refused);
   count = refl;
 }
 
@@ -148,7 +159,8 @@ next_tell : (s : Setting) (mask : ℕ) (w : World) (d : ℕ × ℕ) → Tells w 
 next_tell s mask w d = next_tell_by s w d (is_in mask d.1)
 
 drain_tell_by : (s : Setting) (mask more : ℕ) (w : World) (r : Option (ℕ × ℕ))
-    → ((d : ℕ × ℕ) → Tells (next_delivery s mask w d) (drains s mask more (next_delivery s mask w d)) (drain_tells s mask more (next_delivery s mask w d)))
+    → ((d : ℕ × ℕ) → Tells (next_delivery s mask w d) (drains s mask more (next_delivery s mask w d))
+    (drain_tells s mask more (next_delivery s mask w d)))
     → Tells w (elim r as (λ x. World) [ None ↦ w | Some d ↦ drains s mask more (next_delivery s mask w d) ])
     (elim r as (λ x. List Happening) [ None ↦ [] | Some d ↦ next_tells s mask w d ++ drain_tells s mask more (next_delivery s mask w d) ])
 drain_tell_by s mask more w None rest = same w
@@ -159,7 +171,8 @@ drain_tell_by s mask more w (Some d) rest =
 drain_tell : (s : Setting) (mask n : ℕ) (w : World) → Tells w (drains s mask n w) (drain_tells s mask n w)
 unfolding drains drain_tells
 drain_tell s mask zero w = same w
-drain_tell s mask (suc more) w = drain_tell_by s mask more w (slice_get w.pending 0) (λ d. drain_tell s mask more (next_delivery s mask w d))
+drain_tell s mask (suc more) w = drain_tell_by s mask more w (slice_get w.pending 0)
+    (λ d. drain_tell s mask more (next_delivery s mask w d))
 
 -- ---- lies
 
@@ -178,12 +191,21 @@ read_tell_by h w mask l statement (Ok st) = lie_tell_by h w mask l st statement 
 read_tell_by h w mask l statement (Err fault) = same w
 
 liar_tell_by : (h : Header) (w : World) (mask : ℕ) (statement : List ℕ) (r : Option Listed)
-    → Tells w (elim r as (λ x. World) [ None ↦ w | Some l ↦ elim (statement_of statement) as (λ x. World) [ Ok st ↦ sends_lie h w mask l st | Err fault ↦ w ] ])
-    (elim r as (λ x. List Happening) [ None ↦ [] | Some l ↦ elim (statement_of statement) as (λ x. List Happening) [ Ok st ↦ lie_tells w mask l statement | Err fault ↦ [] ] ])
+    → Tells w (elim r as (λ x. World) [
+      | None ↦ w
+      | Some l ↦ elim (statement_of statement) as
+          (λ x. World) [ Ok st ↦ sends_lie h w mask l st | Err fault ↦ w ]
+    ])
+    (elim r as (λ x. List Happening) [
+      | None ↦ []
+      | Some l ↦ elim (statement_of statement) as
+          (λ x. List Happening) [ Ok st ↦ lie_tells w mask l statement | Err fault ↦ [] ]
+    ])
 liar_tell_by h w mask statement None = same w
 liar_tell_by h w mask statement (Some l) = read_tell_by h w mask l statement (statement_of statement)
 
-lie_tell : (h : Header) (w : World) (signer mask : ℕ) (statement : List ℕ) → Tells w (lies h w signer mask statement) (liar_tells h w signer mask statement)
+lie_tell : (h : Header) (w : World) (signer mask : ℕ) (statement : List ℕ)
+    → Tells w (lies h w signer mask statement) (liar_tells h w signer mask statement)
 lie_tell h w signer mask statement = liar_tell_by h w mask statement (find (λ l. l.process == signer) h.processes)
 
 -- ---- events
@@ -195,29 +217,47 @@ onto v a x told t e =
     subst P is t
 
 pass_tell : (h : Header) (w x : World) (to frame : ℕ) (r : Option Sent)
-    → (elim r as (λ y. Result World WorldFault) [ None ↦ Err (NoSuchFrame w.count frame (length w.frames)) | Some f ↦ Ok (hands_frame (setting_of h) w to f) ]) ≡ Ok x
-    → Tells w x (elim r as (λ y. List Happening) [ None ↦ [] | Some f ↦ takes_in (setting_of h) w to (Frame frame f.sender) (group.Hand f.sender (frame_said f.bytes)) ])
+    → (elim r as (λ y. Result World WorldFault) [
+      | None ↦ Err (NoSuchFrame w.count frame (length w.frames))
+      | Some f ↦ Ok
+          (hands_frame (setting_of h) w to f)
+    ]) ≡ Ok x
+    → Tells w x (elim r as (λ y. List Happening) [
+      | None ↦ []
+      | Some f ↦ takes_in (setting_of h) w to (Frame frame f.sender)
+          (group.Hand f.sender (frame_said f.bytes))
+    ])
 pass_tell h w x to frame None e = absurd cc
 pass_tell h w x to frame (Some f) e =
-    onto w (hands_frame (setting_of h) w to f) x (takes_in (setting_of h) w to (Frame frame f.sender) (group.Hand f.sender (frame_said f.bytes)))
+    onto w (hands_frame (setting_of h) w to f) x
+    (takes_in (setting_of h) w to (Frame frame f.sender) (group.Hand f.sender (frame_said f.bytes)))
     (hands_tell (setting_of h) w to (Frame frame f.sender) (group.Hand f.sender (frame_said f.bytes))) e
 
-hands_on : (h : Header) (w x : World) (p : ℕ) (handed : Handed) (e : group.Event) → (let r : Result World WorldFault = Ok (hands (setting_of h) w p e) in r ≡ Ok x)
+hands_on : (h : Header) (w x : World) (p : ℕ) (handed : Handed) (e : group.Event)
+    → (let r : Result World WorldFault = Ok (hands (setting_of h) w p e) in r ≡ Ok x)
     → Tells w x (takes_in (setting_of h) w p handed e)
-hands_on h w x p handed e is = onto w (hands (setting_of h) w p e) x (takes_in (setting_of h) w p handed e) (hands_tell (setting_of h) w p handed e) is
+hands_on h w x p handed e is = onto w (hands (setting_of h) w p e) x (takes_in (setting_of h) w p handed e)
+    (hands_tell (setting_of h) w p handed e) is
 
 happens_tell : (h : Header) (w x : World) (e : ScheduleEvent) → happens h w e ≡ Ok x → Tells w x (tells h w e)
 happens_tell h w x (Submit p payload) is = hands_on h w x p Payload (group.Submit payload) is
 happens_tell h w x (Raw to from bytes) is = hands_on h w x to (Bytes from) (group.Hand from (frame_said bytes)) is
 happens_tell h w x (Pass frame to) is = pass_tell h w x to frame (slice_get w.frames frame) is
-happens_tell h w x (Drain n mask) is = onto w (drains (setting_of h) mask n w) x (drain_tells (setting_of h) mask n w) (drain_tell (setting_of h) mask n w) is
-happens_tell h w x (Lie signer mask statement) is = onto w (lies h w signer mask statement) x (liar_tells h w signer mask statement) (lie_tell h w signer mask statement) is
+happens_tell h w x (Drain n mask) is = onto w (drains (setting_of h) mask n w) x (drain_tells (setting_of h) mask n w)
+    (drain_tell (setting_of h) mask n w) is
+happens_tell h w x (Lie signer mask statement) is = onto w (lies h w signer mask statement) x (liar_tells h w signer mask statement)
+    (lie_tell h w signer mask statement) is
 happens_tell h w x (Suspect p q) is = hands_on h w x p (Suspects q) (group.Suspect q) is
 happens_tell h w x (Join p q) is = hands_on h w x p (Joins q) (group.Join q) is
 happens_tell h w x (Renew p) is = hands_on h w x p Renews group.RenewView is
 happens_tell h w x (Tick p) is = hands_on h w x p Ticks group.Tick is
 
-counted : (y x : World) (m : Option ℕ) → (elim m as (λ z. Result World WorldFault) [ None ↦ Ok (record y { count = y.count + 1 }) | Some bytes ↦ Err (TooMuchSent y.count bytes) ]) ≡ Ok x
+counted : (y x : World) (m : Option ℕ)
+    → (elim m as (λ z. Result World WorldFault) [
+      | None ↦ Ok (record y { count = y.count + 1 })
+      | Some bytes ↦ Err
+          (TooMuchSent y.count bytes)
+    ]) ≡ Ok x
     → x.refused ≡ y.refused
 counted y x None e =
     let older : World = record y { count = y.count + 1 } in
@@ -225,7 +265,8 @@ counted y x None e =
     ap (λ (z : World). z.refused) (sym is)
 counted y x (Some bytes) e = absurd cc
 
-after_tell_by : (w x : World) (told : List Happening) (r : Result World WorldFault) → ((y : World) → r ≡ Ok y → Tells w y told) → (r >>= counts) ≡ Ok x
+after_tell_by : (w x : World) (told : List Happening) (r : Result World WorldFault) → ((y : World) → r ≡ Ok y → Tells w y told)
+    → (r >>= counts) ≡ Ok x
     → x.refused ≡ w.refused ++ flat_map (refusals_in w.count) told
 after_tell_by w x told (Ok y) t e = counted y x (sum_above 0 y.frames) e ∙ (t y refl).refused
 after_tell_by w x told (Err fault) t e = absurd cc
@@ -235,14 +276,16 @@ after_tell h w x e is = after_tell_by w x (tells h w e) (happens h w e) (λ y. h
 
 -- ---- runs
 
-run_tell_by : (h : Header) (w x : World) (first : List Refused) (es : List ScheduleEvent) (r : Result World WorldFault) → ((v : World) → r ≡ Ok v → v.refused ≡ w.refused ++ first)
+run_tell_by : (h : Header) (w x : World) (first : List Refused) (es : List ScheduleEvent) (r : Result World WorldFault)
+    → ((v : World) → r ≡ Ok v → v.refused ≡ w.refused ++ first)
     → ((v : World) → run_events h v es ≡ Ok x → x.refused ≡ v.refused ++ run_refusals h v es) → (r >>= λ v. run_events h v es) ≡ Ok x
     → x.refused ≡ w.refused ++ (first ++ elim r as (λ y. List Refused) [ Ok v ↦ run_refusals h v es | Err fault ↦ [] ])
 run_tell_by h w x first es (Ok v) one rest e =
     rest v e ∙ (ap (λ (rs : List Refused). rs ++ run_refusals h v es) (one v refl) ∙ append_assoc w.refused first (run_refusals h v es))
 run_tell_by h w x first es (Err fault) one rest e = absurd cc
 
-pub run_tell : (h : Header) (es : List ScheduleEvent) (w x : World) → run_events h w es ≡ Ok x → x.refused ≡ w.refused ++ run_refusals h w es
+pub run_tell : (h : Header) (es : List ScheduleEvent) (w x : World) → run_events h w es ≡ Ok x
+    → x.refused ≡ w.refused ++ run_refusals h w es
 unfolding run_events run_refusals
 run_tell h [] w x e =
     let is : w ≡ x = cc in

@@ -20,7 +20,9 @@ not-last v u less e = go (v.number == last_number) refl
 pub follows : (v now : View) (ms : List ℕ) (u : Update) → v ≡ now → IsNumberedView v → v.number ≢ last_number
     → (first_that_holds (update_faults now u) ≡ None) × (ms ≡ members_after now.members u) → IsNumberedView (as_view (v.number + 1) ms)
 follows v now ms u is view less after =
-    let after' : (first_that_holds (update_faults v u) ≡ None) × (ms ≡ members_after v.members u) = subst (λ (w : View). (first_that_holds (update_faults w u) ≡ None) × (ms ≡ members_after w.members u)) (sym is) after in
+    let after' : (first_that_holds (update_faults v u) ≡ None)
+    × (ms ≡ members_after v.members u) = subst
+    (λ (w : View). (first_that_holds (update_faults w u) ≡ None) × (ms ≡ members_after w.members u)) (sym is) after in
     let next = next_is_view v u (not-last v u less after'.0) view.1 in
     let few = view.0 in
     (omega (arith, few, less), subst (λ ms. IsView (as_view (v.number + 1) ms)) (sym after'.1) next)

@@ -7,11 +7,14 @@ use Rattle.link_defs.specs.Datagrams.{tagged, sealed}
 use Rattle.auth_link.specs.Opening.{sent_by}
 use Rattle.auth_link.proofs.datagram.seal_into.Goals as goal
 
-sealed_front : (body tag more : List ℕ) (n : ℕ) → length body ≡ 22 + n → length tag ≡ 32 → take (n + 54) (body ++ (tag ++ more)) ≡ body ++ tag
+sealed_front : (body tag more : List ℕ) (n : ℕ) → length body ≡ 22 + n → length tag ≡ 32
+    → take (n + 54) (body ++ (tag ++ more)) ≡ body ++ tag
 sealed_front body tag more n b t =
-    ap (λ (l : List ℕ). take (n + 54) l) (sym (append_assoc body tag more)) ∙ take_at (body ++ tag) more (n + 54) (omega (arith, length-append body tag))
+    ap (λ (l : List ℕ). take (n + 54) l) (sym (append_assoc body tag more)) ∙ take_at (body ++ tag) more (n + 54)
+    (omega (arith, length-append body tag))
 
-sealed_behind : (body old tag rest : List ℕ) (n : ℕ) → length body ≡ 22 + n → length old ≡ 22 + n → length tag ≡ 32 → drop (n + 54) (body ++ (tag ++ drop (length tag) rest)) ≡ drop (n + 54) (old ++ rest)
+sealed_behind : (body old tag rest : List ℕ) (n : ℕ) → length body ≡ 22 + n → length old ≡ 22 + n → length tag ≡ 32
+    → drop (n + 54) (body ++ (tag ++ drop (length tag) rest)) ≡ drop (n + 54) (old ++ rest)
 sealed_behind body old tag rest n b o t =
     ap (λ (l : List ℕ). drop (n + 54) l) (sym (append_assoc body tag (drop (length tag) rest)))
     ∙ drop_at (body ++ tag) (drop (length tag) rest) (n + 54) (omega (arith, length-append body tag))
@@ -34,9 +37,11 @@ returns-clause-sealed c =
     ap (λ (l : List ℕ). take (n + 54) (body ++ l)) c.put_front.ensures ∙ sealed_front body tag _ n body_len tag_len in
     let tag_is : tag ≡ hmac c.in-Some.key.now (tagged (sent_by c.args.keys.now c.args.to c.args.frame.now)) =
     c.hmac-tag.ensures.value ∙ ap (λ (l : List ℕ). hmac c.in-Some.key.now l) c.tagged_into.ensures in
-    subst (λ (o : Option (List ℕ)). IfSome o (λ key. take (n + 54) (body ++ c.put_front.new.out) ≡ sealed key (sent_by c.args.keys.now c.args.to c.args.frame.now)))
+    subst (λ (o : Option (List ℕ)). IfSome o
+    (λ key. take (n + 54) (body ++ c.put_front.new.out) ≡ sealed key (sent_by c.args.keys.now c.args.to c.args.frame.now)))
     c.in-Some.ensures
-    (cut ∙ ap (λ (l : List ℕ). l ++ tag) c.tagged_into.ensures ∙ ap (λ (l : List ℕ). tagged (sent_by c.args.keys.now c.args.to c.args.frame.now) ++ l) tag_is)
+    (cut ∙ ap (λ (l : List ℕ). l ++ tag) c.tagged_into.ensures ∙ ap
+    (λ (l : List ℕ). tagged (sent_by c.args.keys.now c.args.to c.args.frame.now) ++ l) tag_is)
 
 pub returns-clause-behind : goal.returns-clause-behind
 returns-clause-behind c =
@@ -45,4 +50,6 @@ returns-clause-behind c =
     let tag = c.hmac-tag.result in
     let body_len : length body ≡ 22 + n = omega (arith, c.tagged_into.auto.out, c.split_at_mut-body.ensures.front_len) in
     let tag_len : length tag ≡ 32 = c.hmac-tag.ensures.length in
-    ap (λ (l : List ℕ). drop (n + 54) (body ++ l)) c.put_front.ensures ∙ sealed_behind body c.split_at_mut-body.result.0.now tag c.split_at_mut-body.result.1.now n body_len c.split_at_mut-body.ensures.front_len tag_len ∙ search rules
+    ap (λ (l : List ℕ). drop (n + 54)
+    (body ++ l)) c.put_front.ensures ∙ sealed_behind body c.split_at_mut-body.result.0.now tag c.split_at_mut-body.result.1.now n body_len
+    c.split_at_mut-body.ensures.front_len tag_len ∙ search rules

@@ -9,7 +9,8 @@ use Rattle.auth_link.specs.Opening.{parts}
 use Rattle.auth_link.specs.Keys.{known}
 use Rattle.auth_link.proofs.datagram.unseal.Goals as goal
 
-found_came : (k : Known) (bytes : List ℕ) (r : Result Opened LinkFault) → Gives parts r (opened k bytes) → IfOk r (λ o. Comes k bytes (to_me k o.from o.frame.now))
+found_came : (k : Known) (bytes : List ℕ) (r : Result Opened LinkFault) → Gives parts r (opened k bytes)
+    → IfOk r (λ o. Comes k bytes (to_me k o.from o.frame.now))
 found_came k bytes (Ok o) gives = came k bytes o.from o.frame.now gives
 found_came k bytes (Err e) gives = tt
 
@@ -21,4 +22,5 @@ gives_that (Ok o) x y e g = sym e ∙ g
 gives_that (Err f) x y e g = sym e ∙ g
 
 pub returns-clause-only : goal.returns-clause-only
-returns-clause-only c = λ d comes. gives_that c.open.result _ _ (is_opened (known c.args.keys.now) c.args.datagram.now d c.bytes.ensures.length comes) c.open.ensures
+returns-clause-only c = λ d comes. gives_that c.open.result _ _
+    (is_opened (known c.args.keys.now) c.args.datagram.now d c.bytes.ensures.length comes) c.open.ensures

@@ -23,5 +23,6 @@ processes-preserved c =
     let before : All Q c.processes.roster = All-weaker P Q (λ k low. omega (arith, low)) c.processes.roster c.processes.invariant.below in
     record {
       below = All-same Q _ _ c.in_ok-add.ensures.added (All-push Q c.processes.roster _ before (omega (arith, c.process-next.ensures)));
-      keys = c.in_ok-add.ensures.added ∙ rw (c.processes.invariant.keys, c.key_of.ensures, c.process-next.ensures) (sym (one_more_key c.processes.n));
+      keys = c.in_ok-add.ensures.added ∙ rw (c.processes.invariant.keys, c.key_of.ensures, c.process-next.ensures)
+          (sym (one_more_key c.processes.n));
     }

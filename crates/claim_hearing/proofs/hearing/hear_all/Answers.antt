@@ -19,7 +19,8 @@ claims-preserved g c =
             heard,
             subst IsPool heard.pool (pool-kept s so.0 (claim_of c.in-Some.claim) range.0 (subst IsPool (sym so.1.pool) so.2)),
             delivered-kept s so.0 (claim_of c.in-Some.claim) c.args.own.now so.3,
-            one-heard s so.0 (claim_of c.in-Some.claim) (claims_left c.claims.left) (claims_left c.next.new.self) c.in-Some.ensures.steps ∙ so.4,
+            one-heard s so.0 (claim_of c.in-Some.claim) (claims_left c.claims.left)
+                (claims_left c.next.new.self) c.in-Some.ensures.steps ∙ so.4,
           )),
       range.1,
       c.hear.ensures.view ∙ c.claims.invariant.2,
@@ -28,4 +29,5 @@ claims-preserved g c =
 pub returns-clause-heard : goal.returns-clause-heard
 returns-clause-heard g c s p shares pool delivered same pairs =
     let so = c.claims.invariant.0 s p shares pool delivered same pairs in
-    subst (λ q. IsHeard q c.claims.pool.pool c.claims.conflicts.pairs) (sym (none-left s so.0 (claims_left c.claims.left) c.in_default.ensures.steps.0) ∙ so.4) so.1
+    subst (λ q. IsHeard q c.claims.pool.pool c.claims.conflicts.pairs)
+    (sym (none-left s so.0 (claims_left c.claims.left) c.in_default.ensures.steps.0) ∙ so.4) so.1

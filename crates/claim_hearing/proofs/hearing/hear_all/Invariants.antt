@@ -11,8 +11,10 @@ use Rattle.claim_hearing.proofs.hearing.hear_all.Given as goal
 
 abbrev pub invariant-claims : goal.invariant-claims
 invariant-claims g l =
-    ((s : Setting) (p : Process) → Shares s (g.V.Scheme.valid l.judge.scheme.now) l.judge.group.now l.judge.roster.now → IsPool l.fn.pool.pool → HasDelivered l.own p → p.pool ≡ l.fn.pool.pool → p.conflicts ≡ l.fn.conflicts.pairs
-    → (q : Process) × IsHeard q l.pool.pool l.conflicts.pairs × IsPool l.pool.pool × HasDelivered l.own q × (hear_all s q (claims_left l.left) ≡ hear_all s p (claims_left l.fn.claims)))
+    ((s : Setting) (p : Process) → Shares s (g.V.Scheme.valid l.judge.scheme.now) l.judge.group.now l.judge.roster.now
+    → IsPool l.fn.pool.pool → HasDelivered l.own p → p.pool ≡ l.fn.pool.pool → p.conflicts ≡ l.fn.conflicts.pairs
+    → (q : Process) × IsHeard q l.pool.pool l.conflicts.pairs × IsPool l.pool.pool × HasDelivered l.own q
+    × (hear_all s q (claims_left l.left) ≡ hear_all s p (claims_left l.fn.claims)))
     × AllByRecursion IsClaim (claims_left l.left)
     × (l.pool.pool.view ≡ l.fn.pool.pool.view)
 

@@ -8,4 +8,5 @@ use Rattle.ending_rules.proofs.notifies.perceive.Goals as goal
 
 pub returns-in-None-clause-taken : goal.returns-in-None-clause-taken
 returns-in-None-clause-taken c p tells =
-    subst (λ (set : Perceived). TellsPerceived set (perceives p (update c.args.update))) (sym c.insert.ensures) (perceives-told c.args.set.now p (update c.args.update) tells)
+    subst (λ (set : Perceived). TellsPerceived set (perceives p (update c.args.update))) (sym c.insert.ensures)
+    (perceives-told c.args.set.now p (update c.args.update) tells)

@@ -17,18 +17,21 @@ returns-in_err-number c pool s keys =
     let h = c.args.pool.now.pool in
     let cut = some-cut h (length h.view.members) (omega arith) in
     ap (option_map value) c.from_residual.ensures
-    ∙ sym (free_value_is s h c.least_update.result cut.0 pool (c.least_update.ensures s keys) cut.1 ∙ ap (λ o. made o cut.0) c.in_err-number.was)
+    ∙ sym (free_value_is s h c.least_update.result cut.0 pool (c.least_update.ensures s keys) cut.1 ∙ ap
+    (λ o. made o cut.0) c.in_err-number.was)
 
 pub returns-in_err-cut : goal.returns-in_err-cut
 unfolding made
 returns-in_err-cut c pool s keys =
     let h = c.args.pool.now.pool in
     ap (option_map value) c.from_residual-in_err-cut.ensures
-    ∙ sym (free_value_is s h c.least_update.result c.least_cut.result pool (c.least_update.ensures s keys) c.least_cut.ensures ∙ (λ i. made (c.in_ok-number.was i) (c.in_err-cut.was i)))
+    ∙ sym (free_value_is s h c.least_update.result c.least_cut.result pool (c.least_update.ensures s keys) c.least_cut.ensures ∙
+    (λ i. made (c.in_ok-number.was i) (c.in_err-cut.was i)))
 
 pub returns : goal.returns
 unfolding made
 returns c pool s keys =
     let h = c.args.pool.now.pool in
     ap (λ u. Some (record { update = u; cut = c.in_ok-cut.cut })) c.update_at-update.ensures
-    ∙ sym (free_value_is s h c.least_update.result c.least_cut.result pool (c.least_update.ensures s keys) c.least_cut.ensures ∙ (λ i. made (c.in_ok-number.was i) (c.in_ok-cut.was i)))
+    ∙ sym (free_value_is s h c.least_update.result c.least_cut.result pool (c.least_update.ensures s keys) c.least_cut.ensures ∙
+    (λ i. made (c.in_ok-number.was i) (c.in_ok-cut.was i)))

@@ -11,4 +11,5 @@ pub returns-in_err-first : goal.returns-in_err-first
 returns-in_err-first c s keys =
     let h = c.args.pool.now.pool in
     subst (λ (o : Option ℕ). IsLeastBelow 129 (λ i. may_update s h (update_at i)) o) (sym c.from_residual.ensures)
-    (λ k _ _. ap (λ b. b && is_possible (keyed s) h.view (update_at k)) (sym (c.notified.ensures (update_at k)) ∙ c.in_err-first.ensures (update_at k)))
+    (λ k _ _. ap (λ b. b && is_possible (keyed s) h.view (update_at k))
+    (sym (c.notified.ensures (update_at k)) ∙ c.in_err-first.ensures (update_at k)))

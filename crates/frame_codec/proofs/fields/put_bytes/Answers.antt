@@ -9,6 +9,8 @@ returns c =
     let size = c.args.at + length c.args.bytes.now - c.args.at in
     record {
       length = refl;
-      front = take-put_mid c.args.at size c.args.out.now c.copy_from_slice.new.self (c.args.at + length c.args.bytes.now) (omega arith) within ∙ ap (λ t. take c.args.at c.args.out.now ++ t) c.copy_from_slice.ensures.after;
-      behind = drop-put_mid c.args.at size c.args.out.now c.copy_from_slice.new.self (c.args.at + length c.args.bytes.now) (omega arith) within (omega arith);
+      front = take-put_mid c.args.at size c.args.out.now c.copy_from_slice.new.self (c.args.at + length c.args.bytes.now)
+          (omega arith) within ∙ ap (λ t. take c.args.at c.args.out.now ++ t) c.copy_from_slice.ensures.after;
+      behind = drop-put_mid c.args.at size c.args.out.now c.copy_from_slice.new.self (c.args.at + length c.args.bytes.now)
+          (omega arith) within (omega arith);
     }

@@ -9,5 +9,8 @@ use Rattle.group_questions.proofs.agreement.agrees_throughout.Goals as goal
 
 pub returns : goal.returns
 returns c =
-    all_from_yields_List (agrees_in (group_of (map account c.args.accounts.now)) (account c.args.a.now)) _ _ _ c.all.ensures.ran (YieldsList-from_range 0 (length c.as_slice-views.result.now) (length c.as_slice-views.result.now) refl (omega arith)) (λ x b q k. search (rules, tests))
-    ∙ ap (λ (n : ℕ). list_all (agrees_in (group_of (map account c.args.accounts.now)) (account c.args.a.now)) (range_with_len 0 n)) (ap length c.as_slice-views.ensures.value)
+    all_from_yields_List (agrees_in (group_of (map account c.args.accounts.now)) (account c.args.a.now)) _ _ _ c.all.ensures.ran
+    (YieldsList-from_range 0 (length c.as_slice-views.result.now) (length c.as_slice-views.result.now) refl (omega arith))
+    (λ x b q k. search (rules, tests))
+    ∙ ap (λ (n : ℕ). list_all (agrees_in (group_of (map account c.args.accounts.now)) (account c.args.a.now)) (range_with_len 0 n))
+    (ap length c.as_slice-views.ensures.value)

@@ -10,8 +10,11 @@ use Rattle.group_questions.proofs.agreement.are_first_views.Goals as goal
 
 pub returns-then-views-all : goal.returns-then-views-all
 returns-then-views-all c =
-    all_from_yields_List {s = c.zip.result} (λ p. same_view p.0 p.1) c.all.new.self _ _ c.all.ensures.ran (YieldsList-from_zip (YieldsList-from_slice c.args.views.now cc) (YieldsList-from_slice c.args.all.now cc)) (λ x b q k. search (rules, tests))
+    all_from_yields_List {s = c.zip.result} (λ p. same_view p.0 p.1) c.all.new.self _ _ c.all.ensures.ran
+    (YieldsList-from_zip (YieldsList-from_slice c.args.views.now cc) (YieldsList-from_slice c.args.all.now cc))
+    (λ x b q k. search (rules, tests))
     ∙ views-front c.args.views.now c.args.all.now (omega arith)
 
 pub returns-else-views-all : goal.returns-else-views-all
-returns-else-views-all c = not-le (length c.args.views.now) (length c.args.all.now) (omega arith) ∙ too-long (λ v w. is_yes (View-discrete v w)) c.args.views.now c.args.all.now (omega arith)
+returns-else-views-all c = not-le (length c.args.views.now) (length c.args.all.now)
+    (omega arith) ∙ too-long (λ v w. is_yes (View-discrete v w)) c.args.views.now c.args.all.now (omega arith)

@@ -9,4 +9,5 @@ use Rattle.group_questions.proofs.bounds.bounded.Goals as goal
 pub returns : goal.returns
 returns c =
     c.all_bounded.ensures
-    ∙ sym (list_all-map (λ (a : told.Account). list_all (λ v. nat_le (told.corrupt_in c.args.correct v) (faulty (length v.members))) a.views) account c.args.accounts.now)
+    ∙ sym (list_all-map (λ (a : told.Account). list_all
+    (λ v. nat_le (told.corrupt_in c.args.correct v) (faulty (length v.members))) a.views) account c.args.accounts.now)

@@ -8,7 +8,8 @@ use Rattle.group_questions.proofs.group.longest_views.Goals as goal
 
 pub loop-a-preserved : goal.loop-a-preserved
 loop-a-preserved c =
-    longest-next (λ (a : Account). a.views.items) c.args.accounts.now c.loop-a.a-index c.a-item.result c.loop-a.longest.now c.longer-longest.result.now c.loop-a-test.true c.a-item.is c.loop-a.invariant
+    longest-next (λ (a : Account). a.views.items) c.args.accounts.now c.loop-a.a-index c.a-item.result c.loop-a.longest.now
+    c.longer-longest.result.now c.loop-a-test.true c.a-item.is c.loop-a.invariant
     (c.longer-longest.ensures ∙ ap (longer c.loop-a.longest.now) c.deref.ensures.value)
 
 pub returns : goal.returns

@@ -14,6 +14,8 @@ returns-clause-ready c =
     let asked = c.args.asked.now in
     let made : Result HssKey KeyFault = Ok c.in-Ok.key in
     let none : refusal asked.levels asked.typecode asked.ots ≡ None =
-    granted (refusal asked.levels asked.typecode asked.ots) (IsOkUnless made NoMemory) (λ e. IsErrOf made e) (λ e err. cc) c.in-Ok.ensures.refused in
+    granted (refusal asked.levels asked.typecode asked.ots) (IsOkUnless made NoMemory) (λ e. IsErrOf made e)
+    (λ e err. cc) c.in-Ok.ensures.refused in
     let low : asked.number < total_of c.in-Ok.key = omega arith in
-    ready (signing asked) c.in-Ok.key c.skip_to.new.self c.in-Ok.ensures.made none low c.skip_to.ensures.key c.skip_to.ensures.used c.skip_to.ensures.total
+    ready (signing asked) c.in-Ok.key c.skip_to.new.self c.in-Ok.ensures.made none low c.skip_to.ensures.key c.skip_to.ensures.used
+    c.skip_to.ensures.total

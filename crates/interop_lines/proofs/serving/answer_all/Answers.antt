@@ -7,7 +7,12 @@ use Rattle.interop_lines.proofs.serving.answer_all.Goals as goal
 
 pub loop-number-init : goal.loop-number-init
 loop-number-init g c = record {
-  served = (0, refl, subst (λ (t : List ℕ). HasServed 0 t (g.S.Source.left c.args.input.now) (g.S.Source.left c.args.input.now) (g.K.Sink.written c.args.output.now) (g.K.Sink.written c.args.output.now)) (sym c.new-ahead.ensures.items) (none_yet _ _));
+  served = (
+    0,
+    refl,
+    subst (λ (t : List ℕ). HasServed 0 t (g.S.Source.left c.args.input.now) (g.S.Source.left c.args.input.now)
+        (g.K.Sink.written c.args.output.now) (g.K.Sink.written c.args.output.now)) (sym c.new-ahead.ensures.items) (none_yet _ _),
+  );
   read = refl;
   wrote = refl;
 }

@@ -30,4 +30,5 @@ pub returns-in-Err-clause-refused : goal.returns-in-Err-clause-refused
 returns-in-Err-clause-refused g c = λ seven.
     let other : c.tell.result ≢ 1 = λ e. omega (arith, seven, e) in
     let is = at_line c.in-Err.stop (sym (c.tell.ensures.status other) ∙ seven) in
-    refused_so c.in-Err.stop is.0 _ _ _ _ _ _ _ _ is.1 (c.in-Err.ensures.refused is.0 (ap (λ (s : Stop). Err s) is.1)) c.in-Err.ensures.calm (c.tell.ensures.line other)
+    refused_so c.in-Err.stop is.0 _ _ _ _ _ _ _ _ is.1 (c.in-Err.ensures.refused is.0 (ap (λ (s : Stop). Err s) is.1)) c.in-Err.ensures.calm
+    (c.tell.ensures.line other)

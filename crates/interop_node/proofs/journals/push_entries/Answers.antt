@@ -11,7 +11,8 @@ entries-smaller c = goes_less _ _ _ _ c.entries.invariant.within (rw c.in-Ok-Som
 
 pub entries-preserved : goal.entries-preserved
 entries-preserved c =
-    let next = next_told _ _ _ _ _ _ _ _ c.entries.invariant.told (rw c.in-Ok-Some.field-0-is at c.in-Ok-Some.ensures.found) c.in_ok-push_entry-in-Ok-Some.ensures in
+    let next = next_told _ _ _ _ _ _ _ _ c.entries.invariant.told
+    (rw c.in-Ok-Some.field-0-is at c.in-Ok-Some.ensures.found) c.in_ok-push_entry-in-Ok-Some.ensures in
     record { told = next; within = within _ _ next.0 _ next.1 }
 
 pub returns-in-Ok-None-clause-entries : goal.returns-in-Ok-None-clause-entries

@@ -6,7 +6,8 @@ use Rattle.interop_node.proofs.journals.push_signatures.Given as goal
 
 -- with those that are left, all are told
 abbrev pub invariant-signatures : goal.invariant-signatures
-invariant-signatures l = l.out.items ++ flat_map signature_words (signatures_left l.left) ≡ l.fn.out.items ++ flat_map signature_words (signatures_left l.fn.signatures)
+invariant-signatures l = l.out.items ++ flat_map signature_words (signatures_left l.left) ≡ l.fn.out.items
+    ++ flat_map signature_words (signatures_left l.fn.signatures)
 
 abbrev pub decreases-signatures : goal.decreases-signatures
 decreases-signatures l = length (signatures_left l.left)

@@ -7,7 +7,8 @@ use Rattle.interop_node.proofs.questions.datagram.Goals as goal
 pub returns-then-words-eq2-clause-answers : goal.returns-then-words-eq2-clause-answers
 returns-then-words-eq2-clause-answers c =
     let words = two (λ (w : Bor (List ℕ)). w.now) c.args.words.now _ c.if-words-eq2.true in
-    subst (λ (ws : List (List ℕ)). IfOk c.answer_on_datagram.result (λ told. Answers (codes "datagram" ∷ ws) told.items)) (sym words) c.answer_on_datagram.ensures.answers
+    subst (λ (ws : List (List ℕ)). IfOk c.answer_on_datagram.result (λ told. Answers (codes "datagram" ∷ ws) told.items))
+    (sym words) c.answer_on_datagram.ensures.answers
 
 pub returns-then-words-eq2-clause-no_question : goal.returns-then-words-eq2-clause-no_question
 returns-then-words-eq2-clause-no_question c = λ e told a.

@@ -24,10 +24,12 @@ returns-clause-any_moment g c = λ head es e each is all place.
     c.sync.ensures.time (λ f now. image f (c.sync.ensures.crash f now))
 
 pub returns-clause-stands : goal.returns-clause-stands
-returns-clause-stands g c = λ head es e all place. λ f now. torn_opening head es e c.args.gate _ _ all place c.write_at.ensures.crash f (c.sync.ensures.crash f now)
+returns-clause-stands g c = λ head es e all place. λ f now. torn_opening head es e c.args.gate _ _ all place c.write_at.ensures.crash f
+    (c.sync.ensures.crash f now)
 
 pub returns-clause-ok : goal.returns-clause-ok
-returns-clause-ok g c = on_ok c.sync.result c.sync.ensures.durable (λ durable. λ head fs ends. shut_rest _ head fs c.args.gate _ _ _ ends c.in_ok-write_at.ensures.written c.sync.ensures.seen durable)
+returns-clause-ok g c = on_ok c.sync.result c.sync.ensures.durable
+    (λ durable. λ head fs ends. shut_rest _ head fs c.args.gate _ _ _ ends c.in_ok-write_at.ensures.written c.sync.ensures.seen durable)
   where
     on_ok : {P Q : Type 0} (r : Result (Unit {0}) Failed) → OnOk r P → (P → Q) → OnOk r Q
     on_ok (Ok x) p f = f p

@@ -24,20 +24,24 @@ returns-clause-any_moment g c = λ head es e s.
     c.sync.ensures.time (λ f now. image f (c.sync.ensures.crash f now))
 
 pub returns-clause-ok : goal.returns-clause-ok
-returns-clause-ok g c = on_ok c.sync.result c.sync.ensures.durable (λ durable. λ head es e s. has_rest _ _ head es e c.args.gate s _ _ _ c.in_ok-write_at.ensures.written c.sync.ensures.seen durable)
+returns-clause-ok g c = on_ok c.sync.result c.sync.ensures.durable
+    (λ durable. λ head es e s. has_rest _ _ head es e c.args.gate s _ _ _ c.in_ok-write_at.ensures.written c.sync.ensures.seen durable)
   where
     on_ok : {P Q : Type 0} (r : Result (Unit {0}) Failed) → OnOk r P → (P → Q) → OnOk r Q
     on_ok (Ok x) p f = f p
     on_ok (Err e) p f = tt
 
 pub returns-in_err-write_at-clause-opening : goal.returns-in_err-write_at-clause-opening
-returns-in_err-write_at-clause-opening g c = λ head es e s. torn_opening head es e c.args.gate _ _ (staged_all _ _ head es e c.args.gate s) s.place c.write_at.ensures.crash
+returns-in_err-write_at-clause-opening g c = λ head es e s. torn_opening head es e c.args.gate _ _
+    (staged_all _ _ head es e c.args.gate s) s.place c.write_at.ensures.crash
 
 pub returns-clause-opening : goal.returns-clause-opening
-returns-clause-opening g c = λ head es e s. λ f now. torn_opening head es e c.args.gate _ _ (staged_all _ _ head es e c.args.gate s) s.place c.write_at.ensures.crash f (c.sync.ensures.crash f now)
+returns-clause-opening g c = λ head es e s. λ f now. torn_opening head es e c.args.gate _ _
+    (staged_all _ _ head es e c.args.gate s) s.place c.write_at.ensures.crash f (c.sync.ensures.crash f now)
 
 pub returns-clause-length : goal.returns-clause-length
-returns-clause-length g c = λ len within has. always c.sync.result (moved _ c.sync.ensures.seen (length_same _ _ c.args.gate len 1 within c.in_ok-write_at.ensures.written has))
+returns-clause-length g c = λ len within has. always c.sync.result
+    (moved _ c.sync.ensures.seen (length_same _ _ c.args.gate len 1 within c.in_ok-write_at.ensures.written has))
   where
     always : {P : Type 0} (r : Result (Unit {0}) Failed) → P → OnOk r P
     always (Ok x) p = p

@@ -23,7 +23,9 @@ returns-clause-any_moment g c = λ head es r.
     c.sync.ensures.time (λ f now. image f (c.sync.ensures.crash f now))
 
 pub returns-clause-ok : goal.returns-clause-ok
-returns-clause-ok g c = on_ok c.sync.result c.sync.ensures.durable (λ durable. λ head es e r is spelled. has_staged _ _ head es c.args.gate r e c.args.bytes.now _ _ _ is spelled c.in_ok-write_at.ensures.written c.sync.ensures.seen durable)
+returns-clause-ok g c = on_ok c.sync.result c.sync.ensures.durable
+    (λ durable. λ head es e r is spelled. has_staged _ _ head es c.args.gate r e c.args.bytes.now _ _ _ is spelled
+    c.in_ok-write_at.ensures.written c.sync.ensures.seen durable)
   where
     on_ok : {P Q : Type 0} (r : Result (Unit {0}) Failed) → OnOk r P → (P → Q) → OnOk r Q
     on_ok (Ok x) p f = f p
@@ -33,10 +35,13 @@ pub returns-in_err-write_at-clause-rests : goal.returns-in_err-write_at-clause-r
 returns-in_err-write_at-clause-rests g c = λ head es r. torn_rest _ _ head es c.args.gate r _ _ c.write_at.ensures.crash
 
 pub returns-clause-rests : goal.returns-clause-rests
-returns-clause-rests g c = λ head es r. λ f now. torn_rest _ _ head es c.args.gate r _ _ c.write_at.ensures.crash f (c.sync.ensures.crash f now)
+returns-clause-rests g c = λ head es r. λ f now. torn_rest _ _ head es c.args.gate r _ _ c.write_at.ensures.crash f
+    (c.sync.ensures.crash f now)
 
 pub returns-clause-length : goal.returns-clause-length
-returns-clause-length g c = λ len has. always c.sync.result (moved _ c.sync.ensures.seen (length_after _ _ (c.args.gate + 1) len c.args.bytes.now c.requires.within c.in_ok-write_at.ensures.written has))
+returns-clause-length g c = λ len has. always c.sync.result
+    (moved _ c.sync.ensures.seen (length_after _ _
+    (c.args.gate + 1) len c.args.bytes.now c.requires.within c.in_ok-write_at.ensures.written has))
   where
     always : {P : Type 0} (r : Result (Unit {0}) Failed) → P → OnOk r P
     always (Ok x) p = p

@@ -8,6 +8,7 @@ use Rattle.journal_entries.proofs.spelling.push_each.Given as goal
 -- with those that are left, all are pushed; and each of these is short enough
 abbrev pub invariant-claims : goal.invariant-claims
 invariant-claims l = record {
-  pushed : l.out.items ++ flat_map text (signatures_of (drop l.claim-index l.claims)) ≡ l.initial.out.items ++ flat_map text (signatures_of l.claims);
+  pushed : l.out.items ++ flat_map text (signatures_of (drop l.claim-index l.claims)) ≡ l.initial.out.items
+      ++ flat_map text (signatures_of l.claims);
   short : AreSignatures (signatures_of (drop l.claim-index l.claims));
 }

@@ -5,4 +5,5 @@ use Rattle.rp_base.specs.Masks.{mask_of-members}
 use Rattle.journal_rp.proofs.header.mask_bytes.Goals as goal
 
 pub returns : goal.returns
-returns c = c.to_be_bytes.ensures ∙ ap (λ (m : ℕ). to_be_bytes w64 m) (sym (mask_of-members c.mask.result (omega (arith, c.mask.type_inv))) ∙ ap mask_of c.mask.ensures)
+returns c = c.to_be_bytes.ensures ∙ ap (λ (m : ℕ). to_be_bytes w64 m)
+    (sym (mask_of-members c.mask.result (omega (arith, c.mask.type_inv))) ∙ ap mask_of c.mask.ensures)

@@ -4,10 +4,17 @@ use Rattle.journal_disk.proofs.Told.{told, told_both}
 use Rattle.journal_rp.proofs.reading.entry_behind.Goals as goal
 
 pub returns-in-Some-clause-found : goal.returns-in-Some-clause-found
-returns-in-Some-clause-found g c = told_both (g.D.Disk.seen c.args.disk.now) (λ file length there. entry_at file c.args.gate c.args.len c.in_ok-bytes.bytes.items length there c.in_ok-bytes.ensures.length _ c.in-Some.ensures.spelled.0 c.in-Some.ensures.spelled.1) c.requires.length c.in_ok-bytes.ensures.bytes
+returns-in-Some-clause-found g c = told_both (g.D.Disk.seen c.args.disk.now)
+    (λ file length there. entry_at file c.args.gate c.args.len c.in_ok-bytes.bytes.items length there c.in_ok-bytes.ensures.length _
+    c.in-Some.ensures.spelled.0 c.in-Some.ensures.spelled.1) c.requires.length c.in_ok-bytes.ensures.bytes
 
 pub returns-in-None-clause-broken : goal.returns-in-None-clause-broken
-returns-in-None-clause-broken g c = (refl, told_both (g.D.Disk.seen c.args.disk.now) (λ file length there. unread_at file c.args.gate c.args.len c.in_ok-bytes.bytes.items length there c.in_ok-bytes.ensures.length c.in-None.ensures.reads) c.requires.length c.in_ok-bytes.ensures.bytes)
+returns-in-None-clause-broken g c = (
+  refl,
+  told_both (g.D.Disk.seen c.args.disk.now)
+      (λ file length there. unread_at file c.args.gate c.args.len c.in_ok-bytes.bytes.items length there c.in_ok-bytes.ensures.length
+      c.in-None.ensures.reads) c.requires.length c.in_ok-bytes.ensures.bytes,
+)
 
 pub bytes_from-requires : goal.bytes_from-requires
 bytes_from-requires g c = told (g.D.Disk.seen c.args.disk.now) (λ file length. room_at file c.args.gate c.args.len length) c.requires.length

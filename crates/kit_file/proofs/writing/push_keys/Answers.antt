@@ -6,10 +6,13 @@ use Rattle.kit_file.proofs.writing.push_keys.Goals as goal
 use Rattle.kit_file.proofs.writing.push_keys.Goals.{In-Some}
 
 at_next : (c : In-Some) → Next c.args.roster.now c.args.out.now.items c.loop-process.out.items c.in-Some.process (pids_left c.next.new.self)
-at_next c = next c.args.roster.now c.args.out.now.items c.loop-process.out.items c.in-Some.process (pids_left c.next.new.self) (pids_left c.loop-process.process-iterator) c.loop-process.invariant c.in-Some.ensures.steps c.processes.ensures.rising
+at_next c = next c.args.roster.now c.args.out.now.items c.loop-process.out.items c.in-Some.process (pids_left c.next.new.self)
+    (pids_left c.loop-process.process-iterator) c.loop-process.invariant c.in-Some.ensures.steps c.processes.ensures.rising
 
 pub unreachable-requires : goal.unreachable-requires
-unreachable-requires c = none_found _ _ _ _ _ (at_next (goal.at.unreachable-requires c).In-Some) (ap option_copied (sym c.in_default.is) ∙ c.key.ensures)
+unreachable-requires c = none_found _ _ _ _ _ (at_next (goal.at.unreachable-requires c).In-Some)
+    (ap option_copied (sym c.in_default.is) ∙ c.key.ensures)
 
 pub loop-process-preserved : goal.loop-process-preserved
-loop-process-preserved c = then_found _ _ _ _ _ _ _ (at_next (goal.at.loop-process-preserved c).In-Some) (ap option_copied (sym c.in-Some-key.is) ∙ c.key.ensures) c.in_ok-push_key.ensures
+loop-process-preserved c = then_found _ _ _ _ _ _ _ (at_next (goal.at.loop-process-preserved c).In-Some)
+    (ap option_copied (sym c.in-Some-key.is) ∙ c.key.ensures) c.in_ok-push_key.ensures

@@ -11,7 +11,8 @@ returns c =
     let inside = c.parts.inside in
     let whole : Kit = kit inside.scheme inside.group inside.roster inside.genesis.items inside.ports.items inside.hosts.items in
     on_ok_weaker c.push_ports.result
-    (λ e. public_text whole c.args.out.now.items c.push_head.new.out.items c.push_keys.new.out.items c.push_genesis.new.out.items c.push_ports.new.out.items
+    (λ e. public_text whole c.args.out.now.items c.push_head.new.out.items c.push_keys.new.out.items c.push_genesis.new.out.items
+    c.push_ports.new.out.items
     c.in_ok-push_head.ensures c.in_ok-push_keys.ensures
     (c.in_ok-push_genesis.ensures ∙ ap (λ ms. c.push_keys.new.out.items ++ line_text (line_words (Genesis ms))) c.deref.ensures.0)
     (e ∙ ap (λ ps. c.push_genesis.new.out.items ++ text_of_lines (map port_line ps)) c.deref-2.ensures.value)

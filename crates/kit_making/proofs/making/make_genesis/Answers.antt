@@ -9,4 +9,5 @@ push-requires c = let low : c.loop-p.p < 16 = omega arith in (lit< tt, rw (c.loo
 
 pub loop-p-preserved : goal.loop-p-preserved
 loop-p-preserved c =
-    c.push.ensures.items ∙ ap (λ xs. xs ++ c.process.result ∷ []) c.loop-p.invariant ∙ ap (λ p. first_numbers c.loop-p.p ++ p ∷ []) c.process.ensures ∙ first_more c.loop-p.p
+    c.push.ensures.items ∙ ap (λ xs. xs ++ c.process.result ∷ []) c.loop-p.invariant ∙ ap
+    (λ p. first_numbers c.loop-p.p ++ p ∷ []) c.process.ensures ∙ first_more c.loop-p.p

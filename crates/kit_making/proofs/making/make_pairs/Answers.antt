@@ -10,6 +10,7 @@ loop-q-preserved c =
     elim c.if-q-p.branch [
       | then-q-p+in_ok-push w ↦
           ap (λ v. v.items) w.pairs-is ∙ w.in_ok-push.ensures.items
-          ∙ pairs_more c.args.seed.now c.args.p c.loop-q.q w.process.result w.min.result w.max.result w.derive.result c.loop-q.pairs.items c.loop-q.invariant w.process.ensures w.derive.ensures w.min.ensures w.max.ensures w.if-q-p.true
+          ∙ pairs_more c.args.seed.now c.args.p c.loop-q.q w.process.result w.min.result w.max.result w.derive.result c.loop-q.pairs.items
+          c.loop-q.invariant w.process.ensures w.derive.ensures w.min.ensures w.max.ensures w.if-q-p.true
       | else-q-p w ↦ ap (λ v. v.items) w.pairs-is ∙ c.loop-q.invariant ∙ own_more pair c.args.p c.loop-q.q w.if-q-p.false
     ]

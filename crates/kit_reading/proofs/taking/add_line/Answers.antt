@@ -22,7 +22,8 @@ pub invariant_of-draft-in-Continue-1 : goal.invariant_of-draft-in-Continue-1
 invariant_of-draft-in-Continue-1 c =
     c.requires.keeps _ (ap (λ (l : KitLine). with_line c.args.number c.args.draft.now l) (ap line c.in-Key.is)
     ∙ keys_changed c.args.draft.now _ c.draft-in-Key.view_is (c.in-Key.process, key_bytes c.in-Key.key) c.add.new.self
-    (c.in_ok-add-in-Key.ensures.added ∙ ap (λ (bytes : List ℕ). c.draft-in-Key.inside.roster ++ (c.in-Key.process, bytes) ∷ []) c.as_bytes.ensures.value))
+    (c.in_ok-add-in-Key.ensures.added ∙ ap
+    (λ (bytes : List ℕ). c.draft-in-Key.inside.roster ++ (c.in-Key.process, bytes) ∷ []) c.as_bytes.ensures.value))
 
 pub add_plain_host-requires-clause-keeps : goal.add_plain_host-requires-clause-keeps
 add_plain_host-requires-clause-keeps c =
@@ -31,4 +32,5 @@ add_plain_host-requires-clause-keeps c =
 pub invariant_of-draft-in-Continue-branch-6 : goal.invariant_of-draft-in-Continue-branch-6
 invariant_of-draft-in-Continue-branch-6 c =
     c.requires.keeps _ (ap (λ (l : KitLine). with_line c.args.number c.args.draft.now l) (ap line c.in-Pair.is)
-    ∙ hosts_changed c.args.draft.now _ c.draft-in-Pair.view_is (with_pair (c.in-Pair.other, c.in-Pair.key)) (hosts c.push_pair.new.all.items) c.in_ok-push_pair-in-Pair.ensures.pushed)
+    ∙ hosts_changed c.args.draft.now _ c.draft-in-Pair.view_is (with_pair (c.in-Pair.other, c.in-Pair.key))
+    (hosts c.push_pair.new.all.items) c.in_ok-push_pair-in-Pair.ensures.pushed)

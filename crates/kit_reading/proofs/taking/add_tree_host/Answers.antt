@@ -8,7 +8,8 @@ use Rattle.kit_reading.proofs.taking.add_tree_host.Goals as goal
 pub invariant_of-draft-2 : goal.invariant_of-draft-2
 invariant_of-draft-2 c =
     let made = λ (hs : List Host). hs ++ record { process = c.args.process; secret = secret c.args.of; pairs = [] } ∷ [] in
-    c.requires.can.keeps _ (tree_taken c.args.number c.args.draft.now c.args.process (secret c.args.of) _ c.requires.trees c.in_ok-match_key.ensures
+    c.requires.can.keeps _ (tree_taken c.args.number c.args.draft.now c.args.process
+    (secret c.args.of) _ c.requires.trees c.in_ok-match_key.ensures
     ∙ hosts_changed c.args.draft.now _ c.draft.view_is made (hosts c.push_host.new.all.items) c.in_ok-push_host.ensures.pushed)
 
 pub match_key-requires-clause-built : goal.match_key-requires-clause-built

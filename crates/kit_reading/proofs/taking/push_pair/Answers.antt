@@ -12,5 +12,6 @@ returns-in_err-push-clause-unchanged c =
 pub returns-in_ok-push-clause-pushed : goal.returns-in_ok-push-clause-pushed
 returns-in_ok-push-clause-pushed c =
     let h = c.in-Some.host.now in
-    last_with_pair (c.args.other, c.args.key) c.args.all.now.items _ h _ (omega (arith, c.args.all.now.ok.0, c.in-Some.ensures.variant.0 refl)) c.in-Some.ensures.value
+    last_with_pair (c.args.other, c.args.key) c.args.all.now.items _ h _
+    (omega (arith, c.args.all.now.ok.0, c.in-Some.ensures.variant.0 refl)) c.in-Some.ensures.value
     (ap (λ (ps : List (ℕ × List ℕ)). record { process = h.process; secret = secret h.secret; pairs = ps }) c.in_ok-push.ensures.items)

@@ -15,5 +15,6 @@ loop-level-preserved c =
     let new : IsTreeOf key c.loop-level.level (tree_number key c.loop-level.level 0) made = rw zero-div c.in_ok-make_tree.ensures in
     record {
       count = rw (c.in_ok-push.ensures.items, length-append) (omega arith);
-      each = rw c.in_ok-push.ensures.items (each_after_push first c.loop-level.trees.items made c.loop-level.invariant.each (rw c.loop-level.invariant.count new));
+      each = rw c.in_ok-push.ensures.items
+          (each_after_push first c.loop-level.trees.items made c.loop-level.invariant.each (rw c.loop-level.invariant.count new));
     }

@@ -9,5 +9,6 @@ use Rattle.lms_hss.proofs.trees.first_trees.Given as goal
 abbrev pub invariant-loop-level : goal.invariant-loop-level
 invariant-loop-level l = record {
   count : length l.trees.items ≡ l.level;
-  each : (d : ℕ) (tree : LmsTree) → slice_get l.trees.items d ≡ Some tree → IsTreeOf (secret l.plan) d (tree_number (secret l.plan) d 0) tree;
+  each : (d : ℕ) (tree : LmsTree) → slice_get l.trees.items d ≡ Some tree
+      → IsTreeOf (secret l.plan) d (tree_number (secret l.plan) d 0) tree;
 }

@@ -23,8 +23,10 @@ loop-level-preserved c =
     let to : ℕ → LmsTree → Type 0 = λ d tree. d < at + 1 → IsTreeOf key d (tree_number key d c.args.to) tree in
     let from : ℕ → LmsTree → Type 0 = λ d tree. at + 1 ≤ d → IsTreeOf key d (tree_number key d c.args.from) tree in
     record {
-      renewed = each_after_set to trees at c.renew_tree.new.tree (λ d tree is ne lt. c.loop-level.invariant.renewed d tree is (omega arith)) (λ lt. c.renew_tree.ensures);
-      left = each_after_set from trees at c.renew_tree.new.tree (λ d tree is ne le. c.loop-level.invariant.left d tree is (omega arith)) (λ le. absurd (omega arith));
+      renewed = each_after_set to trees at c.renew_tree.new.tree (λ d tree is ne lt. c.loop-level.invariant.renewed d tree is (omega arith))
+          (λ lt. c.renew_tree.ensures);
+      left = each_after_set from trees at c.renew_tree.new.tree (λ d tree is ne le. c.loop-level.invariant.left d tree is (omega arith))
+          (λ le. absurd (omega arith));
     }
 
 pub returns : goal.returns

@@ -15,17 +15,21 @@ pub loop-level-init : goal.loop-level-init
 loop-level-init c =
     let key = secret c.args.plan.now in
     let count : List ℕ = u32str (key.levels - 1) in
-    let one : c.copy_from_slice.new.self ≡ count = c.copy_from_slice.ensures.after ∙ c.to_be_bytes.ensures ∙ rw c.levels-count.ensures.value refl in
+    let one : c.copy_from_slice.new.self
+    ≡ count = c.copy_from_slice.ensures.after ∙ c.to_be_bytes.ensures ∙ rw c.levels-count.ensures.value refl in
     let none : 4 + 0 * (c.level_len-length.result + 56) ≡ 4 = omega arith in
     rw (one, none) (take_at count (drop 4 c.args.out.now) 4 refl ∙ before_strings_none count (signed_key key c.args.number))
 
 pub write_signed_key-requires-clause-above : goal.write_signed_key-requires-clause-above
 write_signed_key-requires-clause-above c =
-    tree_at (secret c.args.plan.now) c.args.number c.loop-level.level c.args.trees.now c.index-trees-d.result c.requires.trees (omega arith) c.index-trees-d.is
+    tree_at (secret c.args.plan.now) c.args.number c.loop-level.level c.args.trees.now c.index-trees-d.result c.requires.trees
+    (omega arith) c.index-trees-d.is
 
 pub write_signed_key-requires-clause-below : goal.write_signed_key-requires-clause-below
 write_signed_key-requires-clause-below c =
-    tree_at (secret c.args.plan.now) c.args.number (c.loop-level.level + 1) c.args.trees.now c.index-trees-d-in-loop-level.result c.requires.trees (omega arith) c.index-trees-d-in-loop-level.is
+    tree_at (secret c.args.plan.now) c.args.number
+    (c.loop-level.level + 1) c.args.trees.now c.index-trees-d-in-loop-level.result c.requires.trees
+    (omega arith) c.index-trees-d-in-loop-level.is
 
 pub loop-level-preserved : goal.loop-level-preserved
 loop-level-preserved c =
@@ -42,4 +46,5 @@ loop-level-preserved c =
     let fits : at + k ≤ length c.loop-level.out = omega arith in
     let long : length c.write_signed_key.new.out ≡ at + k - at = c.write_signed_key.auto.out ∙ mid_len at (at + k) c.loop-level.out fits in
     take-put_mid at _ c.loop-level.out c.write_signed_key.new.out (4 + (c.loop-level.level + 1) * k) (omega arith) (omega arith)
-    ∙ rw (c.loop-level.invariant, c.write_signed_key.ensures) (before_strings_more (u32str (key.levels - 1)) (signed_key key c.args.number) c.loop-level.level)
+    ∙ rw (c.loop-level.invariant, c.write_signed_key.ensures)
+    (before_strings_more (u32str (key.levels - 1)) (signed_key key c.args.number) c.loop-level.level)

@@ -19,7 +19,8 @@ returns-then-rest-length c =
     let n : ℕ = c.args.signed_keys - c.loop.counter - 1 in
     let more : c.args.signed_keys - c.loop.counter ≡ suc n = omega arith in
     let known : length_under c.loop.key.now ≡ Some c.in-Some.length = sym c.length_under.ensures.value ∙ c.in-Some.is in
-    sym (c.loop.invariant.same ∙ rw more (too_short n c.in-Some.length c.loop.key.now c.args.message.now c.loop.rest.now known c.if-rest-length.true))
+    sym (c.loop.invariant.same ∙ rw more
+    (too_short n c.in-Some.length c.loop.key.now c.args.message.now c.loop.rest.now known c.if-rest-length.true))
 
 pub returns-then-not-lms_verify : goal.returns-then-not-lms_verify
 returns-then-not-lms_verify c =
@@ -27,7 +28,8 @@ returns-then-not-lms_verify c =
     let more : c.args.signed_keys - c.loop.counter ≡ suc n = omega arith in
     let len : ℕ = c.in-Some.length in
     let known : length_under c.loop.key.now ≡ Some len = sym c.length_under.ensures.value ∙ c.in-Some.is in
-    let below : c.split_at-in-loop.result.0.now ≡ part len 56 c.loop.rest.now = c.split_at-in-loop.ensures.front ∙ rw c.split_at.ensures.back refl in
+    let below : c.split_at-in-loop.result.0.now
+    ≡ part len 56 c.loop.rest.now = c.split_at-in-loop.ensures.front ∙ rw c.split_at.ensures.back refl in
     let refused : lms_valid c.loop.key.now (part len 56 c.loop.rest.now) (take len c.loop.rest.now) ≡ false =
     rw (← below, ← c.split_at.ensures.front) (sym c.lms_verify.ensures ∙ c.if-not-lms_verify.true) in
     sym
@@ -41,7 +43,8 @@ loop-preserved c =
     let rest : c.args.signed_keys - (c.loop.counter + 1) ≡ n = omega arith in
     let len : ℕ = c.in-Some.length in
     let known : length_under c.loop.key.now ≡ Some len = sym c.length_under.ensures.value ∙ c.in-Some.is in
-    let below : c.split_at-in-loop.result.0.now ≡ part len 56 c.loop.rest.now = c.split_at-in-loop.ensures.front ∙ rw c.split_at.ensures.back refl in
+    let below : c.split_at-in-loop.result.0.now
+    ≡ part len 56 c.loop.rest.now = c.split_at-in-loop.ensures.front ∙ rw c.split_at.ensures.back refl in
     let deeper : c.split_at-in-loop.result.1.now ≡ drop (len + 56) c.loop.rest.now =
     c.split_at-in-loop.ensures.back ∙ rw c.split_at.ensures.back (drop-drop 56 len c.loop.rest.now) in
     let admitted : lms_valid c.loop.key.now (part len 56 c.loop.rest.now) (take len c.loop.rest.now) ≡ true =

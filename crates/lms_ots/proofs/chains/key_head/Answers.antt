@@ -4,4 +4,5 @@ use Rattle.lms_ots.proofs.chains.key_head.Goals as goal
 
 pub returns : goal.returns
 returns c =
-    two_pieces c.args.id.now _ (0 ∷ 0 ∷ 0 ∷ 0 ∷ []) _ _ 16 4 (omega arith) refl c.copy_from_slice.ensures.after (c.copy_from_slice-2.ensures.after ∙ c.to_be_bytes.ensures)
+    two_pieces c.args.id.now _ (0 ∷ 0 ∷ 0 ∷ 0 ∷ []) _ _ 16 4 (omega arith) refl c.copy_from_slice.ensures.after
+    (c.copy_from_slice-2.ensures.after ∙ c.to_be_bytes.ensures)

@@ -11,5 +11,6 @@ loop-j-init c = record {
 pub loop-j-preserved : goal.loop-j-preserved
 loop-j-preserved c = record {
   head = c.step-value.ensures.head ∙ c.loop-j.invariant.head;
-  value = c.step-value.ensures.value ∙ rw (c.loop-j.invariant.head, c.loop-j.invariant.value) (chain_more c.args.head.now c.args.start.now c.args.from c.loop-j.j c.loop-j.auto.j);
+  value = c.step-value.ensures.value ∙ rw (c.loop-j.invariant.head, c.loop-j.invariant.value)
+      (chain_more c.args.head.now c.args.start.now c.args.from c.loop-j.j c.loop-j.auto.j);
 }

@@ -9,9 +9,20 @@ loop-i-init c = rw (← before_strings_none, ← c.key_head-key.ensures) c.tagge
 
 pub loop-i-preserved : goal.loop-i-preserved
 loop-i-preserved c =
-    let end : ℕ → List ℕ = reached_end c.in_ok-kind.kind c.args.id.now c.args.q (message_hash c.args.id.now c.args.q (part 4 32 c.args.sig.now) c.args.message.now) c.args.sig.now in
+    let end : ℕ → List ℕ = reached_end c.in_ok-kind.kind c.args.id.now c.args.q
+    (message_hash c.args.id.now c.args.q (part 4 32 c.args.sig.now) c.args.message.now) c.args.sig.now in
     let width : 36 + 32 * c.from.result + 32 - (36 + 32 * c.from.result) ≡ 32 = omega arith in
     let here : c.walk-end.result ≡ end c.loop-i.i =
     c.walk-end.ensures
-    ∙ rw (width, c.from.ensures, c.chain_head-head.ensures, c.at.ensures.value, c.new-digits.ensures, c.message_hash.ensures, c.key_head-key.ensures, c.ots_steps-steps.ensures) in
-    rw (← before_strings_more (c.args.id.now ++ u32str c.args.q ++ u16str D_PBLC) end c.loop-i.i, ← here) (c.update.ensures _ c.loop-i.invariant)
+    ∙ rw (
+      width,
+      c.from.ensures,
+      c.chain_head-head.ensures,
+      c.at.ensures.value,
+      c.new-digits.ensures,
+      c.message_hash.ensures,
+      c.key_head-key.ensures,
+      c.ots_steps-steps.ensures,
+    ) in
+    rw (← before_strings_more (c.args.id.now ++ u32str c.args.q ++ u16str D_PBLC) end c.loop-i.i, ← here)
+    (c.update.ensures _ c.loop-i.invariant)

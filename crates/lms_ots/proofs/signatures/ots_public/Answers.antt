@@ -10,10 +10,12 @@ loop-i-init c = rw (strings_none, append-nil, ← c.key_head-key.ensures) c.tagg
 
 pub loop-i-preserved : goal.loop-i-preserved
 loop-i-preserved c =
-    let end : ℕ → List ℕ = λ i. chain (chain_head c.args.id.now c.args.q i) 0 (ots_steps c.args.kind) (secret c.args.id.now c.args.q c.args.seed.now i) in
+    let end : ℕ → List ℕ = λ i. chain (chain_head c.args.id.now c.args.q i) 0 (ots_steps c.args.kind)
+    (secret c.args.id.now c.args.q c.args.seed.now i) in
     let here : c.walk-end.result ≡ end c.loop-i.i =
     c.walk-end.ensures ∙ rw (sub-zero, c.secret.ensures, c.chain_head-head.ensures, c.key_head-key.ensures, c.ots_steps-steps.ensures) in
-    rw (← before_strings_more (c.args.id.now ++ u32str c.args.q ++ u16str D_PBLC) end c.loop-i.i, ← here) (c.update.ensures _ c.loop-i.invariant)
+    rw (← before_strings_more (c.args.id.now ++ u32str c.args.q ++ u16str D_PBLC) end c.loop-i.i, ← here)
+    (c.update.ensures _ c.loop-i.invariant)
 
 pub returns : goal.returns
 returns c =

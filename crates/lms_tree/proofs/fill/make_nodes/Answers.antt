@@ -4,7 +4,8 @@ use Rattle.std.proofs.lemmas.Nat.{shl_whole}
 use Rattle.lms_tree.proofs.fill.make_nodes.Goals as goal
 
 pub fill_nodes-requires-clause-room : goal.fill_nodes-requires-clause-room
-fill_nodes-requires-clause-room c = c.deref_mut.ensures.len ∙ c.in_ok-nodes.ensures.len ∙ shl_whole 2 2 c.args.height 64 (omega arith) (omega arith)
+fill_nodes-requires-clause-room c = c.deref_mut.ensures.len ∙ c.in_ok-nodes.ensures.len ∙ shl_whole 2 2 c.args.height 64 (omega arith)
+    (omega arith)
 
 pub returns : goal.returns
 returns c =

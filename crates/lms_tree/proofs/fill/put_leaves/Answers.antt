@@ -11,7 +11,8 @@ loop-q-preserved c =
     let number : 2 ^ c.args.height + c.loop-q.q - 2 ^ c.args.height ≡ c.loop-q.q = omega arith in
     let next : 2 ^ c.args.height + (c.loop-q.q + 1) ≡ 2 ^ c.args.height + c.loop-q.q + 1 = omega arith in
     rw (leaves, next)
-    (one_more c.loop-q.nodes (2 ^ c.args.height) (2 ^ c.args.height + c.loop-q.q) c.leaf.result (node c.args.kind c.args.height c.args.id.now c.args.seed.now 0)
+    (one_more c.loop-q.nodes (2 ^ c.args.height)
+    (2 ^ c.args.height + c.loop-q.q) c.leaf.result (node c.args.kind c.args.height c.args.id.now c.args.seed.now 0)
     (omega arith)
     (c.leaf.ensures ∙ rw (leaves, c.ots_public.ensures, ← leaf_node, number) refl)
     c.loop-q.invariant)

@@ -18,9 +18,11 @@ loop-i-init c =
 pub loop-i-preserved : goal.loop-i-preserved
 loop-i-preserved c =
     let r : ℕ = 2 ^ c.args.height + c.args.q in
-    let width : 8 + c.ots_signature_length-path.result + 32 * c.loop-i.i + 32 - (8 + c.ots_signature_length-path.result + 32 * c.loop-i.i) ≡ 32 = omega arith in
+    let width : 8 + c.ots_signature_length-path.result + 32 * c.loop-i.i + 32 - (8 + c.ots_signature_length-path.result + 32 * c.loop-i.i)
+    ≡ 32 = omega arith in
     let path : ℕ → List ℕ = λ i. part (8 + ots_signature_length c.args.kind + 32 * i) 32 c.args.sig.now in
     record {
       node = rw c.loop-i.invariant.node (halved_again r c.loop-i.i);
-      value = c.parent-value.ensures ∙ rw (width, c.ots_signature_length-path.ensures, c.loop-i.invariant.node, c.loop-i.invariant.value) (climbed_more c.args.id.now r (leaf c.args.id.now r c.args.key.now) path c.loop-i.i);
+      value = c.parent-value.ensures ∙ rw (width, c.ots_signature_length-path.ensures, c.loop-i.invariant.node, c.loop-i.invariant.value)
+          (climbed_more c.args.id.now r (leaf c.args.id.now r c.args.key.now) path c.loop-i.i);
     }

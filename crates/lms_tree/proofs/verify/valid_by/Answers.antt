@@ -12,4 +12,11 @@ pub returns : goal.returns
 returns c =
     let width : 4 + c.ots_signature_length.result - 4 ≡ ots_signature_length c.args.kind = omega arith in
     let found = rw (width, c.id_of-id.ensures, c.u32_at-q.ensures) at c.in-Some.ensures in
-    c.eq.ensures ∙ rw (c.as_slice.ensures, c.root_candidate.ensures, c.id_of-id.ensures, c.u32_at-q.ensures, ← c.if-not-has_types.ensures, ← found) refl
+    c.eq.ensures ∙ rw (
+      c.as_slice.ensures,
+      c.root_candidate.ensures,
+      c.id_of-id.ensures,
+      c.u32_at-q.ensures,
+      ← c.if-not-has_types.ensures,
+      ← found,
+    ) refl

@@ -17,5 +17,7 @@ returns-clause-ends c s p is =
       signed_now = refl;
       spent = refl;
       sends = sent;
-      notes = c.in_ok-tell.ensures s q settled ∙ ap (λ ns. ns ++ liars_from c.args.pairs q.conflicts ++ note_if c.args.outcome.now.spent Spent ++ halts q) (c.in_ok-settle.ensures.told s p is);
+      notes = c.in_ok-tell.ensures s q settled ∙ ap
+          (λ ns. ns ++ liars_from c.args.pairs q.conflicts ++ note_if c.args.outcome.now.spent Spent ++ halts q)
+          (c.in_ok-settle.ensures.told s p is);
     }) (c.send_answers.ensures.sent s q settled)

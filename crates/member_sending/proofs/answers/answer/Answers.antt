@@ -21,10 +21,14 @@ returns-clause-sent c = λ s q is.
     let cs = sending.answer q c.args.view c.args.place in
     let made = c.in_ok-answer_want.ensures.answer q is.kept is.place.pool ∙ ap (λ fs. fs ++ frames_of (Proof cs)) c.requires.empty.frames in
     let to : c.insert.new.self ≡ from ∷ [] = c.insert.ensures ∙ ap (put_once from) c.new-to.ensures in
-    let each = (λ i. each_to (to i) (made i)) ∙ proof-to cs from ∙ ap (flat_map frames_to) (sym (wanted s q from c.args.view c.args.place st.own.keyed true (is.place.keys from) (sym c.contains.ensures ∙ c.if-not-contains.false))) in
+    let each = (λ i. each_to (to i) (made i)) ∙ proof-to cs from ∙ ap (flat_map frames_to)
+    (sym (wanted s q from c.args.view c.args.place st.own.keyed true (is.place.keys from)
+    (sym c.contains.ensures ∙ c.if-not-contains.false))) in
     on_ok_weaker c.hand_over.result (λ handed. handed ∙ ap (λ es. map frame_to c.args.sends.now.items ++ es) each) c.hand_over.ensures.sends
 
 pub returns-then-not-contains-clause-sent : goal.returns-then-not-contains-clause-sent
 returns-then-not-contains-clause-sent c = λ s q is.
     sym (append-nil (map frame_to c.args.sends.now.items))
-    ∙ ap (λ outs. map frame_to c.args.sends.now.items ++ flat_map frames_to outs) (sym (wanted s q c.args.from c.args.view c.args.place c.args.state.now.own.keyed false (is.place.keys c.args.from) (sym c.contains.ensures ∙ c.if-not-contains.true)))
+    ∙ ap (λ outs. map frame_to c.args.sends.now.items ++ flat_map frames_to outs)
+    (sym (wanted s q c.args.from c.args.view c.args.place c.args.state.now.own.keyed false (is.place.keys c.args.from)
+    (sym c.contains.ensures ∙ c.if-not-contains.true)))

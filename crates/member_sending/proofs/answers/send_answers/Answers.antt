@@ -7,4 +7,6 @@ use Rattle.member_sending.proofs.answers.send_answers.Goals as goal
 
 pub returns-in-Tick-clause-sent : goal.returns-in-Tick-clause-sent
 returns-in-Tick-clause-sent c = λ s q is.
-    subst (λ (e : defs.Event). OnOk c.ask.result (map frame_to c.ask.new.sends.items ≡ map frame_to c.args.sends.now.items ++ flat_map frames_to (defs.answers s q e))) (sym (ap handed c.in-Tick.is)) (c.ask.ensures.sent s q is)
+    subst (λ (e : defs.Event). OnOk c.ask.result
+    (map frame_to c.ask.new.sends.items ≡ map frame_to c.args.sends.now.items ++ flat_map frames_to (defs.answers s q e)))
+    (sym (ap handed c.in-Tick.is)) (c.ask.ensures.sent s q is)

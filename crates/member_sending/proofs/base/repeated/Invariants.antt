@@ -8,4 +8,6 @@ use Rattle.member_sending.proofs.base.repeated.Given as goal
 
 abbrev pub invariant-claims : goal.invariant-claims
 invariant-claims l = (began : Process) → HasDone l.state began
-    → chosen l.state.said.claims l.places.items ++ filter (λ c. not (was_delivered began c.statement)) (drop l.place l.state.said.claims) ≡ filter (λ c. not (was_delivered began c.statement)) l.state.said.claims
+    → chosen l.state.said.claims l.places.items
+    ++ filter (λ c. not (was_delivered began c.statement)) (drop l.place l.state.said.claims)
+    ≡ filter (λ c. not (was_delivered began c.statement)) l.state.said.claims

@@ -8,12 +8,15 @@ pub members-preserved-then-ne : goal.members-preserved-then-ne
 members-preserved-then-ne c =
     let lt : c.members.left - 1 < length c.members-members.result.now = omega arith in
     let next : suc (c.members.left - 1) ≡ c.members.left = omega arith in
-    let distinct : AllPairs (λ m n. m ≢ n) c.members-members.result.now = subst (λ (ms : List ℕ). AllPairs (λ m n. m ≢ n) ms) (sym c.members-members.ensures.value) c.members-members.ensures.within.1.distinct in
+    let distinct : AllPairs (λ m n. m ≢ n) c.members-members.result.now = subst (λ (ms : List ℕ). AllPairs (λ m n. m ≢ n) ms)
+    (sym c.members-members.ensures.value) c.members-members.ensures.within.1.distinct in
     let other : ℕ → Bool = λ m. not (m == c.args.me) in
     let is : other c.index-members-left.result ≡ true = sym c.ne.ensures ∙ c.if-ne.true in
     record {
       set = c.insert.ensures
-          ∙ ap (put_once c.index-members-left.result) (c.members.invariant.set ∙ ap (from other c.members-members.result.now distinct) (sym next))
-          ∙ one-more other c.members-members.result.now distinct (c.members.left - 1) c.index-members-left.result lt (sym c.index-members-left.is) is;
+          ∙ ap (put_once c.index-members-left.result)
+          (c.members.invariant.set ∙ ap (from other c.members-members.result.now distinct) (sym next))
+          ∙ one-more other c.members-members.result.now distinct (c.members.left - 1) c.index-members-left.result lt
+          (sym c.index-members-left.is) is;
       within = omega arith;
     }

@@ -6,16 +6,21 @@ pub places-init : goal.places-init
 places-init c = λ s p ok. begins s p c.args.limit c.args.state.now c.args.notes.now.items (c.requires.limit s p ok) ok
 
 pub deliver_place-requires : goal.deliver_place-requires
-deliver_place-requires c = ∥∥₁_map c.requires.real (λ real. has-process real.setting real.process c.args.limit c.places._place c.places.state c.args.notes.now.items c.places.notes.items (c.places.invariant real.setting real.process real.state))
+deliver_place-requires c = ∥∥₁_map c.requires.real
+    (λ real. has-process real.setting real.process c.args.limit c.places._place c.places.state c.args.notes.now.items c.places.notes.items
+    (c.places.invariant real.setting real.process real.state))
 
 pub places-preserved : goal.places-preserved
 places-preserved c = λ s p ok.
     let on = c.places.invariant s p ok in
-    goes-on s p c.args.limit c.places._place c.places.state c.deliver_place.new.state c.args.notes.now.items c.places.notes.items c.deliver_place.new.notes.items c.in-Some.batch c.places-test.true c.in-Some.ensures on
+    goes-on s p c.args.limit c.places._place c.places.state c.deliver_place.new.state c.args.notes.now.items c.places.notes.items
+    c.deliver_place.new.notes.items c.in-Some.batch c.places-test.true c.in-Some.ensures on
     (λ ds next. c.in_ok-deliver_place.ensures s on.q on.delivers.state ds next)
 
 pub returns-in_default : goal.returns-in_default
-returns-in_default c = λ s p ok. stops s p c.args.limit c.places._place c.places.state c.args.notes.now.items c.places.notes.items c.places-test.true c.in_default.ensures (c.places.invariant s p ok)
+returns-in_default c = λ s p ok. stops s p c.args.limit c.places._place c.places.state c.args.notes.now.items c.places.notes.items
+    c.places-test.true c.in_default.ensures (c.places.invariant s p ok)
 
 pub returns : goal.returns
-returns c = λ s p ok. ends s p c.args.limit c.places._place c.places.state c.args.notes.now.items c.places.notes.items c.places-test.false (c.places.invariant s p ok)
+returns c = λ s p ok. ends s p c.args.limit c.places._place c.places.state c.args.notes.now.items c.places.notes.items c.places-test.false
+    (c.places.invariant s p ok)

@@ -11,11 +11,13 @@ pub returns-in-Some : goal.returns-in-Some
 returns-in-Some c = λ ds e before last is.
     on_ok_weaker c.put_messages.result
     (λ put. record {
-      delivered = put-last (λ (ds : Vec Delivered Global). map accounts.delivery ds.items) c.args.lists.now.items _ c.in-Some.delivered.now _ before last ds (omega (arith, c.args.lists.now.ok.0, c.in-Some.ensures.variant.0 refl)) c.in-Some.ensures.value put.delivered is;
+      delivered = put-last (λ (ds : Vec Delivered Global). map accounts.delivery ds.items) c.args.lists.now.items _ c.in-Some.delivered.now
+          _ before last ds (omega (arith, c.args.lists.now.ok.0, c.in-Some.ensures.variant.0 refl)) c.in-Some.ensures.value put.delivered is;
       told = put.told;
     })
     (c.put_messages.ensures ds (ap (delivery c.args.pool.now.pool c.args.place) c.messages.ensures.list ∙ e))
 
 pub returns-in-None : goal.returns-in-None
 returns-in-None c = λ ds e before last is.
-    absurd (let some = some-last (λ (ds : Vec Delivered Global). map accounts.delivery ds.items) c.args.lists.now.items before last is in let no = c.in-None.ensures.variant.1 (omega (arith, c.args.lists.now.ok.0, some)) in cc)
+    absurd (let some = some-last (λ (ds : Vec Delivered Global). map accounts.delivery ds.items) c.args.lists.now.items before last is in
+    let no = c.in-None.ensures.variant.1 (omega (arith, c.args.lists.now.ok.0, some)) in cc)

@@ -5,9 +5,14 @@ use Rattle.member_settling.proofs.delivering.put_messages.Goals as goal
 
 pub messages-preserved : goal.messages-preserved
 messages-preserved c =
-    let at : slice_get c.args.messages.now c.messages.message-index ≡ Some c.message-item.result = slice_get-index c.args.messages.now c.messages.message-index c.message-item.result c.messages-test.true ∙ ap Some (sym c.message-item.is) in
-    one-put c.args.pool.now.pool c.args.place c.args.messages.now c.args.delivered.now.items c.args.notes.now.items c.messages.message-index c.message-item.result
-    c.messages.delivered.items c.put_message.new.delivered.items c.messages.notes.items c.put_message.new.notes.items at c.messages.invariant c.in_ok-put_message.ensures
+    let at : slice_get c.args.messages.now c.messages.message-index
+    ≡ Some c.message-item.result = slice_get-index c.args.messages.now c.messages.message-index c.message-item.result c.messages-test.true
+    ∙ ap Some (sym c.message-item.is) in
+    one-put c.args.pool.now.pool c.args.place c.args.messages.now c.args.delivered.now.items c.args.notes.now.items c.messages.message-index
+    c.message-item.result
+    c.messages.delivered.items c.put_message.new.delivered.items c.messages.notes.items c.put_message.new.notes.items at
+    c.messages.invariant c.in_ok-put_message.ensures
 
 pub returns : goal.returns
-returns c = all-put c.args.pool.now.pool c.args.place c.args.messages.now c.args.delivered.now.items c.args.notes.now.items c.messages.message-index c.messages.delivered.items c.messages.notes.items c.messages-test.false c.messages.invariant
+returns c = all-put c.args.pool.now.pool c.args.place c.args.messages.now c.args.delivered.now.items c.args.notes.now.items
+    c.messages.message-index c.messages.delivered.items c.messages.notes.items c.messages-test.false c.messages.invariant

@@ -11,5 +11,6 @@ pub returns-in_default : goal.returns-in_default
 returns-in_default c = λ s p ok.
     let taken = c.take_phase.ensures.taken in
     stays-so s p (leave p) (in_phase c.take_phase.result c.args.state.now) c.args.notes.now.items
-    (stays s p c.args.state.now c.take_phase.result ok (subst (λ (phase : Phase). IsIn phase p) (sym taken) ok.phase) c.in_default.not-DecidedView)
+    (stays s p c.args.state.now c.take_phase.result ok
+    (subst (λ (phase : Phase). IsIn phase p) (sym taken) ok.phase) c.in_default.not-DecidedView)
     (subst (IsStateOf s p) (sym (ap (λ (phase : Phase). in_phase phase c.args.state.now) taken)) ok)

@@ -15,7 +15,8 @@ use Rattle.member_settling.proofs.Staying.{halts-so, stays-so}
 use Rattle.member_settling.proofs.leaving.leave_decided.Goals as goal
 
 -- the process leaves by the decision
-is-leaving : (s : Setting) (p : Process) (st : ProcessState) (decided : DecidedView) (d : Decision) → d ≡ decided.decision → IsStateOf s p (in_phase (phases.DecidedView decided) st) → IsLeaving s p (decision_of d) st
+is-leaving : (s : Setting) (p : Process) (st : ProcessState) (decided : DecidedView) (d : Decision) → d ≡ decided.decision
+    → IsStateOf s p (in_phase (phases.DecidedView decided) st) → IsLeaving s p (decision_of d) st
 is-leaving s p st decided d is ok = record {
   phase = phases.DecidedView decided;
   state = ok;
@@ -27,7 +28,8 @@ pub install-requires-clause-real : goal.install-requires-clause-real
 install-requires-clause-real c = ∥∥₁_map c.requires (λ real. record {
   setting = real.setting;
   process = real.process;
-  leaving = is-leaving real.setting real.process c.args.state.now c.args.decided c.decision-decision.result c.decision-decision.ensures real.state;
+  leaving = is-leaving real.setting real.process c.args.state.now c.args.decided c.decision-decision.result c.decision-decision.ensures
+      real.state;
 })
 
 pub returns-in-Waiting : goal.returns-in-Waiting
@@ -38,7 +40,8 @@ returns-in-Waiting c = λ s p ok.
 
 pub returns-in-Install : goal.returns-in-Install
 returns-in-Install c = λ s p ok.
-    let leaves : leave p ≡ install (decision_of c.args.decided.decision) p = c.in-Install.ensures.leaves p ok.phase (c.counted-delivered.ensures s p ok.place) in
+    let leaves : leave p ≡ install (decision_of c.args.decided.decision) p = c.in-Install.ensures.leaves p ok.phase
+    (c.counted-delivered.ensures s p ok.place) in
     subst (λ (q : Process). OnOk c.install.result (Leaves s p q c.install.new.state c.args.notes.now.items c.install.new.notes.items))
     (sym (leaves ∙ ap (λ (d : Decision). install (decision_of d) p) (sym c.decision-decision.ensures)))
     (c.install.ensures s p (is-leaving s p c.args.state.now c.args.decided c.decision-decision.result c.decision-decision.ensures ok))

@@ -12,8 +12,10 @@ use Rattle.member_settling.proofs.leaving.own_delivered.Goals as goal
 
 pub count_own-requires : goal.count_own-requires
 count_own-requires c = ∥∥₁_elim c.requires (hlevel props) (λ short.
-    let at = subst (λ (xs : List (Vec Delivered Global)). slice_get xs (length xs - 1) ≡ Some c.in-Some.delivered.now) c.deref.ensures.value (sym c.in-Some.ensures.value) in
-    let is = last-is (λ (ds : Vec Delivered Global). map delivery ds.items) c.args.account.now.delivered.items short.is.before short.last c.in-Some.delivered.now short.is.is at in
+    let at = subst (λ (xs : List (Vec Delivered Global)). slice_get xs (length xs - 1) ≡ Some c.in-Some.delivered.now) c.deref.ensures.value
+    (sym c.in-Some.ensures.value) in
+    let is = last-is (λ (ds : Vec Delivered Global). map delivery ds.items) c.args.account.now.delivered.items short.is.before short.last
+    c.in-Some.delivered.now short.is.is at in
     let long = sym (length-map c.in-Some.delivered.now.items delivery) ∙ ap length is in
     let same = ap length c.deref-in-Some.ensures.value in
     let few = short.short in
@@ -21,8 +23,11 @@ count_own-requires c = ∥∥₁_elim c.requires (hlevel props) (λ short.
 
 pub returns-in-Some : goal.returns-in-Some
 returns-in-Some c = λ ds last.
-    let at = subst (λ (xs : List (Vec Delivered Global)). slice_get xs (length xs - 1) ≡ Some c.in-Some.delivered.now) c.deref.ensures.value (sym c.in-Some.ensures.value) in
+    let at = subst (λ (xs : List (Vec Delivered Global)). slice_get xs (length xs - 1) ≡ Some c.in-Some.delivered.now) c.deref.ensures.value
+    (sym c.in-Some.ensures.value) in
     c.count_own.ensures
     ∙ ap (count_by (λ (d : Delivered). d.sender == c.args.account.now.me)) c.deref-in-Some.ensures.value
     ∙ count-own c.args.account.now.me c.in-Some.delivered.now.items
-    ∙ ap (delivered_from c.args.account.now.me) (last-is (λ (ds : Vec Delivered Global). map delivery ds.items) c.args.account.now.delivered.items last.before ds c.in-Some.delivered.now last.is at)
+    ∙ ap (delivered_from c.args.account.now.me)
+    (last-is (λ (ds : Vec Delivered Global). map delivery ds.items) c.args.account.now.delivered.items last.before ds
+    c.in-Some.delivered.now last.is at)

@@ -7,13 +7,19 @@ use Rattle.member_settling.proofs.Staying.{all-told}
 use Rattle.member_settling.proofs.settling.settle.Goals as goal
 
 pub deliver-requires : goal.deliver-requires
-deliver-requires c = ∥∥₁_map c.requires.real (λ real. record { setting = real.setting; process = decide real.setting real.process; state = c.decide.ensures real.setting real.process real.state })
+deliver-requires c = ∥∥₁_map c.requires.real
+    (λ real. record {
+      setting = real.setting;
+      process = decide real.setting real.process;
+      state = c.decide.ensures real.setting real.process real.state;
+    })
 
 pub leave-requires : goal.leave-requires
 leave-requires c = ∥∥₁_map c.requires.real (λ real. record {
   setting = real.setting;
   process = deliver (decide real.setting real.process);
-  state = (c.in_ok-deliver.ensures real.setting (decide real.setting real.process) (c.decide.ensures real.setting real.process real.state)).state;
+  state = (c.in_ok-deliver.ensures real.setting (decide real.setting real.process)
+      (c.decide.ensures real.setting real.process real.state)).state;
 })
 
 pub returns-clause-settles : goal.returns-clause-settles
@@ -26,10 +32,18 @@ pub returns-clause-told : goal.returns-clause-told
 unfolding settle
 returns-clause-told c = λ s p ok.
     let delivered = c.in_ok-deliver.ensures s (decide s p) (c.decide.ensures s p ok) in
-    on_ok_weaker c.leave.result (λ left. all-told (decide s p) (deliver (decide s p)) (leave (deliver (decide s p))) c.args.notes.now.items c.deliver.new.notes.items c.leave.new.notes.items delivered.told (delivers-left (decide s p)) left.told)
+    on_ok_weaker c.leave.result (λ left. all-told (decide s p) (deliver (decide s p))
+    (leave (deliver (decide s p))) c.args.notes.now.items c.deliver.new.notes.items c.leave.new.notes.items delivered.told
+    (delivers-left (decide s p)) left.told)
     (c.leave.ensures s (deliver (decide s p)) delivered.state)
 
 pub returns-clause-real : goal.returns-clause-real
 returns-clause-real c = ∥∥₁_elim c.requires.real (hlevel props) (λ real.
-    on_ok_weaker c.leave.result (λ left. ∣ record { setting = real.setting; process = leave (deliver (decide real.setting real.process)); state = left.state } ∣₁)
-    (c.leave.ensures real.setting (deliver (decide real.setting real.process)) (c.in_ok-deliver.ensures real.setting (decide real.setting real.process) (c.decide.ensures real.setting real.process real.state)).state))
+    on_ok_weaker c.leave.result (λ left. ∣ record {
+      setting = real.setting;
+      process = leave (deliver (decide real.setting real.process));
+      state = left.state;
+    } ∣₁)
+    (c.leave.ensures real.setting (deliver (decide real.setting real.process))
+    (c.in_ok-deliver.ensures real.setting (decide real.setting real.process)
+    (c.decide.ensures real.setting real.process real.state)).state))

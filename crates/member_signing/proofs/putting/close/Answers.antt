@@ -13,12 +13,15 @@ pub closed-requires : goal.closed-requires
 closed-requires c = begun c.begin.result (is_member c.args.view.now c.args.me) c.begin.ensures.word
 
 pub returns-in_default-clause-closes : goal.returns-in_default-clause-closes
-returns-in_default-clause-closes c s signer p view me may is = other-stays c.args.phase.now s signer p (stmt c.args.statement.now) c.requires (not-end (stmt c.args.statement.now) c.in_default.ensures) is
+returns-in_default-clause-closes c s signer p view me may is = other-stays c.args.phase.now s signer p
+    (stmt c.args.statement.now) c.requires (not-end (stmt c.args.statement.now) c.in_default.ensures) is
 
 pub returns-clause-closes : goal.returns-clause-closes
 returns-clause-closes c s signer p view me may is =
     let told = end-told (stmt c.args.statement.now) c.in-Some.length c.in-Some.ensures in
     let may' = subst (λ (st : Statement). may_sign s p st ≡ true) told may in
     let phase : Phase = c.closed.result in
-    let before = c.begin.ensures.begins p view me (none-halted c.args.phase.now p c.requires is) (none-decided c.args.phase.now p c.requires is) (end-unsigned s p (view_of (stmt c.args.statement.now)) c.in-Some.length may') in
-    subst (λ (st : Statement). IsIn phase (signs s signer p st)) (sym told) (c.closed.ensures.closes s signer p (view_of (stmt c.args.statement.now)) may' before)
+    let before = c.begin.ensures.begins p view me (none-halted c.args.phase.now p c.requires is)
+    (none-decided c.args.phase.now p c.requires is) (end-unsigned s p (view_of (stmt c.args.statement.now)) c.in-Some.length may') in
+    subst (λ (st : Statement). IsIn phase (signs s signer p st)) (sym told)
+    (c.closed.ensures.closes s signer p (view_of (stmt c.args.statement.now)) may' before)

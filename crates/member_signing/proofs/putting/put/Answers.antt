@@ -36,15 +36,20 @@ note-requires-clause-range c = c.read_own-claim.ensures.range.1
 
 pub note-requires-clause-members : goal.note-requires-clause-members
 note-requires-clause-members c = ∥∥₁_elim c.requires.owed.signer (hlevel props) (λ r.
-    let same = c.read_own-claim.ensures.only (own_claim r.setting (λ (used : ℕ) (body : List ℕ). c.args.own.now.signature) r.process r.said) (due_is_in_range r.setting r.process r.said r.state.lawful r.may) r.own in
-    let at = ap (own_claim r.setting (λ (used : ℕ) (body : List ℕ). c.args.own.now.signature) r.process) (ap (λ (d : Claim). d.statement) same) ∙ sym same in
+    let same = c.read_own-claim.ensures.only (own_claim r.setting (λ (used : ℕ) (body : List ℕ). c.args.own.now.signature) r.process r.said)
+    (due_is_in_range r.setting r.process r.said r.state.lawful r.may) r.own in
+    let at = ap (own_claim r.setting (λ (used : ℕ) (body : List ℕ). c.args.own.now.signature) r.process)
+    (ap (λ (d : Claim). d.statement) same) ∙ sym same in
     let heard = c.in_ok-hear.ensures r.setting (λ (used : ℕ) (body : List ℕ). c.args.own.now.signature) r.process r.state.place.pool at in
-    orders-length r.setting r.process c.args.state.now.pool.pool c.args.state.now.own r.state.place ∙ ap (λ (h : Pool). length h.view.members) heard ∙ ap (λ (v : View). length v.members) (sym c.view.ensures))
+    orders-length r.setting r.process c.args.state.now.pool.pool c.args.state.now.own r.state.place ∙ ap
+    (λ (h : Pool). length h.view.members) heard ∙ ap (λ (v : View). length v.members) (sym c.view.ensures))
 
 pub note-requires-clause-fresh : goal.note-requires-clause-fresh
 note-requires-clause-fresh c = ∥∥₁_elim c.requires.owed.signer (hlevel props) (λ r.
-    let same = c.read_own-claim.ensures.only (own_claim r.setting (λ (used : ℕ) (body : List ℕ). c.args.own.now.signature) r.process r.said) (due_is_in_range r.setting r.process r.said r.state.lawful r.may) r.own in
-    fresh r.setting r.process c.args.state.now.pool.pool c.args.state.now.own _ r.state.place (subst (λ (st : Statement). may_sign r.setting r.process st ≡ true) (sym (ap (λ (d : Claim). d.statement) same)) r.may))
+    let same = c.read_own-claim.ensures.only (own_claim r.setting (λ (used : ℕ) (body : List ℕ). c.args.own.now.signature) r.process r.said)
+    (due_is_in_range r.setting r.process r.said r.state.lawful r.may) r.own in
+    fresh r.setting r.process c.args.state.now.pool.pool c.args.state.now.own _ r.state.place
+    (subst (λ (st : Statement). may_sign r.setting r.process st ≡ true) (sym (ap (λ (d : Claim). d.statement) same)) r.may))
 
 pub keep-requires : goal.keep-requires
 keep-requires c = c.read_own-claim.ensures.range
@@ -58,8 +63,16 @@ returns-clause-puts c s signer p st may own is =
     let seen = ap (λ (h : Pool). h.view) (sym is.place.pool) ∙ ap (λ (h : Pool). h.view) heard ∙ sym c.view.ensures in
     let tells = c.in_ok-note.ensures s signer p c.args.state.now.pool.pool c.hear.new.pool.pool is.place seen now heard in
     let phase = c.close.ensures.closes s signer p (ap (λ (h : Pool). h.view) heard ∙ sym c.view-2.ensures) tells.number now is.phase in
-    signed-state s signer p st _ _ is may (none-decided _ p c.requires.undecided is.phase) (subst IsClaim same c.read_own-claim.ensures.range)
-    (record { limit = refl; perceived = refl; said = c.in_ok-keep.ensures ∙ ap (λ (d : Claim). c.args.state.now.said.claims ++ d ∷ []) same; conflicts = refl; archive = refl; account = refl })
+    signed-state s signer p st _ _ is may (none-decided _ p c.requires.undecided is.phase)
+    (subst IsClaim same c.read_own-claim.ensures.range)
+    (record {
+      limit = refl;
+      perceived = refl;
+      said = c.in_ok-keep.ensures ∙ ap (λ (d : Claim). c.args.state.now.said.claims ++ d ∷ []) same;
+      conflicts = refl;
+      archive = refl;
+      account = refl;
+    })
     (let at : Own = c.note.new.own in subst (λ (st : Statement). Tells s (signs s signer p st) c.hear.new.pool.pool at) said tells)
     (let at : Phase = c.close.new.phase in subst (λ (st : Statement). IsIn at (signs s signer p st)) said phase)
 

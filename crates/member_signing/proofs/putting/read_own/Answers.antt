@@ -7,7 +7,9 @@ use Rattle.member_signing.proofs.putting.read_own.Goals as goal
 
 pub unreachable-requires : goal.unreachable-requires
 unreachable-requires c =
-    ∥∥₁_elim c.requires.claim (hlevel props) (λ claim. let is = c.in_default.ensures.only claim.said.statement claim.range (c.bytes-bytes.ensures ∙ ap (λ (m : Signed). m.statement) claim.same) in cc)
+    ∥∥₁_elim c.requires.claim (hlevel props)
+    (λ claim. let is = c.in_default.ensures.only claim.said.statement claim.range
+    (c.bytes-bytes.ensures ∙ ap (λ (m : Signed). m.statement) claim.same) in cc)
 
 pub returns-clause-only : goal.returns-clause-only
 returns-clause-only c d range e =

@@ -11,9 +11,12 @@ use Rattle.member_signing.proofs.signing.sign_kind.Given as goal
 abbrev pub invariant-signatures : goal.invariant-signatures
 invariant-signatures g l =
     ((s : Setting) (p : Process) → s.group ≡ l.group → length p.signed ≡ g.G.Tally.used l.fn.signer → IsStateOf s p l.fn.state
-    → (q : Process) × IsSigned s p (still (g.G.Tally.total l.fn.signer - g.G.Tally.used l.signer) false q) l.state (g.G.Tally.total l.fn.signer) (g.G.Tally.used l.signer) (map signed l.fn.signed.items) (map signed l.signed.items) false
-    × (sign_kind s (g.G.Signer.signature l.fn.signer) (kind_of l.kind) (g.G.Tally.total l.fn.signer - g.G.Tally.used l.signer) q ≡ sign_kind s (g.G.Signer.signature l.fn.signer) (kind_of l.kind) (g.G.Tally.total l.fn.signer - g.G.Tally.used l.fn.signer) p))
-    × IsReal l.state × IsUndecided l.state.phase × (g.G.Tally.total l.signer ≡ g.G.Tally.total l.fn.signer) × (g.G.Signer.signature l.signer ≡ g.G.Signer.signature l.fn.signer)
+    → (q : Process) × IsSigned s p (still (g.G.Tally.total l.fn.signer - g.G.Tally.used l.signer) false q) l.state
+    (g.G.Tally.total l.fn.signer) (g.G.Tally.used l.signer) (map signed l.fn.signed.items) (map signed l.signed.items) false
+    × (sign_kind s (g.G.Signer.signature l.fn.signer) (kind_of l.kind) (g.G.Tally.total l.fn.signer - g.G.Tally.used l.signer) q
+    ≡ sign_kind s (g.G.Signer.signature l.fn.signer) (kind_of l.kind) (g.G.Tally.total l.fn.signer - g.G.Tally.used l.fn.signer) p))
+    × IsReal l.state × IsUndecided l.state.phase × (g.G.Tally.total l.signer ≡ g.G.Tally.total l.fn.signer)
+    × (g.G.Signer.signature l.signer ≡ g.G.Signer.signature l.fn.signer)
 
 abbrev pub decreases-signatures : goal.decreases-signatures
 decreases-signatures g l = g.G.Tally.total l.signer - g.G.Tally.used l.signer

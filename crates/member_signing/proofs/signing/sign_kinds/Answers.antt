@@ -11,12 +11,18 @@ use Rattle.member_signing.proofs.Going.{as-at-first, begins, ends-kinds, kind-la
 use Rattle.member_signing.proofs.signing.sign_kinds.Goals as goal
 
 -- the kind at this place, and those behind it
-next-kind : (kinds : List Kind) (i : ℕ) → i < length kinds → kind_of (get_or kinds i Init) ∷ map kind_of (drop (i + 1) kinds) ≡ map kind_of (drop i kinds)
+next-kind : (kinds : List Kind) (i : ℕ) → i < length kinds
+    → kind_of (get_or kinds i Init) ∷ map kind_of (drop (i + 1) kinds) ≡ map kind_of (drop i kinds)
 next-kind kinds i lt = sym (ap (map kind_of) (drop_more kinds i Init lt))
 
 pub kinds-init : goal.kinds-init
 kinds-init g c = (
-  (λ s p group used is. (p, begins s p c.args.state.now (g.G.Tally.total c.args.signer.now) (g.G.Tally.used c.args.signer.now) (map signed c.args.signed.now.items) is used, refl)),
+  (λ s p group used is. (
+    p,
+    begins s p c.args.state.now (g.G.Tally.total c.args.signer.now) (g.G.Tally.used c.args.signer.now)
+        (map signed c.args.signed.now.items) is used,
+    refl,
+  )),
   c.requires.real,
   c.requires.undecided,
   refl,
@@ -29,12 +35,21 @@ kinds-preserved g c =
       (λ s p group used is.
           let so = inv.0 s p group used is in
           let kind = kind_of (get_or c.args.kinds.now c.kinds.kind-index Init) in
-          let signs = as-at-first s so.0 kind c.sign_any.new.state (g.G.Signer.signature c.kinds.signer) (g.G.Signer.signature c.args.signer.now) (g.G.Tally.total c.kinds.signer) (g.G.Tally.total c.args.signer.now) (g.G.Tally.used c.kinds.signer) (g.G.Tally.used c.sign_any.new.signer) (map signed c.kinds.signed.items) (map signed c.sign_any.new.signed.items) c.in_ok-lacks.lacks false inv.4 inv.3 c.if-lacks.false
+          let signs = as-at-first s so.0 kind c.sign_any.new.state (g.G.Signer.signature c.kinds.signer)
+          (g.G.Signer.signature c.args.signer.now) (g.G.Tally.total c.kinds.signer) (g.G.Tally.total c.args.signer.now)
+          (g.G.Tally.used c.kinds.signer) (g.G.Tally.used c.sign_any.new.signer) (map signed c.kinds.signed.items)
+          (map signed c.sign_any.new.signed.items) c.in_ok-lacks.lacks false inv.4 inv.3 c.if-lacks.false
           (c.in_ok-lacks.ensures.signs s so.0 group so.1.used so.1.state) in
-          let more = kind-more s (g.G.Signer.signature c.args.signer.now) kind (map kind_of (drop (c.kinds.kind-index + 1) c.args.kinds.now)) p so.0 c.kinds.state c.sign_any.new.state (g.G.Tally.total c.args.signer.now) (g.G.Tally.used c.kinds.signer) (g.G.Tally.used c.sign_any.new.signer) (map signed c.args.signed.now.items) (map signed c.kinds.signed.items) (map signed c.sign_any.new.signed.items) so.1 signs in (
-            (sign_kind s (g.G.Signer.signature c.args.signer.now) kind (g.G.Tally.total c.args.signer.now - g.G.Tally.used c.kinds.signer) so.0).now,
+          let more = kind-more s (g.G.Signer.signature c.args.signer.now) kind
+          (map kind_of (drop (c.kinds.kind-index + 1) c.args.kinds.now)) p so.0 c.kinds.state c.sign_any.new.state
+          (g.G.Tally.total c.args.signer.now) (g.G.Tally.used c.kinds.signer) (g.G.Tally.used c.sign_any.new.signer)
+          (map signed c.args.signed.now.items) (map signed c.kinds.signed.items) (map signed c.sign_any.new.signed.items) so.1 signs in (
+            (sign_kind s (g.G.Signer.signature c.args.signer.now) kind
+                (g.G.Tally.total c.args.signer.now - g.G.Tally.used c.kinds.signer) so.0).now,
             more.0,
-            more.1 ∙ ap (λ (ks : List defs.Kind). sign_kinds s (g.G.Signer.signature c.args.signer.now) ks (g.G.Tally.total c.args.signer.now - g.G.Tally.used c.kinds.signer) so.0) (next-kind c.args.kinds.now c.kinds.kind-index c.kinds-test.true) ∙ so.2,
+            more.1 ∙ ap (λ (ks : List defs.Kind). sign_kinds s (g.G.Signer.signature c.args.signer.now) ks
+                (g.G.Tally.total c.args.signer.now - g.G.Tally.used c.kinds.signer) so.0)
+                (next-kind c.args.kinds.now c.kinds.kind-index c.kinds-test.true) ∙ so.2,
           )),
       c.in_ok-lacks.ensures.real,
       c.in_ok-lacks.ensures.undecided,
@@ -47,15 +62,28 @@ returns-then-lacks-clause-signs g c s p group used is =
     let inv = c.kinds.invariant in
     let so = inv.0 s p group used is in
     let kind = kind_of (get_or c.args.kinds.now c.kinds.kind-index Init) in
-    let signs = as-at-first s so.0 kind c.sign_any.new.state (g.G.Signer.signature c.kinds.signer) (g.G.Signer.signature c.args.signer.now) (g.G.Tally.total c.kinds.signer) (g.G.Tally.total c.args.signer.now) (g.G.Tally.used c.kinds.signer) (g.G.Tally.used c.sign_any.new.signer) (map signed c.kinds.signed.items) (map signed c.sign_any.new.signed.items) c.in_ok-lacks.lacks true inv.4 inv.3 c.if-lacks.true
+    let signs = as-at-first s so.0 kind c.sign_any.new.state (g.G.Signer.signature c.kinds.signer) (g.G.Signer.signature c.args.signer.now)
+    (g.G.Tally.total c.kinds.signer) (g.G.Tally.total c.args.signer.now) (g.G.Tally.used c.kinds.signer)
+    (g.G.Tally.used c.sign_any.new.signer) (map signed c.kinds.signed.items)
+    (map signed c.sign_any.new.signed.items) c.in_ok-lacks.lacks true inv.4 inv.3 c.if-lacks.true
     (c.in_ok-lacks.ensures.signs s so.0 group so.1.used so.1.state) in
-    subst (λ (one : Signing). IsSigned s p one c.sign_any.new.state (g.G.Tally.total c.args.signer.now) (g.G.Tally.used c.sign_any.new.signer) (map signed c.args.signed.now.items) (map signed c.sign_any.new.signed.items) true)
-    (ap (λ (ks : List defs.Kind). sign_kinds s (g.G.Signer.signature c.args.signer.now) ks (g.G.Tally.total c.args.signer.now - g.G.Tally.used c.kinds.signer) so.0) (next-kind c.args.kinds.now c.kinds.kind-index c.kinds-test.true) ∙ so.2)
-    (kind-lacks s (g.G.Signer.signature c.args.signer.now) kind (map kind_of (drop (c.kinds.kind-index + 1) c.args.kinds.now)) p so.0 c.kinds.state c.sign_any.new.state (g.G.Tally.total c.args.signer.now) (g.G.Tally.used c.kinds.signer) (g.G.Tally.used c.sign_any.new.signer) (map signed c.args.signed.now.items) (map signed c.kinds.signed.items) (map signed c.sign_any.new.signed.items) so.1 signs)
+    subst (λ (one : Signing). IsSigned s p one c.sign_any.new.state (g.G.Tally.total c.args.signer.now)
+    (g.G.Tally.used c.sign_any.new.signer) (map signed c.args.signed.now.items) (map signed c.sign_any.new.signed.items) true)
+    (ap (λ (ks : List defs.Kind). sign_kinds s (g.G.Signer.signature c.args.signer.now) ks
+    (g.G.Tally.total c.args.signer.now - g.G.Tally.used c.kinds.signer) so.0)
+    (next-kind c.args.kinds.now c.kinds.kind-index c.kinds-test.true) ∙ so.2)
+    (kind-lacks s (g.G.Signer.signature c.args.signer.now) kind
+    (map kind_of (drop (c.kinds.kind-index + 1) c.args.kinds.now)) p so.0 c.kinds.state c.sign_any.new.state
+    (g.G.Tally.total c.args.signer.now) (g.G.Tally.used c.kinds.signer) (g.G.Tally.used c.sign_any.new.signer)
+    (map signed c.args.signed.now.items) (map signed c.kinds.signed.items) (map signed c.sign_any.new.signed.items) so.1 signs)
 
 pub returns-clause-signs : goal.returns-clause-signs
 returns-clause-signs g c s p group used is =
     let so = c.kinds.invariant.0 s p group used is in
-    subst (λ (one : Signing). IsSigned s p one c.kinds.state (g.G.Tally.total c.args.signer.now) (g.G.Tally.used c.kinds.signer) (map signed c.args.signed.now.items) (map signed c.kinds.signed.items) false) so.2
-    (ends-kinds s (g.G.Signer.signature c.args.signer.now) (map kind_of (drop c.kinds.kind-index c.args.kinds.now)) p so.0 c.kinds.state (g.G.Tally.total c.args.signer.now) (g.G.Tally.total c.args.signer.now - g.G.Tally.used c.kinds.signer) (g.G.Tally.used c.kinds.signer) (map signed c.args.signed.now.items) (map signed c.kinds.signed.items)
+    subst (λ (one : Signing). IsSigned s p one c.kinds.state (g.G.Tally.total c.args.signer.now) (g.G.Tally.used c.kinds.signer)
+    (map signed c.args.signed.now.items) (map signed c.kinds.signed.items) false) so.2
+    (ends-kinds s (g.G.Signer.signature c.args.signer.now)
+    (map kind_of (drop c.kinds.kind-index c.args.kinds.now)) p so.0 c.kinds.state (g.G.Tally.total c.args.signer.now)
+    (g.G.Tally.total c.args.signer.now - g.G.Tally.used c.kinds.signer) (g.G.Tally.used c.kinds.signer)
+    (map signed c.args.signed.now.items) (map signed c.kinds.signed.items)
     (ap (map kind_of) (drop_all c.kinds.kind-index c.args.kinds.now c.kinds-test.false)) so.1)

@@ -22,8 +22,10 @@ returns-clause-stands c s p is =
 pub returns-clause-seated : goal.returns-clause-seated
 returns-clause-seated c real = ∥∥₁_elim real (hlevel props) (λ real.
     let is = real.state in record {
-      counts = counts-length real.setting real.process c.args.state.now.pool.pool c.args.state.now.own is.place ∙ ap (λ (h : Pool). length h.view.members) is.place.pool;
-      orders = orders-length real.setting real.process c.args.state.now.pool.pool c.args.state.now.own is.place ∙ ap (λ (h : Pool). length h.view.members) is.place.pool;
+      counts = counts-length real.setting real.process c.args.state.now.pool.pool c.args.state.now.own is.place ∙ ap
+          (λ (h : Pool). length h.view.members) is.place.pool;
+      orders = orders-length real.setting real.process c.args.state.now.pool.pool c.args.state.now.own is.place ∙ ap
+          (λ (h : Pool). length h.view.members) is.place.pool;
       some = subst (λ (n : ℕ). 1 ≤ n) is.limit is.some;
       few = subst (λ (n : ℕ). n ≤ 16) is.limit is.lawful.batches;
     })

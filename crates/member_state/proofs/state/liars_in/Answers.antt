@@ -8,10 +8,12 @@ pub pairs-init : goal.pairs-init
 pairs-init c = none-told c.args.conflicts.now.pairs c.len-left.result c.new-liars.result c.len-left.ensures c.new-liars.ensures
 
 pub pairs-preserved-in-Some : goal.pairs-preserved-in-Some
-pairs-preserved-in-Some c = one-told c.args.conflicts.now.pairs c.pairs.left (c.pairs.left - 1) c.pairs.liars c.insert.new.self (claim c.in-Some.heard) c.pairs.invariant (let some = c.pairs-test.true in omega (arith, some)) c.in-Some.ensures c.insert.ensures
+pairs-preserved-in-Some c = one-told c.args.conflicts.now.pairs c.pairs.left (c.pairs.left - 1) c.pairs.liars c.insert.new.self
+    (claim c.in-Some.heard) c.pairs.invariant (let some = c.pairs-test.true in omega (arith, some)) c.in-Some.ensures c.insert.ensures
 
 pub pairs-preserved : goal.pairs-preserved
-pairs-preserved c = absurd (none-there c.args.conflicts.now.pairs c.pairs.left (c.pairs.left - 1) c.pairs.liars c.pairs.invariant (let some = c.pairs-test.true in omega (arith, some)) c.in_default.ensures)
+pairs-preserved c = absurd (none-there c.args.conflicts.now.pairs c.pairs.left (c.pairs.left - 1) c.pairs.liars c.pairs.invariant
+    (let some = c.pairs-test.true in omega (arith, some)) c.in_default.ensures)
 
 pub returns : goal.returns
 returns c are =

@@ -12,7 +12,8 @@ returns-then-waiting-eq-MOST_WAITING-clause-exactly c s p is running =
     let at = c.is_member.ensures s p is in
     let member : views.is_member p.pool.view p.me ≡ true = grind (arith, at) in
     let short : nat_lt most_payload_bytes (length c.args.payload.now) ≡ false = le-ltb _ _ (omega arith) in
-    let full : (length p.accepted - (earlier p + delivered_from p.me p.delivered) == 256) ≡ true = eq-eqb _ _ (sym (c.waiting.ensures s p is member) ∙ c.if-waiting-eq-MOST_WAITING.true) in
+    let full : (length p.accepted - (earlier p + delivered_from p.me p.delivered) == 256)
+    ≡ true = eq-eqb _ _ (sym (c.waiting.ensures s p is member) ∙ c.if-waiting-eq-MOST_WAITING.true) in
     submitted s p running c.args.payload.now true false true member short full
 
 pub returns-else-waiting-eq-MOST_WAITING-clause-exactly : goal.returns-else-waiting-eq-MOST_WAITING-clause-exactly
@@ -20,5 +21,6 @@ returns-else-waiting-eq-MOST_WAITING-clause-exactly c s p is running =
     let at = c.is_member.ensures s p is in
     let member : views.is_member p.pool.view p.me ≡ true = grind (arith, at) in
     let short : nat_lt most_payload_bytes (length c.args.payload.now) ≡ false = le-ltb _ _ (omega arith) in
-    let full : (length p.accepted - (earlier p + delivered_from p.me p.delivered) == 256) ≡ false = ne_eqb _ _ (λ e. c.if-waiting-eq-MOST_WAITING.false (c.waiting.ensures s p is member ∙ e)) in
+    let full : (length p.accepted - (earlier p + delivered_from p.me p.delivered) == 256)
+    ≡ false = ne_eqb _ _ (λ e. c.if-waiting-eq-MOST_WAITING.false (c.waiting.ensures s p is member ∙ e)) in
     submitted s p running c.args.payload.now true false false member short full

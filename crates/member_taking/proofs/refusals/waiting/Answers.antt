@@ -11,6 +11,8 @@ counts_of-requires c = counts-each c.args.state.now c.requires.real
 
 pub returns : goal.returns
 returns c s p is member =
-    let delivered = c.counts_of.ensures.member (subst IsTrue (λ i. views.is_member (is.place.pool i).view (is.place.number i)) member) p is.place.delivered is.place.pool ∙ ap (λ m. delivered_from m p.delivered) (sym is.place.number) in
+    let delivered = c.counts_of.ensures.member
+    (subst IsTrue (λ i. views.is_member (is.place.pool i).view (is.place.number i)) member) p is.place.delivered is.place.pool ∙ ap
+    (λ m. delivered_from m p.delivered) (sym is.place.number) in
     let accepted = ap (λ (a : Account). length a.accepted) is.account in
     omega (arith, delivered, accepted, is.place.before, c.saturating_sub.ensures, c.len.ensures)

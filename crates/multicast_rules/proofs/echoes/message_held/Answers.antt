@@ -8,4 +8,5 @@ use Rattle.multicast_rules.proofs.echoes.message_held.Goals as goal
 pub returns : goal.returns
 returns c =
     c.is_some.ensures
-    ∙ held-is c.args.pool.now.pool (message c.args.sender c.args.number) c.number-view.result content_of c.certificate.result (c.number-view.ensures.value ∙ ap (λ (v : View). v.number) c.view.ensures) c.certificate.ensures.content
+    ∙ held-is c.args.pool.now.pool (message c.args.sender c.args.number) c.number-view.result content_of c.certificate.result
+    (c.number-view.ensures.value ∙ ap (λ (v : View). v.number) c.view.ensures) c.certificate.ensures.content

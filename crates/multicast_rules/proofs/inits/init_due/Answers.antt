@@ -6,19 +6,25 @@ use Rattle.multicast_rules.proofs.Waits.{no-init-due, this-init-due}
 use Rattle.multicast_rules.proofs.inits.init_due.Goals as goal
 
 pub returns-in_err-own-clause-least : goal.returns-in_err-own-clause-least
-returns-in_err-own-clause-least c = λ s p tells accepted. rw c.from_residual.ensures (outside s p c.args.pool.now.pool c.args.own.now tells Inits c.in_err-own.was)
+returns-in_err-own-clause-least c = λ s p tells accepted. rw c.from_residual.ensures
+    (outside s p c.args.pool.now.pool c.args.own.now tells Inits c.in_err-own.was)
 
 pub returns-in_err-number-clause-least : goal.returns-in_err-number-clause-least
 returns-in_err-number-clause-least c = λ s p tells accepted.
     rw c.from_residual-in_err-number.ensures
-    (no-init-due s p c.args.pool.now.pool c.args.own.now c.in_ok-own.field-0 c.number.result (c.number.ensures.value ∙ ap (λ (v : View). v.number) c.view.ensures) tells c.in_ok-own.was c.in_err-number.ensures)
+    (no-init-due s p c.args.pool.now.pool c.args.own.now c.in_ok-own.field-0 c.number.result
+    (c.number.ensures.value ∙ ap (λ (v : View). v.number) c.view.ensures) tells c.in_ok-own.was c.in_err-number.ensures)
 
 pub returns-then-has_payload-clause-least : goal.returns-then-has_payload-clause-least
 returns-then-has_payload-clause-least c = λ s p tells accepted.
-    this-init-due s p c.args.pool.now.pool c.args.own.now c.in_ok-own.field-0 c.number.result c.in_ok-number.number c.counts_of.result c.args.accepted true
-    (c.number.ensures.value ∙ ap (λ (v : View). v.number) c.view.ensures) tells c.in_ok-own.was c.in_ok-number.ensures c.counts_of.ensures.member accepted c.if-has_payload.ensures
+    this-init-due s p c.args.pool.now.pool c.args.own.now c.in_ok-own.field-0 c.number.result c.in_ok-number.number c.counts_of.result
+    c.args.accepted true
+    (c.number.ensures.value ∙ ap (λ (v : View). v.number) c.view.ensures) tells c.in_ok-own.was c.in_ok-number.ensures
+    c.counts_of.ensures.member accepted c.if-has_payload.ensures
 
 pub returns-else-has_payload-clause-least : goal.returns-else-has_payload-clause-least
 returns-else-has_payload-clause-least c = λ s p tells accepted.
-    this-init-due s p c.args.pool.now.pool c.args.own.now c.in_ok-own.field-0 c.number.result c.in_ok-number.number c.counts_of.result c.args.accepted false
-    (c.number.ensures.value ∙ ap (λ (v : View). v.number) c.view.ensures) tells c.in_ok-own.was c.in_ok-number.ensures c.counts_of.ensures.member accepted c.if-has_payload.ensures
+    this-init-due s p c.args.pool.now.pool c.args.own.now c.in_ok-own.field-0 c.number.result c.in_ok-number.number c.counts_of.result
+    c.args.accepted false
+    (c.number.ensures.value ∙ ap (λ (v : View). v.number) c.view.ensures) tells c.in_ok-own.was c.in_ok-number.ensures
+    c.counts_of.ensures.member accepted c.if-has_payload.ensures

@@ -11,10 +11,12 @@ pub returns-in_err-batch : goal.returns-in_err-batch
 returns-in_err-batch c = λ s p pool tells limit.
     rw c.from_residual.ensures
     (order-due s p c.args.pool.now.pool c.args.own.now c.args.batch_limit None tells limit (sym (c.if-not-may_order.ensures s p tells))
-    (λ before is. c.in_err-batch.ensures.next pool before (c.deref_mut.ensures.value ∙ c.copied-counts.ensures ∙ c.deref.ensures.0 ∙ is)) (λ b e. absurd cc))
+    (λ before is. c.in_err-batch.ensures.next pool before (c.deref_mut.ensures.value ∙ c.copied-counts.ensures ∙ c.deref.ensures.0 ∙ is))
+    (λ b e. absurd cc))
 
 pub returns : goal.returns
 returns c = λ s p pool tells limit.
-    order-due s p c.args.pool.now.pool c.args.own.now c.args.batch_limit (Some c.in_ok-batch.batch) tells limit (sym (c.if-not-may_order.ensures s p tells))
+    order-due s p c.args.pool.now.pool c.args.own.now c.args.batch_limit (Some c.in_ok-batch.batch) tells limit
+    (sym (c.if-not-may_order.ensures s p tells))
     (λ before is. c.in_ok-batch.ensures.next pool before (c.deref_mut.ensures.value ∙ c.copied-counts.ensures ∙ c.deref.ensures.0 ∙ is))
     (λ b e. subst (λ (b : Batch). 1 ≤ length b) (some-same c.in_ok-batch.batch b e) c.in_ok-batch.ensures.some)

@@ -5,4 +5,5 @@ use Rattle.multicast_rules.specs.Waiting.{is_init_waiting}
 use Rattle.multicast_rules.proofs.waiting.first_waiting.Given as goal
 
 abbrev pub invariant-members : goal.invariant-members
-invariant-members l = (r m : ℕ) → r < l.sender-index → slice_get l.members r ≡ Some m → IsLeastBelow most_places (is_init_waiting l.pool.pool l.signed m) None
+invariant-members l = (r m : ℕ) → r < l.sender-index → slice_get l.members r ≡ Some m
+    → IsLeastBelow most_places (is_init_waiting l.pool.pool l.signed m) None

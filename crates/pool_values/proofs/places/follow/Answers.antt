@@ -6,11 +6,13 @@ use Rattle.pool_values.proofs.places.follow.Goals as goal
 
 pub places-preserved : goal.places-preserved
 places-preserved c =
-    let at : place_at c.args.quorums.now.pool (length c.places.prefix.batches) ≡ Some c.in-Some.batch = ap (place_at c.args.quorums.now.pool) (sym c.len-in-places.ensures) ∙ sym c.in-Some.ensures in
+    let at : place_at c.args.quorums.now.pool (length c.places.prefix.batches)
+    ≡ Some c.in-Some.batch = ap (place_at c.args.quorums.now.pool) (sym c.len-in-places.ensures) ∙ sym c.in-Some.ensures in
     let lt : length c.places.prefix.batches < 1024 = omega (arith, c.len.ensures, c.places-test.true) in
     record {
       view = c.push.ensures.view ∙ c.places.invariant.view;
-      placed = subst (ArePlaced c.args.quorums.now.pool) (sym c.push.ensures.batches) (placed-push c.args.quorums.now.pool c.places.prefix.batches c.in-Some.batch c.places.invariant.placed lt at);
+      placed = subst (ArePlaced c.args.quorums.now.pool) (sym c.push.ensures.batches)
+          (placed-push c.args.quorums.now.pool c.places.prefix.batches c.in-Some.batch c.places.invariant.placed lt at);
     }
 
 pub returns-in_default : goal.returns-in_default

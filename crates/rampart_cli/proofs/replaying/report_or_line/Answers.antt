@@ -4,7 +4,8 @@ use Rattle.rampart_cli.proofs.replaying.report_or_line.Goals as goal
 
 pub returns-in-Ok-clause-report : goal.returns-in-Ok-clause-report
 returns-in-Ok-clause-report c = λ fed has.
-    let told = tells c.args.short fed c.in-Ok.report.items (fed_bytes c.args.replay fed has) (rw c.in-Ok.is at c.in_ok-report.ensures.report fed has) in
+    let told = tells c.args.short fed c.in-Ok.report.items (fed_bytes c.args.replay fed has)
+    (rw c.in-Ok.is at c.in_ok-report.ensures.report fed has) in
     (told.run, told.told_is)
 
 pub returns-in_ok-stop_line-in-Err-clause-line : goal.returns-in_ok-stop_line-in-Err-clause-line

@@ -46,13 +46,15 @@ returns-in-None-clause-only_generated g c = λ number asks. absurd (no_command _
 
 pub returns-in-Some-Replay-clause-done : goal.returns-in-Some-Replay-clause-done
 returns-in-Some-Replay-clause-done g c = λ short asks zero.
-    subst (λ (b : Bool). Reported b (g.S.Source.left c.args.input.now) (g.S.Source.left c.run_replay.new.input) (g.K.Sink.written c.args.output.now) (g.K.Sink.written c.run_replay.new.output))
+    subst (λ (b : Bool). Reported b (g.S.Source.left c.args.input.now) (g.S.Source.left c.run_replay.new.input)
+    (g.K.Sink.written c.args.output.now) (g.K.Sink.written c.run_replay.new.output))
     (same_short _ short (rw c.in-Some-Replay.field-0-is at c.in-Some-Replay.ensures.only (Replay short) asks))
     (c.run_replay.ensures.done zero)
 
 pub returns-in-Some-Replay-clause-part : goal.returns-in-Some-Replay-clause-part
 returns-in-Some-Replay-clause-part g c = λ short asks four.
-    subst (λ (b : Bool). ReportedInPart b (g.S.Source.left c.args.input.now) (g.S.Source.left c.run_replay.new.input) (g.K.Sink.written c.args.output.now) (g.K.Sink.written c.run_replay.new.output))
+    subst (λ (b : Bool). ReportedInPart b (g.S.Source.left c.args.input.now) (g.S.Source.left c.run_replay.new.input)
+    (g.K.Sink.written c.args.output.now) (g.K.Sink.written c.run_replay.new.output))
     (same_short _ short (rw c.in-Some-Replay.field-0-is at c.in-Some-Replay.ensures.only (Replay short) asks))
     (c.run_replay.ensures.part four)
 

@@ -11,7 +11,8 @@ use Rattle.rank_rules.proofs.acks.next_ack.Given as goal
 
 -- no rank that was looked at has an Ack due
 abbrev pub invariant-candidates : goal.invariant-candidates
-invariant-candidates l = IsPool l.pool.pool → (s : Setting) → HasKeys s l.own → (k : ℕ) → k < l.from → IsFalse (is_ack_open l.pool.pool l.own k && is_some_and (suggested l.pool.pool k) (is_justified s l.pool.pool k))
+invariant-candidates l = IsPool l.pool.pool → (s : Setting) → HasKeys s l.own → (k : ℕ) → k < l.from
+    → IsFalse (is_ack_open l.pool.pool l.own k && is_some_and (suggested l.pool.pool k) (is_justified s l.pool.pool k))
 
 abbrev pub decreases-candidates : goal.decreases-candidates
 decreases-candidates l = 255 - l.from

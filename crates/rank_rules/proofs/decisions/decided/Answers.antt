@@ -9,12 +9,15 @@ use Rattle.rank_rules.proofs.decisions.decided.Goals as goal
 pub returns-in_err-rank : goal.returns-in_err-rank
 returns-in_err-rank c s keys =
     ap report c.from_residual.ensures
-    ∙ sym (decided_is s c.args.pool.now.pool c.deciding_rank.result (c.deciding_rank.ensures s keys) ∙ ap (option_and_then (decided_at s c.args.pool.now.pool)) c.in_err-rank.was)
+    ∙ sym (decided_is s c.args.pool.now.pool c.deciding_rank.result (c.deciding_rank.ensures s keys) ∙ ap
+    (option_and_then (decided_at s c.args.pool.now.pool)) c.in_err-rank.was)
 
 pub returns : goal.returns
 returns c s keys =
     c.decided_at.ensures s keys
-    ∙ sym (decided_is s c.args.pool.now.pool c.deciding_rank.result (c.deciding_rank.ensures s keys) ∙ ap (option_and_then (decided_at s c.args.pool.now.pool)) c.in_ok-rank.was)
+    ∙ sym (decided_is s c.args.pool.now.pool c.deciding_rank.result (c.deciding_rank.ensures s keys) ∙ ap
+    (option_and_then (decided_at s c.args.pool.now.pool)) c.in_ok-rank.was)
 
 pub returns-then-not-hears : goal.returns-then-not-hears
-returns-then-not-hears c s keys = sym (decided_is s c.args.pool.now.pool None (λ r _ _. ap is_some (undecided c.args.pool.now.pool (sym c.if-not-hears.ensures) s r)))
+returns-then-not-hears c s keys = sym
+    (decided_is s c.args.pool.now.pool None (λ r _ _. ap is_some (undecided c.args.pool.now.pool (sym c.if-not-hears.ensures) s r)))

@@ -37,4 +37,5 @@ pub returns-then-not-hears : goal.returns-then-not-hears
 returns-then-not-hears c pool s p tells =
     let h = c.args.pool.now.pool in
     ready-is s p h c.args.own.now tells pool c.in_ok-own.field-0 c.in_ok-own.was None
-    (λ r _ _. ap (λ o. is_some o && nat_le c.args.own.now.rank r && not (has_slot c.args.own.now.signed (ReadyAt h.view.number r))) (unacked h (sym c.if-not-hears.ensures) r))
+    (λ r _ _. ap (λ o. is_some o && nat_le c.args.own.now.rank r && not (has_slot c.args.own.now.signed (ReadyAt h.view.number r)))
+    (unacked h (sym c.if-not-hears.ensures) r))

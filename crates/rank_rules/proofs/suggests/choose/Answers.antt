@@ -8,7 +8,8 @@ use Rattle.rank_rules.proofs.Unheard.{in-no-case}
 use Rattle.rank_rules.proofs.suggests.choose.Goals as goal
 
 pub returns-in-Some : goal.returns-in-Some
-returns-in-Some c pool s free = c.certified_ack.ensures ∙ choose-by c.args.pool.now.pool pool s c.args.rank (Some c.in-Some.lower) (c.in-Some.ensures pool)
+returns-in-Some c pool s free = c.certified_ack.ensures ∙ choose-by c.args.pool.now.pool pool s c.args.rank (Some c.in-Some.lower)
+    (c.in-Some.ensures pool)
 
 pub returns-in_err-value-in-None : goal.returns-in_err-value-in-None
 returns-in_err-value-in-None c pool s free =

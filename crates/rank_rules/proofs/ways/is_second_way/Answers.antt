@@ -12,11 +12,16 @@ pub returns-then-is_reported : goal.returns-then-is_reported
 returns-then-is_reported c pool =
     let h = c.args.pool.now.pool in
     let v : Value = value c.args.value.now in
-    let inner : c.if-lower-rank.value ≡ (nat_lt c.args.lower c.args.rank && is_bounded h c.args.rank c.args.lower) = elim c.if-lower-rank.branch [
-      | then-lower-rank w ↦ with-true _ _ _ (lt-ltb c.args.lower c.args.rank w.if-lower-rank.true) (w.value-is ∙ w.is_quorum.ensures ∙ ap (is_quorum h) w.lasts_at_most.ensures)
-      | else-lower-rank w ↦ with-false _ _ _ (le-ltb c.args.lower c.args.rank w.if-lower-rank.false) (w.value-is ∙ le-ltb c.args.lower c.args.rank w.if-lower-rank.false)
+    let inner : c.if-lower-rank.value
+    ≡ (nat_lt c.args.lower c.args.rank && is_bounded h c.args.rank c.args.lower) = elim c.if-lower-rank.branch [
+      | then-lower-rank w ↦ with-true _ _ _ (lt-ltb c.args.lower c.args.rank w.if-lower-rank.true)
+          (w.value-is ∙ w.is_quorum.ensures ∙ ap (is_quorum h) w.lasts_at_most.ensures)
+      | else-lower-rank w ↦ with-false _ _ _ (le-ltb c.args.lower c.args.rank w.if-lower-rank.false)
+          (w.value-is ∙ le-ltb c.args.lower c.args.rank w.if-lower-rank.false)
     ] in
-    let both : c.if-is_quorum.value ≡ (nat_lt c.args.lower c.args.rank && is_bounded h c.args.rank c.args.lower && is_told h c.args.rank c.args.lower v) = elim c.if-is_quorum.branch [
+    let both : c.if-is_quorum.value
+    ≡ (nat_lt c.args.lower c.args.rank && is_bounded h c.args.rank c.args.lower
+    && is_told h c.args.rank c.args.lower v) = elim c.if-is_quorum.branch [
       | then-is_quorum w ↦ with-true _ _ _ (sym inner ∙ w.if-is_quorum.true) (w.value-is ∙ w.is_reported.ensures)
       | else-is_quorum w ↦ with-false _ _ _ (sym inner ∙ w.if-is_quorum.false) (w.value-is ∙ w.if-is_quorum.false)
     ] in
@@ -26,11 +31,16 @@ pub returns-else-is_reported : goal.returns-else-is_reported
 returns-else-is_reported c pool =
     let h = c.args.pool.now.pool in
     let v : Value = value c.args.value.now in
-    let inner : c.if-lower-rank.value ≡ (nat_lt c.args.lower c.args.rank && is_bounded h c.args.rank c.args.lower) = elim c.if-lower-rank.branch [
-      | then-lower-rank w ↦ with-true _ _ _ (lt-ltb c.args.lower c.args.rank w.if-lower-rank.true) (w.value-is ∙ w.is_quorum.ensures ∙ ap (is_quorum h) w.lasts_at_most.ensures)
-      | else-lower-rank w ↦ with-false _ _ _ (le-ltb c.args.lower c.args.rank w.if-lower-rank.false) (w.value-is ∙ le-ltb c.args.lower c.args.rank w.if-lower-rank.false)
+    let inner : c.if-lower-rank.value
+    ≡ (nat_lt c.args.lower c.args.rank && is_bounded h c.args.rank c.args.lower) = elim c.if-lower-rank.branch [
+      | then-lower-rank w ↦ with-true _ _ _ (lt-ltb c.args.lower c.args.rank w.if-lower-rank.true)
+          (w.value-is ∙ w.is_quorum.ensures ∙ ap (is_quorum h) w.lasts_at_most.ensures)
+      | else-lower-rank w ↦ with-false _ _ _ (le-ltb c.args.lower c.args.rank w.if-lower-rank.false)
+          (w.value-is ∙ le-ltb c.args.lower c.args.rank w.if-lower-rank.false)
     ] in
-    let both : c.if-is_quorum.value ≡ (nat_lt c.args.lower c.args.rank && is_bounded h c.args.rank c.args.lower && is_told h c.args.rank c.args.lower v) = elim c.if-is_quorum.branch [
+    let both : c.if-is_quorum.value
+    ≡ (nat_lt c.args.lower c.args.rank && is_bounded h c.args.rank c.args.lower
+    && is_told h c.args.rank c.args.lower v) = elim c.if-is_quorum.branch [
       | then-is_quorum w ↦ with-true _ _ _ (sym inner ∙ w.if-is_quorum.true) (w.value-is ∙ w.is_reported.ensures)
       | else-is_quorum w ↦ with-false _ _ _ (sym inner ∙ w.if-is_quorum.false) (w.value-is ∙ w.if-is_quorum.false)
     ] in

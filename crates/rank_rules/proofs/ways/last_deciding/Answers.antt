@@ -5,4 +5,5 @@ use Rattle.rank_rules.proofs.Unheard.{unacked}
 use Rattle.rank_rules.proofs.ways.last_deciding.Goals as goal
 
 pub returns-then-not-hears : goal.returns-then-not-hears
-returns-then-not-hears c pool r lt = ap (λ o. is_some_and o (is_second_way c.args.pool.now.pool c.args.rank r)) (unacked c.args.pool.now.pool (sym c.if-not-hears.ensures) r)
+returns-then-not-hears c pool r lt = ap (λ o. is_some_and o (is_second_way c.args.pool.now.pool c.args.rank r))
+    (unacked c.args.pool.now.pool (sym c.if-not-hears.ensures) r)

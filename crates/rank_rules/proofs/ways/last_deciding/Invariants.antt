@@ -9,7 +9,8 @@ use Rattle.rank_rules.proofs.ways.last_deciding.Given as goal
 abbrev pub invariant-ranks : goal.invariant-ranks
 invariant-ranks l = record {
   within : l.above ≤ l.rank;
-  none : IsPool l.pool.pool → (k : ℕ) → l.above ≤ k → k < l.rank → IsFalse (is_some_and (acked l.pool.pool k) (is_second_way l.pool.pool l.rank k));
+  none : IsPool l.pool.pool → (k : ℕ) → l.above ≤ k → k < l.rank
+      → IsFalse (is_some_and (acked l.pool.pool k) (is_second_way l.pool.pool l.rank k));
 }
 
 abbrev pub decreases-ranks : goal.decreases-ranks

@@ -12,8 +12,13 @@ pub entries-preserved : goal.entries-preserved
 entries-preserved c =
     let heard = c.args.pool.now.pool.heard in
     let rest : List Entry = drop (c.entries.entry-index + 1) c.args.entries.now in
-    way-next true c.entries.list c.put_heard.new.list _ _ (all_signed (chosen heard (c.entry-item.result.place ∷ []))) (all_signed (chosen heard (places_of rest)))
-    (ap (λ es. all_signed (chosen heard (places_of es))) (drop-at c.args.entries.now c.entries.entry-index c.entry-item.result c.entries-test.true c.entry-item.is) ∙ signed-chosen heard c.entry-item.result.place (places_of rest)) c.entries.invariant c.in_ok-put_heard.ensures
+    way-next true c.entries.list c.put_heard.new.list _ _ (all_signed (chosen heard (c.entry-item.result.place ∷ [])))
+    (all_signed (chosen heard (places_of rest)))
+    (ap (λ es. all_signed (chosen heard (places_of es)))
+    (drop-at c.args.entries.now c.entries.entry-index c.entry-item.result c.entries-test.true c.entry-item.is) ∙ signed-chosen heard
+    c.entry-item.result.place (places_of rest)) c.entries.invariant c.in_ok-put_heard.ensures
 
 pub returns : goal.returns
-returns c = way-end true c.entries.list _ _ (ap (λ es. all_signed (chosen c.args.pool.now.pool.heard (places_of es))) (drop-past c.args.entries.now c.entries.entry-index c.entries-test.false)) c.entries.invariant
+returns c = way-end true c.entries.list _ _
+    (ap (λ es. all_signed (chosen c.args.pool.now.pool.heard (places_of es)))
+    (drop-past c.args.entries.now c.entries.entry-index c.entries-test.false)) c.entries.invariant

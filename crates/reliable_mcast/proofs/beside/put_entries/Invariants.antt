@@ -6,4 +6,5 @@ use Rattle.reliable_mcast.specs.Entries.{places_of}
 use Rattle.reliable_mcast.proofs.beside.put_entries.Given as goal
 
 abbrev pub invariant-entries : goal.invariant-entries
-invariant-entries l = extended true l.list (all_signed (chosen l.pool.pool.heard (places_of (drop l.entry-index l.entries)))) ≡ extended true l.fn.list (all_signed (chosen l.pool.pool.heard (places_of l.entries)))
+invariant-entries l = extended true l.list (all_signed (chosen l.pool.pool.heard (places_of (drop l.entry-index l.entries))))
+    ≡ extended true l.fn.list (all_signed (chosen l.pool.pool.heard (places_of l.entries)))

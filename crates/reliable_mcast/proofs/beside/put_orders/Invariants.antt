@@ -9,4 +9,6 @@ use Rattle.reliable_mcast.proofs.beside.put_orders.Given as goal
 
 abbrev pub invariant-places : goal.invariant-places
 invariant-places l = (began : Process) → places_in began.delivered ≡ l.delivered
-    → extended true l.list (all_signed (flat_map (beside_order began l.pool.pool) (statements_at l.said.claims (drop l.place-index l.base)))) ≡ extended true l.fn.list (all_signed (flat_map (beside_order began l.pool.pool) (statements_at l.said.claims l.base)))
+    → extended true l.list (all_signed
+    (flat_map (beside_order began l.pool.pool) (statements_at l.said.claims (drop l.place-index l.base))))
+    ≡ extended true l.fn.list (all_signed (flat_map (beside_order began l.pool.pool) (statements_at l.said.claims l.base)))

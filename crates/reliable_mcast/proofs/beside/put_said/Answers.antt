@@ -16,8 +16,10 @@ put_claim-requires c = all-get IsClaim c.args.said.now.claims c.args.place (clai
 
 pub returns-in-Some : goal.returns-in-Some
 returns-in-Some c =
-    let one : all_signed (chosen c.args.said.now.claims (c.args.place ∷ [])) ≡ signed_of (claim c.in-Some.claim) ∷ [] = ap (λ (o : Option plain.Claim). all_signed (cons_option o [])) (sym c.in-Some.ensures) in
-    subst (λ (cs : List Signed). OnOk c.put_claim.result (c.put_claim.new.list ≡ extended false c.args.list.now cs)) (sym one) c.put_claim.ensures
+    let one : all_signed (chosen c.args.said.now.claims (c.args.place ∷ []))
+    ≡ signed_of (claim c.in-Some.claim) ∷ [] = ap (λ (o : Option plain.Claim). all_signed (cons_option o [])) (sym c.in-Some.ensures) in
+    subst (λ (cs : List Signed). OnOk c.put_claim.result (c.put_claim.new.list ≡ extended false c.args.list.now cs))
+    (sym one) c.put_claim.ensures
 
 pub returns-in-None : goal.returns-in-None
 returns-in-None c = ap (λ (o : Option plain.Claim). extended false c.args.list.now (all_signed (cons_option o []))) c.in-None.ensures

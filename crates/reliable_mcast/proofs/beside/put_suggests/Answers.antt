@@ -14,8 +14,13 @@ places-preserved c =
     let f = beside_suggest c.args.pool.now.pool in
     let p : ℕ = get_or c.args.base.now c.places.place-index 0 in
     let rest : List ℕ = drop (c.places.place-index + 1) c.args.base.now in
-    way-next true c.places.list c.put_suggest_at.new.list _ _ (all_signed (flat_map f (statements_at cs (p ∷ [])))) (all_signed (flat_map f (statements_at cs rest)))
-    (ap (λ ps. all_signed (flat_map f (statements_at cs ps))) (drop-number c.args.base.now c.places.place-index c.places-test.true) ∙ beside-next f cs p rest) c.places.invariant c.in_ok-put_suggest_at.ensures
+    way-next true c.places.list c.put_suggest_at.new.list _ _ (all_signed (flat_map f (statements_at cs (p ∷ []))))
+    (all_signed (flat_map f (statements_at cs rest)))
+    (ap (λ ps. all_signed (flat_map f (statements_at cs ps)))
+    (drop-number c.args.base.now c.places.place-index c.places-test.true) ∙ beside-next f cs p rest) c.places.invariant
+    c.in_ok-put_suggest_at.ensures
 
 pub returns : goal.returns
-returns c = way-end true c.places.list _ _ (ap (λ ps. all_signed (flat_map (beside_suggest c.args.pool.now.pool) (statements_at c.args.said.now.claims ps))) (drop-past c.args.base.now c.places.place-index c.places-test.false)) c.places.invariant
+returns c = way-end true c.places.list _ _
+    (ap (λ ps. all_signed (flat_map (beside_suggest c.args.pool.now.pool) (statements_at c.args.said.now.claims ps)))
+    (drop-past c.args.base.now c.places.place-index c.places-test.false)) c.places.invariant

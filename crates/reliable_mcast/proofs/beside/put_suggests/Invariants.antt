@@ -7,4 +7,6 @@ use Rattle.reliable_mcast.specs.Beside.{statements_at}
 use Rattle.reliable_mcast.proofs.beside.put_suggests.Given as goal
 
 abbrev pub invariant-places : goal.invariant-places
-invariant-places l = extended true l.list (all_signed (flat_map (beside_suggest l.pool.pool) (statements_at l.said.claims (drop l.place-index l.base)))) ≡ extended true l.fn.list (all_signed (flat_map (beside_suggest l.pool.pool) (statements_at l.said.claims l.base)))
+invariant-places l = extended true l.list
+    (all_signed (flat_map (beside_suggest l.pool.pool) (statements_at l.said.claims (drop l.place-index l.base))))
+    ≡ extended true l.fn.list (all_signed (flat_map (beside_suggest l.pool.pool) (statements_at l.said.claims l.base)))

@@ -12,6 +12,8 @@ members-preserved c =
     let h : Pool = c.args.pool.now.pool in
     let o : Option plain.Slot = slot c.args.kind c.args.about.now in
     let rest : List ℕ = take (c.args.count - (c.members._done + 1)) c.pop_first.new.self in
-    let next = take-next c.args.count c.members._done c.in-Some.member c.members.left c.pop_first.new.self c.members-test.true c.in-Some.ensures in
-    way-next c.args.once c.members.list c.put_said.new.list _ _ (all_signed (said_by h o (c.in-Some.member ∷ []))) (all_signed (said_by h o rest))
+    let next = take-next c.args.count c.members._done c.in-Some.member c.members.left c.pop_first.new.self c.members-test.true
+    c.in-Some.ensures in
+    way-next c.args.once c.members.list c.put_said.new.list _ _ (all_signed (said_by h o (c.in-Some.member ∷ [])))
+    (all_signed (said_by h o rest))
     (ap (λ ms. all_signed (said_by h o ms)) next ∙ said_by-next h o c.in-Some.member rest) c.members.invariant c.in_ok-put_said.ensures

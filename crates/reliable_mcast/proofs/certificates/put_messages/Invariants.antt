@@ -6,4 +6,6 @@ use Rattle.reliable_mcast.specs.Certificates.{all_signed}
 use Rattle.reliable_mcast.proofs.certificates.put_messages.Given as goal
 
 abbrev pub invariant-messages : goal.invariant-messages
-invariant-messages l = extended l.once l.list (all_signed (message_certificates l.pool.pool (map message_of (drop l.sender-index l.sender-items)))) ≡ extended l.once l.fn.list (all_signed (message_certificates l.pool.pool l.batch))
+invariant-messages l = extended l.once l.list
+    (all_signed (message_certificates l.pool.pool (map message_of (drop l.sender-index l.sender-items))))
+    ≡ extended l.once l.fn.list (all_signed (message_certificates l.pool.pool l.batch))

@@ -11,4 +11,5 @@ returns c =
     let h : Pool = c.args.pool.now.pool in
     let number : c.number-view.result ≡ h.view.number = c.number-view.ensures.value ∙ ap (λ (v : views.View). v.number) c.view.ensures in
     subst (λ (cs : List Signed). OnOk c.put_certificate-2.result (c.put_certificate-2.new.list ≡ cs))
-    (place-last h c.args.place c.number-view.result c.args.list.now c.put_certificate.new.list c.put_placed.new.list number c.in_ok-put_certificate.ensures c.in_ok-put_placed.ensures) c.put_certificate-2.ensures
+    (place-last h c.args.place c.number-view.result c.args.list.now c.put_certificate.new.list c.put_placed.new.list number
+    c.in_ok-put_certificate.ensures c.in_ok-put_placed.ensures) c.put_certificate-2.ensures

@@ -6,4 +6,6 @@ use Rattle.reliable_mcast.specs.Certificates.{all_signed}
 use Rattle.reliable_mcast.proofs.certificates.put_places.Given as goal
 
 abbrev pub invariant-places : goal.invariant-places
-invariant-places l = extended false l.list (all_signed (flat_map (place_certificates l.pool.pool) (range_with_len l.next (l.place + 8 - l.next)))) ≡ extended false l.fn.list (all_signed (flat_map (place_certificates l.pool.pool) (range_with_len l.place 8)))
+invariant-places l = extended false l.list
+    (all_signed (flat_map (place_certificates l.pool.pool) (range_with_len l.next (l.place + 8 - l.next))))
+    ≡ extended false l.fn.list (all_signed (flat_map (place_certificates l.pool.pool) (range_with_len l.place 8)))

@@ -6,7 +6,8 @@ use Rattle.reliable_mcast.proofs.frames.put_all.Goals as goal
 
 pub claims-preserved : goal.claims-preserved
 claims-preserved c =
-    way-next false c.claims.list c.put.new.self _ _ (lent_claim c.at.result ∷ []) (drop (c.claims.place + 1) c.args.other.now) (drop-get c.args.other.now c.claims.place (lent_claim c.at.result) c.at.ensures.claim) c.claims.invariant c.in_ok-put.ensures
+    way-next false c.claims.list c.put.new.self _ _ (lent_claim c.at.result ∷ []) (drop (c.claims.place + 1) c.args.other.now)
+    (drop-get c.args.other.now c.claims.place (lent_claim c.at.result) c.at.ensures.claim) c.claims.invariant c.in_ok-put.ensures
 
 pub returns : goal.returns
 returns c = way-end false c.claims.list _ _ (drop-past c.args.other.now c.claims.place (omega arith)) c.claims.invariant

@@ -5,6 +5,7 @@ use Rattle.reliable_mcast.proofs.list.is_listed.Given as goal
 
 abbrev pub invariant-claims : goal.invariant-claims
 invariant-claims l = record {
-  same : list_any (same_signed (lent_claim l.claim)) (listed_claims l.bytes l.listed) ≡ list_any (same_signed (lent_claim l.claim)) (listed_claims l.bytes (drop l.one-index l.listed));
+  same : list_any (same_signed (lent_claim l.claim)) (listed_claims l.bytes l.listed)
+      ≡ list_any (same_signed (lent_claim l.claim)) (listed_claims l.bytes (drop l.one-index l.listed));
   are : AreListed l.bytes (drop l.one-index l.listed);
 }

@@ -23,7 +23,13 @@ returns c = λ l keyed.
     record {
       process = keyed.process;
       seat = record {
-        is = subst P keyed.process (c.in_ok-core.ensures.starts s (record { group = refl; roster = sym (c.in_ok-roster.ensures ∙ c.requires.entries); genesis = sym c.genesis_of.ensures; kinds = refl }));
+        is = subst P keyed.process (c.in_ok-core.ensures.starts s
+            (record {
+              group = refl;
+              roster = sym (c.in_ok-roster.ensures ∙ c.requires.entries);
+              genesis = sym c.genesis_of.ensures;
+              kinds = refl;
+            }));
         total = ap total c.in_ok-core.ensures.signer ∙ keyed.signer.total;
         signs = ap signature c.in_ok-core.ensures.signer ∙ keyed.signer.signs;
       };

@@ -11,11 +11,15 @@ pub returns-in-Err-clause-none : goal.returns-in-Err-clause-none
 returns-in-Err-clause-none c = ap (λ f. claims_in (Hand 0 f)) (said-fault c.args.bytes.now _ c.in-Err.ensures.exact)
 
 pub returns-in-Err-claims_of-clause-none : goal.returns-in-Err-claims_of-clause-none
-returns-in-Err-claims_of-clause-none c = ap (λ f. claims_in (Hand 0 f)) (said-claims-fault c.args.bytes.now (frame_view c.in-Ok.frame) _ c.in-Ok.ensures.exact c.in-Err-claims_of.ensures.exact)
+returns-in-Err-claims_of-clause-none c = ap (λ f. claims_in (Hand 0 f))
+    (said-claims-fault c.args.bytes.now (frame_view c.in-Ok.frame) _ c.in-Ok.ensures.exact c.in-Err-claims_of.ensures.exact)
 
 pub returns-in-Want-clause-none : goal.returns-in-Want-clause-none
-returns-in-Want-clause-none c = want_none c.args.bytes.now c.in-Want.view c.in-Want.place (c.in-Ok.ensures.exact ∙ ap (λ f. Ok (frame_view f)) c.in-Want.is)
+returns-in-Want-clause-none c = want_none c.args.bytes.now c.in-Want.view c.in-Want.place
+    (c.in-Ok.ensures.exact ∙ ap (λ f. Ok (frame_view f)) c.in-Want.is)
 
 pub returns-in_default-clause-claims : goal.returns-in_default-clause-claims
 returns-in_default-clause-claims c =
-    ap (λ f. claims_in (Hand 0 f)) (said-claims c.args.bytes.now c.in-Ok.frame (claims_left c.in-Ok-claims_of.claims) c.in_default.not-Want c.in-Ok.ensures.exact c.in-Ok-claims_of.ensures.exact)
+    ap (λ f. claims_in (Hand 0 f))
+    (said-claims c.args.bytes.now c.in-Ok.frame
+    (claims_left c.in-Ok-claims_of.claims) c.in_default.not-Want c.in-Ok.ensures.exact c.in-Ok-claims_of.ensures.exact)

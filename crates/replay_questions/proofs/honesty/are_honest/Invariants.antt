@@ -9,4 +9,5 @@ use Rattle.replay_questions.specs.Owned.{is_owned}
 use Rattle.replay_questions.proofs.honesty.are_honest.Given as goal
 
 abbrev pub invariant-loop-bytes : goal.invariant-loop-bytes
-invariant-loop-bytes l = (h : Header) (v : plain.World) → Shows h l.world v → list_all (λ bytes. list_all (is_owned (family_of h v)) (claims_of bytes)) (take l.bytes-index l.raws) ≡ true
+invariant-loop-bytes l = (h : Header) (v : plain.World) → Shows h l.world v
+    → list_all (λ bytes. list_all (is_owned (family_of h v)) (claims_of bytes)) (take l.bytes-index l.raws) ≡ true

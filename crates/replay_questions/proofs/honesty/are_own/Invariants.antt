@@ -11,7 +11,8 @@ use Rattle.replay_questions.proofs.honesty.are_own.Given as goal
 
 abbrev pub invariant-claims : goal.invariant-claims
 invariant-claims l = record {
-  rest : (h : Header) (v : plain.World) → Shows h l.world v → list_all (is_owned (family_of h v)) (claims_left l.left) ≡ list_all (is_owned (family_of h v)) (claims_left l.fn.claims);
+  rest : (h : Header) (v : plain.World) → Shows h l.world v
+      → list_all (is_owned (family_of h v)) (claims_left l.left) ≡ list_all (is_owned (family_of h v)) (claims_left l.fn.claims);
   range : AllByRecursion IsClaim (claims_left l.left);
 }
 

@@ -26,5 +26,7 @@ returns-else-is_word c = λ h v shows.
     let x = claim_of c.args.claim.now in
     sym (not-not c.is_none.result) ∙ ap not (sym c.is_none.ensures)
     ∙ (sym (ap (λ b. b || not (is_some c.check.result)) c.if-is_word.false)
-    ∙ owned_same h w v x c.is_word.result (is_some c.check.result) c.requires shows (c.is_word.ensures ∙ ap (list_all (says_own x)) c.players.ensures)
-    (c.check.ensures.exactly ∙ (λ i. is_valid (as_setting (schemes.is_valid (scheme_in (c.scheme.ensures i))) (c.group.ensures i) (c.roster.ensures i)) x)))
+    ∙ owned_same h w v x c.is_word.result (is_some c.check.result) c.requires shows
+    (c.is_word.ensures ∙ ap (list_all (says_own x)) c.players.ensures)
+    (c.check.ensures.exactly ∙ (λ i. is_valid
+    (as_setting (schemes.is_valid (scheme_in (c.scheme.ensures i))) (c.group.ensures i) (c.roster.ensures i)) x)))

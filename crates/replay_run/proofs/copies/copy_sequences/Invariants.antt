@@ -3,4 +3,5 @@ use Rattle.accounts.specs.Views.{delivery}
 use Rattle.replay_run.proofs.copies.copy_sequences.Given as goal
 
 abbrev pub invariant-loop-delivered : goal.invariant-loop-delivered
-invariant-loop-delivered l = map (λ ds. map delivery ds.items) l.copies.items ≡ map (λ ds. map delivery ds.items) (take l.delivered-index l.all)
+invariant-loop-delivered l = map (λ ds. map delivery ds.items) l.copies.items
+    ≡ map (λ ds. map delivery ds.items) (take l.delivered-index l.all)

@@ -32,4 +32,7 @@ returns-clause-after c = λ fed midway. rw c.in_default.is at c.in_ok-event.ensu
 
 pub returns-clause-real : goal.returns-clause-real
 returns-clause-real c = ∥∥₁_map c.requires (λ some.
-    let after : (fed : List ℕ) × IsAfter c.next_event.new.reader c.events.run fed = (some.0, rw c.in_default.is at c.in_ok-event.ensures.gives c.events.run some.0 (c.events.invariant some.0 some.1)) in after)
+    let after : (fed : List ℕ) × IsAfter c.next_event.new.reader c.events.run fed = (
+      some.0,
+      rw c.in_default.is at c.in_ok-event.ensures.gives c.events.run some.0 (c.events.invariant some.0 some.1),
+    ) in after)

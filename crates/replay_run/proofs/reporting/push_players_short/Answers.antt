@@ -4,9 +4,14 @@ use Rattle.replay_run.proofs.reporting.push_players_short.Goals as goal
 
 pub loop-player-preserved : goal.loop-player-preserved
 loop-player-preserved c = λ s cs are.
-    let a = at_same_place s c.args.players.now cs c.loop-player.player-index c.player-item.result are c.loop-player-test.true c.player-item.is in
-    written_next (λ d. plain.process_line d.now) s cs c.loop-player.player-index c.player-item.result a c.loop-player.out.items _ _ (c.loop-player.invariant s cs are)
+    let a = at_same_place s c.args.players.now cs c.loop-player.player-index c.player-item.result are c.loop-player-test.true
+    c.player-item.is in
+    written_next (λ d. plain.process_line d.now) s cs c.loop-player.player-index c.player-item.result a c.loop-player.out.items _ _
+    (c.loop-player.invariant s cs are)
     (c.in_ok-push_player_short.ensures s a.at a.plays)
 
 pub returns : goal.returns
-returns c = λ s cs are. written_all (λ d. plain.process_line d.now) s c.args.players.now cs c.loop-player.player-index c.loop-player.out.items _ are c.loop-player-test.false (c.loop-player.invariant s cs are)
+returns c = λ s cs are. written_all
+    (λ d. plain.process_line d.now) s c.args.players.now cs c.loop-player.player-index c.loop-player.out.items _ are
+    c.loop-player-test.false
+    (c.loop-player.invariant s cs are)

@@ -8,4 +8,5 @@ use Rattle.replay_run.proofs.reporting.push_players_short.Given as goal
 
 abbrev pub invariant-loop-player : goal.invariant-loop-player
 invariant-loop-player l = (s : Setting) (cs : List worlds.Player) → ArePlayers s l.players cs
-    → l.out.items ++ flat_map (λ c. plain.process_line c.now) (drop l.player-index cs) ≡ l.fn.out.items ++ flat_map (λ c. plain.process_line c.now) cs
+    → l.out.items ++ flat_map (λ c. plain.process_line c.now) (drop l.player-index cs) ≡ l.fn.out.items
+    ++ flat_map (λ c. plain.process_line c.now) cs

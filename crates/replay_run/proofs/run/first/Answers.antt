@@ -8,4 +8,5 @@ use Rattle.replay_run.proofs.run.first.Goals as goal
 pub returns-in_ok-new-in-Some : goal.returns-in_ok-new-in-Some
 returns-in_ok-new-in-Some c =
     let w = c.in_ok-new-in-Some.field-0 in
-    subst (λ (o : Option Header). HasRun o [] (Runs w)) (sym c.in-Some.ensures) (first_world _ w c.in_ok-new-in-Some.ensures.shows c.in_ok-new-in-Some.ensures.count)
+    subst (λ (o : Option Header). HasRun o [] (Runs w)) (sym c.in-Some.ensures)
+    (first_world _ w c.in_ok-new-in-Some.ensures.shows c.in_ok-new-in-Some.ensures.count)

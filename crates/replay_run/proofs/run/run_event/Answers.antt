@@ -10,13 +10,15 @@ use Rattle.replay_run.proofs.run.run_event.Goals as goal
 pub returns-in-Ok : goal.returns-in-Ok
 returns-in-Ok c =
     let e = event c.args.event.now in
-    subst (λ (r : Run). RunsOn e r (Runs c.event.new.self)) (sym c.in-Runs.is) (happened c.in-Runs.world c.event.new.self e c.in-Ok.ensures.happens c.in-Ok.ensures.count)
+    subst (λ (r : Run). RunsOn e r (Runs c.event.new.self)) (sym c.in-Runs.is)
+    (happened c.in-Runs.world c.event.new.self e c.in-Ok.ensures.happens c.in-Ok.ensures.count)
 
 pub returns-in-Err : goal.returns-in-Err
 returns-in-Err c =
     let e = event c.args.event.now in
     IfOk-weaker c.stopped.result (IsStoppedBy c.in-Err.fault) (RunsOn e c.args.run) (λ now by.
-    subst (λ (r : Run). RunsOn e r now) (sym c.in-Runs.is) (stopped_at c.in-Runs.world e c.in-Err.fault now c.in-Err.ensures.stops by)) c.stopped.ensures
+    subst (λ (r : Run). RunsOn e r now) (sym c.in-Runs.is)
+    (stopped_at c.in-Runs.world e c.in-Err.fault now c.in-Err.ensures.stops by)) c.stopped.ensures
 
 pub returns-in-Stops : goal.returns-in-Stops
 returns-in-Stops c =

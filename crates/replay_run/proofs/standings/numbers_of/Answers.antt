@@ -9,4 +9,5 @@ loop-player-preserved c p =
     rw c.insert.ensures
     (has-put_once c.player-item.result.process c.loop-player.all p
     ∙ ap (λ (b : Bool). eqb c.player-item.result.process p || b) (c.loop-player.invariant p)
-    ∙ sym (list_any-next process_of (λ q. eqb q p) c.args.players.now c.loop-player.player-index c.player-item.result c.loop-player-test.true c.player-item.is))
+    ∙ sym (list_any-next process_of
+    (λ q. eqb q p) c.args.players.now c.loop-player.player-index c.player-item.result c.loop-player-test.true c.player-item.is))

@@ -5,4 +5,5 @@ use Rattle.accounts.specs.Views.{delivery}
 use Rattle.report_lines.proofs.histories.push_deliveries.Given as goal
 
 abbrev pub invariant-loop-x : goal.invariant-loop-x
-invariant-loop-x l = l.out.items ≡ l.fn.out.items ++ flat_map (message_lines l.me) (enumerate_from 0 (map (λ ds. map delivery ds.items) (take l.x l.delivered)))
+invariant-loop-x l = l.out.items ≡ l.fn.out.items
+    ++ flat_map (message_lines l.me) (enumerate_from 0 (map (λ ds. map delivery ds.items) (take l.x l.delivered)))

@@ -5,4 +5,5 @@ use Rattle.rp_base.specs.PidsLeft.{pids_left}
 use Rattle.report_lines.proofs.processes.push_liars.Given as goal
 
 abbrev pub invariant-loop-liar : goal.invariant-loop-liar
-invariant-loop-liar l = l.out.items ++ flat_map (liar_line l.me) (pids_left l.liar-iterator) ≡ l.fn.out.items ++ flat_map (liar_line l.me) l.fn.liars
+invariant-loop-liar l = l.out.items ++ flat_map (liar_line l.me) (pids_left l.liar-iterator) ≡ l.fn.out.items
+    ++ flat_map (liar_line l.me) l.fn.liars

@@ -10,6 +10,7 @@ returns-in_err-n-clause-part g c =
 
 pub pieces-preserved : goal.pieces-preserved
 pieces-preserved g c = record {
-  written = written_more _ (g.K.Sink.written c.pieces.output) _ _ c.pieces.rest.now _ c.in_ok-n.n c.pieces.invariant.written c.in_ok-n.ensures.bytes c.split_at.ensures.back;
+  written = written_more _ (g.K.Sink.written c.pieces.output) _ _ c.pieces.rest.now _ c.in_ok-n.n c.pieces.invariant.written
+      c.in_ok-n.ensures.bytes c.split_at.ensures.back;
   steady = c.in_ok-n.ensures.cause.steady ∙ c.pieces.invariant.steady;
 }

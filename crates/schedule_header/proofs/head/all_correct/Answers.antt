@@ -8,8 +8,10 @@ use Rattle.schedule_header.proofs.head.all_correct.Goals.{then-not-listed, else-
 pub loop-listed-preserved : goal.loop-listed-preserved
 loop-listed-preserved c p =
     let before = c.loop-listed.invariant p in
-    rw (list_any-next listed (λ l. (eqb l.process p) && not l.corrupt) c.args.processes.now c.loop-listed.listed-index c.listed-item.result c.loop-listed-test.true c.listed-item.is)
+    rw (list_any-next listed (λ l. (eqb l.process p)
+    && not l.corrupt) c.args.processes.now c.loop-listed.listed-index c.listed-item.result c.loop-listed-test.true c.listed-item.is)
     (elim c.if-not-listed.branch [
-      | then-not-listed w ↦ rw (w.correct-is, w.insert.ensures, w.if-not-listed.true) (has-put_once c.listed-item.result.process c.loop-listed.correct p ∙ takes_correct _ _ _ before)
+      | then-not-listed w ↦ rw (w.correct-is, w.insert.ensures, w.if-not-listed.true)
+          (has-put_once c.listed-item.result.process c.loop-listed.correct p ∙ takes_correct _ _ _ before)
       | else-not-listed w ↦ rw (w.correct-is, w.if-not-listed.false) (passes_corrupt (eqb c.listed-item.result.process p) _ _ before)
     ])

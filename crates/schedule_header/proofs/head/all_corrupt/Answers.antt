@@ -8,8 +8,10 @@ use Rattle.schedule_header.proofs.head.all_corrupt.Goals.{then-listed, else-list
 pub loop-listed-preserved : goal.loop-listed-preserved
 loop-listed-preserved c p =
     let before = c.loop-listed.invariant p in
-    rw (list_any-next listed (λ l. (eqb l.process p) && l.corrupt) c.args.processes.now c.loop-listed.listed-index c.listed-item.result c.loop-listed-test.true c.listed-item.is)
+    rw (list_any-next listed (λ l. (eqb l.process p)
+    && l.corrupt) c.args.processes.now c.loop-listed.listed-index c.listed-item.result c.loop-listed-test.true c.listed-item.is)
     (elim c.if-listed.branch [
-      | then-listed w ↦ rw (w.corrupt-is, w.insert.ensures, w.if-listed.true) (has-put_once c.listed-item.result.process c.loop-listed.corrupt p ∙ takes_correct _ _ _ before)
+      | then-listed w ↦ rw (w.corrupt-is, w.insert.ensures, w.if-listed.true)
+          (has-put_once c.listed-item.result.process c.loop-listed.corrupt p ∙ takes_correct _ _ _ before)
       | else-listed w ↦ rw (w.corrupt-is, w.if-listed.false) (passes_corrupt (eqb c.listed-item.result.process p) _ _ before)
     ])

@@ -6,6 +6,7 @@ use Rattle.schedule_header.proofs.head.read_all_listed.Given as goal
 
 abbrev pub invariant-processes : goal.invariant-processes
 invariant-processes l = record {
-  so_far : from_here (map listed l.processes.items) (all_listed_at (l.count - l.counter) l.scheme l.least l.reader.rest.now) ≡ all_listed_at l.count l.scheme 0 l.fn.reader.rest.now;
+  so_far : from_here (map listed l.processes.items) (all_listed_at (l.count - l.counter) l.scheme l.least l.reader.rest.now)
+      ≡ all_listed_at l.count l.scheme 0 l.fn.reader.rest.now;
   size : length l.processes.items ≡ l.counter;
 }

@@ -7,7 +7,8 @@ use Rattle.schedule_laws.proofs.Turns.{behind_events, all_from}
 use Rattle.schedule_reading.proofs.reading.read_events.Given as goal
 
 abbrev pub invariant-events : goal.invariant-events
-invariant-events l = behind_events (map event l.events.items) (all_from (roles l.of) l.left l.reader.rest.now) ≡ events_at (roles l.of) (length l.fn.reader.rest.now) most_steps l.fn.reader.rest.now
+invariant-events l = behind_events (map event l.events.items) (all_from (roles l.of) l.left l.reader.rest.now)
+    ≡ events_at (roles l.of) (length l.fn.reader.rest.now) most_steps l.fn.reader.rest.now
 
 abbrev pub decreases-events : goal.decreases-events
 decreases-events l = length l.reader.rest.now

@@ -8,4 +8,5 @@ use Rattle.sig_scheme.proofs.making.hss_bytes.Goals as goal
 pub copy_from_slice-requires : goal.copy_from_slice-requires
 copy_from_slice-requires c =
     let plan = c.args.key.now.plan in
-    sym (ap length c.public.ensures ∙ length-append (u32str plan.levels) (tree_key (secret plan) 0 0) ∙ ap (λ n. 4 + n) (length-tree_key (secret plan) 0 0 plan.sized))
+    sym (ap length c.public.ensures ∙ length-append (u32str plan.levels) (tree_key (secret plan) 0 0) ∙ ap (λ n. 4 + n)
+    (length-tree_key (secret plan) 0 0 plan.sized))

@@ -9,7 +9,8 @@ use Rattle.slot_quorums.proofs.cell.others_of.Given as goal
 
 abbrev pub invariant-members : goal.invariant-members
 invariant-members l = record {
-  set : l.backers ≡ sorted by_number (filter (λ m. speaks_otherwise l.fn.cell m && defs.says l.fn.claims.pool (stmt l.fn.statement) m) (drop l.left l.members));
+  set : l.backers ≡ sorted by_number
+      (filter (λ m. speaks_otherwise l.fn.cell m && defs.says l.fn.claims.pool (stmt l.fn.statement) m) (drop l.left l.members));
   within : l.left ≤ length l.members;
 }
 

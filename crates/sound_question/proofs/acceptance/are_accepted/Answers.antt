@@ -10,5 +10,6 @@ use Rattle.sound_question.proofs.acceptance.are_accepted.Goals as goal
 
 pub returns : goal.returns
 returns c =
-    all_from_yields_List (λ (a : Account). is_accepted (group_of (map account c.args.accounts.now)) (account a)) _ _ _ c.all.ensures.ran (YieldsList-from_slice c.args.accounts.now cc) (λ x b q k. search (rules, tests))
+    all_from_yields_List (λ (a : Account). is_accepted (group_of (map account c.args.accounts.now)) (account a)) _ _ _ c.all.ensures.ran
+    (YieldsList-from_slice c.args.accounts.now cc) (λ x b q k. search (rules, tests))
     ∙ sym (list_all-map (is_accepted (group_of (map account c.args.accounts.now))) account c.args.accounts.now)

@@ -15,10 +15,12 @@ returns-in-None c =
     let x = c.loop-x.x in
     let n = length c.longest_views-views.result.now in
     let accepted = c.args.a.now.accepted.items in
-    λ p. no-further (payloads_of me (flat_map g.sequence (range_with_len 0 x))) (payloads_of me (g.sequence x)) (payloads_of me (flat_map g.sequence (range_with_len (x + 1) (n - x - 1)))) c.loop-x.left.now accepted c.loop-x.invariant
+    λ p. no-further (payloads_of me (flat_map g.sequence (range_with_len 0 x))) (payloads_of me (g.sequence x))
+    (payloads_of me (flat_map g.sequence (range_with_len (x + 1) (n - x - 1)))) c.loop-x.left.now accepted c.loop-x.invariant
     (λ q. c.in-None.ensures (subst (λ (ls : List Letter). IsPrefixOf (payloads_of me ls) c.loop-x.left.now) (sym c.sequence_in.ensures) q))
     (subst (λ (ps : List (List ℕ)). IsPrefixOf ps accepted)
-    (ap (λ (n : ℕ). payloads_of me (flat_map g.sequence (range_with_len 0 n))) (ap length (sym c.longest_views-views.ensures)) ∙ history-split me g.sequence x n c.loop-x-test.true) p)
+    (ap (λ (n : ℕ). payloads_of me (flat_map g.sequence (range_with_len 0 n)))
+    (ap length (sym c.longest_views-views.ensures)) ∙ history-split me g.sequence x n c.loop-x-test.true) p)
 
 pub loop-x-preserved : goal.loop-x-preserved
 loop-x-preserved c =
@@ -27,5 +29,6 @@ loop-x-preserved c =
     let x = c.loop-x.x in
     let rest = c.in-Some.rest.now in
     ap (λ (ps : List (List ℕ)). ps ++ rest) (history-more me g.sequence x)
-    ∙ further (payloads_of me (flat_map g.sequence (range_with_len 0 x))) (payloads_of me (g.sequence x)) c.loop-x.left.now rest c.args.a.now.accepted.items c.loop-x.invariant
+    ∙ further (payloads_of me (flat_map g.sequence (range_with_len 0 x)))
+    (payloads_of me (g.sequence x)) c.loop-x.left.now rest c.args.a.now.accepted.items c.loop-x.invariant
     (ap (λ (ls : List Letter). payloads_of me ls ++ rest) (sym c.sequence_in.ensures) ∙ c.in-Some.ensures)

@@ -7,4 +7,5 @@ use Rattle.sound_question.specs.Parts.{payloads_of}
 use Rattle.sound_question.proofs.acceptance.behind_history.Given as goal
 
 abbrev pub invariant-loop-x : goal.invariant-loop-x
-invariant-loop-x l = payloads_of l.a.me (flat_map (group_of (map account l.accounts)).sequence (range_with_len 0 l.x)) ++ l.left ≡ l.a.accepted.items
+invariant-loop-x l = payloads_of l.a.me (flat_map (group_of (map account l.accounts)).sequence (range_with_len 0 l.x))
+    ++ l.left ≡ l.a.accepted.items

@@ -8,4 +8,6 @@ use Rattle.sound_question.proofs.acceptance.is_accepted.Goals as goal
 pub returns : goal.returns
 returns c =
     c.is_some.ensures
-    ∙ is-front (λ (rest : Bor (List (List ℕ))). rest.now) (payloads_of c.args.a.now.me (history (group_of (map account c.args.accounts.now)))) c.args.a.now.accepted.items c.behind_history.result c.behind_history.ensures
+    ∙ is-front (λ (rest : Bor (List (List ℕ))). rest.now)
+    (payloads_of c.args.a.now.me (history
+    (group_of (map account c.args.accounts.now)))) c.args.a.now.accepted.items c.behind_history.result c.behind_history.ensures

@@ -9,5 +9,8 @@ use Rattle.sound_question.proofs.order.are_in_order.Goals as goal
 
 pub returns : goal.returns
 returns c =
-    all_from_yields_List (is_sound_in (group_of (map account c.args.accounts.now))) _ _ _ c.all.ensures.ran (YieldsList-from_range 0 (length c.longest_views-views.result.now) (length c.longest_views-views.result.now) refl (omega arith)) (λ x b q k. search (rules, tests))
-    ∙ ap (λ (n : ℕ). list_all (is_sound_in (group_of (map account c.args.accounts.now))) (range_with_len 0 n)) (ap length c.longest_views-views.ensures)
+    all_from_yields_List (is_sound_in (group_of (map account c.args.accounts.now))) _ _ _ c.all.ensures.ran
+    (YieldsList-from_range 0 (length c.longest_views-views.result.now) (length c.longest_views-views.result.now) refl (omega arith))
+    (λ x b q k. search (rules, tests))
+    ∙ ap (λ (n : ℕ). list_all (is_sound_in (group_of (map account c.args.accounts.now))) (range_with_len 0 n))
+    (ap length c.longest_views-views.ensures)

@@ -4,4 +4,5 @@ use Rattle.sound_question.specs.Parts.{front}
 use Rattle.sound_question.proofs.places.is_front.Given as goal
 
 abbrev pub invariant-loop-d : goal.invariant-loop-d
-invariant-loop-d l = front l.places (map delivery (drop l.d-index l.own)) (map delivery l.rest) ≡ front 0 (map delivery l.own) (map delivery l.all)
+invariant-loop-d l = front l.places (map delivery (drop l.d-index l.own)) (map delivery l.rest)
+    ≡ front 0 (map delivery l.own) (map delivery l.all)

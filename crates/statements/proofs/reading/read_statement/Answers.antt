@@ -12,4 +12,5 @@ pub returns-clause-found : goal.returns-clause-found
 returns-clause-found c = is_found c.args.bytes.now c.read_any.result (λ i. omega (arith, c.type_inv.bytes i)) c.read_any.ensures
 
 pub returns-clause-only : goal.returns-clause-only
-returns-clause-only c = λ st fits e. subst (λ (read : Result plain.Statement FrameFault). Gives stmt c.read_any.result read) (ap statement_of e ∙ spelling_again st fits) c.read_any.ensures
+returns-clause-only c = λ st fits e. subst (λ (read : Result plain.Statement FrameFault). Gives stmt c.read_any.result read)
+    (ap statement_of e ∙ spelling_again st fits) c.read_any.ensures

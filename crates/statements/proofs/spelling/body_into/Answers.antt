@@ -10,4 +10,5 @@ behind k n front out text len e =
 pub returns-clause-body : goal.returns-clause-body
 returns-clause-body c =
     let len : length c.head_into.new.out ≡ 21 = omega arith in
-    behind 21 c.spell_into.result c.head_into.new.out c.spell_into.new.out _ len c.spell_into.ensures.spelled ∙ rw c.head_into.ensures (ap (λ (t : List ℕ). 82 ∷ 80 ∷ 66 ∷ 49 ∷ t) (append_assoc c.args.group.now (c.args.signer ∷ []) _))
+    behind 21 c.spell_into.result c.head_into.new.out c.spell_into.new.out _ len c.spell_into.ensures.spelled ∙ rw c.head_into.ensures
+    (ap (λ (t : List ℕ). 82 ∷ 80 ∷ 66 ∷ 49 ∷ t) (append_assoc c.args.group.now (c.args.signer ∷ []) _))

@@ -8,4 +8,5 @@ pub returns-in-Ok : goal.returns-in-Ok
 returns-in-Ok c = ap (told c.args.x) (spelled_again c.args.word.now c.in-Ok.found.items c.in-Ok.ensures.read)
 
 pub returns-in-Err-NoBytes : goal.returns-in-Err-NoBytes
-returns-in-Err-NoBytes c = ap (told c.args.x) (not_read c.args.word.now c.byte_list.result _ c.byte_list.ensures.none c.in-Err-NoBytes.is c.in-Err-NoBytes.field-0-is)
+returns-in-Err-NoBytes c = ap (told c.args.x)
+    (not_read c.args.word.now c.byte_list.result _ c.byte_list.ensures.none c.in-Err-NoBytes.is c.in-Err-NoBytes.field-0-is)

@@ -10,6 +10,9 @@ use Rattle.story_trace.proofs.events.push_cast.Goals as goal
 pub returns : goal.returns
 returns c =
     let h = c.args.header.now in
-    more_of line_text (map role_line (map listed h.processes.items)) (genesis_line h.genesis.items ∷ []) c.args.out.now.items c.push_roles.new.out.items c.push_genesis.new.out.items
-    (c.in_ok-push_roles.ensures ∙ ap (λ (ls : List Listed). c.args.out.now.items ++ flat_map line_text (map role_line (map listed ls))) c.deref.ensures.value)
-    (c.in_ok-push_genesis.ensures ∙ ap (λ (ms : List ℕ). c.push_roles.new.out.items ++ flat_map line_text (genesis_line ms ∷ [])) c.as_slice.ensures.value)
+    more_of line_text (map role_line (map listed h.processes.items))
+    (genesis_line h.genesis.items ∷ []) c.args.out.now.items c.push_roles.new.out.items c.push_genesis.new.out.items
+    (c.in_ok-push_roles.ensures ∙ ap
+    (λ (ls : List Listed). c.args.out.now.items ++ flat_map line_text (map role_line (map listed ls))) c.deref.ensures.value)
+    (c.in_ok-push_genesis.ensures ∙ ap
+    (λ (ms : List ℕ). c.push_roles.new.out.items ++ flat_map line_text (genesis_line ms ∷ [])) c.as_slice.ensures.value)

@@ -9,5 +9,6 @@ use Rattle.story_trace.proofs.events.push_genesis.Goals as goal
 pub returns : goal.returns
 returns c =
     single line_text (genesis_line c.args.members.now) c.args.out.now.items c.end_line.new.out.items
-    (with_tail (codes "view 0:") [] (map decimal c.args.members.now) c.args.out.now.items c.push_word.new.out.items c.push_members.new.out.items c.end_line.new.out.items
+    (with_tail (codes "view 0:") []
+    (map decimal c.args.members.now) c.args.out.now.items c.push_word.new.out.items c.push_members.new.out.items c.end_line.new.out.items
     c.in_ok-push_word.ensures c.in_ok-push_members.ensures c.in_ok-end_line.ensures)

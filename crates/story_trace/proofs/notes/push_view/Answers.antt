@@ -8,4 +8,5 @@ use Rattle.story_trace.proofs.notes.push_view.Goals as goal
 pub returns : goal.returns
 returns c =
     c.in_ok-said_with_members.ensures
-    ∙ ap (λ (n : ℕ). c.args.out.now.items ++ line_text (of_process c.args.at (codes "installs view" ∷ number_and_colon n ∷ map decimal c.args.members.now))) c.into.ensures
+    ∙ ap (λ (n : ℕ). c.args.out.now.items
+    ++ line_text (of_process c.args.at (codes "installs view" ∷ number_and_colon n ∷ map decimal c.args.members.now))) c.into.ensures

@@ -14,8 +14,11 @@ pub returns : goal.returns
 returns c =
     let head : List (List ℕ) = decimal c.args.at ∷ codes "refuses" ∷ [] in
     let what : List (List ℕ) = handed_words (handed c.args.handed) in
-    let reason : List (List ℕ) = codes "as" ∷ refusal_word (fault c.args.fault) ∷ codes "since" ∷ refusal_reason (fault c.args.fault) ∷ [] in
+    let reason : List (List ℕ) = codes "as" ∷ refusal_word (fault c.args.fault) ∷ codes "since" ∷ refusal_reason (fault c.args.fault)
+    ∷ [] in
     single line_text (refusal_line c.args.at what (fault c.args.fault)) c.args.out.now.items c.end_line.new.out.items
-    (with_tail (codes " ") (head ++ what) reason c.args.out.now.items c.push_handed.new.out.items c.push_reason.new.out.items c.end_line.new.out.items
-    (more_words (codes " ") head what c.args.out.now.items c.begin_said.new.out.items c.push_handed.new.out.items c.in_ok-begin_said.ensures c.in_ok-push_handed.ensures)
+    (with_tail (codes " ") (head ++ what) reason c.args.out.now.items c.push_handed.new.out.items c.push_reason.new.out.items
+    c.end_line.new.out.items
+    (more_words (codes " ") head what c.args.out.now.items c.begin_said.new.out.items c.push_handed.new.out.items c.in_ok-begin_said.ensures
+    c.in_ok-push_handed.ensures)
     c.in_ok-push_reason.ensures c.in_ok-end_line.ensures)

@@ -6,4 +6,5 @@ use Rattle.story_trace.specs.Told.{happening}
 use Rattle.story_trace.proofs.steps.push_all.Given as goal
 
 abbrev pub invariant-loop-happening : goal.invariant-loop-happening
-invariant-loop-happening l = l.out.items ≡ l.fn.out.items ++ flat_map (λ x. flat_map line_text (lines_of x)) (map happening (take l.happening-index l.told))
+invariant-loop-happening l = l.out.items ≡ l.fn.out.items
+    ++ flat_map (λ x. flat_map line_text (lines_of x)) (map happening (take l.happening-index l.told))

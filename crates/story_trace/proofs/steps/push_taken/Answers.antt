@@ -16,10 +16,14 @@ returns c =
     let p = c.args.at in
     let o = c.args.outcome.now in
     let sent = enumerate_from c.args.first (map frame_to o.sends.items) in
-    three_of line_text (map (signed_line p) (map signed o.signed.items)) (map (note_line p) (map note o.notes.items)) (map (sent_line p) sent)
+    three_of line_text (map (signed_line p) (map signed o.signed.items)) (map (note_line p) (map note o.notes.items))
+    (map (sent_line p) sent)
     c.args.out.now.items c.push_all_signed.new.out.items c.push_notes.new.out.items c.push_sends.new.out.items
-    (c.in_ok-push_all_signed.ensures ∙ ap (λ (xs : List OwnClaim). c.args.out.now.items ++ flat_map line_text (map (signed_line p) (map signed xs))) c.deref.ensures.value)
-    (c.in_ok-push_notes.ensures ∙ ap (λ (xs : List Note). c.push_all_signed.new.out.items ++ flat_map line_text (map (note_line p) (map note xs))) c.deref-2.ensures.value)
+    (c.in_ok-push_all_signed.ensures ∙ ap
+    (λ (xs : List OwnClaim). c.args.out.now.items ++ flat_map line_text (map (signed_line p) (map signed xs))) c.deref.ensures.value)
+    (c.in_ok-push_notes.ensures ∙ ap
+    (λ (xs : List Note). c.push_all_signed.new.out.items ++ flat_map line_text (map (note_line p) (map note xs))) c.deref-2.ensures.value)
     (c.in_ok-push_sends.ensures
-    ∙ ap (λ (xs : List Sending). c.push_notes.new.out.items ++ flat_map (λ e. line_text (sent_line p e)) (enumerate_from c.args.first (map frame_to xs))) c.deref-3.ensures.value
+    ∙ ap (λ (xs : List Sending). c.push_notes.new.out.items
+    ++ flat_map (λ e. line_text (sent_line p e)) (enumerate_from c.args.first (map frame_to xs))) c.deref-3.ensures.value
     ∙ ap (λ (t : List ℕ). c.push_notes.new.out.items ++ t) (sym (flat_map-map line_text (sent_line p) sent)))

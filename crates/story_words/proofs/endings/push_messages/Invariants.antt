@@ -6,4 +6,5 @@ use Rattle.trace_defs.specs.Phrases.{message_word}
 use Rattle.story_words.proofs.endings.push_messages.Given as goal
 
 abbrev pub invariant-loop-sender : goal.invariant-loop-sender
-invariant-loop-sender l = l.out.items ≡ l.fn.out.items ++ flat_map (λ w. space ∷ w) (map message_word (map message_of (take l.sender-index l.messages)))
+invariant-loop-sender l = l.out.items ≡ l.fn.out.items
+    ++ flat_map (λ w. space ∷ w) (map message_word (map message_of (take l.sender-index l.messages)))

@@ -8,7 +8,9 @@ use Rattle.story_words.proofs.lines.said_with_batch.Goals as goal
 
 pub returns : goal.returns
 returns c =
-    with_tail (codes " ") (decimal c.args.at ∷ map spelled c.args.words.now) (map message_word c.args.batch.now) c.args.out.now.items c.begin_said.new.out.items c.push_messages.new.out.items
+    with_tail (codes " ") (decimal c.args.at ∷ map spelled c.args.words.now)
+    (map message_word c.args.batch.now) c.args.out.now.items c.begin_said.new.out.items c.push_messages.new.out.items
     c.end_line.new.out.items c.in_ok-begin_said.ensures
-    (c.in_ok-push_messages.ensures ∙ ap (λ (ms : List Message). c.begin_said.new.out.items ++ after_spaces (map message_word ms)) c.messages.ensures.list)
+    (c.in_ok-push_messages.ensures ∙ ap
+    (λ (ms : List Message). c.begin_said.new.out.items ++ after_spaces (map message_word ms)) c.messages.ensures.list)
     c.in_ok-end_line.ensures

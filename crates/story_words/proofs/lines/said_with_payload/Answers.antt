@@ -7,5 +7,7 @@ use Rattle.story_words.proofs.lines.said_with_payload.Goals as goal
 
 pub returns : goal.returns
 returns c =
-    with_tail (codes " ") (decimal c.args.at ∷ map spelled c.args.words.now) (payload_words c.args.payload.now) c.args.out.now.items c.begin_said.new.out.items c.push_payload.new.out.items c.end_line.new.out.items
+    with_tail (codes " ") (decimal c.args.at ∷ map spelled c.args.words.now)
+    (payload_words c.args.payload.now) c.args.out.now.items c.begin_said.new.out.items c.push_payload.new.out.items
+    c.end_line.new.out.items
     c.in_ok-begin_said.ensures c.in_ok-push_payload.ensures c.in_ok-end_line.ensures

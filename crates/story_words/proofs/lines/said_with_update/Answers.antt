@@ -8,5 +8,7 @@ use Rattle.story_words.proofs.lines.said_with_update.Goals as goal
 
 pub returns : goal.returns
 returns c =
-    with_tail (codes " ") (decimal c.args.at ∷ map spelled c.args.words.now) (update_words (update c.args.update)) c.args.out.now.items c.begin_said.new.out.items c.push_update.new.out.items c.end_line.new.out.items
+    with_tail (codes " ") (decimal c.args.at ∷ map spelled c.args.words.now)
+    (update_words (update c.args.update)) c.args.out.now.items c.begin_said.new.out.items c.push_update.new.out.items
+    c.end_line.new.out.items
     c.in_ok-begin_said.ensures c.in_ok-push_update.ensures c.in_ok-end_line.ensures

@@ -13,12 +13,35 @@ pooled v hs = record { view = v; heard = hs }
 
 pub invariant_of-self : goal.invariant_of-self
 invariant_of-self c =
-    let fresh : defs.claim_on (heard_in c.self.inside.bytes.items c.self.inside.kept.entries) c.args.claim.now.signer (plain.slot_of (stmt c.args.claim.now.statement)) ≡ None = ap (λ (r : Holding). defs.claim_on r.pool.heard c.args.claim.now.signer (plain.slot_of (stmt c.args.claim.now.statement))) c.self.view_is ∙ c.requires.fresh in
-    rw (c.store_spelled-kept.ensures.items, c.in-Ok.ensures.entries, c.new-key.ensures, c.requires.slot, c.requires.spelled.0) (record { kept = all_kept c.self.inside.bytes.items (claim c.args.claim.now) c.store_spelled-kept.result c.store_spelled-kept.ensures.start (c.store_spelled-kept.ensures.said ∙ ap length c.requires.spelled.0) c.store_spelled-kept.ensures.signed c.self.inside.kept c.self.invariant.kept c.requires.range fresh; filled = all_filled c.self.inside.bytes.items (claim c.args.claim.now) c.store_spelled-kept.result c.store_spelled-kept.ensures.start (c.store_spelled-kept.ensures.said ∙ ap length c.requires.spelled.0) c.store_spelled-kept.ensures.signed c.self.inside.kept c.self.invariant.kept c.requires.range fresh c.self.invariant.filled; noted = all_noted c.self.inside.bytes.items (claim c.args.claim.now) c.store_spelled-kept.result c.store_spelled-kept.ensures.start (c.store_spelled-kept.ensures.said ∙ ap length c.requires.spelled.0) c.store_spelled-kept.ensures.signed c.self.inside.kept c.self.invariant.kept c.requires.range fresh c.self.inside.kinds c.kind.result c.kind.ensures c.self.told c.self.invariant.noted })
+    let fresh : defs.claim_on (heard_in c.self.inside.bytes.items c.self.inside.kept.entries) c.args.claim.now.signer
+    (plain.slot_of (stmt c.args.claim.now.statement))
+    ≡ None = ap (λ (r : Holding). defs.claim_on r.pool.heard c.args.claim.now.signer
+    (plain.slot_of (stmt c.args.claim.now.statement))) c.self.view_is ∙ c.requires.fresh in
+    rw (c.store_spelled-kept.ensures.items, c.in-Ok.ensures.entries, c.new-key.ensures, c.requires.slot, c.requires.spelled.0)
+    (record {
+      kept = all_kept c.self.inside.bytes.items
+          (claim c.args.claim.now) c.store_spelled-kept.result c.store_spelled-kept.ensures.start
+          (c.store_spelled-kept.ensures.said ∙ ap length c.requires.spelled.0) c.store_spelled-kept.ensures.signed c.self.inside.kept
+          c.self.invariant.kept c.requires.range fresh;
+      filled = all_filled c.self.inside.bytes.items (claim c.args.claim.now) c.store_spelled-kept.result c.store_spelled-kept.ensures.start
+          (c.store_spelled-kept.ensures.said ∙ ap length c.requires.spelled.0) c.store_spelled-kept.ensures.signed c.self.inside.kept
+          c.self.invariant.kept c.requires.range fresh c.self.invariant.filled;
+      noted = all_noted c.self.inside.bytes.items (claim c.args.claim.now) c.store_spelled-kept.result c.store_spelled-kept.ensures.start
+          (c.store_spelled-kept.ensures.said ∙ ap length c.requires.spelled.0) c.store_spelled-kept.ensures.signed c.self.inside.kept
+          c.self.invariant.kept c.requires.range fresh c.self.inside.kinds c.kind.result c.kind.ensures c.self.told c.self.invariant.noted;
+    })
 
 pub returns-clause-heard : goal.returns-clause-heard
 returns-clause-heard c =
-    let fresh : defs.claim_on (heard_in c.self.inside.bytes.items c.self.inside.kept.entries) c.args.claim.now.signer (plain.slot_of (stmt c.args.claim.now.statement)) ≡ None = ap (λ (r : Holding). defs.claim_on r.pool.heard c.args.claim.now.signer (plain.slot_of (stmt c.args.claim.now.statement))) c.self.view_is ∙ c.requires.fresh in
-    let heard : heard_in c.store_spelled-kept.new.bytes.items c.insert.new.self.entries ≡ heard_in c.self.inside.bytes.items c.self.inside.kept.entries ++ claim c.args.claim.now ∷ [] =
-    rw (c.store_spelled-kept.ensures.items, c.in-Ok.ensures.entries, c.new-key.ensures, c.requires.slot, c.requires.spelled.0) (all_heard c.self.inside.bytes.items (claim c.args.claim.now) c.store_spelled-kept.result c.store_spelled-kept.ensures.start (c.store_spelled-kept.ensures.said ∙ ap length c.requires.spelled.0) c.store_spelled-kept.ensures.signed c.self.inside.kept c.self.invariant.kept c.requires.range fresh) in
-    ap (λ (hs : List plain.Claim). pooled c.self.inside.view hs) heard ∙ ap (λ (r : Holding). with_heard r.pool (claim c.args.claim.now)) c.self.view_is
+    let fresh : defs.claim_on (heard_in c.self.inside.bytes.items c.self.inside.kept.entries) c.args.claim.now.signer
+    (plain.slot_of (stmt c.args.claim.now.statement))
+    ≡ None = ap (λ (r : Holding). defs.claim_on r.pool.heard c.args.claim.now.signer
+    (plain.slot_of (stmt c.args.claim.now.statement))) c.self.view_is ∙ c.requires.fresh in
+    let heard : heard_in c.store_spelled-kept.new.bytes.items c.insert.new.self.entries
+    ≡ heard_in c.self.inside.bytes.items c.self.inside.kept.entries ++ claim c.args.claim.now ∷ [] =
+    rw (c.store_spelled-kept.ensures.items, c.in-Ok.ensures.entries, c.new-key.ensures, c.requires.slot, c.requires.spelled.0)
+    (all_heard c.self.inside.bytes.items (claim c.args.claim.now) c.store_spelled-kept.result c.store_spelled-kept.ensures.start
+    (c.store_spelled-kept.ensures.said ∙ ap length c.requires.spelled.0) c.store_spelled-kept.ensures.signed c.self.inside.kept
+    c.self.invariant.kept c.requires.range fresh) in
+    ap (λ (hs : List plain.Claim). pooled c.self.inside.view hs) heard ∙ ap
+    (λ (r : Holding). with_heard r.pool (claim c.args.claim.now)) c.self.view_is

@@ -12,8 +12,10 @@ use Rattle.claim_index.proofs.index.ClaimIndex.claim_on.Goals as goal
 
 pub returns : goal.returns
 returns c =
-    let key : c.new-key.result ≡ key_of c.args.signer (plain.slot_of (stmt c.args.statement.now)) = c.new-key.ensures ∙ (λ i. record { signer = c.args.signer; slot = c.slot_key_of.ensures i }) in
+    let key : c.new-key.result ≡ key_of c.args.signer (plain.slot_of (stmt c.args.statement.now)) = c.new-key.ensures ∙
+    (λ i. record { signer = c.args.signer; slot = c.slot_key_of.ensures i }) in
     rw c.deref.ensures.value at c.claim_under.ensures.value
     ∙ ap (λ (k : Key). option_map (claim_with c.self.inside.bytes.items c.args.signer) (lookup (same_key k) c.self.inside.kept.entries)) key
-    ∙ lookup_is_claim c.self.inside.bytes.items c.self.inside.kept.entries c.self.invariant.kept c.args.signer (plain.slot_of (stmt c.args.statement.now))
+    ∙ lookup_is_claim c.self.inside.bytes.items c.self.inside.kept.entries c.self.invariant.kept c.args.signer
+    (plain.slot_of (stmt c.args.statement.now))
     ∙ ap (λ (r : Holding). defs.claim_on r.pool.heard c.args.signer (plain.slot_of (stmt c.args.statement.now))) c.self.view_is

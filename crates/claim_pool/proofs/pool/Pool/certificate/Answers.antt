@@ -11,5 +11,7 @@ pub returns-in-Some-clause-enough : goal.returns-in-Some-clause-enough
 returns-in-Some-clause-enough g c =
     let h : defs.Pool = c.quorums-quorums.result.now.pool in
     let enough : quorum (certified.number_of_members h) ≤ length c.in-Some.signers =
-    subst (λ (ms : List ℕ). quorum (certified.number_of_members h) ≤ length ms) (sym c.in-Some.ensures.signers) (enough-backers h (slot c.number.result c.args.slot) (stmt c.in-Some.content) c.in-Some.ensures.value) in
-    subst (λ (r : Holding). quorum (certified.number_of_members r.pool) ≤ length c.in-Some.signers) (c.quorums-quorums.ensures ∙ c.self.view_is) enough
+    subst (λ (ms : List ℕ). quorum (certified.number_of_members h) ≤ length ms) (sym c.in-Some.ensures.signers)
+    (enough-backers h (slot c.number.result c.args.slot) (stmt c.in-Some.content) c.in-Some.ensures.value) in
+    subst (λ (r : Holding). quorum (certified.number_of_members r.pool) ≤ length c.in-Some.signers)
+    (c.quorums-quorums.ensures ∙ c.self.view_is) enough

@@ -7,4 +7,5 @@ pub loop-host-preserved : goal.loop-host-preserved
 loop-host-preserved c =
     c.insert.ensures
     ∙ ap (λ all. put_once c.host-item.result.process all) c.loop-host.invariant
-    ∙ put_next c.deref-host-items.result.now c.loop-host.host-index c.host-item.result (rw c.deref-host-items.ensures.value c.self-inside.invariant) c.loop-host-test.true c.host-item.is
+    ∙ put_next c.deref-host-items.result.now c.loop-host.host-index c.host-item.result
+    (rw c.deref-host-items.ensures.value c.self-inside.invariant) c.loop-host-test.true c.host-item.is

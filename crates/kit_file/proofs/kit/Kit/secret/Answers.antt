@@ -10,4 +10,7 @@ some_still f None = refl
 some_still f (Some x) = refl
 
 pub returns-clause-hosted : goal.returns-clause-hosted
-returns-clause-hosted c = same_truth (sym (some_still (λ s. s.now) c.find_secret.result) ∙ sym (some_still secret (option_copied c.find_secret.result)) ∙ ap is_some c.find_secret.ensures ∙ found_is (λ host. host.process) (λ host. host.secret) c.args.p c.args.self.now.hosts)
+returns-clause-hosted c = same_truth
+    (sym (some_still (λ s. s.now) c.find_secret.result) ∙ sym
+    (some_still secret (option_copied c.find_secret.result)) ∙ ap is_some c.find_secret.ensures ∙ found_is (λ host. host.process)
+    (λ host. host.secret) c.args.p c.args.self.now.hosts)

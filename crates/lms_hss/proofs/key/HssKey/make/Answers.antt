@@ -14,6 +14,7 @@ pub invariant_of-result-clause-key : goal.invariant_of-result-clause-key
 invariant_of-result-clause-key c =
     let key = secret c.in_ok-plan.plan in
     let top = tree_at key 0 0 c.in_ok-trees.trees.items c.index.result.now c.in_ok-trees.ensures c.in_ok-plan.plan.some c.index.ensures in
-    let public : c.public.result.now ≡ tree_key key 0 0 = c.public.ensures ∙ tree_public key 0 (tree_number key 0 0) c.index.result.now top in
+    let public : c.public.result.now
+    ≡ tree_key key 0 0 = c.public.ensures ∙ tree_public key 0 (tree_number key 0 0) c.index.result.now top in
     let levels : key.levels ≡ c.args.levels = c.in_ok-plan.ensures.made.has_levels in
     c.public_of-public.ensures ∙ rw (public, levels) refl

@@ -7,9 +7,12 @@ use Rattle.signature_defs.proofs.HssLaws.{length-signed_keys, same_signed_keys, 
 use Rattle.lms_hss.proofs.key.HssKey.make_ready.Goals as goal
 
 -- the lowest level's tree is the same
-lowest_same : (c : goal.Then-tree_number) → let key = secret c.args.self.now.plan in tree_number key (key.levels - 1) c.args.self.now.ready ≡ tree_number key (key.levels - 1) c.args.number
+lowest_same : (c : goal.Then-tree_number)
+    → let key = secret c.args.self.now.plan in tree_number key (key.levels - 1) c.args.self.now.ready
+    ≡ tree_number key (key.levels - 1) c.args.number
 lowest_same c =
-    sym (rw c.levels-lowest.ensures.value at c.tree_number-2.ensures) ∙ sym c.if-tree_number.true ∙ (rw c.levels-lowest.ensures.value at c.tree_number.ensures)
+    sym (rw c.levels-lowest.ensures.value at c.tree_number-2.ensures) ∙ sym c.if-tree_number.true ∙
+    (rw c.levels-lowest.ensures.value at c.tree_number.ensures)
 
 pub invariant_of-self-clause-stand : goal.invariant_of-self-clause-stand
 invariant_of-self-clause-stand c =
@@ -18,7 +21,8 @@ invariant_of-self-clause-stand c =
     record {
       count = self.stand.count;
       each = λ d tree is.
-          let same = same_trees key self.ready c.args.number d (omega (arith, slice_get_within self.trees.items d tree is, self.stand.count)) (lowest_same c) in
+          let same = same_trees key self.ready c.args.number d
+          (omega (arith, slice_get_within self.trees.items d tree is, self.stand.count)) (lowest_same c) in
           let P : ℕ → Type 0 = λ t. IsTreeOf key d t tree in
           subst P same (self.stand.each d tree is);
     }

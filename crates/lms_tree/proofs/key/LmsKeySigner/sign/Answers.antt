@@ -8,6 +8,7 @@ returns-clause-admitted c =
     let key = c.args.self.now in
     let tree = key.tree in
     let unspent : key.used < 2 ^ tree.height = omega arith in
-    let long : length c.sign_into.new.out ≡ c.sig_len-length.result = c.sign_into.auto.out ∙ length-take-le c.sig_len-length.result c.args.out.now (omega arith) in
+    let long : length c.sign_into.new.out
+    ≡ c.sig_len-length.result = c.sign_into.auto.out ∙ length-take-le c.sig_len-length.result c.args.out.now (omega arith) in
     rw (take_at c.sign_into.new.out _ c.sig_len-length.result long, c.sign_into.ensures)
     (signature_is_valid tree.ots tree.typecode tree.height tree.id tree.seed key.used c.args.body.now tree.known tree.sized unspent)

@@ -19,7 +19,8 @@ returns c =
     let one : c.copy_from_slice.new.self ≡ leaf = c.copy_from_slice.ensures.after ∙ c.to_be_bytes.ensures in
     let two : c.copy_from_slice-2.new.self ≡ code = c.copy_from_slice-2.ensures.after ∙ c.to_be_bytes-2.ensures in
     let middle = length-ots_signature key.ots key.id c.args.q key.seed c.args.body.now in
-    let nodes = length-strings (path_node key.ots key.height key.id key.seed c.args.q) key.height 32 (λ i. length-node key.ots key.height key.id key.seed i _) in
+    let nodes = length-strings (path_node key.ots key.height key.id key.seed c.args.q) key.height 32
+    (λ i. length-node key.ots key.height key.id key.seed i _) in
     four_written leaf signed code path (drop 4 c.args.out.now) _ _ _ _ 4 (4 + n) (4 + n + 4) (4 + n - 4) (4 + n + 4 - (4 + n))
     one c.ots_sign_into.ensures.written two c.write_path.ensures
     refl (omega (arith, middle)) (omega arith) (omega arith) (omega arith)

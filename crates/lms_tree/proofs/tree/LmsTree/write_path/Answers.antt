@@ -20,9 +20,11 @@ loop-i-preserved c =
     let key = c.args.self.now in
     let beside : ℕ = sibling ((2 ^ key.height + c.args.q) / 2 ^ c.loop-i.i) in
     let number : c.sibling.result ≡ beside = c.sibling.ensures ∙ rw c.loop-i.invariant.node refl in
-    let stands = path_stands key.ots key.height key.id key.seed key.nodes.items c.args.q c.loop-i.i key.tree c.requires.leaf c.loop-i-test.true in
+    let stands = path_stands key.ots key.height key.id key.seed key.nodes.items c.args.q c.loop-i.i key.tree c.requires.leaf
+    c.loop-i-test.true in
     let here : c.copy_from_slice.new.self ≡ path_node key.ots key.height key.id key.seed c.args.q c.loop-i.i =
-    c.copy_from_slice.ensures.after ∙ c.index.ensures ∙ rw number (get_or_default key.nodes.items beside c.index.result.now [] stands.0 ∙ stands.1) in
+    c.copy_from_slice.ensures.after ∙ c.index.ensures ∙ rw number
+    (get_or_default key.nodes.items beside c.index.result.now [] stands.0 ∙ stands.1) in
     let fits : 32 * c.loop-i.i + 32 ≤ length c.loop-i.out = omega arith in
     let long : length c.copy_from_slice.new.self ≡ 32 * c.loop-i.i + 32 - 32 * c.loop-i.i =
     c.copy_from_slice.ensures.len ∙ mid_len (32 * c.loop-i.i) (32 * c.loop-i.i + 32) c.loop-i.out fits in

@@ -14,5 +14,6 @@ invariant_of-self c =
       since = omega (arith, since);
       within = omega (arith, left, most, same);
       whole = j.whole;
-      rest = skipped (signatures_left j.all) (signatures_left j.left) (signatures_left c.next-skipped.new.self) j.before j.used c.next-skipped.result j.since j.rest c.next-skipped.ensures.steps;
+      rest = skipped (signatures_left j.all) (signatures_left j.left)
+          (signatures_left c.next-skipped.new.self) j.before j.used c.next-skipped.result j.since j.rest c.next-skipped.ensures.steps;
     }

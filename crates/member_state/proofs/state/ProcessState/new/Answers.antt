@@ -12,10 +12,13 @@ returns c s with' =
     let g : s.genesis ≡ c.args.genesis.now = with'.genesis in
     let first : c.copied.result ≡ s.genesis = c.copied.ensures ∙ sym g in
     let second : s.genesis ≡ c.copied-2.result = g ∙ sym c.copied-2.ensures in
-    starts s c.args.me c.args.batch_limit _ c.requires.some c.requires.few (subst (λ (v : View). IsViewNumber v.number) (sym g) c.number-number.ensures.within.0) (subst IsView (sym g) c.number-number.ensures.within.1) (ap (λ (v : View). v.number) g ∙ c.requires.number) (record {
+    starts s c.args.me c.args.batch_limit _ c.requires.some c.requires.few
+    (subst (λ (v : View). IsViewNumber v.number) (sym g) c.number-number.ensures.within.0)
+    (subst IsView (sym g) c.number-number.ensures.within.1) (ap (λ (v : View). v.number) g ∙ c.requires.number) (record {
       limit = refl;
       pool = c.in_ok-new.ensures ∙ ap empty_pool first;
-      place = subst (λ (v : View). Tells s (start s c.args.me c.args.batch_limit) (empty_pool v) c.first_place.result) (sym g) (c.first_place.ensures s c.args.batch_limit with');
+      place = subst (λ (v : View). Tells s (start s c.args.me c.args.batch_limit) (empty_pool v) c.first_place.result) (sym g)
+          (c.first_place.ensures s c.args.batch_limit with');
       phase = c.begin.ensures.begins (start s c.args.me c.args.batch_limit) g refl refl refl refl;
       asked = λ u. sym (c.new-2.ensures u);
       said = c.new-3.ensures;

@@ -7,4 +7,5 @@ use Rattle.own_place.proofs.signed.SignedSlots.note.Goals as goal
 
 pub returns-clause-slots : goal.returns-clause-slots
 returns-clause-slots c =
-    c.in-Ok.ensures.keys ∙ noted-last c.self.inside.keys.keys c.args.self.now.slots c.slot_key_of-key.result (slot_of (stmt c.args.statement.now)) (ap (λ (d : Signed). d.slots) c.self.view_is) c.slot_key_of-key.ensures c.requires.fresh
+    c.in-Ok.ensures.keys ∙ noted-last c.self.inside.keys.keys c.args.self.now.slots c.slot_key_of-key.result
+    (slot_of (stmt c.args.statement.now)) (ap (λ (d : Signed). d.slots) c.self.view_is) c.slot_key_of-key.ensures c.requires.fresh

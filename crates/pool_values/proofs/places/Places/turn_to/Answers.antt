@@ -10,4 +10,6 @@ none_of v = record { view = v; batches = [] }
 
 pub invariant_of-self : goal.invariant_of-self
 invariant_of-self c =
-    empty-counted c.args.view c.turn_to.new.self c.turn_to-2.new.self.pool c.new-self-inside.result (c.turn_to.ensures ∙ ap none_of c.copy_of.ensures) c.turn_to-2.ensures.pool c.new-self-inside.ensures _ (none-heard c.args.view _ _ c.turn_to-2.ensures.pool refl)
+    empty-counted c.args.view c.turn_to.new.self c.turn_to-2.new.self.pool c.new-self-inside.result
+    (c.turn_to.ensures ∙ ap none_of c.copy_of.ensures) c.turn_to-2.ensures.pool c.new-self-inside.ensures _
+    (none-heard c.args.view _ _ c.turn_to-2.ensures.pool refl)

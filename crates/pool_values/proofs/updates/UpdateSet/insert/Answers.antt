@@ -5,7 +5,8 @@ pub returns-in-Remove-clause-there : goal.returns-in-Remove-clause-there
 returns-in-Remove-clause-there c = rw (c.insert.ensures, c.in-Remove.is) (removed-there c.args.self.now c.in-Remove.p)
 
 pub returns-in-Remove-clause-others : goal.returns-in-Remove-clause-others
-returns-in-Remove-clause-others c u other = rw c.insert.ensures (removed-others c.args.self.now c.in-Remove.p u (rw c.in-Remove.is at other))
+returns-in-Remove-clause-others c u other = rw c.insert.ensures
+    (removed-others c.args.self.now c.in-Remove.p u (rw c.in-Remove.is at other))
 
 pub returns-in-Add-clause-there : goal.returns-in-Add-clause-there
 returns-in-Add-clause-there c = rw (c.insert-in-Add.ensures, c.in-Add.is) (added-there c.args.self.now c.in-Add.p)

@@ -10,8 +10,13 @@ use Rattle.reliable_mcast.proofs.archive.Archive.answer_want.Goals as goal
 pub returns-clause-answer : goal.returns-clause-answer
 returns-clause-answer c =
     let same = c.deref.ensures.value ∙ ap (λ (a : Archived). a.commits) c.self.view_is in
-    let claims = parts-are c.args.self.now c.args.pool.now.pool c.args.view c.args.place c.deref.result.now c.args.frames.now c.put_commit.new.frames c.put_pool.new.frames c.put_previous.new.frames same c.requires.empty c.in_ok-put_commit.ensures c.in_ok-put_pool.ensures c.in_ok-put_previous.ensures in
-    let frames = frames-same c.args.frames.now c.put_commit.new.frames c.put_pool.new.frames c.put_previous.new.frames _ _ _ c.in_ok-put_commit.ensures c.in_ok-put_pool.ensures c.in_ok-put_previous.ensures in
+    let claims = parts-are c.args.self.now c.args.pool.now.pool c.args.view c.args.place c.deref.result.now c.args.frames.now
+    c.put_commit.new.frames c.put_pool.new.frames c.put_previous.new.frames same c.requires.empty c.in_ok-put_commit.ensures
+    c.in_ok-put_pool.ensures c.in_ok-put_previous.ensures in
+    let frames = frames-same c.args.frames.now c.put_commit.new.frames c.put_pool.new.frames c.put_previous.new.frames _ _ _
+    c.in_ok-put_commit.ensures c.in_ok-put_pool.ensures c.in_ok-put_previous.ensures in
     on_ok_weaker c.close.result (λ made p keeps is.
-    let packed = ap (frames_as kinds.Proof) (claims ∙ sym (answer-is c.args.self.now c.args.pool.now.pool p c.args.view c.args.place keeps is)) ∙ proofs-are (answer p c.args.view c.args.place) in
+    let packed = ap (frames_as kinds.Proof)
+    (claims ∙ sym (answer-is c.args.self.now c.args.pool.now.pool p c.args.view c.args.place keeps is)) ∙ proofs-are
+    (answer p c.args.view c.args.place) in
     made ∙ (λ i. frames i ++ packed i)) c.close.ensures.frames

@@ -18,21 +18,28 @@ abbrev said : (h : Pool) (r : ℕ) (v : Value) → Statement
 said h r v = Ready h.view.number r (value v)
 
 -- the list is the commit certificate
-whole : (h : Pool) (r x : ℕ) (v : Value) (begun kept : List Signed) → x ≡ h.view.number → begun ≡ [] → value_at h (ReadyAt h.view.number r) ≡ Some (value v)
+whole : (h : Pool) (r x : ℕ) (v : Value) (begun kept : List Signed) → x ≡ h.view.number → begun ≡ []
+    → value_at h (ReadyAt h.view.number r) ≡ Some (value v)
     → kept ≡ extended false begun (all_signed (certificate_on h (ReadyAt x r))) → kept ≡ all_signed (certificate h (said h r v))
 whole h r x v begun kept number empty certified made =
-    made ∙ (λ i. extended false (empty i) (all_signed ((ap (λ y. certificate_on h (ReadyAt y r)) number ∙ commit-is h r (value v) certified) i))) ∙ extended-all [] (all_signed (certificate h (said h r v)))
+    made ∙ (λ i. extended false (empty i)
+    (all_signed ((ap (λ y. certificate_on h (ReadyAt y r)) number ∙ commit-is h r (value v) certified) i))) ∙ extended-all []
+    (all_signed (certificate h (said h r v)))
 
 -- the commit certificates, with this one behind the others
-more : (h : Pool) (r x : ℕ) (v : Value) (begun kept : List Signed) (commits commits' : List (List Signed)) → x ≡ h.view.number → begun ≡ [] → value_at h (ReadyAt h.view.number r) ≡ Some (value v)
-    → kept ≡ extended false begun (all_signed (certificate_on h (ReadyAt x r))) → commits' ≡ commits ++ kept ∷ [] → commits' ≡ commits ++ all_signed (certificate h (said h r v)) ∷ []
-more h r x v begun kept commits commits' number empty certified made pushed = pushed ∙ ap (λ (cs : List Signed). commits ++ cs ∷ []) (whole h r x v begun kept number empty certified made)
+more : (h : Pool) (r x : ℕ) (v : Value) (begun kept : List Signed) (commits commits' : List (List Signed)) → x ≡ h.view.number → begun ≡ []
+    → value_at h (ReadyAt h.view.number r) ≡ Some (value v)
+    → kept ≡ extended false begun (all_signed (certificate_on h (ReadyAt x r))) → commits' ≡ commits ++ kept ∷ []
+    → commits' ≡ commits ++ all_signed (certificate h (said h r v)) ∷ []
+more h r x v begun kept commits commits' number empty certified made pushed = pushed ∙ ap (λ (cs : List Signed). commits ++ cs ∷ [])
+    (whole h r x v begun kept number empty certified made)
 
 pub returns-clause-commits : goal.returns-clause-commits
 returns-clause-commits c =
     let h : Pool = c.args.pool.pool in
     let number : c.number-view.result ≡ h.view.number = c.number-view.ensures.value ∙ ap (λ (v : views.View). v.number) c.view.ensures in
-    more h c.args.commit.0 c.number-view.result c.args.commit.1 c.new-kept.result c.put_certificate.new.list c.self.inside.commits.items c.push.new.self.items number c.new-kept.ensures c.requires.certified c.in_ok-put_certificate.ensures c.in_ok-push.ensures.items
+    more h c.args.commit.0 c.number-view.result c.args.commit.1 c.new-kept.result c.put_certificate.new.list c.self.inside.commits.items
+    c.push.new.self.items number c.new-kept.ensures c.requires.certified c.in_ok-put_certificate.ensures c.in_ok-push.ensures.items
     ∙ ap (λ (a : Archived). a.commits ++ all_signed (certificate h (said h c.args.commit.0 c.args.commit.1)) ∷ []) c.self.view_is
 
 pub invariant_of-self-2 : goal.invariant_of-self-2
@@ -41,6 +48,9 @@ invariant_of-self-2 c =
     let number : c.number-view.result ≡ h.view.number = c.number-view.ensures.value ∙ ap (λ (v : views.View). v.number) c.view.ensures in
     record {
       ranged = λ g e. let same : h ≡ g = some-same h g e in subst IsRanged same c.requires.range;
-      readable = kept-more c.self.inside.commits.items c.push.new.self.items h (said h c.args.commit.0 c.args.commit.1) c.requires.range c.self.invariant.readable
-          (more h c.args.commit.0 c.number-view.result c.args.commit.1 c.new-kept.result c.put_certificate.new.list c.self.inside.commits.items c.push.new.self.items number c.new-kept.ensures c.requires.certified c.in_ok-put_certificate.ensures c.in_ok-push.ensures.items);
+      readable = kept-more c.self.inside.commits.items c.push.new.self.items h
+          (said h c.args.commit.0 c.args.commit.1) c.requires.range c.self.invariant.readable
+          (more h c.args.commit.0 c.number-view.result c.args.commit.1 c.new-kept.result c.put_certificate.new.list
+          c.self.inside.commits.items c.push.new.self.items number c.new-kept.ensures c.requires.certified c.in_ok-put_certificate.ensures
+          c.in_ok-push.ensures.items);
     }

@@ -6,4 +6,5 @@ use Rattle.reliable_mcast.proofs.Appended.{listed-short}
 use Rattle.reliable_mcast.proofs.list.ClaimList.len.Goals as goal
 
 pub returns-clause-short : goal.returns-clause-short
-returns-clause-short c = subst (λ (cs : List Signed). AllByRecursion IsShort cs) c.self.view_is (listed-short c.self.inside.bytes.items c.self.inside.listed.items c.self.invariant)
+returns-clause-short c = subst (λ (cs : List Signed). AllByRecursion IsShort cs) c.self.view_is
+    (listed-short c.self.inside.bytes.items c.self.inside.listed.items c.self.invariant)

@@ -7,18 +7,35 @@ use Rattle.reliable_mcast.proofs.list.ClaimList.push.Goals as goal
 
 pub returns : goal.returns
 returns c =
-    let bytes : c.extend_from_slice-2.new.self.items ≡ c.self.inside.bytes.items ++ c.args.claim.now.statement.now ++ c.args.claim.now.signature.now =
+    let bytes : c.extend_from_slice-2.new.self.items ≡ c.self.inside.bytes.items ++ c.args.claim.now.statement.now
+    ++ c.args.claim.now.signature.now =
     c.in_ok-extend_from_slice-2.ensures.items ∙ ap (λ b. b ++ c.args.claim.now.signature.now) c.in_ok-extend_from_slice.ensures.items in
-    let listed : Listed = record { signer = c.args.claim.now.signer; start = c.len.result; said = length c.args.claim.now.statement.now; signed = length c.args.claim.now.signature.now } in
-    rw (bytes, c.in_ok-push.ensures.items) (claims-push c.self.inside.bytes.items c.args.claim.now.statement.now c.args.claim.now.signature.now listed (omega arith) refl refl c.self.inside.listed.items c.self.invariant
+    let listed : Listed = record {
+      signer = c.args.claim.now.signer;
+      start = c.len.result;
+      said = length c.args.claim.now.statement.now;
+      signed = length c.args.claim.now.signature.now;
+    } in
+    rw (bytes, c.in_ok-push.ensures.items)
+    (claims-push c.self.inside.bytes.items c.args.claim.now.statement.now c.args.claim.now.signature.now listed
+    (omega arith) refl refl c.self.inside.listed.items c.self.invariant
     ∙ ap (λ (cs : List Signed). cs ++ lent_claim c.args.claim.now ∷ []) c.self.view_is)
 
 pub invariant_of-self : goal.invariant_of-self
-invariant_of-self c = subst (λ (b : List ℕ). AreListed b c.self.inside.listed.items) (sym c.in_err-extend_from_slice.ensures.items) c.self.invariant
+invariant_of-self c = subst (λ (b : List ℕ). AreListed b c.self.inside.listed.items)
+    (sym c.in_err-extend_from_slice.ensures.items) c.self.invariant
 
 pub invariant_of-self-2 : goal.invariant_of-self-2
 invariant_of-self-2 c =
-    let bytes : c.extend_from_slice-2.new.self.items ≡ c.self.inside.bytes.items ++ c.args.claim.now.statement.now ++ c.args.claim.now.signature.now =
+    let bytes : c.extend_from_slice-2.new.self.items ≡ c.self.inside.bytes.items ++ c.args.claim.now.statement.now
+    ++ c.args.claim.now.signature.now =
     c.in_ok-extend_from_slice-2.ensures.items ∙ ap (λ b. b ++ c.args.claim.now.signature.now) c.in_ok-extend_from_slice.ensures.items in
-    let listed : Listed = record { signer = c.args.claim.now.signer; start = c.len.result; said = length c.args.claim.now.statement.now; signed = length c.args.claim.now.signature.now } in
-    rw (bytes, c.in_ok-push.ensures.items) (are-push c.self.inside.bytes.items c.args.claim.now.statement.now c.args.claim.now.signature.now listed (omega arith) refl refl c.self.inside.listed.items c.self.invariant c.requires.statement c.requires.signature)
+    let listed : Listed = record {
+      signer = c.args.claim.now.signer;
+      start = c.len.result;
+      said = length c.args.claim.now.statement.now;
+      signed = length c.args.claim.now.signature.now;
+    } in
+    rw (bytes, c.in_ok-push.ensures.items)
+    (are-push c.self.inside.bytes.items c.args.claim.now.statement.now c.args.claim.now.signature.now listed
+    (omega arith) refl refl c.self.inside.listed.items c.self.invariant c.requires.statement c.requires.signature)

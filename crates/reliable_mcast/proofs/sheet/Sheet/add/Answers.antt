@@ -11,4 +11,5 @@ some_of_both true gs c some = some_added gs c
 some_of_both false gs c some = some
 
 pub invariant_of-self-clause-some : goal.invariant_of-self-clause-some
-invariant_of-self-clause-some c = subst (λ (gs : List Group). 1 ≤ length gs) (sym c.add_claim.ensures.groups) (some_of_both c.add_claim.result c.args.self.now.writer.groups (lent_claim c.args.claim.now) c.args.self.now.some)
+invariant_of-self-clause-some c = subst (λ (gs : List Group). 1 ≤ length gs) (sym c.add_claim.ensures.groups)
+    (some_of_both c.add_claim.result c.args.self.now.writer.groups (lent_claim c.args.claim.now) c.args.self.now.some)

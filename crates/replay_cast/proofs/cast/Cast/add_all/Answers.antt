@@ -21,14 +21,16 @@ pub add-requires-clause-unused : goal.add-requires-clause-unused
 add-requires-clause-unused c =
     let h = views.header c.args.header.now in
     let P : List Keyed → Type 0 = λ ks. Underway h c.processes.self ks in
-    let next = next_of h c.processes.self c.in-Some.one (into_iter_items c.next.new.self) (subst P c.in-Some.ensures.items c.processes.invariant.on) in
+    let next = next_of h c.processes.self c.in-Some.one (into_iter_items c.next.new.self)
+    (subst P c.in-Some.ensures.items c.processes.invariant.on) in
     next.is.signer.unused
 
 pub processes-preserved : goal.processes-preserved
 processes-preserved c =
     let h = views.header c.args.header.now in
     let P : List Keyed → Type 0 = λ ks. Underway h c.processes.self ks in
-    let next = next_of h c.processes.self c.in-Some.one (into_iter_items c.next.new.self) (subst P c.in-Some.ensures.items c.processes.invariant.on) in
+    let next = next_of h c.processes.self c.in-Some.one (into_iter_items c.next.new.self)
+    (subst P c.in-Some.ensures.items c.processes.invariant.on) in
     record {
       on = cast_on h c.processes.self c.add.new.self c.in-Some.one (into_iter_items c.next.new.self) next c.in_ok-add.ensures.adds;
       group = c.add.ensures.group ∙ c.processes.invariant.group;
@@ -39,6 +41,7 @@ processes-preserved c =
 pub returns-clause-adds : goal.returns-clause-adds
 returns-clause-adds c =
     let h = views.header c.args.header.now in
-    let none : into_iter_items c.processes.left ≡ [] = nil_from_length (into_iter_items c.processes.left) (omega (arith, c.in_default.ensures.cases.0, c.processes.left.rest.ok.0)) in
+    let none : into_iter_items c.processes.left
+    ≡ [] = nil_from_length (into_iter_items c.processes.left) (omega (arith, c.in_default.ensures.cases.0, c.processes.left.rest.ok.0)) in
     let P : List Keyed → Type 0 = λ ks. Underway h c.processes.self ks in
     cast_ends h c.processes.self (subst P none c.processes.invariant.on)

@@ -13,31 +13,40 @@ use Rattle.replay_world.proofs.world.World.deliver.Goals as goal
 
 pub step_at-requires : goal.step_at-requires
 step_at-requires c =
-    let place = placed c.args.to c.place_of.result c.deref-2.result.now c.args.self.now.players.items c.in-Some-place_of.i c.in-Some-place_of.is c.place_of.ensures c.deref-2.ensures.value in
+    let place = placed c.args.to c.place_of.result c.deref-2.result.now c.args.self.now.players.items c.in-Some-place_of.i
+    c.in-Some-place_of.is c.place_of.ensures c.deref-2.ensures.value in
     omega (arith, position_low (λ (q : Player). q.process == c.args.to) 0 c.args.self.now.players.items c.in-Some-place_of.i place)
 
 pub returns-in_default-clause-becomes : goal.returns-in_default-clause-becomes
 returns-in_default-clause-becomes c = λ h v shows.
     let P : plain.World → Type 0 = λ w. Shows h c.args.self.now w in
-    subst P (sym (delivers_absent h c.args.self.now v c.args.to c.args.frame c.deref.result.now shows c.deref.ensures.value c.in_default.ensures.lookup.3)) shows
+    subst P (sym (delivers_absent h c.args.self.now v c.args.to c.args.frame c.deref.result.now shows c.deref.ensures.value
+    c.in_default.ensures.lookup.3)) shows
 
 pub returns-in_default-place_of-clause-becomes : goal.returns-in_default-place_of-clause-becomes
 returns-in_default-place_of-clause-becomes c =
     delivers_nobody c.args.self.now c.args.to c.args.frame c.in-Some.sent.now c.place_of.result c.deref-2.result.now
-    (looked_up c.deref.result.now c.args.self.now.traffic.frames.items c.args.frame c.in-Some.sent.now c.deref.ensures.value c.in-Some.ensures.lookup.0 c.in-Some.ensures.lookup.1)
+    (looked_up c.deref.result.now c.args.self.now.traffic.frames.items c.args.frame c.in-Some.sent.now c.deref.ensures.value
+    c.in-Some.ensures.lookup.0 c.in-Some.ensures.lookup.1)
     c.in_default-place_of.is c.place_of.ensures c.deref-2.ensures.value
 
 pub returns-clause-becomes : goal.returns-clause-becomes
 returns-clause-becomes c =
     let f = c.in-Some.sent.now in
-    let get = looked_up c.deref.result.now c.args.self.now.traffic.frames.items c.args.frame f c.deref.ensures.value c.in-Some.ensures.lookup.0 c.in-Some.ensures.lookup.1 in
-    let stepped = record c.args.self.now { players = c.step_at.new.players; traffic = record c.args.self.now.traffic { frames = c.mark.new.frames } } in
-    let place = placed c.args.to c.place_of.result c.deref-2.result.now c.args.self.now.players.items c.in-Some-place_of.i c.in-Some-place_of.is c.place_of.ensures c.deref-2.ensures.value in
+    let get = looked_up c.deref.result.now c.args.self.now.traffic.frames.items c.args.frame f c.deref.ensures.value
+    c.in-Some.ensures.lookup.0 c.in-Some.ensures.lookup.1 in
+    let stepped = record c.args.self.now {
+      players = c.step_at.new.players;
+      traffic = record c.args.self.now.traffic { frames = c.mark.new.frames };
+    } in
+    let place = placed c.args.to c.place_of.result c.deref-2.result.now c.args.self.now.players.items c.in-Some-place_of.i
+    c.in-Some-place_of.is c.place_of.ensures c.deref-2.ensures.value in
     on_ok_weaker c.note.result (λ notes. λ h v shows.
     let P : plain.World → Type 0 = λ w. Shows h c.note.new.self w in
     subst P (sym (delivers_frame h c.args.self.now v c.args.to c.args.frame f shows get))
     (given_becomes h stepped c.note.new.self v c.args.to (group.Hand f.sender (frame_said f.bytes)) c.in_ok-outcome.outcome
-    (delivered h c.args.self.now stepped v c.args.to c.in-Some-place_of.i c.args.frame f _ c.in_ok-outcome.outcome shows place c.in_ok-outcome.ensures
+    (delivered h c.args.self.now stepped v c.args.to c.in-Some-place_of.i c.args.frame f _ c.in_ok-outcome.outcome shows place
+    c.in_ok-outcome.ensures
     (ap (λ bytes. group.Hand f.sender (frame_said bytes)) c.bytes.ensures) get
     (record { group = refl; scheme = refl; roster = refl; liars = refl; refused = refl; spent = refl; count = refl })
     (c.mark.ensures f get) refl refl refl)
@@ -46,14 +55,20 @@ returns-clause-becomes c =
 pub returns-clause-exceeds : goal.returns-clause-exceeds
 returns-clause-exceeds c =
     let f = c.in-Some.sent.now in
-    let get = looked_up c.deref.result.now c.args.self.now.traffic.frames.items c.args.frame f c.deref.ensures.value c.in-Some.ensures.lookup.0 c.in-Some.ensures.lookup.1 in
-    let stepped = record c.args.self.now { players = c.step_at.new.players; traffic = record c.args.self.now.traffic { frames = c.mark.new.frames } } in
-    let place = placed c.args.to c.place_of.result c.deref-2.result.now c.args.self.now.players.items c.in-Some-place_of.i c.in-Some-place_of.is c.place_of.ensures c.deref-2.ensures.value in
+    let get = looked_up c.deref.result.now c.args.self.now.traffic.frames.items c.args.frame f c.deref.ensures.value
+    c.in-Some.ensures.lookup.0 c.in-Some.ensures.lookup.1 in
+    let stepped = record c.args.self.now {
+      players = c.step_at.new.players;
+      traffic = record c.args.self.now.traffic { frames = c.mark.new.frames };
+    } in
+    let place = placed c.args.to c.place_of.result c.deref-2.result.now c.args.self.now.players.items c.in-Some-place_of.i
+    c.in-Some-place_of.is c.place_of.ensures c.deref-2.ensures.value in
     IfErr-weaker c.note.result (NotesTooMuch stepped c.args.to c.in_ok-outcome.outcome) _ (λ fault much. λ h v shows.
     let P : plain.World → Type 0 = λ w. IsTooMuch fault w in
     subst P (sym (delivers_frame h c.args.self.now v c.args.to c.args.frame f shows get))
     (given_exceeds h stepped v c.args.to (group.Hand f.sender (frame_said f.bytes)) c.in_ok-outcome.outcome fault
-    (delivered h c.args.self.now stepped v c.args.to c.in-Some-place_of.i c.args.frame f _ c.in_ok-outcome.outcome shows place c.in_ok-outcome.ensures
+    (delivered h c.args.self.now stepped v c.args.to c.in-Some-place_of.i c.args.frame f _ c.in_ok-outcome.outcome shows place
+    c.in_ok-outcome.ensures
     (ap (λ bytes. group.Hand f.sender (frame_said bytes)) c.bytes.ensures) get
     (record { group = refl; scheme = refl; roster = refl; liars = refl; refused = refl; spent = refl; count = refl })
     (c.mark.ensures f get) refl refl refl)

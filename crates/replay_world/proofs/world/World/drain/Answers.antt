@@ -12,14 +12,16 @@ deliveries-preserved c =
     let one : c.deliveries.left ≡ suc (c.deliveries.left - 1) = omega arith in
     let P : ℕ → Type 0 = λ n. DrainsOn (mask_of c.args.to) c.args.count c.args.self.now n c.deliveries.self in
     record {
-      drains = drains_on (mask_of c.args.to) c.args.count (c.deliveries.left - 1) c.args.self.now c.deliveries.self c.deliver_next.new.self (subst P one c.deliveries.invariant.drains)
+      drains = drains_on (mask_of c.args.to) c.args.count (c.deliveries.left - 1) c.args.self.now c.deliveries.self c.deliver_next.new.self
+          (subst P one c.deliveries.invariant.drains)
           c.in_ok-deliver_next.ensures.becomes (λ h v shows. sym c.if-not-branch.false ∙ c.in_ok-deliver_next.ensures.waits h v shows);
       count = c.in_ok-deliver_next.ensures.count ∙ c.deliveries.invariant.count;
     }
 
 pub returns-then-not-branch-clause-becomes : goal.returns-then-not-branch-clause-becomes
 returns-then-not-branch-clause-becomes c =
-    drains_out (mask_of c.args.to) c.args.count c.deliveries.left c.args.self.now c.deliveries.self c.deliver_next.new.self c.deliveries.invariant.drains
+    drains_out (mask_of c.args.to) c.args.count c.deliveries.left c.args.self.now c.deliveries.self c.deliver_next.new.self
+    c.deliveries.invariant.drains
     c.in_ok-deliver_next.ensures.becomes (λ h v shows. sym c.if-not-branch.true ∙ c.in_ok-deliver_next.ensures.waits h v shows)
 
 pub returns-clause-becomes : goal.returns-clause-becomes
@@ -34,5 +36,6 @@ returns-in_err-deliver_next-clause-exceeds c =
     let one : c.deliveries.left ≡ suc (c.deliveries.left - 1) = omega arith in
     let P : ℕ → Type 0 = λ n. DrainsOn (mask_of c.args.to) c.args.count c.args.self.now n c.deliveries.self in
     let Q : WorldFault → Type 0 = λ f. Exceeds (λ h v. drains (setting_of h) (mask_of c.args.to) c.args.count v) c.args.self.now f in
-    rw p.1 (subst Q (sym p.2) (drains_exceed (mask_of c.args.to) c.args.count (c.deliveries.left - 1) c.args.self.now c.deliveries.self c.in_err-deliver_next.field-0.0
+    rw p.1 (subst Q (sym p.2) (drains_exceed (mask_of c.args.to) c.args.count
+    (c.deliveries.left - 1) c.args.self.now c.deliveries.self c.in_err-deliver_next.field-0.0
     (subst P one c.deliveries.invariant.drains) c.in_err-deliver_next.ensures.exceeds))

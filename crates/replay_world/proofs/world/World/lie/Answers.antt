@@ -20,20 +20,25 @@ use Rattle.replay_world.proofs.world.World.lie.Goals as goal
 
 pub returns-in_default-clause-happens : goal.returns-in_default-clause-happens
 returns-in_default-clause-happens c =
-    lie_by_nobody c.args.self.now c.args.signer (mask_of c.args.to) c.args.statement.now c.place_of.result c.deref.result.now c.in_default.is c.place_of.ensures c.deref.ensures.value
+    lie_by_nobody c.args.self.now c.args.signer
+    (mask_of c.args.to) c.args.statement.now c.place_of.result c.deref.result.now c.in_default.is c.place_of.ensures c.deref.ensures.value
 
 pub lie_at-requires-clause-place : goal.lie_at-requires-clause-place
 lie_at-requires-clause-place c =
     let find : List Liar → Option ℕ = position_from (λ x. x.process == c.args.signer) 0 in
-    let place : find c.args.self.now.liars.items ≡ Some c.in-Some.i = sym (ap find c.deref.ensures.value) ∙ (sym c.place_of.ensures ∙ c.in-Some.is) in
+    let place : find c.args.self.now.liars.items
+    ≡ Some c.in-Some.i = sym (ap find c.deref.ensures.value) ∙ (sym c.place_of.ensures ∙ c.in-Some.is) in
     omega (arith, position_low (λ (x : Liar). x.process == c.args.signer) 0 c.args.self.now.liars.items c.in-Some.i place)
 
 pub returns-in_default-2-clause-happens : goal.returns-in_default-2-clause-happens
 returns-in_default-2-clause-happens c =
     let find : List Liar → Option ℕ = position_from (λ x. x.process == c.args.signer) 0 in
-    let place : find c.args.self.now.liars.items ≡ Some c.in-Some.i = sym (ap find c.deref.ensures.value) ∙ (sym c.place_of.ensures ∙ c.in-Some.is) in
-    let P : Option (List ℕ) → Type 0 = λ lie. LiesAt c.args.self.now.group (stmt c.in-Ok.statement) c.args.self.now.liars.items c.lie_at.new.liars.items c.in-Some.i lie in
-    lie_spent c.args.self.now (record c.args.self.now { liars = c.lie_at.new.liars }) c.args.signer c.in-Some.i (mask_of c.args.to) c.args.statement.now (stmt c.in-Ok.statement) place
+    let place : find c.args.self.now.liars.items
+    ≡ Some c.in-Some.i = sym (ap find c.deref.ensures.value) ∙ (sym c.place_of.ensures ∙ c.in-Some.is) in
+    let P : Option (List ℕ) → Type 0 = λ lie. LiesAt c.args.self.now.group
+    (stmt c.in-Ok.statement) c.args.self.now.liars.items c.lie_at.new.liars.items c.in-Some.i lie in
+    lie_spent c.args.self.now (record c.args.self.now { liars = c.lie_at.new.liars }) c.args.signer c.in-Some.i
+    (mask_of c.args.to) c.args.statement.now (stmt c.in-Ok.statement) place
     (subst P c.in_default-2.is c.in_ok-frame.ensures) c.in-Ok.ensures.exact refl
 
 pub returns-clause-happens : goal.returns-clause-happens
@@ -42,17 +47,33 @@ returns-clause-happens c =
     let low : m < 2 ^ 64 = omega arith in
     let mask : mask_of c.args.to ≡ m = ap mask_of (sym c.mask.ensures) ∙ mask_of-members m low in
     let find : List Liar → Option ℕ = position_from (λ x. x.process == c.args.signer) 0 in
-    let place : find c.args.self.now.liars.items ≡ Some c.in-Some.i = sym (ap find c.deref.ensures.value) ∙ (sym c.place_of.ensures ∙ c.in-Some.is) in
+    let place : find c.args.self.now.liars.items
+    ≡ Some c.in-Some.i = sym (ap find c.deref.ensures.value) ∙ (sym c.place_of.ensures ∙ c.in-Some.is) in
     let new = record c.args.self.now { liars = c.lie_at.new.liars; traffic = c.send.new.self } in
-    let P : Option (List ℕ) → Type 0 = λ lie. LiesAt c.args.self.now.group (stmt c.in-Ok.statement) c.args.self.now.liars.items c.lie_at.new.liars.items c.in-Some.i lie in
+    let P : Option (List ℕ) → Type 0 = λ lie. LiesAt c.args.self.now.group
+    (stmt c.in-Ok.statement) c.args.self.now.liars.items c.lie_at.new.liars.items c.in-Some.i lie in
     let lie = subst P c.in-Some-2.is c.in_ok-frame.ensures in
     on_ok_weaker c.send.result (λ both. λ h v s event. (
       plain.send c.args.signer (has c.from_mask-to.result) v c.in-Some-2.frame,
-      lie_told h c.args.self.now new v c.args.signer c.in-Some.i (mask_of c.args.to) c.from_mask-to.result c.args.statement.now c.in-Some-2.frame (stmt c.in-Ok.statement) s place lie c.in-Ok.ensures.exact
+      lie_told h c.args.self.now new v c.args.signer c.in-Some.i
+          (mask_of c.args.to) c.from_mask-to.result c.args.statement.now c.in-Some-2.frame
+          (stmt c.in-Ok.statement) s place lie c.in-Ok.ensures.exact
           (c.from_mask-to.ensures ∙ ap members (sym mask)),
-      lie_shows h c.args.self.now new v c.args.signer c.in-Some.i c.from_mask-to.result c.in-Some-2.frame (stmt c.in-Ok.statement) s place lie
-          (record { group = refl; scheme = refl; roster = refl; players = refl; raws = refl; refused = refl; spent = refl; frames = both.1; count = refl })
-          (both.0 v s.traffic (rw c.deref-2.ensures.value (players_numbers (setting_of h) c.args.self.now.players.items v.players s.players))),
+      lie_shows h c.args.self.now new v c.args.signer c.in-Some.i c.from_mask-to.result c.in-Some-2.frame
+          (stmt c.in-Ok.statement) s place lie
+          (record {
+            group = refl;
+            scheme = refl;
+            roster = refl;
+            players = refl;
+            raws = refl;
+            refused = refl;
+            spent = refl;
+            frames = both.1;
+            count = refl;
+          })
+          (both.0 v s.traffic (rw c.deref-2.ensures.value
+          (players_numbers (setting_of h) c.args.self.now.players.items v.players s.players))),
     )) (on_ok_both _ _ c.send.result c.send.ensures.sends c.send.ensures.handed)
 
 pub returns-clause-stops : goal.returns-clause-stops
@@ -61,12 +82,18 @@ returns-clause-stops c =
     let low : m < 2 ^ 64 = omega arith in
     let mask : mask_of c.args.to ≡ m = ap mask_of (sym c.mask.ensures) ∙ mask_of-members m low in
     let find : List Liar → Option ℕ = position_from (λ x. x.process == c.args.signer) 0 in
-    let place : find c.args.self.now.liars.items ≡ Some c.in-Some.i = sym (ap find c.deref.ensures.value) ∙ (sym c.place_of.ensures ∙ c.in-Some.is) in
+    let place : find c.args.self.now.liars.items
+    ≡ Some c.in-Some.i = sym (ap find c.deref.ensures.value) ∙ (sym c.place_of.ensures ∙ c.in-Some.is) in
     let new = record c.args.self.now { liars = c.lie_at.new.liars; traffic = c.send.new.self } in
-    let P : Option (List ℕ) → Type 0 = λ lie. LiesAt c.args.self.now.group (stmt c.in-Ok.statement) c.args.self.now.liars.items c.lie_at.new.liars.items c.in-Some.i lie in
+    let P : Option (List ℕ) → Type 0 = λ lie. LiesAt c.args.self.now.group
+    (stmt c.in-Ok.statement) c.args.self.now.liars.items c.lie_at.new.liars.items c.in-Some.i lie in
     let lie = subst P c.in-Some-2.is c.in_ok-frame.ensures in
     IfErr-weaker c.send.result _ _ (λ fault much. λ h v s event.
-    too_much_stops h v (plain.send c.args.signer (has c.from_mask-to.result) v c.in-Some-2.frame) (Lie c.args.signer (mask_of c.args.to) c.args.statement.now) fault
-    (lie_told h c.args.self.now new v c.args.signer c.in-Some.i (mask_of c.args.to) c.from_mask-to.result c.args.statement.now c.in-Some-2.frame (stmt c.in-Ok.statement) s place lie c.in-Ok.ensures.exact
+    too_much_stops h v (plain.send c.args.signer (has c.from_mask-to.result) v c.in-Some-2.frame)
+    (Lie c.args.signer (mask_of c.args.to) c.args.statement.now) fault
+    (lie_told h c.args.self.now new v c.args.signer c.in-Some.i
+    (mask_of c.args.to) c.from_mask-to.result c.args.statement.now c.in-Some-2.frame
+    (stmt c.in-Ok.statement) s place lie c.in-Ok.ensures.exact
     (c.from_mask-to.ensures ∙ ap members (sym mask)))
-    (much v s.traffic (rw c.deref-2.ensures.value (players_numbers (setting_of h) c.args.self.now.players.items v.players s.players)) s.count)) c.send.ensures.too_much
+    (much v s.traffic (rw c.deref-2.ensures.value
+    (players_numbers (setting_of h) c.args.self.now.players.items v.players s.players)) s.count)) c.send.ensures.too_much

@@ -10,5 +10,7 @@ use Rattle.replay_world.proofs.world.World.pass.Goals as goal
 
 pub returns-clause-stops : goal.returns-clause-stops
 returns-clause-stops c = IfErr-weaker c.deliver.result _ _ (λ fault much. λ h v shows is.
-    let low : c.args.frame < length v.frames = omega (arith, ap length shows.traffic.frames, length-map c.args.self.now.traffic.frames.items sent) in
-    too_much_stops h v (plain.delivers (setting_of h) v c.args.to c.args.frame) (Pass c.args.frame c.args.to) fault (pass_sent h v c.args.frame c.args.to low) (much h v shows)) c.deliver.ensures.exceeds
+    let low : c.args.frame < length v.frames = omega
+    (arith, ap length shows.traffic.frames, length-map c.args.self.now.traffic.frames.items sent) in
+    too_much_stops h v (plain.delivers (setting_of h) v c.args.to c.args.frame)
+    (Pass c.args.frame c.args.to) fault (pass_sent h v c.args.frame c.args.to low) (much h v shows)) c.deliver.ensures.exceeds

@@ -8,7 +8,8 @@ use Rattle.rp_devices.specs.Held.{Held, IsImage, left_of}
 use Rattle.rp_devices.proofs.Changes.{left_is_image}
 use Rattle.rp_devices.proofs.mem_disk.MemDisk.image.Goals as goal
 
-is_image : (left : Left) (h : Held) (r : Result (Vec ℕ Global) NoMemory) → IfOk r (λ image. image.items ≡ left_of left h) → IfOk r (λ image. IsImage h image.items)
+is_image : (left : Left) (h : Held) (r : Result (Vec ℕ Global) NoMemory) → IfOk r (λ image. image.items ≡ left_of left h)
+    → IfOk r (λ image. IsImage h image.items)
 is_image left h (Ok v) is = subst (λ (c : List ℕ). IsImage h c) (sym is) (left_is_image left h)
 is_image left h (Err e) is = tt
 

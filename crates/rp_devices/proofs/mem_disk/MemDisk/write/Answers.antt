@@ -7,7 +7,8 @@ invariant_of-self-in-Ok c =
     let copied : c.in_ok-to_vec.field-0.items ≡ c.args.piece.now = search rules in
     record {
       remembered = written_file c.args.self.now.first.items c.args.self.now.log.items c.args.self.now.bytes.items c.args.self.now.remembered
-          c.args.at c.in_ok-to_vec.field-0 c.args.piece.now copied c.push.new.self.items c.in_ok-push.ensures.items c.put_over.new.bytes.items c.in-Ok.ensures.ok;
+          c.args.at c.in_ok-to_vec.field-0 c.args.piece.now copied c.push.new.self.items c.in_ok-push.ensures.items
+          c.put_over.new.bytes.items c.in-Ok.ensures.ok;
     }
 
 pub returns-in-Ok-clause-ok : goal.returns-in-Ok-clause-ok

@@ -8,6 +8,7 @@ returns-in-Ok-clause-ok c = (
   c.in-Ok.ensures.ok.0,
   λ port. (
     on_port ((c.args.port, c.args.bytes.now) ∷ []) port,
-    ap (λ (l : List (ℕ × List ℕ)). on_port l port) c.in-Ok.ensures.ok.1 ∙ on_port-append (all_of c.args.self.now.coming) ((c.args.port, c.args.bytes.now) ∷ []) port,
+    ap (λ (l : List (ℕ × List ℕ)). on_port l port) c.in-Ok.ensures.ok.1 ∙ on_port-append (all_of c.args.self.now.coming)
+        ((c.args.port, c.args.bytes.now) ∷ []) port,
   ),
 )

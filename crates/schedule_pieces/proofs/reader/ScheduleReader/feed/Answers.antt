@@ -13,7 +13,8 @@ pub invariant_of-self-in-Some : goal.invariant_of-self-in-Some
 invariant_of-self-in-Some c =
     let first = rw c.bytes.ensures at c.in-Some.ensures in
     let room = rw (← c.self.view_is) at c.requires in
-    let sizes : length c.push.new.self ≡ length c.self.inside.window + length c.args.piece.now = rw c.push.ensures (length-append c.self.inside.window c.args.piece.now) in
+    let sizes : length c.push.new.self
+    ≡ length c.self.inside.window + length c.args.piece.now = rw c.push.ensures (length-append c.self.inside.window c.args.piece.now) in
     record {
       room = λ no. absurd cc;
       partial = λ no going. absurd cc;
@@ -29,4 +30,5 @@ returns-in-Some-clause-stands c fed es stands =
     let first = rw c.bytes.ensures at c.in-Some.ensures in
     let room = rw (← c.self.view_is) at c.requires in
     let few : length c.push.new.self ≤ most_waiting = rw c.push.ensures (omega (arith, length-append r.window c.args.piece.now, room)) in
-    feeds_header r _ (header c.fill.new.header) c.push.new.self c.args.piece.now c.in-Some.field-0.size c.if-self.false c.push.ensures few (rw c.fill.ensures first.0) first.1 refl refl refl refl c.skip.ensures fed es (rw (← c.self.view_is) at stands)
+    feeds_header r _ (header c.fill.new.header) c.push.new.self c.args.piece.now c.in-Some.field-0.size c.if-self.false c.push.ensures few
+    (rw c.fill.ensures first.0) first.1 refl refl refl refl c.skip.ensures fed es (rw (← c.self.view_is) at stands)

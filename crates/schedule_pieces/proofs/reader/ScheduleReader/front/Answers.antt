@@ -10,7 +10,8 @@ pub returns-then-self-clause-sees : goal.returns-then-self-clause-sees
 returns-then-self-clause-sees c =
     let r = c.self.inside in
     let begins = rw c.bytes-waiting.ensures at c.event_front.ensures in
-    rw (← c.self.view_is) (sees_event (reading r) (header r.header) (roles r.roles) (rw c.if-self.true refl) (c.self.invariant.known c.if-self.true) c.event_front.result begins)
+    rw (← c.self.view_is) (sees_event (reading r) (header r.header) (roles r.roles) (rw c.if-self.true refl)
+    (c.self.invariant.known c.if-self.true) c.event_front.result begins)
 
 pub returns-in-Some-decide-clause-sees : goal.returns-in-Some-decide-clause-sees
 returns-in-Some-decide-clause-sees c =
@@ -26,4 +27,5 @@ returns-in-None-clause-sees c =
     let none : (reading r).header ≡ None = rw c.if-self.false refl in
     let read = rw c.bytes-waiting.ensures at c.header_found.ensures.found in
     let less = rw c.bytes-waiting.ensures at c.header_found.ensures.few in
-    rw (← c.self.view_is) (no_header (reading r) c.header_found.result none (c.self.invariant.room c.if-self.false).2 c.self.invariant.few read c.in-None.ensures.0 (less c.in-None.ensures.0))
+    rw (← c.self.view_is) (no_header (reading r) c.header_found.result none
+    (c.self.invariant.room c.if-self.false).2 c.self.invariant.few read c.in-None.ensures.0 (less c.in-None.ensures.0))

@@ -13,11 +13,16 @@ use Rattle.slot_quorums.proofs.quorums.Quorums.add.Goals as goal
 
 pub invariant_of-self : goal.invariant_of-self
 invariant_of-self c =
-    let fresh : defs.claim_on c.self.inside.claims.pool.heard c.args.claim.now.signer (plain.slot_of (stmt c.args.claim.now.statement)) ≡ None = ap (λ (r : Holding). defs.claim_on r.pool.heard c.args.claim.now.signer (plain.slot_of (stmt c.args.claim.now.statement))) c.self.view_is ∙ c.requires.fresh in
-    let view : IsView c.add.new.self.pool.view = subst (λ (k : Pool). IsView k.view) (sym c.add.ensures.heard) (subst IsView c.view.ensures c.number-number.ensures.within.1) in
+    let fresh : defs.claim_on c.self.inside.claims.pool.heard c.args.claim.now.signer (plain.slot_of (stmt c.args.claim.now.statement))
+    ≡ None = ap (λ (r : Holding). defs.claim_on r.pool.heard c.args.claim.now.signer
+    (plain.slot_of (stmt c.args.claim.now.statement))) c.self.view_is ∙ c.requires.fresh in
+    let view : IsView c.add.new.self.pool.view = subst (λ (k : Pool). IsView k.view) (sym c.add.ensures.heard)
+    (subst IsView c.view.ensures c.number-number.ensures.within.1) in
     let key : c.slot_key_of-key.result ≡ slot_key (plain.slot_of (stmt c.args.claim.now.statement)) = c.slot_key_of-key.ensures in
     let was : IsOf c.self.inside.claims.pool (plain.slot_of (stmt c.args.claim.now.statement)) c.cell_at-was.result =
-    subst (IsOf c.self.inside.claims.pool (plain.slot_of (stmt c.args.claim.now.statement))) (sym (c.cell_at-was.ensures ∙ ap (λ k. lookup (same_slot_key k) c.self.inside.cells.entries) key)) (c.self.invariant (plain.slot_of (stmt c.args.claim.now.statement))) in
+    subst (IsOf c.self.inside.claims.pool (plain.slot_of (stmt c.args.claim.now.statement)))
+    (sym (c.cell_at-was.ensures ∙ ap (λ k. lookup (same_slot_key k) c.self.inside.cells.entries) key))
+    (c.self.invariant (plain.slot_of (stmt c.args.claim.now.statement))) in
     all_cells c.self.inside.claims.pool (claim c.args.claim.now) fresh c.add.new.self.pool c.add.ensures.heard view
     (λ k. lookup (same_slot_key k) c.self.inside.cells.entries) (λ k. lookup (same_slot_key k) c.put.new.cells.entries) c.self.invariant
     c.cell_with-cell.result (c.cell_with-cell.ensures c.self.inside.claims.pool c.add.ensures.heard fresh c.size-place.ensures.claims was)

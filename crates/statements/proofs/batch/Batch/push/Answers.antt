@@ -6,4 +6,5 @@ use Rattle.statements.proofs.batch.Batch.push.Goals as goal
 pub invariant_of-self : goal.invariant_of-self
 invariant_of-self c =
     let len = (filled_again c.self.inside.len c.self.inside.messages c.self.invariant).1 in
-    put_behind c.self.inside.len c.self.inside.messages (c.args.sender, c.args.number) c.self.invariant (omega (arith, len, ap length c.self.view_is))
+    put_behind c.self.inside.len c.self.inside.messages (c.args.sender, c.args.number) c.self.invariant
+    (omega (arith, len, ap length c.self.view_is))
