@@ -3,4 +3,4 @@
 
 mod streams;
 
-pub use streams::{Reading, StdSink, StdSource, Writing};
+pub use streams::{Reading, StdErrors, StdSink, StdSource, Writing};

@@ -3,7 +3,7 @@ ghost use Rattle.rp_base.specs.Causes.{Rose};
 ghost use Rattle.net_edge.specs.Streams.{faults_read, faults_written};
 
 use rp_base::{Failed, Sink, Source};
-use std::io::{ErrorKind, Read, Stdin, Stdout, Write};
+use std::io::{ErrorKind, Read, Stderr, Stdin, Stdout, Write};
 
 /// Counts one fault more.
 fn fail(faults: &mut u64) -> Result<usize, Failed>
@@ -73,6 +73,21 @@ impl Writing<Stdout> {
     {
         Writing {
             writer: rt.stdout(),
+            faults: 0,
+        }
+    }
+}
+
+/// Standard error.
+pub type StdErrors = Writing<Stderr>;
+
+impl Writing<Stderr> {
+    /// Nothing is written yet.
+    pub fn new(rt: &HostRuntime) -> StdErrors
+        ensures { faults_written result ≡ 0 }
+    {
+        Writing {
+            writer: rt.stderr(),
             faults: 0,
         }
     }

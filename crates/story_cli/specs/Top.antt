@@ -1,0 +1,123 @@
+-- What the program answers.
+--
+-- A stream tells what it holds where its `left` or `written` is `Some bytes`, as streams in memory do. Standard input, output and error do
+-- not tell: theirs is `None`. Of a stream that does not tell, `Consumes`, `IsAtEnd`, `Appends` and `AppendsPrefix` hold whatever the bytes.
+use Rattle.std.specs.Prelude.{◌≡◌, ℕ, List, [], ◌∷◌, map, Option, Ok, Err, IsOk, codes, String, string_bytes}
+use Rattle.std.specs.Io.KnownBytes.{Appends, Consumes, IsAtEnd}
+use Rattle.std.specs.declared.alloc.Global.{Global}
+use Rattle.rp_base.specs.Streams.{AppendsPrefix, Says}
+use Rattle.replay_defs.specs.declared.Fault.{Fault}
+use Rattle.replay_defs.specs.Schedules as schedules
+use Rattle.replay_defs.specs.Schedules.{IsSchedule, schedule_bytes}
+use Rattle.replay_defs.specs.Reading.{schedule_of}
+use Rattle.story_defs.specs.declared.StoryFault.{StoryFault}
+use Rattle.story_defs.specs.Stories.{story_of}
+use Rattle.story_defs.specs.Texts.{schedule_text}
+use Rattle.story_cli.specs.declared.stops.Stop.TheVariants.{Story, Schedule}
+use Rattle.story_cli.specs.declared.commands.Command.{Command}
+use Rattle.story_cli.specs.declared.commands.Command.TheVariants.{Assemble, Text}
+use Rattle.story_cli.specs.Messages.{line_of}
+
+-- ---- the words
+
+abbrev pub command_word : Command → List ℕ
+command_word Assemble = codes "assemble"
+command_word Text = codes "text"
+
+-- the words are those of this command
+abbrev pub Asks : List (String Global) → Command → Type 0
+Asks words command = map string_bytes words ≡ command_word command ∷ []
+
+-- the words are those of some command
+abbrev pub AskAny : List (String Global) → Type 0
+AskAny words = (command : Command) × Asks words command
+
+-- ---- what is made of an input
+
+-- The text is a story, and these are the bytes of its schedule.
+pub record Assembles (text bytes : List ℕ) : Type 0 where
+  pub schedule : schedules.Schedule
+  pub fits : IsSchedule schedule
+  pub spelled : bytes ≡ schedule_bytes schedule
+  pub assembled : story_of text ≡ Ok bytes
+
+-- The bytes are a schedule, and this is its text.
+pub record Tells (bytes text : List ℕ) : Type 0 where
+  pub schedule : schedules.Schedule
+  pub fits : IsSchedule schedule
+  pub spelled : bytes ≡ schedule_bytes schedule
+  pub told : text ≡ schedule_text schedule
+
+-- what the command makes of an input
+abbrev pub MakesOf : Command → List ℕ → List ℕ → Type 0
+MakesOf Assemble input output = Assembles input output
+MakesOf Text input output = Tells input output
+
+-- the command makes something of the input
+abbrev pub Has : Command → List ℕ → Type 0
+Has Assemble input = IsOk (story_of input)
+Has Text input = IsOk (schedule_of input)
+
+-- ---- the input and the output, by what a source had left before and has left now, and what a sink held before and holds now
+
+-- The input was read to its end, and what the command makes of it was written, and nothing else.
+pub record Made (command : Command) (before now old new : Option (List ℕ)) : Type 0 where
+  pub input : List ℕ
+  pub taken : Consumes before now input
+  pub ended : IsAtEnd now
+  pub output : List ℕ
+  pub makes : MakesOf command input output
+  pub written : Appends old new output
+
+-- a prefix of it was written, and nothing else
+pub record MadeInPart (command : Command) (before now old new : Option (List ℕ)) : Type 0 where
+  pub input : List ℕ
+  pub taken : Consumes before now input
+  pub ended : IsAtEnd now
+  pub output : List ℕ
+  pub makes : MakesOf command input output
+  pub written : AppendsPrefix old new output
+
+-- The input was read to its end and is no story, and what was expected in which line was written to standard error, or this failed in the
+-- midst of it: by the count of its faults before and now.
+pub record NoStory (before now old new : Option (List ℕ)) (faults faults_now : ℕ) : Type 0 where
+  pub input : List ℕ
+  pub taken : Consumes before now input
+  pub ended : IsAtEnd now
+  pub fault : StoryFault
+  pub none : story_of input ≡ Err fault
+  pub line : Says (line_of (Story fault)) old new faults faults_now
+
+-- The input was read to its end and is no schedule, and its fault was written to standard error, or this failed in the midst of it.
+pub record NoSchedule (before now old new : Option (List ℕ)) (faults faults_now : ℕ) : Type 0 where
+  pub input : List ℕ
+  pub taken : Consumes before now input
+  pub ended : IsAtEnd now
+  pub fault : Fault
+  pub none : schedule_of input ≡ Err fault
+  pub line : Says (line_of (Schedule fault)) old new faults faults_now
+
+-- ---- on the way
+
+-- the input was read to its end, and the command makes this of it
+pub record Given (command : Command) (before now : Option (List ℕ)) (output : List ℕ) : Type 0 where
+  pub input : List ℕ
+  pub taken : Consumes before now input
+  pub ended : IsAtEnd now
+  pub makes : MakesOf command input output
+
+-- the command is to assemble, and the input, which was read to its end, has this fault
+pub record IsNoStory (command : Command) (before now : Option (List ℕ)) (fault : StoryFault) : Type 0 where
+  pub asked : command ≡ Assemble
+  pub input : List ℕ
+  pub taken : Consumes before now input
+  pub ended : IsAtEnd now
+  pub none : story_of input ≡ Err fault
+
+-- the command is to tell, and the input, which was read to its end, has this fault
+pub record IsNoSchedule (command : Command) (before now : Option (List ℕ)) (fault : Fault) : Type 0 where
+  pub asked : command ≡ Text
+  pub input : List ℕ
+  pub taken : Consumes before now input
+  pub ended : IsAtEnd now
+  pub none : schedule_of input ≡ Err fault

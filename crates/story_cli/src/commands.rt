@@ -1,0 +1,30 @@
+ghost use Rattle.std.specs.Prelude.{◌≡◌, Some, IfSome};
+ghost use Rattle.story_cli.specs.declared.commands.Command.{Command};
+ghost use Rattle.story_cli.specs.Top.{Asks};
+
+/// What the words ask for.
+#[derive(Clone, Copy, Debug, PartialEq, Eq)]
+pub enum Command {
+    /// The schedule of a story.
+    Assemble,
+
+    /// The story of a schedule.
+    Text,
+}
+
+/// The command of these words; None exactly where they are none's.
+pub fn command_of(words: &[String]) -> Option<Command>
+    ensures found { IfSome result (Asks words.now) }
+    ensures only { (command : Command) → Asks words.now command → result ≡ Some command }
+{
+    let [word] = words else {
+        return None;
+    };
+    if word.as_bytes() == b"assemble".as_slice() {
+        Some(Command::Assemble)
+    } else if word.as_bytes() == b"text".as_slice() {
+        Some(Command::Text)
+    } else {
+        None
+    }
+}

@@ -1,0 +1,63 @@
+//! What each command makes of its input.
+ghost use Rattle.std.specs.Prelude.{◌≡◌, ◌⊎◌, ℕ, List, Err, IfOk, IfErr, IsErrOf};
+ghost use Rattle.replay_defs.specs.declared.Fault.{Fault};
+ghost use Rattle.replay_defs.specs.Reading.{schedule_of};
+ghost use Rattle.schedule_fields.specs.Faults as read;
+ghost use Rattle.story_defs.specs.declared.StoryFault.{StoryFault};
+ghost use Rattle.story_defs.specs.Stories.{story_of};
+ghost use Rattle.story_cli.specs.Stopping.{stop_of};
+ghost use Rattle.story_cli.specs.Top.{Assembles, Tells};
+
+use crate::stops::Stop;
+use replay_defs::{Fault, FaultKind};
+use schedule_reading::{ScheduleFault, read_schedule};
+use std::alloc::Global;
+use story_reading::{AssembleFault, assemble};
+use story_writing::push_story;
+
+/// The bytes of the schedule that the text spells.
+pub fn schedule_of_text(alloc: Global, text: &[u8]) -> Result<Vec<u8>, Stop>
+    ensures made { IfOk result (λ bytes. Assembles text.now bytes.items) }
+    ensures refused { (fault : StoryFault) → IsErrOf result (Stop.Story fault) → story_of text.now ≡ Err fault }
+    ensures only { IfErr result (λ stop. (stop ≡ Stop.NoMemory) ⊎ ((fault : StoryFault) × (stop ≡ Stop.Story fault))) }
+{
+    match assemble(alloc, text) {
+        Ok(bytes) => Ok(bytes),
+        Err(AssembleFault::Story(fault)) => Err(Stop::Story(fault)),
+        Err(AssembleFault::NoMemory) => Err(Stop::NoMemory),
+    }
+}
+
+// Why no schedule was read.
+fn stop_of(fault: ScheduleFault) -> Stop
+    ensures { result ≡ stop_of (read.fault_of fault) }
+{
+    let (kind, place) = match fault {
+        ScheduleFault::Short { place } => (FaultKind::Short, place),
+        ScheduleFault::Magic { place } => (FaultKind::Magic, place),
+        ScheduleFault::Scheme { place } => (FaultKind::Scheme, place),
+        ScheduleFault::Roster { place } => (FaultKind::Roster, place),
+        ScheduleFault::Key { place } => (FaultKind::Key, place),
+        ScheduleFault::Tag { place } => (FaultKind::Tag, place),
+        ScheduleFault::Field { place } => (FaultKind::Field, place),
+        ScheduleFault::TooLong { place } => (FaultKind::TooLong, place),
+        ScheduleFault::TooMany { place } => (FaultKind::TooMany, place),
+        ScheduleFault::NoMemory => return Stop::NoMemory,
+    };
+    Stop::Schedule(Fault { kind, place })
+}
+
+/// The text of the schedule that the bytes spell.
+pub fn text_of_schedule(alloc: Global, bytes: &[u8]) -> Result<Vec<u8>, Stop>
+    ensures made { IfOk result (λ text. Tells bytes.now text.items) }
+    ensures refused { (fault : Fault) → IsErrOf result (Stop.Schedule fault) → schedule_of bytes.now ≡ Err fault }
+    ensures only { IfErr result (λ stop. (stop ≡ Stop.NoMemory) ⊎ ((fault : Fault) × (stop ≡ Stop.Schedule fault))) }
+{
+    let schedule = match read_schedule(alloc, bytes) {
+        Ok(schedule) => schedule,
+        Err(fault) => return Err(stop_of(fault)),
+    };
+    let mut text = Vec::new(alloc);
+    push_story(&schedule, &mut text)?;
+    Ok(text)
+}

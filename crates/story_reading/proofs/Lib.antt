@@ -1,0 +1,4 @@
+pub mod Additions
+pub mod TextLines
+pub mod MarkLoop
+pub mod Spelled

@@ -1,0 +1,9 @@
+//! The text of a schedule (docs/FORMATS.md).
+#![tactic(auto)]
+
+mod headers;
+mod statements_said;
+mod tokens;
+mod writing;
+
+pub use writing::push_story;

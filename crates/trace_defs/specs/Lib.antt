@@ -1,4 +1,0 @@
-pub mod Phrases
-pub mod Outcomes
-pub mod Happenings
-pub mod Events

@@ -1,0 +1,20 @@
+# Bytes that are no frames, handed over as such: each of the ten faults of a frame (refused)
+group 00000000000000000000000000000000 plain
+process 0 correct plain 100000
+process 1 correct plain 100000
+process 2 correct plain 100000
+process 3 corrupt plain 100000
+genesis 0 1 2 3
+raw 0 from 3 ""
+raw 0 from 3 02
+raw 0 from 3 0104
+raw 0 from 3 010100
+raw 0 from 3 010101000001030000
+raw 0 from 3 01020100070100000000000001030000
+raw 0 from 3 0101010005060000030101030000
+raw 0 from 3 0101010005070000040101030000
+raw 0 from 3 010101000a0800000101010300000001030000
+raw 0 from 3 010304000000
+raw 0 from 3 010101000901
+raw 1 from 3 0101010005070000000002030000030000
+raw 2 from 3 01030000000000

@@ -1,0 +1,11 @@
+# Three messages that are certified together stand at one place, since an Order may have up to 16 (RPS3)
+group 00000000000000000000000000000000 plain batch 16
+process 0 correct plain 100000
+process 1 correct plain 100000
+genesis 0 1
+submit 0 "a"
+submit 0 "b"
+submit 0 "c"
+drain 1000 to nobody
+tick 0
+drain 1000 to all
