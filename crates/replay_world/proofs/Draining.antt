@@ -1,9 +1,15 @@
 -- Deliveries one after the other.
-use Rattle.std.proofs.Common.{◌≡◌, ℕ, suc, Bool, true, false, Option, Some, None, refl, sym, ap, subst, ◌∙◌}
+use Rattle.std.proofs.Common.{◌≡◌, ℕ, suc, Bool, true, false, List, [], ◌++◌, Option, Some, None, refl, sym, ap, subst, ◌∙◌, append_assoc, append-nil}
 use Rattle.std.specs.Prelude.{is_some, slice_get}
 use Rattle.replay_defs.specs.Schedules.{Header}
 use Rattle.replay_defs.specs.Worlds as plain
 use Rattle.replay_defs.specs.Worlds.{setting_of, drains}
+use Rattle.trace_defs.specs.Happenings.{Happening}
+use Rattle.told_defs.specs.Told.{drain_tells}
+use Rattle.happenings.specs.declared.told.Told.{Told}
+use Rattle.happenings.specs.Told.{Tells}
+use Rattle.replay_world.specs.Telling.{TellsOf, oldest_tells}
+use Rattle.replay_world.proofs.Saying.{none_told, one_told, tells_more, tells_nothing, zero_told}
 use Rattle.replay_world.specs.declared.world.World.{World}
 use Rattle.replay_world.specs.declared.fault.WorldFault.{WorldFault}
 use Rattle.replay_world.specs.Traffic.{IsTooMuch}
@@ -91,3 +97,67 @@ drains_exceed mask all left first old fault on exceeds = λ h v shows.
     let P : plain.World → Type 0 = λ w. IsTooMuch fault w in
     subst P way.leads (exceeds_at h mask left way.world fault (is_some (slice_get way.world.pending 0)) refl
     (exceeds h way.world way.shows))
+
+-- ---- what is told of deliveries
+
+-- What is told so far, and of what is left, is what is told of all.
+pub record ToldOnTheWay (mask all : ℕ) (first_told : Told) (left : ℕ) (now : World) (told : Told) (h : Header)
+    (v : plain.World) : Type 0 where
+  pub world : plain.World
+  pub shows : Shows h now world
+  pub so_far : List Happening
+  pub tells : Tells first_told so_far told
+  pub leads : so_far ++ drain_tells (setting_of h) mask left world ≡ drain_tells (setting_of h) mask all v
+
+-- for each world that the first one shows
+abbrev pub ToldSoFar : ℕ → ℕ → World → Told → ℕ → World → Told → Type 0
+ToldSoFar mask all first first_told left now told = (h : Header) (v : plain.World) → Shows h first v
+    → ToldOnTheWay mask all first_told left now told h v
+
+pub told_begin : (mask all : ℕ) (first : World) (told : Told) → ToldSoFar mask all first told all first told
+told_begin mask all first told = λ h v shows. record { world = v; shows = shows; so_far = []; tells = tells_nothing told; leads = refl }
+
+-- one delivery more
+pub told_on : (mask all left : ℕ) (first old new : World) (first_told told new_told : Told)
+    → ToldSoFar mask all first first_told (suc left) old told
+    → Becomes (λ h v. oldest_arrives (setting_of h) mask v) old new → TellsOf (λ h v. oldest_tells (setting_of h) mask v) old told new_told
+    → ((h : Header) (v : plain.World) → Shows h old v → true ≡ is_some (slice_get v.pending 0))
+    → ToldSoFar mask all first first_told left new new_told
+told_on mask all left first old new first_told told new_told on becomes tells waits = λ h v shows.
+    let way = on h v shows in
+    let s = setting_of h in
+    let one = oldest_tells s mask way.world in
+    let rest = drain_tells s mask left (oldest_arrives s mask way.world) in
+    record {
+      world = oldest_arrives s mask way.world;
+      shows = becomes h way.world way.shows;
+      so_far = way.so_far ++ one;
+      tells = tells_more first_told told new_told way.so_far one way.tells (tells h way.world way.shows);
+      leads = append_assoc way.so_far one rest
+          ∙ ap (λ (xs : List Happening). way.so_far ++ xs)
+          (sym (one_told s mask left way.world (slice_get way.world.pending 0) refl (sym (waits h way.world way.shows))))
+          ∙ way.leads;
+    }
+
+-- none is left to make
+pub told_done : (mask all : ℕ) (first now : World) (first_told told : Told) → ToldSoFar mask all first first_told 0 now told
+    → TellsOf (λ h v. drain_tells (setting_of h) mask all v) first first_told told
+told_done mask all first now first_told told on = λ h v shows.
+    let way = on h v shows in
+    let P : List Happening → Type 0 = λ xs. Tells first_told xs told in
+    subst P (sym (append-nil way.so_far) ∙ ap (λ (xs : List Happening). way.so_far ++ xs)
+    (sym (zero_told (setting_of h) mask way.world)) ∙ way.leads) way.tells
+
+-- none waits any more
+pub told_out : (mask all left : ℕ) (first old : World) (first_told told new_told : Told) → ToldSoFar mask all first first_told left old told
+    → TellsOf (λ h v. oldest_tells (setting_of h) mask v) old told new_told
+    → ((h : Header) (v : plain.World) → Shows h old v → false ≡ is_some (slice_get v.pending 0))
+    → TellsOf (λ h v. drain_tells (setting_of h) mask all v) first first_told new_told
+told_out mask all left first old first_told told new_told on tells waits = λ h v shows.
+    let way = on h v shows in
+    let one = oldest_tells (setting_of h) mask way.world in
+    let P : List Happening → Type 0 = λ xs. Tells first_told xs new_told in
+    subst P (ap (λ (xs : List Happening). way.so_far ++ xs)
+    (sym (none_told (setting_of h) mask left way.world (slice_get way.world.pending 0) refl
+    (sym (waits h way.world way.shows)))) ∙ way.leads)
+    (tells_more first_told told new_told way.so_far one way.tells (tells h way.world way.shows))

@@ -1,7 +1,7 @@
 -- An event is handed to a player.
-use Rattle.std.proofs.Common.{◌≡◌, ℕ, true, ◌&&◌, List, ◌++◌, ◌==◌, ◌≤◌, nat_lt, length, get_or, map, Option, Some, None, Result, Ok, Err, refl, sym, ap, subst, ◌∙◌, arith, append_assoc}
+use Rattle.std.proofs.Common.{◌≡◌, ℕ, true, ◌&&◌, List, [], ◌∷◌, ◌++◌, ◌==◌, ◌≤◌, nat_lt, length, get_or, map, Option, Some, None, Result, Ok, Err, refl, sym, ap, subst, ◌∙◌, arith, append_assoc}
 use Rattle.std.proofs.lemmas.List.{length-map}
-use Rattle.std.specs.Prelude.{OnOk, option_map, slice_get, slice_set}
+use Rattle.std.specs.Prelude.{OnOk, find, option_map, slice_get, slice_set}
 use Rattle.std.proofs.lemmas.Bool.{ltb-true}
 use Rattle.std.proofs.lemmas.Option.{slice_get-get_or}
 use Rattle.replay_world.proofs.Happenings.{get_map, get_past}
@@ -29,6 +29,14 @@ use Rattle.replay_world.specs.Handing.{handed_frames, bytes_in, claims_of}
 use Rattle.replay_world.specs.Stepping.{StepsAt}
 use Rattle.replay_world.specs.Worlds.{Shows, Becomes, handed_bytes}
 use Rattle.replay_world.specs.Steps.{noted, Notes, NotesTooMuch}
+use Rattle.trace_defs.specs.Outcomes.{seen}
+use Rattle.trace_defs.specs.Happenings as defs
+use Rattle.told_defs.specs.Told.{takes_in}
+use Rattle.happenings.specs.declared.told.Handed.{Handed}
+use Rattle.happenings.specs.declared.told.Told.{Told}
+use Rattle.happenings.specs.Told.{handed, Tells}
+use Rattle.replay_world.specs.Telling.{TellsStep}
+use Rattle.replay_world.proofs.Saying.{takes_placed}
 use Rattle.replay_world.proofs.Seats.{FindsAlike, PlacedAt, finds_alike}
 use Rattle.replay_world.proofs.HandedOver.{passes, passes_parts, event_passes, mark_adds, and_swap}
 use Rattle.replay_world.proofs.Showing.{Turned, KeepsTurn, turned_at, turned_shows, map_kept, players_rise, hands_placed, hands_absent, among_at}
@@ -41,6 +49,13 @@ pub placed : (at : ℕ) (r : Option ℕ) (ps qs : List Player) (i : ℕ) → r �
 placed at r ps qs i is found same = sym (ap (place_in at) same) ∙ (sym found ∙ is)
 
 -- nobody has this number
+pub no_player : (h : Header) (old : World) (v : plain.World) (at : ℕ) (r : Option ℕ) (ps : List Player) → Shows h old v → r ≡ None
+    → r ≡ place_in at ps
+    → ps ≡ old.players.items → find (λ x. x.listed.process == at) v.players ≡ None
+no_player h old v at r ps shows none is same =
+    let P : Option ℕ → Type 0 = λ x. FindsAlike at v.players 0 x in
+    subst P (sym (ap (place_in at) same) ∙ (sym is ∙ none)) (finds_alike (setting_of h) at 0 old.players.items v.players shows.players)
+
 pub nobody : (old : World) (at : ℕ) (e : group.Event) (r : Option ℕ) (ps : List Player) → r ≡ None → r ≡ place_in at ps
     → ps ≡ old.players.items
     → Becomes (λ h v. plain.hands (setting_of h) v at e) old old
@@ -59,6 +74,7 @@ pub record Given (h : Header) (stepped : World) (v : plain.World) (at : ℕ) (e 
   pub among : has (numbers world) at ≡ true
   pub is : IsOutcome out r
   pub hands : plain.hands (setting_of h) v at e ≡ noted at out world
+  pub told : (what : defs.Handed) → takes_in (setting_of h) v at what e ≡ defs.Takes at what (length v.frames) (seen out) ∷ []
 
 pub given : (h : Header) (old stepped : World) (v : plain.World) (at i : ℕ) (ev : Event) (r : Outcome) → Shows h old v
     → place_in at old.players.items ≡ Some i
@@ -82,7 +98,17 @@ given h old stepped v at i ev r shows is steps same carries keeps =
           ∙ among_at v.players i at found.at get found.is;
       is = step.outcome;
       hands = hands_placed h v at (event ev) found.at i (players_rise h old v shows) get found.is found.found;
+      told = λ what. takes_placed (setting_of h) v at what (event ev) found.at found.found;
     }
+
+-- what came of it is told
+pub given_tells : (h : Header) (stepped : World) (v : plain.World) (at : ℕ) (e : group.Event) (r : Outcome) (what : Handed) (first : ℕ)
+    (old new : Told)
+    → Given h stepped v at e r → length v.frames ≡ first → TellsStep old at what first r new
+    → Tells old (takes_in (setting_of h) v at (handed what) e) new
+given_tells h stepped v at e r what first old new g counted step =
+    let P : List defs.Happening → Type 0 = λ xs. Tells old xs new in
+    subst P (sym (g.told (handed what) ∙ ap (λ (n : ℕ). defs.Takes at (handed what) n (seen g.out) ∷ []) counted)) (step g.out g.is)
 
 -- what came of it is noted
 pub given_becomes : (h : Header) (stepped new : World) (v : plain.World) (at : ℕ) (e : group.Event) (r : Outcome) → Given h stepped v at e r

@@ -14,3 +14,4 @@ pub mod Beginning
 pub mod Popping
 pub mod Stopping
 pub mod Telling
+pub mod Saying

@@ -1,5 +1,5 @@
 -- The oldest delivery is taken out.
-use Rattle.std.proofs.Common.{◌≡◌, ℕ, ◌∷◌, map, drop, Option, Some, None, sym, ap, subst, ◌∙◌}
+use Rattle.std.proofs.Common.{◌≡◌, ℕ, ◌∷◌, List, map, drop, Option, Some, None, sym, ap, subst, ◌∙◌}
 use Rattle.std.specs.Prelude.{slice_get}
 use Rattle.std.specs.VecDeque.{deque_items}
 use Rattle.replay_defs.specs.Schedules.{Header}
@@ -8,6 +8,11 @@ use Rattle.replay_defs.specs.Worlds.{setting_of}
 use Rattle.replay_world.specs.declared.traffic.Delivery.{Delivery}
 use Rattle.replay_world.specs.declared.world.World.{World}
 use Rattle.replay_world.specs.declared.fault.WorldFault.{WorldFault}
+use Rattle.trace_defs.specs.Happenings.{Happening}
+use Rattle.happenings.specs.declared.told.Told.{Told}
+use Rattle.happenings.specs.Told.{Tells}
+use Rattle.replay_world.specs.Telling.{TellsOf, arrives_or_lost, oldest_tells}
+use Rattle.replay_world.proofs.Saying.{oldest_told}
 use Rattle.replay_world.specs.Traffic.{delivery, IsTooMuch}
 use Rattle.replay_world.specs.Worlds.{Shows, Becomes, Exceeds}
 use Rattle.replay_world.specs.Steps.{arrives, oldest_arrives}
@@ -66,3 +71,12 @@ pub pops_exceed : (old mid : World) (d : Delivery) (mask : ℕ) (fault : WorldFa
 pops_exceed old mid d mask fault is popped exceeds = λ h v shows.
     let P : plain.World → Type 0 = λ w. IsTooMuch fault w in
     subst P (sym (oldest_is h old mid v d mask shows popped)) (exceeds h (others_of v) (popped_shows h old mid v d shows is popped))
+
+pub pops_tell : (old mid : World) (d : Delivery) (mask : ℕ) (before now : Told)
+    → mid ≡ record old { traffic = record old.traffic { pending = mid.traffic.pending } }
+    → deque_items old.traffic.pending ≡ d ∷ deque_items mid.traffic.pending
+    → TellsOf (λ h v. arrives_or_lost (setting_of h) mask v (delivery d)) mid before now
+    → TellsOf (λ h v. oldest_tells (setting_of h) mask v) old before now
+pops_tell old mid d mask before now is popped tells = λ h v shows.
+    let P : List Happening → Type 0 = λ xs. Tells before xs now in
+    subst P (sym (oldest_told h old mid v d mask shows popped)) (tells h (others_of v) (popped_shows h old mid v d shows is popped))

@@ -12,12 +12,14 @@ use Rattle.rp_base.specs.Pids.{members}
 use Rattle.rp_base.proofs.Members.{has_member}
 use Rattle.replay_defs.specs.declared.Scheme.{Scheme}
 use Rattle.replay_defs.specs.Signers.{key_total}
-use Rattle.replay_defs.specs.Schedules.{Header, Listed, AreListed, is_corrupt}
+use Rattle.replay_defs.specs.Schedules.{IsEvent, Header, Listed, AreListed, is_corrupt}
 use Rattle.replay_defs.specs.Worlds as plain
 use Rattle.replay_defs.specs.Worlds.{Sent, lies_of, lie_claim, sends_lie, is_in}
 use Rattle.sig_scheme.specs.Signers.{used, total, signature}
 use Rattle.replay_cast.specs.declared.liar.Liar.{Liar}
 use Rattle.replay_cast.specs.Liars.{Lies, AreLiars, Told, bundle_of, lie_of}
+use Rattle.trace_defs.specs.Happenings as defs
+use Rattle.told_defs.specs.Told.{lie_tells, liar_tells}
 use Rattle.replay_world.specs.Lying.{SameLiar, LiesAt}
 use Rattle.replay_world.proofs.Seats.{Rises, listed_rise}
 use Rattle.signature_defs.specs.Schemes.{is_valid}
@@ -411,3 +413,67 @@ lie_spent old new p i m bytes st place lie read is = λ h v s event.
         count = s.count;
       }),
     )
+
+-- ---- what is told of a lie
+
+-- there always is a corrupt process of that number
+pub no_liar : (old : World) (p m : ℕ) (bytes : List ℕ) (r : Option ℕ) (xs : List Liar) → r ≡ None
+    → r ≡ position_from (λ x. x.process == p) 0 xs → xs ≡ old.liars.items
+    → (h : Header) (v : plain.World) → Shows h old v → IsEvent h.processes (Lie p m bytes) → ⊥
+no_liar old p m bytes r xs none is same h v s event =
+    let P : Option ℕ → Type 0 = λ q. FindsLiar p v.frames old.liars.items (corrupt_of h.processes) 0 q in
+    let place : position_from (λ (x : Liar). x.process == p) 0 old.liars.items
+    ≡ None = sym (ap (position_from (λ (x : Liar). x.process == p) 0) same) ∙ (sym is ∙ none) in
+    corrupt_found p h.processes event.0 (subst P place (finds_liar p 0 v.frames old.liars.items (corrupt_of h.processes) s.liars))
+
+-- where the liar is listed and the statement is one
+liar_is : (h : Header) (v : plain.World) (p m : ℕ) (bytes : List ℕ) (st : Statement) (l : Listed)
+    → find (is_listed_as p) h.processes ≡ Some l → statement_of bytes ≡ Ok st
+    → liar_tells h v p m bytes ≡ lie_tells v m l bytes
+liar_is h v p m bytes st l found read =
+    ap (λ r. elim r as (λ (x : Option Listed). List defs.Happening) [
+      | None ↦ []
+      | Some k ↦ elim (statement_of bytes) as
+          (λ (x : Result Statement FrameFault). List defs.Happening) [ Ok s ↦ lie_tells v m k bytes | Err fault ↦ [] ]
+    ]) found
+    ∙ ap (λ r. elim r as (λ (x : Result Statement FrameFault). List defs.Happening) [ Ok s ↦ lie_tells v m l bytes | Err fault ↦ [] ]) read
+
+able_tells : (v : plain.World) (m : ℕ) (bytes : List ℕ) (x : Liar) (l : Listed) → Lies v.frames x l → used x.signer < total x.signer
+    → lie_tells v m l bytes ≡ defs.Lies l.process bytes (length v.frames) (members m) ∷ []
+able_tells v m bytes x l lies able =
+    let left : nat_lt (lies_of v l.process) (key_total l.key)
+    ≡ true = lt-ltb (lies_of v l.process) (key_total l.key) (omega (arith, able, lies.used, lies.total)) in
+    ap (λ b. cond b (defs.Lies l.process bytes (length v.frames) (members m) ∷ []) (defs.Silent l.process ∷ [])) left
+
+spent_tells : (v : plain.World) (m : ℕ) (bytes : List ℕ) (x : Liar) (l : Listed) → Lies v.frames x l → used x.signer ≡ total x.signer
+    → lie_tells v m l bytes ≡ defs.Silent l.process ∷ []
+spent_tells v m bytes x l lies spent =
+    let none : nat_lt (lies_of v l.process) (key_total l.key)
+    ≡ false = le-ltb (lies_of v l.process) (key_total l.key) (omega (arith, spent, lies.used, lies.total)) in
+    ap (λ b. cond b (defs.Lies l.process bytes (length v.frames) (members m) ∷ []) (defs.Silent l.process ∷ [])) none
+
+pub tells_of_lie : (h : Header) (old new : World) (v : plain.World) (p i m : ℕ) (bytes frame : List ℕ) (st : Statement) → Shows h old v
+    → position_from (λ x. x.process == p) 0 old.liars.items ≡ Some i
+    → LiesAt old.group st old.liars.items new.liars.items i (Some frame) → statement_of bytes ≡ Ok st
+    → liar_tells h v p m bytes ≡ defs.Lies p bytes (length v.frames) (members m) ∷ []
+tells_of_lie h old new v p i m bytes frame st s place lie read =
+    let found = liar_found h old v p i s place in
+    let here : found.place ≡ i = omega (arith, found.counted) in
+    let get : slice_get old.liars.items i ≡ Some found.liar = ap (slice_get old.liars.items) (sym here) ∙ found.get in
+    let lied = lie found.liar get in
+    liar_is h v p m bytes st found.listed (found_in_all h.scheme 0 p h.processes found.listed s.rising found.found) read
+    ∙ able_tells v m bytes found.liar found.listed found.lies lied.lied.able
+    ∙ ap (λ (q : ℕ). defs.Lies q bytes (length v.frames) (members m) ∷ []) found.is
+
+pub tells_of_silence : (h : Header) (old new : World) (v : plain.World) (p i m : ℕ) (bytes : List ℕ) (st : Statement) → Shows h old v
+    → position_from (λ x. x.process == p) 0 old.liars.items ≡ Some i
+    → LiesAt old.group st old.liars.items new.liars.items i None → statement_of bytes ≡ Ok st
+    → liar_tells h v p m bytes ≡ defs.Silent p ∷ []
+tells_of_silence h old new v p i m bytes st s place lie read =
+    let found = liar_found h old v p i s place in
+    let here : found.place ≡ i = omega (arith, found.counted) in
+    let get : slice_get old.liars.items i ≡ Some found.liar = ap (slice_get old.liars.items) (sym here) ∙ found.get in
+    let lied = lie found.liar get in
+    liar_is h v p m bytes st found.listed (found_in_all h.scheme 0 p h.processes found.listed s.rising found.found) read
+    ∙ spent_tells v m bytes found.liar found.listed found.lies lied.lied.spent
+    ∙ ap (λ (q : ℕ). defs.Silent q ∷ []) found.is

@@ -4,3 +4,4 @@ pub mod Stepping
 pub mod Lying
 pub mod Worlds
 pub mod Steps
+pub mod Telling

@@ -1,14 +1,19 @@
 //! Lies of corrupt processes.
-ghost use Rattle.std.specs.Prelude.{◌≡◌, ◌==◌, ◌<◌, length, OnOk, IfErr, IfOk};
+ghost use Rattle.std.specs.Prelude.{◌≡◌, ◌==◌, ◌<◌, ◌∷◌, [], length, OnOk, IfErr, IfOk};
 ghost use Rattle.std.specs.List.{position_from};
 ghost use Rattle.message_defs.specs.Spelling.{IsStatement};
 ghost use Rattle.rp_base.specs.Pids.{mask_of};
 ghost use Rattle.replay_defs.specs.Schedules as schedules;
 ghost use Rattle.stmt_codec.specs.Views.{stmt};
+ghost use Rattle.happenings.specs.Told.{Tells};
+ghost use Rattle.trace_defs.specs.Happenings as defs;
+ghost use Rattle.told_defs.specs.Told as told_defs;
 ghost use Rattle.replay_world.specs.Lying.{LiesAt};
+ghost use Rattle.replay_world.specs.Telling.{frame_count};
 
 use crate::fault::WorldFault;
 use crate::world::World;
+use happenings::{Happening, Told};
 use replay_cast::Liar;
 use rp_base::{GroupId, NoMemory, Pid, PidSet};
 use std::alloc::Global;
@@ -38,7 +43,31 @@ fn lie_at(
 }
 
 impl World {
-    ghost use Rattle.replay_world.specs.Worlds.{Stops, HappensYet, count_of};
+    ghost use Rattle.replay_defs.specs.Worlds as plain;
+    ghost use Rattle.replay_world.specs.Worlds.{Shows, Stops, HappensYet, count_of};
+
+    // Tells of a lie, where somebody asks.
+    fn tell_lie(
+        &self,
+        alloc: Global,
+        signer: Pid,
+        to: PidSet,
+        statement: &[u8],
+        told: &mut Told,
+    ) -> Result<(), NoMemory>
+        ensures { OnOk result (Tells told.old (defs.Lies signer statement.now (frame_count self.now) to ∷ []) told.new) }
+    {
+        if !told.is_asked() {
+            return Ok(());
+        }
+        let statement = Payload::from_vec(Vec::from_slice(alloc, statement)?);
+        told.add(Happening::Lies {
+            signer,
+            statement,
+            frame: self.traffic.frames.len() as u64,
+            to,
+        })
+    }
 
     /// A corrupt process signs a statement, and sends it to the processes of the mask; one whose key is spent sends nothing.
     pub(crate) fn lie(
@@ -47,7 +76,11 @@ impl World {
         signer: Pid,
         to: PidSet,
         statement: &[u8],
+        told: &mut Told,
     ) -> Result<(), WorldFault>
+        ensures tells { OnOk result ((h : schedules.Header) (v : plain.World) → Shows h self.old v
+            → schedules.IsEvent h.processes (schedules.Lie signer (mask_of to) statement.now)
+            → Tells told.old (told_defs.liar_tells h v signer (mask_of to) statement.now) told.new) }
         ensures happens { OnOk result (HappensYet self.old self.new (schedules.Lie signer (mask_of to) statement.now)) }
         ensures stops { IfErr result (Stops self.old (schedules.Lie signer (mask_of to) statement.now)) }
         ensures count { OnOk result (count_of self.new ≡ count_of self.old) }
@@ -55,13 +88,15 @@ impl World {
         let Some(i) = place_of(&self.liars, signer) else {
             return Ok(());
         };
-        let Ok(statement) = read_statement(statement) else {
+        let Ok(said) = read_statement(statement) else {
             return Ok(());
         };
-        let Some(frame) = lie_at(alloc, &self.group, &mut self.liars, i, &statement)? else {
+        let Some(frame) = lie_at(alloc, &self.group, &mut self.liars, i, &said)? else {
+            told.add(Happening::Silent { signer })?;
             return Ok(());
         };
         let to = PidSet::from_mask(to.mask());
+        self.tell_lie(alloc, signer, to, statement, told)?;
         self.traffic
             .send(&self.players, self.count, signer, to, frame)
     }

@@ -6,18 +6,23 @@ ghost use Rattle.rp_base.specs.Pids.{mask_of};
 ghost use Rattle.replay_defs.specs.Worlds as plain;
 ghost use Rattle.replay_defs.specs.Worlds.{setting_of};
 ghost use Rattle.replay_defs.specs.Schedules as schedules;
+ghost use Rattle.replay_defs.specs.Schedules.{IsEvent};
 ghost use Rattle.schedule_file.specs.Views as views;
+ghost use Rattle.happenings.specs.Told.{handed as handed_of, Tells};
+ghost use Rattle.told_defs.specs.Told as told_defs;
 ghost use Rattle.replay_world.specs.Handing.{bytes_in, Marks};
+ghost use Rattle.replay_world.specs.Telling.{TellsStep, TellsOf, arrives_or_lost, frame_count, oldest_tells};
 ghost use Rattle.replay_world.specs.Stepping.{StepsAt, Refuses, Spends};
 
 use crate::fault::WorldFault;
 use crate::traffic::{Delivery, Sent, Traffic};
+use happenings::{Handed, Happening, Seen, Told};
 use replay_cast::{Liar, Player};
 use rp_base::{GroupId, NoMemory, Pid, PidSet, Roster};
 use schedule_file::ScheduleEvent;
 use sig_scheme::AnyScheme;
 use std::alloc::Global;
-use stmt_codec::{Event, EventFault, EventVerdict, Outcome, Payload};
+use stmt_codec::{Event, EventFault, EventVerdict, Outcome, Payload, Sending};
 
 /// An event that a process refused, by the event's number in the schedule, from 0.
 #[derive(Clone, Copy, Debug)]
@@ -127,56 +132,129 @@ fn note_spent(all: &mut Vec<Pid>, process: Pid, spent: bool) -> Result<(), NoMem
     Ok(())
 }
 
+// Tells what came of an event, where somebody asks; and answers what it sends.
+fn tell(
+    alloc: Global,
+    told: &mut Told,
+    at: Pid,
+    handed: Handed,
+    first: u64,
+    outcome: Outcome,
+) -> Result<Vec<Sending>, NoMemory>
+    ensures sends { IfOk result (λ sends. sends ≡ outcome.sends) }
+    ensures tells { OnOk result (TellsStep told.old at handed first outcome told.new) }
+{
+    if !told.is_asked() {
+        return Ok(outcome.sends);
+    }
+    let (seen, sends) = Seen::of(alloc, outcome)?;
+    told.add(Happening::Takes {
+        at,
+        handed,
+        first,
+        seen,
+    })?;
+    Ok(sends)
+}
+
 impl World {
     ghost use Rattle.replay_world.specs.Worlds.{Shows, Becomes, Exceeds, Happens, Stops, HappensYet, count_of};
     ghost use Rattle.replay_world.specs.Steps.{Notes, NotesTooMuch, arrives, oldest_arrives};
     ghost use Rattle.std.specs.Prelude.{is_some, slice_get};
 
-    /// Runs one event of the schedule.
-    pub fn event(&mut self, alloc: Global, what: &ScheduleEvent) -> Result<(), WorldFault>
+    /// Runs one event of the schedule, and tells what happens in it.
+    pub fn event(
+        &mut self,
+        alloc: Global,
+        what: &ScheduleEvent,
+        told: &mut Told,
+    ) -> Result<(), WorldFault>
         requires { count_of self.old < 2 ^ 64 - 1 }
 
         // What the definitions make of a world that this one shows, it shows then.
         ensures happens { OnOk result (Happens self.old self.new (views.event what.now)) }
 
+        // What is told is what happens in the event of the definitions' world.
+        ensures tells { OnOk result ((h : schedules.Header) (v : plain.World) → Shows h self.old v
+            → IsEvent h.processes (views.event what.now)
+            → Tells told.old (told_defs.tells h v (views.event what.now)) told.new) }
+
         // Else their world stops with this fault, or memory ran out.
         ensures stops { IfErr result (Stops self.old (views.event what.now)) }
         ensures count { OnOk result (count_of self.new ≡ count_of self.old + 1) }
     {
-        self.happen(alloc, what)?;
+        self.happen(alloc, what, told)?;
         self.count += 1;
         Ok(())
     }
 
     // What happens in an event, without its being counted.
-    fn happen(&mut self, alloc: Global, what: &ScheduleEvent) -> Result<(), WorldFault>
+    fn happen(
+        &mut self,
+        alloc: Global,
+        what: &ScheduleEvent,
+        told: &mut Told,
+    ) -> Result<(), WorldFault>
+        ensures tells { OnOk result ((h : schedules.Header) (v : plain.World) → Shows h self.old v
+            → IsEvent h.processes (views.event what.now)
+            → Tells told.old (told_defs.tells h v (views.event what.now)) told.new) }
         ensures happens { OnOk result (HappensYet self.old self.new (views.event what.now)) }
         ensures stops { IfErr result (Stops self.old (views.event what.now)) }
         ensures count { OnOk result (count_of self.new ≡ count_of self.old) }
     {
         match what {
             ScheduleEvent::Submit { at, payload } => {
-                self.hand(alloc, *at, &Event::Submit(payload))
+                self.hand(alloc, *at, Handed::Payload, &Event::Submit(payload), told)
             }
             ScheduleEvent::Raw { to, from, bytes } => {
-                self.hand(alloc, *to, &Event::Frame { from: *from, bytes })
+                let from = *from;
+                self.hand(
+                    alloc,
+                    *to,
+                    Handed::Bytes { from },
+                    &Event::Frame { from, bytes },
+                    told,
+                )
             }
-            ScheduleEvent::Pass { frame, to } => self.pass(*frame, *to),
-            ScheduleEvent::Drain { count, to } => self.drain(*count, *to),
+            ScheduleEvent::Pass { frame, to } => self.pass(alloc, *frame, *to, told),
+            ScheduleEvent::Drain { count, to } => self.drain(alloc, *count, *to, told),
             ScheduleEvent::Lie {
                 signer,
                 to,
                 statement,
-            } => self.lie(alloc, *signer, *to, statement),
-            ScheduleEvent::Suspect { at, of } => self.hand(alloc, *at, &Event::Suspect(*of)),
-            ScheduleEvent::Join { at, of } => self.hand(alloc, *at, &Event::Join(*of)),
-            ScheduleEvent::Renew { at } => self.hand(alloc, *at, &Event::Renew),
-            ScheduleEvent::Tick { at } => self.hand(alloc, *at, &Event::Tick),
+            } => self.lie(alloc, *signer, *to, statement, told),
+            ScheduleEvent::Suspect { at, of } => {
+                self.hand(
+                    alloc,
+                    *at,
+                    Handed::Suspects(*of),
+                    &Event::Suspect(*of),
+                    told,
+                )
+            },
+            ScheduleEvent::Join { at, of } => {
+                self.hand(alloc, *at, Handed::Joins(*of), &Event::Join(*of), told)
+            },
+            ScheduleEvent::Renew { at } => {
+                self.hand(alloc, *at, Handed::Renews, &Event::Renew, told)
+            },
+            ScheduleEvent::Tick { at } => {
+                self.hand(alloc, *at, Handed::Ticks, &Event::Tick, told)
+            },
         }
     }
 
     // A process takes an event.
-    fn hand(&mut self, alloc: Global, at: Pid, event: &Event<'_>) -> Result<(), WorldFault>
+    fn hand(
+        &mut self,
+        alloc: Global,
+        at: Pid,
+        handed: Handed,
+        event: &Event<'_>,
+        told: &mut Told,
+    ) -> Result<(), WorldFault>
+        ensures tells { OnOk result (TellsOf (λ h v. told_defs.takes_in (setting_of h) v at (handed_of handed) (event_of event.now))
+            self.old told.old told.new) }
         ensures becomes { OnOk result (Becomes (λ h v. plain.hands (setting_of h) v at (event_of event.now)) self.old self.new) }
         ensures exceeds { IfErr result (Exceeds (λ h v. plain.hands (setting_of h) v at (event_of event.now)) self.old) }
         ensures count { OnOk result (count_of self.new ≡ count_of self.old) }
@@ -186,11 +264,18 @@ impl World {
         };
         keep_bytes(alloc, &mut self.raws, event)?;
         let outcome = step_at(&self.scheme, &mut self.players, i, event)?;
-        self.note(at, outcome)
+        self.note(alloc, at, handed, outcome, told)
     }
 
     // A process takes the frame of this number, if it was sent.
-    fn deliver(&mut self, frame: usize, to: Pid) -> Result<(), WorldFault>
+    fn deliver(
+        &mut self,
+        alloc: Global,
+        frame: usize,
+        to: Pid,
+        told: &mut Told,
+    ) -> Result<(), WorldFault>
+        ensures tells { OnOk result (TellsOf (λ h v. told_defs.gets_frame (setting_of h) v to frame) self.old told.old told.new) }
         ensures becomes { OnOk result (Becomes (λ h v. plain.delivers (setting_of h) v to frame) self.old self.new) }
         ensures exceeds { IfErr result (Exceeds (λ h v. plain.delivers (setting_of h) v to frame) self.old) }
         ensures count { OnOk result (count_of self.new ≡ count_of self.old) }
@@ -201,17 +286,29 @@ impl World {
         let Some(i) = place_of(&self.players, to) else {
             return Ok(());
         };
+        let from = sent.sender;
         let event = Event::Frame {
-            from: sent.sender,
+            from,
             bytes: sent.bytes.bytes(),
         };
         let outcome = step_at(&self.scheme, &mut self.players, i, &event)?;
         mark(&mut self.traffic.frames, frame);
-        self.note(to, outcome)
+        let handed = Handed::Frame {
+            number: frame as u64,
+            from,
+        };
+        self.note(alloc, to, handed, outcome, told)
     }
 
     // A process takes a frame that was sent; one that is not sent yet stops the world.
-    fn pass(&mut self, frame: u32, to: Pid) -> Result<(), WorldFault>
+    fn pass(
+        &mut self,
+        alloc: Global,
+        frame: u32,
+        to: Pid,
+        told: &mut Told,
+    ) -> Result<(), WorldFault>
+        ensures tells { OnOk result (TellsOf (λ h v. told_defs.gets_frame (setting_of h) v to frame) self.old told.old told.new) }
         ensures happens { OnOk result (HappensYet self.old self.new (schedules.Pass frame to)) }
         ensures stops { IfErr result (Stops self.old (schedules.Pass frame to)) }
         ensures count { OnOk result (count_of self.new ≡ count_of self.old) }
@@ -224,24 +321,55 @@ impl World {
                 sent,
             });
         }
-        self.deliver(frame as usize, to)
+        self.deliver(alloc, frame as usize, to, told)
+    }
+
+    // The frame of a delivery is lost on its way.
+    fn lose(&mut self, next: Delivery, told: &mut Told) -> Result<(), WorldFault>
+        ensures tells { OnOk result (TellsOf (λ h v. told_defs.loses v (next.frame, next.to)) self.old told.old told.new) }
+        ensures same { self.new ≡ self.old }
+        ensures memory { IfErr result (λ fault. fault ≡ WorldFault.NoMemory) }
+    {
+        let Some(sent) = self.traffic.frames.get(next.frame) else {
+            return Ok(());
+        };
+        told.add(Happening::Loses {
+            frame: next.frame as u64,
+            from: sent.sender,
+            to: next.to,
+        })?;
+        Ok(())
     }
 
     // A delivery is made, where its addressee is one of these; else it is lost.
-    fn arrive(&mut self, to: PidSet, next: Delivery) -> Result<(), WorldFault>
+    fn arrive(
+        &mut self,
+        alloc: Global,
+        to: PidSet,
+        next: Delivery,
+        told: &mut Told,
+    ) -> Result<(), WorldFault>
+        ensures tells { OnOk result (TellsOf (λ h v. arrives_or_lost (setting_of h) (mask_of to) v (next.frame, next.to))
+            self.old told.old told.new) }
         ensures becomes { OnOk result (Becomes (λ h v. arrives (setting_of h) (mask_of to) v (next.frame, next.to)) self.old self.new) }
         ensures exceeds { IfErr result (Exceeds (λ h v. arrives (setting_of h) (mask_of to) v (next.frame, next.to)) self.old) }
         ensures count { OnOk result (count_of self.new ≡ count_of self.old) }
     {
         if is_addressed(to, next.to) {
-            self.deliver(next.frame, next.to)
+            self.deliver(alloc, next.frame, next.to, told)
         } else {
-            Ok(())
+            self.lose(next, told)
         }
     }
 
     // The oldest delivery is made, or lost. It is false where none waits.
-    fn deliver_next(&mut self, to: PidSet) -> Result<bool, WorldFault>
+    fn deliver_next(
+        &mut self,
+        alloc: Global,
+        to: PidSet,
+        told: &mut Told,
+    ) -> Result<bool, WorldFault>
+        ensures tells { OnOk result (TellsOf (λ h v. oldest_tells (setting_of h) (mask_of to) v) self.old told.old told.new) }
         ensures becomes { OnOk result (Becomes (λ h v. oldest_arrives (setting_of h) (mask_of to) v) self.old self.new) }
         ensures exceeds { IfErr result (Exceeds (λ h v. oldest_arrives (setting_of h) (mask_of to) v) self.old) }
         ensures waits { IfOk result (λ more. (h : schedules.Header) (v : plain.World) → Shows h self.old v
@@ -251,19 +379,27 @@ impl World {
         let Some(next) = self.traffic.pending.pop_front() else {
             return Ok(false);
         };
-        self.arrive(to, next)?;
+        self.arrive(alloc, to, next, told)?;
         Ok(true)
     }
 
     // So many deliveries are made or lost, or until none waits.
-    fn drain(&mut self, count: u32, to: PidSet) -> Result<(), WorldFault>
+    fn drain(
+        &mut self,
+        alloc: Global,
+        count: u32,
+        to: PidSet,
+        told: &mut Told,
+    ) -> Result<(), WorldFault>
+        ensures tells { OnOk result (TellsOf
+            (λ h v. told_defs.drain_tells (setting_of h) (mask_of to) count v) self.old told.old told.new) }
         ensures becomes { OnOk result (Becomes (λ h v. plain.drains (setting_of h) (mask_of to) count v) self.old self.new) }
         ensures exceeds { IfErr result (Exceeds (λ h v. plain.drains (setting_of h) (mask_of to) count v) self.old) }
         ensures count { OnOk result (count_of self.new ≡ count_of self.old) }
     {
         let mut left = count;
         'deliveries: while left > 0 {
-            if !self.deliver_next(to)? {
+            if !self.deliver_next(alloc, to, told)? {
                 return Ok(());
             }
             left -= 1;
@@ -272,14 +408,23 @@ impl World {
     }
 
     // Keeps what came of an event at a process, and sends its frames.
-    fn note(&mut self, me: Pid, outcome: Outcome) -> Result<(), WorldFault>
+    fn note(
+        &mut self,
+        alloc: Global,
+        me: Pid,
+        handed: Handed,
+        outcome: Outcome,
+        told: &mut Told,
+    ) -> Result<(), WorldFault>
+        ensures tells { OnOk result (TellsStep told.old me handed (frame_count self.old) outcome told.new) }
         ensures notes { OnOk result (Notes self.old self.new me outcome) }
         ensures too_much { IfErr result (NotesTooMuch self.old me outcome) }
         ensures count { OnOk result (count_of self.new ≡ count_of self.old) }
     {
         note_refusal(&mut self.refused, self.count, me, outcome.verdict)?;
         note_spent(&mut self.spent, me, outcome.spent)?;
-        self.traffic
-            .send_all(&self.players, self.count, me, outcome.sends)
+        let first = self.traffic.frames.len() as u64;
+        let sends = tell(alloc, told, me, handed, first, outcome)?;
+        self.traffic.send_all(&self.players, self.count, me, sends)
     }
 }

@@ -5,7 +5,7 @@ use Rattle.replay_defs.specs.Worlds.{setting_of}
 use Rattle.replay_world.specs.declared.fault.WorldFault.{WorldFault}
 use Rattle.replay_world.specs.Worlds.{Exceeds}
 use Rattle.replay_world.specs.Steps.{oldest_arrives}
-use Rattle.replay_world.proofs.Popping.{pops_on, pops_exceed}
+use Rattle.replay_world.proofs.Popping.{pops_on, pops_exceed, pops_tell}
 use Rattle.replay_world.proofs.world.World.deliver_next.Goals as goal
 
 pub returns-clause-becomes : goal.returns-clause-becomes
@@ -21,3 +21,9 @@ returns-in_err-arrive-clause-exceeds c =
     let Q : WorldFault → Type 0 = λ f. Exceeds (λ h v. oldest_arrives (setting_of h) (mask_of c.args.to) v) c.args.self.now f in
     rw p.1 (subst Q (sym p.2) (pops_exceed c.args.self.now mid c.in-Some.next
     (mask_of c.args.to) c.in_err-arrive.field-0.0 refl c.in-Some.ensures.items c.in_err-arrive.ensures.exceeds))
+
+pub returns-clause-tells : goal.returns-clause-tells
+returns-clause-tells c =
+    let mid = record c.args.self.now { traffic = record c.args.self.now.traffic { pending = c.pop_front.new.self } } in
+    pops_tell c.args.self.now mid c.in-Some.next
+    (mask_of c.args.to) c.args.told.now c.arrive.new.told refl c.in-Some.ensures.items c.in_ok-arrive.ensures.tells

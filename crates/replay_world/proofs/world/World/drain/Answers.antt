@@ -4,17 +4,24 @@ use Rattle.rp_base.specs.Pids.{mask_of}
 use Rattle.replay_defs.specs.Worlds.{setting_of, drains}
 use Rattle.replay_world.specs.declared.fault.WorldFault.{WorldFault}
 use Rattle.replay_world.specs.Worlds.{Exceeds}
-use Rattle.replay_world.proofs.Draining.{DrainsOn, drains_on, drains_out, drains_done, drains_exceed}
+use Rattle.replay_world.proofs.Draining.{DrainsOn, ToldSoFar, drains_on, drains_out, drains_done, drains_exceed, told_done, told_on, told_out}
 use Rattle.replay_world.proofs.world.World.drain.Goals as goal
 
 pub deliveries-preserved : goal.deliveries-preserved
 deliveries-preserved c =
     let one : c.deliveries.left ≡ suc (c.deliveries.left - 1) = omega arith in
     let P : ℕ → Type 0 = λ n. DrainsOn (mask_of c.args.to) c.args.count c.args.self.now n c.deliveries.self in
+    let Q : ℕ → Type 0 = λ n. ToldSoFar
+    (mask_of c.args.to) c.args.count c.args.self.now c.args.told.now n c.deliveries.self c.deliveries.told in
     record {
       drains = drains_on (mask_of c.args.to) c.args.count (c.deliveries.left - 1) c.args.self.now c.deliveries.self c.deliver_next.new.self
           (subst P one c.deliveries.invariant.drains)
           c.in_ok-deliver_next.ensures.becomes (λ h v shows. sym c.if-not-branch.false ∙ c.in_ok-deliver_next.ensures.waits h v shows);
+      told = told_on (mask_of c.args.to) c.args.count
+          (c.deliveries.left - 1) c.args.self.now c.deliveries.self c.deliver_next.new.self c.args.told.now c.deliveries.told
+          c.deliver_next.new.told (subst Q one c.deliveries.invariant.told) c.in_ok-deliver_next.ensures.becomes
+          c.in_ok-deliver_next.ensures.tells
+          (λ h v shows. sym c.if-not-branch.false ∙ c.in_ok-deliver_next.ensures.waits h v shows);
       count = c.in_ok-deliver_next.ensures.count ∙ c.deliveries.invariant.count;
     }
 
@@ -39,3 +46,18 @@ returns-in_err-deliver_next-clause-exceeds c =
     rw p.1 (subst Q (sym p.2) (drains_exceed (mask_of c.args.to) c.args.count
     (c.deliveries.left - 1) c.args.self.now c.deliveries.self c.in_err-deliver_next.field-0.0
     (subst P one c.deliveries.invariant.drains) c.in_err-deliver_next.ensures.exceeds))
+
+pub returns-then-not-branch-clause-tells : goal.returns-then-not-branch-clause-tells
+returns-then-not-branch-clause-tells c =
+    told_out (mask_of c.args.to) c.args.count c.deliveries.left c.args.self.now c.deliveries.self c.args.told.now c.deliveries.told
+    c.deliver_next.new.told
+    c.deliveries.invariant.told c.in_ok-deliver_next.ensures.tells
+    (λ h v shows. sym c.if-not-branch.true ∙ c.in_ok-deliver_next.ensures.waits h v shows)
+
+pub returns-clause-tells : goal.returns-clause-tells
+returns-clause-tells c =
+    let none : c.deliveries.left ≡ 0 = omega arith in
+    let P : ℕ → Type 0 = λ n. ToldSoFar
+    (mask_of c.args.to) c.args.count c.args.self.now c.args.told.now n c.deliveries.self c.deliveries.told in
+    told_done (mask_of c.args.to) c.args.count c.args.self.now c.deliveries.self c.args.told.now c.deliveries.told
+    (subst P none c.deliveries.invariant.told)

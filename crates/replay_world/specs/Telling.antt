@@ -1,0 +1,36 @@
+-- What is told of what happens in a world.
+use Rattle.std.specs.Prelude.{ℕ, List, [], ◌∷◌, length, if◌then◌else◌, drop, Some, None, slice_get}
+use Rattle.group_defs.specs.Process.{Setting}
+use Rattle.group_defs.specs.Events as group
+use Rattle.replay_defs.specs.Schedules.{Header}
+use Rattle.replay_defs.specs.Worlds as plain
+use Rattle.trace_defs.specs.Outcomes.{seen}
+use Rattle.trace_defs.specs.Happenings.{Happening, Takes}
+use Rattle.told_defs.specs.Told.{gets_frame, loses, next_tells}
+use Rattle.stmt_codec.specs.declared.events.Outcome.{Outcome}
+use Rattle.member_state.specs.Events.{IsOutcome}
+use Rattle.happenings.specs.declared.told.Handed.{Handed}
+use Rattle.happenings.specs.declared.told.Told.{Told}
+use Rattle.happenings.specs.Told.{handed, Tells}
+use Rattle.replay_world.specs.declared.world.World.{World}
+use Rattle.replay_world.specs.Worlds.{Shows}
+
+-- how many frames were sent
+abbrev pub frame_count : World → ℕ
+frame_count w = length w.traffic.frames.items
+
+-- what came of an event at a process is told
+abbrev pub TellsStep : Told → ℕ → Handed → ℕ → Outcome → Told → Type 0
+TellsStep old p what first r new = (o : group.Outcome) → IsOutcome o r → Tells old (Takes p (handed what) first (seen o) ∷ []) new
+
+-- of a world that this one shows, this is told
+abbrev pub TellsOf : (Header → plain.World → List Happening) → World → Told → Told → Type 0
+TellsOf what w old new = (h : Header) (v : plain.World) → Shows h w v → Tells old (what h v) new
+
+-- a delivery that waits no more is made, or lost
+abbrev pub arrives_or_lost : Setting → ℕ → plain.World → ℕ × ℕ → List Happening
+arrives_or_lost s mask v d = if plain.is_in mask d.1 then gets_frame s v d.1 d.0 else loses v d
+
+-- the oldest delivery, where one waits
+abbrev pub oldest_tells : Setting → ℕ → plain.World → List Happening
+oldest_tells s mask v = elim (slice_get v.pending 0) [ None ↦ [] | Some d ↦ next_tells s mask v d ]

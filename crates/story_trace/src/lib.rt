@@ -1,0 +1,13 @@
+//! The trace of a run: a line for each thing that happened, in plain words. Each function writes lines behind the text so far.
+//! Where memory runs out, what stands behind the text is left open, and the caller gives it up.
+#![tactic(auto)]
+
+mod events;
+mod handed;
+mod notes;
+mod refusals;
+mod statements;
+mod steps;
+
+pub use events::push_cast;
+pub use steps::push_told;

@@ -1,0 +1,11 @@
+use Rattle.std.proofs.Common.{◌∷◌, codes, map}
+use Rattle.std.specs.Fmt.{decimal}
+use Rattle.story_words.specs.Words.{spelled}
+use Rattle.story_words.proofs.Parts.{with_tail}
+use Rattle.story_words.proofs.lines.said_with_members.Goals as goal
+
+pub returns : goal.returns
+returns c =
+    with_tail (codes " ") (decimal c.args.at ∷ map spelled c.args.words.now)
+    (map decimal c.args.members.now) c.args.out.now.items c.begin_said.new.out.items c.push_members.new.out.items c.end_line.new.out.items
+    c.in_ok-begin_said.ensures c.in_ok-push_members.ensures c.in_ok-end_line.ensures

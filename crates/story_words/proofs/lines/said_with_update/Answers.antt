@@ -1,0 +1,14 @@
+use Rattle.std.proofs.Common.{◌∷◌, codes, map}
+use Rattle.std.specs.Fmt.{decimal}
+use Rattle.rp_base.specs.Views.{update}
+use Rattle.trace_defs.specs.Phrases.{update_words}
+use Rattle.story_words.specs.Words.{spelled}
+use Rattle.story_words.proofs.Parts.{with_tail}
+use Rattle.story_words.proofs.lines.said_with_update.Goals as goal
+
+pub returns : goal.returns
+returns c =
+    with_tail (codes " ") (decimal c.args.at ∷ map spelled c.args.words.now)
+    (update_words (update c.args.update)) c.args.out.now.items c.begin_said.new.out.items c.push_update.new.out.items
+    c.end_line.new.out.items
+    c.in_ok-begin_said.ensures c.in_ok-push_update.ensures c.in_ok-end_line.ensures

@@ -1,0 +1,4 @@
+pub mod Phrases
+pub mod Outcomes
+pub mod Happenings
+pub mod Events
