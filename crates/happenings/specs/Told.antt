@@ -6,7 +6,10 @@ use Rattle.trace_defs.specs.Happenings as plain
 use Rattle.stmt_codec.specs.Views.{signed}
 use Rattle.stmt_codec.specs.declared.events.Outcome.{Outcome}
 use Rattle.member_state.specs.Events.{refusal, note, IsOutcome}
+use Rattle.replay_defs.specs.Worlds as worlds
 use Rattle.happenings.specs.declared.seen.Seen.{Seen}
+use Rattle.happenings.specs.declared.stopped.Stopped.{Stopped}
+use Rattle.happenings.specs.declared.stopped.Stopped.TheVariants.{NoSuchFrame, TooMuchSent}
 use Rattle.happenings.specs.declared.told.Handed.{Handed}
 use Rattle.happenings.specs.declared.told.Handed.TheVariants.{Payload, Frame, Bytes, Suspects, Joins, Renews, Ticks}
 use Rattle.happenings.specs.declared.told.Happening.{Happening}
@@ -65,3 +68,9 @@ told_of (Kept all) = Some (map happening all.items)
 -- this was told behind what was told before, where somebody asks
 abbrev pub Tells : Told → List plain.Happening → Told → Type 0
 Tells old what new = told_of new ≡ option_map (λ before. before ++ what) (told_of old)
+
+-- ---- why a run stops
+
+abbrev pub stopped : Stopped → worlds.WorldFault
+stopped (NoSuchFrame event frame sent) = worlds.NoSuchFrame event frame sent
+stopped (TooMuchSent event bytes) = worlds.TooMuchSent event bytes

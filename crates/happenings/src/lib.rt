@@ -4,9 +4,11 @@
 ghost use Rattle.happenings.specs.Told.{OutcomeIsSeen};
 
 mod seen;
+mod stopped;
 mod told;
 
 pub use seen::Seen;
+pub use stopped::Stopped;
 pub use told::{Handed, Happening, Told};
 
 /// What came of an event of the definitions is what is seen of its outcome in the code.

@@ -1,6 +1,6 @@
 -- What a run tells: what happens in each event, in the world of the definitions.
-use Rattle.std.specs.Prelude.{ℕ, zero, suc, ◌==◌, nat_lt, if◌then◌else◌, List, [], ◌∷◌, ◌++◌, length, drop, find, None, Some, slice_get, Ok, Err}
-use Rattle.std.specs.List.{flat_map}
+use Rattle.std.specs.Prelude.{ℕ, zero, suc, ◌==◌, nat_lt, if◌then◌else◌, List, [], ◌∷◌, ◌++◌, length, drop, find, None, Some, slice_get, Ok, Err, Option}
+use Rattle.std.specs.List.{flat_map, enumerate_from, zip}
 use Rattle.message_defs.specs.Statements.{Statement}
 use Rattle.message_defs.specs.Reading.{statement_of}
 use Rattle.message_defs.specs.Claims.{frame_said}
@@ -10,11 +10,11 @@ use Rattle.group_defs.specs.Events.{outcome}
 use Rattle.rp_base.specs.Pids.{members}
 use Rattle.replay_defs.specs.Signers.{key_total}
 use Rattle.replay_defs.specs.Schedules.{Listed, ScheduleEvent, Submit, Raw, Pass, Drain, Lie, Suspect, Join, Renew, Tick, Header, Schedule}
-use Rattle.replay_defs.specs.Worlds.{World, setting_of, start_of, is_in, turn_of, player_of, next_delivery, lies_of, after_event}
+use Rattle.replay_defs.specs.Worlds.{World, setting_of, start_of, is_in, turn_of, player_of, next_delivery, lies_of, WorldFault, after_event, world_of}
 use Rattle.trace_defs.specs.Phrases.{Line}
 use Rattle.trace_defs.specs.Outcomes.{seen}
 use Rattle.trace_defs.specs.Happenings.{Handed, Payload, Frame, Bytes, Suspects, Joins, Renews, Ticks, Happening, Takes, Loses, Lies, Silent, lines_of}
-use Rattle.trace_defs.specs.Events.{event_line, cast_lines}
+use Rattle.trace_defs.specs.Events.{event_line, cast_lines, fault_line}
 
 -- ---- in an event
 
@@ -71,15 +71,36 @@ tells h w (Tick p) = takes_in (setting_of h) w p Ticks group.Tick
 
 -- ---- in a run
 
+-- what happens in each of these events, from a world on, up to one that stops the run
+unfoldable pub run_tells : Header → World → List ScheduleEvent → List (List Happening)
+run_tells h w [] = []
+run_tells h w (e ∷ es) = elim (after_event h w e) [ Ok v ↦ tells h w e ∷ run_tells h v es | Err fault ↦ [] ]
+
+-- what happens in each event of a schedule, up to one that stops its run
+abbrev pub told_of : Schedule → List (List Happening)
+told_of sch = run_tells sch.header (start_of sch.header) sch.events
+
+-- why its run stops, where one of its events stops it
+abbrev pub stop_of : Schedule → Option WorldFault
+stop_of sch = elim (world_of sch) [ Ok w ↦ None | Err fault ↦ Some fault ]
+
+-- ---- in lines
+
 -- the line of an event, and those of what happens in it
 abbrev pub event_lines : ℕ → ScheduleEvent → List Happening → List Line
 event_lines n e told = event_line n e ∷ flat_map lines_of told
 
--- the lines of these events, from a world on, up to one that stops the run
-unfoldable pub run_lines : Header → World → List ScheduleEvent → List Line
-run_lines h w [] = []
-run_lines h w (e ∷ es) = event_lines w.count e (tells h w e) ++ elim (after_event h w e) [ Ok v ↦ run_lines h v es | Err fault ↦ [] ]
+-- the lines of events, each with what happens in it
+abbrev pub told_lines : List ScheduleEvent → List (List Happening) → List Line
+told_lines es told = flat_map (λ e. event_lines e.0 e.1.0 e.1.1) (enumerate_from 0 (zip es told))
 
--- the trace of a schedule
+-- where the event of this number stops the run, its line, and why
+abbrev pub stop_lines : List ScheduleEvent → ℕ → Option WorldFault → List Line
+stop_lines es n None = []
+stop_lines es n (Some fault) = elim (slice_get es n) [ None ↦ [] | Some e ↦ event_line n e ∷ fault_line fault ∷ [] ]
+
+-- the trace of a schedule: who takes part, each event with what happens in it, and why the run stops, where an event stops it
 abbrev pub trace_lines : Schedule → List Line
-trace_lines sch = cast_lines sch.header ++ run_lines sch.header (start_of sch.header) sch.events
+trace_lines sch =
+    cast_lines sch.header
+    ++ (told_lines sch.events (told_of sch) ++ stop_lines sch.events (length (told_of sch)) (stop_of sch))

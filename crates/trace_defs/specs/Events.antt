@@ -3,6 +3,7 @@ use Rattle.std.specs.Prelude.{ℕ, if◌then◌else◌, List, [], ◌∷◌, ◌
 use Rattle.std.specs.Fmt.{decimal}
 use Rattle.rp_base.specs.Pids.{members}
 use Rattle.replay_defs.specs.Schedules.{Listed, ScheduleEvent, Submit, Raw, Pass, Drain, Lie, Suspect, Join, Renew, Tick, Header}
+use Rattle.replay_defs.specs.Worlds.{WorldFault, NoSuchFrame, TooMuchSent}
 use Rattle.trace_defs.specs.Phrases.{Line, number_and_colon, payload_words, process_words}
 
 -- what the schedule lets happen
@@ -33,3 +34,10 @@ genesis_line members = codes "view 0:" ∷ map decimal members
 -- who takes part
 abbrev pub cast_lines : Header → List Line
 cast_lines h = map role_line h.processes ++ genesis_line h.genesis ∷ []
+
+-- why a run stops at an event
+abbrev pub fault_line : WorldFault → Line
+fault_line (NoSuchFrame event frame sent) =
+    codes " " ∷ codes "the run stops here: frame" ∷ decimal frame ∷ codes "is not sent yet; frames sent so far:" ∷ decimal sent ∷ []
+fault_line (TooMuchSent event bytes) =
+    codes " " ∷ codes "the run stops here: all frames may have 1073741824 bytes, and with the next they have" ∷ decimal bytes ∷ []

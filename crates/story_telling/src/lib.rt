@@ -1,0 +1,6 @@
+//! What a run tells, event by event, from the world that a replay runs.
+#![tactic(auto)]
+
+mod telling;
+
+pub use telling::{Telling, tell};
