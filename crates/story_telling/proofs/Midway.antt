@@ -67,8 +67,8 @@ one_more sch old new told one e es m happens is =
 
 -- this was told in all, and the run ends so
 pub record Ended (sch : Schedule) (told : List (List Happening)) (stop : Option WorldFault) : Type 0 where
-  pub told : told ≡ told_of sch
-  pub stop : stop ≡ stop_of sch
+  pub all : told ≡ told_of sch
+  pub ends : stop ≡ stop_of sch
 
 -- why a world stops, where it does
 abbrev stop_from : Result plain.World WorldFault → Option WorldFault
@@ -85,8 +85,8 @@ none_tells h v = refl
 -- no event is left
 pub at_end : (sch : Schedule) (w : World) (told : List (List Happening)) → Midway sch w told [] → Ended sch told None
 at_end sch w told m = record {
-  told = sym (append-nil told) ∙ ap (λ (x : List (List Happening)). told ++ x) (sym (none_tells sch.header m.world)) ∙ m.tells;
-  stop = ap stop_from (sym (no_event sch.header m.world) ∙ m.leads);
+  all = sym (append-nil told) ∙ ap (λ (x : List (List Happening)). told ++ x) (sym (none_tells sch.header m.world)) ∙ m.tells;
+  ends = ap stop_from (sym (no_event sch.header m.world) ∙ m.leads);
 }
 
 -- the next event stops the run
@@ -100,6 +100,6 @@ too_early sch w told e es fault m stops =
     first_tells sch.header m.world e es ∙ ap (tells_from sch.header (tells sch.header m.world e) es) is in
     let ends : world_of sch ≡ Err fault = sym m.leads ∙ (first_event sch.header m.world e es ∙ ap (ends_from sch.header es) is) in
     record {
-      told = sym (append-nil told) ∙ ap (λ (x : List (List Happening)). told ++ x) (sym silent) ∙ m.tells;
-      stop = ap stop_from (sym ends);
+      all = sym (append-nil told) ∙ ap (λ (x : List (List Happening)). told ++ x) (sym silent) ∙ m.tells;
+      ends = ap stop_from (sym ends);
     }
