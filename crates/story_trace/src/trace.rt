@@ -23,9 +23,11 @@ fn push_events(
     ensures { OnOk result (out.new.items ≡ out.old.items
         ++ flat_map line_text (told_lines (map views.event events.now) (map (λ t. map happening_of t.items) told.now))) }
 {
-    let n = events.len().min(told.len());
-    for i in 0..n {
-        push_told(out, i as u64, &events[i], &told[i])?;
+    for (i, all) in told.iter().enumerate() {
+        let Some(event) = events.get(i) else {
+            return Ok(());
+        };
+        push_told(out, i as u64, event, all)?;
     }
     Ok(())
 }
