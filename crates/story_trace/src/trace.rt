@@ -51,7 +51,9 @@ fn push_fault(out: &mut Vec<u8>, stop: Stopped) -> Result<(), NoMemory>
             out,
             Word::Text(b" "),
             &[
-                Word::Text(b"the run stops here: all frames may have 1073741824 bytes, and with the next they have"),
+                Word::Text(
+                    b"the run stops here: all frames may have 1073741824 bytes, and with the next they have",
+                ),
                 Word::Number(bytes),
             ],
         ),
