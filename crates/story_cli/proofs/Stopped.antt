@@ -1,5 +1,5 @@
 -- Why a run stopped, by its status.
-use Rattle.std.proofs.Common.{◌≡◌, ◌⊎◌, ℕ, ◌<◌, Option, Some, None, List, ◌++◌, Result, Ok, Err, refl, sym, ap, subst, ◌∙◌, arith, inl, inr}
+use Rattle.std.proofs.Common.{◌≡◌, ◌⊎◌, ℕ, ◌<◌, true, Option, Some, None, List, ◌++◌, Result, Ok, Err, refl, sym, ap, subst, ◌∙◌, arith, inl, inr}
 use Rattle.std.specs.Prelude.{IsErrOf, IsOk, IsSomeAnd}
 use Rattle.std.proofs.lemmas.List.{append-nil}
 use Rattle.std.specs.Io.KnownBytes.{Consumes, IsAtEnd}
@@ -11,9 +11,9 @@ use Rattle.story_defs.specs.Stories.{story_of}
 use Rattle.story_cli.specs.declared.stops.Stop.{Stop}
 use Rattle.story_cli.specs.declared.stops.Stop.TheVariants.{NoMemory, Read, Write, Story, Schedule}
 use Rattle.story_cli.specs.declared.commands.Command.{Command}
-use Rattle.story_cli.specs.declared.commands.Command.TheVariants.{Assemble, Text}
+use Rattle.story_cli.specs.declared.commands.Command.TheVariants.{Assemble, Text, Run}
 use Rattle.story_cli.specs.Messages.{line_of, status_of}
-use Rattle.story_cli.specs.Top.{Has, IsNoStory, IsNoSchedule, NoStory, NoSchedule}
+use Rattle.story_cli.specs.Top.{Has, reads_schedule, IsNoStory, IsNoSchedule, NoStory, NoSchedule}
 
 -- a status other than 1 is that of the stop
 pub said : {P : Type 0} (r s n : ℕ) → 1 < n → r ≡ n → (r ≡ 1) ⊎ ((r ≡ s) × P) → (s ≡ n) × P
@@ -113,6 +113,12 @@ has_story command (Some told) (Some rest) fault none has =
     found_no_story none.input fault none.none
     (subst (λ (t : List ℕ). IsOk (story_of t)) is (subst (λ (x : Command). Has x told) none.asked has))
 
+-- what a command that reads a schedule needs is one
+needs_schedule : (command : Command) → reads_schedule command ≡ true → (input : List ℕ) → Has command input → IsOk (schedule_of input)
+needs_schedule Assemble reads input has = absurd cc
+needs_schedule Text reads input has = has
+needs_schedule Run reads input has = has
+
 pub has_schedule : (command : Command) (before now : Option (List ℕ)) (fault : Fault) → IsNoSchedule command before now fault
     → ¬ IsSomeAnd before (Has command)
 has_schedule command None now fault none has = has
@@ -120,7 +126,7 @@ has_schedule command (Some told) None fault none has = absurd none.taken
 has_schedule command (Some told) (Some rest) fault none has =
     let is : told ≡ none.input = whole told rest none.input none.taken none.ended in
     found_no_schedule none.input fault none.none
-    (subst (λ (t : List ℕ). IsOk (schedule_of t)) is (subst (λ (x : Command). Has x told) none.asked has))
+    (subst (λ (t : List ℕ). IsOk (schedule_of t)) is (needs_schedule command none.reads told has))
 
 -- what stops a run where no stream fails and the input has what is asked is want of memory
 memory_alone : (stop : Stop) → ¬ (stop ≡ Read) → ¬ (stop ≡ Write) → ((fault : StoryFault) → ¬ (stop ≡ Story fault))

@@ -2,10 +2,12 @@
 --
 -- A stream tells what it holds where its `left` or `written` is `Some bytes`, as streams in memory do. Standard input, output and error do
 -- not tell: theirs is `None`. Of a stream that does not tell, `Consumes`, `IsAtEnd`, `Appends` and `AppendsPrefix` hold whatever the bytes.
-use Rattle.std.specs.Prelude.{◌≡◌, ℕ, List, [], ◌∷◌, map, Option, Ok, Err, IsOk, codes, String, string_bytes}
+use Rattle.std.specs.Prelude.{◌≡◌, ℕ, Bool, true, false, List, [], ◌∷◌, map, Option, Ok, Err, IsOk, codes, String, string_bytes}
+use Rattle.std.specs.List.{flat_map}
 use Rattle.std.specs.Io.KnownBytes.{Appends, Consumes, IsAtEnd}
 use Rattle.std.specs.declared.alloc.Global.{Global}
 use Rattle.rp_base.specs.Streams.{AppendsPrefix, Says}
+use Rattle.text_defs.specs.Words.{line_text}
 use Rattle.replay_defs.specs.declared.Fault.{Fault}
 use Rattle.replay_defs.specs.Schedules as schedules
 use Rattle.replay_defs.specs.Schedules.{IsSchedule, schedule_bytes}
@@ -13,9 +15,10 @@ use Rattle.replay_defs.specs.Reading.{schedule_of}
 use Rattle.story_defs.specs.declared.StoryFault.{StoryFault}
 use Rattle.story_defs.specs.Stories.{story_of}
 use Rattle.story_defs.specs.Texts.{schedule_text}
+use Rattle.told_defs.specs.Told.{trace_lines}
 use Rattle.story_cli.specs.declared.stops.Stop.TheVariants.{Story, Schedule}
 use Rattle.story_cli.specs.declared.commands.Command.{Command}
-use Rattle.story_cli.specs.declared.commands.Command.TheVariants.{Assemble, Text}
+use Rattle.story_cli.specs.declared.commands.Command.TheVariants.{Assemble, Text, Run}
 use Rattle.story_cli.specs.Messages.{line_of}
 
 -- ---- the words
@@ -23,6 +26,7 @@ use Rattle.story_cli.specs.Messages.{line_of}
 abbrev pub command_word : Command → List ℕ
 command_word Assemble = codes "assemble"
 command_word Text = codes "text"
+command_word Run = codes "run"
 
 -- the words are those of this command
 abbrev pub Asks : List (String Global) → Command → Type 0
@@ -31,6 +35,18 @@ Asks words command = map string_bytes words ≡ command_word command ∷ []
 -- the words are those of some command
 abbrev pub AskAny : List (String Global) → Type 0
 AskAny words = (command : Command) × Asks words command
+
+-- the command reads a schedule, and not a story
+abbrev pub reads_schedule : Command → Bool
+reads_schedule Assemble = false
+reads_schedule Text = true
+reads_schedule Run = true
+
+-- the words are those of a command that reads a schedule
+pub record AskOfSchedule (words : List (String Global)) : Type 0 where
+  pub command : Command
+  pub asked : Asks words command
+  pub reads : reads_schedule command ≡ true
 
 -- ---- what is made of an input
 
@@ -41,22 +57,36 @@ pub record Assembles (text bytes : List ℕ) : Type 0 where
   pub spelled : bytes ≡ schedule_bytes schedule
   pub assembled : story_of text ≡ Ok bytes
 
--- The bytes are a schedule, and this is its text.
-pub record Tells (bytes text : List ℕ) : Type 0 where
+-- The bytes are a schedule, and this is what stands for it.
+pub record WritesOf (text_of : schedules.Schedule → List ℕ) (bytes text : List ℕ) : Type 0 where
   pub schedule : schedules.Schedule
   pub fits : IsSchedule schedule
   pub spelled : bytes ≡ schedule_bytes schedule
-  pub told : text ≡ schedule_text schedule
+  pub told : text ≡ text_of schedule
+
+-- the bytes are a schedule, and this is its text
+abbrev pub Tells : List ℕ → List ℕ → Type 0
+Tells bytes text = WritesOf schedule_text bytes text
+
+-- the trace of a schedule's run
+abbrev pub trace_text : schedules.Schedule → List ℕ
+trace_text schedule = flat_map line_text (trace_lines schedule)
+
+-- the bytes are a schedule, and this is the trace of its run
+abbrev pub Traces : List ℕ → List ℕ → Type 0
+Traces bytes text = WritesOf trace_text bytes text
 
 -- what the command makes of an input
 abbrev pub MakesOf : Command → List ℕ → List ℕ → Type 0
 MakesOf Assemble input output = Assembles input output
 MakesOf Text input output = Tells input output
+MakesOf Run input output = Traces input output
 
 -- the command makes something of the input
 abbrev pub Has : Command → List ℕ → Type 0
 Has Assemble input = IsOk (story_of input)
 Has Text input = IsOk (schedule_of input)
+Has Run input = IsOk (schedule_of input)
 
 -- ---- the input and the output, by what a source had left before and has left now, and what a sink held before and holds now
 
@@ -114,9 +144,9 @@ pub record IsNoStory (command : Command) (before now : Option (List ℕ)) (fault
   pub ended : IsAtEnd now
   pub none : story_of input ≡ Err fault
 
--- the command is to tell, and the input, which was read to its end, has this fault
+-- the command reads a schedule, and the input, which was read to its end, has this fault
 pub record IsNoSchedule (command : Command) (before now : Option (List ℕ)) (fault : Fault) : Type 0 where
-  pub asked : command ≡ Text
+  pub reads : reads_schedule command ≡ true
   pub input : List ℕ
   pub taken : Consumes before now input
   pub ended : IsAtEnd now

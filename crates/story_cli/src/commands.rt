@@ -10,6 +10,9 @@ pub enum Command {
 
     /// The story of a schedule.
     Text,
+
+    /// What happens in the run of a schedule.
+    Run,
 }
 
 /// The command of these words; None exactly where they are none's.
@@ -24,6 +27,8 @@ pub fn command_of(words: &[String]) -> Option<Command>
         Some(Command::Assemble)
     } else if word.as_bytes() == b"text".as_slice() {
         Some(Command::Text)
+    } else if word.as_bytes() == b"run".as_slice() {
+        Some(Command::Run)
     } else {
         None
     }

@@ -1,18 +1,24 @@
 //! What each command makes of its input.
-ghost use Rattle.std.specs.Prelude.{◌≡◌, ◌⊎◌, ℕ, List, Err, IfOk, IfErr, IsErrOf};
+ghost use Rattle.std.specs.Prelude.{◌≡◌, ◌⊎◌, Err, IfOk, IfErr, IsErrOf};
 ghost use Rattle.replay_defs.specs.declared.Fault.{Fault};
 ghost use Rattle.replay_defs.specs.Reading.{schedule_of};
+ghost use Rattle.replay_defs.specs.Schedules.{IsSchedule, schedule_bytes};
+ghost use Rattle.schedule_file.specs.Views as views;
 ghost use Rattle.schedule_fields.specs.Faults as read;
 ghost use Rattle.story_defs.specs.declared.StoryFault.{StoryFault};
 ghost use Rattle.story_defs.specs.Stories.{story_of};
 ghost use Rattle.story_cli.specs.Stopping.{stop_of};
-ghost use Rattle.story_cli.specs.Top.{Assembles, Tells};
+ghost use Rattle.story_cli.specs.Top.{Assembles, Tells, Traces, trace_text};
 
 use crate::stops::Stop;
 use replay_defs::{Fault, FaultKind};
+use rp_base::NoMemory;
+use schedule_file::Schedule;
 use schedule_reading::{ScheduleFault, read_schedule};
 use std::alloc::Global;
 use story_reading::{AssembleFault, assemble};
+use story_telling::tell;
+use story_trace::push_trace;
 use story_writing::push_story;
 
 /// The bytes of the schedule that the text spells.
@@ -47,17 +53,49 @@ fn stop_of(fault: ScheduleFault) -> Stop
     Stop::Schedule(Fault { kind, place })
 }
 
+// The schedule that the bytes spell.
+fn schedule_in(alloc: Global, bytes: &[u8]) -> Result<Schedule, Stop>
+    ensures fits { IfOk result (λ schedule. IsSchedule (views.schedule schedule)) }
+    ensures spelled { IfOk result (λ schedule. bytes.now ≡ schedule_bytes (views.schedule schedule)) }
+    ensures refused { (fault : Fault) → IsErrOf result (Stop.Schedule fault) → schedule_of bytes.now ≡ Err fault }
+    ensures only { IfErr result (λ stop. (stop ≡ Stop.NoMemory) ⊎ ((fault : Fault) × (stop ≡ Stop.Schedule fault))) }
+{
+    match read_schedule(alloc, bytes) {
+        Ok(schedule) => Ok(schedule),
+        Err(fault) => Err(stop_of(fault)),
+    }
+}
+
 /// The text of the schedule that the bytes spell.
 pub fn text_of_schedule(alloc: Global, bytes: &[u8]) -> Result<Vec<u8>, Stop>
     ensures made { IfOk result (λ text. Tells bytes.now text.items) }
     ensures refused { (fault : Fault) → IsErrOf result (Stop.Schedule fault) → schedule_of bytes.now ≡ Err fault }
     ensures only { IfErr result (λ stop. (stop ≡ Stop.NoMemory) ⊎ ((fault : Fault) × (stop ≡ Stop.Schedule fault))) }
 {
-    let schedule = match read_schedule(alloc, bytes) {
-        Ok(schedule) => schedule,
-        Err(fault) => return Err(stop_of(fault)),
-    };
+    let schedule = schedule_in(alloc, bytes)?;
     let mut text = Vec::new(alloc);
     push_story(&schedule, &mut text)?;
+    Ok(text)
+}
+
+// What happens in the run of a schedule, as text.
+fn trace(alloc: Global, schedule: &Schedule) -> Result<Vec<u8>, NoMemory>
+    requires { IsSchedule (views.schedule schedule.now) }
+    ensures { IfOk result (λ text. text.items ≡ trace_text (views.schedule schedule.now)) }
+{
+    let told = tell(alloc, schedule)?;
+    let mut text = Vec::new(alloc);
+    push_trace(&mut text, schedule, &told.events, told.stop)?;
+    Ok(text)
+}
+
+/// What happens in the run of the schedule that the bytes spell.
+pub fn trace_of_schedule(alloc: Global, bytes: &[u8]) -> Result<Vec<u8>, Stop>
+    ensures made { IfOk result (λ text. Traces bytes.now text.items) }
+    ensures refused { (fault : Fault) → IsErrOf result (Stop.Schedule fault) → schedule_of bytes.now ≡ Err fault }
+    ensures only { IfErr result (λ stop. (stop ≡ Stop.NoMemory) ⊎ ((fault : Fault) × (stop ≡ Stop.Schedule fault))) }
+{
+    let schedule = schedule_in(alloc, bytes)?;
+    let text = trace(alloc, &schedule)?;
     Ok(text)
 }

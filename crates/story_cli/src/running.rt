@@ -8,7 +8,7 @@ ghost use Rattle.story_cli.specs.Messages.{line_of, status_of};
 ghost use Rattle.story_cli.specs.Top.{Given, IsNoSchedule, IsNoStory, Made, MadeInPart};
 
 use crate::commands::Command;
-use crate::giving::{schedule_of_text, text_of_schedule};
+use crate::giving::{schedule_of_text, text_of_schedule, trace_of_schedule};
 use crate::stops::Stop;
 use crate::streams::read_all;
 use rp_base::{Sink, Source, write_all};
@@ -29,6 +29,7 @@ pub fn made_of<S: Source>(alloc: Global, command: Command, input: &mut S) -> Res
     match command {
         Command::Assemble => schedule_of_text(alloc, &all),
         Command::Text => text_of_schedule(alloc, &all),
+        Command::Run => trace_of_schedule(alloc, &all),
     }
 }
 

@@ -2,7 +2,7 @@ ghost use Rattle.std.specs.Prelude.{◌≡◌, ◌≢◌, ◌↔◌, ◌⊎◌, 
 ghost use Rattle.rp_base.specs.Causes.{Rose};
 ghost use Rattle.rp_base.specs.Streams.{Says};
 ghost use Rattle.story_cli.specs.declared.commands.Command.{Command};
-ghost use Rattle.story_cli.specs.Top.{AskAny, Asks, Has, Made, MadeInPart, NoSchedule, NoStory};
+ghost use Rattle.story_cli.specs.Top.{AskAny, AskOfSchedule, Asks, Has, Made, MadeInPart, NoSchedule, NoStory};
 
 use crate::commands::{Command, command_of};
 use crate::running::{run, say, tell};
@@ -21,7 +21,8 @@ pub fn story<S: Source, K: Sink, E: Sink>(
     output: &mut K,
     errors: &mut E,
 ) -> u8
-    // 0: the input was read to its end, and the schedule of the story, or the story of the schedule, was written, and nothing else.
+    // 0: the input was read to its end, and what the command makes of it was written, and nothing else: the schedule of the story, the
+    // story of the schedule, or what happens in its run.
     ensures done { (command : Command) → Asks words.now command → result ≡ 0
         → Made command (S.left input.old) (S.left input.new) (K.written output.old) (K.written output.new) }
 
@@ -43,8 +44,8 @@ pub fn story<S: Source, K: Sink, E: Sink>(
     ensures story { result ≡ 5 → Asks words.now Command.Assemble × NoStory (S.left input.old) (S.left input.new)
         (E.written errors.old) (E.written errors.new) (E.faults errors.old) (E.faults errors.new) }
 
-    // 7: the words are to tell, and the input is no schedule; the line says why.
-    ensures schedule { result ≡ 7 → Asks words.now Command.Text × NoSchedule (S.left input.old) (S.left input.new)
+    // 7: the words are those of a command that reads a schedule, and the input is none; the line says why.
+    ensures schedule { result ≡ 7 → AskOfSchedule words.now × NoSchedule (S.left input.old) (S.left input.new)
         (E.written errors.old) (E.written errors.new) (E.faults errors.old) (E.faults errors.new) }
 
     // Where the words are a command, the input has what it needs and nothing failed, 0 comes, or 1 where memory ran out.

@@ -1,4 +1,5 @@
-//! One schedule with each kind of event and statement, whose bytes another program made, and two stories of it.
+//! One schedule with each kind of event and statement, whose bytes another program made, and two stories of it; and a tiny schedule of
+//! that program, and what happens in its run.
 
 pub const BYTES: &[u8] =
     b"RPS3\x00\x10sixteen letters.\x02\x00\x00\x00\x00\x00\x00\x00\x00\x00\x00\x00\x00\x00\x00\x00\x00\x00\x00\x00\x00\x00\x00\
@@ -37,3 +38,26 @@ ain 0000000000000000000000000000000000000000000000000000000000000000 100000 # th
 \x205 to 0: notify renew\x0alie 5 to 0: 0700000400\x0alie 5 to 0: last 3 none\x0alie 5 to 0: last 3 2 add 7 4\x0alie 5 t\
 o 0: suggest 15 renew 0\x0alie 5 to 0: ack 1 remove 0 1\x0alie 5 to 0: ready 0 renew 1024\x0asuspect 0 of 5\x0ajoin 0 of\
 \x2063\x0arenew 0\x0atick 0";
+
+/// A key of four signatures is spent before its process can deliver.
+pub const SPENT_KEY: &[u8] =
+    b"RPS1\x00\x00\x00\x00\x00\x00\x00\x00\x00\x00\x00\x00\x00\x00\x00\x00\x00\x01\x00\x00\x00\x00\x00\x00\x00\x00\x00\
+\x00\x00\x00\x00\x00\x00\x00\x00\x00\x00\x00\x00\x00\x00\x00\x00\x00\x00\x00\x00\x00\x00\x00\x00\x00\x00\x00\x00\x04\
+\x01\x00\x01\x00\x00\x01a";
+
+/// A Pass of a frame that is not sent yet, and a Tick, which does not happen.
+pub const TOO_EARLY: &[u8] = b"\x03\xff\xff\xff\xff\x00\x09\x00";
+
+pub const SPENT_TRACE: &[u8] = b"process 0: correct
+view 0: 0
+event 0: 0 is asked to send \"a\"
+  0 signs Init 0 in view 0: \"a\"
+  0 signs Echo of 0/0 in view 0: \"a\"
+  0 signs Order of place 0 in view 0: 0/0
+  0 signs Place of place 0 in view 0: 0/0
+  0 has no signature left for what is due
+";
+
+pub const STOPPED_TRACE: &[u8] = b"event 1: frame 4294967295 is handed to 0
+  the run stops here: frame 4294967295 is not sent yet; frames sent so far: 0
+";

@@ -1,4 +1,4 @@
-use crate::data::{BYTES, LOOSE, STORY};
+use crate::data::{BYTES, LOOSE, SPENT_KEY, SPENT_TRACE, STOPPED_TRACE, STORY, TOO_EARLY};
 use rp_base::{MemSink, MemSource};
 use std::alloc::{AllocError, Global};
 use std::test::Fail;
@@ -55,6 +55,23 @@ fn a_schedule_is_told_and_assembled(rt: HostRuntime) -> Result<(), Fail> {
         assert_eq!(rt; bytes.bytes(), BYTES);
         assert!(rt; errors.bytes().is_empty());
     }
+    Ok(())
+}
+
+#[test]
+fn what_happens_in_a_run_is_told(rt: HostRuntime) -> Result<(), Fail> {
+    let (status, text, errors) = run(rt.alloc(), "run", SPENT_KEY, [&[], &[]])?;
+    assert_eq!(rt; status, 0);
+    assert_eq!(rt; text.bytes(), SPENT_TRACE);
+    assert!(rt; errors.bytes().is_empty());
+    let mut longer = SPENT_KEY.to_vec(rt.alloc())?;
+    longer.extend_from_slice(TOO_EARLY)?;
+    let mut trace = SPENT_TRACE.to_vec(rt.alloc())?;
+    trace.extend_from_slice(STOPPED_TRACE)?;
+    let (status, text, errors) = run(rt.alloc(), "run", &longer, [&[], &[]])?;
+    assert_eq!(rt; status, 0);
+    assert_eq!(rt; text.bytes(), trace.as_slice());
+    assert!(rt; errors.bytes().is_empty());
     Ok(())
 }
 

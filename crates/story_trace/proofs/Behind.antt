@@ -1,7 +1,8 @@
 -- Lines behind lines.
-use Rattle.std.proofs.Common.{◌≡◌, ℕ, ◌+◌, ◌<◌, List, [], ◌∷◌, ◌++◌, map, take, length, get_or, refl, sym, ap, ◌∙◌, append_assoc, arith}
-use Rattle.std.specs.List.{flat_map, enumerate_from}
-use Rattle.std.proofs.lemmas.List.{map-append, append-nil, take_more, length-map, length-take-le}
+use Rattle.std.proofs.Common.{◌≡◌, ℕ, ◌+◌, ◌<◌, ◌≤◌, ◌⊎◌, List, [], ◌∷◌, ◌++◌, map, take, length, get_or, refl, sym, ap, ◌∙◌, append_assoc, arith}
+use Rattle.std.specs.List.{flat_map, enumerate_from, zip}
+use Rattle.std.proofs.lemmas.List.{map-append, append-nil, take_more, take_all, get_or-map, length-map, length-take-le}
+use Rattle.std.proofs.lemmas.Slice.Zip.{get_or-zip, length-zip}
 use Rattle.std.proofs.lemmas.Grind.{flat_map-append}
 use Rattle.report_lines.proofs.Pieces.{behind}
 
@@ -63,3 +64,39 @@ numbered_more {A} f n xs i x before out new lt at so_far wrote =
     ∙ ap (λ (t : List ℕ). flat_map f (enumerate_from n taken) ++ t) (append-nil (f (entry (n + i)))) in
     behind before (flat_map f (enumerate_from n taken)) (f (entry (n + i))) out new so_far wrote
     ∙ ap (λ (t : List ℕ). before ++ t) (sym lines)
+
+-- ---- numbered pairs
+
+-- an element, seen otherwise
+seen_at : {X A : Type 0} (g : X → A) (xs : List X) (i : ℕ) (x : X) → i < length xs → x ≡ get_or xs i x → g x ≡ get_or (map g xs) i (g x)
+seen_at g xs i x lt is = ap g is ∙ sym (get_or-map g xs i x (g x) lt)
+
+-- one pair more
+pub paired_more : {X Y A B : Type 0} (f : ℕ × (A × B) → List ℕ) (g : X → A) (h : Y → B) (xs : List X) (ys : List Y) (i : ℕ) (x : X) (y : Y)
+    (before out new : List ℕ) → i < length xs → x ≡ get_or xs i x → i < length ys → y ≡ get_or ys i y
+    → out ≡ before ++ flat_map f (enumerate_from 0 (take i (zip (map g xs) (map h ys)))) → new ≡ out ++ f (i, (g x, h y))
+    → new ≡ before ++ flat_map f (enumerate_from 0 (take (i + 1) (zip (map g xs) (map h ys))))
+paired_more {X} {Y} {A} {B} f g h xs ys i x y before out new low first under second so_far wrote =
+    let pair : A × B = (g x, h y) in
+    let entry : ℕ → ℕ × (A × B) = λ n. (n, pair) in
+    let all : List (A × B) = zip (map g xs) (map h ys) in
+    let left : i < length (map g xs) = omega (arith, length-map xs g) in
+    let right : i < length (map h ys) = omega (arith, length-map ys h) in
+    let one : g x ≡ get_or (map g xs) i (g x) = seen_at g xs i x low first in
+    let other : h y ≡ get_or (map h ys) i (h y) = seen_at h ys i y under second in
+    let here : pair ≡ get_or all i pair = (λ k. (one k, other k)) ∙ sym (get_or-zip (map g xs) (map h ys) i pair left right) in
+    let within : i < length all = omega (arith, length-zip (map g xs) (map h ys)) in
+    let number : i ≡ 0 + i = omega arith in
+    numbered_more f 0 all i pair before out new within here so_far (wrote ∙ ap (λ (n : ℕ). out ++ f (entry n)) number)
+
+-- all pairs
+pub paired_all : {X Y A B C : Type 0} (f : C → List ℕ) (of : ℕ × (A × B) → List C) (g : X → A) (h : Y → B) (xs : List X) (ys : List Y)
+    (i : ℕ) (before out : List ℕ) → (length xs ≤ i) ⊎ (length ys ≤ i)
+    → out ≡ before ++ flat_map (λ e. flat_map f (of e)) (enumerate_from 0 (take i (zip (map g xs) (map h ys))))
+    → out ≡ before ++ flat_map f (flat_map of (enumerate_from 0 (zip (map g xs) (map h ys))))
+paired_all {X} {Y} {A} {B} f of g h xs ys i before out past so_far =
+    let all : List (A × B) = zip (map g xs) (map h ys) in
+    let short : length all ≤ i = omega (arith, past, length-zip (map g xs) (map h ys), length-map xs g, length-map ys h) in
+    so_far
+    ∙ ap (λ (ps : List (A × B)). before ++ flat_map (λ e. flat_map f (of e)) (enumerate_from 0 ps)) (take_all i all short)
+    ∙ ap (λ (t : List ℕ). before ++ t) (sym (each_of f of (enumerate_from 0 all)))

@@ -186,7 +186,7 @@ fn push_genesis(out: &mut Vec<u8>, members: &[Pid]) -> Result<(), NoMemory>
 }
 
 /// Who takes part.
-pub fn push_cast(out: &mut Vec<u8>, header: &Header) -> Result<(), NoMemory>
+pub(crate) fn push_cast(out: &mut Vec<u8>, header: &Header) -> Result<(), NoMemory>
     ensures { OnOk result (out.new.items ≡ out.old.items ++ flat_map line_text (plain.cast_lines (views.header header.now))) }
 {
     push_roles(out, &header.processes)?;

@@ -8,6 +8,6 @@ mod notes;
 mod refusals;
 mod statements;
 mod steps;
+mod trace;
 
-pub use events::push_cast;
-pub use steps::push_told;
+pub use trace::push_trace;

@@ -225,7 +225,7 @@ fn push_all(out: &mut Vec<u8>, told: &[Happening]) -> Result<(), NoMemory>
 }
 
 /// The event of this number, and what happens in it.
-pub fn push_told(
+pub(crate) fn push_told(
     out: &mut Vec<u8>,
     n: u64,
     event: &ScheduleEvent,

@@ -1,7 +1,7 @@
 use Rattle.std.proofs.Common.{◌≡◌, sym, subst, inl, inr}
 use Rattle.story_cli.specs.declared.commands.Command.{Command}
 use Rattle.std.specs.Prelude.{IsSomeAnd}
-use Rattle.story_cli.specs.Top.{Asks, Has, MadeInPart}
+use Rattle.story_cli.specs.Top.{AskOfSchedule, Asks, Has, MadeInPart}
 use Rattle.story_cli.proofs.Stopped.{at_write, at_story, at_schedule, has_schedule, has_story, no_memory, no_story, no_schedule, said, same_command, stopped_so, touched}
 use Rattle.story_cli.proofs.top.story.Goals as goal
 
@@ -26,7 +26,9 @@ returns-in-Err-clause-schedule g c = λ seven.
     let told = said _ _ 7 (omega Rattle.std.proofs.Common.arith) seven c.tell.ensures.told in
     let at = at_schedule c.in-Err.stop told.0 in
     let none = c.in-Err.ensures.schedule at.0 (stopped_so _ _ at.1) in
-    (subst (Asks c.args.words.now) none.asked c.in-Some.ensures.found, no_schedule _ _ _ _ _ _ _ c.in-Err.stop at.0 at.1 none told.1)
+    let asked : AskOfSchedule c.args.words.now =
+    record { command = c.in-Some.command; asked = c.in-Some.ensures.found; reads = none.reads } in
+    (asked, no_schedule _ _ _ _ _ _ _ c.in-Err.stop at.0 at.1 none told.1)
 
 pub returns-in-Err-clause-untouched : goal.returns-in-Err-clause-untouched
 returns-in-Err-clause-untouched g c = touched _ c.in-Err.stop c.tell.ensures.write c.in-Err.ensures.untouched
