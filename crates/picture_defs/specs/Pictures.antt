@@ -88,11 +88,15 @@ stop_text n (Some fault) = text_at (codes "bad") (record { x = 90; y = row n + 3
 -- ---- all of it
 
 -- the beginning of a picture of this size
-abbrev pub picture_begin : ℕ → ℕ → List ℕ
-picture_begin wide high = text_of (
+abbrev pub frame_begin : ℕ → ℕ → List ℕ
+frame_begin wide high = text_of (
     codes "<svg xmlns='http://www.w3.org/2000/svg' viewBox='0 0 " ∷ decimal wide ∷ codes " " ∷ decimal high
     ∷ codes "' width='" ∷ decimal wide ∷ codes "' height='" ∷ decimal high
-    ∷ codes "' role='img' xml:space='preserve'>\n<title>A run, process by process</title>\n" ∷ style ∷ heads ∷ [])
+    ∷ codes "' role='img' xml:space='preserve'>\n<title>A run, process by process</title>\n" ∷ [])
+
+-- with its colours and the heads of its arrows
+abbrev pub picture_begin : ℕ → ℕ → List ℕ
+picture_begin wide high = frame_begin wide high ++ (style ++ heads)
 
 -- the beginning of a picture of n rows
 abbrev pub begin_rows : List Listed → ℕ → List ℕ
@@ -120,23 +124,26 @@ abbrev pub arrows : List Listed → List Row → List ℕ
 arrows ls rows = each_row (λ k n what. arrow ls (sent_rows rows) k what) rows
 
 -- the processes, and the members of view 0
-abbrev pub cast : Header → List ℕ
-cast h = flat_map (name h.processes) h.processes ++ genesis h.genesis
+abbrev pub cast : List Listed → List ℕ → List ℕ
+cast ls members = flat_map (name ls) ls ++ genesis members
 
 -- before it: arrows, marks and texts, and the names of the processes
-abbrev pub foreground : Header → List Row → List ℕ
-foreground h rows = arrows h.processes rows ++ (each_row (λ k n what. label h.processes k what) rows ++ cast h)
+abbrev pub foreground : List Listed → List ℕ → List Row → List ℕ
+foreground ls members rows = arrows ls rows ++ (each_row (λ k n what. label ls k what) rows ++ cast ls members)
 
 -- the end below n rows
 abbrev pub below : ℕ → ℕ → Option WorldFault → List ℕ
 below n more stop = more_text n more ++ (stop_text n stop ++ picture_end)
 
 -- the picture of these rows, of all that there are
-abbrev pub drawing : Header → List Row → ℕ → Option WorldFault → List ℕ
-drawing h rows all stop =
-    begin_rows h.processes (length rows)
-    ++ (background h.processes rows ++ (foreground h rows ++ below (length rows) (all - length rows) stop))
+abbrev pub drawing : List Listed → List ℕ → List Row → ℕ → Option WorldFault → List ℕ
+drawing ls members rows all stop =
+    begin_rows ls (length rows) ++ (background ls rows ++ (foreground ls members rows ++ below (length rows) (all - length rows) stop))
+
+-- the picture of all rows, as far as they are drawn
+abbrev pub picture_of : List Listed → List ℕ → List Row → Option WorldFault → List ℕ
+picture_of ls members rows stop = drawing ls members (take most_drawn rows) (length rows) stop
 
 -- the picture of what happens in each event, and of why the run stops, where an event stops it
 abbrev pub picture : Header → List (List Happening) → Option WorldFault → List ℕ
-picture h told stop = drawing h (take most_drawn (rows_of told)) (length (rows_of told)) stop
+picture h told stop = picture_of h.processes h.genesis (rows_of told) stop

@@ -11,7 +11,7 @@ ghost use Rattle.story_picture.specs.Views.{row as row_of};
 use crate::elements::{Point, push_bar, push_stroke};
 use crate::layout::{between, left_of, place, row};
 use crate::rows::Row;
-use happenings::Happening;
+use happenings::{Happening, Seen};
 use rp_base::{NoMemory, Pid};
 use schedule_file::Listed;
 use stmt_codec::Note;
@@ -113,6 +113,22 @@ fn push_note_bars(
     Ok(())
 }
 
+// The bars of what is seen of process p in row k.
+fn push_seen_bars(
+    out: &mut Vec<u8>,
+    processes: &[Listed],
+    n: u64,
+    p: Pid,
+    k: u64,
+    seen: &Seen,
+) -> Result<(), NoMemory>
+    ensures { OnOk result (out.new.items ≡ out.old.items
+        ++ flat_map (plain.note_bar (map listed processes.now) n p k) (map note_of seen.now.notes.items)) }
+{
+    push_note_bars(out, processes, n, p, k, &seen.notes)?;
+    Ok(())
+}
+
 // The bars of what happens in row k.
 fn push_row_bars(
     out: &mut Vec<u8>,
@@ -124,9 +140,7 @@ fn push_row_bars(
     ensures { OnOk result (out.new.items ≡ out.old.items ++ plain.bars (map listed processes.now) n k (happening_of what.now)) }
 {
     match what {
-        Happening::Takes { at, seen, .. } => {
-            push_note_bars(out, processes, n, *at, k, &seen.notes)
-        }
+        Happening::Takes { at, seen, .. } => push_seen_bars(out, processes, n, *at, k, seen),
         _ => Ok(()),
     }
 }

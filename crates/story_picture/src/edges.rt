@@ -1,8 +1,11 @@
 //! What a picture begins and ends with.
-ghost use Rattle.std.specs.Prelude.{◌≡◌, ◌++◌, option_map, OnOk};
+ghost use Rattle.std.specs.Prelude.{◌≡◌, ◌++◌, codes, option_map, OnOk};
+ghost use Rattle.replay_defs.specs.Worlds as worlds;
 ghost use Rattle.happenings.specs.Told.{stopped};
+ghost use Rattle.picture_defs.specs.Elements.{text_at};
 ghost use Rattle.picture_defs.specs.Styles as styles;
 ghost use Rattle.picture_defs.specs.Pictures as plain;
+ghost use Rattle.story_picture.specs.Views.{point};
 
 use crate::elements::{Point, push_text};
 use crate::layout::below;
@@ -77,9 +80,8 @@ fn heads() -> &'static [u8]
     HEADS
 }
 
-/// The beginning of a picture of this size.
-pub(crate) fn begin_picture(out: &mut Vec<u8>, wide: u64, high: u64) -> Result<(), NoMemory>
-    ensures { OnOk result (out.new.items ≡ out.old.items ++ plain.picture_begin wide high) }
+fn begin_frame(out: &mut Vec<u8>, wide: u64, high: u64) -> Result<(), NoMemory>
+    ensures { OnOk result (out.new.items ≡ out.old.items ++ plain.frame_begin wide high) }
 {
     push_pieces(
         out,
@@ -95,10 +97,25 @@ pub(crate) fn begin_picture(out: &mut Vec<u8>, wide: u64, high: u64) -> Result<(
             Word::Text(
                 b"' role='img' xml:space='preserve'>\n<title>A run, process by process</title>\n",
             ),
-            Word::Text(style()),
-            Word::Text(heads()),
         ],
     )
+}
+
+// The colours, and the heads of arrows.
+fn push_styles(out: &mut Vec<u8>) -> Result<(), NoMemory>
+    ensures { OnOk result (out.new.items ≡ out.old.items ++ (styles.style ++ styles.heads)) }
+{
+    out.extend_from_slice(style())?;
+    out.extend_from_slice(heads())?;
+    Ok(())
+}
+
+/// The beginning of a picture of this size.
+pub(crate) fn begin_picture(out: &mut Vec<u8>, wide: u64, high: u64) -> Result<(), NoMemory>
+    ensures { OnOk result (out.new.items ≡ out.old.items ++ plain.picture_begin wide high) }
+{
+    begin_frame(out, wide, high)?;
+    push_styles(out)
 }
 
 // The end of a picture.
@@ -129,43 +146,66 @@ fn push_more(out: &mut Vec<u8>, n: u64, more: u64) -> Result<(), NoMemory>
     )
 }
 
+// A frame is not sent yet.
+fn push_no_frame(out: &mut Vec<u8>, at: Point, event: u64, frame: u64) -> Result<(), NoMemory>
+    ensures { OnOk result (out.new.items ≡ out.old.items
+        ++ text_at (codes "bad") (point at) (plain.fault_words (worlds.NoSuchFrame event frame 0))) }
+{
+    push_text(
+        out,
+        b"bad",
+        at,
+        &[
+            Word::Text(b"The run stops at event "),
+            Word::Number(event),
+            Word::Text(b": frame "),
+            Word::Number(frame),
+            Word::Text(b" is not sent yet"),
+        ],
+    )
+}
+
+// The frames have too many bytes.
+fn push_too_much(out: &mut Vec<u8>, at: Point, event: u64) -> Result<(), NoMemory>
+    ensures { OnOk result (out.new.items ≡ out.old.items
+        ++ text_at (codes "bad") (point at) (plain.fault_words (worlds.TooMuchSent event 0))) }
+{
+    push_text(
+        out,
+        b"bad",
+        at,
+        &[
+            Word::Text(b"The run stops at event "),
+            Word::Number(event),
+            Word::Text(b": the frames have too many bytes"),
+        ],
+    )
+}
+
+// Why the run stops.
+fn push_fault(out: &mut Vec<u8>, at: Point, fault: Stopped) -> Result<(), NoMemory>
+    ensures { OnOk result (out.new.items ≡ out.old.items
+        ++ text_at (codes "bad") (point at) (plain.fault_words (stopped fault))) }
+{
+    match fault {
+        Stopped::NoSuchFrame { event, frame, .. } => push_no_frame(out, at, event, frame.into()),
+        Stopped::TooMuchSent { event, .. } => push_too_much(out, at, event),
+    }
+}
+
 // Why the run stops, below the n rows.
-fn push_fault(out: &mut Vec<u8>, n: u64, fault: Stopped) -> Result<(), NoMemory>
+fn push_fault_below(out: &mut Vec<u8>, n: u64, fault: Stopped) -> Result<(), NoMemory>
     ensures { OnOk result (out.new.items ≡ out.old.items ++ plain.stop_text n (Some (stopped fault))) }
 {
     let y = below(n, 36)?;
-    let at = Point { x: 90, y };
-    match fault {
-        Stopped::NoSuchFrame { event, frame, .. } => push_text(
-            out,
-            b"bad",
-            at,
-            &[
-                Word::Text(b"The run stops at event "),
-                Word::Number(event),
-                Word::Text(b": frame "),
-                Word::Number(frame.into()),
-                Word::Text(b" is not sent yet"),
-            ],
-        ),
-        Stopped::TooMuchSent { event, .. } => push_text(
-            out,
-            b"bad",
-            at,
-            &[
-                Word::Text(b"The run stops at event "),
-                Word::Number(event),
-                Word::Text(b": the frames have too many bytes"),
-            ],
-        ),
-    }
+    push_fault(out, Point { x: 90, y }, fault)
 }
 
 fn push_stop(out: &mut Vec<u8>, n: u64, stop: Option<Stopped>) -> Result<(), NoMemory>
     ensures { OnOk result (out.new.items ≡ out.old.items ++ plain.stop_text n (option_map stopped stop)) }
 {
     match stop {
-        Some(fault) => push_fault(out, n, fault),
+        Some(fault) => push_fault_below(out, n, fault),
         None => Ok(()),
     }
 }

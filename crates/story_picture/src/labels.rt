@@ -92,7 +92,8 @@ fn push_outcome_words(out: &mut Vec<u8>, seen: &Seen) -> Result<(), NoMemory>
     ensures { OnOk result (out.new.items ≡ out.old.items ++ plain.outcome_words (seen_of seen.now)) }
 {
     push_notes(out, &seen.notes)?;
-    push_all_short(out, &seen.signed)
+    push_all_short(out, &seen.signed)?;
+    Ok(())
 }
 
 // What it was asked for, and what came of it.
@@ -148,6 +149,13 @@ fn delivers(notes: &[Note]) -> bool
     notes.iter().any(|note| is_delivery(note))
 }
 
+// Whether a message is delivered.
+fn has_delivery(seen: &Seen) -> bool
+    ensures { result ≡ list_any plain.is_delivery (map note_of seen.now.notes.items) }
+{
+    delivers(&seen.notes)
+}
+
 // The mark of what was taken.
 fn push_taken_mark(
     out: &mut Vec<u8>,
@@ -158,7 +166,7 @@ fn push_taken_mark(
     ensures { OnOk result (out.new.items ≡ out.old.items
         ++ plain.taken_mark (point at) (handed_of handed) (seen_of seen.now)) }
 {
-    if delivers(&seen.notes) {
+    if has_delivery(seen) {
         return push_dot(out, b"told", at, 5);
     }
     if is_frame(handed) {

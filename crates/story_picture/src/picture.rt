@@ -15,7 +15,7 @@ use crate::layout::{height, width};
 use crate::names::{push_events, push_genesis, push_names};
 use crate::rows::{Row, drawn, rows_of};
 use happenings::{Happening, Stopped};
-use rp_base::NoMemory;
+use rp_base::{NoMemory, Pid};
 use schedule_file::{Header, Listed};
 use std::alloc::Global;
 
@@ -49,48 +49,69 @@ fn push_frames(
         ++ plain.arrows (map views.listed processes.now) (map row_view rows.now)) }
 {
     let sent = sent_rows(alloc, rows)?;
-    push_arrows(out, processes, &sent, rows)
+    push_arrows(out, processes, &sent, rows)?;
+    Ok(())
 }
 
 // The names of the processes, and the members of view 0.
-fn push_cast(out: &mut Vec<u8>, header: &Header) -> Result<(), NoMemory>
-    ensures { OnOk result (out.new.items ≡ out.old.items ++ plain.cast (views.header header.now)) }
+fn push_cast(out: &mut Vec<u8>, processes: &[Listed], genesis: &[Pid]) -> Result<(), NoMemory>
+    ensures { OnOk result (out.new.items ≡ out.old.items ++ plain.cast (map views.listed processes.now) genesis.now) }
 {
-    push_names(out, &header.processes)?;
-    push_genesis(out, header.genesis.as_slice())
+    push_names(out, processes)?;
+    push_genesis(out, genesis)
 }
 
 // Arrows, marks and texts, and the names of the processes.
 fn push_foreground(
     alloc: Global,
     out: &mut Vec<u8>,
-    header: &Header,
+    processes: &[Listed],
+    genesis: &[Pid],
     rows: &[Row],
 ) -> Result<(), NoMemory>
-    ensures { OnOk result (out.new.items ≡ out.old.items ++ plain.foreground (views.header header.now) (map row_view rows.now)) }
+    ensures { OnOk result (out.new.items ≡ out.old.items
+        ++ plain.foreground (map views.listed processes.now) genesis.now (map row_view rows.now)) }
 {
-    push_frames(alloc, out, &header.processes, rows)?;
-    push_labels(out, &header.processes, rows)?;
-    push_cast(out, header)
+    push_frames(alloc, out, processes, rows)?;
+    push_labels(out, processes, rows)?;
+    push_cast(out, processes, genesis)
 }
 
 // The picture of these rows, of all that there are.
 fn push_rows(
     alloc: Global,
     out: &mut Vec<u8>,
-    header: &Header,
+    processes: &[Listed],
+    genesis: &[Pid],
     rows: &[Row],
-    all: usize,
+    all: u64,
     stop: Option<Stopped>,
 ) -> Result<(), NoMemory>
     ensures { OnOk result (out.new.items ≡ out.old.items
-        ++ plain.drawing (views.header header.now) (map row_view rows.now) all (option_map stopped stop)) }
+        ++ plain.drawing (map views.listed processes.now) genesis.now (map row_view rows.now) all (option_map stopped stop)) }
 {
-    let more = all.saturating_sub(rows.len());
-    push_begin(out, &header.processes, rows.len() as u64)?;
-    push_background(out, &header.processes, rows)?;
-    push_foreground(alloc, out, header, rows)?;
-    push_below(out, rows.len() as u64, more as u64, stop)
+    let n = rows.len() as u64;
+    push_begin(out, processes, n)?;
+    push_background(out, processes, rows)?;
+    push_foreground(alloc, out, processes, genesis, rows)?;
+    push_below(out, n, all.saturating_sub(n), stop)
+}
+
+// The picture of all rows, as far as they are drawn.
+fn push_all(
+    alloc: Global,
+    out: &mut Vec<u8>,
+    processes: &[Listed],
+    genesis: &[Pid],
+    rows: &[Row],
+    stop: Option<Stopped>,
+) -> Result<(), NoMemory>
+    ensures { OnOk result (out.new.items ≡ out.old.items
+        ++ plain.picture_of (map views.listed processes.now) genesis.now (map row_view rows.now) (option_map stopped stop)) }
+{
+    let all = rows.len() as u64;
+    push_rows(alloc, out, processes, genesis, drawn(rows), all, stop)?;
+    Ok(())
 }
 
 /// The picture of what happens in each event of a run, and of why the run stops, where an event stops it.
@@ -104,6 +125,14 @@ pub fn push_picture(
     ensures { OnOk result (out.new.items ≡ out.old.items
         ++ picture (views.header header.now) (map (λ t. map happening t.items) told.items) (option_map stopped stop)) }
 {
-    let all = rows_of(alloc, told)?;
-    push_rows(alloc, out, header, drawn(&all), all.len(), stop)
+    let rows = rows_of(alloc, told)?;
+    push_all(
+        alloc,
+        out,
+        &header.processes,
+        header.genesis.as_slice(),
+        &rows,
+        stop,
+    )?;
+    Ok(())
 }

@@ -42,10 +42,17 @@ pub(crate) fn rows_of(alloc: Global, told: Vec<Vec<Happening>>) -> Result<Vec<Ro
     Ok(rows)
 }
 
+/// The rows before row k.
+pub(crate) fn before(rows: &[Row], k: usize) -> &[Row]
+    ensures { result.now ≡ take k rows.now }
+{
+    &rows[..k.min(rows.len())]
+}
+
 /// Those of the rows that are drawn.
 #[tactic(auto, unfolding(picture_defs::specs::Pictures::most_drawn))]
 pub(crate) fn drawn(rows: &[Row]) -> &[Row]
-    ensures { map row result.now ≡ take most_drawn (map row rows.now) }
+    ensures { result.now ≡ take most_drawn rows.now }
 {
-    &rows[..rows.len().min(MOST_DRAWN)]
+    before(rows, MOST_DRAWN)
 }
