@@ -70,7 +70,7 @@ abbrev pub bytes_arrow : List Listed → ℕ → ℕ → ℕ → List ℕ
 bytes_arrow ls k p from = stroke (codes "lie") (place ls from k) (place ls p k)
 
 -- an arrow towards a point, which ends in the open
-abbrev pub lost_arrow : Point → Point → List ℕ
+unfoldable pub lost_arrow : Point → Point → List ℕ
 lost_arrow a b = stroke (codes "lost") a (on_the_way a b) ++ dot (codes "gone") (on_the_way a b) 3
 
 -- the arrow of a frame that is lost in row k

@@ -94,12 +94,18 @@ is_quiet handed o = is_frame handed && (length o.notes == 0) && (length o.signed
 abbrev pub outcome_words : Seen → List ℕ
 outcome_words o = flat_map note_span o.notes ++ flat_map (λ c. short_of c.statement) o.signed
 
--- what a process was asked for, and why it refused it or else what came of it, where there is anything to tell
+-- what a process was asked for, and why it refused it
+abbrev pub refusal_text : Point → Handed → EventFault → List ℕ
+refusal_text a handed fault = text_at (codes "said") (beside a) (wish handed ++ span (codes "bad") (refusal_word fault))
+
+-- what a process was asked for, and what came of it, where there is anything to tell
+abbrev pub taken_text : Point → Handed → Seen → List ℕ
+taken_text a handed o =
+    if is_quiet handed o then [] else text_at (codes "said") (beside a) (wish handed ++ outcome_words o)
+
+-- what came of what a process was handed
 abbrev pub outcome_text : Point → Handed → Seen → List ℕ
-outcome_text a handed o = elim o.verdict [
-  | Some fault ↦ text_at (codes "said") (beside a) (wish handed ++ span (codes "bad") (refusal_word fault))
-  | None ↦ if is_quiet handed o then [] else text_at (codes "said") (beside a) (wish handed ++ outcome_words o)
-]
+outcome_text a handed o = elim o.verdict [ Some fault ↦ refusal_text a handed fault | None ↦ taken_text a handed o ]
 
 -- ---- marks
 
@@ -118,13 +124,17 @@ taken_mark a handed o =
 abbrev pub mark : Point → Handed → Seen → List ℕ
 mark a handed o = elim o.verdict [ Some fault ↦ dot (codes "wrong") a 4 | None ↦ taken_mark a handed o ]
 
+-- the mark of what a process was handed, and what came of it
+unfoldable pub step_label : Point → Handed → Seen → List ℕ
+step_label a handed o = mark a handed o ++ outcome_text a handed o
+
 -- a lie has its own mark, and its statement beside it
-abbrev pub lie_label : Point → List ℕ → List ℕ
+unfoldable pub lie_label : Point → List ℕ → List ℕ
 lie_label a statement = dot (codes "wrong") a 4 ++ text_at (codes "bad") (beside a) (short_of statement)
 
 -- the mark and the text of what happens in row k; a loss has none
 abbrev pub label : List Listed → ℕ → Happening → List ℕ
-label ls k (Takes p handed first o) = mark (place ls p k) handed o ++ outcome_text (place ls p k) handed o
+label ls k (Takes p handed first o) = step_label (place ls p k) handed o
 label ls k (Lies signer statement frame to) = lie_label (place ls signer k) statement
 label ls k (Silent signer) = dot (codes "gone") (place ls signer k) 4
 label ls k (Loses frame from to) = []

@@ -88,7 +88,7 @@ stop_text n (Some fault) = text_at (codes "bad") (record { x = 90; y = row n + 3
 -- ---- all of it
 
 -- the beginning of a picture of this size
-abbrev pub frame_begin : ℕ → ℕ → List ℕ
+unfoldable pub frame_begin : ℕ → ℕ → List ℕ
 frame_begin wide high = text_of (
     codes "<svg xmlns='http://www.w3.org/2000/svg' viewBox='0 0 " ∷ decimal wide ∷ codes " " ∷ decimal high
     ∷ codes "' width='" ∷ decimal wide ∷ codes "' height='" ∷ decimal high

@@ -7,7 +7,7 @@ unfoldable pub style : List ℕ
 style =
     text_of (
     codes "<style>\n" ∷
-    codes "svg { background: #ffffff; }\n" ∷
+    codes ".paper { fill: #ffffff; }\n" ∷
     codes "text { font: 11px 'DejaVu Sans', Verdana, sans-serif; fill: #1f2328; }\n" ∷
     codes "text { paint-order: stroke; stroke: #ffffff; stroke-width: 3px; stroke-linejoin: round; }\n" ∷
     codes ".title { font-size: 14px; font-weight: bold; }\n" ∷
@@ -31,7 +31,7 @@ style =
     codes ".view2 { fill: #f0d9ab; }\n" ∷
     codes ".view3 { fill: #d9c7ec; }\n" ∷
     codes "@media (prefers-color-scheme: dark) {\n" ∷
-    codes "svg { background: #0d1117; }\n" ∷
+    codes ".paper { fill: #0d1117; }\n" ∷
     codes "text { fill: #e6edf3; stroke: #0d1117; }\n" ∷
     codes ".bad { fill: #ff8f8f; }\n" ∷
     codes ".said, .event { fill: #9198a1; }\n" ∷
@@ -49,7 +49,7 @@ style =
     codes "</style>\n" ∷
     [])
 
--- the heads of the arrows of frames and of lies
+-- the heads of the arrows of frames and of lies, and the paper behind all
 unfoldable pub heads : List ℕ
 heads =
     text_of (
@@ -59,4 +59,5 @@ heads =
     codes "<marker id='lying' viewBox='0 0 10 10' refX='10' refY='5' markerWidth='7' markerHeight='7' orient='auto'>\n" ∷
     codes "<path class='lying' d='M0 1 L10 5 L0 9 z'/></marker>\n" ∷
     codes "</defs>\n" ∷
+    codes "<rect class='paper' width='100%' height='100%'/>\n" ∷
     [])

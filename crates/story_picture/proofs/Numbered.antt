@@ -1,14 +1,15 @@
 -- What is drawn of numbered rows, one row after the other.
 use Rattle.std.proofs.Common.{◌≡◌, ℕ, ◌+◌, ◌<◌, Bool, List, [], ◌∷◌, ◌++◌, map, take, length, get_or, ◌||◌, refl, sym, ap, ◌∙◌, arith}
 use Rattle.std.specs.List.{flat_map, enumerate_from, list_any}
-use Rattle.std.proofs.lemmas.List.{append-nil, map_more}
+use Rattle.std.proofs.lemmas.List.{append-nil, length-map, map-append, map_more}
 use Rattle.std.proofs.lemmas.List.Folds.{flat_map-map}
 use Rattle.std.proofs.lemmas.Grind.{flat_map-append}
 use Rattle.report_lines.proofs.Pieces.{behind}
 use Rattle.trace_defs.specs.Happenings as plain
-use Rattle.picture_defs.specs.Pictures.{each_row}
+use Rattle.picture_defs.specs.Pictures as pictures
+use Rattle.picture_defs.specs.Pictures.{each_row, rows_in, rows_of}
 use Rattle.happenings.specs.Told.{happening}
-use Rattle.story_trace.proofs.Behind.{numbered_more}
+use Rattle.story_trace.proofs.Behind.{numbered_more, enumerate-more}
 use Rattle.story_picture.specs.declared.rows.Row.{Row}
 use Rattle.story_picture.specs.Views.{row}
 
@@ -55,3 +56,18 @@ mapped_more {A} {B} f view xs i x before out new lt at so_far wrote =
     ap (flat_map f) more ∙ flat_map-append f (map view (take i xs)) (view x ∷ [])
     ∙ ap (λ (t : List ℕ). flat_map f (map view (take i xs)) ++ t) (append-nil (f (view x))) in
     behind before (flat_map f (map view (take i xs))) (f (view x)) out new so_far wrote ∙ ap (λ (t : List ℕ). before ++ t) (sym lines)
+
+-- ---- rows in order
+
+-- one event more
+pub events_more : {T : Type 0} (view : T → List plain.Happening) (told : List T) (e : T)
+    → rows_of (map view (told ++ e ∷ [])) ≡ rows_of (map view told) ++ rows_in (length told) (view e)
+events_more {T} view told e =
+    let lists : List (List plain.Happening) = map view told in
+    let f : ℕ × List plain.Happening → List pictures.Row = λ t. rows_in t.0 t.1 in
+    let entry : ℕ → ℕ × List plain.Happening = λ n. (n, view e) in
+    let long : 0 + length lists ≡ length told = omega (arith, length-map told view) in
+    ap rows_of (map-append view told (e ∷ [])) ∙ ap (flat_map f) (enumerate-more 0 lists (view e))
+    ∙ flat_map-append f (enumerate_from 0 lists) (entry (0 + length lists) ∷ [])
+    ∙ ap (λ (rs : List pictures.Row). rows_of lists ++ rs)
+    (append-nil (rows_in (0 + length lists) (view e)) ∙ ap (λ (n : ℕ). rows_in n (view e)) long)

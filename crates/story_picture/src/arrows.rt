@@ -1,5 +1,6 @@
 //! An arrow for each frame that is handed over; one that is lost ends in the open.
-ghost use Rattle.std.specs.Prelude.{◌≡◌, ◌++◌, ◌+◌, ◌*◌, ◌/◌, map, replicate, slice_index_or, IfOk, OnOk};
+ghost use Rattle.std.specs.List.{list_any};
+ghost use Rattle.std.specs.Prelude.{◌≡◌, ◌++◌, ◌+◌, ◌*◌, ◌/◌, ◌==◌, ◌&&◌, map, replicate, slice_index_or, IfOk, OnOk};
 ghost use Rattle.schedule_file.specs.Views.{listed};
 ghost use Rattle.replay_defs.specs.Schedules.{is_corrupt as is_corrupt_of};
 ghost use Rattle.happenings.specs.Told.{handed as handed_of, happening as happening_of};
@@ -57,10 +58,17 @@ fn row_of(sent: &[u64], frame: u64, k: u64) -> u64
     }
 }
 
+// One of them has this number, and is corrupt.
+fn has_corrupt(processes: &[Listed], p: Pid) -> bool
+    ensures { result ≡ list_any (λ l. (l.process == p) && l.corrupt) processes.now }
+{
+    processes.iter().any(|l| l.process == p && l.corrupt)
+}
+
 fn is_corrupt(processes: &[Listed], p: Pid) -> bool
     ensures { result ≡ is_corrupt_of (map listed processes.now) p }
 {
-    processes.iter().any(|l| l.process == p && l.corrupt)
+    has_corrupt(processes, p)
 }
 
 // Frames of corrupt processes are lies.
@@ -159,6 +167,7 @@ fn push_handed(
 }
 
 // An arrow that ends in the open.
+#[tactic(auto, unfolding(picture_defs::specs::Drawing::lost_arrow))]
 fn push_lost(out: &mut Vec<u8>, from: Point, to: Point) -> Result<(), NoMemory>
     ensures { OnOk result (out.new.items ≡ out.old.items ++ plain.lost_arrow (point from) (point to)) }
 {

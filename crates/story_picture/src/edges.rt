@@ -15,7 +15,7 @@ use story_words::{Word, push_pieces};
 
 /// The colours, on white and on dark.
 const STYLE: &[u8] = b"<style>
-svg { background: #ffffff; }
+.paper { fill: #ffffff; }
 text { font: 11px 'DejaVu Sans', Verdana, sans-serif; fill: #1f2328; }
 text { paint-order: stroke; stroke: #ffffff; stroke-width: 3px; stroke-linejoin: round; }
 .title { font-size: 14px; font-weight: bold; }
@@ -39,7 +39,7 @@ text { paint-order: stroke; stroke: #ffffff; stroke-width: 3px; stroke-linejoin:
 .view2 { fill: #f0d9ab; }
 .view3 { fill: #d9c7ec; }
 @media (prefers-color-scheme: dark) {
-svg { background: #0d1117; }
+.paper { fill: #0d1117; }
 text { fill: #e6edf3; stroke: #0d1117; }
 .bad { fill: #ff8f8f; }
 .said, .event { fill: #9198a1; }
@@ -57,13 +57,14 @@ text { fill: #e6edf3; stroke: #0d1117; }
 </style>
 ";
 
-/// The heads of arrows.
+/// The heads of arrows, and the paper behind all.
 const HEADS: &[u8] = b"<defs>
 <marker id='head' viewBox='0 0 10 10' refX='10' refY='5' markerWidth='7' markerHeight='7' orient='auto'>
 <path class='head' d='M0 1 L10 5 L0 9 z'/></marker>
 <marker id='lying' viewBox='0 0 10 10' refX='10' refY='5' markerWidth='7' markerHeight='7' orient='auto'>
 <path class='lying' d='M0 1 L10 5 L0 9 z'/></marker>
 </defs>
+<rect class='paper' width='100%' height='100%'/>
 ";
 
 #[tactic(auto, unfolding(picture_defs::specs::Styles::style))]
@@ -80,6 +81,7 @@ fn heads() -> &'static [u8]
     HEADS
 }
 
+#[tactic(auto, unfolding(picture_defs::specs::Pictures::frame_begin))]
 fn begin_frame(out: &mut Vec<u8>, wide: u64, high: u64) -> Result<(), NoMemory>
     ensures { OnOk result (out.new.items ≡ out.old.items ++ plain.frame_begin wide high) }
 {
@@ -101,7 +103,7 @@ fn begin_frame(out: &mut Vec<u8>, wide: u64, high: u64) -> Result<(), NoMemory>
     )
 }
 
-// The colours, and the heads of arrows.
+// The colours, the heads of arrows, and the paper.
 fn push_styles(out: &mut Vec<u8>) -> Result<(), NoMemory>
     ensures { OnOk result (out.new.items ≡ out.old.items ++ (styles.style ++ styles.heads)) }
 {

@@ -9,7 +9,7 @@ ghost use Rattle.story_picture.specs.Views.{point, row as row_view};
 
 use crate::elements::{Point, begin_text, end_text, push_spaced, push_stroke, push_text};
 use crate::layout::{above, below, left_of, width};
-use crate::rows::{Row, before};
+use crate::rows::{Row, rows_before};
 use crate::spans::push_one_span;
 use rp_base::{NoMemory, Pid};
 use schedule_file::Listed;
@@ -112,7 +112,7 @@ fn has_event(rows: &[Row], event: u64) -> bool
 fn is_begun(rows: &[Row], k: usize, event: u64) -> bool
     ensures { result ≡ plain.is_begun (map row_view rows.now) k event }
 {
-    has_event(before(rows, k), event)
+    has_event(rows_before(rows, k), event)
 }
 
 // The number of the event of row k, where no row before is of it.

@@ -1,5 +1,5 @@
 //! The whole picture.
-ghost use Rattle.std.specs.Prelude.{◌≡◌, ◌++◌, map, option_map, OnOk};
+ghost use Rattle.std.specs.Prelude.{◌≡◌, ◌++◌, ◌-◌, map, option_map, OnOk};
 ghost use Rattle.std.specs.List.{flat_map};
 ghost use Rattle.schedule_file.specs.Views as views;
 ghost use Rattle.happenings.specs.Told.{happening, stopped};
@@ -25,7 +25,8 @@ fn push_begin(out: &mut Vec<u8>, processes: &[Listed], n: u64) -> Result<(), NoM
 {
     let wide = width(processes)?;
     let high = height(n)?;
-    begin_picture(out, wide, high)
+    begin_picture(out, wide, high)?;
+    Ok(())
 }
 
 // Events, lives and views.
@@ -35,7 +36,8 @@ fn push_background(out: &mut Vec<u8>, processes: &[Listed], rows: &[Row]) -> Res
 {
     push_events(out, processes, rows)?;
     push_lives(out, processes, rows.len() as u64)?;
-    push_bars(out, processes, rows.len() as u64, rows)
+    push_bars(out, processes, rows.len() as u64, rows)?;
+    Ok(())
 }
 
 // The arrows of all frames.
@@ -74,7 +76,15 @@ fn push_foreground(
 {
     push_frames(alloc, out, processes, rows)?;
     push_labels(out, processes, rows)?;
-    push_cast(out, processes, genesis)
+    push_cast(out, processes, genesis)?;
+    Ok(())
+}
+
+// How many of all are not drawn.
+fn left_out(all: u64, n: u64) -> u64
+    ensures { result ≡ all - n }
+{
+    all.saturating_sub(n)
 }
 
 // The picture of these rows, of all that there are.
@@ -94,7 +104,8 @@ fn push_rows(
     push_begin(out, processes, n)?;
     push_background(out, processes, rows)?;
     push_foreground(alloc, out, processes, genesis, rows)?;
-    push_below(out, n, all.saturating_sub(n), stop)
+    push_below(out, n, left_out(all, n), stop)?;
+    Ok(())
 }
 
 // The picture of all rows, as far as they are drawn.

@@ -43,7 +43,7 @@ pub(crate) fn rows_of(alloc: Global, told: Vec<Vec<Happening>>) -> Result<Vec<Ro
 }
 
 /// The rows before row k.
-pub(crate) fn before(rows: &[Row], k: usize) -> &[Row]
+pub(crate) fn rows_before(rows: &[Row], k: usize) -> &[Row]
     ensures { result.now ≡ take k rows.now }
 {
     &rows[..k.min(rows.len())]
@@ -54,5 +54,5 @@ pub(crate) fn before(rows: &[Row], k: usize) -> &[Row]
 pub(crate) fn drawn(rows: &[Row]) -> &[Row]
     ensures { result.now ≡ take most_drawn rows.now }
 {
-    before(rows, MOST_DRAWN)
+    rows_before(rows, MOST_DRAWN)
 }

@@ -12,6 +12,6 @@ returns c =
     let rows : List Row = c.args.rows.now in
     let k = c.args.k in
     let n = c.args.event in
-    c.has_event.ensures ∙ ap (λ (rs : List Row). list_any (λ r. r.event == n) rs) c.before.ensures
-    ∙ sym (any-map row (λ r. r.0 == n) (take k rows))
-    ∙ ap (λ (rs : List plain.Row). list_any (λ r. r.0 == n) rs) (sym (take-map row k rows))
+    c.has_event.ensures ∙ ap (λ (rs : List Row). list_any (λ (r : Row). r.event == n) rs) c.rows_before.ensures
+    ∙ sym (any-map row (λ (r : plain.Row). r.0 == n) (take k rows))
+    ∙ ap (λ (rs : List plain.Row). list_any (λ (r : plain.Row). r.0 == n) rs) (sym (take-map row k rows))
