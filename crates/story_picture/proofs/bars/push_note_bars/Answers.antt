@@ -7,6 +7,7 @@ use Rattle.story_picture.proofs.bars.push_note_bars.Goals as goal
 
 pub loop-note-preserved : goal.loop-note-preserved
 loop-note-preserved c =
-    mapped_more (note_bar (map listed c.args.processes.now) c.args.n c.args.p c.args.k) note c.args.notes.now c.loop-note.note-index c.note-item.result
+    mapped_more (note_bar (map listed c.args.processes.now) c.args.n c.args.p c.args.k)
+    note c.args.notes.now c.loop-note.note-index c.note-item.result
     c.args.out.now.items c.loop-note.out.items c.push_note_bar.new.out.items
     c.loop-note-test.true c.note-item.is c.loop-note.invariant c.in_ok-push_note_bar.ensures

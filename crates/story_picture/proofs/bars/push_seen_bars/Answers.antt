@@ -9,5 +9,6 @@ use Rattle.story_picture.proofs.bars.push_seen_bars.Goals as goal
 pub returns : goal.returns
 returns c =
     c.in_ok-push_note_bars.ensures
-    ∙ ap (λ (xs : List Note). c.args.out.now.items ++ flat_map (note_bar (map listed c.args.processes.now) c.args.n c.args.p c.args.k) (map note xs))
+    ∙ ap (λ (xs : List Note). c.args.out.now.items
+    ++ flat_map (note_bar (map listed c.args.processes.now) c.args.n c.args.p c.args.k) (map note xs))
     c.deref.ensures.value

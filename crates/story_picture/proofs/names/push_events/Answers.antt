@@ -7,6 +7,7 @@ use Rattle.story_picture.proofs.names.push_events.Goals as goal
 
 pub loop-k-preserved : goal.loop-k-preserved
 loop-k-preserved c =
-    row_more (λ k e what. event_begin (map listed c.args.processes.now) (map row c.args.rows.now) k e) c.args.rows.now c.loop-k.k c.index-rows-k.result
+    row_more (λ k e what. event_begin (map listed c.args.processes.now) (map row c.args.rows.now) k e)
+    c.args.rows.now c.loop-k.k c.index-rows-k.result
     c.args.out.now.items c.loop-k.out.items c.begin_event.new.out.items
     c.loop-k-test.true c.index-rows-k.is c.loop-k.invariant c.in_ok-begin_event.ensures
