@@ -1,4 +1,4 @@
-use Rattle.std.proofs.Common.{List, ◌==◌, map, take, sym, ap, ◌∙◌}
+use Rattle.std.proofs.Common.{List, ◌==◌, take, sym, ap, ◌∙◌}
 use Rattle.std.specs.List.{list_any}
 use Rattle.std.proofs.lemmas.List.{take-map}
 use Rattle.picture_defs.specs.Pictures as plain

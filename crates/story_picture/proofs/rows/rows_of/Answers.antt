@@ -1,5 +1,4 @@
-use Rattle.std.proofs.Common.{◌≡◌, ℕ, ◌+◌, List, [], ◌∷◌, ◌++◌, Vec, map, length, length-append, sym, ap, ◌∙◌, arith, rules}
-use Rattle.happenings.specs.declared.told.Happening.{Happening}
+use Rattle.std.proofs.Common.{◌≡◌, ℕ, ◌+◌, List, [], ◌∷◌, ◌++◌, map, length-append, sym, ap, ◌∙◌, rules}
 use Rattle.happenings.specs.Told.{happening}
 use Rattle.trace_defs.specs.Happenings as trace
 use Rattle.picture_defs.specs.Pictures as plain
