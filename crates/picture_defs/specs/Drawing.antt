@@ -1,5 +1,5 @@
 -- The bars of views, and the arrows of frames.
-use Rattle.std.specs.Prelude.{ℕ, ◌+◌, ◌-◌, ◌*◌, ◌/◌, ◌%◌, ◌==◌, if◌then◌else◌, List, [], ◌∷◌, ◌++◌, length, replicate, codes, slice_index_or}
+use Rattle.std.specs.Prelude.{ℕ, ◌+◌, ◌-◌, ◌*◌, ◌/◌, ◌%◌, ◌==◌, if◌then◌else◌, List, [], ◌++◌, length, replicate, codes, slice_index_or}
 use Rattle.std.specs.List.{flat_map}
 use Rattle.group_defs.specs.Events.{Note, Installs}
 use Rattle.replay_defs.specs.Schedules.{Listed, is_corrupt}

@@ -4,7 +4,6 @@ use Rattle.std.specs.List.{flat_map, list_any}
 use Rattle.std.specs.Fmt.{decimal}
 use Rattle.message_defs.specs.Statements.{Statement, Init, Echo, Order, Place, Keep, Notify, End, Last, Suggest, Ack, Ready}
 use Rattle.message_defs.specs.Reading.{statement_of}
-use Rattle.message_defs.specs.Packing.{Signed}
 use Rattle.group_defs.specs.Events.{EventFault, Note, Delivers, Installs, Liar, Spent, Halts}
 use Rattle.replay_defs.specs.Reports.{refusal_word}
 use Rattle.replay_defs.specs.Schedules.{Listed}

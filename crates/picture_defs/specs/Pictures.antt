@@ -1,11 +1,11 @@
 -- A whole picture.
-use Rattle.std.specs.Prelude.{ℕ, ◌+◌, ◌-◌, ◌==◌, Bool, not, if◌then◌else◌, List, [], ◌∷◌, ◌++◌, length, map, take, Option, Some, None, codes}
+use Rattle.std.specs.Prelude.{ℕ, ◌+◌, ◌-◌, ◌==◌, Bool, if◌then◌else◌, List, [], ◌∷◌, ◌++◌, length, map, take, Option, Some, None, codes}
 use Rattle.std.specs.List.{flat_map, list_any, enumerate_from}
 use Rattle.std.specs.Fmt.{decimal}
 use Rattle.replay_defs.specs.Schedules.{Listed, Header}
 use Rattle.replay_defs.specs.Worlds.{WorldFault, NoSuchFrame, TooMuchSent}
 use Rattle.trace_defs.specs.Happenings.{Happening}
-use Rattle.picture_defs.specs.Elements.{Point, text_of, stroke, text_at, spaced}
+use Rattle.picture_defs.specs.Elements.{text_of, stroke, text_at, spaced}
 use Rattle.picture_defs.specs.Styles.{style, heads}
 use Rattle.picture_defs.specs.Layout.{column, row, width, height}
 use Rattle.picture_defs.specs.Drawing.{life, bars, sent_in, arrow}

@@ -1,11 +1,11 @@
 //! The names of processes and of events.
-ghost use Rattle.std.specs.Prelude.{◌≡◌, ◌++◌, ◌==◌, codes, map, take, OnOk};
+ghost use Rattle.std.specs.Prelude.{◌≡◌, ◌++◌, ◌==◌, codes, map, OnOk};
 ghost use Rattle.std.specs.List.{flat_map, list_any};
 ghost use Rattle.std.specs.Fmt.{decimal};
 ghost use Rattle.schedule_file.specs.Views.{listed};
 ghost use Rattle.picture_defs.specs.Elements as elements;
 ghost use Rattle.picture_defs.specs.Pictures as plain;
-ghost use Rattle.story_picture.specs.Views.{point, row as row_view};
+ghost use Rattle.story_picture.specs.Views.{row as row_view};
 
 use crate::elements::{Point, begin_text, end_text, push_spaced, push_stroke, push_text};
 use crate::layout::{above, below, left_of, width};

@@ -1,6 +1,5 @@
 //! The whole picture.
 ghost use Rattle.std.specs.Prelude.{◌≡◌, ◌++◌, ◌-◌, map, option_map, OnOk};
-ghost use Rattle.std.specs.List.{flat_map};
 ghost use Rattle.schedule_file.specs.Views as views;
 ghost use Rattle.happenings.specs.Told.{happening, stopped};
 ghost use Rattle.picture_defs.specs.Pictures as plain;
