@@ -11,7 +11,7 @@ use Rattle.story_defs.specs.Stories.{story_of}
 use Rattle.story_cli.specs.declared.stops.Stop.{Stop}
 use Rattle.story_cli.specs.declared.stops.Stop.TheVariants.{NoMemory, Read, Write, Story, Schedule}
 use Rattle.story_cli.specs.declared.commands.Command.{Command}
-use Rattle.story_cli.specs.declared.commands.Command.TheVariants.{Assemble, Text, Run}
+use Rattle.story_cli.specs.declared.commands.Command.TheVariants.{Assemble, Text, Run, Draw}
 use Rattle.story_cli.specs.Messages.{line_of, status_of}
 use Rattle.story_cli.specs.Top.{Has, reads_schedule, IsNoStory, IsNoSchedule, NoStory, NoSchedule}
 
@@ -118,6 +118,7 @@ needs_schedule : (command : Command) → reads_schedule command ≡ true → (in
 needs_schedule Assemble reads input has = absurd cc
 needs_schedule Text reads input has = has
 needs_schedule Run reads input has = has
+needs_schedule Draw reads input has = has
 
 pub has_schedule : (command : Command) (before now : Option (List ℕ)) (fault : Fault) → IsNoSchedule command before now fault
     → ¬ IsSomeAnd before (Has command)

@@ -15,10 +15,11 @@ use Rattle.replay_defs.specs.Reading.{schedule_of}
 use Rattle.story_defs.specs.declared.StoryFault.{StoryFault}
 use Rattle.story_defs.specs.Stories.{story_of}
 use Rattle.story_defs.specs.Texts.{schedule_text}
-use Rattle.told_defs.specs.Told.{trace_lines}
+use Rattle.told_defs.specs.Told.{told_of, stop_of, trace_lines}
+use Rattle.picture_defs.specs.Pictures.{picture}
 use Rattle.story_cli.specs.declared.stops.Stop.TheVariants.{Story, Schedule}
 use Rattle.story_cli.specs.declared.commands.Command.{Command}
-use Rattle.story_cli.specs.declared.commands.Command.TheVariants.{Assemble, Text, Run}
+use Rattle.story_cli.specs.declared.commands.Command.TheVariants.{Assemble, Text, Run, Draw}
 use Rattle.story_cli.specs.Messages.{line_of}
 
 -- ---- the words
@@ -27,6 +28,7 @@ abbrev pub command_word : Command → List ℕ
 command_word Assemble = codes "assemble"
 command_word Text = codes "text"
 command_word Run = codes "run"
+command_word Draw = codes "draw"
 
 -- the words are those of this command
 abbrev pub Asks : List (String Global) → Command → Type 0
@@ -41,6 +43,7 @@ abbrev pub reads_schedule : Command → Bool
 reads_schedule Assemble = false
 reads_schedule Text = true
 reads_schedule Run = true
+reads_schedule Draw = true
 
 -- the words are those of a command that reads a schedule
 pub record AskOfSchedule (words : List (String Global)) : Type 0 where
@@ -76,17 +79,27 @@ trace_text schedule = flat_map line_text (trace_lines schedule)
 abbrev pub Traces : List ℕ → List ℕ → Type 0
 Traces bytes text = WritesOf trace_text bytes text
 
+-- the picture of a schedule's run
+abbrev pub picture_text : schedules.Schedule → List ℕ
+picture_text schedule = picture schedule.header (told_of schedule) (stop_of schedule)
+
+-- the bytes are a schedule, and this is the picture of its run
+abbrev pub Draws : List ℕ → List ℕ → Type 0
+Draws bytes text = WritesOf picture_text bytes text
+
 -- what the command makes of an input
 abbrev pub MakesOf : Command → List ℕ → List ℕ → Type 0
 MakesOf Assemble input output = Assembles input output
 MakesOf Text input output = Tells input output
 MakesOf Run input output = Traces input output
+MakesOf Draw input output = Draws input output
 
 -- the command makes something of the input
 abbrev pub Has : Command → List ℕ → Type 0
 Has Assemble input = IsOk (story_of input)
 Has Text input = IsOk (schedule_of input)
 Has Run input = IsOk (schedule_of input)
+Has Draw input = IsOk (schedule_of input)
 
 -- ---- the input and the output, by what a source had left before and has left now, and what a sink held before and holds now
 

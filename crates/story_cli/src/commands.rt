@@ -13,6 +13,9 @@ pub enum Command {
 
     /// What happens in the run of a schedule.
     Run,
+
+    /// The picture of the run of a schedule.
+    Draw,
 }
 
 /// The command of these words; None exactly where they are none's.
@@ -29,6 +32,8 @@ pub fn command_of(words: &[String]) -> Option<Command>
         Some(Command::Text)
     } else if word.as_bytes() == b"run".as_slice() {
         Some(Command::Run)
+    } else if word.as_bytes() == b"draw".as_slice() {
+        Some(Command::Draw)
     } else {
         None
     }

@@ -8,7 +8,7 @@ ghost use Rattle.schedule_fields.specs.Faults as read;
 ghost use Rattle.story_defs.specs.declared.StoryFault.{StoryFault};
 ghost use Rattle.story_defs.specs.Stories.{story_of};
 ghost use Rattle.story_cli.specs.Stopping.{stop_of};
-ghost use Rattle.story_cli.specs.Top.{Assembles, Tells, Traces, trace_text};
+ghost use Rattle.story_cli.specs.Top.{Assembles, Draws, Tells, Traces, picture_text, trace_text};
 
 use crate::stops::Stop;
 use replay_defs::{Fault, FaultKind};
@@ -16,6 +16,7 @@ use rp_base::NoMemory;
 use schedule_file::Schedule;
 use schedule_reading::{ScheduleFault, read_schedule};
 use std::alloc::Global;
+use story_picture::push_picture;
 use story_reading::{AssembleFault, assemble};
 use story_telling::tell;
 use story_trace::push_trace;
@@ -97,5 +98,27 @@ pub fn trace_of_schedule(alloc: Global, bytes: &[u8]) -> Result<Vec<u8>, Stop>
 {
     let schedule = schedule_in(alloc, bytes)?;
     let text = trace(alloc, &schedule)?;
+    Ok(text)
+}
+
+// The picture of the run of a schedule, as text.
+fn picture(alloc: Global, schedule: &Schedule) -> Result<Vec<u8>, NoMemory>
+    requires { IsSchedule (views.schedule schedule.now) }
+    ensures { IfOk result (λ text. text.items ≡ picture_text (views.schedule schedule.now)) }
+{
+    let told = tell(alloc, schedule)?;
+    let mut text = Vec::new(alloc);
+    push_picture(alloc, &mut text, &schedule.header, told.events, told.stop)?;
+    Ok(text)
+}
+
+/// The picture of the run of the schedule that the bytes spell.
+pub fn picture_of_schedule(alloc: Global, bytes: &[u8]) -> Result<Vec<u8>, Stop>
+    ensures made { IfOk result (λ text. Draws bytes.now text.items) }
+    ensures refused { (fault : Fault) → IsErrOf result (Stop.Schedule fault) → schedule_of bytes.now ≡ Err fault }
+    ensures only { IfErr result (λ stop. (stop ≡ Stop.NoMemory) ⊎ ((fault : Fault) × (stop ≡ Stop.Schedule fault))) }
+{
+    let schedule = schedule_in(alloc, bytes)?;
+    let text = picture(alloc, &schedule)?;
     Ok(text)
 }

@@ -15,3 +15,8 @@ pub returns-then-eq-3-clause-found : goal.returns-then-eq-3-clause-found
 returns-then-eq-3-clause-found c =
     is_word c.args.words.now _ c.word-item.result _ _ _ _ c.in-len1.len_at_least c.in-len1.len_below c.word-item.is
     c.as_bytes-else-eq-2.ensures.value c.eq-else-eq-2.ensures c.if-eq-3.true c.as_slice-else-eq-2.ensures
+
+pub returns-then-eq-4-clause-found : goal.returns-then-eq-4-clause-found
+returns-then-eq-4-clause-found c =
+    is_word c.args.words.now _ c.word-item.result _ _ _ _ c.in-len1.len_at_least c.in-len1.len_below c.word-item.is
+    c.as_bytes-else-eq-3.ensures.value c.eq-else-eq-3.ensures c.if-eq-4.true c.as_slice-else-eq-3.ensures

@@ -1,0 +1,6 @@
+pub mod Elements
+pub mod Styles
+pub mod Layout
+pub mod Drawing
+pub mod Labels
+pub mod Pictures

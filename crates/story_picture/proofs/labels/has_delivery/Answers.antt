@@ -1,0 +1,12 @@
+use Rattle.std.proofs.Common.{List, sym, ap, ◌∙◌}
+use Rattle.std.specs.List.{list_any}
+use Rattle.member_state.specs.Events.{note}
+use Rattle.stmt_codec.specs.declared.events.Note.{Note}
+use Rattle.picture_defs.specs.Labels.{is_delivery}
+use Rattle.story_picture.proofs.Numbered.{any-map}
+use Rattle.story_picture.proofs.labels.has_delivery.Goals as goal
+
+pub returns : goal.returns
+returns c =
+    c.delivers.ensures ∙ ap (λ (xs : List Note). list_any (λ n. is_delivery (note n)) xs) c.deref.ensures.value
+    ∙ sym (any-map note is_delivery c.args.seen.now.notes.items)

@@ -1,0 +1,20 @@
+use Rattle.std.proofs.Common.{List, ◌++◌, map, ap, ◌∙◌}
+use Rattle.std.specs.List.{flat_map}
+use Rattle.member_state.specs.Events.{note}
+use Rattle.stmt_codec.specs.declared.own.OwnClaim.{OwnClaim}
+use Rattle.stmt_codec.specs.declared.events.Note.{Note}
+use Rattle.stmt_codec.specs.Views.{signed}
+use Rattle.picture_defs.specs.Labels.{note_span, short_of}
+use Rattle.report_lines.proofs.Pieces.{behind}
+use Rattle.story_picture.proofs.labels.push_outcome_words.Goals as goal
+
+pub returns : goal.returns
+returns c =
+    let o = c.args.seen.now in
+    behind c.args.out.now.items (flat_map note_span (map note o.notes.items))
+    (flat_map (λ s. short_of s.statement) (map signed o.signed.items)) c.push_notes.new.out.items c.push_all_short.new.out.items
+    (c.in_ok-push_notes.ensures
+    ∙ ap (λ (xs : List Note). c.args.out.now.items ++ flat_map note_span (map note xs)) c.deref.ensures.value)
+    (c.in_ok-push_all_short.ensures
+    ∙ ap (λ (xs : List OwnClaim). c.push_notes.new.out.items ++ flat_map (λ s. short_of s.statement) (map signed xs))
+    c.deref-2.ensures.value)

@@ -1,0 +1,17 @@
+//! The picture of a run, as SVG: a column for each process, time downwards. Each function writes behind the text so far.
+//! Where memory runs out, what stands behind the text is left open, and the caller gives it up.
+#![tactic(auto)]
+
+mod arrows;
+mod bars;
+mod edges;
+mod elements;
+mod labels;
+mod layout;
+mod names;
+mod picture;
+mod rows;
+mod short;
+mod spans;
+
+pub use picture::push_picture;
