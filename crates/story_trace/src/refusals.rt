@@ -63,7 +63,9 @@ fn refusal_reason(fault: EventFault) -> &'static [u8]
 
 // The word of a report, and why.
 fn push_reason(out: &mut Vec<u8>, fault: EventFault) -> Result<(), NoMemory>
-    ensures { OnOk result (out.new.items ≡ out.old.items ++ flat_map (λ w. space ∷ w) (codes "as" ∷ plain_refusal_word (asked.fault fault) ∷ codes "since" ∷ plain.refusal_reason (asked.fault fault) ∷ [])) }
+    ensures { OnOk result (out.new.items ≡ out.old.items
+        ++ flat_map (λ w. space ∷ w) (codes "as" ∷ plain_refusal_word (asked.fault fault) ∷ codes "since"
+        ∷ plain.refusal_reason (asked.fault fault) ∷ [])) }
 {
     push_more(
         out,

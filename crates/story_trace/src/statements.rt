@@ -25,7 +25,8 @@ fn push_at_place(
     place: u16,
     batch: &Batch,
 ) -> Result<(), NoMemory>
-    ensures { OnOk result (out.new.items ≡ out.old.items ++ line_text (of_process at (codes "signs" ∷ place_words kind.now view place batch.now))) }
+    ensures { OnOk result (out.new.items ≡ out.old.items
+        ++ line_text (of_process at (codes "signs" ∷ place_words kind.now view place batch.now))) }
 {
     said_with_batch(
         out,
@@ -51,7 +52,8 @@ fn push_at_rank(
     rank: u8,
     value: Value,
 ) -> Result<(), NoMemory>
-    ensures { OnOk result (out.new.items ≡ out.old.items ++ line_text (of_process at (codes "signs" ∷ rank_words kind.now view rank (value_of value)))) }
+    ensures { OnOk result (out.new.items ≡ out.old.items
+        ++ line_text (of_process at (codes "signs" ∷ rank_words kind.now view rank (value_of value)))) }
 {
     said_with_update(
         out,
@@ -98,7 +100,8 @@ fn push_reporting_last(
     earlier: u8,
     value: Value,
 ) -> Result<(), NoMemory>
-    ensures { OnOk result (out.new.items ≡ out.old.items ++ line_text (of_process at (codes "signs" ∷ last_words view rank (report (Some (earlier, value)))))) }
+    ensures { OnOk result (out.new.items ≡ out.old.items
+        ++ line_text (of_process at (codes "signs" ∷ last_words view rank (report (Some (earlier, value)))))) }
 {
     said_with_update(
         out,
@@ -126,7 +129,8 @@ fn push_last(
     rank: u8,
     ready: Option<(u8, Value)>,
 ) -> Result<(), NoMemory>
-    ensures { OnOk result (out.new.items ≡ out.old.items ++ line_text (of_process at (codes "signs" ∷ last_words view rank (report ready)))) }
+    ensures { OnOk result (out.new.items ≡ out.old.items
+        ++ line_text (of_process at (codes "signs" ∷ last_words view rank (report ready)))) }
 {
     match ready {
         None => push_empty_last(out, at, view, rank),
@@ -141,7 +145,8 @@ fn push_init(
     number: u16,
     payload: &[u8],
 ) -> Result<(), NoMemory>
-    ensures { OnOk result (out.new.items ≡ out.old.items ++ line_text (of_process at (codes "signs" ∷ statement_words (plain.Init view number payload.now)))) }
+    ensures { OnOk result (out.new.items ≡ out.old.items
+        ++ line_text (of_process at (codes "signs" ∷ statement_words (plain.Init view number payload.now)))) }
 {
     said_with_payload(
         out,
@@ -165,7 +170,8 @@ fn push_echo(
     number: u16,
     payload: &[u8],
 ) -> Result<(), NoMemory>
-    ensures { OnOk result (out.new.items ≡ out.old.items ++ line_text (of_process at (codes "signs" ∷ statement_words (plain.Echo view (message sender number) payload.now)))) }
+    ensures { OnOk result (out.new.items ≡ out.old.items
+        ++ line_text (of_process at (codes "signs" ∷ statement_words (plain.Echo view (message sender number) payload.now)))) }
 {
     said_with_payload(
         out,
@@ -183,7 +189,8 @@ fn push_echo(
 }
 
 fn push_end(out: &mut Vec<u8>, at: Pid, view: u16, length: u16) -> Result<(), NoMemory>
-    ensures { OnOk result (out.new.items ≡ out.old.items ++ line_text (of_process at (codes "signs" ∷ statement_words (plain.End view length)))) }
+    ensures { OnOk result (out.new.items ≡ out.old.items
+        ++ line_text (of_process at (codes "signs" ∷ statement_words (plain.End view length)))) }
 {
     push_said(
         out,
@@ -200,7 +207,8 @@ fn push_end(out: &mut Vec<u8>, at: Pid, view: u16, length: u16) -> Result<(), No
 }
 
 fn push_notify(out: &mut Vec<u8>, at: Pid, view: u16, update: Update) -> Result<(), NoMemory>
-    ensures { OnOk result (out.new.items ≡ out.old.items ++ line_text (of_process at (codes "signs" ∷ statement_words (plain.Notify view (update_of update))))) }
+    ensures { OnOk result (out.new.items ≡ out.old.items
+        ++ line_text (of_process at (codes "signs" ∷ statement_words (plain.Notify view (update_of update))))) }
 {
     said_with_update(
         out,

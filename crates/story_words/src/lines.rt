@@ -113,7 +113,8 @@ pub fn said_with_batch(
 
 // The first words of the line of the event of this number.
 fn begin_event(out: &mut Vec<u8>, n: u64, words: &[Word<'_>]) -> Result<(), NoMemory>
-    ensures { OnOk result (out.new.items ≡ out.old.items ++ join_with_byte space (codes "event" ∷ number_and_colon n ∷ map spelled words.now)) }
+    ensures { OnOk result (out.new.items ≡ out.old.items
+        ++ join_with_byte space (codes "event" ∷ number_and_colon n ∷ map spelled words.now)) }
 {
     push_word(out, Word::Text(b"event"))?;
     push_next(out, Word::Head(n))?;
@@ -137,7 +138,8 @@ pub fn event_with_payload(
     words: &[Word<'_>],
     payload: &[u8],
 ) -> Result<(), NoMemory>
-    ensures { OnOk result (out.new.items ≡ out.old.items ++ line_text (codes "event" ∷ number_and_colon n ∷ (map spelled words.now ++ payload_words payload.now))) }
+    ensures { OnOk result (out.new.items ≡ out.old.items
+        ++ line_text (codes "event" ∷ number_and_colon n ∷ (map spelled words.now ++ payload_words payload.now))) }
 {
     begin_event(out, n, words)?;
     push_payload(out, payload)?;
@@ -152,7 +154,8 @@ pub fn event_with_processes(
     words: &[Word<'_>],
     processes: PidSet,
 ) -> Result<(), NoMemory>
-    ensures { OnOk result (out.new.items ≡ out.old.items ++ line_text (codes "event" ∷ number_and_colon n ∷ (map spelled words.now ++ process_words processes))) }
+    ensures { OnOk result (out.new.items ≡ out.old.items
+        ++ line_text (codes "event" ∷ number_and_colon n ∷ (map spelled words.now ++ process_words processes))) }
 {
     begin_event(out, n, words)?;
     push_processes(out, processes)?;

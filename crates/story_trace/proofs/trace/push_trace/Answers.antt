@@ -29,4 +29,5 @@ returns c =
     (c.in_ok-push_events.ensures ∙ ap
     (λ (es : List ScheduleEvent). c.push_cast.new.out.items ++ flat_map line_text (told_lines (map event es) told)) c.deref.ensures.value)
     (c.in_ok-push_stop.ensures ∙ ap
-    (λ (es : List ScheduleEvent). c.push_events.new.out.items ++ flat_map line_text (stop_lines (map event es) n stop)) c.deref-2.ensures.value)
+    (λ (es : List ScheduleEvent). c.push_events.new.out.items
+    ++ flat_map line_text (stop_lines (map event es) n stop)) c.deref-2.ensures.value)
