@@ -205,53 +205,59 @@ def reduced(crates):
 # The areas of the crates: where each is drawn, how many crates stand side by side, and its crates, none above one that it uses.
 AREAS = {
     "the program": (20, 20, 2, "rampart_cli rampart"),
-    "a replay": (20, 121, 2, "said_index replay_cast group_questions sound_question replay_world replay_questions report_lines replay_run"),
-    "a member": (20, 303, 2, "accounts own_moves reliable_mcast member_state member_taking member_signing member_settling member_sending member_core"),
-    "the rules": (20, 512, 2, "multicast_rules ending_rules rank_rules view_phases due_statements"),
-    "what is heard": (
-        20, 667, 2, "view_table claim_index claim_lists own_place slot_quorums placed_batches pool_values claim_pool pool_questions member_laws claim_hearing"
+    "a replay": (
+        20, 121, 2,
+        "said_index replay_cast group_questions sound_question trace_defs told_defs told_laws happenings replay_world replay_questions"
+        " report_lines replay_run",
     ),
-    "laws and rows": (20, 903, 2, "pool_laws rule_laws safety_laws event_laws group_rows schedule_laws schedule_rows"),
-    "definitions": (20, 1085, 6, "byte_defs signature_defs message_defs text_defs group_defs kit_defs replay_defs"),
+    "a member": (20, 413, 2, "accounts own_moves reliable_mcast member_state member_taking member_signing member_settling member_sending member_core"),
+    "the rules": (20, 622, 2, "multicast_rules ending_rules rank_rules view_phases due_statements"),
+    "what is heard": (
+        20, 777, 2, "view_table claim_index claim_lists own_place slot_quorums placed_batches pool_values claim_pool pool_questions member_laws claim_hearing"
+    ),
+    "laws and rows": (20, 1013, 2, "pool_laws rule_laws safety_laws event_laws group_rows schedule_laws schedule_rows"),
+    "definitions": (20, 1195, 6, "byte_defs signature_defs message_defs text_defs group_defs kit_defs replay_defs"),
+    "a run shown": (348, 20, 2, "picture_defs story_words story_telling story_trace story_picture story_cli story"),
     "beside other implementations": (
-        348, 20, 2,
+        348, 203, 2,
         "interop_words interop_signatures interop_levels interop_frames interop_kits interop_schedules interop_node interop_lines interop",
     ),
     "schedules and stories": (
-        348, 303, 2,
+        348, 413, 2,
         "schedule_file schedule_fields schedule_header schedule_events schedule_reading schedule_pieces schedule_making"
-        " story_defs story_laws story_lines story_statements story_headers story_events story_reading story_writing story_cli story",
+        " story_defs story_laws story_lines story_statements story_headers story_events story_reading story_writing",
     ),
-    "frames and statements": (348, 667, 2, "frame_codec statements stmt_codec"),
-    "the outside": (348, 903, 2, "rp_base rp_devices net_edge file_disk udp_link"),
+    "frames and statements": (348, 777, 2, "frame_codec statements stmt_codec"),
+    "the outside": (348, 1013, 2, "rp_base rp_devices net_edge file_disk udp_link"),
     "how fast": (676, 20, 2, "bench_parts bench_lms bench_frames bench_schedules bench_journal bench_link bench_pool bench_core bench_replay"),
-    "kits and words": (676, 303, 2, "text_codec kit_file kit_lines kit_draft kit_reading kit_making command_line"),
-    "signatures": (676, 512, 2, "lms_ots lms_tree lms_hss sig_scheme"),
-    "links and journals": (676, 667, 2, "link_defs auth_link journal_defs journal_disk journal_entries journal_rp"),
+    "kits and words": (676, 413, 2, "text_codec kit_file kit_lines kit_draft kit_reading kit_making command_line"),
+    "signatures": (676, 622, 2, "lms_ots lms_tree lms_hss sig_scheme"),
+    "links and journals": (676, 777, 2, "link_defs auth_link journal_defs journal_disk journal_entries journal_rp"),
 }
 
 # The lines from each area to those that it uses, without those that others imply.
 LINES = {
     ("the program", "a replay"): [(172, 85), (172, 121)],
-    ("a replay", "a member"): [(172, 267), (172, 303)],
-    ("a replay", "schedules and stories"): [(324, 244), (430, 244), (430, 303)],
-    ("a member", "the rules"): [(172, 476), (172, 512)],
-    ("the rules", "what is heard"): [(172, 631), (172, 667)],
-    ("what is heard", "laws and rows"): [(172, 867), (172, 903)],
-    ("what is heard", "frames and statements"): [(324, 713), (348, 713)],
-    ("laws and rows", "definitions"): [(172, 1049), (172, 1085)],
-    ("beside other implementations", "schedules and stories"): [(500, 193), (500, 303)],
-    ("beside other implementations", "links and journals"): [(652, 186), (996, 186), (996, 720), (980, 720)],
+    ("a replay", "a member"): [(172, 321), (172, 413)],
+    ("a replay", "schedules and stories"): [(250, 321), (250, 394), (430, 394), (430, 413)],
+    ("a member", "the rules"): [(172, 586), (172, 622)],
+    ("the rules", "what is heard"): [(172, 741), (172, 777)],
+    ("what is heard", "laws and rows"): [(172, 977), (172, 1013)],
+    ("what is heard", "frames and statements"): [(324, 823), (348, 823)],
+    ("laws and rows", "definitions"): [(172, 1159), (172, 1195)],
+    ("a run shown", "a replay"): [(348, 155), (324, 155)],
+    ("beside other implementations", "schedules and stories"): [(500, 376), (500, 413)],
+    ("beside other implementations", "links and journals"): [(652, 369), (996, 369), (996, 830), (980, 830)],
     ("how fast", "a replay"): [(676, 40), (664, 40), (664, 8), (332, 8), (332, 150), (324, 150)],
-    ("how fast", "links and journals"): [(980, 66), (996, 66), (996, 720), (980, 720)],
-    ("schedules and stories", "kits and words"): [(652, 376), (676, 376)],
-    ("schedules and stories", "frames and statements"): [(500, 584), (500, 667)],
-    ("schedules and stories", "laws and rows"): [(348, 400), (336, 400), (336, 960), (324, 960)],
-    ("frames and statements", "the outside"): [(500, 759), (500, 903)],
-    ("links and journals", "frames and statements"): [(676, 713), (652, 713)],
-    ("kits and words", "signatures"): [(828, 449), (828, 512)],
-    ("signatures", "the outside"): [(676, 580), (664, 580), (664, 960), (652, 960)],
-    ("the outside", "definitions"): [(500, 1022), (500, 1085)],
+    ("how fast", "links and journals"): [(980, 66), (996, 66), (996, 830), (980, 830)],
+    ("schedules and stories", "kits and words"): [(652, 486), (676, 486)],
+    ("schedules and stories", "frames and statements"): [(500, 667), (500, 777)],
+    ("schedules and stories", "laws and rows"): [(348, 510), (336, 510), (336, 1070), (324, 1070)],
+    ("frames and statements", "the outside"): [(500, 869), (500, 1013)],
+    ("links and journals", "frames and statements"): [(676, 823), (652, 823)],
+    ("kits and words", "signatures"): [(828, 559), (828, 622)],
+    ("signatures", "the outside"): [(676, 690), (664, 690), (664, 1070), (652, 1070)],
+    ("the outside", "definitions"): [(500, 1132), (500, 1195)],
 }
 
 
@@ -279,7 +285,7 @@ def crates_picture():
     """The crates by areas: each area stands above those that it uses; lines that others imply are left out."""
     crates = {name: below for name, below in read_crates().items() if not name.endswith("_tests")}
     check_areas(crates)
-    p = Picture(1010, 1216, "The crates and what stands on what")
+    p = Picture(1010, 1326, "The crates and what stands on what")
     for points in LINES.values():
         p.arrow(points)
     for area, (x, y, across, names) in AREAS.items():
@@ -293,7 +299,7 @@ def crates_picture():
             left, top = x + 8 + step * (i % across), y + 32 + 27 * (i // across)
             p.parts.append(f'<rect x="{left:g}" y="{top}" width="{step - 4:g}" height="23" rx="4" class="{kind}"/>')
             p.text(left + (step - 4) / 2, top + 16, name)
-    p.text(20, 1202, "Green: definitions. Yellow: laws and rows. Blue: code. In an area no crate stands on one that comes after it.", "small", "start")
+    p.text(20, 1312, "Green: definitions. Yellow: laws and rows. Blue: code. In an area no crate stands on one that comes after it.", "small", "start")
     p.write("crates")
 
 
