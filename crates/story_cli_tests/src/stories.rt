@@ -104,6 +104,20 @@ fn what_is_missing_at_the_end_is_told(rt: HostRuntime) -> Result<(), Fail> {
 }
 
 #[test]
+fn a_run_is_drawn(rt: HostRuntime) -> Result<(), Fail> {
+    let (status, picture, errors) = run(rt.alloc(), "draw", BYTES, [&[], &[]])?;
+    assert_eq!(rt; status, 0);
+    assert!(rt;
+        picture
+            .bytes()
+            .starts_with(b"<svg xmlns='http://www.w3.org/2000/svg' ")
+    );
+    assert!(rt; picture.bytes().ends_with(b"</svg>\n"));
+    assert!(rt; errors.bytes().is_empty());
+    Ok(())
+}
+
+#[test]
 fn other_words_and_failing_streams_have_their_statuses(rt: HostRuntime) -> Result<(), Fail> {
     let (status, _out, errors) = run(rt.alloc(), "disassemble", BYTES, [&[], &[]])?;
     assert_eq!(rt; status, 2);
