@@ -1,4 +1,4 @@
-use Rattle.std.proofs.Common.{[], List, ℕ, codes, map}
+use Rattle.std.proofs.Common.{[], codes, map}
 use Rattle.std.specs.Fmt.{decimal}
 use Rattle.text_defs.specs.Words.{line_text}
 use Rattle.trace_defs.specs.Events.{genesis_line}

@@ -1,4 +1,4 @@
-use Rattle.std.proofs.Common.{◌≡◌, ℕ, ◌+◌, List, ap, ◌∙◌, ◌++◌, rules}
+use Rattle.std.proofs.Common.{◌≡◌, ℕ, ◌+◌, ap, ◌∙◌, ◌++◌, rules}
 use Rattle.text_defs.specs.Words.{line_text}
 use Rattle.trace_defs.specs.Outcomes.{frame_line, sent_line}
 use Rattle.story_trace.proofs.Behind.{numbered_more}
