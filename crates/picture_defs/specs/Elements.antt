@@ -31,11 +31,12 @@ bar class a width height = text_of (
     codes "<rect class='" ∷ class ∷ codes "' x='" ∷ decimal a.x ∷ codes "' y='" ∷ decimal a.y
     ∷ codes "' width='" ∷ decimal width ∷ codes "' height='" ∷ decimal height ∷ codes "'/>\n" ∷ [])
 
--- the beginning of a text of this class at a point, and its end
+-- the beginning of a text of this class at a point
 abbrev pub text_begin : Word → Point → List ℕ
 text_begin class a = text_of (
     codes "<text class='" ∷ class ∷ codes "' x='" ∷ decimal a.x ∷ codes "' y='" ∷ decimal a.y ∷ codes "'>" ∷ [])
 
+-- the end of any text
 abbrev pub text_end : List ℕ
 text_end = codes "</text>\n"
 

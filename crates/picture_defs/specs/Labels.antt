@@ -15,10 +15,11 @@ use Rattle.picture_defs.specs.Layout.{place}
 
 -- ---- statements
 
--- so many bytes of a payload are shown at most: in a statement, and in a delivery
+-- so many bytes of a payload are shown at most in a statement
 unfoldable pub in_statement : ℕ
 in_statement = 8
 
+-- so many bytes of a payload are shown at most in a delivery
 unfoldable pub in_delivery : ℕ
 in_delivery = 12
 
@@ -46,10 +47,11 @@ short_of bytes = elim (statement_of bytes) [ Ok st ↦ short st | Err fault ↦ 
 
 -- ---- what came of it
 
--- the beginning of words of this class, and their end
+-- the beginning of words of this class
 abbrev pub span_begin : Word → List ℕ
 span_begin class = text_of (codes " <tspan class='" ∷ class ∷ codes "'>" ∷ [])
 
+-- the end of words of any class
 abbrev pub span_end : List ℕ
 span_end = codes "</tspan>"
 

@@ -31,10 +31,11 @@ most_drawn = 2000
 
 -- ---- processes
 
--- the number of a process over its column, and whether it is corrupt
+-- beside the number of a process: that it is corrupt, where it is
 abbrev pub role : Bool → List ℕ
 role corrupt = if corrupt then span (codes "bad") (codes "corrupt") else []
 
+-- the number of a process, over its column
 abbrev pub name : List Listed → Listed → List ℕ
 name ls l = text_at (codes "title") (record { x = column ls l.process - 4; y = 22 }) (decimal l.process ++ role l.corrupt)
 
@@ -56,7 +57,7 @@ event_number k n = text_at (codes "event") (record { x = 8; y = row k + 4 }) (te
 abbrev pub event_name : List Listed → ℕ → ℕ → List ℕ
 event_name ls k n = event_rule ls k ++ event_number k n
 
--- of these rows, one before row k is of event n
+-- one of these rows that stands before row k is of event n
 abbrev pub is_begun : List Row → ℕ → ℕ → Bool
 is_begun rows k n = list_any (λ r. r.0 == n) (take k rows)
 
@@ -66,7 +67,7 @@ event_begin ls rows k n = if is_begun rows k n then [] else event_name ls k n
 
 -- ---- the end
 
--- so many things happened that are not drawn below the n rows
+-- the text below the n rows that so many things more happened, where any did
 abbrev pub more_text : ℕ → ℕ → List ℕ
 more_text n more =
     if more == 0 then []
@@ -87,14 +88,14 @@ stop_text n (Some fault) = text_at (codes "bad") (record { x = 90; y = row n + 3
 
 -- ---- all of it
 
--- the beginning of a picture of this size
+-- the element that holds a picture of this size, and its title
 unfoldable pub frame_begin : ℕ → ℕ → List ℕ
 frame_begin wide high = text_of (
     codes "<svg xmlns='http://www.w3.org/2000/svg' viewBox='0 0 " ∷ decimal wide ∷ codes " " ∷ decimal high
     ∷ codes "' width='" ∷ decimal wide ∷ codes "' height='" ∷ decimal high
     ∷ codes "' role='img' xml:space='preserve'>\n<title>A run, process by process</title>\n" ∷ [])
 
--- with its colours and the heads of its arrows
+-- the beginning of a picture of this size, with its colours and the heads of its arrows
 abbrev pub picture_begin : ℕ → ℕ → List ℕ
 picture_begin wide high = frame_begin wide high ++ (style ++ heads)
 
@@ -102,6 +103,7 @@ picture_begin wide high = frame_begin wide high ++ (style ++ heads)
 abbrev pub begin_rows : List Listed → ℕ → List ℕ
 begin_rows ls n = picture_begin (width ls) (height n)
 
+-- the end of that element
 abbrev pub picture_end : List ℕ
 picture_end = codes "</svg>\n"
 
@@ -113,7 +115,7 @@ each_row draw rows = flat_map (λ r. draw r.0 r.1.0 r.1.1) (enumerate_from 0 row
 abbrev pub sent_rows : List Row → List ℕ
 sent_rows rows = each_row (λ k n what. sent_in k what) rows
 
--- behind all else: events, lives and views
+-- what is drawn first, behind all else: events, lives and views
 abbrev pub background : List Listed → List Row → List ℕ
 background ls rows =
     each_row (λ k n what. event_begin ls rows k n) rows
@@ -127,7 +129,7 @@ arrows ls rows = each_row (λ k n what. arrow ls (sent_rows rows) k what) rows
 abbrev pub cast : List Listed → List ℕ → List ℕ
 cast ls members = flat_map (name ls) ls ++ genesis members
 
--- before it: arrows, marks and texts, and the names of the processes
+-- what is drawn over the background: arrows, marks and texts, and the names of the processes
 abbrev pub foreground : List Listed → List ℕ → List Row → List ℕ
 foreground ls members rows = arrows ls rows ++ (each_row (λ k n what. label ls k what) rows ++ cast ls members)
 
