@@ -2,11 +2,11 @@
 //! Where memory runs out, what stands behind the text is left open, and the caller gives it up.
 #![tactic(auto)]
 
+mod claims;
 mod events;
 mod handed;
 mod notes;
 mod refusals;
-mod statements;
 mod steps;
 mod trace;
 

@@ -12,11 +12,11 @@ ghost use Rattle.schedule_file.specs.Views as views;
 ghost use Rattle.told_defs.specs.Told.{event_lines};
 ghost use Rattle.happenings.specs.Told.{handed as handed_of, seen as seen_of, happening as happening_of};
 
+use crate::claims::push_signed;
 use crate::events::push_event;
 use crate::handed::push_handed;
 use crate::notes::push_note;
 use crate::refusals::push_refusal;
-use crate::statements::push_signed;
 use happenings::{Handed, Happening, Seen};
 use rp_base::{NoMemory, Pid, PidSet};
 use schedule_file::ScheduleEvent;

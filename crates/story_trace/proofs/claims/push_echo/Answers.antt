@@ -3,7 +3,7 @@ use Rattle.text_defs.specs.Words.{line_text}
 use Rattle.statements.specs.Batches.{message}
 use Rattle.trace_defs.specs.Phrases.{number_and_colon, message_word, payload_words}
 use Rattle.trace_defs.specs.Outcomes.{of_process}
-use Rattle.story_trace.proofs.statements.push_echo.Goals as goal
+use Rattle.story_trace.proofs.claims.push_echo.Goals as goal
 
 pub returns : goal.returns
 returns c =
