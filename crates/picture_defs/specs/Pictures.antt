@@ -67,12 +67,12 @@ event_begin ls rows k n = if is_begun rows k n then [] else event_name ls k n
 
 -- ---- the end
 
--- the text below the n rows that so many things more happened, where any did
+-- the text below the n rows of how many things are left out, where any are
 abbrev pub more_text : ℕ → ℕ → List ℕ
 more_text n more =
     if more == 0 then []
     else text_at (codes "bad") (record { x = 90; y = row n + 18 })
-    (text_of (codes "The picture ends here: " ∷ decimal more ∷ codes " things more happened." ∷ []))
+    (text_of (codes "The picture ends here. Things left out: " ∷ decimal more ∷ []))
 
 -- why a run stops at an event
 abbrev pub fault_words : WorldFault → List ℕ

@@ -128,7 +128,7 @@ fn end_picture(out: &mut Vec<u8>) -> Result<(), NoMemory>
     Ok(())
 }
 
-// So many things more happened.
+// So many things are left out.
 fn push_more(out: &mut Vec<u8>, n: u64, more: u64) -> Result<(), NoMemory>
     ensures { OnOk result (out.new.items ≡ out.old.items ++ plain.more_text n more) }
 {
@@ -141,9 +141,8 @@ fn push_more(out: &mut Vec<u8>, n: u64, more: u64) -> Result<(), NoMemory>
         b"bad",
         Point { x: 90, y },
         &[
-            Word::Text(b"The picture ends here: "),
+            Word::Text(b"The picture ends here. Things left out: "),
             Word::Number(more),
-            Word::Text(b" things more happened."),
         ],
     )
 }
