@@ -1,7 +1,7 @@
 -- So many messages of each member are delivered.
 use Rattle.std.proofs.Common.{◌≡◌, ◌≢◌, ℕ, zero, suc, ◌+◌, ◌<◌, ◌≤◌, true, false, List, [], ◌∷◌, ◌++◌, length, get_or, map, refl, sym, ap, ◌∙◌, arith}
 use Rattle.std.specs.Prelude.{◌==◌, All, AllPairs, cond, fold, max, sum_by}
-use Rattle.std.proofs.lemmas.Bool.{ne_eqb}
+use Rattle.std.proofs.lemmas.Bool.{eq-eqb, ne_eqb}
 use Rattle.std.proofs.lemmas.List.Elements.{All-head, All-tail}
 use Rattle.std.proofs.lemmas.List.Sums.{fold-append, sum_by-append, sum_by-cons}
 use Rattle.group_defs.specs.Views.{View}
@@ -34,16 +34,12 @@ places-from (m ∷ ms) (c ∷ cs) a e =
 abbrev one-of : ℕ → Delivered → ℕ
 one-of m d = cond (d.message.sender == m) 1 0
 
-self : (m : ℕ) → (m == m) ≡ true
-self zero = refl
-self (suc m) = self m
-
 of-itself : (m n : ℕ) → delivered_from m (first_messages m n) ≡ n
 unfolding first_messages
 of-itself m zero = refl
 of-itself m (suc n) =
     sum_by-cons (one-of m) (record { place = n; message = record { sender = m; number = n }; payload = [] }) (first_messages m n)
-    ∙ (λ i. cond (self m i) 1 0 + of-itself m n i) ∙ omega arith
+    ∙ (λ i. cond (eq-eqb m m refl i) 1 0 + of-itself m n i) ∙ omega arith
 
 of-another : (k m n : ℕ) → m ≢ k → delivered_from k (first_messages m n) ≡ 0
 unfolding first_messages
@@ -76,7 +72,7 @@ counts (m ∷ ms) (c ∷ cs) e distinct =
     ∙ (λ i. of-itself m c i + of-none m ms cs (λ k d lt is. others k d lt (sym is)) i) ∙ omega arith in
     let rest = same-on (λ k. delivered_from k (first_messages m c ++ delivered_of ms cs)) (λ k. delivered_from k (delivered_of ms cs))
     (λ k. m ≢ k) ms others (λ k other. sum_by-append (one-of k) (first_messages m c) (delivered_of ms cs)
-    ∙ ap (λ n. n + delivered_from k (delivered_of ms cs)) (of-another k m c other))
+    ∙ ap (λ n. n + delivered_from k (delivered_of ms cs)) (of-another k m c other) ∙ omega arith)
     ∙ counts ms cs (omega (arith, e)) (λ i j d lt within. distinct (suc i) (suc j) d (omega (arith, lt)) (omega (arith, within))) in
     λ i. first i ∷ rest i
 

@@ -36,7 +36,7 @@ fn pool_words(
 ) -> Result<Vec<u8>, NoMemory>
     requires counted { length counts.now ≡ length view.members }
     requires range { AllByRecursion IsClaim (claims_left claims) }
-    ensures { IfOk result (λ told. told.items ≡ heard_words (hearer view counts.now) (claims_left claims)) }
+    ensures { IfOk result (λ told. told.items ≡ heard_words (hearer view counts.now) (claims_left claims.entry)) }
 {
     let roster = plain_roster(alloc, KEYED)?;
     let own = own(alloc, &view, counts);
