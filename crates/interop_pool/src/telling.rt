@@ -12,7 +12,7 @@ ghost use Rattle.interop_pool.specs.Telling as words;
 use claim_pool::{Ack, CertKind, Commit, Keep, Message, Place, Pool};
 use pool_questions::removed_rank;
 use rp_base::{NoMemory, PidSet};
-use stmt_codec::{Claim, Claims, Statement, slot_of};
+use stmt_codec::{Claim, Claims, Statement, conflicts, slot_of};
 use text_codec::push_number;
 
 fn push_word(out: &mut Vec<u8>, word: &[u8]) -> Result<(), NoMemory>
@@ -34,13 +34,6 @@ fn push_signers(out: &mut Vec<u8>, signers: PidSet) -> Result<(), NoMemory>
     Ok(())
 }
 
-// Whether they say the same.
-fn is_same(a: &Statement<'_>, b: &Statement<'_>) -> bool
-    ensures { result ≡ plain.same_statement (stmt a.now) (stmt b.now) }
-{
-    a == b
-}
-
 fn same_word(is_same: bool) -> &'static [u8]
     ensures { result.now ≡ words.same_word is_same }
 {
@@ -60,7 +53,7 @@ fn push_certificate<K: CertKind>(
     let Some(certificate) = pool.certificate::<K>(slot_of(statement)) else {
         return push_word(out, b" none");
     };
-    out.extend_from_slice(same_word(is_same(certificate.content(), statement)))?;
+    out.extend_from_slice(same_word(!conflicts(certificate.content(), statement)))?;
     push_signers(out, certificate.signers())
 }
 
