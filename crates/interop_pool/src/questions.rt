@@ -2,9 +2,14 @@ ghost use Rattle.std.specs.Prelude.{◌≡◌, ◌≤◌, ℕ, List, [], ◌∷�
 ghost use Rattle.std.specs.List.{AllByRecursion};
 ghost use Rattle.byte_defs.specs.Reads.{Gives};
 ghost use Rattle.message_defs.specs.Spelling.{IsClaim};
+ghost use Rattle.group_defs.specs.Process.{Process};
+ghost use Rattle.group_defs.specs.Certified.{number_of_members};
 ghost use Rattle.stmt_codec.specs.Left.{claims_left};
+ghost use Rattle.bench_parts.specs.Keys.{plain_keys};
+ghost use Rattle.claim_index.specs.Kept.{empty_pool};
+ghost use Rattle.own_place.specs.Owns.{HasDelivered};
 ghost use Rattle.interop_pool.specs.Hearers.{hearer};
-ghost use Rattle.interop_pool.specs.Telling.{heard_words};
+ghost use Rattle.interop_pool.specs.Telling as words;
 ghost use Rattle.interop_pool.specs.Questions as plain;
 ghost use Rattle.interop_pool.specs.Questions.{Answers, Says, said};
 
@@ -12,11 +17,11 @@ use crate::hearers::{own, view_of};
 use crate::hearing::take_all;
 use crate::telling::{push_claims, push_totals};
 use bench_parts::plain_roster;
-use claim_pool::Pool;
+use claim_pool::{Own, Pool};
 use frame_codec::{FrameFault, split_frame};
 use interop_frames::fault_word;
 use interop_words::{LineFault, read_bytes, read_number};
-use rp_base::NoMemory;
+use rp_base::{NoMemory, Roster};
 use std::alloc::Global;
 use stmt_codec::{Claims, claims_of};
 use view_table::View;
@@ -28,6 +33,45 @@ const KEYED: u8 = 48;
 const LAST_NUMBER: u32 = 1_023;
 
 // `pool`, the verdict on each claim, what is heard then of the view, and of each claim's slot.
+fn heard_words(
+    alloc: Global,
+    roster: &Roster,
+    own: &Own,
+    pool: &mut Pool,
+    claims: Claims<'_>,
+) -> Result<Vec<u8>, NoMemory>
+    requires keys { roster.now ≡ plain_keys 48 }
+    requires counted { length own.now.counts.items ≡ number_of_members pool.old.pool }
+    requires range { AllByRecursion IsClaim (claims_left claims) }
+    ensures { (p : Process) → HasDelivered own.now p → p.pool ≡ pool.old.pool
+        → IfOk result (λ told. told.items ≡ words.heard_words p (claims_left claims.entry)) }
+{
+    let mut told = b"pool".to_vec(alloc)?;
+    take_all(&mut told, roster, own, pool, claims)?;
+    push_totals(&mut told, pool)?;
+    push_claims(&mut told, pool, claims)?;
+    Ok(told)
+}
+
+// The same, where nothing is heard of the view yet.
+fn words_in(
+    alloc: Global,
+    roster: &Roster,
+    own: &Own,
+    view: View,
+    claims: Claims<'_>,
+) -> Result<Vec<u8>, NoMemory>
+    requires keys { roster.now ≡ plain_keys 48 }
+    requires counted { length own.now.counts.items ≡ length view.members }
+    requires range { AllByRecursion IsClaim (claims_left claims) }
+    ensures { (p : Process) → HasDelivered own.now p → p.pool ≡ empty_pool view
+        → IfOk result (λ told. told.items ≡ words.heard_words p (claims_left claims.entry)) }
+{
+    let mut pool = Pool::new(alloc, view)?;
+    heard_words(alloc, roster, own, &mut pool, claims)
+}
+
+// The same, of a process that has delivered so many messages of each member.
 fn pool_words(
     alloc: Global,
     view: View,
@@ -36,16 +80,11 @@ fn pool_words(
 ) -> Result<Vec<u8>, NoMemory>
     requires counted { length counts.now ≡ length view.members }
     requires range { AllByRecursion IsClaim (claims_left claims) }
-    ensures { IfOk result (λ told. told.items ≡ heard_words (hearer view counts.now) (claims_left claims.entry)) }
+    ensures { IfOk result (λ told. told.items ≡ words.heard_words (hearer view counts.now) (claims_left claims.entry)) }
 {
     let roster = plain_roster(alloc, KEYED)?;
     let own = own(alloc, &view, counts);
-    let mut pool = Pool::new(alloc, view)?;
-    let mut told = b"pool".to_vec(alloc)?;
-    take_all(&mut told, &roster, &own, &mut pool, claims)?;
-    push_totals(&mut told, &pool)?;
-    push_claims(&mut told, &pool, claims)?;
-    Ok(told)
+    words_in(alloc, &roster, &own, view, claims)
 }
 
 // The claims of a frame's bytes, or the first fault.
