@@ -1,5 +1,5 @@
 -- Questions on pools, by the words of a line.
-use Rattle.std.proofs.Common.{◌≡◌, ℕ, ◌<◌, ◌≤◌, ◌⊎◌, inl, inr, Bool, true, nat_eq, List, [], ◌∷◌, length, get_or, map, Bor, refl, sym, ap, subst, ◌∙◌, arith}
+use Rattle.std.proofs.Common.{◌≡◌, ℕ, ◌<◌, ◌≤◌, inl, inr, Bool, true, nat_eq, List, [], ◌∷◌, length, get_or, map, Bor, refl, sym, ap, subst, ◌∙◌, arith}
 use Rattle.std.specs.Prelude.{codes}
 use lib.Pointwise.{pointwise}
 use Rattle.std.specs.Fmt.{decimal}
@@ -21,34 +21,6 @@ pool_answers n m c f number members counts frame told sn low sm sc sf says = rec
   asked = λ i. asking (sn i) (sm.1 i) (sc.1 i) (sf.1 i);
   is_told = says;
 }
-
--- what words spell of which this is the answer
-pub record Read (n m c f : List ℕ) : Type 0 where
-  pub number : ℕ
-  pub members : List ℕ
-  pub counts : List ℕ
-  pub frame : List ℕ
-  pub low : number ≤ 1023
-  pub of_number : n ≡ decimal number
-  pub of_members : Spells m members
-  pub of_counts : Spells c counts
-  pub of_frame : Spells f frame
-
-pub read : (n m c f told : List ℕ) → Answers (asking n m c f) told → Read n m c f
-read n m c f told a = of a.question a.fits a.asked
-  where
-    of : (q : Question) → IsQuestion q → asking n m c f ≡ spelled q → Read n m c f
-    of (OfPool number members counts frame) fits is = record {
-      number = number;
-      members = members;
-      counts = counts;
-      frame = frame;
-      low = fits.0;
-      of_number = cc;
-      of_members = (fits.1, cc);
-      of_counts = (fits.2, cc);
-      of_frame = (fits.3, cc);
-    }
 
 -- ---- the words of a line
 

@@ -1,4 +1,4 @@
-use Rattle.std.proofs.Common.{◌≡◌, ◌∙◌, ℕ, List, ◌++◌, length, ap, sym, subst}
+use Rattle.std.proofs.Common.{◌∙◌, ℕ, List, ◌++◌, length, ap, sym, subst}
 use Rattle.std.specs.List.{AllByRecursion}
 use Rattle.message_defs.specs.Spelling.{IsClaim}
 use Rattle.group_defs.specs.Views.{View}

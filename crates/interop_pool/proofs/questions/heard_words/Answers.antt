@@ -1,5 +1,4 @@
-use Rattle.std.proofs.Common.{◌≡◌, ◌∙◌, ◌++◌, ℕ, List, ap, sym}
-use Rattle.group_defs.specs.Certified.{number_of_members}
+use Rattle.std.proofs.Common.{◌∙◌, ◌++◌, ℕ, List, ap}
 use Rattle.stmt_codec.specs.Left.{claims_left}
 use Rattle.interop_pool.specs.Hearers.{setting_with}
 use Rattle.interop_pool.proofs.Heard.{heard-told, told}

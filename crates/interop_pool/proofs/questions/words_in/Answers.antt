@@ -1,4 +1,4 @@
-use Rattle.std.proofs.Common.{◌≡◌, ◌∙◌, length, ap, sym}
+use Rattle.std.proofs.Common.{◌∙◌, length, ap, sym}
 use Rattle.group_defs.specs.Process.{Pool}
 use Rattle.interop_pool.proofs.questions.words_in.Goals as goal
 
