@@ -1,6 +1,6 @@
 -- What a line asks, by the kinds of questions.
-use Rattle.std.proofs.Common.{◌≡◌, ◌≢◌, ◌==◌, ◌∙◌, ℕ, ◌<◌, List, [], ◌∷◌, ◌⊎◌, inl, inr, sym, ap, subst, arith, refl}
-use Rattle.std.specs.Prelude.{codes, if◌then◌else◌}
+use Rattle.std.proofs.Common.{◌≡◌, ◌==◌, ℕ, ◌<◌, List, [], ◌∷◌, ◌⊎◌, inl, inr, sym, ap, subst, arith}
+use Rattle.std.specs.Prelude.{if◌then◌else◌}
 use Rattle.text_defs.specs.Words.{words_of}
 use Rattle.interop_signatures.specs.Signatures as signatures
 use Rattle.interop_levels.specs.Levels as levels
