@@ -18,7 +18,8 @@ use stmt_codec::{
 };
 use text_codec::{push_byte_list, push_number};
 
-fn fault_word(fault: FrameFault) -> &'static [u8]
+/// The word of the fault.
+pub fn fault_word(fault: FrameFault) -> &'static [u8]
     ensures { result.now ≡ fault_word fault }
 {
     match fault {

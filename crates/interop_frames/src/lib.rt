@@ -3,4 +3,4 @@
 
 mod frames;
 
-pub use frames::answer_frames;
+pub use frames::{answer_frames, fault_word};

@@ -1,6 +1,6 @@
 -- What a line asks, by the kinds of questions.
-use Rattle.std.proofs.Common.{◌≡◌, ◌≢◌, ◌==◌, ◌∙◌, ℕ, ◌<◌, List, [], ◌∷◌, ◌⊎◌, inl, inr, sym, ap, subst, arith, refl}
-use Rattle.std.specs.Prelude.{codes, if◌then◌else◌}
+use Rattle.std.proofs.Common.{◌≡◌, ◌==◌, ℕ, ◌<◌, List, [], ◌∷◌, ◌⊎◌, inl, inr, sym, ap, subst, arith}
+use Rattle.std.specs.Prelude.{if◌then◌else◌}
 use Rattle.text_defs.specs.Words.{words_of}
 use Rattle.interop_signatures.specs.Signatures as signatures
 use Rattle.interop_levels.specs.Levels as levels
@@ -8,6 +8,7 @@ use Rattle.interop_frames.specs.Frames as frames
 use Rattle.interop_kits.specs.Kits as kits
 use Rattle.interop_schedules.specs.Schedules as schedules
 use Rattle.interop_node.specs.Questions as nodes
+use Rattle.interop_pool.specs.Questions as pools
 use Rattle.interop_lines.specs.Lines.{Answers}
 use Rattle.interop_signatures.proofs.SignatureLaws as of_signatures
 use Rattle.interop_levels.proofs.LevelLaws as of_levels
@@ -15,22 +16,27 @@ use Rattle.interop_frames.proofs.FrameLaws as of_frames
 use Rattle.interop_kits.proofs.KitLaws as of_kits
 use Rattle.interop_schedules.proofs.ScheduleLaws as of_schedules
 use Rattle.interop_node.proofs.QuestionLaws as of_nodes
+use Rattle.interop_pool.proofs.QuestionLaws as of_pools
 
--- a line that asks on no signature, no frame, no kit, no schedule, no journal and no datagram
-pub none : (line told : List ℕ) (ws ls vs us ss ns : List (List ℕ)) → ws ≡ words_of line → ls ≡ words_of line → vs ≡ words_of line
-    → us ≡ words_of line → ss ≡ words_of line → ns ≡ words_of line
+-- a line that asks on no signature, no frame, no kit, no schedule, no journal and no datagram, and on no pool
+pub none : (line told : List ℕ) (ws ls vs us ss ns ps : List (List ℕ)) → ws ≡ words_of line → ls ≡ words_of line → vs ≡ words_of line
+    → us ≡ words_of line → ss ≡ words_of line → ns ≡ words_of line → ps ≡ words_of line
     → (signatures.Answers ws told → ⊥) → (levels.Answers ls told → ⊥) → (frames.Answers vs told → ⊥) → (kits.Answers us told → ⊥)
-    → (schedules.Answers ss told → ⊥) → (nodes.Answers ns told → ⊥) → Answers line told → ⊥
-none line told ws ls vs us ss ns e l f g h k one two three four five six (inl a) = one (subst (λ w. signatures.Answers w told) (sym e) a)
-none line told ws ls vs us ss ns e l f g h k one two three four five six (inr (inl a)) = two (subst (λ w. levels.Answers w told) (sym l) a)
-none line told ws ls vs us ss ns e l f g h k one two three four five six (inr (inr (inl a))) = three
-    (subst (λ w. frames.Answers w told) (sym f) a)
-none line told ws ls vs us ss ns e l f g h k one two three four five six (inr (inr (inr (inl a)))) = four
-    (subst (λ w. kits.Answers w told) (sym g) a)
-none line told ws ls vs us ss ns e l f g h k one two three four five six (inr (inr (inr (inr (inl a))))) = five
-    (subst (λ w. schedules.Answers w told) (sym h) a)
-none line told ws ls vs us ss ns e l f g h k one two three four five six (inr (inr (inr (inr (inr a))))) = six
-    (subst (λ w. nodes.Answers w told) (sym k) a)
+    → (schedules.Answers ss told → ⊥) → (nodes.Answers ns told → ⊥) → (pools.Answers ps told → ⊥) → Answers line told → ⊥
+none line told ws ls vs us ss ns ps e l f g h k m one two three four five six seven (inl a) =
+    one (subst (λ w. signatures.Answers w told) (sym e) a)
+none line told ws ls vs us ss ns ps e l f g h k m one two three four five six seven (inr (inl a)) =
+    two (subst (λ w. levels.Answers w told) (sym l) a)
+none line told ws ls vs us ss ns ps e l f g h k m one two three four five six seven (inr (inr (inl a))) =
+    three (subst (λ w. frames.Answers w told) (sym f) a)
+none line told ws ls vs us ss ns ps e l f g h k m one two three four five six seven (inr (inr (inr (inl a)))) =
+    four (subst (λ w. kits.Answers w told) (sym g) a)
+none line told ws ls vs us ss ns ps e l f g h k m one two three four five six seven (inr (inr (inr (inr (inl a))))) =
+    five (subst (λ w. schedules.Answers w told) (sym h) a)
+none line told ws ls vs us ss ns ps e l f g h k m one two three four five six seven (inr (inr (inr (inr (inr (inl a)))))) =
+    six (subst (λ w. nodes.Answers w told) (sym k) a)
+none line told ws ls vs us ss ns ps e l f g h k m one two three four five six seven (inr (inr (inr (inr (inr (inr a)))))) =
+    seven (subst (λ w. pools.Answers w told) (sym m) a)
 
 -- ---- a number for each kind of question
 
@@ -42,7 +48,7 @@ abbrev second_letter : List ℕ → ℕ
 second_letter [] = 0
 second_letter (letter ∷ word) = first_letter word
 
--- what begins with `verify lms`, with `lms`, `hss`, `frame`, `statement`, `kit`, `schedule`, `journal` and `datagram`
+-- what begins with `verify lms`, with `lms`, `hss`, `frame`, `statement`, `kit`, `schedule`, `journal`, `datagram` and `pool`
 of_words : List ℕ → List ℕ → ℕ
 of_words first second =
     if first_letter first == 118 then (if first_letter second == 108 then 0 else 1)
@@ -52,12 +58,13 @@ of_words first second =
     else if first_letter first == 107 then 3
     else if first_letter first == 106 then 5
     else if first_letter first == 100 then 5
+    else if first_letter first == 112 then 6
     else if second_letter first == 116 then 2
     else 4
 
 number : List (List ℕ) → ℕ
-number [] = 6
-number (first ∷ []) = 6
+number [] = 7
+number (first ∷ []) = 7
 number (first ∷ second ∷ words) = of_words first second
 
 asks_signature : (ws : List (List ℕ)) (x : List ℕ) → signatures.Answers ws x → number ws ≡ 0
@@ -106,6 +113,13 @@ asks_node ws x a = of a.question a.asked
     of (nodes.OfJournal bytes) is = ap number is
     of (nodes.OfDatagram key bytes) is = ap number is
 
+asks_pool : (ws : List (List ℕ)) (x : List ℕ) → pools.Answers ws x → number ws ≡ 6
+unfolding number of_words
+asks_pool ws x a = of a.question a.asked
+  where
+    of : (q : pools.Question) → ws ≡ pools.spelled q → number ws ≡ 6
+    of (pools.OfPool view members counts frame) is = ap number is
+
 -- ---- one answer
 
 -- what answers has this number, or a later one
@@ -131,8 +145,11 @@ module _ (P Q : List (List ℕ) → List ℕ → Type 0) (n m : ℕ) (is : IsKin
   both_later ws x (inl a) = omega (arith, is ws x a, less)
   both_later ws x (inr b) = omega (arith, later ws x b, less)
 
+abbrev From5 : List (List ℕ) → List ℕ → Type 0
+From5 ws x = nodes.Answers ws x ⊎ pools.Answers ws x
+
 abbrev From4 : List (List ℕ) → List ℕ → Type 0
-From4 ws x = schedules.Answers ws x ⊎ nodes.Answers ws x
+From4 ws x = schedules.Answers ws x ⊎ From5 ws x
 
 abbrev From3 : List (List ℕ) → List ℕ → Type 0
 From3 ws x = kits.Answers ws x ⊎ From4 ws x
@@ -143,11 +160,14 @@ From2 ws x = frames.Answers ws x ⊎ From3 ws x
 abbrev From1 : List (List ℕ) → List ℕ → Type 0
 From1 ws x = levels.Answers ws x ⊎ From2 ws x
 
-last : IsFrom nodes.Answers 4
-last ws x a = omega (arith, asks_node ws x a)
+last : IsFrom pools.Answers 5
+last ws x a = omega (arith, asks_pool ws x a)
+
+later4 : IsFrom From5 4
+later4 = both_later nodes.Answers pools.Answers 4 5 asks_node last (omega arith)
 
 later3 : IsFrom From4 3
-later3 = both_later schedules.Answers nodes.Answers 3 4 asks_schedule last (omega arith)
+later3 = both_later schedules.Answers From5 3 4 asks_schedule later4 (omega arith)
 
 later2 : IsFrom From3 2
 later2 = both_later kits.Answers From4 2 3 asks_kit later3 (omega arith)
@@ -158,8 +178,11 @@ later1 = both_later frames.Answers From3 1 2 asks_frame later2 (omega arith)
 later0 : IsFrom From1 0
 later0 = both_later levels.Answers From2 0 1 asks_levels later1 (omega arith)
 
+one5 : HasOne From5
+one5 = both_one nodes.Answers pools.Answers 5 asks_node last of_nodes.one_answer of_pools.one_answer
+
 one4 : HasOne From4
-one4 = both_one schedules.Answers nodes.Answers 4 asks_schedule last of_schedules.one_answer of_nodes.one_answer
+one4 = both_one schedules.Answers From5 4 asks_schedule later4 of_schedules.one_answer one5
 
 one3 : HasOne From3
 one3 = both_one kits.Answers From4 3 asks_kit later3 of_kits.one_answer one4

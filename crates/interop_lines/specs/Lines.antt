@@ -7,6 +7,7 @@ use Rattle.interop_frames.specs.Frames as frames
 use Rattle.interop_kits.specs.Kits as kits
 use Rattle.interop_schedules.specs.Schedules as schedules
 use Rattle.interop_node.specs.Questions as nodes
+use Rattle.interop_pool.specs.Questions as pools
 
 -- the line's words are those of a question, and this is what is answered
 abbrev pub Answers : List ℕ → List ℕ → Type 0
@@ -14,6 +15,7 @@ Answers line told =
     signatures.Answers (words_of line) told ⊎ levels.Answers (words_of line) told ⊎ frames.Answers (words_of line) told
     ⊎ kits.Answers (words_of line) told
     ⊎ schedules.Answers (words_of line) told ⊎ nodes.Answers (words_of line) told
+    ⊎ pools.Answers (words_of line) told
 
 -- no line has two answers
 abbrev pub OneAnswer : Type 0

@@ -5,6 +5,7 @@ use interop_frames::answer_frames;
 use interop_kits::answer_kits;
 use interop_levels::answer_levels;
 use interop_node::answer_nodes;
+use interop_pool::answer_pools;
 use interop_schedules::answer_schedules;
 use interop_signatures::answer_signatures;
 use interop_words::{LineFault, words_of};
@@ -24,6 +25,7 @@ use std::alloc::Global;
 /// | `schedule HEX` | what the bytes say as a schedule: `schedule HEX`, the schedule spelled again from what was read; or its fault and place (docs/FORMATS.md, «Schedules»): `WORD PLACE` |
 /// | `journal HEX` | what the bytes say as a journal, whose header may be that of any group, processes and digest: `journal LIMIT`, by its magic 1 or 16, and for each entry before the first closed gate ` entry PROCESS EVENT SPENT` and its signatures, each behind a space; or `entry PLACE`, the place of an open gate behind which no whole entry and next gate stand; or `notajournal` (docs/FORMATS.md, «Journals»). EVENT is `submit HEX`, `frame FROM HEX`, `suspect P`, `join P`, `renew` or `tick`, and SPENT 0 or 1 |
 /// | `datagram KEY HEX` | what process 2 of the group 000102..0f opens of the bytes as a datagram, which shares the key of 32 bytes with process 1: `opened FROM FRAME`, or the word of their first fault (docs/FORMATS.md, «Datagrams»): `short`, `magic`, `othergroup`, `notforme`, `unknownpeer` or `badtag` |
+/// | `pool VIEW MEMBERS COUNTS FRAME` | what a process hears of the claims of a frame, one after the other, in the view of the number VIEW (0 to 1,023) and of MEMBERS, a byte each in rank order, after it has delivered as many messages of each member as its byte of COUNTS says, message l at place l (docs/FORMATS.md, «Questions of one line») |
 ///
 /// Words stand between single spaces. Bytes are in lower-case hexadecimal, or `-` where there are none; I has 16 bytes and
 /// SEED 32. Numbers are decimal, without sign or leading zero. `NoQuestion` comes exactly where the line is none of these.
@@ -37,7 +39,10 @@ pub fn answer(alloc: Global, line: &[u8]) -> Result<Vec<u8>, LineFault>
             Err(LineFault::NoQuestion) => match answer_frames(alloc, &words) {
                 Err(LineFault::NoQuestion) => match answer_kits(alloc, &words) {
                     Err(LineFault::NoQuestion) => match answer_schedules(alloc, &words) {
-                        Err(LineFault::NoQuestion) => answer_nodes(alloc, &words),
+                        Err(LineFault::NoQuestion) => match answer_nodes(alloc, &words) {
+                            Err(LineFault::NoQuestion) => answer_pools(alloc, &words),
+                            answered => answered,
+                        },
                         answered => answered,
                     },
                     answered => answered,

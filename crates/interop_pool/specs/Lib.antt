@@ -1,0 +1,3 @@
+pub mod Hearers
+pub mod Telling
+pub mod Questions

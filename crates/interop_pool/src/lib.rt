@@ -1,0 +1,9 @@
+//! Questions on what a pool hears: the verdict on each claim of a frame, and what is counted and certified then.
+#![tactic(auto)]
+
+mod hearers;
+mod hearing;
+mod questions;
+mod telling;
+
+pub use questions::answer_pools;
