@@ -220,7 +220,8 @@ AREAS = {
     "a run shown": (348, 20, 2, "picture_defs story_words story_telling story_trace story_picture story_cli story"),
     "beside other implementations": (
         348, 203, 2,
-        "interop_words interop_signatures interop_levels interop_frames interop_kits interop_schedules interop_node interop_lines interop",
+        "interop_words interop_signatures interop_levels interop_frames interop_kits interop_schedules interop_node interop_pool interop_lines"
+        " interop",
     ),
     "schedules and stories": (
         348, 413, 2,
@@ -229,9 +230,9 @@ AREAS = {
     ),
     "frames and statements": (348, 777, 2, "frame_codec statements stmt_codec"),
     "the outside": (348, 1013, 2, "rp_base rp_devices net_edge file_disk udp_link"),
-    "how fast": (676, 20, 2, "bench_parts bench_lms bench_frames bench_schedules bench_journal bench_link bench_pool bench_core bench_replay"),
+    "how fast": (676, 20, 2, "bench_lms bench_frames bench_schedules bench_journal bench_link bench_pool bench_core bench_replay"),
     "kits and words": (676, 413, 2, "text_codec kit_file kit_lines kit_draft kit_reading kit_making command_line"),
-    "signatures": (676, 622, 2, "lms_ots lms_tree lms_hss sig_scheme"),
+    "signatures": (676, 622, 2, "lms_ots lms_tree lms_hss sig_scheme bench_parts"),
     "links and journals": (676, 777, 2, "link_defs auth_link journal_defs journal_disk journal_entries journal_rp"),
 }
 
@@ -247,6 +248,7 @@ LINES = {
     ("laws and rows", "definitions"): [(172, 1159), (172, 1195)],
     ("a run shown", "a replay"): [(348, 155), (324, 155)],
     ("beside other implementations", "schedules and stories"): [(500, 376), (500, 413)],
+    ("beside other implementations", "what is heard"): [(348, 300), (342, 300), (342, 800), (324, 800)],
     ("beside other implementations", "links and journals"): [(652, 369), (996, 369), (996, 830), (980, 830)],
     ("how fast", "a replay"): [(676, 40), (664, 40), (664, 8), (332, 8), (332, 150), (324, 150)],
     ("how fast", "links and journals"): [(980, 66), (996, 66), (996, 830), (980, 830)],
