@@ -58,7 +58,9 @@ one_more sch old new told one e es m happens is =
     record {
       world = step.0;
       leads = sym (ap (ends_from sch.header es) step.1) ∙ (sym (first_event sch.header m.world e es) ∙ m.leads);
-      tells = append_assoc told (one ∷ []) (run_tells sch.header step.0 es) ∙ ap (λ (x : List (List Happening)). told ++ x) (sym rest) ∙ m.tells;
+      tells = append_assoc told (one ∷ []) (run_tells sch.header step.0 es)
+          ∙ ap (λ (x : List (List Happening)). told ++ x) (sym rest)
+          ∙ m.tells;
       shows = step.2;
       events = m.events.1;
     }
@@ -90,7 +92,8 @@ at_end sch w told m = record {
 }
 
 -- the next event stops the run
-pub too_early : (sch : Schedule) (w : World) (told : List (List Happening)) (e : ScheduleEvent) (es : List ScheduleEvent) (fault : WorldFault)
+pub too_early : (sch : Schedule) (w : World) (told : List (List Happening)) (e : ScheduleEvent) (es : List ScheduleEvent)
+    (fault : WorldFault)
     → Midway sch w told (e ∷ es)
     → ((v : plain.World) → Shows sch.header w v → IsEvent sch.header.processes e → after_event sch.header v e ≡ Err fault)
     → Ended sch told (Some fault)

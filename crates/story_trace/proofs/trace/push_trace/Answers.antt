@@ -1,4 +1,4 @@
-use Rattle.std.proofs.Common.{List, ap, ◌∙◌, ◌++◌, map, length}
+use Rattle.std.proofs.Common.{ℕ, List, ap, ◌∙◌, ◌++◌, map, length}
 use Rattle.std.specs.Prelude.{Vec, option_map}
 use Rattle.std.specs.List.{flat_map}
 use Rattle.std.specs.declared.alloc.Global.{Global}
@@ -23,10 +23,12 @@ returns c =
     let told = map in_event c.args.told.now in
     let n = length c.args.told.now in
     let stop = option_map stopped c.args.stop in
+    let cast : List ℕ = c.push_cast.new.out.items in
+    let so_far : List ℕ = c.push_events.new.out.items in
     three_of line_text (cast_lines sch.header) (told_lines sch.events told) (stop_lines sch.events n stop) c.args.out.now.items
-    c.push_cast.new.out.items c.push_events.new.out.items c.push_stop.new.out.items
+    cast so_far c.push_stop.new.out.items
     c.in_ok-push_cast.ensures
     (c.in_ok-push_events.ensures ∙ ap
-    (λ (es : List ScheduleEvent). c.push_cast.new.out.items ++ flat_map line_text (told_lines (map event es) told)) c.deref.ensures.value)
+    (λ (es : List ScheduleEvent). cast ++ flat_map line_text (told_lines (map event es) told)) c.deref.ensures.value)
     (c.in_ok-push_stop.ensures ∙ ap
-    (λ (es : List ScheduleEvent). c.push_events.new.out.items ++ flat_map line_text (stop_lines (map event es) n stop)) c.deref-2.ensures.value)
+    (λ (es : List ScheduleEvent). so_far ++ flat_map line_text (stop_lines (map event es) n stop)) c.deref-2.ensures.value)
