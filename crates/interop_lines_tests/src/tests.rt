@@ -37,6 +37,9 @@ fn each_line_is_answered_until_one_is_no_question(rt: HostRuntime) -> Result<(),
             0,
         ),
         (b"datagram 00 52\n", b"stop 7 line 1\n", 7),
+        (b"pool 0 0001 00 -\n", b"noview\n", 0),
+        (b"pool 0 00 00 02\n", b"version\n", 0),
+        (b"pool 1024 00 00 -\n", b"stop 7 line 1\n", 7),
     ] {
         let (status, sink) = run(rt.alloc(), input, &[], &[])?;
         assert_eq!(rt; sink.bytes(), output);
