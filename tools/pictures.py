@@ -215,7 +215,7 @@ AREAS = {
     "definitions": (20, 1085, 6, "byte_defs signature_defs message_defs text_defs group_defs kit_defs replay_defs"),
     "beside other implementations": (
         348, 20, 2,
-        "interop_words interop_signatures interop_levels interop_frames interop_kits interop_schedules interop_node interop_lines interop",
+        "interop_words interop_signatures interop_levels interop_frames interop_kits interop_schedules interop_node interop_pool interop_lines interop",
     ),
     "schedules and stories": (
         348, 303, 2,
@@ -240,8 +240,7 @@ LINES = {
     ("what is heard", "laws and rows"): [(172, 867), (172, 903)],
     ("what is heard", "frames and statements"): [(324, 713), (348, 713)],
     ("laws and rows", "definitions"): [(172, 1049), (172, 1085)],
-    ("beside other implementations", "schedules and stories"): [(500, 193), (500, 303)],
-    ("beside other implementations", "links and journals"): [(652, 186), (996, 186), (996, 720), (980, 720)],
+    ("beside other implementations", "how fast"): [(652, 66), (676, 66)],
     ("how fast", "a replay"): [(676, 40), (664, 40), (664, 8), (332, 8), (332, 150), (324, 150)],
     ("how fast", "links and journals"): [(980, 66), (996, 66), (996, 720), (980, 720)],
     ("schedules and stories", "kits and words"): [(652, 376), (676, 376)],

@@ -68,7 +68,8 @@ counts [] (c ∷ cs) e distinct = absurd (omega (arith, e))
 counts (m ∷ ms) [] e distinct = absurd (omega (arith, e))
 counts (m ∷ ms) (c ∷ cs) e distinct =
     let others : All (λ k. m ≢ k) ms = λ k d lt. distinct 0 (suc k) d (omega arith) (omega (arith, lt)) in
-    let first : delivered_from m (first_messages m c ++ delivered_of ms cs) ≡ c = sum_by-append (one-of m) (first_messages m c) (delivered_of ms cs)
+    let first : delivered_from m (first_messages m c ++ delivered_of ms cs) ≡ c =
+    sum_by-append (one-of m) (first_messages m c) (delivered_of ms cs)
     ∙ (λ i. of-itself m c i + of-none m ms cs (λ k d lt is. others k d lt (sym is)) i) ∙ omega arith in
     let rest = same-on (λ k. delivered_from k (first_messages m c ++ delivered_of ms cs)) (λ k. delivered_from k (delivered_of ms cs))
     (λ k. m ≢ k) ms others (λ k other. sum_by-append (one-of k) (first_messages m c) (delivered_of ms cs)

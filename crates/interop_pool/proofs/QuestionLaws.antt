@@ -34,11 +34,13 @@ five _ d verb more less is = absurd (omega (arith, more))
 pub five_words : (ws : List (Bor (List ℕ))) (d : Bor (List ℕ)) (b verb : List ℕ) (r : Bool) → 5 ≤ length ws → length ws < 6
     → r ≡ pointwise nat_eq (get_or ws 0 d).now b → r ≡ true → b ≡ verb
     → map (λ w. w.now) ws ≡ verb ∷ (get_or ws 1 d).now ∷ (get_or ws 2 d).now ∷ (get_or ws 3 d).now ∷ (get_or ws 4 d).now ∷ []
-five_words ws d b verb r more less e passes is = five ws d verb more less ((bytes_eq-Decides (get_or ws 0 d).now b).0 (sym e ∙ passes) ∙ is)
+five_words ws d b verb r more less e passes is =
+    five ws d verb more less ((bytes_eq-Decides (get_or ws 0 d).now b).0 (sym e ∙ passes) ∙ is)
 
 -- ---- one answer
 
-one_said : (number : ℕ) (members counts frame x y : List ℕ) → Says number members counts frame x → Says number members counts frame y → x ≡ y
+one_said : (number : ℕ) (members counts frame x y : List ℕ) → Says number members counts frame x → Says number members counts frame y
+    → x ≡ y
 one_said number members counts frame x y (inl a) (inl b) = a.1 ∙ sym b.1
 one_said number members counts frame x y (inl a) (inr b) = absurd (b.0 a.0)
 one_said number members counts frame x y (inr a) (inl b) = absurd (a.0 b.0)
