@@ -16,26 +16,26 @@ pub same_slot_key-is : (a b : SlotKey) → same_slot_key a b ≡ true → a ≡ 
 same_slot_key-is a b e =
     let rest = and-second _ _ e in
     let rest2 = and-second _ _ rest in
-    let kind : a.kind ≡ b.kind = eqb-true _ _ (and-first _ _ e) in
+    let view : a.view ≡ b.view = eqb-true _ _ (and-first _ _ e) in
     let first : a.first ≡ b.first = eqb-true _ _ (and-first _ _ rest) in
-    let view : a.view ≡ b.view = eqb-true _ _ (and-first _ _ rest2) in
+    let kind : a.kind ≡ b.kind = eqb-true _ _ (and-first _ _ rest2) in
     let second : a.second ≡ b.second = eqb-true _ _ (and-second _ _ rest2) in
     λ i. record { kind = kind i; first = first i; view = view i; second = second i }
 
 pub is-same_slot_key : (a b : SlotKey) → a ≡ b → same_slot_key a b ≡ true
 is-same_slot_key a b e =
-    both-true _ _ (eq-eqb _ _ (ap (λ (k : SlotKey). k.kind) e))
+    both-true _ _ (eq-eqb _ _ (ap (λ (k : SlotKey). k.view) e))
     (both-true _ _ (eq-eqb _ _ (ap (λ (k : SlotKey). k.first) e))
-    (both-true _ _ (eq-eqb _ _ (ap (λ (k : SlotKey). k.view) e)) (eq-eqb _ _ (ap (λ (k : SlotKey). k.second) e))))
+    (both-true _ _ (eq-eqb _ _ (ap (λ (k : SlotKey). k.kind) e)) (eq-eqb _ _ (ap (λ (k : SlotKey). k.second) e))))
 
 pub same_key-is : (a b : Key) → same_key a b ≡ true → a ≡ b
 same_key-is a b e =
-    let signer : a.signer ≡ b.signer = eqb-true _ _ (and-first _ _ e) in
-    let slot : a.slot ≡ b.slot = same_slot_key-is a.slot b.slot (and-second _ _ e) in
+    let slot : a.slot ≡ b.slot = same_slot_key-is a.slot b.slot (and-first _ _ e) in
+    let signer : a.signer ≡ b.signer = eqb-true _ _ (and-second _ _ e) in
     λ i. record { signer = signer i; slot = slot i }
 
 pub is-same_key : (a b : Key) → a ≡ b → same_key a b ≡ true
-is-same_key a b e = both-true _ _ (eq-eqb _ _ (ap (λ (k : Key). k.signer) e)) (is-same_slot_key a.slot b.slot (ap (λ (k : Key). k.slot) e))
+is-same_key a b e = both-true _ _ (is-same_slot_key a.slot b.slot (ap (λ (k : Key). k.slot) e)) (eq-eqb _ _ (ap (λ (k : Key). k.signer) e))
 
 -- the slot again
 slot_again : SlotKey → Option Slot

@@ -35,8 +35,8 @@ key_of signer s = record { signer = signer; slot = slot_key s }
 
 -- all numbers are equal
 abbrev pub same_slot_key : SlotKey → SlotKey → Bool
-same_slot_key a b = a.kind == b.kind && (a.first == b.first && (a.view == b.view && a.second == b.second))
+same_slot_key a b = a.view == b.view && (a.first == b.first && (a.kind == b.kind && a.second == b.second))
 
 -- of one signer, and of one slot
 abbrev pub same_key : Key → Key → Bool
-same_key a b = a.signer == b.signer && same_slot_key a.slot b.slot
+same_key a b = same_slot_key a.slot b.slot && a.signer == b.signer

@@ -13,10 +13,12 @@ ghost use Rattle.byte_defs.specs.Orders.{sorted};
 ghost use Rattle.claim_index.specs.Keys.{slot_key, same_key};
 ghost use Rattle.claim_index.specs.Kept.{by_number, past, middle, spelled, claim_with, claim_bytes, statement_bytes, empty_pool, with_heard, is_kind_heard, AreKept};
 
+use crate::hasher::KeyHasher;
 use crate::key::{Key, SlotKey, slot_key_at, slot_key_of};
 use indexmap::IndexMap;
 use rp_base::{NoMemory, Pid, PidSet};
 use std::alloc::Global;
+use std::hash::BuildHasherDefault;
 use std::marker::Model;
 use stmt_codec::{Claim, STATEMENT_BYTES, Slot, Statement, read_statement, spell_into};
 use view_table::{View, quorum};
@@ -38,7 +40,7 @@ const KIND_NUMBERS: usize = 12;
 pub struct ClaimIndex {
     view: View,
     bytes: Vec<u8>,
-    kept: IndexMap<Key, Kept>,
+    kept: IndexMap<Key, Kept, BuildHasherDefault<KeyHasher>>,
     kinds: [bool; KIND_NUMBERS],
 }
 
@@ -60,7 +62,7 @@ impl Model for ClaimIndex {
 }
 
 // The entry under this key.
-fn find(kept: &IndexMap<Key, Kept>, key: &Key) -> Option<Kept>
+fn find(kept: &IndexMap<Key, Kept, BuildHasherDefault<KeyHasher>>, key: &Key) -> Option<Kept>
     ensures { result ≡ lookup (same_key key.now) kept.now.entries }
 {
     kept.get(key).copied()
@@ -87,7 +89,7 @@ pub fn lent(bytes: &[u8], signer: Pid, kept: Kept) -> Claim<'_>
 // The claim under this key of the signer.
 fn claim_under<'a>(
     bytes: &'a [u8],
-    kept: &IndexMap<Key, Kept>,
+    kept: &IndexMap<Key, Kept, BuildHasherDefault<KeyHasher>>,
     signer: Pid,
     key: Key,
 ) -> Option<Claim<'a>>
@@ -160,7 +162,7 @@ impl ClaimIndex {
         ClaimIndex {
             view,
             bytes: Vec::new(alloc),
-            kept: IndexMap::new(alloc),
+            kept: IndexMap::with_hasher(alloc, BuildHasherDefault::new()),
             kinds: [false; KIND_NUMBERS],
         }
     }

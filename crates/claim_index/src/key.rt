@@ -11,17 +11,17 @@ use stmt_codec::{Slot, Statement};
 /// A kind and a slot of that kind, by their numbers: a Message has its sender first, an Update its tag, others 0.
 #[derive(Clone, Copy, Debug, PartialEq, Eq, Hash)]
 pub struct SlotKey {
-    kind: u8,
-    first: u8,
     view: u16,
+    first: u8,
+    kind: u8,
     second: u16,
 }
 
 /// What a claim is found by: its signer and its slot.
 #[derive(Clone, Copy, Debug, PartialEq, Eq, Hash)]
 pub struct Key {
-    signer: Pid,
     slot: SlotKey,
+    signer: Pid,
 }
 
 impl Key {

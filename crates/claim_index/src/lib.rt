@@ -2,8 +2,10 @@
 //! vector, and a map in order of hearing says where those of each stand; contents are compared by their bytes.
 #![tactic(auto)]
 
+mod hasher;
 mod index;
 mod key;
 
+pub use hasher::KeyHasher;
 pub use index::{ClaimIndex, Kept, lent, store};
 pub use key::{Key, SlotKey, slot_key_at, slot_key_of};

@@ -1,3 +1,4 @@
+mod Keyed
 pub mod Joining
 pub mod Hearing
 pub mod Asking

@@ -59,6 +59,11 @@ IsOf h s c = MatchOption c (IsSilent h s) (IsCell h s)
 abbrev pub AreCells : Pool → List (SlotKey × Cell) → Type 0
 AreCells h cs = (s : Slot) → IsOf h s (lookup (same_slot_key (slot_key s)) cs)
 
+-- the entry of this key is at this place, or there is none
+abbrev pub StandsAt : List (SlotKey × Cell) → SlotKey → Option ℕ → Type 0
+StandsAt cs key at = MatchOption at (lookup (same_slot_key key) cs ≡ None)
+    (λ i. (c : Cell) × (slice_get cs i ≡ Some (key, c)) × (lookup (same_slot_key key) cs ≡ Some c))
+
 -- what is certified on the slot, if there is such a slot: where a cell is found it has that content, and else nothing is
 abbrev pub IsCertifiedBy : Pool → Option Slot → Option Cell → Type 0
 IsCertifiedBy h s c = MatchOption c (option_and_then (certified_on h) s ≡ None)

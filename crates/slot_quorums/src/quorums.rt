@@ -10,23 +10,27 @@ ghost use Rattle.group_defs.specs.Certified as defs;
 ghost use Rattle.stmt_codec.specs.Views.{stmt, slot, claim, claim as claim_of};
 ghost use Rattle.claim_index.specs.Keys.{same_slot_key};
 ghost use Rattle.claim_index.specs.Kept.{by_number, claim_bytes, empty_pool, with_heard};
-ghost use Rattle.slot_quorums.specs.Cells.{IsCertifiedBy};
+ghost use Rattle.slot_quorums.specs.Cells.{IsCertifiedBy, StandsAt};
 
 use crate::cell::{Cell, cell_with};
-use claim_index::{ClaimIndex, SlotKey, slot_key_at, slot_key_of};
+use claim_index::{ClaimIndex, KeyHasher, SlotKey, slot_key_at, slot_key_of};
 use indexmap::IndexMap;
 use rp_base::{NoMemory, Pid, PidSet};
 use std::alloc::Global;
+use std::hash::BuildHasherDefault;
 use std::marker::Model;
 use stmt_codec::{Claim, STATEMENT_BYTES, Slot, Statement, spell_into};
 use view_table::{View, quorum};
+
+// A cell for each slot, found by the slot's key.
+type Cells = IndexMap<SlotKey, Cell, BuildHasherDefault<KeyHasher>>;
 
 /// The heard claims of a view, and a cell for each slot on which one is heard. Members are counted where a claim says something else
 /// than its slot's cell, and else nowhere.
 #[derive(Drop)]
 pub struct Quorums {
     claims: ClaimIndex,
-    cells: IndexMap<SlotKey, Cell>,
+    cells: Cells,
 }
 
 impl Model for Quorums {
@@ -47,22 +51,52 @@ impl Model for Quorums {
 }
 
 // What is heard on the slot.
-fn cell_at(cells: &IndexMap<SlotKey, Cell>, key: &SlotKey) -> Option<Cell>
+fn cell_at(cells: &Cells, key: &SlotKey) -> Option<Cell>
     ensures { result ≡ lookup (same_slot_key key.now) cells.now.entries }
 {
     cells.get(key).copied()
 }
 
-// Puts the cell in the place of what the slot had.
-fn put(cells: &mut IndexMap<SlotKey, Cell>, key: SlotKey, cell: Cell)
-    requires { 0 < spare cells.old }
+// Where the slot's cell stands among the cells.
+fn place_of(cells: &Cells, key: &SlotKey) -> Option<usize>
+    ensures { StandsAt cells.now.entries key.now result }
+{
+    match cells.get_full(key) {
+        Some((place, _, _)) => Some(place),
+        None => None,
+    }
+}
+
+// The slot's cell, by where it stands.
+fn cell_there(cells: &Cells, key: &SlotKey, at: Option<usize>) -> Option<Cell>
+    requires { StandsAt cells.now.entries key.now at }
+    ensures { result ≡ lookup (same_slot_key key.now) cells.now.entries }
+{
+    match cells.get_index(at?) {
+        Some((_, cell)) => Some(*cell),
+        None => None,
+    }
+}
+
+// Puts the cell in the place of the slot's, or behind all others where it has none.
+fn put(cells: &mut Cells, key: SlotKey, at: Option<usize>, cell: Cell)
+    requires spare { 0 < spare cells.old }
+    requires at { StandsAt cells.old.entries key at }
     ensures looks { (k : SlotKey) → lookup (same_slot_key k) cells.new.entries
         ≡ cond (same_slot_key key k) (Some cell) (lookup (same_slot_key k) cells.old.entries) }
     ensures room { spare cells.old ≤ spare cells.new + 1 }
 {
-    let Ok(_) = cells.insert(key, cell) else {
-        unreachable!()
-    };
+    match at {
+        Some(place) => {
+            let (_, kept) = cells.pair_mut(place);
+            *kept = cell;
+        }
+        None => {
+            let Ok(_) = cells.insert(key, cell) else {
+                unreachable!()
+            };
+        }
+    }
 }
 
 // Whether a quorum says the cell's content.
@@ -81,7 +115,7 @@ impl Quorums {
     {
         Quorums {
             claims: ClaimIndex::new(alloc, view),
-            cells: IndexMap::new(alloc),
+            cells: IndexMap::with_hasher(alloc, BuildHasherDefault::new()),
         }
     }
 
@@ -201,13 +235,14 @@ impl Quorums {
         ensures bytes_left { self.old.bytes_left ≤ self.new.bytes_left + claim_bytes (claim_of claim.now) }
     {
         let key = slot_key_of(&claim.statement);
-        let was = cell_at(&self.cells, &key);
+        let at = place_of(&self.cells, &key);
+        let was = cell_there(&self.cells, &key, at);
         let (place, _) = self.claims.size();
         let _number = self.claims.view().number();
         let mut spelled = [0; STATEMENT_BYTES];
         let said = spell_into(&claim.statement, &mut spelled);
         self.claims.add(claim, key, &spelled[..said]);
         let cell = cell_with(&self.claims, was, place, claim, &spelled[..said]);
-        put(&mut self.cells, key, cell);
+        put(&mut self.cells, key, at, cell);
     }
 }

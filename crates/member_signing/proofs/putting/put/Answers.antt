@@ -7,6 +7,7 @@ use Rattle.group_defs.specs.Views.{View}
 use Rattle.group_defs.specs.Process.{Pool}
 use Rattle.group_defs.specs.Due.{may_sign}
 use Rattle.group_defs.specs.Signing.{own_claim, signs}
+use Rattle.stmt_codec.specs.Views.{claim}
 use Rattle.own_place.specs.Owns.{Tells}
 use Rattle.own_place.specs.declared.own.Own.{Own}
 use Rattle.view_phases.specs.Phases.{IsIn}
@@ -48,7 +49,7 @@ pub note-requires-clause-fresh : goal.note-requires-clause-fresh
 note-requires-clause-fresh c = ∥∥₁_elim c.requires.owed.signer (hlevel props) (λ r.
     let same = c.read_own-claim.ensures.only (own_claim r.setting (λ (used : ℕ) (body : List ℕ). c.args.own.now.signature) r.process r.said)
     (due_is_in_range r.setting r.process r.said r.state.lawful r.may) r.own in
-    fresh r.setting r.process c.args.state.now.pool.pool c.args.state.now.own _ r.state.place
+    fresh r.setting r.process c.args.state.now.pool.pool c.args.state.now.own (claim c.read_own-claim.result).statement r.state.place
     (subst (λ (st : Statement). may_sign r.setting r.process st ≡ true) (sym (ap (λ (d : Claim). d.statement) same)) r.may))
 
 pub keep-requires : goal.keep-requires

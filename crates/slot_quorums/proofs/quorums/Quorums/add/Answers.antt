@@ -19,9 +19,9 @@ invariant_of-self c =
     let view : IsView c.add.new.self.pool.view = subst (λ (k : Pool). IsView k.view) (sym c.add.ensures.heard)
     (subst IsView c.view.ensures c.number-number.ensures.within.1) in
     let key : c.slot_key_of-key.result ≡ slot_key (plain.slot_of (stmt c.args.claim.now.statement)) = c.slot_key_of-key.ensures in
-    let was : IsOf c.self.inside.claims.pool (plain.slot_of (stmt c.args.claim.now.statement)) c.cell_at-was.result =
+    let was : IsOf c.self.inside.claims.pool (plain.slot_of (stmt c.args.claim.now.statement)) c.cell_there-was.result =
     subst (IsOf c.self.inside.claims.pool (plain.slot_of (stmt c.args.claim.now.statement)))
-    (sym (c.cell_at-was.ensures ∙ ap (λ k. lookup (same_slot_key k) c.self.inside.cells.entries) key))
+    (sym (c.cell_there-was.ensures ∙ ap (λ k. lookup (same_slot_key k) c.self.inside.cells.entries) key))
     (c.self.invariant (plain.slot_of (stmt c.args.claim.now.statement))) in
     all_cells c.self.inside.claims.pool (claim c.args.claim.now) fresh c.add.new.self.pool c.add.ensures.heard view
     (λ k. lookup (same_slot_key k) c.self.inside.cells.entries) (λ k. lookup (same_slot_key k) c.put.new.cells.entries) c.self.invariant

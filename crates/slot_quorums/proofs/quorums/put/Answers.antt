@@ -1,0 +1,11 @@
+use Rattle.std.proofs.Common.{subst}
+use Rattle.indexmap.proofs.CallerLemmas.{updates-with_value_at}
+use Rattle.slot_quorums.specs.Cells.{StandsAt}
+use Rattle.slot_quorums.proofs.Keyed.{key_laws}
+use Rattle.slot_quorums.proofs.quorums.put.Goals as goal
+
+pub returns-in-Some-clause-looks : goal.returns-in-Some-clause-looks
+returns-in-Some-clause-looks c =
+    let there = subst (StandsAt c.args.cells.now.entries c.args.key) c.in-Some.is c.requires.at in
+    (updates-with_value_at c.args.cells.now c.in-Some.place c.args.cell key_laws c.pair_mut-kept.ensures.unique
+    c.args.key there.0 there.1).0
