@@ -228,7 +228,7 @@ AREAS = {
         "schedule_file schedule_fields schedule_header schedule_events schedule_reading schedule_pieces schedule_making"
         " story_defs story_laws story_lines story_statements story_headers story_events story_reading story_writing",
     ),
-    "frames and statements": (348, 777, 2, "frame_codec statements stmt_codec"),
+    "frames and statements": (348, 777, 2, "byte_fields frame_codec statements stmt_codec"),
     "the outside": (348, 1013, 2, "rp_base rp_devices net_edge file_disk udp_link"),
     "how fast": (676, 20, 2, "bench_lms bench_frames bench_schedules bench_journal bench_link bench_pool bench_core bench_replay"),
     "kits and words": (676, 413, 2, "text_codec kit_file kit_lines kit_draft kit_reading kit_making command_line"),

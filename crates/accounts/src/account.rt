@@ -1,9 +1,10 @@
 use rp_base::{Pid, Update};
+use std::mem;
 use stmt_codec::{Delivered, Payload};
 use view_table::View;
 
 /// What a process tells of itself. The definitions' account of it, the word `account` of the specs says.
-#[derive(Debug, Drop)]
+#[derive(Debug)]
 pub struct Account {
     /// The own number.
     pub me: Pid,
@@ -19,4 +20,21 @@ pub struct Account {
 
     /// The updates that it perceived, each with the number of the view: rising, each once.
     pub perceived: Vec<(u16, Update)>,
+}
+
+// Written out, so that whoever drops a value makes one call (docs/CONTRIBUTING.md).
+impl Drop for Account {
+    fn drop(self) {
+        let Account {
+            me: _,
+            views,
+            delivered,
+            accepted,
+            perceived,
+        } = self;
+        mem::drop(views);
+        mem::drop(delivered);
+        mem::drop(accepted);
+        mem::drop(perceived);
+    }
 }

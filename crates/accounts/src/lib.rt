@@ -3,6 +3,8 @@
 #![tactic(auto)]
 
 mod account;
+mod mark;
 
 pub use account::Account;
+pub use mark::AccountMark;
 pub use stmt_codec::{Delivered, Payload};

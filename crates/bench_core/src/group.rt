@@ -20,10 +20,10 @@ struct Waiting {
     frame: Payload,
 }
 
-/// The cores of processes 0, 1, 2 and so on, of which one that steps is taken out; and what happened between them.
+/// The cores of processes 0, 1, 2 and so on, and what happened between them.
 #[derive(Drop)]
 pub(crate) struct Group {
-    cores: Vec<Option<Core<PlainSigner>>>,
+    cores: Vec<Core<PlainSigner>>,
     scheme: Counted<PlainScheme>,
     waiting: VecDeque<Waiting>,
 
@@ -77,7 +77,7 @@ impl Group {
         let members = processes(alloc, members)?;
         let mut cores = Vec::new(alloc);
         for me in &members {
-            cores.push(Some(core_of(alloc, &members, *me)?))?;
+            cores.push(core_of(alloc, &members, *me)?)?;
         }
         Ok(Group {
             cores,
@@ -151,13 +151,12 @@ impl Group {
 
     // A member takes an event.
     fn step(&mut self, member: usize, event: &Event<'_>) -> Result<()> {
-        let Some(core) = take_at(&mut self.cores, member) else {
+        let Some(core) = self.cores.get_mut(member) else {
             return Err(anyhow!("no member"));
         };
-        let Ok((core, outcome)) = core.step(&self.scheme, event) else {
+        let Ok(outcome) = core.step(&self.scheme, event) else {
             return Err(anyhow!("no memory"));
         };
-        put_at(&mut self.cores, member, core);
         self.note(process(member)?, outcome)
     }
 
@@ -176,22 +175,8 @@ impl Group {
     }
 }
 
-// The member's core, taken out.
-fn take_at(cores: &mut [Option<Core<PlainSigner>>], member: usize) -> Option<Core<PlainSigner>> {
-    cores.get_mut(member)?.take()
-}
-
-fn put_at(cores: &mut [Option<Core<PlainSigner>>], member: usize, core: Core<PlainSigner>) {
-    if let Some(seat) = cores.get_mut(member) {
-        *seat = Some(core);
-    }
-}
-
 // How many messages the member has delivered in the first view.
-fn delivered_by(core: &Option<Core<PlainSigner>>) -> usize {
-    let Some(core) = core else {
-        return 0;
-    };
+fn delivered_by(core: &Core<PlainSigner>) -> usize {
     match core.account().delivered.first() {
         Some(delivered) => delivered.len(),
         None => 0,

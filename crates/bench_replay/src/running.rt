@@ -6,19 +6,19 @@ ghost use Rattle.schedule_file.specs.Views as views;
 use anyhow::{Result, anyhow};
 use bench_parts::{Counted, Work};
 use member_core::{Core, Event, Outcome, OwnClaim, Payload, Sending};
-use replay_cast::{Cast, Liar, Player, Seat};
-use rp_base::{GroupId, Pid, PidSet};
+use replay_cast::{Cast, Liar, Player};
+use rp_base::{GroupId, NoMemory, Pid, PidSet};
 use schedule_file::{Schedule, ScheduleEvent};
 use sig_scheme::{AnyScheme, AnySigner};
 use std::alloc::Global;
 use std::collections::VecDeque;
 use stmt_codec::read_statement;
 
-/// A correct process, with None where it stands in the midst of an event.
+/// A correct process.
 #[derive(Drop)]
 struct Process {
     number: Pid,
-    core: Option<Core<AnySigner>>,
+    core: Core<AnySigner>,
 }
 
 /// A frame that was sent.
@@ -55,11 +55,7 @@ pub(crate) struct Run {
 // The processes of these players.
 fn processes_of(alloc: Global, players: Vec<Player>) -> Result<Vec<Process>> {
     let mut all = Vec::new(alloc);
-    for Player { process, seat, .. } in players {
-        let core = match seat {
-            Seat::Taken(core) => Some(core),
-            Seat::Lost => None,
-        };
+    for Player { process, core, .. } in players {
         all.push(Process {
             number: process,
             core,
@@ -89,14 +85,10 @@ fn step(
     let Some(process) = processes.get_mut(place) else {
         return Ok(None);
     };
-    let Some(core) = process.core.take() else {
-        return Err(anyhow!("no memory"));
-    };
-    let Ok((core, outcome)) = core.step(scheme, event) else {
-        return Err(anyhow!("no memory"));
-    };
-    process.core = Some(core);
-    Ok(Some(outcome))
+    match process.core.step(scheme, event) {
+        Ok(outcome) => Ok(Some(outcome)),
+        Err(NoMemory) => Err(anyhow!("no memory")),
+    }
 }
 
 // And these claims.

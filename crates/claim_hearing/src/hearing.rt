@@ -44,8 +44,9 @@ fn bytes_of(claim: &Claim<'_>) -> usize
 // Keeps the claim beside the heard one of its signer and slot, which says something else.
 fn keep_conflict(pool: &Pool, conflicts: &mut Conflicts, claim: &Claim<'_>) -> Result<(), NoMemory>
     requires { IsClaim (claim_of claim.now) }
-    ensures { (p : Process) → IsPool pool.now.pool → p.pool ≡ pool.now.pool → p.conflicts ≡ conflicts.old.pairs
+    ensures kept { (p : Process) → IsPool pool.now.pool → p.pool ≡ pool.now.pool → p.conflicts ≡ conflicts.old.pairs
         → OnOk result (conflicts.new.pairs ≡ defs.kept_conflicts p (claim_of claim.now)) }
+    ensures marked { conflicts.new.marked ≡ conflicts.old.marked }
 {
     let kind = claim.statement.kind();
     let slot = slot_of(&claim.statement);
@@ -74,6 +75,8 @@ fn hear<V: Scheme>(
         → IsPool pool.old.pool → HasDelivered own.now p → p.pool ≡ pool.old.pool → p.conflicts ≡ conflicts.old.pairs
         → OnOk result (IsHeard (defs.hear s p (claim_of claim.now)) pool.new.pool conflicts.new.pairs) }
     ensures view { pool.new.pool.view ≡ pool.old.pool.view }
+    ensures marked { pool.new.marked ≡ pool.old.marked }
+    ensures marked_pairs { conflicts.new.marked ≡ conflicts.old.marked }
 {
     pool.reserve(1, bytes_of(claim))?;
     match pool.take(judge.scheme, judge.roster, judge.group, own, claim) {
@@ -97,6 +100,8 @@ pub fn hear_all<V: Scheme>(
         → IsPool pool.old.pool → HasDelivered own.now p → p.pool ≡ pool.old.pool → p.conflicts ≡ conflicts.old.pairs
         → OnOk result (IsHeard (defs.hear_all s p (claims_left claims.entry)) pool.new.pool conflicts.new.pairs) }
     ensures view { pool.new.pool.view ≡ pool.old.pool.view }
+    ensures marked { pool.new.marked ≡ pool.old.marked }
+    ensures marked_pairs { conflicts.new.marked ≡ conflicts.old.marked }
 {
     let mut left = claims;
     'claims: while let Some(claim) = left.next() {

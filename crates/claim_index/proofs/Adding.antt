@@ -9,14 +9,16 @@ use Rattle.std.proofs.lemmas.List.{take-append-le, drop-append-le, length-drop, 
 use Rattle.message_defs.specs.Spelling.{IsStatement, spelling}
 use Rattle.message_defs.specs.Statements.{Statement, Claim, kind_number, slot_of}
 use Rattle.message_defs.specs.Reading.{statement_of}
+use Rattle.group_defs.specs.Views.{View}
 use Rattle.group_defs.specs.Certified.{claim_on}
 use Rattle.statements.proofs.Grammar.{spelling_again}
 use Rattle.indexmap.specs.IndexMap.{IndexMap, insert_entry}
 use Rattle.indexmap.proofs.CallerLemmas.{insert_entry-new}
 use Rattle.claim_index.specs.declared.key.Key.{Key}
 use Rattle.claim_index.specs.declared.index.Kept.{Kept}
+use Rattle.claim_index.specs.declared.index.Filled.{Filled}
 use Rattle.claim_index.specs.Keys.{key_of, same_key}
-use Rattle.claim_index.specs.Kept.{claim_bytes, spelled, middle, past, statement_bytes, claim_with, claim_at, heard_in, IsKept, AreKept, AreNoted}
+use Rattle.claim_index.specs.Kept.{claim_bytes, spelled, middle, past, statement_bytes, claim_with, claim_at, heard_in, IsKept, AreKept, AreNoted, IsIndex, IsMarkedIndex, pool_of}
 use Rattle.claim_index.proofs.Found.{lookup_is_claim}
 use Rattle.claim_index.proofs.Noted.{kind-below, one-noted}
 
@@ -153,3 +155,28 @@ module _ (bytes : List ℕ) (c : Claim) (k : Kept) (start : k.start ≡ length b
         → AreNoted (slice_set kinds n true) (heard_in now (insert_entry same_key m.entries (key_of c.signer (slot_of c.statement)) k))
     all_noted kinds n is twelve noted = subst (AreNoted (slice_set kinds n true)) (sym all_heard)
         (one-noted kinds (heard_in bytes m.entries) c n (sym is) (omega (arith, is, twelve, kind-below c.statement)) noted)
+
+    same_bytes : (n : ℕ) → n ≤ length bytes → take n now ≡ take n bytes
+    same_bytes n le = take-append-le n bytes (spelling c.statement ++ c.signature) le
+
+    same_entries : (n : ℕ) → n ≤ length m.entries
+        → take n (insert_entry same_key m.entries (key_of c.signer (slot_of c.statement)) k) ≡ take n m.entries
+    same_entries n le = ap (take n) grown ∙ take-append-le n m.entries ((key_of c.signer (slot_of c.statement), k) ∷ []) le
+
+    -- what was there at the mark is there
+    pub all_marked : (were kinds : List Bool) (f : Filled) → IsMarkedIndex bytes m.entries were f
+        → IsIndex now (insert_entry same_key m.entries (key_of c.signer (slot_of c.statement)) k) kinds
+        → IsMarkedIndex now (insert_entry same_key m.entries (key_of c.signer (slot_of c.statement)) k) kinds f
+    all_marked were kinds f was is =
+        let one_more = ap length grown ∙ length-append m.entries ((key_of c.signer (slot_of c.statement), k) ∷ []) in
+        record {
+          now = is;
+          then = rw (same_bytes f.bytes was.few_bytes, same_entries f.claims was.few) was.then;
+          few_bytes = omega (arith, was.few_bytes, length-append bytes (spelling c.statement ++ c.signature));
+          few = omega (arith, was.few, one_more);
+        }
+
+    pub same_marked : (v : View) (f : Filled) → f.bytes ≤ length bytes → f.claims ≤ length m.entries
+        → pool_of v (take f.bytes now) (take f.claims (insert_entry same_key m.entries (key_of c.signer (slot_of c.statement)) k))
+        ≡ pool_of v (take f.bytes bytes) (take f.claims m.entries)
+    same_marked v f few_bytes few = λ i. pool_of v (same_bytes f.bytes few_bytes i) (same_entries f.claims few i)

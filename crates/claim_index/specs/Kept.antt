@@ -1,5 +1,5 @@
 -- How claims are kept: their bytes one behind the other, and by key where a claim's bytes stand among them.
-use Rattle.std.specs.Prelude.{◌≡◌, ℕ, ◌+◌, ◌≤◌, ◌==◌, Bool, false, List, [], ◌∷◌, ◌++◌, length, map, slice_index_or, slice_range, Ok, Err, IsOk}
+use Rattle.std.specs.Prelude.{◌≡◌, ℕ, ◌+◌, ◌≤◌, ◌==◌, Bool, false, List, [], ◌∷◌, ◌++◌, length, map, take, slice_index_or, slice_range, Ok, Err, IsOk}
 use Rattle.std.specs.List.{AllByRecursion, list_any, sum_by}
 use Rattle.message_defs.specs.Statements.{Statement, End, Claim, kind_number, slot_of}
 use Rattle.message_defs.specs.Spelling.{spelling}
@@ -8,6 +8,7 @@ use Rattle.group_defs.specs.Views.{View}
 use Rattle.group_defs.specs.Process.{Pool}
 use Rattle.claim_index.specs.declared.key.Key.{Key}
 use Rattle.claim_index.specs.declared.index.Kept.{Kept}
+use Rattle.claim_index.specs.declared.index.Filled.{Filled}
 use Rattle.claim_index.specs.Keys.{key_of}
 
 -- ---- what contracts see
@@ -16,9 +17,11 @@ use Rattle.claim_index.specs.Keys.{key_of}
 abbrev pub claim_bytes : Claim → ℕ
 claim_bytes c = length (spelling c.statement) + length c.signature
 
--- the view and its heard claims in order; and how many claims more, with how many bytes in all, are heard without memory
+-- the view and its heard claims in order; those that were heard at the mark; and how many claims more, with how many bytes in all, are
+-- heard without memory
 pub record Holding : Type 0 where
   pub pool : Pool
+  pub marked : Pool
   pub claims_left : ℕ
   pub bytes_left : ℕ
 
@@ -97,3 +100,10 @@ pub record IsIndex (bytes : List ℕ) (es : List (Key × Kept)) (kinds : List Bo
   pub kept : AreKept bytes es
   pub filled : length bytes ≡ sum_by claim_bytes (heard_in bytes es)
   pub noted : AreNoted kinds (heard_in bytes es)
+
+-- so it is now; and so it was at the mark, when there were so many bytes and so many entries, from the first on
+pub record IsMarkedIndex (bytes : List ℕ) (es : List (Key × Kept)) (kinds : List Bool) (m : Filled) : Type 0 where
+  pub now : IsIndex bytes es kinds
+  pub then : IsIndex (take m.bytes bytes) (take m.claims es) m.kinds
+  pub few_bytes : m.bytes ≤ length bytes
+  pub few : m.claims ≤ length es

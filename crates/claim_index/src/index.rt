@@ -20,6 +20,7 @@ use rp_base::{NoMemory, Pid, PidSet};
 use std::alloc::Global;
 use std::hash::BuildHasherDefault;
 use std::marker::Model;
+use std::mem;
 use stmt_codec::{Claim, STATEMENT_BYTES, Slot, Statement, read_statement, spell_into};
 use view_table::{View, quorum};
 
@@ -34,31 +35,65 @@ pub struct Kept {
 /// How many numbers a kind can have: 1 to 11, and 0, which none has.
 const KIND_NUMBERS: usize = 12;
 
+// How many claims are kept, how many bytes they have, and which kinds are among them.
+#[derive(Clone, Copy, Debug)]
+struct Filled {
+    claims: usize,
+    bytes: usize,
+    kinds: [bool; KIND_NUMBERS],
+}
+
+// Where nothing is kept.
+const NOTHING: Filled = Filled {
+    claims: 0,
+    bytes: 0,
+    kinds: [false; KIND_NUMBERS],
+};
+
 /// The heard claims of a view, in order of hearing, and of each signer and slot one at most that is found. Contracts see
-/// them as the definitions' pool, with the room that is left.
-#[derive(Drop)]
+/// them as the definitions' pool, with what of it was heard at a mark, and with the room that is left.
 pub struct ClaimIndex {
     view: View,
     bytes: Vec<u8>,
     kept: IndexMap<Key, Kept, BuildHasherDefault<KeyHasher>>,
     kinds: [bool; KIND_NUMBERS],
+
+    // what there was at the mark
+    marked: Filled,
+}
+
+// Written out, so that whoever drops a value makes one call (docs/CONTRIBUTING.md).
+impl Drop for ClaimIndex {
+    fn drop(self) {
+        let ClaimIndex {
+            view,
+            bytes,
+            kept,
+            kinds: _,
+            marked: _,
+        } = self;
+        mem::drop(view);
+        mem::drop(bytes);
+        mem::drop(kept);
+    }
 }
 
 impl Model for ClaimIndex {
-    ghost use Rattle.std.specs.Prelude.{◌-◌, length};
+    ghost use Rattle.std.specs.Prelude.{◌-◌, length, take};
     ghost use Rattle.std.specs.Vec.{vec_capacity};
     ghost use Rattle.indexmap.specs.IndexMap.{spare};
-    ghost use Rattle.claim_index.specs.Kept.{Holding, pool_of, IsIndex};
+    ghost use Rattle.claim_index.specs.Kept.{Holding, pool_of, IsMarkedIndex};
 
     ghost Value = { Holding };
 
     ghost view = { λ p. record {
       pool = pool_of p.view p.bytes.items p.kept.entries;
+      marked = pool_of p.view (take p.marked.bytes p.bytes.items) (take p.marked.claims p.kept.entries);
       claims_left = spare p.kept;
       bytes_left = vec_capacity p.bytes - length p.bytes.items;
     } };
 
-    ghost invariant = { λ p. IsIndex p.bytes.items p.kept.entries p.kinds };
+    ghost invariant = { λ p. IsMarkedIndex p.bytes.items p.kept.entries p.kinds p.marked };
 }
 
 // The entry under this key.
@@ -157,31 +192,59 @@ fn is_said(bytes: &[u8], kept: Kept, spelled: &[u8]) -> bool
 impl ClaimIndex {
     /// Nothing is heard of the view yet.
     pub fn new(alloc: Global, view: View) -> ClaimIndex
-        ensures { result.pool ≡ empty_pool view }
+        ensures pool { result.pool ≡ empty_pool view }
+        ensures marked { result.marked ≡ empty_pool view }
     {
         ClaimIndex {
             view,
             bytes: Vec::new(alloc),
             kept: IndexMap::with_hasher(alloc, BuildHasherDefault::new()),
             kinds: [false; KIND_NUMBERS],
+            marked: NOTHING,
         }
     }
 
-    /// Forgets what is heard, and turns to this view. The room stays, and grows by what the forgotten claims took.
+    /// Forgets what is heard, and turns to this view, where the mark stands at nothing. The room stays, and grows by what the
+    /// forgotten claims took.
     pub fn turn_to(&mut self, view: View)
         ensures pool { self.new.pool ≡ empty_pool view }
+        ensures marked { self.new.marked ≡ empty_pool view }
         ensures claims { self.old.claims_left ≤ self.new.claims_left }
         ensures bytes { self.old.bytes_left ≤ self.new.bytes_left }
     {
         self.bytes.clear();
         self.kept.clear();
         self.kinds = [false; KIND_NUMBERS];
+        self.marked = NOTHING;
         self.view = view;
+    }
+
+    /// Marks what is heard.
+    pub fn mark(&mut self)
+        ensures same { self.new.pool ≡ self.old.pool }
+        ensures marked { self.new.marked ≡ self.old.pool }
+    {
+        self.marked = Filled {
+            claims: self.kept.len(),
+            bytes: self.bytes.len(),
+            kinds: self.kinds,
+        };
+    }
+
+    /// Forgets what was heard behind the mark.
+    pub fn rewind(&mut self)
+        ensures pool { self.new.pool ≡ self.old.marked }
+        ensures marked { self.new.marked ≡ self.old.marked }
+    {
+        self.kept.truncate(self.marked.claims);
+        self.bytes.truncate(self.marked.bytes);
+        self.kinds = self.marked.kinds;
     }
 
     /// Makes room to hear so many claims more, with so many bytes in all, without memory.
     pub fn reserve(&mut self, claims: usize, bytes: usize) -> Result<(), NoMemory>
         ensures same { self.new.pool ≡ self.old.pool }
+        ensures marked { self.new.marked ≡ self.old.marked }
         ensures room { OnOk result ((claims ≤ self.new.claims_left) × (bytes ≤ self.new.bytes_left)) }
         ensures kept { (self.old.claims_left ≤ self.new.claims_left) × (self.old.bytes_left ≤ self.new.bytes_left) }
     {
@@ -328,6 +391,7 @@ impl ClaimIndex {
         requires claims { 1 ≤ self.old.claims_left }
         requires bytes { claim_bytes (claim_of claim.now) ≤ self.old.bytes_left }
         ensures heard { self.new.pool ≡ with_heard self.old.pool (claim_of claim.now) }
+        ensures marked { self.new.marked ≡ self.old.marked }
         ensures claims_left { self.old.claims_left ≤ self.new.claims_left + 1 }
         ensures bytes_left { self.old.bytes_left ≤ self.new.bytes_left + claim_bytes (claim_of claim.now) }
     {

@@ -13,49 +13,90 @@ use crate::list::ClaimList;
 use rp_base::{NoMemory, Pid, PidSet};
 use std::alloc::Global;
 use std::marker::Model;
+use std::mem;
 use stmt_codec::Claim;
 
 /// The first pair of conflicting claims of each signer, over all views, in the order in which they were found. Contracts see
-/// them as that list of pairs, in each the heard claim first, with the room that is left.
-#[derive(Drop)]
+/// them as that list of pairs, in each the heard claim first, with those that were there at a mark, and with the room that is left.
 pub struct Conflicts {
     heard: ClaimList,
     others: ClaimList,
     signers: PidSet,
+
+    // the signers at the mark
+    marked: PidSet,
+}
+
+// Written out, so that whoever drops a value makes one call (docs/CONTRIBUTING.md).
+impl Drop for Conflicts {
+    fn drop(self) {
+        let Conflicts {
+            heard,
+            others,
+            signers: _,
+            marked: _,
+        } = self;
+        mem::drop(heard);
+        mem::drop(others);
+    }
 }
 
 impl Model for Conflicts {
     ghost use Rattle.std.specs.Prelude.{min};
     ghost use Rattle.std.specs.List.{zip};
-    ghost use Rattle.claim_lists.specs.Pairs.{Pairing, ArePaired};
+    ghost use Rattle.claim_lists.specs.Pairs.{Pairing, AreMarkedPairs};
 
     ghost Value = { Pairing };
 
     ghost view = { λ p. record {
       pairs = zip p.heard.claims p.others.claims;
+      marked = zip p.heard.marked p.others.marked;
       pairs_left = min p.heard.claims_left p.others.claims_left;
       bytes_left = min p.heard.bytes_left p.others.bytes_left;
     } };
 
-    ghost invariant = { λ p. ArePaired p.heard.claims p.others.claims p.signers };
+    ghost invariant = { λ p. AreMarkedPairs p.heard p.others p.signers p.marked };
 }
 
 impl Conflicts {
     /// No conflict is known.
     pub fn new(alloc: Global) -> Conflicts
-        ensures { result.pairs ≡ [] }
+        ensures pairs { result.pairs ≡ [] }
+        ensures marked { result.marked ≡ [] }
     {
         Conflicts {
             heard: ClaimList::new(alloc),
             others: ClaimList::new(alloc),
             signers: PidSet::new(),
+            marked: PidSet::new(),
         }
+    }
+
+    /// Marks which pairs there are, so that they can be gone back to.
+    pub fn mark(&mut self)
+        ensures same { self.new.pairs ≡ self.old.pairs }
+        ensures marked { self.new.marked ≡ self.old.pairs }
+    {
+        self.heard.mark();
+        self.others.mark();
+        self.marked = self.signers;
+    }
+
+    /// Forgets the pairs that were kept behind the mark. It takes no memory.
+    pub fn rewind(&mut self)
+        ensures pairs { self.new.pairs ≡ self.old.marked }
+        ensures marked { self.new.marked ≡ self.old.marked }
+    {
+        self.heard.rewind();
+        self.others.rewind();
+        self.signers = self.marked;
     }
 
     /// Makes room for so many pairs more, where the claims of each side have so many bytes of statements and signatures in
     /// all. Without memory, the pairs are as before.
     pub fn reserve(&mut self, pairs: usize, bytes: usize) -> Result<(), NoMemory>
         ensures same { self.new.pairs ≡ self.old.pairs }
+        ensures marked { self.new.marked ≡ self.old.marked }
         ensures room { OnOk result ((pairs ≤ self.new.pairs_left) × (bytes ≤ self.new.bytes_left)) }
         ensures kept { (self.old.pairs_left ≤ self.new.pairs_left) × (self.old.bytes_left ≤ self.new.bytes_left) }
     {
@@ -107,6 +148,7 @@ impl Conflicts {
         ensures conflicts { (p : defs.Process) → p.conflicts ≡ self.old.pairs
             → claim_on p.pool.heard other.now.signer (plain.slot_of (stmt other.now.statement)) ≡ Some (claim_of heard.now)
             → self.new.pairs ≡ kept_conflicts p (claim_of other.now) }
+        ensures marked { self.new.marked ≡ self.old.marked }
         ensures pairs_left { self.old.pairs_left ≤ self.new.pairs_left + 1 }
         ensures bytes_left { self.old.bytes_left
             ≤ self.new.bytes_left + (claim_bytes (claim_of heard.now) + claim_bytes (claim_of other.now)) }

@@ -27,19 +27,26 @@ use crate::hearing::turned_away;
 use crate::verdict::Verdict;
 use claim_index::ClaimIndex;
 use own_place::Own;
-use pool_values::{Places, UpdateSet};
+use pool_values::{Places, Quorums, UpdateSet};
 use rp_base::{GroupId, NoMemory, Pid, Roster, Scheme, Update};
-use slot_quorums::Quorums;
 use std::alloc::Global;
 use std::marker::{Model, PhantomData};
+use std::mem;
 use stmt_codec::{Batch, Claim, Slot, Statement};
 use view_table::View;
 
-/// The heard claims of a view, in order of hearing. Contracts see them as the definitions' pool, with the room that is left:
-/// how many claims more, with how many bytes of statements and signatures in all, are heard without memory.
-#[derive(Drop)]
+/// The heard claims of a view, in order of hearing. Contracts see them as the definitions' pool, with the pool at a mark, and with the
+/// room that is left: how many claims more, with how many bytes of statements and signatures in all, are heard without memory.
 pub struct Pool {
     heard: Places,
+}
+
+// Written out, so that whoever drops a value makes one call (docs/CONTRIBUTING.md).
+impl Drop for Pool {
+    fn drop(self) {
+        let Pool { heard } = self;
+        mem::drop(heard);
+    }
 }
 
 impl Model for Pool {
@@ -99,19 +106,37 @@ fn is_heard(claims: &ClaimIndex, claim: &Claim<'_>) -> bool
 impl Pool {
     /// Nothing is heard of the view yet.
     pub fn new(alloc: Global, view: View) -> Result<Pool, NoMemory>
-        ensures { IfOk result (λ p. p.pool ≡ empty_pool view) }
+        ensures pool { IfOk result (λ p. p.pool ≡ empty_pool view) }
+        ensures marked { IfOk result (λ p. p.marked ≡ empty_pool view) }
     {
         let heard = Places::new(alloc, view)?;
         Ok(Pool { heard })
     }
 
-    /// Forgets what is heard, and turns to this view. The room stays.
+    /// Forgets what is heard, and turns to this view, where the mark stands at nothing. The room stays.
     pub fn turn_to(&mut self, view: View)
         ensures pool { self.new.pool ≡ empty_pool view }
+        ensures marked { self.new.marked ≡ empty_pool view }
         ensures claims { self.old.claims_left ≤ self.new.claims_left }
         ensures bytes { self.old.bytes_left ≤ self.new.bytes_left }
     {
         self.heard.turn_to(view);
+    }
+
+    /// Marks what is heard, so that it can be gone back to.
+    pub fn mark(&mut self)
+        ensures same { self.new.pool ≡ self.old.pool }
+        ensures marked { self.new.marked ≡ self.old.pool }
+    {
+        self.heard.mark();
+    }
+
+    /// Forgets what was heard behind the mark. It takes no memory.
+    pub fn rewind(&mut self)
+        ensures pool { self.new.pool ≡ self.old.marked }
+        ensures marked { self.new.marked ≡ self.old.marked }
+    {
+        self.heard.rewind();
     }
 
     /// How many claims are heard, and how many bytes their statements and signatures have in all.
@@ -126,6 +151,7 @@ impl Pool {
     /// is heard is as before.
     pub fn reserve(&mut self, claims: usize, bytes: usize) -> Result<(), NoMemory>
         ensures same { self.new.pool ≡ self.old.pool }
+        ensures marked { self.new.marked ≡ self.old.marked }
         ensures room { OnOk result ((claims ≤ self.new.claims_left) × (bytes ≤ self.new.bytes_left)) }
         ensures kept { (self.old.claims_left ≤ self.new.claims_left) × (self.old.bytes_left ≤ self.new.bytes_left) }
     {
@@ -158,6 +184,7 @@ impl Pool {
         ensures first { (p : defs.Process) → HasDelivered own.now p → p.pool ≡ self.old.pool
             → verdict result ≡ hearing.verdict (as_setting (V.valid scheme.now) group.now roster.now) p (claim_of claim.now) }
         ensures heard { self.new.pool ≡ after (verdict result) self.old.pool (claim_of claim.now) }
+        ensures marked { self.new.marked ≡ self.old.marked }
         ensures claims_left { self.old.claims_left ≤ self.new.claims_left + 1 }
         ensures bytes_left { self.old.bytes_left ≤ self.new.bytes_left + claim_bytes (claim_of claim.now) }
     {
@@ -203,6 +230,7 @@ impl Pool {
         ensures signs { (s : defs.Setting) (signer : Signer) (p : defs.Process) → p.pool ≡ self.old.pool
             → own_claim s signer p (stmt claim.now.statement) ≡ claim_of claim.now
             → (signs s signer p (stmt claim.now.statement)).pool ≡ self.new.pool }
+        ensures marked { self.new.marked ≡ self.old.marked }
         ensures claims_left { self.old.claims_left ≤ self.new.claims_left + 1 }
         ensures bytes_left { self.old.bytes_left ≤ self.new.bytes_left + claim_bytes (claim_of claim.now) }
     {

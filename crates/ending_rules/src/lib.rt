@@ -1,14 +1,12 @@
-//! What ends a view: which updates are asked for, notified and possible, the End, and which values are free
+//! What ends a view: which updates are asked for and notified, the End, and which values are free
 //! (docs/PROTOCOL.md, «What is signed», «Values»). A file a rule.
 #![tactic(auto)]
 
 mod ends;
 mod notifies;
-mod possible;
 mod updates;
 mod values;
 
 pub use ends::{end_due, flush_left};
 pub use notifies::{Perceived, backed, notify_due, perceive};
-pub use possible::is_possible;
 pub use values::{cut_justified, free_value, is_quorum};

@@ -16,12 +16,11 @@ ghost use Rattle.own_place.specs.Owns.{Tells};
 ghost use Rattle.rule_laws.specs.Perceived.{most_updates};
 ghost use Rattle.ending_rules.specs.Perceiving.{asking, asking_fault, fault as fault_of, has_update, is_notify_open, TellsPerceived};
 
-use crate::possible::{has_key, is_possible};
 use crate::updates::{MOST_UPDATES, update_at};
 use claim_pool::{Own, Pool};
 use rp_base::{PidSet, Update};
 use stmt_codec::{EventFault, Slot};
-use view_table::{View, next};
+use view_table::{View, has_key, is_possible, next};
 
 /// The updates that were asked for at a process in its current view, each once.
 #[derive(Clone, Copy, Debug)]

@@ -13,12 +13,11 @@ ghost use Rattle.rule_laws.specs.Heard.{IsPool};
 ghost use Rattle.rule_laws.specs.Perceived.{update_at as plain_at, most_updates};
 ghost use Rattle.ending_rules.specs.Due.{HasKeys, is_below};
 
-use crate::possible::is_possible;
 use crate::updates::{MOST_UPDATES, update_at};
 use claim_pool::{Own, Pool};
 use pool_questions::{certified_batch, end_of};
 use rp_base::{Pid, Update, Value};
-use view_table::quorum;
+use view_table::{is_possible, quorum};
 
 /// Whether so many members are a quorum of the view.
 pub fn is_quorum(pool: &Pool, members: usize) -> bool

@@ -5,9 +5,9 @@ ghost use Rattle.message_defs.specs.Frames as plain;
 ghost use Rattle.message_defs.specs.Frames.{IsFrame, frame_bytes, signature_at, signatures_at, group_at, groups_at, want_at, frame_of};
 ghost use Rattle.frame_codec.specs.Views.{group_view, groups_left, frame_view};
 
-use crate::fields::{bytes_at, u8_at, u16_at};
 use crate::groups::{FrameView, Group, Groups, Signatures};
 use crate::layout::{BUNDLE, FRAME_BYTES, GROUP_SIGNATURES, PROOF, SIGNATURE_BYTES, VERSION, WANT};
+use byte_fields::{bytes_at, u8_at, u16_at};
 use message_defs::FrameFault;
 
 // One signature, whose signer is at least this one, and the bytes after it.

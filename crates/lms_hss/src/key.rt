@@ -14,11 +14,10 @@ use lms_ots::OtsType;
 use lms_tree::LmsTree;
 use rp_base::{Signer, Spent, Tally};
 use std::alloc::Global;
-use std::fmt;
+use std::{fmt, mem};
 
 /// A private key of trees in levels, whose leaves sign in order, each leaf one text (RFC 8554, section 6). It holds one
 /// tree of each level; where a tree ends, signing makes the next one in its room.
-#[derive(Drop)]
 pub struct HssKey {
     plan: Plan,
     trees: Vec<LmsTree>,
@@ -34,6 +33,22 @@ pub struct HssKey {
     ghost signed: { front.items ≡ signed_keys (secret plan) ready },
     ghost key: { public ≡ hss_public_key (secret plan) },
     ghost within: { used ≤ hss_total (secret plan) },
+}
+
+// Written out, so that whoever drops a value makes one call (docs/CONTRIBUTING.md).
+impl Drop for HssKey {
+    fn drop(self) {
+        let HssKey {
+            plan: _,
+            trees,
+            front,
+            public: _,
+            ready: _,
+            used: _,
+        } = self;
+        mem::drop(trees);
+        mem::drop(front);
+    }
 }
 
 fn public_of(levels: u32, top: &[u8; 56]) -> [u8; 60]

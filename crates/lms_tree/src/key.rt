@@ -5,14 +5,21 @@ use crate::tree::{KeyFault, LmsTree};
 use lms_ots::OtsType;
 use rp_base::{Signer, Spent, Tally};
 use std::alloc::Global;
-use std::fmt;
+use std::{fmt, mem};
 
 /// A private key whose leaves sign in order, each once, with all nodes of its tree (RFC 8554, section 5.2).
-#[derive(Drop)]
 pub struct LmsKey {
     tree: LmsTree,
     used: u32,
     ghost within: { used ≤ 2 ^ tree.height },
+}
+
+// Written out, so that whoever drops a value makes one call (docs/CONTRIBUTING.md).
+impl Drop for LmsKey {
+    fn drop(self) {
+        let LmsKey { tree, used: _ } = self;
+        mem::drop(tree);
+    }
 }
 
 impl LmsKey {

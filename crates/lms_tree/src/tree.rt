@@ -10,6 +10,7 @@ use crate::heights::built_height_of;
 use crate::nodes::sibling;
 use lms_ots::{OtsType, ots_sign_into, ots_signature_length, ots_typecode};
 use std::alloc::{AllocError, Global};
+use std::mem;
 
 /// Why no tree was made.
 #[derive(Clone, Copy, Debug, PartialEq, Eq)]
@@ -33,7 +34,6 @@ impl From<AllocError> for KeyFault {
 
 /// A private tree over one-time keys, with all its nodes. It signs with whichever leaf it is told to; who holds it
 /// counts the leaves, since two bodies signed by one leaf give the leaf's key away.
-#[derive(Drop)]
 pub struct LmsTree {
     typecode: u32,
     height: usize,
@@ -47,6 +47,22 @@ pub struct LmsTree {
     ghost sized: { length id ≡ 16 },
     ghost tree: { IsTree ots height id seed nodes.items },
     ghost key: { public ≡ lms_public_key typecode ots height id seed },
+}
+
+// Written out, so that whoever drops a value makes one call (docs/CONTRIBUTING.md).
+impl Drop for LmsTree {
+    fn drop(self) {
+        let LmsTree {
+            typecode: _,
+            height: _,
+            ots: _,
+            id: _,
+            seed: _,
+            nodes,
+            public: _,
+        } = self;
+        mem::drop(nodes);
+    }
 }
 
 // A public key of a tree, from its root.

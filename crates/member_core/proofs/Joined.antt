@@ -22,12 +22,10 @@ use Rattle.event_laws.specs.Parts.{HasSigned}
 use Rattle.event_laws.proofs.Taken.{taking_in_leaves}
 use Rattle.event_laws.proofs.Signed.{signing_leaves}
 use Rattle.event_laws.proofs.Settled.{settling_leaves}
-use Rattle.member_state.specs.States.{signed_here}
+use Rattle.member_state.specs.States.{IsStateOf, signed_here}
 use Rattle.member_state.specs.Events.{refusal as verdict-of, frame_to, frames_to, note, IsOutcome}
 use Rattle.member_sending.specs.Began.{Began}
-use Rattle.member_core.specs.declared.member.Core.{Core}
-use Rattle.member_core.specs.Outcomes.{HasBegun, HasEnded, halts, liars_from, refusing}
-use Rattle.member_core.specs.Cores.{IsCore, Steps, turn_of}
+use Rattle.member_core.specs.Outcomes.{HasBegun, HasEnded, HasTaken, halts, liars_from, refusing}
 
 -- ---- what is the same behind taking in and signing
 
@@ -222,42 +220,24 @@ signed-more s p t = go (refusal s p t.event) refl
         ap (λ (q : Process). q.signed) (after-refused s p t fault e) ∙ sym (append-nil p.signed) ∙ ap (λ cs. p.signed ++ cs)
         (sym (ap (λ (o : Outcome). o.signed) (outcome-refusing s p t fault e)))
 
--- ---- the step
+-- ---- the turn
 
-module _ {G : Type 0} (used total : G → ℕ) (signature : G → ℕ → List ℕ → List ℕ) (s : Setting) (p : Process) (old : Core G)
-    (e : Event) where
-  -- the process after the event
-  settled-so : (new : Core G) (was r : Came) (st : ProcessState) (many pairs : ℕ) → IsCore used s p old → many ≡ used new.signer
-      → old.keyless.group ≡ new.keyless.group → old.keyless.roster ≡ new.keyless.roster
-      → HasBegun s p (turn_of used total signature old e) st many was
-      → HasEnded s (signing s p (turn_of used total signature old e)).now e pairs new.keyless.state.value was r
-      → IsCore used s (settle s (signing s p (turn_of used total signature old e)).now) new
-  unfolding IsCore
-  settled-so new was r st many pairs is count group roster begun ended = record {
-    state = ended.state;
-    signed = ap length (settling_leaves s (signing s p (turn_of used total signature old e)).now).signed ∙ begun.used ∙ count;
-    group = is.group ∙ group;
-    roster = is.roster ∙ roster;
-    kinds = is.kinds;
-  }
-
+module _ (s : Setting) (p : Process) (t : Turn) where
   -- an event that is taken
-  pub taken-so : (new : Core G) (was r : Came) (st : ProcessState) (many pairs : ℕ) → refusal s p e ≡ None → pairs ≡ length p.conflicts
-      → IsCore used s p old → many ≡ used new.signer → old.keyless.group ≡ new.keyless.group → old.keyless.roster ≡ new.keyless.roster
-      → HasBegun s p (turn_of used total signature old e) st many was
-      → HasEnded s (signing s p (turn_of used total signature old e)).now e pairs new.keyless.state.value was r
-      → Steps used total signature s p old new e r
-  taken-so new was r st many pairs none first is count group roster begun ended = record {
-    core = subst (λ (q : Process). IsCore used s q new) (sym (after-taken s p (turn_of used total signature old e) none))
-        (settled-so new was r st many pairs is count group roster begun ended);
-    outcome = outcome-taken s p (turn_of used total signature old e) r none
-        (answered-so s p (turn_of used total signature old e) st new.keyless.state.value many pairs was r first begun ended);
+  pub taken-so : (st st' : ProcessState) (many pairs : ℕ) (was r : Came) → refusal s p t.event ≡ None → pairs ≡ length p.conflicts
+      → HasBegun s p t st many was → HasEnded s (signing s p t).now t.event pairs st' was r → HasTaken s p t st' many r
+  taken-so st st' many pairs was r none first begun ended = record {
+    state = subst (λ (q : Process). IsStateOf s q st') (sym (after-taken s p t none)) ended.state;
+    used = ap (λ (q : Process). length q.signed) (after-taken s p t none)
+        ∙ ap length (settling_leaves s (signing s p t).now).signed ∙ begun.used;
+    outcome = outcome-taken s p t r none (answered-so s p t st st' many pairs was r first begun ended);
   }
 
   -- one that is refused
-  pub refused-so : (r : Came) (fault : EventFault) → refusal s p e ≡ Some fault → IsCore used s p old → IsOutcome (refusing fault) r
-      → Steps used total signature s p old old e r
-  refused-so r fault some is came = record {
-    core = subst (λ (q : Process). IsCore used s q old) (sym (after-refused s p (turn_of used total signature old e) fault some)) is;
-    outcome = outcome-refused s p (turn_of used total signature old e) r fault some came;
+  pub refused-so : (st : ProcessState) (many : ℕ) (r : Came) (fault : EventFault) → refusal s p t.event ≡ Some fault → IsStateOf s p st
+      → length p.signed ≡ many → IsOutcome (refusing fault) r → HasTaken s p t st many r
+  refused-so st many r fault some is made came = record {
+    state = subst (λ (q : Process). IsStateOf s q st) (sym (after-refused s p t fault some)) is;
+    used = ap (λ (q : Process). length q.signed) (after-refused s p t fault some) ∙ made;
+    outcome = outcome-refused s p t r fault some came;
   }

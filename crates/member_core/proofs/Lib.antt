@@ -2,4 +2,6 @@ mod Liars
 pub mod Joined
 mod Handing
 mod Judging
+mod Back
+pub mod Stepped
 mod Absorbed

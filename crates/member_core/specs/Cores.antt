@@ -1,5 +1,5 @@
 -- Which process of the definitions a core is, and what a step of it gives.
-use Rattle.std.specs.Prelude.{◌≡◌, ℕ, ◌-◌, List, length}
+use Rattle.std.specs.Prelude.{◌≡◌, ℕ, ◌-◌, ◌≤◌, ◌==◌, if◌then◌else◌, List, length}
 use Rattle.group_defs.specs.Views.{View}
 use Rattle.group_defs.specs.Process.{Setting, Process, all_kinds}
 use Rattle.group_defs.specs.Events as defs
@@ -7,6 +7,7 @@ use Rattle.stmt_codec.specs.declared.events.Outcome.{Outcome}
 use Rattle.member_state.specs.States.{IsStateOf}
 use Rattle.member_state.specs.Events.{IsOutcome}
 use Rattle.member_core.specs.declared.member.Core.{Core}
+use Rattle.member_core.specs.declared.member.Keyless.{Keyless}
 
 -- the setting of this group, roster and genesis view, in which all kinds are signed
 pub record Shares (s : Setting) (g : List ℕ) (r : List (ℕ × List ℕ)) (v : View) : Type 0 where
@@ -19,28 +20,41 @@ pub record Shares (s : Setting) (g : List ℕ) (r : List (ℕ × List ℕ)) (v :
 abbrev pub signer_of : {G : Type 0} → Core G → G
 signer_of c = c.signer
 
--- The core is this process in this setting: its state is, and it has made as many signatures as the process has signed statements. `used`
--- tells how many signatures a signer has made.
-pub record IsProcess {G : Type 0} (used : G → ℕ) (s : Setting) (p : Process) (c : Core G) : Type 0 where
-  pub state : IsStateOf s p c.keyless.state.value
-  pub signed : length p.signed ≡ used c.signer
-  pub group : s.group ≡ c.keyless.group
-  pub roster : s.roster ≡ c.keyless.roster
+-- This is process p in this setting, whoever signs for it: its state, its group and its roster are.
+pub record IsKeyless (s : Setting) (p : Process) (k : Keyless) : Type 0 where
+  pub state : IsStateOf s p k.state.value
+  pub group : s.group ≡ k.group
+  pub roster : s.roster ≡ k.roster
   pub kinds : s.signs ≡ all_kinds
+
+-- The core is this process in this setting: it counts as many signatures as the process has signed statements, and its key has made these.
+-- `used` tells how many signatures a signer has made.
+pub record IsProcess {G : Type 0} (used : G → ℕ) (s : Setting) (p : Process) (c : Core G) : Type 0 where
+  pub keyless : IsKeyless s p c.keyless
+  pub signed : length p.signed ≡ c.made
+  pub spent : c.made ≤ used c.signer
 
 -- the core is this process in this setting (`IsProcess`), as one word that proofs leave closed
 unfoldable pub IsCore : {G : Type 0} → (G → ℕ) → Setting → Process → Core G → Type 0
 IsCore used s p c = IsProcess used s p c
 
--- the cores c and d have one state, group and roster, whoever signs for them
-pub record IsSameBut {G H : Type 0} (c : Core G) (d : Core H) : Type 0 where
-  pub state : d.keyless.state.value ≡ c.keyless.state.value
-  pub group : d.keyless.group ≡ c.keyless.group
-  pub roster : d.keyless.roster ≡ c.keyless.roster
+-- every signature that the key has made stands in what the process signed: none was lost with an event
+abbrev pub IsWhole : {G : Type 0} → (G → ℕ) → Core G → Type 0
+IsWhole used c = c.made ≡ used c.signer
 
--- the turn of this event: the signatures that the signer has left may be made, and it makes them
+-- how many signatures may still be made: as many as the key has left, and none where one was lost
+abbrev pub left_of : {G : Type 0} → (G → ℕ) → (G → ℕ) → Core G → ℕ
+left_of used total c = if c.made == used c.signer then total c.signer - used c.signer else 0
+
+-- the turn of this event: the signatures that are left may be made, and the signer makes them
 abbrev pub turn_of : {G : Type 0} → (G → ℕ) → (G → ℕ) → (G → ℕ → List ℕ → List ℕ) → Core G → defs.Event → defs.Turn
-turn_of used total signature c e = record { event = e; allowance = total c.signer - used c.signer; signer = signature c.signer }
+turn_of used total signature c e = record { event = e; allowance = left_of used total c; signer = signature c.signer }
+
+-- the process has taken the turn, with which so many signatures are used, and the outcome is that of the turn
+pub record Takes (s : Setting) (p : Process) (t : defs.Turn) (new : Keyless) (many : ℕ) (r : Outcome) : Type 0 where
+  pub keyless : IsKeyless s (defs.after s p t) new
+  pub used : length (defs.after s p t).signed ≡ many
+  pub outcome : IsOutcome (defs.outcome s p t) r
 
 -- the new core is the process after the turn, and the outcome is that of the turn
 pub record Steps {G : Type 0} (used total : G → ℕ) (signature : G → ℕ → List ℕ → List ℕ) (s : Setting) (p : Process) (old new : Core G)

@@ -1,4 +1,5 @@
 pub mod Outcomes
 pub mod Cores
 pub mod Journalled
+pub mod Silent
 pub mod Entries

@@ -1,5 +1,5 @@
 -- What came of an event, in its two halves: up to what it signs and sends of that, and from settling on.
-use Rattle.std.specs.Prelude.{◌≡◌, ℕ, ◌-◌, nat_lt, false, List, [], ◌++◌, length, map, drop, Some}
+use Rattle.std.specs.Prelude.{◌≡◌, ℕ, ◌-◌, nat_lt, Bool, true, false, List, [], ◌++◌, length, map, drop, Some}
 use Rattle.std.specs.Option.{option_map_or}
 use Rattle.std.specs.List.{flat_map}
 use Rattle.message_defs.specs.Statements.{Claim}
@@ -13,7 +13,7 @@ use Rattle.stmt_codec.specs.declared.events.Outcome.{Outcome}
 use Rattle.stmt_codec.specs.declared.events.EventVerdict.TheVariants.{Taken}
 use Rattle.member_state.specs.declared.state.ProcessState.{ProcessState}
 use Rattle.member_state.specs.States.{IsStateOf}
-use Rattle.member_state.specs.Events.{frame_to, frames_to, note}
+use Rattle.member_state.specs.Events.{frame_to, frames_to, note, IsOutcome}
 
 -- what an event answers that is refused: its fault alone
 abbrev pub refusing : defs.EventFault → defs.Outcome
@@ -59,3 +59,16 @@ pub record HasEnded (s : Setting) (p : Process) (e : defs.Event) (pairs : ℕ) (
       ++ liars_from pairs (settle s p).conflicts
       ++ defs.note_if was.spent defs.Spent
       ++ halts (settle s p)
+
+-- Process p has taken its turn: this is its state then, so many signatures are used, and the outcome is that of the turn.
+pub record HasTaken (s : Setting) (p : Process) (t : defs.Turn) (st : ProcessState) (many : ℕ) (r : Outcome) : Type 0 where
+  pub state : IsStateOf s (defs.after s p t) st
+  pub used : length (defs.after s p t).signed ≡ many
+  pub outcome : IsOutcome (defs.outcome s p t) r
+
+-- an update is asked for
+abbrev pub is_asked : defs.Event → Bool
+is_asked (defs.Suspect q) = true
+is_asked (defs.Join q) = true
+is_asked defs.RenewView = true
+is_asked _ = false

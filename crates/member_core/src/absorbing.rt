@@ -1,5 +1,5 @@
 //! An event that a journal tells of, taken again with the signatures that the journal keeps.
-ghost use Rattle.std.specs.Prelude.{◌≡◌, ◌+◌, ◌-◌, ◌≤◌, ◌↔◌, ℕ, All, List, length, map, IfOk, IsOkUnless, IsTrue, SomeIff};
+ghost use Rattle.std.specs.Prelude.{◌≡◌, ◌+◌, ◌^◌, ◌<◌, ◌≤◌, ◌↔◌, ℕ, All, List, length, map, IfOk, OnErr, OnOk, IsOkUnless, IsTrue, SomeIff};
 ghost use Rattle.std.specs.List.{list_all};
 ghost use Rattle.message_defs.specs.Statements as plain;
 ghost use Rattle.message_defs.specs.Spelling.{IsStatement};
@@ -9,13 +9,14 @@ ghost use Rattle.group_defs.specs.Hearing as hearing;
 ghost use Rattle.stmt_codec.specs.Views.{signed};
 ghost use Rattle.stmt_codec.specs.Kept.{signatures_left};
 ghost use Rattle.claim_hearing.specs.Hearing.{Shares};
-ghost use Rattle.member_state.specs.Events.{event as event_of};
-ghost use Rattle.member_core.specs.Cores.{IsCore, IsSameBut, signer_of};
-ghost use Rattle.member_core.specs.Journalled.{HandsOut, used_of};
+ghost use Rattle.group_defs.specs.Events as defs;
+ghost use Rattle.member_state.specs.Events.{event as event_of, IsOutcome};
+ghost use Rattle.member_core.specs.Cores.{IsCore, IsKeyless, IsWhole, Takes, left_of, signer_of};
 ghost use Rattle.member_core.specs.Entries.{Agrees, Absorbs};
 
+use crate::attempts::attempt;
 use crate::journalled::Journalled;
-use crate::member::Core;
+use crate::member::{Core, Keyless};
 use claim_pool::check;
 use member_taking::Judge;
 use rp_base::{NoMemory, Scheme, Tally};
@@ -86,128 +87,121 @@ fn fits(outcome: &Outcome, count: usize, spent: bool) -> bool
     outcome.signed.len() == count && outcome.spent == spent
 }
 
-// Takes the entry's event with a signer that hands out the entry's signatures, of which there are `count`.
-fn retake<'a, V: Scheme>(
-    core: Core<Journalled<'a>>,
-    scheme: &V,
-    entry: &Entry<'_>,
-    count: usize,
-) -> Result<(Core<Journalled<'a>>, Outcome), AbsorbFault>
-    requires hands { HandsOut (signer_of core) (signatures_left entry.now.signatures) }
-    requires count { length (signatures_left entry.now.signatures) ≡ count }
-    ensures absorbs { (s : Setting) (p : Process) (left : ℕ) → IsCore used_of s p core.entry → s.valid ≡ V.valid scheme.now → count ≤ left
-        → IfOk result (λ r. Absorbs used_of s p left r.0 (event_of entry.now.event)
-        (signatures_left entry.now.signatures) entry.now.spent r.1) }
-    ensures only { (s : Setting) (p : Process) (left : ℕ) → IsCore used_of s p core.entry → s.valid ≡ V.valid scheme.now
-        → Agrees s p left (event_of entry.now.event) (signatures_left entry.now.signatures) entry.now.spent
-        → IsOkUnless result AbsorbFault.NoMemory }
+// Whether what came of the event is what the entry tells: it has so many signatures, each of them valid, and one was wanting exactly
+// where this says so.
+fn agrees<V: Scheme>(judge: &Judge<'_, V>, outcome: &Outcome, count: usize, spent: bool) -> bool
+    ensures { (s : Setting) (o : defs.Outcome) → Shares s (V.valid judge.now.scheme.now) judge.now.group.now judge.now.roster.now
+        → All (λ c. IsStatement c.statement) o.signed → IsOutcome o outcome.now
+        → IsTrue result ↔ ((length o.signed ≡ count) × (o.spent ≡ spent) × IsTrue (list_all (hearing.is_valid s) o.signed)) }
 {
-    let (core, outcome) = match core.step(scheme, &entry.event) {
-        Ok(stepped) => stepped,
-        Err(NoMemory) => return Err(AbsorbFault::NoMemory),
-    };
-    if !fits(&outcome, count, entry.spent) {
-        return Err(AbsorbFault::Differs);
+    if !fits(outcome, count, spent) {
+        return false;
     }
-    let judge = Judge {
-        scheme,
-        roster: &core.keyless.roster,
-        group: &core.keyless.group,
-    };
-    if !are_valid(&judge, &outcome.signed) {
-        return Err(AbsorbFault::Differs);
-    }
-    Ok((core, outcome))
+    are_valid(judge, &outcome.signed)
 }
 
-impl<G> Core<G> {
-    // The same process with this signer, and the signer that it had.
-    fn with_signer<H>(self, signer: H) -> (Core<H>, G)
-        ensures same { IsSameBut self result.0 }
-        ensures taken { signer_of result.0 ≡ signer }
-        ensures given { result.1 ≡ signer_of self }
+impl Keyless {
+    // Takes the entry's event with a signer that hands out the entry's signatures, of which there are `count`; the process made so many
+    // before.
+    fn retake<V: Scheme>(
+        &mut self,
+        scheme: &V,
+        entry: &Entry<'_>,
+        made: u32,
+        count: u32,
+    ) -> Result<Outcome, AbsorbFault>
+        requires count { count ≡ length (signatures_left entry.now.signatures) }
+        requires fits { made + count < 2 ^ 32 }
+        ensures absorbs { (s : Setting) (p : Process) (left : ℕ) → IsKeyless s p self.old → s.valid ≡ V.valid scheme.now
+            → length p.signed ≡ made → count ≤ left
+            → IfOk result (λ r. Agrees s p left (event_of entry.now.event) (signatures_left entry.now.signatures) entry.now.spent
+            × Takes s p (defs.journalled p (event_of entry.now.event) (signatures_left entry.now.signatures)) self.new (made + count) r) }
+        ensures only { (s : Setting) (p : Process) (left : ℕ) → IsKeyless s p self.old → s.valid ≡ V.valid scheme.now
+            → length p.signed ≡ made
+            → Agrees s p left (event_of entry.now.event) (signatures_left entry.now.signatures) entry.now.spent
+            → IsOkUnless result AbsorbFault.NoMemory }
+        ensures lost { (s : Setting) (p : Process) → IsKeyless s p self.old → OnErr result (IsKeyless s p self.new) }
     {
-        let Core {
-            keyless,
-            signer: own,
-        } = self;
-        (Core { keyless, signer }, own)
+        let mut signer = Journalled::new(entry.signatures, made, made + count);
+        let judge = Judge {
+            scheme,
+            roster: &self.roster,
+            group: &self.group,
+        };
+        let frames = &mut self.frames;
+        let Ok((before, outcome)) = attempt(
+            &mut self.state,
+            self.alloc,
+            &judge,
+            &mut signer,
+            frames,
+            &entry.event,
+        ) else {
+            return Err(AbsorbFault::NoMemory);
+        };
+        if !agrees(&judge, &outcome, count as usize, entry.spent) {
+            self.state.rewind(before);
+            return Err(AbsorbFault::Differs);
+        }
+        self.state.go_on();
+        Ok(outcome)
     }
 }
 
 impl<G: Tally + Drop> Core<G> {
-    // The process with its own signer again, which counts so many signatures as made.
-    fn counted(core: Core<Journalled<'_>>, signer: G, used: u32) -> Core<G>
-        requires from { G.used signer ≤ used }
-        requires within { used ≤ G.total signer }
-        ensures same { IsSameBut core.entry result }
-        ensures used { G.used (signer_of result) ≡ used }
-        ensures total { G.total (signer_of result) ≡ G.total signer }
-        ensures key { G.same_key signer (signer_of result) }
+    // How many signatures may still be made. Neither count rises above the range of the type with them.
+    fn left(&self) -> u32
+        ensures value { result ≡ left_of G.used G.total self.now }
+        ensures used { G.used (signer_of self.now) + result < 2 ^ 32 }
+        ensures total { G.used (signer_of self.now) + result ≤ G.total (signer_of self.now) }
+        ensures made { self.now.made + result < 2 ^ 32 }
     {
-        let mut own = signer;
-        own.skip_to(used);
-        let (core, _) = core.with_signer(own);
-        core
-    }
-
-    // Absorbs the entry, with whose signatures the key will have made so many, and not more than it can.
-    fn absorb_up_to<V: Scheme>(
-        self,
-        scheme: &V,
-        entry: &Entry<'_>,
-        used: u32,
-    ) -> Result<(Core<G>, Outcome), AbsorbFault>
-        requires counts { used ≡ G.used (signer_of self) + length (signatures_left entry.now.signatures) }
-        requires within { used ≤ G.total (signer_of self) }
-        ensures absorbs { (s : Setting) (p : Process) → IsCore G.used s p self → s.valid ≡ V.valid scheme.now
-            → IfOk result (λ r. Absorbs G.used s p (G.total (signer_of self) - G.used (signer_of self)) r.0 (event_of entry.now.event)
-            (signatures_left entry.now.signatures) entry.now.spent r.1) }
-        ensures only { (s : Setting) (p : Process) → IsCore G.used s p self → s.valid ≡ V.valid scheme.now
-            → Agrees s p (G.total (signer_of self) - G.used (signer_of self)) (event_of entry.now.event)
-            (signatures_left entry.now.signatures) entry.now.spent → IsOkUnless result AbsorbFault.NoMemory }
-        ensures used { IfOk result (λ r. G.used (signer_of r.0) ≡ used) }
-        ensures total { IfOk result (λ r. G.total (signer_of r.0) ≡ G.total (signer_of self)) }
-        ensures key { IfOk result (λ r. G.same_key (signer_of self) (signer_of r.0)) }
-    {
-        let before = self.signer.used();
-        let journalled = Journalled::new(entry.signatures, before, used);
-        let (core, signer) = self.with_signer(journalled);
-        match retake(core, scheme, entry, (used - before) as usize) {
-            Ok((core, outcome)) => Ok((Core::counted(core, signer, used), outcome)),
-            Err(fault) => Err(fault),
+        let used = self.signer.used();
+        if self.made != used {
+            return 0;
         }
+        self.signer.total() - used
     }
 
     /// The event of an entry of this process's journal, taken again with the entry's signatures in place of new ones: the process
     /// after it and what comes of it are the definitions'. The signer counts as many signatures more as the entry has.
     ///
-    /// A fault takes the core with it: in the midst of the event there is none to hand back, and whoever reads a journal goes no
-    /// further than an entry that differs.
+    /// After a fault the process and its key are as they were.
     ///
     /// # Errors
     /// [`AbsorbFault::Differs`] exactly where the process with these signatures signs more or fewer statements than there are, or
     /// lacks a further one where the entry's `spent` says otherwise; or a signature is not valid for the claim that it stands for; or
-    /// the key has fewer signatures left. [`AbsorbFault::NoMemory`].
+    /// the key has fewer signatures left, of which there are none once a signature was lost ([`Core::step`]).
+    /// [`AbsorbFault::NoMemory`].
     pub fn absorb<V: Scheme>(
-        self,
+        &mut self,
         scheme: &V,
         entry: &Entry<'_>,
-    ) -> Result<(Core<G>, Outcome), AbsorbFault>
-        ensures absorbs { (s : Setting) (p : Process) → IsCore G.used s p self → s.valid ≡ V.valid scheme.now
-            → IfOk result (λ r. Absorbs G.used s p (G.total (signer_of self) - G.used (signer_of self)) r.0 (event_of entry.now.event)
-            (signatures_left entry.now.signatures) entry.now.spent r.1) }
-        ensures only { (s : Setting) (p : Process) → IsCore G.used s p self → s.valid ≡ V.valid scheme.now
-            → Agrees s p (G.total (signer_of self) - G.used (signer_of self)) (event_of entry.now.event)
+    ) -> Result<Outcome, AbsorbFault>
+        ensures absorbs { (s : Setting) (p : Process) → IsCore G.used s p self.old → s.valid ≡ V.valid scheme.now
+            → IfOk result (Absorbs G.used s p (left_of G.used G.total self.old) self.new (event_of entry.now.event)
+            (signatures_left entry.now.signatures) entry.now.spent) }
+        ensures only { (s : Setting) (p : Process) → IsCore G.used s p self.old → s.valid ≡ V.valid scheme.now
+            → Agrees s p (left_of G.used G.total self.old) (event_of entry.now.event)
             (signatures_left entry.now.signatures) entry.now.spent → IsOkUnless result AbsorbFault.NoMemory }
-        ensures used { IfOk result (λ r. G.used (signer_of r.0) ≡ G.used (signer_of self) + length (signatures_left entry.now.signatures)) }
-        ensures total { IfOk result (λ r. G.total (signer_of r.0) ≡ G.total (signer_of self)) }
-        ensures key { IfOk result (λ r. G.same_key (signer_of self) (signer_of r.0)) }
+        ensures lost { (s : Setting) (p : Process) → IsCore G.used s p self.old → OnErr result (IsCore G.used s p self.new) }
+        ensures kept { OnErr result (signer_of self.new ≡ signer_of self.old) }
+        ensures whole { IsWhole G.used self.old → IsWhole G.used self.new }
+        ensures used { OnOk result (G.used (signer_of self.new)
+            ≡ G.used (signer_of self.old) + length (signatures_left entry.now.signatures)) }
+        ensures total { OnOk result (G.total (signer_of self.new) ≡ G.total (signer_of self.old)) }
+        ensures key { OnOk result (G.same_key (signer_of self.old) (signer_of self.new)) }
     {
-        let used = self.signer.used();
-        let Some(count) = count_up_to(entry.signatures, self.signer.total() - used) else {
+        let Some(count) = count_up_to(entry.signatures, self.left()) else {
             return Err(AbsorbFault::Differs);
         };
-        self.absorb_up_to(scheme, entry, used + count)
+        let outcome = match self.keyless.retake(scheme, entry, self.made, count) {
+            Ok(outcome) => outcome,
+            Err(fault) => return Err(fault),
+        };
+        let used = self.signer.used();
+        self.signer.skip_to(used + count);
+        self.made += count;
+        Ok(outcome)
     }
 }

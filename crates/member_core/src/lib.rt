@@ -2,10 +2,12 @@
 #![tactic(auto)]
 
 mod absorbing;
+mod attempts;
 mod halves;
 mod journalled;
 mod member;
 mod notes;
+mod silent;
 mod stepping;
 mod telling;
 

@@ -1,4 +1,4 @@
-ghost use Rattle.std.specs.Prelude.{◌≡◌, length};
+ghost use Rattle.std.specs.Prelude.{◌≡◌, length, is_none, true};
 ghost use Rattle.member_state.specs.States.{IsReal};
 
 use member_state::ProcessState;
@@ -7,7 +7,7 @@ use rp_base::{GroupId, Roster};
 use std::alloc::Global;
 use std::mem;
 
-/// All of a process but its signer.
+/// All of a process but its signer. Between two events no frame waits to be handed over, and there is no way back to an earlier event.
 pub(crate) struct Keyless {
     pub(crate) alloc: Global,
     pub(crate) group: GroupId,
@@ -15,6 +15,10 @@ pub(crate) struct Keyless {
     // on the heap: a process that is handed on is not copied
     pub(crate) state: Box<ProcessState>,
     pub(crate) frames: Frames,
+    ghost real: { IsReal state.value },
+    ghost unsent: { length frames.frames ≡ 0 },
+    ghost unpacked: { length frames.claims ≡ 0 },
+    ghost over: { is_none state.value.left ≡ true },
 }
 
 // Written out, so that whoever drops a process makes one call: a derived drop is proved anew, down to the last field, wherever a value is
@@ -34,13 +38,12 @@ impl Drop for Keyless {
     }
 }
 
-/// A process of a group, correct by construction. Which process of the definitions it is, the word `IsCore` of the specs says. Between
-/// two events no frame waits to be handed over.
+/// A process of a group, correct by construction. Which process of the definitions it is, the word `IsCore` of the specs says.
 #[derive(Drop)]
 pub struct Core<G> {
     pub(crate) keyless: Keyless,
     pub(crate) signer: G,
-    ghost real: { IsReal keyless.state.value },
-    ghost unsent: { length keyless.frames.frames ≡ 0 },
-    ghost unpacked: { length keyless.frames.claims ≡ 0 },
+
+    // How many signatures of the key stand in what the process signed: all that were made, but those of events that were lost.
+    pub(crate) made: u32,
 }

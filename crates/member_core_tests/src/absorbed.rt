@@ -46,12 +46,12 @@ impl Happening {
 
 // What comes of it at process 0 by an entry with so many signatures, which these bytes hold.
 fn absorbed(
-    core: Core<Count>,
+    core: &mut Core<Count>,
     what: Happening,
     spent: bool,
     count: usize,
     bytes: &[u8],
-) -> Result<(Core<Count>, Outcome), AbsorbFault> {
+) -> Result<Outcome, AbsorbFault> {
     let count = u16::try_from(count).unwrap_or(0);
     let Some((signatures, _)) = EntrySignatures::read(count, bytes) else {
         return Err(AbsorbFault::NoMemory);
@@ -97,46 +97,32 @@ fn assert_same(
 // What happens stepped by one, and its entry absorbed by the other. It ends the test where they do not tell the same.
 fn step_and_absorb(
     rt: &(impl AllocGlobal + Abort),
-    live: Core<PlainSigner>,
-    again: Core<Count>,
+    live: &mut Core<PlainSigner>,
+    again: &mut Core<Count>,
     what: Happening,
-) -> (Core<PlainSigner>, Core<Count>) {
-    let (live, outcome) = after(rt, live, &what.event());
+) {
+    let outcome = after(rt, live, &what.event());
     let bytes = kept(rt.alloc(), &outcome.signed).expect(rt, "memory");
     let count = outcome.signed.len();
-    let (again, told) = absorbed(again, what, outcome.spent, count, &bytes).expect(rt, "absorbed");
+    let told = absorbed(again, what, outcome.spent, count, &bytes).expect(rt, "absorbed");
     assert_same_outcome(rt, &outcome, &told).expect(rt, "memory");
-    assert_same(rt, &live, &again).expect(rt, "memory");
-    (live, again)
-}
-
-// All of it stepped by one, and absorbed by the other, one after another.
-fn step_and_absorb_all(
-    rt: &(impl AllocGlobal + Abort),
-    live: Core<PlainSigner>,
-    again: Core<Count>,
-    all: &[Happening],
-) -> (Core<PlainSigner>, Core<Count>) {
-    let mut both = (live, again);
-    for what in all {
-        let (live, again) = both;
-        both = step_and_absorb(rt, live, again, *what);
-    }
-    both
+    assert_same(rt, live, again).expect(rt, "memory");
 }
 
 #[test]
 fn a_journal_absorbed_gives_the_account_of_the_process(rt: HostRuntime) {
-    let (live, again) = (one_member(&rt, 12), one_by_journal(&rt, 12));
-    let (live, again) = step_and_absorb(&rt, live, again, Happening::Hi);
-    assert!(rt; again.used() == 5);
-    let more = [Happening::Tick, Happening::TooLong, Happening::Renew];
-    let (live, again) = step_and_absorb_all(&rt, live, again, &more);
-    assert!(rt; again.used() == 9);
-    let (live, again) = step_and_absorb(&rt, live, again, Happening::Tick);
-    assert!(rt; again.used() == 10);
-    let (_, again) = step_and_absorb(&rt, live, again, Happening::Hi);
-    assert!(rt; again.used() == 12);
+    let (mut live, mut again) = (one_member(&rt, 12), one_by_journal(&rt, 12));
+    for (what, used) in [
+        (Happening::Hi, 5),
+        (Happening::Tick, 5),
+        (Happening::TooLong, 5),
+        (Happening::Renew, 9),
+        (Happening::Tick, 10),
+        (Happening::Hi, 12),
+    ] {
+        step_and_absorb(&rt, &mut live, &mut again, what);
+        assert!(rt; again.used() == used);
+    }
 }
 
 // Whether process 0, as it starts with a key of so many, finds that a Submit of "hi" cannot have come to these signatures.
@@ -147,8 +133,8 @@ fn differs(
     count: usize,
     bytes: &[u8],
 ) -> bool {
-    let core = one_by_journal(rt, total);
-    match absorbed(core, Happening::Hi, spent, count, bytes) {
+    let mut core = one_by_journal(rt, total);
+    match absorbed(&mut core, Happening::Hi, spent, count, bytes) {
         Ok(_) => false,
         Err(fault) => fault == AbsorbFault::Differs,
     }
@@ -156,7 +142,7 @@ fn differs(
 
 // The signatures that process 0 makes when "hi" is submitted, as an entry keeps them.
 fn kept_of_hi(rt: &(impl AllocGlobal + Abort)) -> Result<Vec<u8>, NoMemory> {
-    let (_, outcome) = after(rt, one_member(rt, 100), &Event::Submit(b"hi"));
+    let outcome = after(rt, &mut one_member(rt, 100), &Event::Submit(b"hi"));
     kept(rt.alloc(), &outcome.signed)
 }
 
@@ -181,10 +167,22 @@ fn an_entry_of_other_signatures_or_another_spent_byte_differs(rt: HostRuntime) {
 
 #[test]
 fn an_entry_of_a_refused_event_has_no_signature(rt: HostRuntime) {
-    let core = one_by_journal(&rt, 100);
-    let (core, _) = absorbed(core, Happening::Join, false, 0, &[]).expect(&rt, "absorbed");
+    let mut core = one_by_journal(&rt, 100);
+    let absent = absorbed(&mut core, Happening::Join, false, 0, &[]);
+    assert!(rt; absent.is_ok());
     assert!(rt; core.used() == 0);
-    assert!(rt; absorbed(core, Happening::Join, false, 1, &[0, 0]).is_err());
-    let core = one_by_journal(&rt, 100);
-    assert!(rt; absorbed(core, Happening::Join, true, 0, &[]).is_err());
+    assert!(rt; absorbed(&mut core, Happening::Join, false, 1, &[0, 0]).is_err());
+    assert!(rt; absorbed(&mut core, Happening::Join, true, 0, &[]).is_err());
+}
+
+#[test]
+fn a_process_that_refused_an_entry_absorbs_the_one_that_is_its_own(rt: HostRuntime) {
+    let bytes = kept_of_hi(&rt).expect(&rt, "memory");
+    let mut core = one_by_journal(&rt, 100);
+    assert!(rt; absorbed(&mut core, Happening::Hi, false, 4, &bytes).is_err());
+    assert!(rt; absorbed(&mut core, Happening::Hi, true, 5, &bytes).is_err());
+    assert!(rt; core.used() == 0);
+    assert!(rt; core.account().accepted.is_empty());
+    assert!(rt; absorbed(&mut core, Happening::Hi, false, 5, &bytes).is_ok());
+    assert!(rt; core.used() == 5);
 }

@@ -33,9 +33,9 @@ fn delivered_at_first(core: &Core<PlainSigner>) -> Option<usize> {
 
 #[test]
 fn one_member_signs_five_statements_and_delivers(rt: HostRuntime) {
-    let core = one_member(&rt, 100);
+    let mut core = one_member(&rt, 100);
     let event = Event::Submit(b"hi");
-    let (core, outcome) = after(&rt, core, &event);
+    let outcome = after(&rt, &mut core, &event);
     assert!(rt; outcome.verdict == EventVerdict::Taken);
     assert!(rt; outcome.signed.len() == 5);
     assert!(rt; outcome.sends.is_empty());
@@ -48,9 +48,9 @@ fn one_member_signs_five_statements_and_delivers(rt: HostRuntime) {
 
 #[test]
 fn a_key_of_three_is_spent_before_the_place(rt: HostRuntime) {
-    let core = one_member(&rt, 3);
+    let mut core = one_member(&rt, 3);
     let event = Event::Submit(b"hi");
-    let (core, outcome) = after(&rt, core, &event);
+    let outcome = after(&rt, &mut core, &event);
     assert!(rt; outcome.signed.len() == 3);
     assert!(rt; outcome.spent);
     assert!(rt; outcome.notes.len() == 1);
@@ -61,39 +61,36 @@ fn a_key_of_three_is_spent_before_the_place(rt: HostRuntime) {
 #[test]
 fn a_payload_of_1024_bytes_is_taken_and_one_of_1025_is_too_long(rt: HostRuntime) {
     let bytes = [97; 1025];
-    let core = one_member(&rt, 100);
+    let mut core = one_member(&rt, 100);
     let long = Event::Submit(&bytes);
-    let (core, outcome) = after(&rt, core, &long);
+    let outcome = after(&rt, &mut core, &long);
     assert!(rt; outcome.verdict == EventVerdict::Refused(EventFault::TooLong));
     assert!(rt; outcome.signed.is_empty());
     assert!(rt; outcome.notes.is_empty());
     assert!(rt; core.used() == 0);
     assert!(rt; core.account().accepted.is_empty());
     let short = Event::Submit(&bytes[..1024]);
-    let (core, outcome) = after(&rt, core, &short);
+    let outcome = after(&rt, &mut core, &short);
     assert!(rt; outcome.verdict == EventVerdict::Taken);
     assert!(rt; core.account().accepted.len() == 1);
 }
 
-// The process after so many payloads more, and whether it took each of them.
-fn submitted(rt: &impl Abort, first: Core<PlainSigner>, count: u32) -> (Core<PlainSigner>, bool) {
-    let mut core = first;
+// Whether the process took each of so many payloads more.
+fn takes_each(rt: &impl Abort, core: &mut Core<PlainSigner>, count: u32) -> bool {
     let mut each = true;
     'payloads: for _ in 0..count {
-        let (next, outcome) = after(rt, core, &Event::Submit(b"hi"));
-        core = next;
+        let outcome = after(rt, core, &Event::Submit(b"hi"));
         each = each && outcome.verdict == EventVerdict::Taken;
     }
-    (core, each)
+    each
 }
 
 #[test]
 fn a_key_that_signs_nothing_takes_256_payloads_and_no_more(rt: HostRuntime) {
-    let core = one_member(&rt, 0);
-    let (core, each) = submitted(&rt, core, 256);
-    assert!(rt; each);
+    let mut core = one_member(&rt, 0);
+    assert!(rt; takes_each(&rt, &mut core, 256));
     let event = Event::Submit(b"hi");
-    let (core, outcome) = after(&rt, core, &event);
+    let outcome = after(&rt, &mut core, &event);
     assert!(rt; outcome.verdict == EventVerdict::Refused(EventFault::Backlog));
     assert!(rt; !outcome.spent);
     assert!(rt; core.account().accepted.len() == 256);
@@ -101,9 +98,9 @@ fn a_key_that_signs_nothing_takes_256_payloads_and_no_more(rt: HostRuntime) {
 
 #[test]
 fn one_without_a_key_cannot_join(rt: HostRuntime) {
-    let core = one_member(&rt, 100);
+    let mut core = one_member(&rt, 100);
     let event = Event::Join(Pid::new(1).unwrap());
-    let (core, outcome) = after(&rt, core, &event);
+    let outcome = after(&rt, &mut core, &event);
     assert!(rt; outcome.verdict == EventVerdict::Refused(EventFault::NoKey));
     assert!(rt; core.account().perceived.is_empty());
 }

@@ -6,4 +6,6 @@ mod absorbed;
 #[cfg(test)]
 mod alone;
 #[cfg(test)]
+mod lost;
+#[cfg(test)]
 mod members;

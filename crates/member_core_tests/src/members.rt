@@ -19,31 +19,32 @@ fn roster(alloc: Global) -> Result<Roster, NoMemory> {
 }
 
 // Process 0 alone, with this signer, which has signed nothing.
-fn alone<G: Tally + Drop>(rt: &(impl AllocGlobal + Abort), signer: G) -> Core<G>
+fn alone<G: Tally + Drop>(alloc: Global, signer: G) -> Result<Core<G>, NoMemory>
     requires { G.used signer ≡ 0 }
 {
-    let alloc = rt.alloc();
     let me = Pid::new(0).unwrap();
-    let genesis = View::new(0, &[me]).expect(rt, "a view");
-    let roster = roster(alloc).expect(rt, "memory");
-    Core::new(alloc, GROUP, roster, genesis, me, 1, signer).expect(rt, "memory")
+    let Some(genesis) = View::new(0, &[me]) else {
+        return Err(NoMemory);
+    };
+    Core::new(alloc, GROUP, roster(alloc)?, genesis, me, 1, signer)
 }
 
 /// Process 0 alone, whose key signs so many statements.
+pub fn try_one_member(alloc: Global, total: u32) -> Result<Core<PlainSigner>, NoMemory> {
+    alone(alloc, PlainSigner::new(KEY, total))
+}
+
+/// The same, in a test that has the memory.
 pub fn one_member(rt: &(impl AllocGlobal + Abort), total: u32) -> Core<PlainSigner> {
-    alone(rt, PlainSigner::new(KEY, total))
+    try_one_member(rt.alloc(), total).expect(rt, "memory")
 }
 
 /// Process 0 alone, for someone who has its journal and not its key.
 pub fn one_by_journal(rt: &(impl AllocGlobal + Abort), total: u32) -> Core<Count> {
-    alone(rt, Count::new(total))
+    alone(rt.alloc(), Count::new(total)).expect(rt, "memory")
 }
 
-/// The process after the event, and what came of it.
-pub fn after(
-    rt: &impl Abort,
-    core: Core<PlainSigner>,
-    event: &Event<'_>,
-) -> (Core<PlainSigner>, Outcome) {
+/// What came of the event, which the process has taken.
+pub fn after(rt: &impl Abort, core: &mut Core<PlainSigner>, event: &Event<'_>) -> Outcome {
     core.step(&PlainScheme, event).expect(rt, "memory")
 }

@@ -1,15 +1,15 @@
 -- The state of a process that has installed a view.
-use Rattle.std.proofs.Common.{◌≡◌, ℕ, ◌+◌, ◌*◌, ◌<◌, ◌≤◌, List, [], ◌∷◌, ◌++◌, map, length, Option, Some, None, Bool, true, false, refl, sym, ap, ◌∙◌, subst, arith, inl, inr}
+use Rattle.std.proofs.Common.{◌≡◌, ℕ, ◌+◌, ◌≤◌, List, [], ◌∷◌, ◌++◌, map, length, Option, Some, None, Bool, true, false, refl, sym, ap, ◌∙◌, subst, arith, inl, inr}
 use Rattle.std.specs.Prelude.{All, is_none, Result, Ok, Err, if◌then◌else◌, ◌==◌, nat_lt}
 use Rattle.std.specs.Result.{result_ok}
 use Rattle.std.proofs.lemmas.Bool.{cases_lt, eq-eqb, lt-ltb}
 use Rattle.byte_defs.specs.Choices.{first_that_holds}
 use Rattle.message_defs.specs.Limits.{last_number}
 use Rattle.group_defs.proofs.FollowingViews.{next_is_view}
-use Rattle.std.proofs.lemmas.List.{length-append, length-map, map-append}
-use Rattle.message_defs.specs.Statements.{Claim, Ready, view_of}
+use Rattle.std.proofs.lemmas.List.{map-append}
+use Rattle.message_defs.specs.Statements.{Ready}
 use Rattle.message_defs.specs.Updates.{Update, Value}
-use Rattle.group_defs.specs.Views.{View, UpdateFault, ViewsSpent, IsView, update_faults, has_keys, is_possible, next, next_fault, next_view}
+use Rattle.group_defs.specs.Views.{View, UpdateFault, ViewsSpent, IsView, update_faults, has_keys, next, next_fault, next_view}
 use Rattle.group_defs.specs.Process as defs
 use Rattle.group_defs.specs.Process.{Setting, Process, Left, delivered_from, deliveries_of, earlier, keyed, views_of}
 use Rattle.group_defs.specs.Certified.{certificate, is_ended}
@@ -21,7 +21,7 @@ use Rattle.member_state.specs.Events.{note}
 use Rattle.member_settling.specs.Told.{TellsInstalled}
 use Rattle.member_settling.specs.Begun.{IsLast}
 use Rattle.member_settling.proofs.Real.{last}
-use Rattle.pool_laws.proofs.Members.{All-mem, Mem, mem-All}
+use Rattle.pool_laws.proofs.Members.{All-mem, mem-All}
 use Rattle.pool_laws.proofs.Tests.{and-first, none-is}
 use Rattle.claim_index.specs.Kept.{empty_pool}
 use Rattle.own_place.specs.Owns.{Tells}
@@ -33,10 +33,9 @@ use Rattle.member_laws.specs.Telling.{Begins}
 use Rattle.member_laws.proofs.Lawful.{installing_is_lawful}
 use Rattle.member_laws.proofs.Telling.{installing_tells}
 use Rattle.member_state.specs.declared.state.ProcessState.{ProcessState}
-use Rattle.member_state.specs.Bounds.{IsBounded}
 use Rattle.member_state.specs.States.{IsStateOf}
 use Rattle.member_settling.specs.Steps.{in_phase, IsLeaving}
-use Rattle.member_settling.proofs.Bounded.{delivered-few, earlier-few, installing-bounded}
+use Rattle.member_settling.proofs.Bounded.{installing-bounded}
 use Rattle.member_settling.proofs.Installing.{length-more, none-perceived, none-signed, numbered}
 
 -- ---- the view that follows

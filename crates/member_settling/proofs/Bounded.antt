@@ -1,14 +1,14 @@
 -- What the next place delivers is in range, and a process stays bounded.
-use Rattle.std.proofs.Common.{◌≡◌, ℕ, suc, ◌+◌, ◌*◌, ◌≤◌, List, [], ◌∷◌, ◌++◌, map, length, Some, cond, refl, sym, ap, ◌∙◌, subst, arith}
+use Rattle.std.proofs.Common.{◌≡◌, ℕ, ◌+◌, ◌*◌, ◌≤◌, List, [], ◌∷◌, ◌++◌, map, length, Some, cond, refl, sym, ap, ◌∙◌, subst, arith}
 use Rattle.std.specs.Prelude.{◌==◌, All, sum}
 use Rattle.std.proofs.lemmas.List.{length-append, length-map}
 use Rattle.std.proofs.lemmas.List.Sums.{sum_by-append, sum_by-le, count_by-le-length}
-use Rattle.message_defs.specs.Limits.{last_number, most_messages, most_places}
+use Rattle.message_defs.specs.Limits.{last_number, most_messages}
 use Rattle.message_defs.specs.Spelling.{IsBatch, IsStatement}
 use Rattle.message_defs.specs.Updates.{Value}
-use Rattle.message_defs.specs.Statements.{Message, Batch, Place, Ready}
+use Rattle.message_defs.specs.Statements.{Message, Batch, Place}
 use Rattle.group_defs.specs.Process.{Pool, Delivered, Left, Process, delivered_from, places_in, earlier}
-use Rattle.group_defs.specs.Certified.{place_at, certificate}
+use Rattle.group_defs.specs.Certified.{place_at}
 use Rattle.group_defs.specs.Settle.{delivery, deliverable, install}
 use Rattle.rule_laws.specs.Heard.{IsPool}
 use Rattle.rule_laws.proofs.Certified.{certified-ranges}

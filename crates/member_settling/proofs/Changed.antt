@@ -1,24 +1,24 @@
 -- A process with another decision, or that has halted, and its state in another phase.
-use Rattle.std.proofs.Common.{◌≡◌, inl, inr, ℕ, ◌<◌, Option, Some, None, Bool, true, false, refl, sym, ap, ◌∙◌, subst}
+use Rattle.std.proofs.Common.{◌≡◌, inl, inr, ℕ, ◌<◌, Option, Some, None, Bool, true, false, refl, sym, ap, ◌∙◌}
 use Rattle.std.specs.Option.{option_or}
 use Rattle.message_defs.specs.Updates.{Value}
 use Rattle.group_defs.specs.Views.{is_member}
 use Rattle.group_defs.specs.Process.{Setting, Pool, Process, places_in}
 use Rattle.group_defs.specs.Settle.{decide, decided_by, Observing, OpenView, ClosingView}
-use Rattle.pool_laws.proofs.Tests.{none-some, option_or-is}
+use Rattle.pool_laws.proofs.Tests.{option_or-is}
 use Rattle.own_place.specs.declared.own.Own.{Own}
 use Rattle.own_place.specs.Owns.{Tells}
 use Rattle.reliable_mcast.specs.Archives.{Archived, Keeps}
 use Rattle.view_phases.specs.declared.phases.Phase.{Phase}
 use Rattle.view_phases.specs.declared.phases.Phase.TheVariants as phases
-use Rattle.view_phases.specs.Phases.{IsIn, IsDecided, IsClosing, IsHalted, decided, decision_of}
+use Rattle.view_phases.specs.Phases.{IsIn, decided, decision_of}
 use Rattle.member_laws.specs.Lawful.{IsLawful}
 use Rattle.member_state.specs.declared.state.ProcessState.{ProcessState}
 use Rattle.member_state.specs.Bounds.{IsBounded}
 use Rattle.member_state.specs.States.{IsStateOf, IsDecision}
 use Rattle.member_settling.specs.Steps.{in_phase}
 use Rattle.member_settling.proofs.Decisions.{decided-is}
-use Rattle.member_settling.proofs.Phases.{IsUndecided, observing, open_, closing, undecided, runs, halted}
+use Rattle.member_settling.proofs.Phases.{observing, open_, closing, undecided}
 
 clash : {A : Type 0} (b : Bool) → b ≡ false → b ≡ true → A
 clash b e f = absurd (let no : false ≡ true = sym e ∙ f in cc)

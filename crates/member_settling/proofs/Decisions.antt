@@ -1,11 +1,11 @@
 -- What decides a view.
-use Rattle.std.proofs.Common.{◌≡◌, ℕ, List, [], ◌∷◌, Option, Some, None, Bool, true, false, refl, sym, ap, ◌∙◌, subst}
+use Rattle.std.proofs.Common.{◌≡◌, ℕ, List, Some, None, Bool, true, false, refl, sym, ap, ◌∙◌, subst}
 use Rattle.std.specs.Prelude.{if◌then◌else◌, ◌&&◌, is_none, option_and_then}
 use Rattle.std.specs.List.{range_with_len}
 use Rattle.byte_defs.specs.Members.{has}
 use Rattle.message_defs.specs.Updates.{Update, Remove, Add, Renew, Value}
 use Rattle.message_defs.specs.Statements.{Statement, Ready, ReadyAt, slot_of, value_of}
-use Rattle.group_defs.specs.Views.{View, next_fault, has_keys, is_possible}
+use Rattle.group_defs.specs.Views.{View, next_fault, is_possible}
 use Rattle.group_defs.specs.Process.{Setting, Pool, keyed}
 use Rattle.group_defs.specs.Certified.{certified_on, number_of_members, readied, value_at}
 use Rattle.group_defs.specs.Settle.{decided_at, decided_by}

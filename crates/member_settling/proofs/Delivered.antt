@@ -1,9 +1,8 @@
 -- The state of a process that has delivered one place more.
-use Rattle.std.proofs.Common.{◌≡◌, ℕ, ◌+◌, ◌<◌, ◌≤◌, List, [], ◌∷◌, ◌++◌, map, length, Option, Some, None, Bool, true, false, refl, sym, ap, ◌∙◌, subst, arith}
+use Rattle.std.proofs.Common.{◌≡◌, ℕ, ◌<◌, List, [], ◌∷◌, ◌++◌, map, Option, Some, None, true, refl, sym, ap, ◌∙◌, subst, arith}
 use Rattle.std.specs.Option.{option_map_or}
 use Rattle.message_defs.specs.Updates.{Value}
 use Rattle.message_defs.specs.Statements.{Batch}
-use Rattle.group_defs.specs.Views.{is_member}
 use Rattle.group_defs.specs.Process as defs
 use Rattle.group_defs.specs.Process.{Setting, Process, Left, places_in}
 use Rattle.group_defs.specs.Certified.{fixed_length}
@@ -13,7 +12,7 @@ use Rattle.group_defs.specs.Accounts.{Account, account_of}
 use Rattle.own_place.specs.declared.own.Own.{Own}
 use Rattle.view_phases.specs.declared.phases.Phase.{Phase}
 use Rattle.view_phases.specs.declared.phases.Phase.TheVariants as phases
-use Rattle.view_phases.specs.Phases.{IsIn, IsDecided, IsClosing, IsHalted, decided, decision_of}
+use Rattle.view_phases.specs.Phases.{IsIn}
 use Rattle.accounts.specs.declared.account.Account as code
 use Rattle.accounts.specs.Views.{account}
 use Rattle.member_laws.specs.Lawful.{IsLawful}
@@ -22,7 +21,7 @@ use Rattle.member_laws.proofs.Telling.{delivering_tells}
 use Rattle.member_state.specs.declared.state.ProcessState.{ProcessState}
 use Rattle.stmt_codec.specs.declared.events.Note as notes
 use Rattle.member_state.specs.Events.{note}
-use Rattle.member_state.specs.States.{IsStateOf, IsDecision}
+use Rattle.member_state.specs.States.{IsStateOf}
 use Rattle.member_settling.specs.Told.{ArePutLast}
 use Rattle.member_settling.specs.Steps as steps
 use Rattle.member_settling.specs.Steps.{ComesNext}

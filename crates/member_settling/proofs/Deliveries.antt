@@ -1,8 +1,8 @@
 -- Delivering, place by place.
-use Rattle.std.proofs.Common.{◌≡◌, ℕ, zero, suc, ◌+◌, ◌-◌, ◌≤◌, List, [], ◌∷◌, ◌++◌, Option, Some, None, Bool, true, false, refl, sym, ap, ◌∙◌, subst, arith}
+use Rattle.std.proofs.Common.{◌≡◌, ℕ, zero, suc, ◌-◌, List, ◌++◌, Option, Some, None, Bool, true, false, refl, ap}
 use Rattle.std.specs.Prelude.{if◌then◌else◌}
 use Rattle.group_defs.specs.Views.{is_member}
-use Rattle.group_defs.specs.Process.{Process, Delivered, Left, places_in}
+use Rattle.group_defs.specs.Process.{Process, Delivered, places_in}
 use Rattle.group_defs.specs.Settle.{deliverable, deliver_more, deliver, limit}
 
 pub no-more : (p : Process) → deliver_more 0 p ≡ p

@@ -12,3 +12,4 @@ pub mod Begun
 pub mod Staying
 pub mod Real
 pub mod Own
+pub mod Marked

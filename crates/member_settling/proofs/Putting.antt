@@ -1,8 +1,7 @@
 -- The messages of a place, put one behind the other.
-use Rattle.std.proofs.Common.{◌≡◌, ℕ, zero, suc, ◌+◌, ◌≤◌, List, [], ◌∷◌, ◌++◌, map, length, drop, Option, Some, None, refl, sym, ap, ◌∙◌, subst, arith, slice_get, append_assoc}
-use Rattle.std.specs.Prelude.{option_map, option_and_then}
+use Rattle.std.proofs.Common.{◌≡◌, ℕ, zero, suc, ◌+◌, ◌≤◌, List, [], ◌∷◌, ◌++◌, map, length, drop, Some, refl, sym, ap, ◌∙◌, subst, arith, slice_get, append_assoc}
+use Rattle.std.specs.Prelude.{option_map}
 use Rattle.std.proofs.lemmas.List.{append-nil, map-append}
-use Rattle.message_defs.specs.Statements.{Message, Batch}
 use Rattle.group_defs.specs.Process as defs
 use Rattle.group_defs.specs.Process.{Pool}
 use Rattle.group_defs.specs.Certified.{payload_at}
@@ -14,7 +13,30 @@ use Rattle.stmt_codec.specs.declared.events.Delivered.{Delivered}
 use Rattle.stmt_codec.specs.declared.events.Note.{Note}
 use Rattle.accounts.specs.Views as accounts
 use Rattle.member_state.specs.Events.{note}
-use Rattle.member_settling.specs.Told.{ArePut}
+use Rattle.member_settling.specs.Told.{ArePut, HasMore}
+
+-- ---- more behind what was
+
+pub more-same : (was now : List Delivered) → now ≡ was → HasMore was now
+more-same was now same = record {
+  more = [];
+  delivered = ap (map accounts.delivery) same ∙ sym (append-nil (map accounts.delivery was));
+}
+
+pub more-one : (was now : List Delivered) (d : Delivered) → now ≡ was ++ d ∷ [] → HasMore was now
+more-one was now d put = record {
+  more = accounts.delivery d ∷ [];
+  delivered = ap (map accounts.delivery) put ∙ map-append accounts.delivery was (d ∷ []);
+}
+
+pub more-both : (was now then_ : List Delivered) → HasMore was now → HasMore now then_ → HasMore was then_
+more-both was now then_ a b = record {
+  more = a.more ++ b.more;
+  delivered = b.delivered ∙ ap (λ (ds : List defs.Delivered). ds ++ b.more) a.delivered
+      ∙ append_assoc (map accounts.delivery was) a.more b.more;
+}
+
+-- ---- all the messages of a place
 
 -- the message at the place, with its payload
 abbrev pub one : ℕ → ℕ × ℕ → List ℕ → defs.Delivered

@@ -1,13 +1,12 @@
 -- What is known of the state of some process.
-use Rattle.std.proofs.Common.{◌≡◌, ℕ, suc, ◌+◌, ◌*◌, ◌≤◌, List, [], ◌∷◌, ◌++◌, map, length, Some, refl, sym, ap, ◌∙◌, subst, arith, inl, inr}
-use Rattle.std.specs.Prelude.{All, slice_index_or}
+use Rattle.std.proofs.Common.{◌≡◌, ℕ, ◌+◌, ◌≤◌, List, [], ◌∷◌, map, length, Some, refl, sym, ap, ◌∙◌, subst, arith, inl, inr}
+use Rattle.std.specs.Prelude.{All}
 use Rattle.std.specs.List.{AllByRecursion}
 use Rattle.std.proofs.lemmas.List.{length-map}
 use Rattle.message_defs.specs.Spelling.{IsClaim}
 use Rattle.message_defs.specs.Statements.{ReadyAt}
 use Rattle.message_defs.specs.Updates.{Value}
-use Rattle.group_defs.specs.Process as defs
-use Rattle.group_defs.specs.Process.{Setting, Process, Left, Pool, delivered_from, earlier, places_in}
+use Rattle.group_defs.specs.Process.{Setting, Process, Left, Pool, delivered_from}
 use Rattle.group_defs.specs.Certified.{value_at}
 use Rattle.group_defs.specs.Accounts.{Account}
 use Rattle.pool_laws.proofs.Members.{Mem, All-mem, map-mem, mem-All}

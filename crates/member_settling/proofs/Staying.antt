@@ -1,5 +1,5 @@
 -- A process that leaves its view, or stays in it.
-use Rattle.std.proofs.Common.{◌≡◌, ℕ, ◌+◌, ◌<◌, ◌≤◌, List, [], ◌∷◌, ◌++◌, map, length, drop, Option, Some, None, Bool, true, false, refl, sym, ap, ◌∙◌, subst, arith}
+use Rattle.std.proofs.Common.{◌≡◌, ℕ, ◌<◌, List, ◌++◌, map, length, drop, Option, Some, None, Bool, true, false, refl, sym, ap, ◌∙◌, subst, arith}
 use Rattle.std.specs.Prelude.{if◌then◌else◌, ◌==◌, nat_lt}
 use Rattle.std.proofs.lemmas.Bool.{lt-ltb, ltb-true, ne_eqb}
 use Rattle.std.proofs.lemmas.List.{append-nil}
@@ -7,13 +7,13 @@ use Rattle.message_defs.specs.Updates.{Value}
 use Rattle.group_defs.specs.Views.{is_member}
 use Rattle.group_defs.specs.Process.{Setting, Process, places_in}
 use Rattle.group_defs.specs.Events.{Note, Delivers, Installs, note_if}
-use Rattle.group_defs.specs.Settle.{decide, install, leave, leave_by, Observing, OpenView, ClosingView}
+use Rattle.group_defs.specs.Settle.{install, leave, leave_by, Observing, OpenView, ClosingView}
 use Rattle.stmt_codec.specs.declared.events.Note as code
 use Rattle.view_phases.specs.declared.phases.DecidedView.{DecidedView}
 use Rattle.view_phases.specs.declared.phases.HaltedView.{HaltedView}
 use Rattle.view_phases.specs.declared.phases.Phase.{Phase}
 use Rattle.view_phases.specs.declared.phases.Phase.TheVariants as phases
-use Rattle.view_phases.specs.Phases.{IsIn, IsDecided, IsHalted, counts, decided}
+use Rattle.view_phases.specs.Phases.{IsIn, IsHalted, counts, decided}
 use Rattle.member_state.specs.declared.state.ProcessState.{ProcessState}
 use Rattle.member_state.specs.Events.{note}
 use Rattle.member_state.specs.States.{IsStateOf}

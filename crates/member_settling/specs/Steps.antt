@@ -1,12 +1,11 @@
 -- What settling makes of a process and its state, step by step.
-use Rattle.std.specs.Prelude.{◌≡◌, ◌<◌, ℕ, List, Option, Some, false, map}
+use Rattle.std.specs.Prelude.{◌≡◌, ◌<◌, ℕ, List, Some, false}
 use Rattle.message_defs.specs.Updates.{Value}
 use Rattle.message_defs.specs.Statements.{Batch}
 use Rattle.group_defs.specs.Process as defs
 use Rattle.group_defs.specs.Process.{Setting, Process, places_in}
 use Rattle.group_defs.specs.Settle.{deliverable, limit}
 use Rattle.stmt_codec.specs.declared.events.Note.{Note}
-use Rattle.accounts.specs.Views.{delivery}
 use Rattle.multicast_rules.specs.Delivering.{batch_in}
 use Rattle.view_phases.specs.declared.phases.Phase.{Phase}
 use Rattle.member_state.specs.declared.state.ProcessState.{ProcessState}

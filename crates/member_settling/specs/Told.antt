@@ -19,6 +19,16 @@ pub record ArePutLast (view : ℕ) (ds : List defs.Delivered) (before : List (Li
   pub delivered : now ≡ before ++ (last ++ ds) ∷ []
   pub told : map note notes_now ≡ map note notes_was ++ map (Delivers view) ds
 
+-- more may be delivered behind what was
+pub record HasMore (was now : List Delivered) : Type 0 where
+  pub more : List defs.Delivered
+  pub delivered : map delivery now ≡ map delivery was ++ more
+
+-- the same, where what was delivered in the current view is the last of the lists by views, behind these
+pub record HasMoreLast (before : List (List defs.Delivered)) (last : List defs.Delivered) (now : List (List defs.Delivered)) : Type 0 where
+  pub more : List defs.Delivered
+  pub delivered : now ≡ before ++ (last ++ more) ∷ []
+
 -- q delivered more than p in the same view, and each of these is told
 pub record TellsDelivered (p q : Process) (was now : List Note) : Type 0 where
   pub more : List defs.Delivered

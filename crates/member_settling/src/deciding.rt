@@ -6,11 +6,12 @@ ghost use Rattle.group_defs.specs.Settle as defs;
 ghost use Rattle.claim_pool.specs.Certificates.{content_of};
 ghost use Rattle.ending_rules.specs.Due.{HasKeys};
 ghost use Rattle.view_phases.specs.Phases.{decides, IsIn};
+ghost use Rattle.member_state.specs.Marks.{Stays};
 ghost use Rattle.member_state.specs.States.{IsStateOf};
 
 use crate::taking::take_phase;
 use claim_pool::{Certificate, Commit, Own, Pool};
-use member_state::ProcessState;
+use member_state::{Before, ProcessState};
 use rank_rules::{commit, decided};
 use rp_base::PidSet;
 use view_phases::Phase;
@@ -59,7 +60,9 @@ fn phase_then(phase: Phase, pool: &Pool, own: &Own) -> Phase
 /// Decides the view: by the certified Ready of the least rank whose update is possible, where the view is undecided and there
 /// is one.
 pub(crate) fn decide(state: &mut ProcessState)
-    ensures { (s : Setting) (p : Process) → IsStateOf s p state.old → IsStateOf s (defs.decide s p) state.new }
+    ensures decides { (s : Setting) (p : Process) → IsStateOf s p state.old → IsStateOf s (defs.decide s p) state.new }
+    ensures stays { (b : Before) (was : ProcessState) → Stays b was state.old → Stays b was state.new }
+    ensures left { state.new.left ≡ state.old.left }
 {
     let begun = Phase::begin(state.pool.view(), state.own.me);
     let phase = take_phase(&mut state.phase, begun);

@@ -7,12 +7,13 @@ ghost use Rattle.group_defs.specs.Settle as settle;
 ghost use Rattle.accounts.specs.Views.{delivery};
 ghost use Rattle.statements.specs.Batches.{message_of};
 ghost use Rattle.view_phases.specs.Phases.{IsIn};
+ghost use Rattle.member_state.specs.Marks.{Stays};
 ghost use Rattle.member_state.specs.States.{IsStateOf, IsReal};
-ghost use Rattle.member_settling.specs.Told.{ArePut, ArePutLast};
+ghost use Rattle.member_settling.specs.Told.{ArePut, ArePutLast, HasMore, HasMoreLast};
 ghost use Rattle.member_settling.specs.Steps.{ComesNext, Delivers};
 
 use claim_pool::Pool;
-use member_state::{Delivered, ProcessState};
+use member_state::{Before, Delivered, ProcessState};
 use multicast_rules::deliverable;
 use own_moves::deliver_batch;
 use pool_questions::certified_payload;
@@ -41,10 +42,11 @@ fn put_message(
     delivered: &mut Vec<Delivered>,
     notes: &mut Vec<Note>,
 ) -> Result<(), NoMemory>
-    ensures { (payload : List ℕ) → payload_at pool.now.pool (message_of message.now) ≡ Some payload
+    ensures puts { (payload : List ℕ) → payload_at pool.now.pool (message_of message.now) ≡ Some payload
         → OnOk result (ArePut pool.now.pool.view.number
         (record { place = place; message = message_of message.now; payload = payload }
         ∷ []) delivered.old.items delivered.new.items notes.old.items notes.new.items) }
+    ensures more { HasMore delivered.old.items delivered.new.items }
 {
     let (sender, number) = *message;
     let Some(payload) = certified_payload(pool, sender, number) else {
@@ -75,8 +77,9 @@ fn put_messages(
     delivered: &mut Vec<Delivered>,
     notes: &mut Vec<Note>,
 ) -> Result<(), NoMemory>
-    ensures { (ds : List defs.Delivered) → settle.delivery pool.now.pool place (map message_of messages.now) ≡ Some ds
+    ensures puts { (ds : List defs.Delivered) → settle.delivery pool.now.pool place (map message_of messages.now) ≡ Some ds
         → OnOk result (ArePut pool.now.pool.view.number ds delivered.old.items delivered.new.items notes.old.items notes.new.items) }
+    ensures more { HasMore delivered.old.items delivered.new.items }
 {
     'messages: for message in messages {
         put_message(pool, alloc, place, message, delivered, notes)?;
@@ -93,11 +96,14 @@ fn put_batch(
     lists: &mut Vec<Vec<Delivered>>,
     notes: &mut Vec<Note>,
 ) -> Result<(), NoMemory>
-    ensures { (ds : List defs.Delivered) → settle.delivery pool.now.pool place batch.now ≡ Some ds
+    ensures puts { (ds : List defs.Delivered) → settle.delivery pool.now.pool place batch.now ≡ Some ds
         → (before : List (List defs.Delivered)) (last : List defs.Delivered)
         → map (λ ds. map delivery ds.items) lists.old.items ≡ before ++ last ∷ []
         → OnOk result (ArePutLast pool.now.pool.view.number ds before last
         (map (λ ds. map delivery ds.items) lists.new.items) notes.old.items notes.new.items) }
+    ensures more { (before : List (List defs.Delivered)) (last : List defs.Delivered)
+        → map (λ ds. map delivery ds.items) lists.old.items ≡ before ++ last ∷ []
+        → HasMoreLast before last (map (λ ds. map delivery ds.items) lists.new.items) }
 {
     match lists.last_mut() {
         Some(delivered) => put_messages(pool, alloc, place, batch.messages(), delivered, notes),
@@ -113,8 +119,10 @@ fn deliver_place(
     notes: &mut Vec<Note>,
 ) -> Result<(), NoMemory>
     requires { IsReal state.old }
-    ensures { (s : Setting) (p : Process) → IsStateOf s p state.old → (ds : List defs.Delivered) → ComesNext p ds batch.now
+    ensures delivers { (s : Setting) (p : Process) → IsStateOf s p state.old → (ds : List defs.Delivered) → ComesNext p ds batch.now
         → OnOk result (Delivers s p (record p { delivered = p.delivered ++ ds }) state.new notes.old.items notes.new.items) }
+    ensures stays { (b : Before) (was : ProcessState) → Stays b was state.old → Stays b was state.new }
+    ensures left { state.new.left ≡ state.old.left }
 {
     let place = state.own.delivered;
     put_batch(
@@ -138,8 +146,10 @@ fn deliver_below(
 ) -> Result<(), NoMemory>
     requires real { IsReal state.old }
     requires limit { (s : Setting) (p : Process) → IsStateOf s p state.old → limit ≡ settle.limit p }
-    ensures { (s : Setting) (p : Process) → IsStateOf s p state.old
+    ensures delivers { (s : Setting) (p : Process) → IsStateOf s p state.old
         → OnOk result (Delivers s p (settle.deliver_more (limit - places_in p.delivered) p) state.new notes.old.items notes.new.items) }
+    ensures stays { (b : Before) (was : ProcessState) → Stays b was state.old → Stays b was state.new }
+    ensures left { state.new.left ≡ state.old.left }
 {
     'places: for _place in state.own.delivered..limit {
         let Some(batch) = deliverable(&state.pool, &state.own, limit) else {
@@ -151,15 +161,17 @@ fn deliver_below(
 }
 
 /// Delivers what a member may: place by place, up to the limit, as far as places and their messages are certified. Others deliver
-/// nothing.
+/// nothing. Without memory some of it may be delivered.
 pub(crate) fn deliver(
     state: &mut ProcessState,
     alloc: Global,
     notes: &mut Vec<Note>,
 ) -> Result<(), NoMemory>
     requires { IsReal state.old }
-    ensures { (s : Setting) (p : Process) → IsStateOf s p state.old
+    ensures delivers { (s : Setting) (p : Process) → IsStateOf s p state.old
         → OnOk result (Delivers s p (settle.deliver p) state.new notes.old.items notes.new.items) }
+    ensures stays { (b : Before) (was : ProcessState) → Stays b was state.old → Stays b was state.new }
+    ensures left { state.new.left ≡ state.old.left }
 {
     if !state.pool.view().is_member(state.own.me) {
         return Ok(());

@@ -1,5 +1,5 @@
 //! A decided view is left: the process waits for what is left below the cut, installs the next view, or halts beyond the cut.
-ghost use Rattle.std.specs.Prelude.{◌≡◌, ◌+◌, ◌≤◌, ◌++◌, None, false, List, ◌∷◌, [], length, map, count_by, ◌==◌, Some, OnOk};
+ghost use Rattle.std.specs.Prelude.{◌≡◌, ◌+◌, ◌≤◌, ◌++◌, None, false, List, ◌∷◌, [], length, map, count_by, ◌==◌, Some, OnOk, OnErr, IfOk};
 ghost use Rattle.message_defs.specs.Statements.{Ready, ReadyAt};
 ghost use Rattle.message_defs.specs.Updates as plain;
 ghost use Rattle.std.specs.Result.{result_ok};
@@ -20,16 +20,19 @@ ghost use Rattle.member_laws.specs.Telling.{Begins};
 ghost use Rattle.reliable_mcast.specs.Certificates.{all_signed, IsRanged};
 ghost use Rattle.view_phases.specs.Phases.{counts, decision_of, IsIn};
 ghost use Rattle.member_state.specs.Events.{note};
+ghost use Rattle.member_state.specs.Marks.{Stays, Since};
 ghost use Rattle.member_state.specs.States.{IsStateOf, IsReal};
 ghost use Rattle.member_settling.specs.Steps.{in_phase, IsLeaving, CanLeave, Leaves};
 ghost use Rattle.member_settling.specs.Begun.{IsLast, HasShortLast};
 
 use crate::taking::take_phase;
 use arrayvec::ArrayVec;
+use claim_lists::ClaimList;
 use claim_pool::{Own, Pool};
 use ending_rules::Perceived;
-use member_state::{Account, Delivered, ProcessState};
+use member_state::{Account, Before, Delivered, LeftView, ProcessState};
 use own_moves::begin_view;
+use reliable_mcast::Displaced;
 use rp_base::{NoMemory, Pid, Update};
 use std::alloc::Global;
 use std::mem;
@@ -67,62 +70,93 @@ fn own_delivered(account: &Account) -> u16
     }
 }
 
-// Turns to the view, and keeps the pool and the commit certificate of the one that is left.
+// Puts the view, in which nothing is delivered yet, behind those of the account. Without memory, the account is as before.
+fn put_view(account: &mut Account, view: &View, alloc: Global) -> Result<(), NoMemory>
+    ensures put { OnOk result (told account.new
+        ≡ record (told account.old) {
+          views = (told account.old).views ++ view.now ∷ [];
+          delivered = (told account.old).delivered ++ [] ∷ [];
+        }) }
+    ensures same { OnErr result (told account.new ≡ told account.old) }
+{
+    account.views.push(view.clone()?)?;
+    match account.delivered.push(Vec::new(alloc)) {
+        Ok(()) => Ok(()),
+        Err(_) => {
+            account.views.pop();
+            Err(NoMemory)
+        }
+    }
+}
+
+// Turns to the view, puts it behind those of the account, and keeps the pool and the commit certificate of the one that is left. The
+// pool that was kept before is handed out. Without memory, all of it is as before.
 fn keep_left(
     state: &mut ProcessState,
     view: &View,
     decision: Decision,
     alloc: Global,
-) -> Result<(), NoMemory>
+) -> Result<Displaced, NoMemory>
     requires range { IsRanged state.old.pool.pool }
     requires certified { value_at state.old.pool.pool (ReadyAt state.old.pool.pool.view.number decision.rank)
         ≡ Some (value decision.value) }
     requires order { state.old.pool.pool.view.number ≡ length state.old.archive.commits }
     ensures begins { OnOk result (state.new.pool.pool ≡ empty_pool view.now) }
     ensures previous { OnOk result (state.new.archive.previous ≡ Some state.old.pool.pool) }
+    ensures marked { OnOk result (state.new.archive.marked ≡ Some state.old.pool.marked) }
     ensures commits { OnOk result (state.new.archive.commits ≡ state.old.archive.commits
         ++ all_signed (certificate state.old.pool.pool (Ready state.old.pool.pool.view.number decision.rank (value decision.value))) ∷ []) }
-    ensures rest { state.new ≡ record state.old { pool = state.new.pool; archive = state.new.archive } }
+    ensures older { IfOk result (λ older. older ≡ state.old.archive.previous) }
+    ensures put { OnOk result (told state.new.account
+        ≡ record (told state.old.account) {
+          views = (told state.old.account).views ++ view.now ∷ [];
+          delivered = (told state.old.account).delivered ++ [] ∷ [];
+        }) }
+    ensures same { OnErr result ((state.new.pool ≡ state.old.pool) × (state.new.archive ≡ state.old.archive)
+        × (told state.new.account ≡ told state.old.account)) }
+    ensures rest { state.new ≡ record state.old { pool = state.new.pool; archive = state.new.archive; account = state.new.account } }
 {
     let begun = Pool::new(alloc, view.clone()?)?;
-    let left = mem::replace(&mut state.pool, begun);
-    state
+    put_view(&mut state.account, view, alloc)?;
+    match state
         .archive
-        .keep_view(left, (decision.rank, decision.value))
+        .keep_view(&mut state.pool, begun, (decision.rank, decision.value))
+    {
+        Ok(older) => Ok(older),
+        Err(refused) => {
+            state.account.drop_last();
+            Err(refused)
+        }
+    }
 }
 
-// Begins the view: nothing is signed, delivered or asked for there. `mine` own messages more are of views before it.
-fn begin(state: &mut ProcessState, view: &View, mine: u16)
+// Begins the view: nothing is signed, delivered or asked for there. `mine` own messages more are of views before it. What was signed
+// and said in the view that is left is kept, and beside it the pool that was kept before.
+fn begin(state: &mut ProcessState, view: &View, mine: u16, older: Displaced, alloc: Global)
     requires { state.old.own.earlier + mine ≤ 4294967295 }
     ensures own { Begins view.now state.old.own state.new.own mine }
     ensures asked { (u : plain.Update) → has_update state.new.perceived u ≡ false }
     ensures said { state.new.said.claims ≡ [] }
     ensures phase { (p : Process) → p.pool.view ≡ view.now → p.me ≡ state.old.own.me → p.halted ≡ false → p.decision ≡ None
         → is_ended p ≡ false → IsIn state.new.phase p }
+    ensures left { state.new.left ≡ Some (record { signed = state.old.own.signed; said = state.old.said; older = older }) }
     ensures rest { state.new ≡ record state.old {
       own = state.new.own;
       perceived = state.new.perceived;
       said = state.new.said;
       phase = state.new.phase;
+      left = state.new.left;
     } }
 {
     state.phase = Phase::begin(view, state.own.me);
     state.perceived = Perceived::new();
-    state.said.clear();
-    begin_view(&mut state.own, view, mine);
-}
-
-// Puts the view, in which nothing is delivered yet, behind those of the account.
-fn put_view(account: &mut Account, view: &View, alloc: Global) -> Result<(), NoMemory>
-    ensures { OnOk result (told account.new
-        ≡ record (told account.old) {
-          views = (told account.old).views ++ view.now ∷ [];
-          delivered = (told account.old).delivered ++ [] ∷ [];
-        }) }
-{
-    account.views.push(view.clone()?)?;
-    account.delivered.push(Vec::new(alloc))?;
-    Ok(())
+    let said = mem::replace(&mut state.said, ClaimList::new(alloc));
+    let signed = begin_view(&mut state.own, view, mine, alloc);
+    state.left = Some(LeftView {
+        signed,
+        said,
+        older,
+    });
 }
 
 // That the view is installed.
@@ -143,16 +177,17 @@ fn enter(
     alloc: Global,
     notes: &mut Vec<Note>,
 ) -> Result<(), NoMemory>
-    requires { CanLeave (decision_of decision) state.old }
-    ensures { (s : Setting) (p : Process) → IsLeaving s p (decision_of decision) state.old
+    requires can { CanLeave (decision_of decision) state.old }
+    requires here { state.old.left ≡ None }
+    ensures leaves { (s : Setting) (p : Process) → IsLeaving s p (decision_of decision) state.old
         → view ≡ next_view p.pool.view (value decision.value).update
         → OnOk result (Leaves s p (settle.install (decision_of decision) p) state.new notes.old.items notes.new.items) }
+    ensures since { (b : Before) (was : ProcessState) → Stays b was state.old → Since b was state.new }
 {
     let mine = own_delivered(&state.account);
-    keep_left(state, &view, decision, alloc)?;
-    begin(state, &view, mine);
-    put_view(&mut state.account, &view, alloc)?;
     notes.push(installed(&view))?;
+    let older = keep_left(state, &view, decision, alloc)?;
+    begin(state, &view, mine, older, alloc);
     Ok(())
 }
 
@@ -176,8 +211,10 @@ fn install(
 ) -> Result<(), NoMemory>
     requires real { CanLeave (decision_of decision) state.old }
     requires same { update ≡ decision.value.update }
-    ensures { (s : Setting) (p : Process) → IsLeaving s p (decision_of decision) state.old
+    requires here { state.old.left ≡ None }
+    ensures leaves { (s : Setting) (p : Process) → IsLeaving s p (decision_of decision) state.old
         → OnOk result (Leaves s p (settle.install (decision_of decision) p) state.new notes.old.items notes.new.items) }
+    ensures since { (b : Before) (was : ProcessState) → Stays b was state.old → Since b was state.new }
 {
     let behind = view_behind(&state.pool, update);
     match behind {
@@ -193,9 +230,11 @@ fn leave_decided(
     alloc: Global,
     notes: &mut Vec<Note>,
 ) -> Result<(), NoMemory>
-    requires { IsReal (in_phase (Phase.DecidedView decided) state.old) }
-    ensures { (s : Setting) (p : Process) → IsStateOf s p (in_phase (Phase.DecidedView decided) state.old)
+    requires real { IsReal (in_phase (Phase.DecidedView decided) state.old) }
+    requires here { state.old.left ≡ None }
+    ensures leaves { (s : Setting) (p : Process) → IsStateOf s p (in_phase (Phase.DecidedView decided) state.old)
         → OnOk result (Leaves s p (settle.leave p) state.new notes.old.items notes.new.items) }
+    ensures since { (b : Before) (was : ProcessState) → Stays b was state.old → Since b was state.new }
 {
     let decision = decided.decision();
     let delivered = counted(&state.pool, &state.own, &decided);
@@ -219,9 +258,11 @@ pub(crate) fn leave(
     alloc: Global,
     notes: &mut Vec<Note>,
 ) -> Result<(), NoMemory>
-    requires { IsReal state.old }
-    ensures { (s : Setting) (p : Process) → IsStateOf s p state.old
+    requires real { IsReal state.old }
+    requires here { state.old.left ≡ None }
+    ensures leaves { (s : Setting) (p : Process) → IsStateOf s p state.old
         → OnOk result (Leaves s p (settle.leave p) state.new notes.old.items notes.new.items) }
+    ensures since { (b : Before) (was : ProcessState) → Stays b was state.old → Since b was state.new }
 {
     let begun = Phase::begin(state.pool.view(), state.own.me);
     match take_phase(&mut state.phase, begun) {

@@ -34,6 +34,7 @@ fn sign_body<G: Signer>(alloc: Global, body: &[u8], signer: &mut G) -> Result<Pa
     ensures made { IfOk result (λ own. own ≡ G.signature signer.old (G.Tally.used signer.old) body.now) }
     ensures short { IfOk result (λ own. length own ≤ 16384) }
     ensures used { OnOk result (G.Tally.used signer.new ≡ G.Tally.used signer.old + 1) }
+    ensures rises { G.Tally.used signer.old ≤ G.Tally.used signer.new }
     ensures total { G.Tally.total signer.new ≡ G.Tally.total signer.old }
     ensures secret { G.signature signer.new ≡ G.signature signer.old }
 {
@@ -60,6 +61,7 @@ fn sign_statement<G: Signer>(
     ensures made { IfOk result (λ own. own ≡ G.signature signer.old (G.Tally.used signer.old) (body group.now me (stmt statement.now))) }
     ensures short { IfOk result (λ own. length own ≤ 16384) }
     ensures used { OnOk result (G.Tally.used signer.new ≡ G.Tally.used signer.old + 1) }
+    ensures rises { G.Tally.used signer.old ≤ G.Tally.used signer.new }
     ensures total { G.Tally.total signer.new ≡ G.Tally.total signer.old }
     ensures secret { G.signature signer.new ≡ G.signature signer.old }
 {
@@ -83,6 +85,7 @@ pub fn make<G: Signer>(
         (G.signature signer.old (G.Tally.used signer.old) (body group.now me (stmt statement.now)))) }
     ensures short { IfOk result (λ own. length own.signature ≤ 16384) }
     ensures used { IfOk result (λ _. G.Tally.used signer.new ≡ G.Tally.used signer.old + 1) }
+    ensures rises { G.Tally.used signer.old ≤ G.Tally.used signer.new }
     ensures total { G.Tally.total signer.new ≡ G.Tally.total signer.old }
     ensures secret { G.signature signer.new ≡ G.signature signer.old }
 {

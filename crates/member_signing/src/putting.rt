@@ -13,12 +13,13 @@ ghost use Rattle.claim_index.specs.Kept.{claim_bytes};
 ghost use Rattle.own_place.specs.Owns.{Tells};
 ghost use Rattle.own_place.specs.Signed.{has_slot};
 ghost use Rattle.view_phases.specs.Phases.{IsIn};
+ghost use Rattle.member_state.specs.Marks.{Stays};
 ghost use Rattle.member_state.specs.States.{IsStateOf, IsReal};
 ghost use Rattle.member_signing.specs.Signed.{IsUndecided, IsOwed, IsReadable};
 
 use claim_lists::ClaimList;
 use claim_pool::{Own, Pool};
-use member_state::ProcessState;
+use member_state::{Before, ProcessState};
 use rp_base::{NoMemory, Pid};
 use stmt_codec::{Claim, OwnClaim, Statement, read_statement, spelled_len};
 use view_phases::Phase;
@@ -57,9 +58,10 @@ fn bytes_of(claim: &Claim<'_>) -> usize
 // Hears the own claim.
 fn hear(pool: &mut Pool, claim: &Claim<'_>) -> Result<(), NoMemory>
     requires { IsClaim (claim_of claim.now) }
-    ensures { (s : defs.Setting) (signer : Signer) (p : defs.Process) → p.pool ≡ pool.old.pool
+    ensures heard { (s : defs.Setting) (signer : Signer) (p : defs.Process) → p.pool ≡ pool.old.pool
         → own_claim s signer p (stmt claim.now.statement) ≡ claim_of claim.now
         → OnOk result ((signs s signer p (stmt claim.now.statement)).pool ≡ pool.new.pool) }
+    ensures marked { pool.new.marked ≡ pool.old.marked }
 {
     pool.reserve(1, bytes_of(claim))?;
     pool.hear_own(claim);
@@ -71,9 +73,10 @@ fn note(own: &mut Own, view: &View, statement: &Statement<'_>) -> Result<(), NoM
     requires range { IsStatement (stmt statement.now) }
     requires members { length own.old.orders.items ≡ length view.now.members }
     requires fresh { has_slot own.old.signed (slot_of (stmt statement.now)) ≡ false }
-    ensures { (s : defs.Setting) (signer : Signer) (p : defs.Process) (g h : defs.Pool) → Tells s p g own.old → g.view ≡ view.now
+    ensures noted { (s : defs.Setting) (signer : Signer) (p : defs.Process) (g h : defs.Pool) → Tells s p g own.old → g.view ≡ view.now
         → IsTrue (may_sign s p (stmt statement.now)) → (signs s signer p (stmt statement.now)).pool ≡ h
         → OnOk result (Tells s (signs s signer p (stmt statement.now)) h own.new) }
+    ensures marked { own.new.signed.marked ≡ own.old.signed.marked }
 {
     own.signed.reserve(1)?;
     own.note_signed(view, statement);
@@ -83,7 +86,8 @@ fn note(own: &mut Own, view: &View, statement: &Statement<'_>) -> Result<(), NoM
 // Keeps the claim behind those that were signed before.
 fn keep(said: &mut ClaimList, claim: &Claim<'_>) -> Result<(), NoMemory>
     requires { IsClaim (claim_of claim.now) }
-    ensures { OnOk result (said.new.claims ≡ said.old.claims ++ claim_of claim.now ∷ []) }
+    ensures kept { OnOk result (said.new.claims ≡ said.old.claims ++ claim_of claim.now ∷ []) }
+    ensures marked { said.new.marked ≡ said.old.marked }
 {
     said.reserve(1, bytes_of(claim))?;
     said.push(claim);
@@ -135,6 +139,8 @@ pub fn put(state: &mut ProcessState, own: &OwnClaim) -> Result<(), NoMemory>
         → OnOk result (IsStateOf s (signs s signer p st) state.new) }
     ensures real { OnOk result (IsReal state.new) }
     ensures undecided { OnOk result (IsUndecided state.new.phase) }
+    ensures stays { (b : Before) (was : ProcessState) → Stays b was state.old → Stays b was state.new }
+    ensures left { state.new.left ≡ state.old.left }
 {
     let claim = read_own(own);
     hear(&mut state.pool, &claim)?;

@@ -1,5 +1,5 @@
 //! What is due, signed: of one kind, and of all kinds in their order.
-ghost use Rattle.std.specs.Prelude.{◌≡◌, ◌<◌, ◌-◌, ◌+◌, map, length, is_some, IfOk, IfSome, OnOk, MatchOption};
+ghost use Rattle.std.specs.Prelude.{◌≡◌, ◌<◌, ◌≤◌, ◌-◌, ◌+◌, map, length, is_some, IfOk, IfSome, OnOk, MatchOption};
 ghost use Rattle.std.specs.Bool.{OnFalse};
 ghost use Rattle.std.specs.Option.{option_map};
 ghost use Rattle.message_defs.specs.Packing.{signed_of};
@@ -9,13 +9,14 @@ ghost use Rattle.group_defs.specs.Signing as signing;
 ghost use Rattle.stmt_codec.specs.Views.{signed as signed_by};
 ghost use Rattle.view_phases.specs.Phases.{IsIn};
 ghost use Rattle.due_statements.specs.Standings.{kind_of, Stands, IsSeated};
+ghost use Rattle.member_state.specs.Marks.{Stays};
 ghost use Rattle.member_state.specs.States.{IsStateOf, IsReal};
 ghost use Rattle.member_signing.specs.Signed.{IsUndecided, IsOwed, IsSigned};
 
 use crate::making::make;
 use crate::putting::put;
 use due_statements::{KINDS, Kind, Standing, due};
-use member_state::ProcessState;
+use member_state::{Before, ProcessState};
 use rp_base::{GroupId, NoMemory, Signer, Tally};
 use std::alloc::Global;
 use stmt_codec::OwnClaim;
@@ -68,6 +69,7 @@ fn next<G: Signer>(
     ensures owed { IfOk result (λ own. IfSome own (IsOwed state.now)) }
     ensures used { IfOk result (λ own. MatchOption own (G.Tally.used signer.new ≡ G.Tally.used signer.old)
         (λ _. G.Tally.used signer.new ≡ G.Tally.used signer.old + 1)) }
+    ensures rises { G.Tally.used signer.old ≤ G.Tally.used signer.new }
     ensures total { G.Tally.total signer.new ≡ G.Tally.total signer.old }
     ensures secret { G.signature signer.new ≡ G.signature signer.old }
 {
@@ -97,8 +99,11 @@ fn sign_kind<G: Signer>(
         (map signed_by signed.old.items) (map signed_by signed.new.items)) }
     ensures real { OnOk result (IsReal state.new) }
     ensures undecided { OnOk result (IsUndecided state.new.phase) }
+    ensures rises { G.Tally.used signer.old ≤ G.Tally.used signer.new }
     ensures total { G.Tally.total signer.new ≡ G.Tally.total signer.old }
     ensures secret { G.signature signer.new ≡ G.signature signer.old }
+    ensures stays { (b : Before) (was : ProcessState) → Stays b was state.old → Stays b was state.new }
+    ensures left { state.new.left ≡ state.old.left }
 {
     'signatures: while signer.used() < signer.total() {
         let due = next(state, alloc, group, signer, kind)?;
@@ -131,8 +136,11 @@ fn sign_any<G: Signer>(
         (map signed_by signed.old.items) (map signed_by signed.new.items)) }
     ensures real { OnOk result (IsReal state.new) }
     ensures undecided { OnOk result (IsUndecided state.new.phase) }
+    ensures rises { G.Tally.used signer.old ≤ G.Tally.used signer.new }
     ensures total { G.Tally.total signer.new ≡ G.Tally.total signer.old }
     ensures secret { G.signature signer.new ≡ G.signature signer.old }
+    ensures stays { (b : Before) (was : ProcessState) → Stays b was state.old → Stays b was state.new }
+    ensures left { state.new.left ≡ state.old.left }
 {
     if is_due(state, kind) {
         return sign_kind(state, alloc, group, signer, signed, kind);
@@ -157,8 +165,11 @@ fn sign_kinds<G: Signer>(
         (G.Tally.total signer.old - G.Tally.used signer.old) p) state.new (G.Tally.total signer.old) (G.Tally.used signer.new)
         (map signed_by signed.old.items) (map signed_by signed.new.items)) }
     ensures real { OnOk result (IsReal state.new) }
+    ensures rises { G.Tally.used signer.old ≤ G.Tally.used signer.new }
     ensures total { G.Tally.total signer.new ≡ G.Tally.total signer.old }
     ensures secret { G.signature signer.new ≡ G.signature signer.old }
+    ensures stays { (b : Before) (was : ProcessState) → Stays b was state.old → Stays b was state.new }
+    ensures left { state.new.left ≡ state.old.left }
 {
     'kinds: for kind in kinds {
         let lacks = sign_any(state, alloc, group, signer, signed, *kind)?;
@@ -171,7 +182,7 @@ fn sign_kinds<G: Signer>(
 
 /// Signs what is due, kind after kind, in each the least statement again and again, until none is due or a signature is wanting.
 /// The answer is whether one was. Each claim is heard, noted and kept in the state, and stands behind `signed`. In a decided view
-/// nothing is signed. Without memory the state is to be given up: of what was signed, a part stands in it.
+/// nothing is signed. Without memory a part of what is due is signed, and stands in the state.
 pub fn sign_all<G: Signer>(
     state: &mut ProcessState,
     alloc: Global,
@@ -186,8 +197,11 @@ pub fn sign_all<G: Signer>(
         (G.Tally.total signer.old - G.Tally.used signer.old) p) state.new (G.Tally.total signer.old) (G.Tally.used signer.new)
         (map signed_by signed.old.items) (map signed_by signed.new.items)) }
     ensures real { OnOk result (IsReal state.new) }
+    ensures rises { G.Tally.used signer.old ≤ G.Tally.used signer.new }
     ensures total { G.Tally.total signer.new ≡ G.Tally.total signer.old }
     ensures secret { G.signature signer.new ≡ G.signature signer.old }
+    ensures stays { (b : Before) (was : ProcessState) → Stays b was state.old → Stays b was state.new }
+    ensures left { state.new.left ≡ state.old.left }
 {
     if is_decided(&state.phase) {
         return Ok(false);

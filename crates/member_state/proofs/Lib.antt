@@ -2,3 +2,4 @@ mod Liars
 pub mod Ranges
 pub mod Entries
 mod Starting
+pub mod Marked

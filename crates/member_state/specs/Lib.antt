@@ -1,3 +1,4 @@
 pub mod Bounds
 pub mod States
 pub mod Events
+pub mod Marks

@@ -2,7 +2,11 @@
 //! specs says. The crates of a member's event each take it from one moment of the event to the next.
 #![tactic(auto)]
 
+mod left;
+mod marks;
 mod state;
 
 pub use accounts::{Account, Delivered};
+pub use left::LeftView;
+pub use marks::Before;
 pub use state::ProcessState;

@@ -6,6 +6,7 @@ ghost use Rattle.own_place.specs.Owns.{Tells};
 ghost use Rattle.accounts.specs.Views.{account};
 ghost use Rattle.member_state.specs.States.{ArePairs, IsStateOf, StartsWith, signers_in, liars_of, halted_at};
 
+use crate::left::LeftView;
 use accounts::Account;
 use claim_lists::{ClaimList, Conflicts};
 use claim_pool::{Own, Pool};
@@ -15,11 +16,11 @@ use own_place::SignedSlots;
 use reliable_mcast::Archive;
 use rp_base::{NoMemory, Pid, PidSet, Roster};
 use std::alloc::Global;
+use std::mem;
 use view_phases::Phase;
 use view_table::View;
 
 /// What a process keeps.
-#[derive(Drop)]
 pub struct ProcessState {
     /// The most messages of an own Order, 1 to 16.
     pub batch_limit: u8,
@@ -47,6 +48,35 @@ pub struct ProcessState {
 
     /// What the process tells of itself.
     pub account: Account,
+
+    /// What was the process's in the view that it left in this event, where it left one.
+    pub left: Option<LeftView>,
+}
+
+// Written out, so that whoever drops a value makes one call (docs/CONTRIBUTING.md).
+impl Drop for ProcessState {
+    fn drop(self) {
+        let ProcessState {
+            batch_limit: _,
+            own,
+            pool,
+            phase,
+            perceived: _,
+            said,
+            conflicts,
+            archive,
+            account,
+            left,
+        } = self;
+        mem::drop(own);
+        mem::drop(pool);
+        mem::drop(phase);
+        mem::drop(said);
+        mem::drop(conflicts);
+        mem::drop(archive);
+        mem::drop(account);
+        mem::drop(left);
+    }
 }
 
 // The own place of a process that starts in the view.
@@ -137,6 +167,7 @@ impl ProcessState {
             conflicts: Conflicts::new(alloc),
             archive: Archive::new(alloc)?,
             account: first_account(alloc, copied(genesis), me)?,
+            left: None,
         })
     }
 

@@ -1,5 +1,5 @@
 -- What is handed to a process, read.
-use Rattle.std.specs.Prelude.{ℕ, ◌≤◌, length}
+use Rattle.std.specs.Prelude.{ℕ, ◌≤◌, Bool, true, false, length}
 use Rattle.std.specs.List.{AllByRecursion}
 use Rattle.message_defs.specs.Limits.{most_payload_bytes, last_number, most_places}
 use Rattle.message_defs.specs.Spelling.{IsClaim}
@@ -18,6 +18,11 @@ handed (Claims from claims) = defs.Hand from (frames.Claims (claims_left claims)
 handed (Want from x k) = defs.Hand from (frames.Wants x k)
 handed (Update u) = asking (update_of u)
 handed Tick = defs.Tick
+
+-- an update is asked for
+abbrev pub asks : Input → Bool
+asks (Update u) = true
+asks _ = false
 
 -- a frame has at most 255 groups, and a group at most 255 signatures: each count is one byte
 abbrev pub most_claims : ℕ

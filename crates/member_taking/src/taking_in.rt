@@ -1,5 +1,5 @@
 //! What an event that is not refused changes before anything is signed.
-ghost use Rattle.std.specs.Prelude.{◌≡◌, ◌-◌, ◌≤◌, length, map, insert, IfOk, OnOk, None};
+ghost use Rattle.std.specs.Prelude.{◌≡◌, ◌-◌, ◌≤◌, length, map, insert, true, IfOk, OnOk, OnErr, None};
 ghost use Rattle.std.specs.List.{AllByRecursion};
 ghost use Rattle.byte_defs.specs.Orders.{put, numbers_below};
 ghost use Rattle.message_defs.specs.Spelling.{IsClaim, IsUpdate};
@@ -13,13 +13,14 @@ ghost use Rattle.ending_rules.specs.Perceiving.{asking};
 ghost use Rattle.claim_hearing.specs.Hearing.{Shares};
 ghost use Rattle.accounts.specs.Views.{account as account_of, perceived as perceived_of};
 ghost use Rattle.member_state.specs.States.{IsStateOf, IsReal};
-ghost use Rattle.member_taking.specs.Inputs.{handed, InRange, most_claims};
+ghost use Rattle.member_state.specs.Marks.{MayAsk, Stays};
+ghost use Rattle.member_taking.specs.Inputs.{handed, asks, InRange, most_claims};
 
 use crate::inputs::Input;
 use accounts::Account;
 use claim_hearing::{Judge, hear_all};
 use ending_rules::perceive;
-use member_state::ProcessState;
+use member_state::{Before, ProcessState};
 use rp_base::{NoMemory, Scheme, Update};
 use stmt_codec::{Claims, Payload};
 
@@ -27,8 +28,10 @@ use stmt_codec::{Claims, Payload};
 fn accept(state: &mut ProcessState, payload: &[u8]) -> Result<(), NoMemory>
     requires short { length payload.now ≤ 1024 }
     requires admitted { (s : Setting) (p : Process) → IsStateOf s p state.old → refusal s p (Submit payload.now) ≡ None }
-    ensures { (s : Setting) (p : Process) → IsStateOf s p state.old
+    ensures taken { (s : Setting) (p : Process) → IsStateOf s p state.old
         → OnOk result (IsStateOf s (defs.take_in s p (Submit payload.now)) state.new) }
+    ensures stays { (b : Before) (was : ProcessState) → Stays b was state.old → Stays b was state.new }
+    ensures left { state.new.left ≡ state.old.left }
 {
     let alloc = *state.account.accepted.allocator();
     let bytes = Vec::from_slice(alloc, payload)?;
@@ -50,6 +53,8 @@ fn hear<V: Scheme>(
     ensures heard { (s r : Setting) (p : Process) → Shares r (V.valid judge.now.scheme.now) judge.now.group.now judge.now.roster.now
         → IsStateOf s p state.old → IfOk result
         (λ n. n ≡ length (hearing.hear_all r p (claims_left claims.entry)).pool.heard - length p.pool.heard) }
+    ensures stays { (b : Before) (was : ProcessState) → Stays b was state.old → Stays b was state.new }
+    ensures left { state.new.left ≡ state.old.left }
 {
     let before = state.pool.size().0;
     hear_all(
@@ -86,11 +91,12 @@ fn place_among(all: &[(u16, Update)], view: u16, update: &Update) -> usize
 
 // Puts the update, with the number of the view, into its place among those that the process tells of.
 fn tell_perceived(account: &mut Account, view: u16, update: &Update) -> Result<(), NoMemory>
-    ensures { OnOk result (account_of account.new
+    ensures told { OnOk result (account_of account.new
         ≡ record (account_of account.old) {
           perceived = put perceived_numbers (perceived_of (view, update.now))
               (account_of account.old).perceived;
         }) }
+    ensures same { OnErr result (account_of account.new ≡ account_of account.old) }
 {
     let place = place_among(&account.perceived, view, update);
     account.perceived.insert(place, (view, *update))?;
@@ -116,8 +122,10 @@ fn in_range(update: &Update)
 fn ask(state: &mut ProcessState, update: &Update) -> Result<(), NoMemory>
     requires real { IsReal state.old }
     requires admitted { (s : Setting) (p : Process) → IsStateOf s p state.old → refusal s p (asking (update_of update.now)) ≡ None }
-    ensures { (s : Setting) (p : Process) → IsStateOf s p state.old
+    ensures asked { (s : Setting) (p : Process) → IsStateOf s p state.old
         → OnOk result (IsStateOf s (perceives p (update_of update.now)) state.new) }
+    ensures stays { (b : Before) (was : ProcessState) → MayAsk b → Stays b was state.old → Stays b was state.new }
+    ensures left { state.new.left ≡ state.old.left }
 {
     if state.perceived.contains(*update) {
         return Ok(());
@@ -146,6 +154,11 @@ pub fn take_in<V: Scheme>(
     ensures heard { (s : Setting) (p : Process) → Shares s (V.valid judge.now.scheme.now) judge.now.group.now judge.now.roster.now
         → IsStateOf s p state.old → IfOk result (λ n. n ≡ length (defs.take_in s p (handed input.now)).pool.heard - length p.pool.heard) }
     ensures real { OnOk result (IsReal state.new) }
+
+    // Since a mark more has come, and no view was left; where an update is asked for, the mark is to keep which ones were.
+    ensures stays { (b : Before) (was : ProcessState) → (asks input.now ≡ true → MayAsk b) → Stays b was state.old
+        → Stays b was state.new }
+    ensures left { state.new.left ≡ state.old.left }
 {
     match input {
         Input::Payload(payload) => {

@@ -5,7 +5,9 @@ ghost use Rattle.rule_laws.specs.Placing.{counts_in};
 ghost use Rattle.member_laws.specs.Telling.{Begins, OnePlaceMore};
 
 use arrayvec::ArrayVec;
-use own_place::Own;
+use own_place::{Own, SignedSlots};
+use std::alloc::Global;
+use std::mem;
 use stmt_codec::Batch;
 use view_table::View;
 
@@ -18,13 +20,15 @@ pub fn no_counts(view: &View) -> ArrayVec<u16, 16>
     counts
 }
 
-/// Begins the view: nothing is signed or delivered there, and `mine` own messages more are of views before it.
-pub fn begin_view(own: &mut Own, view: &View, mine: u16)
+/// Begins the view: nothing is signed or delivered there, and `mine` own messages more are of views before it. The slots that were
+/// signed in the view before are handed out.
+pub fn begin_view(own: &mut Own, view: &View, mine: u16, alloc: Global) -> SignedSlots
     requires { own.old.earlier + mine ≤ 4294967295 }
-    ensures { Begins view.now own.old own.new mine }
+    ensures begins { Begins view.now own.old own.new mine }
+    ensures signed { result ≡ own.old.signed }
 {
+    let signed = mem::replace(&mut own.signed, SignedSlots::new(alloc));
     own.position = view.rank_of(own.me);
-    own.signed.clear();
     own.ended = false;
     own.rank = 0;
     own.ready = None;
@@ -33,6 +37,7 @@ pub fn begin_view(own: &mut Own, view: &View, mine: u16)
     own.delivered = 0;
     own.counts = no_counts(view);
     own.earlier += mine as u32;
+    signed
 }
 
 // Counts the messages of the batch behind those that are counted, each at its sender's rank.

@@ -3,3 +3,4 @@ mod Reaching
 pub mod Next
 pub mod Batches
 pub mod Telling
+pub mod Marked

@@ -2,3 +2,4 @@ pub mod Signed
 pub mod Rows
 pub mod Owns
 pub mod Noting
+pub mod Marks

@@ -1,5 +1,5 @@
 -- How far the slots of each row of a view are signed.
-use Rattle.std.specs.Prelude.{◌≡◌, ℕ, ◌+◌, ◌<◌, Bool, true, List, length, slice_index, Option, Some, None}
+use Rattle.std.specs.Prelude.{◌≡◌, ℕ, ◌+◌, ◌<◌, ◌≤◌, Bool, true, List, length, slice_index, Option, Some, None}
 use Rattle.std.specs.List.{list_any}
 use Rattle.message_defs.specs.Statements as plain
 use Rattle.message_defs.specs.Statements.{Statement, Slot, InitAt, EchoAt, PlaceAt, KeepAt}
@@ -39,3 +39,8 @@ has_key keys s = list_any (same_slot_key (slot_key s)) keys
 pub record AreReached (keys : List SlotKey) (x : ℕ) (reached : List ℕ) : Type 0 where
   pub rows : length reached ≡ 67
   pub below : (row : Row) (n : ℕ) → n < slice_index reached (index_of row) → has_key keys (slot_in row x n) ≡ true
+
+-- the same; and at the mark there were so many slots
+pub record AreMarkedRows (keys : List SlotKey) (x : ℕ) (reached : List ℕ) (marked : ℕ) : Type 0 where
+  pub rows : AreReached keys x reached
+  pub few : marked ≤ length keys

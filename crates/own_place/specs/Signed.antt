@@ -5,9 +5,11 @@ use Rattle.message_defs.specs.Statements.{Slot}
 use Rattle.claim_index.specs.declared.key.SlotKey.{SlotKey}
 use Rattle.claim_index.specs.Keys.{slot_key, same_slot_key}
 
--- the kind and slot of each statement that is signed, in order of signing; and how many more are noted without memory
+-- the kind and slot of each statement that is signed, in order of signing; those that were signed at the mark; and how many more are noted
+-- without memory
 pub record Signed : Type 0 where
   pub slots : List SlotKey
+  pub marked : List SlotKey
   pub left : ℕ
 
 -- the slot is one of them

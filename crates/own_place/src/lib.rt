@@ -6,5 +6,5 @@ mod own;
 mod rows;
 mod signed;
 
-pub use own::Own;
+pub use own::{Own, OwnMark};
 pub use signed::SignedSlots;

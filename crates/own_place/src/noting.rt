@@ -103,6 +103,7 @@ impl Own {
         requires fresh { has_slot self.old.signed (slot_of (stmt statement.now)) ≡ false }
         requires room { 1 ≤ self.old.signed.left }
         ensures noted { noting.IsNoted view.now (stmt statement.now) self.old self.new }
+        ensures marked { self.new.signed.marked ≡ self.old.signed.marked }
         ensures left { self.old.signed.left ≤ self.new.signed.left + 1 }
     {
         self.signed.sign(statement);
@@ -126,6 +127,7 @@ impl Own {
         ensures tells { (s : Setting) (signer : Signer) (p : Process) (g h : Pool) → Tells s p g self.old → g.view ≡ view.now
             → IsTrue (may_sign s p (stmt statement.now)) → (signs s signer p (stmt statement.now)).pool ≡ h
             → Tells s (signs s signer p (stmt statement.now)) h self.new }
+        ensures marked { self.new.signed.marked ≡ self.old.signed.marked }
         ensures left { self.old.signed.left ≤ self.new.signed.left + 1 }
     {
         self.note(view, statement);

@@ -1,9 +1,12 @@
+ghost use Rattle.std.specs.Prelude.{◌≡◌};
+ghost use Rattle.own_place.specs.Marks.{IsMarkOf, IsSamePlace};
+
 use crate::signed::SignedSlots;
 use arrayvec::ArrayVec;
 use rp_base::{Pid, PidSet, Value};
+use std::mem;
 
 /// The process's own place in its view. Whose place it is, the record `Tells` of the specs says.
-#[derive(Drop)]
 pub struct Own {
     /// The own number.
     pub me: Pid,
@@ -40,4 +43,93 @@ pub struct Own {
 
     /// How many own messages the process has delivered in the views before.
     pub earlier: u32,
+}
+
+// Written out, so that whoever drops a value makes one call (docs/CONTRIBUTING.md).
+impl Drop for Own {
+    fn drop(self) {
+        let Own {
+            me: _,
+            position: _,
+            keyed: _,
+            signed,
+            ended: _,
+            rank: _,
+            ready: _,
+            ordered: _,
+            orders: _,
+            delivered: _,
+            counts: _,
+            earlier: _,
+        } = self;
+        mem::drop(signed);
+    }
+}
+
+/// An own place as it was at a mark, but for the slots that were signed.
+#[derive(Drop)]
+pub struct OwnMark {
+    me: Pid,
+    position: Option<u8>,
+    keyed: PidSet,
+    ended: bool,
+    rank: u8,
+    ready: Option<(u8, Value)>,
+    ordered: u16,
+    orders: ArrayVec<u16, 16>,
+    delivered: u16,
+    counts: ArrayVec<u16, 16>,
+    earlier: u32,
+}
+
+// A copy, which takes no memory.
+fn copied(counts: &ArrayVec<u16, 16>) -> ArrayVec<u16, 16>
+    ensures { result.items ≡ counts.now.items }
+{
+    let Ok(copy) = counts.clone() else {
+        unreachable!()
+    };
+    copy
+}
+
+impl Own {
+    /// Marks the own place, so that it can be gone back to.
+    pub fn mark(&mut self) -> OwnMark
+        ensures marked { IsMarkOf result self.old }
+        ensures same { IsSamePlace self.old self.new }
+        ensures slots { self.new.signed.marked ≡ self.old.signed.slots }
+    {
+        self.signed.mark();
+        OwnMark {
+            me: self.me,
+            position: self.position,
+            keyed: self.keyed,
+            ended: self.ended,
+            rank: self.rank,
+            ready: self.ready,
+            ordered: self.ordered,
+            orders: copied(&self.orders),
+            delivered: self.delivered,
+            counts: copied(&self.counts),
+            earlier: self.earlier,
+        }
+    }
+
+    /// Goes back to what the own place was at the mark. It takes no memory.
+    pub fn rewind(&mut self, mark: &OwnMark)
+        ensures { (was : Own) → IsMarkOf mark.now was → self.old.signed.marked ≡ was.signed.slots → IsSamePlace was self.new }
+    {
+        self.signed.rewind();
+        self.me = mark.me;
+        self.position = mark.position;
+        self.keyed = mark.keyed;
+        self.ended = mark.ended;
+        self.rank = mark.rank;
+        self.ready = mark.ready;
+        self.ordered = mark.ordered;
+        self.orders = copied(&mark.orders);
+        self.delivered = mark.delivered;
+        self.counts = copied(&mark.counts);
+        self.earlier = mark.earlier;
+    }
 }

@@ -15,33 +15,50 @@ use indexmap::IndexSet;
 use rp_base::{NoMemory, Pid};
 use std::alloc::Global;
 use std::marker::Model;
+use std::mem;
 use stmt_codec::{Slot, Statement};
 
 /// How many numbers, and how many places, a view has.
 const MOST_PLACES: u16 = 1_024;
 
-/// The slots that a process has signed in its view, each once, in order of signing. Contracts see them as that list, with
-/// how many more are noted without memory.
-#[derive(Drop)]
+/// The slots that a process has signed in its view, each once, in order of signing. Contracts see them as that list, with those that
+/// were signed at a mark, and with how many more are noted without memory.
 pub struct SignedSlots {
     keys: IndexSet<SlotKey>,
 
     // the view whose rows are followed, and for each of them a number below which all slots are signed
     view: u16,
     reached: [u16; ROWS],
+
+    // how many slots there were at the mark
+    marked: usize,
+}
+
+// Written out, so that whoever drops a value makes one call (docs/CONTRIBUTING.md).
+impl Drop for SignedSlots {
+    fn drop(self) {
+        let SignedSlots {
+            keys,
+            view: _,
+            reached: _,
+            marked: _,
+        } = self;
+        mem::drop(keys);
+    }
 }
 
 impl Model for SignedSlots {
+    ghost use Rattle.std.specs.Prelude.{take};
     ghost use Rattle.indexmap.specs.IndexSet.{spare};
     ghost use Rattle.own_place.specs.Signed.{Signed};
 
     ghost Value = { Signed };
 
-    ghost view = { λ p. record { slots = p.keys.keys; left = spare p.keys } };
+    ghost view = { λ p. record { slots = p.keys.keys; marked = take p.marked p.keys.keys; left = spare p.keys } };
 
-    ghost use Rattle.own_place.specs.Rows.{AreReached};
+    ghost use Rattle.own_place.specs.Rows.{AreMarkedRows};
 
-    ghost invariant = { λ p. AreReached p.keys.keys p.view p.reached };
+    ghost invariant = { λ p. AreMarkedRows p.keys.keys p.view p.reached p.marked };
 }
 
 // Whether the kind and slot are among these.
@@ -54,27 +71,49 @@ fn is_among(keys: &IndexSet<SlotKey>, key: &SlotKey) -> bool
 impl SignedSlots {
     /// Nothing is signed.
     pub fn new(alloc: Global) -> SignedSlots
-        ensures { result.slots ≡ [] }
+        ensures slots { result.slots ≡ [] }
+        ensures marked { result.marked ≡ [] }
     {
         SignedSlots {
             keys: IndexSet::new(alloc),
             view: 0,
             reached: [0; ROWS],
+            marked: 0,
         }
     }
 
-    /// Forgets what is signed, as in a view that begins. The room stays.
+    /// Marks what is signed, so that it can be gone back to.
+    pub fn mark(&mut self)
+        ensures same { self.new.slots ≡ self.old.slots }
+        ensures marked { self.new.marked ≡ self.old.slots }
+    {
+        self.marked = self.keys.len();
+    }
+
+    /// Forgets what was signed behind the mark. It takes no memory.
+    pub fn rewind(&mut self)
+        ensures slots { self.new.slots ≡ self.old.marked }
+        ensures marked { self.new.marked ≡ self.old.marked }
+    {
+        self.keys.truncate(self.marked);
+        self.reached = [0; ROWS];
+    }
+
+    /// Forgets what is signed, as in a view that begins, where the mark stands at nothing. The room stays.
     pub fn clear(&mut self)
         ensures slots { self.new.slots ≡ [] }
+        ensures marked { self.new.marked ≡ [] }
         ensures left { self.old.left ≤ self.new.left }
     {
         self.keys.clear();
         self.reached = [0; ROWS];
+        self.marked = 0;
     }
 
     /// Makes room to note so many slots more. Without memory, what is signed is as before.
     pub fn reserve(&mut self, slots: usize) -> Result<(), NoMemory>
         ensures same { self.new.slots ≡ self.old.slots }
+        ensures marked { self.new.marked ≡ self.old.marked }
         ensures room { OnOk result (slots ≤ self.new.left) }
         ensures kept { self.old.left ≤ self.new.left }
     {
@@ -160,6 +199,7 @@ impl SignedSlots {
         requires fresh { has_slot self.old (slot_of (stmt statement.now)) ≡ false }
         requires room { 1 ≤ self.old.left }
         ensures slots { self.new.slots ≡ self.old.slots ++ slot_key (slot_of (stmt statement.now)) ∷ [] }
+        ensures marked { self.new.marked ≡ self.old.marked }
         ensures left { self.old.left ≤ self.new.left + 1 }
     {
         let key = slot_key_of(statement);
@@ -173,6 +213,7 @@ impl SignedSlots {
         requires fresh { has_slot self.old (slot_of (stmt statement.now)) ≡ false }
         requires room { 1 ≤ self.old.left }
         ensures slots { self.new.slots ≡ self.old.slots ++ slot_key (slot_of (stmt statement.now)) ∷ [] }
+        ensures marked { self.new.marked ≡ self.old.marked }
         ensures left { self.old.left ≤ self.new.left + 1 }
     {
         self.turn_to(view_of(statement));

@@ -1,8 +1,9 @@
 -- Rows of counts, with one message, one batch and one place more.
-use Rattle.std.proofs.Common.{◌≡◌, ◌≢◌, inl, inr, ℕ, zero, suc, ◌+◌, ◌<◌, ◌≤◌, List, [], ◌∷◌, ◌++◌, map, length, take, Some, None, Bool, true, false, refl, sym, ap, ◌∙◌, subst, arith, slice_get, length-append, get_or-set_same, get_or-set_other}
+use Rattle.std.proofs.Common.{◌≡◌, ◌≢◌, inl, inr, ℕ, zero, suc, ◌+◌, ◌*◌, ◌<◌, ◌≤◌, List, [], ◌∷◌, ◌++◌, map, length, take, Some, None, Bool, true, false, refl, sym, ap, ◌∙◌, subst, arith, slice_get, length-append, get_or-set_same, get_or-set_other}
 use Rattle.std.specs.Prelude.{◌==◌, cond, replicate, slice_index, slice_index_or, slice_set}
+use Rattle.std.specs.List.{AllByRecursion}
 use Rattle.std.proofs.lemmas.Bool.{cases_eq, eq-eqb, ne_eqb}
-use Rattle.std.proofs.lemmas.List.{append-nil, append_assoc, take-append-le, length-set}
+use Rattle.std.proofs.lemmas.List.{append-nil, append_assoc, take-append-le, length-set, length-take}
 use Rattle.std.proofs.lemmas.List.Concat.{flat_map-append}
 use Rattle.std.proofs.lemmas.List.Sums.{sum_by-append}
 use Rattle.message_defs.specs.Statements.{Message, Batch}
@@ -12,7 +13,7 @@ use Rattle.rule_laws.specs.Placing.{counts_in}
 use Rattle.rule_laws.proofs.Ordering.{counts_one_more}
 use Rattle.rule_laws.proofs.Ranks.{rank-at}
 use Rattle.pool_laws.proofs.Members.{Mem, mem-list_any}
-use Rattle.pool_laws.proofs.Places.{slice_get-index, slice_get-snoc, slice_get-length}
+use Rattle.pool_laws.proofs.Places.{slice_get-index, slice_get-snoc, slice_get-length, take-get}
 use Rattle.pool_laws.proofs.Ranks.{rank-of-member}
 use Rattle.statements.specs.Batches.{message_of}
 use Rattle.placed_batches.specs.Rows.{IsRow, AreRows, IsPrefix}
@@ -155,12 +156,20 @@ module _ (v : View) (view : IsView v) (ms : List (ℕ × ℕ)) (row : List ℕ) 
 pub messages-push : (bs : List Batch) (b : Batch) → messages (bs ++ b ∷ []) ≡ messages bs ++ b
 messages-push bs b = flat_map-append (λ b. b) bs (b ∷ []) ∙ ap (λ ms. messages bs ++ ms) (append-nil b)
 
+few-push : (bs : List Batch) (b : Batch) → AllByRecursion (λ b. length b ≤ 16) bs → length b ≤ 16
+    → AllByRecursion (λ b. length b ≤ 16) (bs ++ b ∷ [])
+few-push [] b few le = (le, tt)
+few-push (x ∷ bs) b few le = (few.0, few-push bs b few.1 le)
+
+few-messages : (bs : List Batch) → AllByRecursion (λ b. length b ≤ 16) bs → length (messages bs) ≤ 16 * length bs
+few-messages [] few = omega arith
+few-messages (b ∷ bs) few = let rest = few-messages bs few.1 in omega (arith, few.0, rest, length-append b (messages bs))
+
 pub rows-push : (v : View) (bs : List Batch) (rows : List (List ℕ)) (b : Batch) (row : List ℕ) → AreRows v bs rows → length b ≤ 16
     → IsRow v (messages bs ++ b) row → AreRows v (bs ++ b ∷ []) (rows ++ row ∷ [])
 rows-push v bs rows b row are few is = record {
   many = (let many = are.many in omega (arith, many, length-append rows (row ∷ []), length-append bs (b ∷ [])));
-  few = (let le = are.few in let all = ap length (messages-push bs b) in omega
-      (arith, few, le, all, length-append (messages bs) b, length-append bs (b ∷ [])));
+  few = few-push bs b are.few few;
   counted = λ k r at. elim (slice_get-snoc rows row k r at) [
     | inl early ↦ (let lt = slice_get-length rows k r early in let many = are.many in let le : k
         ≤ length bs = omega (arith, lt, many) in subst (λ xs. IsRow v (messages xs) r) (sym (take-append-le k bs (b ∷ []) le))
@@ -177,6 +186,43 @@ rows-push v bs rows b row are few is = record {
     take-whole : {A : Type 0} (xs : List A) → take (length xs) xs ≡ xs
     take-whole [] = refl
     take-whole (x ∷ xs) = ap (λ ys. x ∷ ys) (take-whole xs)
+
+-- ---- the first places
+
+few-taken : (n : ℕ) (bs : List Batch) → AllByRecursion (λ b. length b ≤ 16) bs → AllByRecursion (λ b. length b ≤ 16) (take n bs)
+few-taken zero [] few = tt
+few-taken zero (b ∷ bs) few = tt
+few-taken (suc n) [] few = tt
+few-taken (suc n) (b ∷ bs) few = (few.0, few-taken n bs few.1)
+
+taken-again : {A : Type 0} (k n : ℕ) (xs : List A) → k ≤ n → take k (take n xs) ≡ take k xs
+taken-again zero n xs le = none (take n xs) ∙ sym (none xs)
+  where
+    none : {A : Type 0} (xs : List A) → take zero xs ≡ []
+    none [] = refl
+    none (x ∷ xs) = refl
+taken-again (suc k) zero xs le = absurd (omega (arith, le))
+taken-again (suc k) (suc n) [] le = refl
+taken-again (suc k) (suc n) (x ∷ xs) le = ap (λ more. x ∷ more) (taken-again k n xs (omega (arith, le)))
+
+pub first-rows : (v : View) (bs : List Batch) (rows : List (List ℕ)) (for_batches for_rows n : ℕ)
+    → IsPrefix v bs rows for_batches for_rows → IsPrefix v (take n bs) (take (n + 1) rows) for_batches for_rows
+first-rows v bs rows for_batches for_rows n is =
+    let short = length-take n bs in
+    let many = length-take (n + 1) rows in
+    record {
+      counted = record {
+        many = (let all = is.counted.many in omega (arith, short, many, all));
+        few = few-taken n bs is.counted.few;
+        counted = λ k row at.
+            let lt : k < n + 1 = (let within = slice_get-length (take (n + 1) rows) k row at in omega (arith, within, many)) in
+            subst (λ xs. IsRow v (messages xs) row) (sym (taken-again k n bs (omega (arith, lt))))
+            (is.counted.counted k row (take-get (n + 1) rows k row at));
+      };
+      most = (let most = is.most in omega (arith, short, most));
+      room = is.room;
+      rows_room = is.rows_room;
+    }
 
 -- ---- no place
 
@@ -197,7 +243,7 @@ zero-at (suc n) (suc r) = zero-at n r
 pub rows-begin : (v : View) → IsView v → AreRows v [] (replicate 16 0 ∷ [])
 rows-begin v view = record {
   many = refl;
-  few = omega arith;
+  few = tt;
   counted = λ k row at. one k row at;
 }
   where
@@ -233,5 +279,5 @@ last-row v bs rows k row are k_is at =
 
 pub last-small : (v : View) (bs : List Batch) (rows : List (List ℕ)) (k : ℕ) (row : List ℕ) → AreRows v bs rows → length bs < 1024
     → k ≡ length bs → row ≡ slice_index_or rows k row → (r : ℕ) → slice_index row r ≤ 16384
-last-small v bs rows k row are lt k_is at r = let le = (last-row v bs rows k row are k_is at).small r in let all = are.few in omega
+last-small v bs rows k row are lt k_is at r = let le = (last-row v bs rows k row are k_is at).small r in let all = few-messages bs are.few in omega
     (arith, le, all, lt)

@@ -1,5 +1,6 @@
 -- Batches in order, and how many messages of each member those before a place name.
-use Rattle.std.specs.Prelude.{◌≡◌, ℕ, ◌+◌, ◌*◌, ◌≤◌, List, length, take, Some, slice_get, slice_index}
+use Rattle.std.specs.Prelude.{◌≡◌, ℕ, ◌+◌, ◌≤◌, List, length, take, Some, slice_get, slice_index}
+use Rattle.std.specs.List.{AllByRecursion}
 use Rattle.message_defs.specs.Statements.{Message, Batch}
 use Rattle.group_defs.specs.Views.{View}
 use Rattle.group_defs.specs.Certified.{messages}
@@ -16,10 +17,10 @@ pub record IsRow (v : View) (ms : List Message) (row : List ℕ) : Type 0 where
   pub wide : length row ≡ 16
   pub small : (r : ℕ) → slice_index row r ≤ length ms
 
--- there is a row for each place, and one more
+-- there is a row for each place, and one more, and a batch has at most 16 messages
 pub record AreRows (v : View) (bs : List Batch) (rows : List (List ℕ)) : Type 0 where
   pub many : length rows ≡ length bs + 1
-  pub few : length (messages bs) ≤ 16 * length bs
+  pub few : AllByRecursion (λ b. length b ≤ 16) bs
   pub counted : (k : ℕ) (row : List ℕ) → slice_get rows k ≡ Some row → IsRow v (messages (take k bs)) row
 
 -- there are at most 1,024 places, and there is room for them

@@ -6,6 +6,7 @@ use crate::counting::count_batch;
 use rp_base::NoMemory;
 use std::alloc::Global;
 use std::marker::Model;
+use std::mem;
 use stmt_codec::Batch;
 use view_table::View;
 
@@ -14,11 +15,24 @@ const MOST_PLACES: usize = 1_024;
 
 /// The batches of the places 0, 1, 2 and so on of a view, up to 1,024, and for each place, how many messages of each member are
 /// named before it. Contracts see the view and the list of the batches.
-#[derive(Drop)]
 pub struct PlacedBatches {
     view: View,
     batches: Vec<Batch>,
     names: Vec<[u16; 16]>,
+}
+
+// Written out, so that whoever drops a value makes one call (docs/CONTRIBUTING.md).
+impl Drop for PlacedBatches {
+    fn drop(self) {
+        let PlacedBatches {
+            view,
+            batches,
+            names,
+        } = self;
+        mem::drop(view);
+        mem::drop(batches);
+        mem::drop(names);
+    }
 }
 
 impl Model for PlacedBatches {
@@ -61,6 +75,14 @@ impl PlacedBatches {
             unreachable!()
         };
         self.view = view;
+    }
+
+    /// Forgets all places but the first so many.
+    pub fn truncate(&mut self, count: u16)
+        ensures { self.new ≡ record self.old { batches = take count self.old.batches } }
+    {
+        self.batches.truncate(count as usize);
+        self.names.truncate(count as usize + 1);
     }
 
     /// How many places there are, 0 to 1,024.

@@ -2,3 +2,4 @@ pub mod PlacedLength
 pub mod Notified
 pub mod Ended
 pub mod Inserted
+mod Marked

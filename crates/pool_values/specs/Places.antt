@@ -1,10 +1,11 @@
 -- What is kept beside the heard claims.
-use Rattle.std.specs.Prelude.{◌≡◌, ℕ, ◌+◌, ◌≤◌, max, List, length, Option, Some, None, slice_get}
+use Rattle.std.specs.Prelude.{◌≡◌, ℕ, ◌+◌, ◌≤◌, max, List, length, take, Option, Some, None, slice_get}
 use Rattle.message_defs.specs.Statements.{Batch}
 use Rattle.group_defs.specs.Process.{Pool}
 use Rattle.group_defs.specs.Certified.{place_at, placed, fixed_length}
 use Rattle.placed_batches.specs.Rows.{Prefix}
 use Rattle.pool_values.specs.declared.updates.UpdateSet.{UpdateSet}
+use Rattle.pool_values.specs.declared.places.Reached.{Reached}
 use Rattle.pool_values.specs.Updates.{AreNotified}
 use Rattle.pool_values.specs.Ends.{AreInitsEnds}
 
@@ -18,6 +19,12 @@ pub record AreCounted (h : Pool) (prefix : Prefix) (kept_to : ℕ) (notified : U
   pub fixed : kept_to ≡ fixed_length h
   pub updates : AreNotified h notified
   pub inits : AreInitsEnds h ends
+
+-- so it is now, of h; and so it was at the mark, of g, when so many places were certified from the first on
+pub record AreMarkedCounted (h g : Pool) (prefix : Prefix) (kept_to : ℕ) (notified : UpdateSet) (ends : List ℕ) (m : Reached) : Type 0 where
+  pub here : AreCounted h prefix kept_to notified ends
+  pub there : AreCounted g (record prefix { batches = take m.placed prefix.batches }) m.fixed m.notified m.ends
+  pub few : m.placed ≤ length prefix.batches
 
 -- each of these batches is certified at its place, of which there are 1,024 at most
 pub record ArePlaced (h : Pool) (batches : List Batch) : Type 0 where

@@ -8,4 +8,5 @@ mod places;
 mod updates;
 
 pub use places::Places;
+pub use slot_quorums::Quorums;
 pub use updates::UpdateSet;

@@ -1,4 +1,4 @@
-ghost use Rattle.std.specs.Prelude.{◌≡◌, ◌+◌, ◌≤◌, ◌<◌, ℕ, None, length, take, slice_get, OnOk, IfOk};
+ghost use Rattle.std.specs.Prelude.{◌≡◌, ◌+◌, ◌≤◌, ◌<◌, ℕ, None, false, length, replicate, take, slice_get, OnOk, IfOk};
 ghost use Rattle.std.specs.Option.{option_map};
 ghost use Rattle.byte_defs.specs.Choices.{is_some_and};
 ghost use Rattle.message_defs.specs.Spelling.{IsStatement};
@@ -21,6 +21,7 @@ use rp_base::{NoMemory, Pid, Update};
 use slot_quorums::Quorums;
 use std::alloc::Global;
 use std::marker::Model;
+use std::mem;
 use stmt_codec::{Batch, Claim, Slot, Statement};
 use view_table::{View, faulty};
 
@@ -32,24 +33,66 @@ const PLACE: u8 = 4;
 
 /// The heard claims of a view, its places that are certified from the first on, how far they are kept, the updates that more
 /// than f members notify, and how far the Inits of each process are heard.
-#[derive(Drop)]
 pub struct Places {
     quorums: Quorums,
     prefix: PlacedBatches,
     fixed: u16,
     notified: UpdateSet,
     ends: [u16; PROCESSES],
+
+    // how far all this was at the mark
+    marked: Reached,
+}
+
+// How many places are certified from the first on, and what else is told of the heard claims.
+#[derive(Clone, Copy, Debug)]
+struct Reached {
+    placed: u16,
+    fixed: u16,
+    notified: UpdateSet,
+    ends: [u16; PROCESSES],
+}
+
+// Written out, so that whoever drops a value makes one call (docs/CONTRIBUTING.md).
+impl Drop for Places {
+    fn drop(self) {
+        let Places {
+            quorums,
+            prefix,
+            fixed: _,
+            notified: _,
+            ends: _,
+            marked: _,
+        } = self;
+        mem::drop(quorums);
+        mem::drop(prefix);
+    }
+}
+
+// Where nothing is heard.
+fn nothing() -> Reached
+    ensures placed { result.placed ≡ 0 }
+    ensures fixed { result.fixed ≡ 0 }
+    ensures notified { (u : updates.Update) → has_update result.notified u ≡ false }
+    ensures ends { result.ends ≡ replicate 64 0 }
+{
+    Reached {
+        placed: 0,
+        fixed: 0,
+        notified: UpdateSet::new(),
+        ends: [0; PROCESSES],
+    }
 }
 
 impl Model for Places {
     ghost use Rattle.claim_index.specs.Kept.{Holding};
-    ghost use Rattle.pool_values.specs.Places.{AreCounted};
+    ghost use Rattle.pool_values.specs.Places.{AreMarkedCounted};
 
     ghost Value = { Holding };
 
     ghost view = { λ p. p.quorums };
 
-    ghost invariant = { λ p. AreCounted p.quorums.pool p.prefix p.fixed p.notified p.ends };
+    ghost invariant = { λ p. AreMarkedCounted p.quorums.pool p.quorums.marked p.prefix p.fixed p.notified p.ends p.marked };
 }
 
 // The batch of an Order, a Place or a Keep.
@@ -180,7 +223,8 @@ fn copy_of(view: &View) -> View
 impl Places {
     /// Nothing is heard of the view yet.
     pub fn new(alloc: Global, view: View) -> Result<Places, NoMemory>
-        ensures { IfOk result (λ p. p.pool ≡ empty_pool view) }
+        ensures pool { IfOk result (λ p. p.pool ≡ empty_pool view) }
+        ensures marked { IfOk result (λ p. p.marked ≡ empty_pool view) }
     {
         let prefix = PlacedBatches::new(alloc, copy_of(&view))?;
         let quorums = Quorums::new(alloc, view);
@@ -191,12 +235,14 @@ impl Places {
             fixed: 0,
             notified,
             ends: [0; PROCESSES],
+            marked: nothing(),
         })
     }
 
-    /// Forgets what is heard, and turns to this view.
+    /// Forgets what is heard, and turns to this view, where the mark stands at nothing.
     pub fn turn_to(&mut self, view: View)
         ensures pool { self.new.pool ≡ empty_pool view }
+        ensures marked { self.new.marked ≡ empty_pool view }
         ensures claims { self.old.claims_left ≤ self.new.claims_left }
         ensures bytes { self.old.bytes_left ≤ self.new.bytes_left }
     {
@@ -205,11 +251,39 @@ impl Places {
         self.fixed = 0;
         self.notified = UpdateSet::new();
         self.ends = [0; PROCESSES];
+        self.marked = nothing();
+    }
+
+    /// Marks what is heard.
+    pub fn mark(&mut self)
+        ensures same { self.new.pool ≡ self.old.pool }
+        ensures marked { self.new.marked ≡ self.old.pool }
+    {
+        self.quorums.mark();
+        self.marked = Reached {
+            placed: self.prefix.len(),
+            fixed: self.fixed,
+            notified: self.notified,
+            ends: self.ends,
+        };
+    }
+
+    /// Forgets what was heard behind the mark.
+    pub fn rewind(&mut self)
+        ensures pool { self.new.pool ≡ self.old.marked }
+        ensures marked { self.new.marked ≡ self.old.marked }
+    {
+        self.quorums.rewind();
+        self.prefix.truncate(self.marked.placed);
+        self.fixed = self.marked.fixed;
+        self.notified = self.marked.notified;
+        self.ends = self.marked.ends;
     }
 
     /// Makes room for so many claims more, with so many bytes in all.
     pub fn reserve(&mut self, claims: usize, bytes: usize) -> Result<(), NoMemory>
         ensures same { self.new.pool ≡ self.old.pool }
+        ensures marked { self.new.marked ≡ self.old.marked }
         ensures room { OnOk result ((claims ≤ self.new.claims_left) × (bytes ≤ self.new.bytes_left)) }
         ensures kept { (self.old.claims_left ≤ self.new.claims_left) × (self.old.bytes_left ≤ self.new.bytes_left) }
     {
@@ -274,6 +348,7 @@ impl Places {
         requires claims { 1 ≤ self.old.claims_left }
         requires bytes { claim_bytes (claim_of claim.now) ≤ self.old.bytes_left }
         ensures heard { self.new.pool ≡ with_heard self.old.pool (claim_of claim.now) }
+        ensures marked { self.new.marked ≡ self.old.marked }
         ensures claims_left { self.old.claims_left ≤ self.new.claims_left + 1 }
         ensures bytes_left { self.old.bytes_left ≤ self.new.bytes_left + claim_bytes (claim_of claim.now) }
     {

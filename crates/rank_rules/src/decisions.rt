@@ -11,10 +11,10 @@ ghost use Rattle.claim_pool.specs.Certificates.{content_of};
 ghost use Rattle.ending_rules.specs.Due.{HasKeys};
 
 use claim_pool::{Certificate, Commit, Own, Pool};
-use ending_rules::is_possible;
 use pool_questions::certified_ready;
 use rp_base::Value;
 use stmt_codec::Slot;
+use view_table::is_possible;
 
 // The rank and the value of its certified Ready, where the value's update is possible.
 fn decided_at(pool: &Pool, own: &Own, rank: u8) -> Option<(u8, Value)>

@@ -6,9 +6,10 @@ use Rattle.message_defs.specs.Packing.{Signed}
 use Rattle.group_defs.specs.Process.{Pool, Process}
 use Rattle.reliable_mcast.specs.Certificates.{all_signed, IsRanged}
 
--- the pool of the view that was left last, and the commit certificates of the views 0, 1, 2 and so on
+-- the pool of the view that was left last, what of that was heard at its mark, and the commit certificates of the views 0, 1, 2 and so on
 pub record Archived : Type 0 where
   pub previous : Option Pool
+  pub marked : Option Pool
   pub commits : List (List Signed)
 
 -- the archive is that of this process: the pool before the current one, and the commit certificates of the views that it left

@@ -1,6 +1,6 @@
 //! What is kept of the views that were left: of the last one its pool, and of each its commit certificate
 //! (docs/PROTOCOL.md, «What is sent»).
-ghost use Rattle.std.specs.Prelude.{◌≡◌, ◌≤◌, ◌++◌, ◌∷◌, [], length, Some, None, OnOk, IfOk, IfSome, ◌==◌, false, filter, unwrap_or, option_to_list, option_and_then, slice_get};
+ghost use Rattle.std.specs.Prelude.{◌≡◌, ◌≤◌, ◌++◌, ◌∷◌, ◌-◌, [], length, take, Some, None, OnOk, OnErr, IfOk, IfSome, ◌==◌, false, filter, unwrap_or, option_to_list, option_and_then, slice_get};
 ghost use Rattle.std.specs.Option.{option_map};
 ghost use Rattle.message_defs.specs.Statements.{Ready, ReadyAt};
 ghost use Rattle.message_defs.specs.Spelling.{IsStatement};
@@ -25,15 +25,28 @@ use claim_pool::{Commit, Pool};
 use rp_base::{NoMemory, Value};
 use std::alloc::Global;
 use std::marker::Model;
+use std::mem;
 use stmt_codec::{Claim, Slot, read_statement};
 
 /// What a process keeps of the views that it left. Contracts see the pool of the last one, and the commit certificates of the
 /// views 0, 1, 2 and so on.
-#[derive(Drop)]
 pub struct Archive {
     alloc: Global,
     previous: Option<Pool>,
     commits: Vec<ClaimList>,
+}
+
+// Written out, so that whoever drops a value makes one call (docs/CONTRIBUTING.md).
+impl Drop for Archive {
+    fn drop(self) {
+        let Archive {
+            alloc: _,
+            previous,
+            commits,
+        } = self;
+        mem::drop(previous);
+        mem::drop(commits);
+    }
 }
 
 impl Model for Archive {
@@ -43,9 +56,33 @@ impl Model for Archive {
 
     ghost Value = { Archived };
 
-    ghost view = { λ a. record { previous = option_map (λ (h : Holding). h.pool) a.previous; commits = a.commits.items } };
+    ghost view = { λ a. record {
+      previous = option_map (λ (h : Holding). h.pool) a.previous;
+      marked = option_map (λ (h : Holding). h.marked) a.previous;
+      commits = a.commits.items;
+    } };
 
     ghost invariant = { λ a. AreKept (option_map (λ (h : Holding). h.pool) a.previous) a.commits.items };
+}
+
+/// The pool of the view before the one that was left last, which the archive keeps no more. Contracts see the definitions' pool.
+#[derive(Drop)]
+pub struct Displaced {
+    pool: Option<Pool>,
+}
+
+impl Model for Displaced {
+    ghost use Rattle.std.specs.Prelude.{◌≡◌, Option, Some};
+    ghost use Rattle.std.specs.Option.{option_map};
+    ghost use Rattle.group_defs.specs.Process.{Pool};
+    ghost use Rattle.claim_index.specs.Kept.{Holding};
+    ghost use Rattle.reliable_mcast.specs.Certificates.{IsRanged};
+
+    ghost Value = { Option Pool };
+
+    ghost view = { λ d. option_map (λ (h : Holding). h.pool) d.pool };
+
+    ghost invariant = { λ d. (h : Pool) → option_map (λ (h : Holding). h.pool) d.pool ≡ Some h → IsRanged h };
 }
 
 // The claim at this place; None exactly where the list has no more than so many.
@@ -113,14 +150,24 @@ impl Archive {
     }
 
     /// Keeps the view that is left: its pool, and for good the commit certificate of the Ready of this rank and this value,
-    /// which is certified there.
-    pub fn keep_view(&mut self, pool: Pool, commit: (u8, Value)) -> Result<(), NoMemory>
-        requires range { IsRanged pool.pool }
-        requires certified { value_at pool.pool (ReadyAt pool.pool.view.number commit.0) ≡ Some (value commit.1) }
-        requires order { pool.pool.view.number ≡ length self.old.commits }
-        ensures previous { OnOk result (self.new.previous ≡ Some pool.pool) }
+    /// which is certified there. `pool` is then the one that begins, and the pool that was kept before is handed out. Without memory
+    /// nothing changes.
+    pub fn keep_view(
+        &mut self,
+        pool: &mut Pool,
+        begun: Pool,
+        commit: (u8, Value),
+    ) -> Result<Displaced, NoMemory>
+        requires range { IsRanged pool.old.pool }
+        requires certified { value_at pool.old.pool (ReadyAt pool.old.pool.view.number commit.0) ≡ Some (value commit.1) }
+        requires order { pool.old.pool.view.number ≡ length self.old.commits }
+        ensures begins { OnOk result (pool.new ≡ begun) }
+        ensures previous { OnOk result (self.new.previous ≡ Some pool.old.pool) }
+        ensures marked { OnOk result (self.new.marked ≡ Some pool.old.marked) }
         ensures commits { OnOk result (self.new.commits ≡ self.old.commits
-            ++ all_signed (certificate pool.pool (Ready pool.pool.view.number commit.0 (value commit.1))) ∷ []) }
+            ++ all_signed (certificate pool.old.pool (Ready pool.old.pool.view.number commit.0 (value commit.1))) ∷ []) }
+        ensures older { IfOk result (λ older. older ≡ self.old.previous) }
+        ensures same { OnErr result ((self.new ≡ self.old) × (pool.new ≡ pool.old)) }
     {
         let view = pool.view().number();
         let slot = Slot::Rank {
@@ -128,10 +175,24 @@ impl Archive {
             rank: commit.0,
         };
         let mut kept = ClaimList::new(self.alloc);
-        put_certificate::<Commit>(&mut kept, &pool, &slot, false)?;
+        put_certificate::<Commit>(&mut kept, pool, &slot, false)?;
         self.commits.push(kept)?;
-        self.previous = Some(pool);
-        Ok(())
+        let left = mem::replace(pool, begun);
+        let pool = mem::replace(&mut self.previous, Some(left));
+        Ok(Displaced { pool })
+    }
+
+    /// Goes back to before the last view was kept: its pool is handed out again, and `older` is the pool that was kept before. It takes no
+    /// memory.
+    pub fn take_back(&mut self, older: Displaced) -> Option<Pool>
+        ensures previous { self.new.previous ≡ older }
+        ensures commits { self.new.commits ≡ take (length self.old.commits - 1) self.old.commits }
+        ensures pool { option_map (λ (h : Holding). h.pool) result ≡ self.old.previous }
+        ensures marked { option_map (λ (h : Holding). h.marked) result ≡ self.old.marked }
+    {
+        self.commits.truncate(self.commits.len().saturating_sub(1));
+        let Displaced { pool } = older;
+        mem::replace(&mut self.previous, pool)
     }
 
     // Puts the certificates of eight places of the previous view, where that is the view of this number.

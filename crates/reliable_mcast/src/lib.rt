@@ -10,6 +10,6 @@ mod list;
 mod order;
 mod sheet;
 
-pub use archive::Archive;
+pub use archive::{Archive, Displaced};
 pub use frames::Frames;
 pub use sheet::FrameKind;

@@ -6,6 +6,7 @@ ghost use Rattle.reliable_mcast.specs.Lists.{added, same_signed, lent_claim, lis
 use rp_base::{NoMemory, Pid};
 use std::alloc::Global;
 use std::marker::Model;
+use std::mem;
 
 /// Where the bytes of a claim stand: its statement's from `start` on, and its signature's behind them.
 #[derive(Clone, Copy, Debug)]
@@ -30,10 +31,18 @@ pub(crate) struct Lent<'a> {
 }
 
 /// A list of claims, which takes memory as it is filled and keeps it when it is cleared.
-#[derive(Drop)]
 pub(crate) struct ClaimList {
     bytes: Vec<u8>,
     listed: Vec<Listed>,
+}
+
+// Written out, so that whoever drops a value makes one call (docs/CONTRIBUTING.md).
+impl Drop for ClaimList {
+    fn drop(self) {
+        let ClaimList { bytes, listed } = self;
+        mem::drop(bytes);
+        mem::drop(listed);
+    }
 }
 
 impl Model for ClaimList {

@@ -15,27 +15,21 @@ use Rattle.stmt_codec.specs.declared.events.Outcome.{Outcome}
 use Rattle.member_state.specs.Events.{event, IsOutcome}
 pub use Rattle.member_core.specs.declared.member.Core.{Core}
 pub use Rattle.member_core.specs.Cores.{IsCore}
-use Rattle.member_core.specs.Cores.{signer_of}
+use Rattle.member_core.specs.Cores.{IsWhole, signer_of}
 use Rattle.said_index.specs.declared.index.SaidIndex.{SaidIndex}
 use Rattle.said_index.specs.Said.{is_said}
-pub use Rattle.replay_cast.specs.declared.player.Seat.{Seat}
-pub use Rattle.replay_cast.specs.declared.player.Seat.TheVariants.{Taken, Lost}
 pub use Rattle.replay_cast.specs.declared.player.Player.{Player}
 
 -- the number of the player's process
 abbrev pub process_of : Player → ℕ
 process_of p = p.process
 
--- the core is the player's process in this setting, and has its key
+-- the core is the player's process in this setting, and has its key, of which no signature was lost
 pub record HasCore (s : Setting) (c : plain.Player) (core : Core AnySigner) : Type 0 where
   pub is : IsCore used s c.now core
   pub total : total (signer_of core) ≡ key_total c.listed.key
   pub signs : signature (signer_of core) ≡ key_signature c.listed.key
-
--- the player's process sits there: a core in this setting, with its key; memory has not run out
-abbrev pub Sits : Setting → plain.Player → Seat → Type 0
-Sits s c (Taken core) = HasCore s c core
-Sits s c Lost = ⊥
+  pub whole : IsWhole used core
 
 -- a statement was said exactly where the process signed one that is spelled so
 abbrev pub HasSaid : Process → SaidIndex → Type 0
@@ -44,7 +38,7 @@ HasSaid p said = (x : List ℕ) → is_said x said ≡ list_any (λ c. bytes_eq 
 -- p, of the code, is the player c of the definitions
 pub record Plays (s : Setting) (p : Player) (c : plain.Player) : Type 0 where
   pub process : p.process ≡ c.listed.process
-  pub seat : Sits s c p.seat
+  pub core : HasCore s c p.core
   pub said : HasSaid c.now p.said
 
 -- each player of the code is the one of the definitions at its place

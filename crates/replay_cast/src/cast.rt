@@ -13,7 +13,7 @@ ghost use Rattle.replay_cast.specs.Starts.{Starts};
 
 use crate::keyed::{Keyed, keyed_of};
 use crate::liar::Liar;
-use crate::player::{Player, Seat};
+use crate::player::Player;
 use crate::roster::{Entry, entries_of, roster_of};
 use member_core::Core;
 use rp_base::{GroupId, NoMemory, Roster};
@@ -82,7 +82,7 @@ fn player_of(
     )?;
     Ok(Player {
         process: one.process,
-        seat: Seat::Taken(core),
+        core,
         said: SaidIndex::new(alloc),
     })
 }

@@ -11,4 +11,4 @@ mod roster;
 
 pub use cast::Cast;
 pub use liar::Liar;
-pub use player::{Player, Seat};
+pub use player::Player;

@@ -20,13 +20,9 @@ use Rattle.replay_defs.specs.Worlds as plain
 use Rattle.replay_defs.specs.Worlds.{setting_of, correct_of}
 use Rattle.sig_scheme.specs.Signers.{used}
 use Rattle.sig_scheme.specs.declared.any_signer.AnySigner.{AnySigner}
-use Rattle.member_core.specs.declared.member.Core.{Core}
-use Rattle.member_core.specs.Cores.{IsCore}
 use Rattle.said_index.specs.Said.{is_said}
-use Rattle.replay_cast.specs.declared.player.Seat.{Seat}
-use Rattle.replay_cast.specs.declared.player.Seat.TheVariants.{Taken, Lost}
-use Rattle.replay_cast.specs.declared.player.Player.{Player}
-use Rattle.replay_cast.specs.Players.{Sits, Plays, ArePlayers}
+use Rattle.member_core.specs.Cores.{IsCore}
+use Rattle.replay_world.specs.Cast.{Core, Player, Plays, ArePlayers}
 use Rattle.replay_world.specs.Worlds.{IsRun}
 use Rattle.replay_questions.specs.Owned.{is_word_of}
 
@@ -56,11 +52,7 @@ said_same st (c ∷ cs) fits each = λ i. spelled_same st c.statement fits (each
 
 core_said : (s : Setting) (p : Process) (core : Core AnySigner) → IsCore used s p core → All IsClaim p.signed
 unfolding IsCore
-core_said s p core is = is.state.lawful.said
-
-seat_said : (s : Setting) (c : plain.Player) (seat : Seat) → Sits s c seat → All IsClaim c.now.signed
-seat_said s c (Taken core) sits = core_said s c.now core sits.is
-seat_said s c Lost sits = absurd sits
+core_said s p core is = is.keyless.state.lawful.said
 
 -- ---- players
 
@@ -75,7 +67,7 @@ module _ (h : Header) (c : Claim) (fits : IsStatement c.statement) where
       let me : p.process ≡ (end_of (setting_of h) (correct_of h d)).me = plays.process ∙ sym (me-end_of (setting_of h) (correct_of h d)) in
       let said : is_said (spelling c.statement) p.said ≡ list_any (same_statement c.statement) (statements_of d.now) =
       plays.said (spelling c.statement) ∙ said_same c.statement d.now.signed fits
-      (λ e m. All-mem IsClaim d.now.signed e (seat_said (setting_of h) d p.seat plays.seat) m) in
+      (λ e m. All-mem IsClaim d.now.signed e (core_said (setting_of h) d.now p.core plays.core.is) m) in
       let there : is_said (spelling c.statement) p.said
       ≡ list_any (same_statement c.statement) (statements_of (end_of (setting_of h) (correct_of h d))) =
       said ∙ ap (λ (q : Process). list_any (same_statement c.statement) (statements_of q)) ran in

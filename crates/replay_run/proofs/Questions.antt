@@ -10,8 +10,7 @@ use Rattle.group_defs.specs.Family.{accounts, numbers, end_of}
 use Rattle.replay_defs.specs.Schedules.{Header}
 use Rattle.replay_defs.specs.Worlds as plain
 use Rattle.replay_defs.specs.Worlds.{setting_of, family_of, correct_of}
-use Rattle.replay_cast.specs.declared.player.Player.{Player}
-use Rattle.replay_cast.specs.Players.{ArePlayers, process_of}
+use Rattle.replay_world.specs.Cast.{Player, ArePlayers, process_of}
 use Rattle.replay_world.specs.Worlds.{IsRun}
 
 accounts_now : (h : Header) (cs : List plain.Player) → AllByRecursion (IsRun h) cs

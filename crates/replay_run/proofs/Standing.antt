@@ -10,15 +10,15 @@ use Rattle.view_phases.specs.Phases.{word}
 use Rattle.sig_scheme.specs.Signers.{used}
 use Rattle.sig_scheme.specs.declared.any_signer.AnySigner.{AnySigner}
 use Rattle.member_state.specs.States.{liars_of, halted_at}
-use Rattle.member_core.specs.declared.member.Core.{Core}
 use Rattle.member_core.specs.Cores.{IsCore}
+use Rattle.replay_world.specs.Cast.{Core}
 use Rattle.report_lines.specs.declared.standing.Standing.{Standing}
 use Rattle.report_lines.specs.Standings.{StandsAs}
 
 -- what a process signed is its own
 core_own : (s : Setting) (p : Process) (core : Core AnySigner) → IsCore used s p core → All (λ (c : Claim). c.signer ≡ p.me) p.signed
 unfolding IsCore
-core_own s p core is = is.state.lawful.own
+core_own s p core is = is.keyless.state.lawful.own
 
 pub stands : (s : Setting) (p : Process) (core : Core AnySigner) (t : Standing) → IsCore used s p core
     → account_of p ≡ account t.account.now → phase_of p ≡ word t.phase → length p.signed ≡ t.signed

@@ -6,7 +6,7 @@ ghost use Rattle.replay_defs.specs.Schedules.{Header};
 ghost use Rattle.replay_defs.specs.Worlds as worlds;
 ghost use Rattle.replay_defs.specs.Worlds.{family_of};
 ghost use Rattle.replay_defs.specs.Reports as plain;
-ghost use Rattle.replay_cast.specs.Players.{Plays, ArePlayers};
+ghost use Rattle.replay_world.specs.Cast.{Plays, ArePlayers};
 ghost use Rattle.replay_world.specs.Stepping.{refused as refused_in};
 ghost use Rattle.replay_world.specs.Worlds.{Shows};
 ghost use Rattle.replay_run.specs.Reported.{middle_lines};
@@ -35,9 +35,7 @@ fn push_player(out: &mut Vec<u8>, player: &Player, spent: &[Pid]) -> Result<(), 
     ensures { (s : Setting) (c : worlds.Player) → Plays s player.now c
         → OnOk result (out.new.items ≡ out.old.items ++ plain.block spent.now c.now) }
 {
-    let Some(standing) = standing_of(player) else {
-        return Err(NoMemory);
-    };
+    let standing = standing_of(player);
     let is_spent = spent.contains(&standing.account.me);
     push_block(out, &standing, is_spent)
 }
@@ -57,10 +55,7 @@ fn push_player_short(out: &mut Vec<u8>, player: &Player) -> Result<(), NoMemory>
     ensures { (s : Setting) (c : worlds.Player) → Plays s player.now c
         → OnOk result (out.new.items ≡ out.old.items ++ plain.process_line c.now) }
 {
-    let Some(standing) = standing_of(player) else {
-        return Err(NoMemory);
-    };
-    push_process(out, &standing)
+    push_process(out, &standing_of(player))
 }
 
 fn push_players_short(out: &mut Vec<u8>, players: &[Player]) -> Result<(), NoMemory>

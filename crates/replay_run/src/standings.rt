@@ -1,11 +1,11 @@
 //! Where the correct processes stand at the end of a run.
-ghost use Rattle.std.specs.Prelude.{◌≡◌, ℕ, List, map, IfOk, IsSomeAnd};
+ghost use Rattle.std.specs.Prelude.{◌≡◌, ℕ, List, map, IfOk};
 ghost use Rattle.byte_defs.specs.Members.{has};
 ghost use Rattle.group_defs.specs.Process.{Setting};
 ghost use Rattle.group_defs.specs.Accounts.{account_of};
 ghost use Rattle.accounts.specs.Views.{account};
 ghost use Rattle.replay_defs.specs.Worlds as plain;
-ghost use Rattle.replay_cast.specs.Players.{Plays, ArePlayers, process_of};
+ghost use Rattle.replay_world.specs.Cast.{Plays, ArePlayers, process_of};
 ghost use Rattle.report_lines.specs.Standings.{StandsAs};
 
 use crate::copies::copy_account;
@@ -15,18 +15,18 @@ use report_lines::Standing;
 use rp_base::{NoMemory, PidSet};
 use std::alloc::Global;
 
-/// What a report tells of the process, which is there unless memory ran out.
-pub(crate) fn standing_of(player: &Player) -> Option<Standing<'_>>
-    ensures { (s : Setting) (c : plain.Player) → Plays s player.now c → IsSomeAnd result (λ t. StandsAs t c.now) }
+/// What a report tells of the process.
+pub(crate) fn standing_of(player: &Player) -> Standing<'_>
+    ensures { (s : Setting) (c : plain.Player) → Plays s player.now c → StandsAs result c.now }
 {
-    let core = player.core()?;
-    Some(Standing {
+    let core = &player.core;
+    Standing {
         account: core.account(),
         phase: core.phase(),
         signed: core.used(),
         liars: core.liars(),
         halted: core.halted(),
-    })
+    }
 }
 
 /// What each of these processes tells of itself, copied.
@@ -36,10 +36,7 @@ pub(crate) fn accounts_of(alloc: Global, players: &[Player]) -> Result<Vec<Accou
 {
     let mut all = Vec::new(alloc);
     for player in players {
-        let Some(core) = player.core() else {
-            return Err(NoMemory);
-        };
-        let account = copy_account(alloc, core.account())?;
+        let account = copy_account(alloc, player.core.account())?;
         all.push(account)?;
     }
     Ok(all)

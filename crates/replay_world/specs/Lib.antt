@@ -1,3 +1,4 @@
+pub mod Cast
 pub mod Traffic
 pub mod Handing
 pub mod Stepping

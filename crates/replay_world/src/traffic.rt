@@ -12,6 +12,7 @@ use crate::fault::WorldFault;
 use replay_cast::Player;
 use rp_base::{NoMemory, Pid, PidSet};
 use std::collections::VecDeque;
+use std::mem;
 use stmt_codec::{Payload, Sending};
 
 /// The most bytes that may be sent in all.
@@ -35,7 +36,6 @@ pub struct Delivery {
 }
 
 /// The frames, each kept once, and the deliveries that wait.
-#[derive(Drop)]
 pub struct Traffic {
     pub frames: Vec<Sent>,
 
@@ -44,6 +44,19 @@ pub struct Traffic {
 
     /// How many bytes the frames have.
     pub bytes: u64,
+}
+
+// Written out, so that whoever drops a value makes one call (docs/CONTRIBUTING.md).
+impl Drop for Traffic {
+    fn drop(self) {
+        let Traffic {
+            frames,
+            pending,
+            bytes: _,
+        } = self;
+        mem::drop(frames);
+        mem::drop(pending);
+    }
 }
 
 // A delivery of the frame waits for the process, if it is addressed.

@@ -22,6 +22,7 @@ use rp_base::{GroupId, NoMemory, Pid, PidSet, Roster};
 use schedule_file::ScheduleEvent;
 use sig_scheme::AnyScheme;
 use std::alloc::Global;
+use std::mem;
 use stmt_codec::{Event, EventFault, EventVerdict, Outcome, Payload, Sending};
 
 /// An event that a process refused, by the event's number in the schedule, from 0.
@@ -34,7 +35,6 @@ pub struct Refused {
 
 /// The correct processes of a schedule, and what happened between them so far. Which world of the definitions it is, the word
 /// `Shows` of the specs says. After a fault it is to be given up.
-#[derive(Drop)]
 pub struct World {
     pub(crate) group: GroupId,
     pub(crate) scheme: AnyScheme,
@@ -54,6 +54,31 @@ pub struct World {
 
     /// How many events there were.
     pub(crate) count: u64,
+}
+
+// Written out, so that whoever drops a value makes one call (docs/CONTRIBUTING.md).
+impl Drop for World {
+    fn drop(self) {
+        let World {
+            group: _,
+            scheme: _,
+            roster,
+            players,
+            liars,
+            traffic,
+            raws,
+            refused,
+            spent,
+            count: _,
+        } = self;
+        mem::drop(roster);
+        mem::drop(players);
+        mem::drop(liars);
+        mem::drop(traffic);
+        mem::drop(raws);
+        mem::drop(refused);
+        mem::drop(spent);
+    }
 }
 
 // The place of a process among the correct ones.

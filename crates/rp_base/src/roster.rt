@@ -6,6 +6,7 @@ use crate::pid::Pid;
 use crate::pid_set::PidSet;
 use std::alloc::Global;
 use std::marker::Model;
+use std::mem;
 
 /// The most processes that a roster can hold: one for each process number.
 const MOST: usize = 64;
@@ -19,9 +20,17 @@ struct Listed {
 
 /// The processes that have a key, with their public keys, by rising process number. Contracts see it as the list of
 /// (number, key).
-#[derive(Debug, Drop)]
+#[derive(Debug)]
 pub struct Roster {
     listed: Vec<Listed>,
+}
+
+// Written out, so that whoever drops a value makes one call (docs/CONTRIBUTING.md).
+impl Drop for Roster {
+    fn drop(self) {
+        let Roster { listed } = self;
+        mem::drop(listed);
+    }
 }
 
 impl Model for Roster {

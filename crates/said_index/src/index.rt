@@ -5,12 +5,20 @@ ghost use Rattle.said_index.specs.Among.{is_among};
 use indexmap::IndexSet;
 use rp_base::NoMemory;
 use std::alloc::Global;
+use std::mem;
 use stmt_codec::OwnClaim;
 
 /// The statements that were said, each by its bytes. Whether one is among them, the word `is_said` of the specs says.
-#[derive(Drop)]
 pub struct SaidIndex {
     spelled: IndexSet<Vec<u8>>,
+}
+
+// Written out, so that whoever drops a value makes one call (docs/CONTRIBUTING.md).
+impl Drop for SaidIndex {
+    fn drop(self) {
+        let SaidIndex { spelled } = self;
+        mem::drop(spelled);
+    }
 }
 
 // Puts a statement among the others, where it is not one of them.

@@ -38,7 +38,7 @@ impl<'a> Reader<'a> {
     pub fn byte(&mut self) -> Result<u8, Found>
         ensures { Gives (λ x. (x, self.new.rest.now)) result (plain.byte_at self.old.rest.now) }
     {
-        let (value, rest) = frame_codec::u8_at(self.rest, self.fault(FaultKind::Short))?;
+        let (value, rest) = byte_fields::u8_at(self.rest, self.fault(FaultKind::Short))?;
         self.rest = rest;
         Ok(value)
     }
@@ -46,7 +46,7 @@ impl<'a> Reader<'a> {
     pub fn short(&mut self) -> Result<u16, Found>
         ensures { Gives (λ x. (x, self.new.rest.now)) result (plain.wide_at w16 self.old.rest.now) }
     {
-        let (value, rest) = frame_codec::u16_at(self.rest, self.fault(FaultKind::Short))?;
+        let (value, rest) = byte_fields::u16_at(self.rest, self.fault(FaultKind::Short))?;
         self.rest = rest;
         Ok(value)
     }
@@ -54,7 +54,7 @@ impl<'a> Reader<'a> {
     pub fn long(&mut self) -> Result<u32, Found>
         ensures { Gives (λ x. (x, self.new.rest.now)) result (plain.wide_at w32 self.old.rest.now) }
     {
-        let (value, rest) = frame_codec::u32_at(self.rest, self.fault(FaultKind::Short))?;
+        let (value, rest) = byte_fields::u32_at(self.rest, self.fault(FaultKind::Short))?;
         self.rest = rest;
         Ok(value)
     }
@@ -62,7 +62,7 @@ impl<'a> Reader<'a> {
     pub fn mask(&mut self) -> Result<u64, Found>
         ensures { Gives (λ x. (x, self.new.rest.now)) result (plain.wide_at w64 self.old.rest.now) }
     {
-        let (value, rest) = frame_codec::u64_at(self.rest, self.fault(FaultKind::Short))?;
+        let (value, rest) = byte_fields::u64_at(self.rest, self.fault(FaultKind::Short))?;
         self.rest = rest;
         Ok(value)
     }
@@ -79,7 +79,7 @@ impl<'a> Reader<'a> {
         ensures value { Gives (λ x. (x.now, self.new.rest.now)) result (plain.field_at count self.old.rest.now) }
         ensures len { IfOk result (λ x. length x.now ≡ count) }
     {
-        let (bytes, rest) = frame_codec::bytes_at(self.rest, count, self.fault(FaultKind::Short))?;
+        let (bytes, rest) = byte_fields::bytes_at(self.rest, count, self.fault(FaultKind::Short))?;
         self.rest = rest;
         Ok(bytes)
     }

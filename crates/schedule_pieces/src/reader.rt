@@ -21,11 +21,11 @@ use schedule_file::{Header, Listed, ScheduleEvent};
 use schedule_header::{all_correct, all_corrupt, empty_header, fill};
 use std::alloc::Global;
 use std::marker::Model;
+use std::mem;
 
 /// Reads a schedule piece by piece, and gives each event as soon as it is whole. However the input is cut, the events and the fault are
 /// those of `read_schedule` on all of it. The room is that of a header and of 196,608 bytes that wait, however long the input is; only
 /// the bytes of an event that is given are taken beside that.
-#[derive(Drop)]
 pub struct ScheduleReader {
     window: Window,
 
@@ -42,6 +42,23 @@ pub struct ScheduleReader {
     /// How many steps are left.
     steps: u32,
     fault: Option<Fault>,
+}
+
+// Written out, so that whoever drops a value makes one call (docs/CONTRIBUTING.md).
+impl Drop for ScheduleReader {
+    fn drop(self) {
+        let ScheduleReader {
+            window,
+            header,
+            has_header: _,
+            roles: _,
+            taken: _,
+            steps: _,
+            fault: _,
+        } = self;
+        mem::drop(window);
+        mem::drop(header);
+    }
 }
 
 impl Model for ScheduleReader {

@@ -2,3 +2,4 @@ mod Keyed
 pub mod Joining
 pub mod Hearing
 pub mod Asking
+pub mod Marks

@@ -1,4 +1,6 @@
-ghost use Rattle.std.specs.Prelude.{◌≡◌, ◌+◌, ◌≤◌, ◌<◌, Some, None, cond, length, nat_le, OnOk, IfSome, option_and_then};
+ghost use Rattle.std.specs.Prelude.{◌≡◌, ◌+◌, ◌≤◌, ◌<◌, ◌++◌, [], Some, None, cond, length, nat_le, OnOk, IfSome, option_and_then};
+ghost use Rattle.std.specs.List.{AllByRecursion};
+ghost use Rattle.std.specs.Vec.{vec_len, vec_capacity};
 ghost use Rattle.std.specs.Option.{option_map};
 ghost use Rattle.std.specs.Map.{lookup};
 ghost use Rattle.indexmap.specs.IndexMap.{spare};
@@ -11,6 +13,7 @@ ghost use Rattle.stmt_codec.specs.Views.{stmt, slot, claim, claim as claim_of};
 ghost use Rattle.claim_index.specs.Keys.{same_slot_key};
 ghost use Rattle.claim_index.specs.Kept.{by_number, claim_bytes, empty_pool, with_heard};
 ghost use Rattle.slot_quorums.specs.Cells.{IsCertifiedBy, StandsAt};
+ghost use Rattle.slot_quorums.specs.Marks.{noted, placed, restored};
 
 use crate::cell::{Cell, cell_with};
 use claim_index::{ClaimIndex, KeyHasher, SlotKey, slot_key_at, slot_key_of};
@@ -19,6 +22,7 @@ use rp_base::{NoMemory, Pid, PidSet};
 use std::alloc::Global;
 use std::hash::BuildHasherDefault;
 use std::marker::Model;
+use std::mem;
 use stmt_codec::{Claim, STATEMENT_BYTES, Slot, Statement, spell_into};
 use view_table::{View, quorum};
 
@@ -27,27 +31,47 @@ type Cells = IndexMap<SlotKey, Cell, BuildHasherDefault<KeyHasher>>;
 
 /// The heard claims of a view, and a cell for each slot on which one is heard. Members are counted where a claim says something else
 /// than its slot's cell, and else nowhere.
-#[derive(Drop)]
 pub struct Quorums {
     claims: ClaimIndex,
     cells: Cells,
+
+    // how many cells there were at the mark, and those of them that changed since, each by its place and with what it was
+    marked: usize,
+    changed: Vec<(usize, Cell)>,
+}
+
+// Written out, so that whoever drops a value makes one call (docs/CONTRIBUTING.md).
+impl Drop for Quorums {
+    fn drop(self) {
+        let Quorums {
+            claims,
+            cells,
+            marked: _,
+            changed,
+        } = self;
+        mem::drop(claims);
+        mem::drop(cells);
+        mem::drop(changed);
+    }
 }
 
 impl Model for Quorums {
-    ghost use Rattle.std.specs.Prelude.{min};
+    ghost use Rattle.std.specs.Prelude.{◌-◌, length, min};
+    ghost use Rattle.std.specs.Vec.{vec_capacity};
     ghost use Rattle.indexmap.specs.IndexMap.{spare};
     ghost use Rattle.claim_index.specs.Kept.{Holding};
-    ghost use Rattle.slot_quorums.specs.Cells.{AreCells};
+    ghost use Rattle.slot_quorums.specs.Marks.{AreMarkedCells};
 
     ghost Value = { Holding };
 
     ghost view = { λ p. record {
       pool = p.claims.pool;
-      claims_left = min p.claims.claims_left (spare p.cells);
+      marked = p.claims.marked;
+      claims_left = min p.claims.claims_left (min (spare p.cells) (vec_capacity p.changed - length p.changed.items));
       bytes_left = p.claims.bytes_left;
     } };
 
-    ghost invariant = { λ p. AreCells p.claims.pool p.cells.entries };
+    ghost invariant = { λ p. AreMarkedCells p.claims.pool p.claims.marked p.cells.entries p.marked p.changed.items };
 }
 
 // What is heard on the slot.
@@ -84,6 +108,7 @@ fn put(cells: &mut Cells, key: SlotKey, at: Option<usize>, cell: Cell)
     requires at { StandsAt cells.old.entries key at }
     ensures looks { (k : SlotKey) → lookup (same_slot_key k) cells.new.entries
         ≡ cond (same_slot_key key k) (Some cell) (lookup (same_slot_key k) cells.old.entries) }
+    ensures entries { cells.new.entries ≡ placed cells.old.entries key at cell }
     ensures room { spare cells.old ≤ spare cells.new + 1 }
 {
     match at {
@@ -99,6 +124,37 @@ fn put(cells: &mut Cells, key: SlotKey, at: Option<usize>, cell: Cell)
     }
 }
 
+// Keeps what the cell at this place is, where it was there at the mark.
+fn note(changed: &mut Vec<(usize, Cell)>, cells: &Cells, marked: usize, at: Option<usize>)
+    requires { vec_len changed.old + 1 ≤ vec_capacity changed.old }
+    ensures items { changed.new.items ≡ changed.old.items ++ noted cells.now.entries marked at }
+    ensures capacity { vec_capacity changed.old ≤ vec_capacity changed.new }
+{
+    let Some(place) = at else {
+        return;
+    };
+    if place >= marked {
+        return;
+    }
+    if let Some((_, cell)) = cells.get_index(place) {
+        let Ok(()) = changed.push((place, *cell)) else {
+            unreachable!()
+        };
+    }
+}
+
+// Puts the changed cells back, the newest first.
+fn restore(cells: &mut Cells, changed: &mut Vec<(usize, Cell)>)
+    requires { AllByRecursion (λ x. x.0 < length cells.old.entries) changed.old.items }
+    ensures cells { cells.new.entries ≡ restored changed.old.items cells.old.entries }
+    ensures none { changed.new.items ≡ [] }
+{
+    'changed: while let Some((place, cell)) = changed.pop() {
+        let (_, kept) = cells.pair_mut(place);
+        *kept = cell;
+    }
+}
+
 // Whether a quorum says the cell's content.
 fn is_enough(claims: &ClaimIndex, cell: &Cell) -> bool
     ensures { result ≡ nat_le (views.quorum (defs.number_of_members claims.now.pool)) (length cell.now.backers) }
@@ -111,32 +167,60 @@ impl Quorums {
 
     /// Nothing is heard of the view yet.
     pub fn new(alloc: Global, view: View) -> Quorums
-        ensures { result.pool ≡ empty_pool view }
+        ensures pool { result.pool ≡ empty_pool view }
+        ensures marked { result.marked ≡ empty_pool view }
     {
         Quorums {
             claims: ClaimIndex::new(alloc, view),
             cells: IndexMap::with_hasher(alloc, BuildHasherDefault::new()),
+            marked: 0,
+            changed: Vec::new(alloc),
         }
     }
 
-    /// Forgets what is heard, and turns to this view.
+    /// Forgets what is heard, and turns to this view, where the mark stands at nothing.
     pub fn turn_to(&mut self, view: View)
         ensures pool { self.new.pool ≡ empty_pool view }
+        ensures marked { self.new.marked ≡ empty_pool view }
         ensures claims { self.old.claims_left ≤ self.new.claims_left }
         ensures bytes { self.old.bytes_left ≤ self.new.bytes_left }
     {
         self.claims.turn_to(view);
         self.cells.clear();
+        self.marked = 0;
+        self.changed.clear();
+    }
+
+    /// Marks what is heard.
+    pub fn mark(&mut self)
+        ensures same { self.new.pool ≡ self.old.pool }
+        ensures marked { self.new.marked ≡ self.old.pool }
+    {
+        self.claims.mark();
+        self.marked = self.cells.len();
+        self.changed.clear();
+    }
+
+    /// Forgets what was heard behind the mark.
+    pub fn rewind(&mut self)
+        ensures pool { self.new.pool ≡ self.old.marked }
+        ensures marked { self.new.marked ≡ self.old.marked }
+    {
+        self.claims.rewind();
+        self.cells.truncate(self.marked);
+        restore(&mut self.cells, &mut self.changed);
     }
 
     /// Makes room for so many claims more, with so many bytes in all.
     pub fn reserve(&mut self, claims: usize, bytes: usize) -> Result<(), NoMemory>
         ensures same { self.new.pool ≡ self.old.pool }
+        ensures marked { self.new.marked ≡ self.old.marked }
         ensures room { OnOk result ((claims ≤ self.new.claims_left) × (bytes ≤ self.new.bytes_left)) }
         ensures kept { (self.old.claims_left ≤ self.new.claims_left) × (self.old.bytes_left ≤ self.new.bytes_left) }
     {
         self.claims.reserve(claims, bytes)?;
         self.cells.reserve(claims)?;
+        self.changed.reserve(claims)?;
         Ok(())
     }
 
@@ -231,11 +315,13 @@ impl Quorums {
         requires claims { 1 ≤ self.old.claims_left }
         requires bytes { claim_bytes (claim_of claim.now) ≤ self.old.bytes_left }
         ensures heard { self.new.pool ≡ with_heard self.old.pool (claim_of claim.now) }
+        ensures marked { self.new.marked ≡ self.old.marked }
         ensures claims_left { self.old.claims_left ≤ self.new.claims_left + 1 }
         ensures bytes_left { self.old.bytes_left ≤ self.new.bytes_left + claim_bytes (claim_of claim.now) }
     {
         let key = slot_key_of(&claim.statement);
         let at = place_of(&self.cells, &key);
+        note(&mut self.changed, &self.cells, self.marked, at);
         let was = cell_there(&self.cells, &key, at);
         let (place, _) = self.claims.size();
         let _number = self.claims.view().number();

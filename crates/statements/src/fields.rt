@@ -17,7 +17,7 @@ ghost use Rattle.statements.specs.Batches.{message};
 ghost use Rattle.statements.specs.Raw.{raw_update, raw_value, raw_report};
 
 use crate::limits::MOST_MESSAGES;
-use frame_codec::{u8_at, u16_at};
+use byte_fields::{u8_at, u16_at};
 use message_defs::FrameFault;
 
 /// An update as its bytes say it.

@@ -1,2 +1,3 @@
 pub mod Phases
 pub mod Settled
+pub mod Marks

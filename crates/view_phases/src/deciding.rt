@@ -11,10 +11,9 @@ ghost use Rattle.view_phases.specs.Phases.{decision_of, decides, decided, IsDeci
 
 use crate::phases::{ClosingView, DecidedView, Decision, Observing, OpenView};
 use claim_pool::{Certificate, Commit};
-use ending_rules::is_possible;
 use rp_base::PidSet;
 use stmt_codec::Statement;
-use view_table::View;
+use view_table::{View, is_possible};
 
 // What the certified Ready decides: its rank and value, where the value's update is possible.
 fn decision(view: &View, keyed: PidSet, commit: &Certificate<'_, Commit>) -> Option<Decision>

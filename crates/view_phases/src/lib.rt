@@ -8,6 +8,7 @@ mod phases;
 mod settling;
 
 pub use phases::{
-    ClosingView, DecidedView, Decision, HaltedView, Observing, OpenView, Phase, PhaseWord,
+    ClosingView, DecidedView, Decision, HaltedView, Observing, OpenView, Phase, PhaseMark,
+    PhaseWord,
 };
 pub use settling::Settled;

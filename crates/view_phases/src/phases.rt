@@ -6,6 +6,7 @@ ghost use Rattle.group_defs.specs.Certified.{is_ended};
 ghost use Rattle.group_defs.specs.Signing.{Signer, signs};
 ghost use Rattle.group_defs.specs.Settle as defs;
 ghost use Rattle.view_phases.specs.Phases.{word, as_phase, IsIn, IsClosing};
+ghost use Rattle.view_phases.specs.Marks.{marked, phase_as};
 
 use rp_base::{Pid, Value};
 use view_table::View;
@@ -113,6 +114,67 @@ impl Phase {
             Phase::DecidedView(_) => PhaseWord::DecidedView,
             Phase::HaltedView(_) => PhaseWord::HaltedView,
         }
+    }
+}
+
+/// A phase as it was at a mark. Of an open view, too, there is no copy: a mark serves to go back alone.
+#[derive(Debug, Drop)]
+pub struct PhaseMark {
+    was: Was,
+}
+
+// What a phase keeps.
+#[derive(Clone, Copy, Debug)]
+enum Was {
+    Observing,
+    OpenView,
+    ClosingView(u16),
+    DecidedView(Decision),
+    HaltedView(Decision, u16),
+}
+
+// What the phase keeps.
+fn was_of(phase: &Phase) -> Was
+    ensures { phase_as result ≡ phase.now }
+{
+    match phase {
+        Phase::Observing(_) => Was::Observing,
+        Phase::OpenView(_) => Was::OpenView,
+        Phase::ClosingView(closing) => Was::ClosingView(closing.length),
+        Phase::DecidedView(decided) => Was::DecidedView(decided.decision),
+        Phase::HaltedView(halted) => Was::HaltedView(halted.decision, halted.delivered),
+    }
+}
+
+// The phase that keeps this.
+fn phase_of(was: Was) -> Phase
+    ensures { result ≡ phase_as was }
+{
+    match was {
+        Was::Observing => Phase::Observing(Observing(())),
+        Was::OpenView => Phase::OpenView(OpenView(())),
+        Was::ClosingView(length) => Phase::ClosingView(ClosingView { length }),
+        Was::DecidedView(decision) => Phase::DecidedView(DecidedView { decision }),
+        Was::HaltedView(decision, delivered) => Phase::HaltedView(HaltedView {
+            decision,
+            delivered,
+        }),
+    }
+}
+
+impl Phase {
+    /// Marks the phase, so that it can be gone back to.
+    pub fn mark(&self) -> PhaseMark
+        ensures { marked result ≡ self.now }
+    {
+        PhaseMark { was: was_of(self) }
+    }
+
+    /// Goes back to the phase of the mark.
+    pub fn rewind(&mut self, mark: PhaseMark)
+        ensures { self.new ≡ marked mark }
+    {
+        *self = phase_of(mark.was);
     }
 }
 

@@ -1,4 +1,4 @@
-use Rattle.std.proofs.Common.{◌≡◌, ◌∙◌, sym, ap, subst}
+use Rattle.std.proofs.Common.{◌≡◌, ◌∙◌, refl, sym, ap, subst}
 use Rattle.std.proofs.lemmas.Result.{on_ok_weaker}
 use Rattle.stmt_codec.specs.Views.{claim as claim_of}
 use Rattle.rule_laws.specs.Heard.{IsPool}
@@ -13,7 +13,7 @@ returns-in-Conflict-clause-heard g c s p shares pool delivered same pairs =
     (conflict-kept s _ _ _ shares p (claim_of c.args.claim.now)
     (c.in-Conflict.ensures.first p delivered (same ∙ sym c.reserve.ensures.same)) c.take.new.self.pool c.keep_conflict.new.conflicts.pairs
     (same ∙ sym as_before))
-    (c.keep_conflict.ensures p (subst IsPool (sym as_before) pool) (same ∙ sym as_before) pairs)
+    (c.keep_conflict.ensures.kept p (subst IsPool (sym as_before) pool) (same ∙ sym as_before) pairs)
 
 pub returns-in_default : goal.returns-in_default
 returns-in_default g c = record {
@@ -24,4 +24,6 @@ returns-in_default g c = record {
       (same ∙ sym c.reserve.ensures.same) c.take.ensures.heard pairs;
   view = ap (λ h. h.view) c.take.ensures.heard ∙ after-view (verdict_of c.take.result) c.reserve.new.self.pool
       (claim_of c.args.claim.now) ∙ ap (λ h. h.view) c.reserve.ensures.same;
+  marked = c.take.ensures.marked ∙ c.reserve.ensures.marked;
+  marked_pairs = refl;
 }

@@ -24,6 +24,8 @@ claims-preserved g c =
           )),
       range.1,
       c.hear.ensures.view ∙ c.claims.invariant.2,
+      c.hear.ensures.marked ∙ c.claims.invariant.3,
+      c.hear.ensures.marked_pairs ∙ c.claims.invariant.4,
     )
 
 pub returns-clause-heard : goal.returns-clause-heard

@@ -17,6 +17,8 @@ invariant-claims g l =
     × (hear_all s q (claims_left l.left) ≡ hear_all s p (claims_left l.fn.claims)))
     × AllByRecursion IsClaim (claims_left l.left)
     × (l.pool.pool.view ≡ l.fn.pool.pool.view)
+    × (l.pool.marked ≡ l.fn.pool.marked)
+    × (l.conflicts.marked ≡ l.fn.conflicts.marked)
 
 abbrev pub decreases-claims : goal.decreases-claims
 decreases-claims g l = length (claims_left l.left)

@@ -29,3 +29,12 @@ returns-clause-begins g c s p shares kinds used is =
     begun-so s p t st total many before none _ c.is_tick.result (map frame_to c.new-sends.result.items) signs refl
     (c.in_ok-heard.ensures.heard s p shares is) c.is_tick.ensures (ap (map frame_to) c.new-sends.ensures.items)
     (c.in_ok-send_bundle.ensures.sent s p (signing s p t).now began signs.state) (ap (map note) c.new.ensures.items)
+
+pub returns-in_err-spent-clause-stays : goal.returns-in_err-spent-clause-stays
+returns-in_err-spent-clause-stays g c b was asked is = c.in_err-spent.ensures.stays b was (c.in_ok-heard.ensures.stays b was asked is)
+
+pub returns-in_err-send_bundle-clause-stays : goal.returns-in_err-send_bundle-clause-stays
+returns-in_err-send_bundle-clause-stays g c b was asked is = c.in_ok-spent.ensures.stays b was (c.in_ok-heard.ensures.stays b was asked is)
+
+pub returns-clause-stays : goal.returns-clause-stays
+returns-clause-stays g c b was asked is = c.in_ok-spent.ensures.stays b was (c.in_ok-heard.ensures.stays b was asked is)

@@ -41,7 +41,7 @@ note-requires-clause-members c = ∥∥₁_elim c.requires.owed.signer (hlevel p
     (due_is_in_range r.setting r.process r.said r.state.lawful r.may) r.own in
     let at = ap (own_claim r.setting (λ (used : ℕ) (body : List ℕ). c.args.own.now.signature) r.process)
     (ap (λ (d : Claim). d.statement) same) ∙ sym same in
-    let heard = c.in_ok-hear.ensures r.setting (λ (used : ℕ) (body : List ℕ). c.args.own.now.signature) r.process r.state.place.pool at in
+    let heard = c.in_ok-hear.ensures.heard r.setting (λ (used : ℕ) (body : List ℕ). c.args.own.now.signature) r.process r.state.place.pool at in
     orders-length r.setting r.process c.args.state.now.pool.pool c.args.state.now.own r.state.place ∙ ap
     (λ (h : Pool). length h.view.members) heard ∙ ap (λ (v : View). length v.members) (sym c.view.ensures))
 
@@ -60,16 +60,16 @@ returns-clause-puts c s signer p st may own is =
     let same = c.read_own-claim.ensures.only (own_claim s signer p st) (due_is_in_range s p st is.lawful may) own in
     let said = ap (λ (d : Claim). d.statement) same in
     let now = subst (λ (st : Statement). may_sign s p st ≡ true) (sym said) may in
-    let heard = c.in_ok-hear.ensures s signer p is.place.pool (ap (own_claim s signer p) said ∙ sym same) in
+    let heard = c.in_ok-hear.ensures.heard s signer p is.place.pool (ap (own_claim s signer p) said ∙ sym same) in
     let seen = ap (λ (h : Pool). h.view) (sym is.place.pool) ∙ ap (λ (h : Pool). h.view) heard ∙ sym c.view.ensures in
-    let tells = c.in_ok-note.ensures s signer p c.args.state.now.pool.pool c.hear.new.pool.pool is.place seen now heard in
+    let tells = c.in_ok-note.ensures.noted s signer p c.args.state.now.pool.pool c.hear.new.pool.pool is.place seen now heard in
     let phase = c.close.ensures.closes s signer p (ap (λ (h : Pool). h.view) heard ∙ sym c.view-2.ensures) tells.number now is.phase in
     signed-state s signer p st _ _ is may (none-decided _ p c.requires.undecided is.phase)
     (subst IsClaim same c.read_own-claim.ensures.range)
     (record {
       limit = refl;
       perceived = refl;
-      said = c.in_ok-keep.ensures ∙ ap (λ (d : Claim). c.args.state.now.said.claims ++ d ∷ []) same;
+      said = c.in_ok-keep.ensures.kept ∙ ap (λ (d : Claim). c.args.state.now.said.claims ++ d ∷ []) same;
       conflicts = refl;
       archive = refl;
       account = refl;

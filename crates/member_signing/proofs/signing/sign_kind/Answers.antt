@@ -25,6 +25,9 @@ signatures-init g c = (
   c.requires.undecided,
   refl,
   refl,
+  omega arith,
+  (λ b was is. is),
+  refl,
 )
 
 pub next-requires-clause-left : goal.next-requires-clause-left
@@ -86,6 +89,9 @@ signatures-preserved g c =
       c.in_ok-put-in-Some.ensures.undecided,
       c.next.ensures.total ∙ inv.3,
       c.next.ensures.secret ∙ inv.4,
+      (let before = inv.5 in omega (arith, before, made)),
+      (λ b was is. c.put.ensures.stays b was (inv.6 b was is)),
+      c.put.ensures.left ∙ inv.7,
     )
 
 pub returns-in-None-clause-signs : goal.returns-in-None-clause-signs
@@ -125,3 +131,9 @@ returns-clause-signs g c s p group used is =
     (kind_of c.args.kind) p so.0 c.signatures.state (g.G.Tally.total c.args.signer.now) (g.G.Tally.used c.signatures.signer)
     (map signed c.args.signed.now.items)
     (map signed c.signatures.signed.items) c.is_due.result room (c.is_due.ensures s so.0 so.1.state) so.1)
+
+pub returns-in_err-put-in-Some-clause-stays : goal.returns-in_err-put-in-Some-clause-stays
+returns-in_err-put-in-Some-clause-stays g c b was is = c.put.ensures.stays b was (c.signatures.invariant.6 b was is)
+
+pub returns-in_err-push-in-Some-clause-stays : goal.returns-in_err-push-in-Some-clause-stays
+returns-in_err-push-in-Some-clause-stays g c b was is = c.put.ensures.stays b was (c.signatures.invariant.6 b was is)

@@ -1,8 +1,11 @@
-use Rattle.std.proofs.Common.{◌≡◌, ◌-◌, false, length, map}
+use Rattle.std.proofs.Common.{◌≡◌, ◌-◌, ◌≤◌, false, length, map}
 use Rattle.group_defs.specs.Process.{Setting, Process}
 use Rattle.group_defs.specs.Signing.{sign_kind}
 use Rattle.stmt_codec.specs.Views.{signed}
 use Rattle.due_statements.specs.Standings.{kind_of}
+use Rattle.member_state.specs.declared.marks.Before.{Before}
+use Rattle.member_state.specs.declared.state.ProcessState.{ProcessState}
+use Rattle.member_state.specs.Marks.{Stays}
 use Rattle.member_state.specs.States.{IsStateOf, IsReal}
 use Rattle.member_signing.specs.Signed.{IsSigned, IsUndecided}
 use Rattle.member_signing.proofs.ByKind.{still}
@@ -17,6 +20,8 @@ invariant-signatures g l =
     ≡ sign_kind s (g.G.Signer.signature l.fn.signer) (kind_of l.kind) (g.G.Tally.total l.fn.signer - g.G.Tally.used l.fn.signer) p))
     × IsReal l.state × IsUndecided l.state.phase × (g.G.Tally.total l.signer ≡ g.G.Tally.total l.fn.signer)
     × (g.G.Signer.signature l.signer ≡ g.G.Signer.signature l.fn.signer)
+    × (g.G.Tally.used l.fn.signer ≤ g.G.Tally.used l.signer)
+    × ((b : Before) (was : ProcessState) → Stays b was l.fn.state → Stays b was l.state) × (l.state.left ≡ l.fn.state.left)
 
 abbrev pub decreases-signatures : goal.decreases-signatures
 decreases-signatures g l = g.G.Tally.total l.signer - g.G.Tally.used l.signer

@@ -1,4 +1,4 @@
-use Rattle.std.proofs.Common.{◌≡◌, ℕ, ◌+◌, ◌-◌, ◌<◌, List, ◌∷◌, true, false, refl, sym, ◌∙◌, ap, subst, map, length, drop, get_or}
+use Rattle.std.proofs.Common.{◌≡◌, ℕ, ◌+◌, ◌-◌, ◌<◌, List, ◌∷◌, true, false, refl, sym, ◌∙◌, ap, subst, map, length, drop, get_or, arith}
 use Rattle.std.proofs.lemmas.List.{drop_all, drop_more}
 use Rattle.group_defs.specs.Process as defs
 use Rattle.group_defs.specs.Signing.{Signing, sign_kind, sign_kinds}
@@ -26,6 +26,9 @@ kinds-init g c = (
   c.requires.real,
   c.requires.undecided,
   refl,
+  refl,
+  omega arith,
+  (λ b was is. is),
   refl,
 )
 
@@ -55,6 +58,9 @@ kinds-preserved g c =
       c.in_ok-lacks.ensures.undecided,
       c.sign_any.ensures.total ∙ inv.3,
       c.sign_any.ensures.secret ∙ inv.4,
+      (let before = inv.5 in let more = c.sign_any.ensures.rises in omega (arith, before, more)),
+      (λ b was is. c.sign_any.ensures.stays b was (inv.6 b was is)),
+      c.sign_any.ensures.left ∙ inv.7,
     )
 
 pub returns-then-lacks-clause-signs : goal.returns-then-lacks-clause-signs
@@ -87,3 +93,9 @@ returns-clause-signs g c s p group used is =
     (g.G.Tally.total c.args.signer.now - g.G.Tally.used c.kinds.signer) (g.G.Tally.used c.kinds.signer)
     (map signed c.args.signed.now.items) (map signed c.kinds.signed.items)
     (ap (map kind_of) (drop_all c.kinds.kind-index c.args.kinds.now c.kinds-test.false)) so.1)
+
+pub returns-in_err-lacks-clause-stays : goal.returns-in_err-lacks-clause-stays
+returns-in_err-lacks-clause-stays g c b was is = c.sign_any.ensures.stays b was (c.kinds.invariant.6 b was is)
+
+pub returns-then-lacks-clause-stays : goal.returns-then-lacks-clause-stays
+returns-then-lacks-clause-stays g c b was is = c.sign_any.ensures.stays b was (c.kinds.invariant.6 b was is)

@@ -21,8 +21,8 @@ unreachable-requires c =
     let clash : Some (fault_of c.in_default.field-0) ≡ None = sym exactly ∙ admitted in
     cc)
 
-pub returns : goal.returns
-returns c s p is =
+pub returns-clause-asked : goal.returns-clause-asked
+returns-clause-asked c s p is =
     on_ok_weaker c.tell_perceived.result
     (λ now. perceives-now s p c.args.state.now is (update_of c.args.update.now) c.in_range.ensures
     (sym c.contains.ensures ∙ c.if-contains.false) c.perceive.new.set (c.in-Ok.ensures.taken p is.asked) c.tell_perceived.new.account
@@ -30,4 +30,4 @@ returns c s p is =
       perceived = put perceived_numbers (x, update_of c.args.update.now)
           (account_of c.args.state.now.account).perceived;
     }) (c.number.ensures.value ∙ ap (λ v. v.number) c.view.ensures)))
-    c.tell_perceived.ensures
+    c.tell_perceived.ensures.told

@@ -22,7 +22,7 @@ returns c = λ l keyed.
     let P : ℕ → Type 0 = λ p. IsCore used s (start s p h.batch_limit) core in
     record {
       process = keyed.process;
-      seat = record {
+      core = record {
         is = subst P keyed.process (c.in_ok-core.ensures.starts s
             (record {
               group = refl;
@@ -32,6 +32,7 @@ returns c = λ l keyed.
             }));
         total = ap total c.in_ok-core.ensures.signer ∙ keyed.signer.total;
         signs = ap signature c.in_ok-core.ensures.signer ∙ keyed.signer.signs;
+        whole = c.in_ok-core.ensures.whole;
       };
       said = c.new-2.ensures;
     }

@@ -11,8 +11,8 @@ pub loop-player-preserved : goal.loop-player-preserved
 loop-player-preserved c = λ s cs are.
     let a = at_same_place s c.args.players.now cs c.loop-player.player-index c.player-item.result are c.loop-player-test.true
     c.player-item.is in
-    let has = c.in-Some.ensures s a.at a.plays in
-    let one : account c.in_ok-account.account ≡ account_of a.at.now = c.in_ok-account.ensures ∙ sym (c.account.ensures s a.at.now has.is) in
+    let one : account c.in_ok-account.account ≡ account_of a.at.now = c.in_ok-account.ensures
+    ∙ sym (c.account.ensures s a.at.now a.plays.core.is) in
     written_next (λ (d : plain.Player). account_of d.now ∷ []) s cs c.loop-player.player-index c.player-item.result a
     (map account c.loop-player.all.items) _ _ (c.loop-player.invariant s cs are)
     (ap (map account) c.in_ok-push.ensures.items ∙

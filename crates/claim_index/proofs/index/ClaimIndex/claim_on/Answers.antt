@@ -16,6 +16,6 @@ returns c =
     (λ i. record { signer = c.args.signer; slot = c.slot_key_of.ensures i }) in
     rw c.deref.ensures.value at c.claim_under.ensures.value
     ∙ ap (λ (k : Key). option_map (claim_with c.self.inside.bytes.items c.args.signer) (lookup (same_key k) c.self.inside.kept.entries)) key
-    ∙ lookup_is_claim c.self.inside.bytes.items c.self.inside.kept.entries c.self.invariant.kept c.args.signer
+    ∙ lookup_is_claim c.self.inside.bytes.items c.self.inside.kept.entries c.self.invariant.now.kept c.args.signer
     (plain.slot_of (stmt c.args.statement.now))
     ∙ ap (λ (r : Holding). defs.claim_on r.pool.heard c.args.signer (plain.slot_of (stmt c.args.statement.now))) c.self.view_is

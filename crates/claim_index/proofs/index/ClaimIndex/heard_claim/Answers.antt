@@ -9,7 +9,7 @@ use Rattle.claim_index.proofs.index.ClaimIndex.heard_claim.Goals as goal
 pub returns-clause-value : goal.returns-clause-value
 returns-clause-value c =
     rw c.deref.ensures.value at c.claim_under.ensures.value
-    ∙ claim_about c.self.inside.bytes.items c.self.inside.kept.entries c.self.invariant.kept c.args.signer
+    ∙ claim_about c.self.inside.bytes.items c.self.inside.kept.entries c.self.invariant.now.kept c.args.signer
     (slot c.args.kind c.args.about.now) c.new-key.result
     (key_about c.args.signer c.new-key.result c.in_ok-slot_key_at.field-0
     (slot c.args.kind c.args.about.now) c.new-key.ensures c.in_ok-slot_key_at.ensures)

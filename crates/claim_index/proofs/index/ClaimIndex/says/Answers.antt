@@ -6,7 +6,7 @@ use Rattle.claim_index.proofs.Found.{says_by_bytes, silent, kept_from_lookup}
 use Rattle.claim_index.proofs.index.ClaimIndex.says.Goals as goal
 
 pub is_said-requires : goal.is_said-requires
-is_said-requires c = rw c.deref.ensures.value (kept_from_lookup _ _ _ _ c.self.invariant.kept (sym c.in-Some.ensures)).0
+is_said-requires c = rw c.deref.ensures.value (kept_from_lookup _ _ _ _ c.self.invariant.now.kept (sym c.in-Some.ensures)).0
 
 pub returns-in-Some : goal.returns-in-Some
 returns-in-Some c =
@@ -14,12 +14,12 @@ returns-in-Some c =
     ≡ heard_in c.self.inside.bytes.items c.self.inside.kept.entries = sym (ap (λ (r : Holding). r.pool.heard) c.self.view_is) in
     c.is_said.ensures ∙ ap (λ b. bytes_eq (statement_bytes b c.in-Some.kept) c.args.spelled.now) c.deref.ensures.value
     ∙ ap (bytes_eq (statement_bytes c.self.inside.bytes.items c.in-Some.kept)) c.requires.spelled
-    ∙ says_by_bytes c.args.self.now.pool c.self.inside.bytes.items c.self.inside.kept.entries heard c.self.invariant.kept c.args.member
+    ∙ says_by_bytes c.args.self.now.pool c.self.inside.bytes.items c.self.inside.kept.entries heard c.self.invariant.now.kept c.args.member
     (stmt c.args.statement.now) c.requires.range c.in-Some.kept (rw (c.new.ensures, c.slot_key_of.ensures) at c.in-Some.ensures)
 
 pub returns-in-None : goal.returns-in-None
 returns-in-None c =
     let heard : c.args.self.now.pool.heard
     ≡ heard_in c.self.inside.bytes.items c.self.inside.kept.entries = sym (ap (λ (r : Holding). r.pool.heard) c.self.view_is) in
-    silent c.args.self.now.pool c.self.inside.bytes.items c.self.inside.kept.entries heard c.self.invariant.kept c.args.member
+    silent c.args.self.now.pool c.self.inside.bytes.items c.self.inside.kept.entries heard c.self.invariant.now.kept c.args.member
     (stmt c.args.statement.now) (rw (c.new.ensures, c.slot_key_of.ensures) at c.in-None.ensures)

@@ -13,7 +13,7 @@ returns-in-Some c =
     ≡ heard_in c.self.inside.bytes.items c.self.inside.kept.entries = sym (ap (λ (r : Holding). r.pool.heard) c.self.view_is) in
     c.is_said.ensures ∙ ap (λ b. bytes_eq (statement_bytes b c.in-Some.kept.now) c.args.spelled.now) c.deref.ensures.value
     ∙ ap (bytes_eq (statement_bytes c.self.inside.bytes.items c.in-Some.kept.now)) c.requires.spelled
-    ∙ said_there c.args.self.now.pool c.self.inside.bytes.items c.self.inside.kept.entries heard c.self.invariant.kept c.args.place
+    ∙ said_there c.args.self.now.pool c.self.inside.bytes.items c.self.inside.kept.entries heard c.self.invariant.now.kept c.args.place
     (c.in-Some.field-0-0.now, c.in-Some.kept.now) c.in-Some.ensures.entry (stmt c.args.statement.now) c.requires.range
 
 pub returns-in-None : goal.returns-in-None
@@ -21,5 +21,5 @@ returns-in-None c =
     let heard : c.args.self.now.pool.heard
     ≡ heard_in c.self.inside.bytes.items c.self.inside.kept.entries = sym (ap (λ (r : Holding). r.pool.heard) c.self.view_is) in
     ap (λ o. is_some_and o (plain.same_statement (stmt c.args.statement.now)))
-    (nothing_there c.args.self.now.pool c.self.inside.bytes.items c.self.inside.kept.entries heard c.self.invariant.kept c.args.place
+    (nothing_there c.args.self.now.pool c.self.inside.bytes.items c.self.inside.kept.entries heard c.self.invariant.now.kept c.args.place
     c.in-None.ensures.entry)

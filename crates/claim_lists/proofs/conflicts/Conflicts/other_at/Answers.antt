@@ -6,5 +6,5 @@ use Rattle.claim_lists.proofs.conflicts.Conflicts.other_at.Goals as goal
 
 pub returns : goal.returns
 returns c =
-    c.get.ensures ∙ zip-second c.self.inside.heard.claims c.self.inside.others.claims c.args.place c.self.invariant.even
+    c.get.ensures ∙ zip-second c.self.inside.heard.claims c.self.inside.others.claims c.args.place c.self.invariant.here.even
     ∙ ap (λ (r : Pairing). option_map (λ pair. pair.1) (slice_get r.pairs c.args.place)) c.self.view_is

@@ -1,12 +1,12 @@
-use Rattle.std.proofs.Common.{false, refl, subst, sym}
+use Rattle.std.proofs.Common.{arith, false, refl, subst, sym}
 use Rattle.std.proofs.lemmas.Grind.{merely}
 use Rattle.group_defs.specs.Process.{Setting, Process, all_kinds, start}
 use Rattle.member_state.specs.States.{HasProcess, IsStateOf}
 use Rattle.member_core.specs.Cores.{IsCore}
 use Rattle.member_core.proofs.member.Core.new.Goals as goal
 
-pub invariant_of-result-clause-real : goal.invariant_of-result-clause-real
-invariant_of-result-clause-real g c =
+pub invariant_of-keyless-clause-real : goal.invariant_of-keyless-clause-real
+invariant_of-keyless-clause-real g c =
     let s : Setting = record {
       group = c.args.group;
       roster = c.args.roster;
@@ -18,17 +18,22 @@ invariant_of-result-clause-real g c =
     let has : HasProcess c.in_ok-kept.kept.value = record {
       setting = s;
       process = p;
-      state = subst (IsStateOf s p) (sym c.in_ok-kept.ensures.ok) (c.in_ok-state.ensures s (record { keys = refl; genesis = refl }));
+      state = subst (IsStateOf s p) (sym c.in_ok-kept.ensures.ok)
+          (c.go_on.ensures.same s p (c.in_ok-state.ensures s (record { keys = refl; genesis = refl })));
     } in
     merely has
 
 pub returns-clause-starts : goal.returns-clause-starts
 unfolding IsCore
 returns-clause-starts g c s shares = record {
-  state = subst (IsStateOf s (start s c.args.me c.args.batch_limit)) (sym c.in_ok-kept.ensures.ok)
-      (c.in_ok-state.ensures s (record { keys = shares.roster; genesis = shares.genesis }));
-  signed = sym c.requires.unused;
-  group = shares.group;
-  roster = shares.roster;
-  kinds = shares.kinds;
+  keyless = record {
+    state = subst (IsStateOf s (start s c.args.me c.args.batch_limit)) (sym c.in_ok-kept.ensures.ok)
+        (c.go_on.ensures.same s (start s c.args.me c.args.batch_limit)
+        (c.in_ok-state.ensures s (record { keys = shares.roster; genesis = shares.genesis })));
+    group = shares.group;
+    roster = shares.roster;
+    kinds = shares.kinds;
+  };
+  signed = refl;
+  spent = omega arith;
 }

@@ -16,13 +16,13 @@ returns c s with' =
     (subst (λ (v : View). IsViewNumber v.number) (sym g) c.number-number.ensures.within.0)
     (subst IsView (sym g) c.number-number.ensures.within.1) (ap (λ (v : View). v.number) g ∙ c.requires.number) (record {
       limit = refl;
-      pool = c.in_ok-new.ensures ∙ ap empty_pool first;
+      pool = c.in_ok-new.ensures.pool ∙ ap empty_pool first;
       place = subst (λ (v : View). Tells s (start s c.args.me c.args.batch_limit) (empty_pool v) c.first_place.result) (sym g)
           (c.first_place.ensures s c.args.batch_limit with');
       phase = c.begin.ensures.begins (start s c.args.me c.args.batch_limit) g refl refl refl refl;
       asked = λ u. sym (c.new-2.ensures u);
-      said = c.new-3.ensures;
-      pairs = c.new-4.ensures;
+      said = c.new-3.ensures.claims;
+      pairs = c.new-4.ensures.pairs;
       previous = c.in_ok-new-2.ensures.previous;
       commits = c.in_ok-new-2.ensures.commits;
       account = c.in_ok-first_account.ensures s c.args.batch_limit second;

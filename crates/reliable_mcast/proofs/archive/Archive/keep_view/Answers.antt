@@ -1,4 +1,5 @@
-use Rattle.std.proofs.Common.{◌≡◌, ℕ, false, List, [], ◌∷◌, ◌++◌, Some, ap, ◌∙◌, subst}
+use Rattle.std.proofs.Common.{◌≡◌, ℕ, false, List, [], ◌∷◌, ◌++◌, Some, ap, ◌∙◌, subst, sym}
+use Rattle.std.specs.Option.{option_map}
 use Rattle.message_defs.specs.Statements.{Statement, Ready, ReadyAt}
 use Rattle.message_defs.specs.Packing.{Signed}
 use Rattle.group_defs.specs.Views as views
@@ -7,6 +8,7 @@ use Rattle.group_defs.specs.Certified.{certificate, certificate_on, value_at}
 use Rattle.rp_base.specs.declared.updates.Value.{Value}
 use Rattle.rp_base.specs.Views.{value}
 use Rattle.pool_laws.proofs.Tests.{some-same}
+use Rattle.claim_index.specs.Kept.{Holding}
 use Rattle.reliable_mcast.specs.Lists.{extended}
 use Rattle.reliable_mcast.specs.Certificates.{all_signed, IsRanged}
 use Rattle.reliable_mcast.specs.Archives.{Archived}
@@ -36,7 +38,7 @@ more h r x v begun kept commits commits' number empty certified made pushed = pu
 
 pub returns-clause-commits : goal.returns-clause-commits
 returns-clause-commits c =
-    let h : Pool = c.args.pool.pool in
+    let h : Pool = c.args.pool.now.pool in
     let number : c.number-view.result ≡ h.view.number = c.number-view.ensures.value ∙ ap (λ (v : views.View). v.number) c.view.ensures in
     more h c.args.commit.0 c.number-view.result c.args.commit.1 c.new-kept.result c.put_certificate.new.list c.self.inside.commits.items
     c.push.new.self.items number c.new-kept.ensures c.requires.certified c.in_ok-put_certificate.ensures c.in_ok-push.ensures.items
@@ -44,10 +46,13 @@ returns-clause-commits c =
 
 pub invariant_of-self-2 : goal.invariant_of-self-2
 invariant_of-self-2 c =
-    let h : Pool = c.args.pool.pool in
+    let h : Pool = c.args.pool.now.pool in
     let number : c.number-view.result ≡ h.view.number = c.number-view.ensures.value ∙ ap (λ (v : views.View). v.number) c.view.ensures in
     record {
-      ranged = λ g e. let same : h ≡ g = some-same h g e in subst IsRanged same c.requires.range;
+      ranged = λ g e.
+          let left : Some h ≡ Some c.replace-left.result.pool = ap (λ (r : Holding). Some r.pool) (sym c.replace-left.ensures.value) in
+          let there = left ∙ ap (option_map (λ (r : Holding). r.pool)) (sym c.replace-pool.ensures.after) ∙ e in
+          subst IsRanged (some-same h g there) c.requires.range;
       readable = kept-more c.self.inside.commits.items c.push.new.self.items h
           (said h c.args.commit.0 c.args.commit.1) c.requires.range c.self.invariant.readable
           (more h c.args.commit.0 c.number-view.result c.args.commit.1 c.new-kept.result c.put_certificate.new.list

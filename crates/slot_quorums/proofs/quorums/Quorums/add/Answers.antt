@@ -9,6 +9,7 @@ use Rattle.claim_index.specs.Keys.{slot_key, same_slot_key}
 use Rattle.claim_index.specs.Kept.{Holding}
 use Rattle.slot_quorums.specs.Cells.{IsOf}
 use Rattle.slot_quorums.proofs.Hearing.{all_cells}
+use Rattle.slot_quorums.proofs.Marks.{still_marked}
 use Rattle.slot_quorums.proofs.quorums.Quorums.add.Goals as goal
 
 pub invariant_of-self : goal.invariant_of-self
@@ -22,8 +23,13 @@ invariant_of-self c =
     let was : IsOf c.self.inside.claims.pool (plain.slot_of (stmt c.args.claim.now.statement)) c.cell_there-was.result =
     subst (IsOf c.self.inside.claims.pool (plain.slot_of (stmt c.args.claim.now.statement)))
     (sym (c.cell_there-was.ensures ∙ ap (λ k. lookup (same_slot_key k) c.self.inside.cells.entries) key))
-    (c.self.invariant (plain.slot_of (stmt c.args.claim.now.statement))) in
-    all_cells c.self.inside.claims.pool (claim c.args.claim.now) fresh c.add.new.self.pool c.add.ensures.heard view
-    (λ k. lookup (same_slot_key k) c.self.inside.cells.entries) (λ k. lookup (same_slot_key k) c.put.new.cells.entries) c.self.invariant
+    (c.self.invariant.here (plain.slot_of (stmt c.args.claim.now.statement))) in
+    let cells = all_cells c.self.inside.claims.pool (claim c.args.claim.now) fresh c.add.new.self.pool c.add.ensures.heard view
+    (λ k. lookup (same_slot_key k) c.self.inside.cells.entries) (λ k. lookup (same_slot_key k) c.put.new.cells.entries)
+    c.self.invariant.here
     c.cell_with-cell.result (c.cell_with-cell.ensures c.self.inside.claims.pool c.add.ensures.heard fresh c.size-place.ensures.claims was)
-    (λ k. rw key at (c.put.ensures.looks k))
+    (λ k. rw key at (c.put.ensures.looks k)) in
+    rw (c.note.ensures.items, c.add.ensures.marked, c.put.ensures.entries)
+    (still_marked c.self.inside.claims.pool c.self.inside.claims.marked c.add.new.self.pool c.self.inside.cells.entries
+    c.slot_key_of-key.result c.place_of-at.result c.cell_with-cell.result c.self.inside.marked c.self.inside.changed.items c.self.invariant
+    c.place_of-at.ensures (rw (sym c.put.ensures.entries) cells))

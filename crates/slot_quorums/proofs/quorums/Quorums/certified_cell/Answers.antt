@@ -14,7 +14,7 @@ returns-then-is_enough c =
     ≤ length c.in_ok-cell.cell.backers = leb-true (quorum (defs.number_of_members c.self.inside.claims.pool))
     (length c.in_ok-cell.cell.backers) (sym c.is_enough.ensures ∙ c.if-is_enough.true) in
     subst (λ (r : Holding). IsCertifiedBy r.pool (slot c.args.kind c.args.about.now) (Some c.in_ok-cell.cell)) c.self.view_is
-    (enough c.self.inside.claims.pool c.self.inside.cells.entries c.self.invariant
+    (enough c.self.inside.claims.pool c.self.inside.cells.entries c.self.invariant.here
     (slot c.args.kind c.args.about.now) c.in_ok-key.key c.in_ok-cell.cell c.in_ok-key.ensures c.in_ok-cell.ensures le)
 
 pub returns-else-is_enough : goal.returns-else-is_enough
@@ -23,5 +23,5 @@ returns-else-is_enough c =
     (quorum (defs.number_of_members c.self.inside.claims.pool)) (length c.in_ok-cell.cell.backers)
     (sym c.is_enough.ensures ∙ c.if-is_enough.false) in
     subst (λ (r : Holding). IsCertifiedBy r.pool (slot c.args.kind c.args.about.now) None) c.self.view_is
-    (too_few c.self.inside.claims.pool c.self.inside.cells.entries c.self.invariant
+    (too_few c.self.inside.claims.pool c.self.inside.cells.entries c.self.invariant.here
     (slot c.args.kind c.args.about.now) c.in_ok-key.key c.in_ok-cell.cell c.in_ok-key.ensures c.in_ok-cell.ensures lt)

@@ -15,7 +15,7 @@ returns-in_default c =
     let none : None ≡ lookup (same_slot_key
     (slot_key (slot_of (stmt c.args.statement.now)))) c.self.inside.cells.entries = sym c.in_default.is ∙ c.cell_at.ensures ∙ ap
     (λ k. lookup (same_slot_key k) c.self.inside.cells.entries) c.slot_key_of.ensures in
-    count-none c.self.inside.claims.pool c.self.inside.cells.entries c.self.invariant (stmt c.args.statement.now) none
+    count-none c.self.inside.claims.pool c.self.inside.cells.entries c.self.invariant.here (stmt c.args.statement.now) none
     ∙ ap (λ (r : Holding). length (defs.backers r.pool (stmt c.args.statement.now))) c.self.view_is
 
 pub returns-then-says_at : goal.returns-then-says_at
@@ -27,6 +27,6 @@ returns-then-says_at c =
     let says : is_some_and (said_at c.self.inside.claims.pool c.in-Some.cell.place) (same_statement (stmt c.args.statement.now)) ≡ true =
     ap (λ place. is_some_and (said_at c.self.inside.claims.pool place) (same_statement (stmt c.args.statement.now)))
     (sym c.place.ensures) ∙ sym c.says_at.ensures ∙ c.if-says_at.true in
-    c.count.ensures ∙ count-is c.self.inside.claims.pool c.self.inside.cells.entries c.self.invariant
+    c.count.ensures ∙ count-is c.self.inside.claims.pool c.self.inside.cells.entries c.self.invariant.here
     (stmt c.args.statement.now) c.in-Some.cell there says
     ∙ ap (λ (r : Holding). length (defs.backers r.pool (stmt c.args.statement.now))) c.self.view_is

@@ -1,0 +1,88 @@
+//! An account at a mark.
+ghost use Rattle.std.specs.Prelude.{◌≡◌, ◌-◌, ◌++◌, ◌∷◌, [], true, false, List, length, map, take, IfOk, IsSome, MatchOption};
+ghost use Rattle.group_defs.specs.Process as defs;
+ghost use Rattle.group_defs.specs.Accounts as plain;
+ghost use Rattle.accounts.specs.Views.{account, delivery};
+ghost use Rattle.accounts.specs.Marks.{TellsSince, without_last};
+
+use crate::account::Account;
+use rp_base::{NoMemory, Update};
+use stmt_codec::Delivered;
+
+/// What an account told at a mark: how much was delivered in the current view and how much was accepted, and the updates that were
+/// perceived, where others may come.
+#[derive(Drop)]
+pub struct AccountMark {
+    delivered: usize,
+    accepted: usize,
+    perceived: Option<Vec<(u16, Update)>>,
+}
+
+// How much was delivered in the current view, which is the last one.
+fn count_last(lists: &[Vec<Delivered>]) -> usize
+    ensures { (before : List (List defs.Delivered)) (last : List defs.Delivered)
+        → map (λ ds. map delivery ds.items) lists.now ≡ before ++ last ∷ [] → result ≡ length last }
+{
+    match lists.last() {
+        Some(delivered) => delivered.len(),
+        None => 0,
+    }
+}
+
+// Forgets what was delivered in the current view behind the first so many.
+fn cut_last(lists: &mut Vec<Vec<Delivered>>, count: usize)
+    ensures { (before : List (List defs.Delivered)) (last : List defs.Delivered)
+        → map (λ ds. map delivery ds.items) lists.old.items ≡ before ++ last ∷ []
+        → map (λ ds. map delivery ds.items) lists.new.items ≡ before ++ take count last ∷ [] }
+{
+    if let Some(delivered) = lists.last_mut() {
+        delivered.truncate(count);
+    }
+}
+
+impl Account {
+    // The perceived updates, where they are asked for.
+    fn perceived_if(&self, asks: bool) -> Result<Option<Vec<(u16, Update)>>, NoMemory>
+        ensures { IfOk result (λ all. MatchOption all (asks ≡ false) (λ xs. xs.items ≡ self.now.perceived.items)) }
+    {
+        if !asks {
+            return Ok(None);
+        }
+        let alloc = *self.perceived.allocator();
+        Ok(Some(Vec::from_slice(alloc, &self.perceived)?))
+    }
+
+    /// Marks what is told, so that it can be gone back to. `asks` says whether an update may be perceived until then.
+    pub fn mark(&self, asks: bool) -> Result<AccountMark, NoMemory>
+        ensures tells { (before : List (List defs.Delivered)) (last : List defs.Delivered)
+            → (account self.now).delivered ≡ before ++ last ∷ []
+            → IfOk result (λ m. TellsSince m (account self.now) (account self.now)) }
+        ensures asks { asks ≡ true → IfOk result (λ m. IsSome m.perceived) }
+    {
+        Ok(AccountMark {
+            delivered: count_last(&self.delivered),
+            accepted: self.accepted.len(),
+            perceived: self.perceived_if(asks)?,
+        })
+    }
+
+    /// Goes back to what was told at the mark. It takes no memory.
+    pub fn rewind(&mut self, mark: AccountMark)
+        ensures { (was : plain.Account) → TellsSince mark was (account self.old) → account self.new ≡ was }
+    {
+        cut_last(&mut self.delivered, mark.delivered);
+        self.accepted.truncate(mark.accepted);
+        if let Some(perceived) = mark.perceived {
+            self.perceived = perceived;
+        }
+    }
+
+    /// Forgets the view that was installed last, in which nothing was delivered.
+    pub fn drop_last(&mut self)
+        ensures { account self.new ≡ without_last (account self.old) }
+    {
+        self.views.truncate(self.views.len().saturating_sub(1));
+        self.delivered
+            .truncate(self.delivered.len().saturating_sub(1));
+    }
+}
