@@ -12,7 +12,7 @@ use crate::plan::Plan;
 use crate::trees::{first_trees, renew_trees, write_signed_keys};
 use lms_ots::OtsType;
 use lms_tree::LmsTree;
-use rp_base::{Signer, Spent, Tally};
+use rp_base::{Retract, Signer, Spent, Tally};
 use std::alloc::Global;
 use std::{fmt, mem};
 
@@ -191,6 +191,12 @@ impl Signer for HssKey {
         self.write_signature(body, &mut out[..length]);
         self.used = number + 1;
         Ok(length)
+    }
+}
+
+impl Retract for HssKey {
+    fn retract(&mut self, to: u32) {
+        self.used = to;
     }
 }
 

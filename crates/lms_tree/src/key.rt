@@ -3,7 +3,7 @@ ghost use Rattle.lms_tree.specs.Tree.{IsTooTall};
 
 use crate::tree::{KeyFault, LmsTree};
 use lms_ots::OtsType;
-use rp_base::{Signer, Spent, Tally};
+use rp_base::{Retract, Signer, Spent, Tally};
 use std::alloc::Global;
 use std::{fmt, mem};
 
@@ -100,6 +100,12 @@ impl Signer for LmsKey {
         self.tree.sign_into(q, body, &mut out[..length]);
         self.used = q + 1;
         Ok(length)
+    }
+}
+
+impl Retract for LmsKey {
+    fn retract(&mut self, to: u32) {
+        self.used = to;
     }
 }
 

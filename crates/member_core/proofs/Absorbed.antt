@@ -1,5 +1,5 @@
 -- An entry of a journal, absorbed.
-use Rattle.std.proofs.Common.{◌≡◌, ℕ, ◌+◌, ◌-◌, ◌≤◌, Bool, true, false, List, [], length, refl, sym, ap, subst, ◌∙◌, arith}
+use Rattle.std.proofs.Common.{◌≡◌, ℕ, ◌+◌, ◌-◌, Bool, true, false, List, [], length, refl, sym, ap, subst, ◌∙◌, arith}
 use Rattle.std.specs.Prelude.{All, IsTrue, ◌↔◌, slice_index_or}
 use Rattle.std.proofs.lemmas.List.{length-append, length-map}
 use Rattle.message_defs.specs.Statements.{Claim}
@@ -71,12 +71,12 @@ module _ (s : Setting) (p : Process) (e : Event) (signatures : List (List ℕ)) 
 
   -- the core has absorbed the entry
   pub absorbs-so : {G : Type 0} (used : G → ℕ) (left many : ℕ) (spent : Bool) (new : Core G) (r : Came)
-      → Agrees s p left e signatures spent → Takes s p turn new.keyless many r → many ≡ new.made → new.made ≤ used new.signer
+      → Agrees s p left e signatures spent → Takes s p turn new.keyless many r → many ≡ used new.signer
       → Absorbs used s p left new e signatures spent r
   unfolding IsCore
-  absorbs-so used left many spent new r agrees takes made used-so = record {
+  absorbs-so used left many spent new r agrees takes made = record {
     agrees = agrees;
-    core = record { keyless = takes.keyless; signed = takes.used ∙ made; spent = used-so };
+    core = record { keyless = takes.keyless; signed = takes.used ∙ made };
     outcome = takes.outcome;
   }
 

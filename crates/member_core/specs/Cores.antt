@@ -1,5 +1,5 @@
 -- Which process of the definitions a core is, and what a step of it gives.
-use Rattle.std.specs.Prelude.{◌≡◌, ℕ, ◌-◌, ◌≤◌, ◌==◌, if◌then◌else◌, List, length}
+use Rattle.std.specs.Prelude.{◌≡◌, ℕ, ◌-◌, List, length}
 use Rattle.group_defs.specs.Views.{View}
 use Rattle.group_defs.specs.Process.{Setting, Process, all_kinds}
 use Rattle.group_defs.specs.Events as defs
@@ -27,24 +27,19 @@ pub record IsKeyless (s : Setting) (p : Process) (k : Keyless) : Type 0 where
   pub roster : s.roster ≡ k.roster
   pub kinds : s.signs ≡ all_kinds
 
--- The core is this process in this setting: it counts as many signatures as the process has signed statements, and its key has made these.
--- `used` tells how many signatures a signer has made.
+-- The core is this process in this setting, and its key has made as many signatures as the process has signed statements. `used` tells how
+-- many signatures a signer has made.
 pub record IsProcess {G : Type 0} (used : G → ℕ) (s : Setting) (p : Process) (c : Core G) : Type 0 where
   pub keyless : IsKeyless s p c.keyless
-  pub signed : length p.signed ≡ c.made
-  pub spent : c.made ≤ used c.signer
+  pub signed : length p.signed ≡ used c.signer
 
 -- the core is this process in this setting (`IsProcess`), as one word that proofs leave closed
 unfoldable pub IsCore : {G : Type 0} → (G → ℕ) → Setting → Process → Core G → Type 0
 IsCore used s p c = IsProcess used s p c
 
--- every signature that the key has made stands in what the process signed: none was lost with an event
-abbrev pub IsWhole : {G : Type 0} → (G → ℕ) → Core G → Type 0
-IsWhole used c = c.made ≡ used c.signer
-
--- how many signatures may still be made: as many as the key has left, and none where one was lost
+-- how many signatures may still be made: as many as the key has left
 abbrev pub left_of : {G : Type 0} → (G → ℕ) → (G → ℕ) → Core G → ℕ
-left_of used total c = if c.made == used c.signer then total c.signer - used c.signer else 0
+left_of used total c = total c.signer - used c.signer
 
 -- the turn of this event: the signatures that are left may be made, and the signer makes them
 abbrev pub turn_of : {G : Type 0} → (G → ℕ) → (G → ℕ) → (G → ℕ → List ℕ → List ℕ) → Core G → defs.Event → defs.Turn

@@ -1,5 +1,4 @@
 pub mod Outcomes
 pub mod Cores
 pub mod Journalled
-pub mod Silent
 pub mod Entries

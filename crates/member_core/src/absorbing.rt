@@ -11,7 +11,7 @@ ghost use Rattle.stmt_codec.specs.Kept.{signatures_left};
 ghost use Rattle.claim_hearing.specs.Hearing.{Shares};
 ghost use Rattle.group_defs.specs.Events as defs;
 ghost use Rattle.member_state.specs.Events.{event as event_of, IsOutcome};
-ghost use Rattle.member_core.specs.Cores.{IsCore, IsKeyless, IsWhole, Takes, left_of, signer_of};
+ghost use Rattle.member_core.specs.Cores.{IsCore, IsKeyless, Takes, left_of, signer_of};
 ghost use Rattle.member_core.specs.Entries.{Agrees, Absorbs};
 
 use crate::attempts::attempt;
@@ -149,17 +149,13 @@ impl Keyless {
 }
 
 impl<G: Tally + Drop> Core<G> {
-    // How many signatures may still be made. Neither count rises above the range of the type with them.
+    // How many signatures may still be made. The count stays within the range of the type with them.
     fn left(&self) -> u32
         ensures value { result ≡ left_of G.used G.total self.now }
         ensures used { G.used (signer_of self.now) + result < 2 ^ 32 }
         ensures total { G.used (signer_of self.now) + result ≤ G.total (signer_of self.now) }
-        ensures made { self.now.made + result < 2 ^ 32 }
     {
         let used = self.signer.used();
-        if self.made != used {
-            return 0;
-        }
         self.signer.total() - used
     }
 
@@ -171,7 +167,7 @@ impl<G: Tally + Drop> Core<G> {
     /// # Errors
     /// [`AbsorbFault::Differs`] exactly where the process with these signatures signs more or fewer statements than there are, or
     /// lacks a further one where the entry's `spent` says otherwise; or a signature is not valid for the claim that it stands for; or
-    /// the key has fewer signatures left, of which there are none once a signature was lost ([`Core::step`]).
+    /// the key has fewer signatures left.
     /// [`AbsorbFault::NoMemory`].
     pub fn absorb<V: Scheme>(
         &mut self,
@@ -186,7 +182,6 @@ impl<G: Tally + Drop> Core<G> {
             (signatures_left entry.now.signatures) entry.now.spent → IsOkUnless result AbsorbFault.NoMemory }
         ensures lost { (s : Setting) (p : Process) → IsCore G.used s p self.old → OnErr result (IsCore G.used s p self.new) }
         ensures kept { OnErr result (signer_of self.new ≡ signer_of self.old) }
-        ensures whole { IsWhole G.used self.old → IsWhole G.used self.new }
         ensures used { OnOk result (G.used (signer_of self.new)
             ≡ G.used (signer_of self.old) + length (signatures_left entry.now.signatures)) }
         ensures total { OnOk result (G.total (signer_of self.new) ≡ G.total (signer_of self.old)) }
@@ -195,13 +190,12 @@ impl<G: Tally + Drop> Core<G> {
         let Some(count) = count_up_to(entry.signatures, self.left()) else {
             return Err(AbsorbFault::Differs);
         };
-        let outcome = match self.keyless.retake(scheme, entry, self.made, count) {
+        let used = self.signer.used();
+        let outcome = match self.keyless.retake(scheme, entry, used, count) {
             Ok(outcome) => outcome,
             Err(fault) => return Err(fault),
         };
-        let used = self.signer.used();
         self.signer.skip_to(used + count);
-        self.made += count;
         Ok(outcome)
     }
 }

@@ -7,7 +7,6 @@ mod halves;
 mod journalled;
 mod member;
 mod notes;
-mod silent;
 mod stepping;
 mod telling;
 

@@ -43,7 +43,4 @@ impl Drop for Keyless {
 pub struct Core<G> {
     pub(crate) keyless: Keyless,
     pub(crate) signer: G,
-
-    // How many signatures of the key stand in what the process signed: all that were made, but those of events that were lost.
-    pub(crate) made: u32,
 }

@@ -1,14 +1,13 @@
 //! One event, from the moment that it is handed in until its frames are packed.
-ghost use Rattle.std.specs.Prelude.{◌≡◌, ◌-◌, ◌≤◌, length, IfOk, OnErr, OnOk};
+ghost use Rattle.std.specs.Prelude.{◌≡◌, ◌-◌, ◌≤◌, length, IfOk, OnErr};
 ghost use Rattle.group_defs.specs.Process.{Setting, Process};
 ghost use Rattle.member_state.specs.Events.{event as event_of};
-ghost use Rattle.member_core.specs.Cores.{IsCore, IsKeyless, IsWhole, Steps, Takes, signer_of};
+ghost use Rattle.member_core.specs.Cores.{IsCore, IsKeyless, Steps, Takes, signer_of};
 
 use crate::attempts::attempt;
 use crate::member::{Core, Keyless};
-use crate::silent::Silent;
 use member_taking::Judge;
-use rp_base::{NoMemory, Scheme, Signer, Tally};
+use rp_base::{NoMemory, Retract, Scheme, Signer, Tally};
 use stmt_codec::{Event, Outcome};
 
 impl Keyless {
@@ -52,35 +51,29 @@ impl Keyless {
     }
 }
 
-impl<G: Signer + Drop> Core<G> {
+impl<G: Retract + Drop> Core<G> {
     /// One event, taken whole or not at all: the process after it and what comes of it are the definitions', with as many signatures as
     /// the key has left.
     ///
-    /// Where memory runs out the event is lost, and the process is as before. Signatures that were made in it are spent and were handed
-    /// to nobody. Where there are such, the process signs no more: they do not stand in its journal, so a start from that would have the
-    /// key make them again.
+    /// Where memory runs out the event is lost, and the process and its key are as before. Signatures that were made in it are taken
+    /// back, since nobody was shown them: their numbers sign what comes next.
     pub fn step<V: Scheme>(&mut self, scheme: &V, event: &Event<'_>) -> Result<Outcome, NoMemory>
         ensures steps { (s : Setting) (p : Process) → IsCore G.Tally.used s p self.old → s.valid ≡ V.valid scheme.now
-            → IfOk result (Steps G.Tally.used G.Tally.total G.signature s p self.old self.new (event_of event.now)) }
-        ensures lost { (s : Setting) (p : Process) → IsCore G.Tally.used s p self.old → OnErr result (IsCore G.Tally.used s p self.new) }
-
-        // Where no signature was lost so far, none is lost with an event that is taken; and where one was, the key signs no more.
-        ensures whole { IsWhole G.Tally.used self.old → OnOk result (IsWhole G.Tally.used self.new) }
-        ensures silent { ¬ (IsWhole G.Tally.used self.old) → signer_of self.new ≡ signer_of self.old }
+            → IfOk result (Steps G.Tally.used G.Tally.total G.Signer.signature s p self.old self.new (event_of event.now)) }
+        ensures lost { (s : Setting) (p : Process) → IsCore G.Tally.used s p self.old
+            → OnErr result (IsCore G.Tally.used s p self.new) }
+        ensures unspent { OnErr result (G.Tally.used (signer_of self.new) ≡ G.Tally.used (signer_of self.old)) }
         ensures rises { G.Tally.used (signer_of self.old) ≤ G.Tally.used (signer_of self.new) }
         ensures total { G.Tally.total (signer_of self.new) ≡ G.Tally.total (signer_of self.old) }
-        ensures secret { G.signature (signer_of self.new) ≡ G.signature (signer_of self.old) }
+        ensures secret { G.Signer.signature (signer_of self.new) ≡ G.Signer.signature (signer_of self.old) }
     {
-        if self.made != self.signer.used() {
-            let mut silent = Silent::new(self.made);
-            return self.keyless.step(scheme, &mut silent, event);
-        }
+        let used = self.signer.used();
         match self.keyless.step(scheme, &mut self.signer, event) {
-            Ok(outcome) => {
-                self.made = self.signer.used();
-                Ok(outcome)
+            Ok(outcome) => Ok(outcome),
+            Err(NoMemory) => {
+                self.signer.retract(used);
+                Err(NoMemory)
             }
-            Err(NoMemory) => Err(NoMemory),
         }
     }
 }

@@ -6,7 +6,7 @@ ghost use Rattle.group_defs.specs.Settle.{phase_of};
 ghost use Rattle.accounts.specs.Views.{account};
 ghost use Rattle.view_phases.specs.Phases.{word};
 ghost use Rattle.member_state.specs.States.{liars_of, halted_at};
-ghost use Rattle.member_core.specs.Cores.{IsCore, IsWhole, Shares, signer_of};
+ghost use Rattle.member_core.specs.Cores.{IsCore, Shares, signer_of};
 
 use crate::member::{Core, Keyless};
 use member_state::{Account, ProcessState};
@@ -34,11 +34,9 @@ impl<G: Tally + Drop> Core<G> {
         requires unused { G.used signer ≡ 0 }
         ensures starts { IfOk result (λ c. (s : Setting) → Shares s group roster genesis → IsCore G.used s (start s me batch_limit) c) }
         ensures signer { IfOk result (λ c. signer_of c ≡ signer) }
-        ensures whole { IfOk result (IsWhole G.used) }
     {
         let frames = Frames::new(alloc)?;
-        let mut state = ProcessState::new(alloc, &roster, &genesis, me, batch_limit)?;
-        state.go_on();
+        let state = ProcessState::new(alloc, &roster, &genesis, me, batch_limit)?;
         let kept = Box::new(alloc, state)?;
         let keyless = Keyless {
             alloc,
@@ -47,11 +45,7 @@ impl<G: Tally + Drop> Core<G> {
             state: kept,
             frames,
         };
-        Ok(Core {
-            keyless,
-            signer,
-            made: 0,
-        })
+        Ok(Core { keyless, signer })
     }
 
     /// What the process tells of itself.
@@ -70,12 +64,12 @@ impl<G: Tally + Drop> Core<G> {
         self.keyless.state.phase.word()
     }
 
-    /// How many statements the process has signed. Signatures that were lost with an event are not among them.
+    /// How many statements the process has signed.
     #[tactic(auto, unfolding(crate::specs::Cores::IsCore))]
     pub fn used(&self) -> u32
         ensures { (s : Setting) (p : Process) → IsCore G.used s p self.now → length p.signed ≡ result }
     {
-        self.made
+        self.signer.used()
     }
 
     /// The signers of whom the process keeps two claims that conflict.

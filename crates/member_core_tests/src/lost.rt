@@ -42,4 +42,7 @@ fn an_event_without_memory_leaves_the_process_as_it_was(rt: HostRuntime) {
     take(&rt, &mut core, &Event::Renew);
     take(&rt, &mut core, &Event::Submit(b"you"));
     assert!(rt; core.account().accepted.len() == 2);
+
+    // As many as without a loss, by another program.
+    assert!(rt; core.used() == 11);
 }

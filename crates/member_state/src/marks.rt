@@ -76,7 +76,8 @@ impl ProcessState {
     // Goes back to the mark, in the view of the mark.
     fn rewind_here(&mut self, before: Before)
         ensures left { self.new.left ≡ self.old.left }
-        ensures back { (was : ProcessState) → Stays before was self.old → (s : Setting) (p : Process) → IsStateOf s p was → IsStateOf s p self.new }
+        ensures back { (was : ProcessState) → Stays before was self.old → (s : Setting) (p : Process) → IsStateOf s p was
+            → IsStateOf s p self.new }
     {
         let Before {
             own,
@@ -95,7 +96,8 @@ impl ProcessState {
 
     /// Goes back to what the process was at the mark. It takes no memory.
     pub fn rewind(&mut self, before: Before)
-        ensures back { (was : ProcessState) → Since before was self.old → (s : Setting) (p : Process) → IsStateOf s p was → IsStateOf s p self.new }
+        ensures back { (was : ProcessState) → Since before was self.old → (s : Setting) (p : Process) → IsStateOf s p was
+            → IsStateOf s p self.new }
         ensures stays { self.new.left ≡ None }
     {
         let left = mem::replace(&mut self.left, None);
@@ -103,11 +105,21 @@ impl ProcessState {
         self.rewind_here(before);
     }
 
+    // Forgets the view that was left.
+    fn forget_left(&mut self)
+        ensures { self.new ≡ record self.old { left = None } }
+    {
+        self.left = None;
+    }
+
     /// The event is over: there is no way back to the mark.
     pub fn go_on(&mut self)
         ensures same { (s : Setting) (p : Process) → IsStateOf s p self.old → IsStateOf s p self.new }
         ensures stays { self.new.left ≡ None }
     {
-        self.left = None;
+        // Mostly no view was left, and then there is nothing to drop.
+        if self.left.is_some() {
+            self.forget_left();
+        }
     }
 }

@@ -1,4 +1,4 @@
-ghost use Rattle.std.specs.Prelude.{◌≡◌, ◌≤◌, ℕ, IfOk};
+ghost use Rattle.std.specs.Prelude.{◌≡◌, ◌≤◌, ℕ, IfOk, None};
 ghost use Rattle.group_defs.specs.Process.{Setting, Process, start};
 ghost use Rattle.group_defs.specs.Accounts.{account_of};
 ghost use Rattle.claim_index.specs.Kept.{empty_pool};
@@ -154,7 +154,8 @@ impl ProcessState {
         requires number { genesis.now.number ≡ 0 }
         requires some { 1 ≤ batch_limit }
         requires few { batch_limit ≤ 16 }
-        ensures { IfOk result (λ st. (s : Setting) → StartsWith s roster.now genesis.now → IsStateOf s (start s me batch_limit) st) }
+        ensures starts { IfOk result (λ st. (s : Setting) → StartsWith s roster.now genesis.now → IsStateOf s (start s me batch_limit) st) }
+        ensures here { IfOk result (λ st. st.left ≡ None) }
     {
         let _number = genesis.number();
         Ok(ProcessState {

@@ -15,7 +15,7 @@ use Rattle.stmt_codec.specs.declared.events.Outcome.{Outcome}
 use Rattle.member_state.specs.Events.{event, IsOutcome}
 pub use Rattle.member_core.specs.declared.member.Core.{Core}
 pub use Rattle.member_core.specs.Cores.{IsCore}
-use Rattle.member_core.specs.Cores.{IsWhole, signer_of}
+use Rattle.member_core.specs.Cores.{signer_of}
 use Rattle.said_index.specs.declared.index.SaidIndex.{SaidIndex}
 use Rattle.said_index.specs.Said.{is_said}
 pub use Rattle.replay_cast.specs.declared.player.Player.{Player}
@@ -24,12 +24,11 @@ pub use Rattle.replay_cast.specs.declared.player.Player.{Player}
 abbrev pub process_of : Player → ℕ
 process_of p = p.process
 
--- the core is the player's process in this setting, and has its key, of which no signature was lost
+-- the core is the player's process in this setting, and has its key
 pub record HasCore (s : Setting) (c : plain.Player) (core : Core AnySigner) : Type 0 where
   pub is : IsCore used s c.now core
   pub total : total (signer_of core) ≡ key_total c.listed.key
   pub signs : signature (signer_of core) ≡ key_signature c.listed.key
-  pub whole : IsWhole used core
 
 -- a statement was said exactly where the process signed one that is spelled so
 abbrev pub HasSaid : Process → SaidIndex → Type 0

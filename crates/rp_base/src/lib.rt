@@ -30,7 +30,7 @@ pub use memory::NoMemory;
 pub use pid::Pid;
 pub use pid_set::{PidSet, Pids};
 pub use roster::Roster;
-pub use scheme::{Count, PlainScheme, PlainSigner, Scheme, Signer, Spent, Tally};
+pub use scheme::{Count, PlainScheme, PlainSigner, Retract, Scheme, Signer, Spent, Tally};
 pub use streams::{Sink, Source};
 pub use updates::{Update, UpdateFault, Value};
 pub use writes::write_all;

@@ -94,6 +94,20 @@ pub trait Signer: Tally {
         → KeyKeeps (public s) (public t) (sig_len s) (sig_len t) (signature s) (signature t) (admits s) (admits t) };
 }
 
+/// A key whose last signatures can be taken back, as long as nobody was shown them.
+pub trait Retract: Signer {
+    /// Takes back the signatures from this number on: they count as not made, and their numbers sign anew, other bodies perhaps.
+    ///
+    /// Who sees two signatures with one number of a key of hash trees can forge more. So **this is for signatures that nobody was
+    /// shown**, and the caller forgets them, as a process forgets an event that memory cut off (docs/DECISIONS.md, «Keys»).
+    fn retract(&mut self, to: u32)
+        requires { to ≤ Self.Tally.used self.old }
+        ensures used { Self.Tally.used self.new ≡ to }
+        ensures total { Self.Tally.total self.new ≡ Self.Tally.total self.old }
+        ensures secret { Self.signature self.new ≡ Self.signature self.old }
+        ensures key { Self.Tally.same_key self.old self.new };
+}
+
 /// Plain signatures, for rehearsals: the signature is SHA-256 of key and body, and the public key is the key. Whoever
 /// knows a public key can sign for it.
 #[derive(Clone, Copy, Debug, PartialEq, Eq)]
@@ -200,6 +214,12 @@ impl Signer for PlainSigner {
         out[..32].copy_from_slice(&digest(&self.key, body));
         self.used += 1;
         Ok(32)
+    }
+}
+
+impl Retract for PlainSigner {
+    fn retract(&mut self, to: u32) {
+        self.used = to;
     }
 }
 

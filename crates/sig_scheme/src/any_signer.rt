@@ -1,6 +1,6 @@
 use lms_hss::HssKey;
 use lms_tree::LmsKey;
-use rp_base::{PlainSigner, Signer, Spent, Tally};
+use rp_base::{PlainSigner, Retract, Signer, Spent, Tally};
 
 /// A signer of a group's scheme. Its `Debug` shows no key.
 #[derive(Debug, Drop)]
@@ -83,6 +83,16 @@ impl Signer for AnySigner {
             AnySigner::Plain(signer) => signer.sign(body, out),
             AnySigner::Lms(key) => key.sign(body, out),
             AnySigner::Hss(key) => key.sign(body, out),
+        }
+    }
+}
+
+impl Retract for AnySigner {
+    fn retract(&mut self, to: u32) {
+        match self {
+            AnySigner::Plain(signer) => signer.retract(to),
+            AnySigner::Lms(key) => key.retract(to),
+            AnySigner::Hss(key) => key.retract(to),
         }
     }
 }

@@ -1,4 +1,4 @@
-use rp_base::{Scheme, Signer, Tally};
+use rp_base::{Retract, Scheme, Signer, Tally};
 use sha2::{Digest, Sha256};
 use sig_scheme::{AnyScheme, KeyFault, OtsType, PublicKey, Secret, levels_are_built};
 use std::alloc::Global;
@@ -95,6 +95,22 @@ fn signers_sign_as_the_other_program_does(rt: HostRuntime) -> Result<(), Fail> {
         assert_eq!(rt; mark(signer.public()), public, "{secret:?}");
         assert!(rt; signer.used() == total && signer.total() == total);
         assert!(rt; is_spent(rt.alloc(), &mut signer)?);
+    }
+    Ok(())
+}
+
+#[test]
+fn a_signature_that_is_taken_back_is_made_again(rt: HostRuntime) -> Result<(), Fail> {
+    for secret in [PLAIN, LMS, HSS] {
+        let mut signer = secret.signer(rt.alloc())?;
+        let first = sign(rt.alloc(), &mut signer)?;
+        signer.retract(0);
+        assert_eq!(rt; signer.used(), 0, "{secret:?}");
+        assert_eq!(rt;
+            mark(&sign(rt.alloc(), &mut signer)?),
+            mark(&first),
+            "{secret:?}"
+        );
     }
     Ok(())
 }

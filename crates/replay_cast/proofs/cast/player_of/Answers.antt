@@ -32,7 +32,6 @@ returns c = λ l keyed.
             }));
         total = ap total c.in_ok-core.ensures.signer ∙ keyed.signer.total;
         signs = ap signature c.in_ok-core.ensures.signer ∙ keyed.signer.signs;
-        whole = c.in_ok-core.ensures.whole;
       };
       said = c.new-2.ensures;
     }

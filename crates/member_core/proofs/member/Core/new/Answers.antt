@@ -1,4 +1,4 @@
-use Rattle.std.proofs.Common.{arith, false, refl, subst, sym}
+use Rattle.std.proofs.Common.{false, refl, subst, sym}
 use Rattle.std.proofs.lemmas.Grind.{merely}
 use Rattle.group_defs.specs.Process.{Setting, Process, all_kinds, start}
 use Rattle.member_state.specs.States.{HasProcess, IsStateOf}
@@ -19,7 +19,7 @@ invariant_of-keyless-clause-real g c =
       setting = s;
       process = p;
       state = subst (IsStateOf s p) (sym c.in_ok-kept.ensures.ok)
-          (c.go_on.ensures.same s p (c.in_ok-state.ensures s (record { keys = refl; genesis = refl })));
+          (c.in_ok-state.ensures.starts s (record { keys = refl; genesis = refl }));
     } in
     merely has
 
@@ -28,12 +28,10 @@ unfolding IsCore
 returns-clause-starts g c s shares = record {
   keyless = record {
     state = subst (IsStateOf s (start s c.args.me c.args.batch_limit)) (sym c.in_ok-kept.ensures.ok)
-        (c.go_on.ensures.same s (start s c.args.me c.args.batch_limit)
-        (c.in_ok-state.ensures s (record { keys = shares.roster; genesis = shares.genesis })));
+        (c.in_ok-state.ensures.starts s (record { keys = shares.roster; genesis = shares.genesis }));
     group = shares.group;
     roster = shares.roster;
     kinds = shares.kinds;
   };
-  signed = refl;
-  spent = omega arith;
+  signed = sym c.requires.unused;
 }

@@ -7,8 +7,8 @@ use Rattle.own_place.specs.Owns.{Tells}
 use Rattle.member_state.proofs.Starting.{starts}
 use Rattle.member_state.proofs.state.ProcessState.new.Goals as goal
 
-pub returns : goal.returns
-returns c s with' =
+pub returns-clause-starts : goal.returns-clause-starts
+returns-clause-starts c s with' =
     let g : s.genesis ≡ c.args.genesis.now = with'.genesis in
     let first : c.copied.result ≡ s.genesis = c.copied.ensures ∙ sym g in
     let second : s.genesis ≡ c.copied-2.result = g ∙ sym c.copied-2.ensures in

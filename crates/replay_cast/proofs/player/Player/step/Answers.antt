@@ -8,5 +8,5 @@ returns c = λ s d plays valid.
     let old = c.args.self.now in
     stepped s d old _ c.args.event.now c.in_ok-outcome.outcome plays
     (c.in_ok-outcome.ensures.steps s d.now plays.core.is valid) c.step.ensures.total c.step.ensures.secret
-    (c.in_ok-outcome.ensures.whole plays.core.whole) refl
+    refl
     (λ x. c.in_ok-add_all.ensures x ∙ ap (λ ws. is_said x old.said || is_among_claims x ws) c.deref.ensures.value)
