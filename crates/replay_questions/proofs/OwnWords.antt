@@ -25,6 +25,7 @@ use Rattle.member_core.specs.Cores.{IsCore}
 use Rattle.replay_world.specs.Cast.{Core, Player, Plays, ArePlayers}
 use Rattle.replay_world.specs.Worlds.{IsRun}
 use Rattle.replay_questions.specs.Owned.{is_word_of}
+use Rattle.replay_questions.specs.Words.{says}
 
 -- ---- statements in their ranges are equal where they are spelled alike
 
@@ -58,7 +59,7 @@ core_said s p core is = is.keyless.state.lawful.said
 
 -- the player is not the signer, or said the statement
 abbrev pub says_own : Claim → Player → Bool
-says_own c p = not (p.process == c.signer) || is_said (spelling c.statement) p.said
+says_own c p = says c.signer (spelling c.statement) p
 
 module _ (h : Header) (c : Claim) (fits : IsStatement c.statement) where
   word_same : (p : Player) (d : plain.Player) → Plays (setting_of h) p d → IsRun h d

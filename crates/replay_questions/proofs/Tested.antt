@@ -20,6 +20,17 @@ module _ {X : Type 0} (test : X → Bool) where
       and_false true = refl
       and_false false = refl
 
+-- of a list whose first element is at hand
+module _ {X : Type 0} (test : X → Bool) where
+  pub first_passes : (xs ys : List X) (x : X) → xs ≡ x ∷ ys → test x ≡ true → list_all test ys ≡ list_all test xs
+  first_passes xs ys x is passes = sym (ap (list_all test) is ∙ ap (λ b. b && list_all test ys) passes)
+
+  pub first_fails : (xs ys : List X) (x : X) → xs ≡ x ∷ ys → test x ≡ false → list_all test xs ≡ false
+  first_fails xs ys x is fails = ap (list_all test) is ∙ ap (λ b. b && list_all test ys) fails
+
+  pub none_left : (xs : List X) → xs ≡ [] → list_all test xs ≡ true
+  none_left xs is = ap (list_all test) is
+
 -- list by list
 pub list_by_list : {X Y : Type 0} (test : Y → Bool) (f : X → List Y) (xs : List X)
     → list_all test (flat_map f xs) ≡ list_all (λ x. list_all test (f x)) xs

@@ -8,7 +8,7 @@ use Rattle.group_defs.specs.Events.{Hand}
 use Rattle.group_defs.specs.Family.{claims_in}
 use Rattle.replay_world.specs.Handing.{claims_of as claims_of_bytes}
 
-abbrev claims_said : Frame → List Claim
+abbrev pub claims_said : Frame → List Claim
 claims_said f = claims_in (Hand 0 f)
 
 -- a Want has none

@@ -1,6 +1,6 @@
 -- A claim by the world of the code, and by the family.
-use Rattle.std.proofs.Common.{◌≡◌, Bool, true, false, ◌&&◌, ◌||◌, not, refl, sym, ap, ◌∙◌}
-use Rattle.std.specs.List.{list_all, flat_map}
+use Rattle.std.proofs.Common.{◌≡◌, Bool, true, false, List, [], ◌∷◌, ◌&&◌, ◌||◌, not, refl, sym, ap, ◌∙◌}
+use Rattle.std.specs.List.{list_all, flat_map, AllByRecursion}
 use Rattle.std.proofs.lemmas.List.Folds.{list_all-append}
 use Rattle.std.proofs.lemmas.List.Concat.{flat_map-append}
 use Rattle.message_defs.specs.Statements.{Claim}
@@ -17,6 +17,7 @@ use Rattle.replay_world.specs.declared.world.World.{World}
 use Rattle.replay_world.specs.Handing.{claims_of, handed_frames}
 use Rattle.replay_world.specs.Worlds.{Shows, frames_of, raws_of}
 use Rattle.replay_questions.specs.Owned.{is_owned, is_word_of, is_unhanded_or_owned}
+use Rattle.replay_questions.specs.Words.{IsWord}
 use Rattle.replay_questions.proofs.OwnWords.{says_own, words_same}
 use Rattle.replay_questions.proofs.Tested.{list_by_list, chosen_by_list}
 
@@ -42,6 +43,18 @@ owned_same h w v c own valid fits shows said judged =
     (ends (family_of h v)) = said ∙ words_same h c fits.1 w.players.items v.players shows.players shows.ran in
     let rule : valid ≡ is_valid (setting_of h) c = judged ∙ valid_same h w v c shows in
     or_comm own (not valid) ∙ (λ i. not (rule i) || word i)
+
+-- claims that are their signers' words are owned
+module _ (h : Header) (w : World) (v : plain.World) (shows : Shows h w v) where
+  word_owned : (c : Claim) → IsWord w.players.items c → is_owned (family_of h v) c ≡ true
+  word_owned c word =
+      let there : list_all (is_word_of c) (ends (family_of h v)) ≡ true =
+      sym (words_same h c word.0 w.players.items v.players shows.players shows.ran) ∙ word.1 in
+      ap (λ b. not (is_valid (setting_of h) c) || b) there ∙ or_comm (not (is_valid (setting_of h) c)) true
+
+  pub words_owned : (cs : List Claim) → AllByRecursion (IsWord w.players.items) cs → list_all (is_owned (family_of h v)) cs ≡ true
+  words_owned [] words = refl
+  words_owned (c ∷ cs) words = ap (λ b. b && list_all (is_owned (family_of h v)) cs) (word_owned c words.0) ∙ words_owned cs words.1
 
 -- all kept bytes together
 pub all_owned : (h : Header) (w : World) (v : plain.World) (frames raws : Bool) → Shows h w v

@@ -13,6 +13,7 @@ ghost use Rattle.replay_world.specs.Worlds.{Shows};
 ghost use Rattle.replay_questions.specs.Owned.{is_owned, is_unhanded_or_owned};
 
 use crate::frames::claims_in;
+use crate::groups::is_frame_of_words;
 use crate::words::is_word;
 use claim_pool::check;
 use replay_world::{Sent, World};
@@ -42,14 +43,21 @@ fn are_own(world: &World, claims: Claims<'_>) -> bool
     true
 }
 
-// Whether each claim of the bytes, as a frame, is its signer's own.
-fn is_honest(world: &World, bytes: &[u8]) -> bool
+// Whether each claim of the bytes, as a frame, is its signer's own, found by reading the claims.
+fn are_claims_own(world: &World, bytes: &[u8]) -> bool
     ensures { (h : Header) (v : plain.World) → Shows h world.now v → result ≡ list_all (is_owned (family_of h v)) (claims_of bytes.now) }
 {
     match claims_in(bytes) {
         Some(claims) => are_own(world, claims),
         None => true,
     }
+}
+
+// Whether each claim of the bytes, as a frame, is its signer's own. Mostly all are their signers' words, which needs no reading of them.
+fn is_honest(world: &World, bytes: &[u8]) -> bool
+    ensures { (h : Header) (v : plain.World) → Shows h world.now v → result ≡ list_all (is_owned (family_of h v)) (claims_of bytes.now) }
+{
+    is_frame_of_words(world.players(), bytes) || are_claims_own(world, bytes)
 }
 
 // Whether the frame was handed to nobody, or is honest.

@@ -3,6 +3,7 @@
 #![tactic(auto)]
 
 mod frames;
+mod groups;
 mod honesty;
 mod words;
 

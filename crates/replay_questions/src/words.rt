@@ -1,23 +1,22 @@
 //! Whether a claim is its signer's own word.
-ghost use Rattle.std.specs.Prelude.{◌≡◌, ◌||◌, not, ◌==◌};
-ghost use Rattle.std.specs.List.{list_all};
+ghost use Rattle.std.specs.Prelude.{◌≡◌};
 ghost use Rattle.message_defs.specs.Spelling.{IsStatement, spelling};
 ghost use Rattle.stmt_codec.specs.Views.{stmt};
-ghost use Rattle.said_index.specs.Said.{is_said};
+ghost use Rattle.replay_questions.specs.Words as words;
 
 use replay_world::Player;
-use rp_base::Pid;
 use stmt_codec::{Claim, STATEMENT_BYTES, spell_into};
 
 // Whether the process is not this signer, or said the statement with these bytes.
-fn is_word_of(player: &Player, signer: Pid, spelled: &[u8]) -> bool
-    ensures { result ≡ (not (player.now.process == signer) || is_said spelled.now player.now.said) }
+fn is_word_of(player: &Player, signer: u8, spelled: &[u8]) -> bool
+    ensures { result ≡ words.says signer spelled.now player.now }
 {
-    player.process != signer || player.said.says(spelled)
+    player.process.get() != signer || player.said.says(spelled)
 }
 
-fn is_word_of_all(players: &[Player], signer: Pid, spelled: &[u8]) -> bool
-    ensures { result ≡ list_all (λ p. not (p.process == signer) || is_said spelled.now p.said) players.now }
+/// Whether the signer is none of these, or said the statement with these bytes.
+pub(crate) fn is_word_of_all(players: &[Player], signer: u8, spelled: &[u8]) -> bool
+    ensures { result ≡ words.is_word players.now signer spelled.now }
 {
     players
         .iter()
@@ -27,10 +26,9 @@ fn is_word_of_all(players: &[Player], signer: Pid, spelled: &[u8]) -> bool
 /// Whether the claim's signer is none of these, or said its statement.
 pub(crate) fn is_word(players: &[Player], claim: &Claim<'_>) -> bool
     requires { IsStatement (stmt claim.now.statement) }
-    ensures { result ≡ list_all (λ p. not (p.process == claim.now.signer)
-        || is_said (spelling (stmt claim.now.statement)) p.said) players.now }
+    ensures { result ≡ words.is_word players.now claim.now.signer (spelling (stmt claim.now.statement)) }
 {
     let mut spelled = [0; STATEMENT_BYTES];
     let said = spell_into(&claim.statement, &mut spelled);
-    is_word_of_all(players, claim.signer, &spelled[..said])
+    is_word_of_all(players, claim.signer.get(), &spelled[..said])
 }
