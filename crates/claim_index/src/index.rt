@@ -97,10 +97,13 @@ impl Model for ClaimIndex {
 }
 
 // The entry under this key.
-fn find(kept: &IndexMap<Key, Kept, BuildHasherDefault<KeyHasher>>, key: &Key) -> Option<Kept>
-    ensures { result ≡ lookup (same_key key.now) kept.now.entries }
+fn find<'a>(
+    kept: &'a IndexMap<Key, Kept, BuildHasherDefault<KeyHasher>>,
+    key: &Key,
+) -> Option<&'a Kept>
+    ensures { option_copied result ≡ lookup (same_key key.now) kept.now.entries }
 {
-    kept.get(key).copied()
+    kept.get(key)
 }
 
 /// The signer's claim whose bytes stand there.
@@ -133,7 +136,7 @@ fn claim_under<'a>(
     ensures range { IfSome result (λ c. IsStatement (stmt c.statement)) }
 {
     match find(kept, &key) {
-        Some(kept) => Some(lent(bytes, signer, kept)),
+        Some(kept) => Some(lent(bytes, signer, *kept)),
         None => None,
     }
 }
@@ -310,7 +313,7 @@ impl ClaimIndex {
         ensures { result ≡ defs.says self.now.pool (stmt statement.now) member }
     {
         match find(&self.kept, &Key::new(member, slot_key_of(statement))) {
-            Some(kept) => is_said(&self.bytes, kept, spelled),
+            Some(kept) => is_said(&self.bytes, *kept, spelled),
             None => false,
         }
     }
@@ -324,7 +327,7 @@ impl ClaimIndex {
         let mut spelled = [0; STATEMENT_BYTES];
         let said = spell_into(statement, &mut spelled);
         match find(&self.kept, &Key::new(signer, slot_key_of(statement))) {
-            Some(kept) => Some(is_said(&self.bytes, kept, &spelled[..said])),
+            Some(kept) => Some(is_said(&self.bytes, *kept, &spelled[..said])),
             None => None,
         }
     }

@@ -68,6 +68,17 @@ impl FrameWriter {
         })
     }
 
+    /// Begins a frame of this kind anew, without groups, in the room of the one before. It takes no memory.
+    pub fn restart(&mut self, kind: u8)
+        requires kinds { (1 ≤ kind) × (kind ≤ 2) }
+        ensures { self.new ≡ record { kind = kind; room = self.old.room; groups = [] } }
+    {
+        self.bytes.clear();
+        put(&mut self.bytes, &[VERSION, kind, 0]);
+        self.kind = kind;
+        self.last = None;
+    }
+
     /// Adds a claim: to the last group where the statements are equal, the signer is above the last one and the group
     /// has fewer than 16 signatures, else as a group of its own. It is false exactly where the frame would then pass
     /// its room or 255 groups, and then nothing changes.

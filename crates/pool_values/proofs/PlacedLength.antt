@@ -1,12 +1,12 @@
 -- The places that are certified from the first on: all of them, with one place and with one claim more.
-use Rattle.std.proofs.Common.{◌≡◌, inl, inr, ℕ, zero, suc, ◌+◌, ◌<◌, ◌≤◌, List, [], ◌∷◌, ◌++◌, length, Option, Some, None, false, refl, sym, ap, ◌∙◌, arith, slice_get}
-use Rattle.std.specs.Prelude.{option_and_then, filter, nat_lt}
-use Rattle.std.proofs.lemmas.Bool.{le-ltb}
+use Rattle.std.proofs.Common.{◌≡◌, inl, inr, ℕ, zero, suc, ◌+◌, ◌<◌, ◌≤◌, List, [], ◌∷◌, ◌++◌, length, Option, Some, None, Bool, true, false, refl, sym, ap, ◌∙◌, arith, slice_get}
+use Rattle.std.specs.Prelude.{option_and_then, filter, nat_lt, ◌&&◌}
+use Rattle.std.proofs.lemmas.Bool.{le-ltb, eq-eqb}
 use Rattle.message_defs.specs.Updates.{Update}
-use Rattle.message_defs.specs.Statements.{Batch, Statement, Place, Notify, Claim, PlaceAt, kind_number, slot_of, batch_of}
+use Rattle.message_defs.specs.Statements.{Batch, Statement, Place, Notify, Claim, PlaceAt, slot_of, batch_of}
 use Rattle.group_defs.specs.Views.{View, faulty}
 use Rattle.group_defs.specs.Process.{Pool}
-use Rattle.group_defs.specs.Certified.{claim_on, says, certified_on, place_at, placed_from, placed, fixed_length, place_kept, is_notified, number_of_members}
+use Rattle.group_defs.specs.Certified.{claim_on, says, certified_on, place_at, placed_from, placed, fixed_length, place_kept, is_certified, is_notified, number_of_members}
 use Rattle.pool_laws.proofs.Grown.{certified-stays, none-stays}
 use Rattle.pool_laws.proofs.Heard.{placed-at}
 use Rattle.pool_laws.proofs.Places.{Compared, ahead, level, behind, compared, get-some, slice_get-snoc, length-snoc}
@@ -18,7 +18,7 @@ use Rattle.placed_batches.specs.Rows.{Prefix}
 use Rattle.pool_values.specs.declared.updates.UpdateSet.{UpdateSet}
 use Rattle.pool_values.specs.Updates.{has_update}
 use Rattle.pool_values.specs.Ends.{AreInitsEnds}
-use Rattle.pool_values.specs.Places.{ArePlaced, AreCounted, placed_in, after_one}
+use Rattle.pool_values.specs.Places.{ArePlaced, AreCounted, is_place_of, placed_in, after_one}
 
 same-lists : {A : Type 0} (xs ys : List A) → length xs ≡ length ys
     → ((k : ℕ) (x y : A) → slice_get xs k ≡ Some x → slice_get ys k ≡ Some y → x ≡ y) → xs ≡ ys
@@ -102,32 +102,37 @@ more-placed h c fresh some = record {
   few = few-placed h;
 }
 
--- ---- no other claim than a Place certifies a place
+-- ---- a claim certifies no place where it is no Place of the next place, or is not certified itself
 
-not-place : (st : Statement) (x k : ℕ) → (kind_number st ≡ 4 → ⊥) → slot_of st ≡ PlaceAt x k → ⊥
-not-place (Place y j b) x k other at = other refl
-not-place _ x k other at = cc
+not-next : (st : Statement) (x n : ℕ) → is_place_of n st ≡ false → slot_of st ≡ PlaceAt x n → ⊥
+not-next (Place y k b) x n other at = let same : k ≡ n = cc in let both : true ≡ false = sym (eq-eqb k n same) ∙ other in cc
+not-next _ x n other at = cc
+
+other-then : (a b : Bool) → (a && b) ≡ false → b ≡ true → a ≡ false
+other-then true true e f = absurd cc
+other-then true false e f = absurd cc
+other-then false b e f = refl
 
 module _ (h : Pool) (c : Claim) (fresh : claim_on h.heard c.signer (slot_of c.statement) ≡ None) (some : 1 ≤ number_of_members h)
-    (other : kind_number c.statement ≡ 4 → ⊥) where
-  same-at : (k : ℕ) → place_at (with_heard h c) k ≡ place_at h k
-  same-at k = ap (option_and_then batch_of) (go (certified_on h (PlaceAt h.view.number k)) refl)
+    (not : (is_place_of (length (placed h)) c.statement && is_certified (with_heard h c) c.statement) ≡ false) where
+  same-next : certified_on (with_heard h c) (PlaceAt h.view.number (length (placed h)))
+      ≡ certified_on h (PlaceAt h.view.number (length (placed h)))
+  same-next = go (certified_on h (PlaceAt h.view.number (length (placed h)))) refl
     where
-      go : (o : Option Statement) → certified_on h (PlaceAt h.view.number k) ≡ o
-          → certified_on (with_heard h c) (PlaceAt h.view.number k) ≡ certified_on h (PlaceAt h.view.number k)
-      go None e = none-stays h c fresh some (PlaceAt h.view.number k) e (λ at _. not-place c.statement h.view.number k other at) ∙ sym e
-      go (Some st) e = certified-stays h c fresh some (PlaceAt h.view.number k) st e ∙ sym e
+      go : (o : Option Statement) → certified_on h (PlaceAt h.view.number (length (placed h))) ≡ o
+          → certified_on (with_heard h c) (PlaceAt h.view.number (length (placed h)))
+          ≡ certified_on h (PlaceAt h.view.number (length (placed h)))
+      go None e = none-stays h c fresh some (PlaceAt h.view.number (length (placed h))) e
+          (λ at certified. not-next c.statement h.view.number (length (placed h))
+          (other-then (is_place_of (length (placed h)) c.statement) (is_certified (with_heard h c) c.statement) not certified) at) ∙ sym e
+      go (Some st) e = certified-stays h c fresh some (PlaceAt h.view.number (length (placed h))) st e ∙ sym e
 
-  same-from : (more k : ℕ) → placed_from (with_heard h c) more k ≡ placed_from h more k
-  same-from zero k = refl
-  same-from (suc more) k = λ i. elim (same-at k i) [ None ↦ [] | Some b ↦ b ∷ same-from more (k + 1) i ]
-
-  same : placed (with_heard h c) ≡ placed h
-  unfolding placed
-  same = same-from 1024 0
+  same : placed h ≡ placed (with_heard h c)
+  same = placed-are (with_heard h c) (placed h) (more-placed h c fresh some)
+      (λ lt. ap (option_and_then batch_of) same-next ∙ stop h lt)
 
   pub same-placed : placed_in (with_heard h c) ≡ placed_in h
-  same-placed = λ i. record { view = h.view; batches = same i }
+  same-placed = λ i. record { view = h.view; batches = sym same i }
 
 -- ---- how far the places are kept
 

@@ -1,6 +1,6 @@
 -- What is kept beside the heard claims.
-use Rattle.std.specs.Prelude.{◌≡◌, ℕ, ◌+◌, ◌≤◌, max, List, length, take, Option, Some, None, slice_get}
-use Rattle.message_defs.specs.Statements.{Batch}
+use Rattle.std.specs.Prelude.{◌≡◌, ℕ, ◌+◌, ◌≤◌, ◌==◌, Bool, false, max, List, length, take, Option, Some, None, slice_get}
+use Rattle.message_defs.specs.Statements.{Batch, Statement, Place}
 use Rattle.group_defs.specs.Process.{Pool}
 use Rattle.group_defs.specs.Certified.{place_at, placed, fixed_length}
 use Rattle.placed_batches.specs.Rows.{Prefix}
@@ -30,6 +30,11 @@ pub record AreMarkedCounted (h g : Pool) (prefix : Prefix) (kept_to : ℕ) (noti
 pub record ArePlaced (h : Pool) (batches : List Batch) : Type 0 where
   pub each : (k : ℕ) (b : Batch) → slice_get batches k ≡ Some b → place_at h k ≡ Some b
   pub few : length batches ≤ 1024
+
+-- the statement is a Place of this place
+abbrev pub is_place_of : ℕ → Statement → Bool
+is_place_of n (Place x k b) = k == n
+is_place_of n _ = false
 
 -- the greater of what it was and the place + 1, where there is one
 abbrev pub after_one : ℕ → Option ℕ → ℕ

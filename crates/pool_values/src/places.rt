@@ -1,4 +1,4 @@
-ghost use Rattle.std.specs.Prelude.{◌≡◌, ◌+◌, ◌≤◌, ◌<◌, ℕ, None, false, length, replicate, take, slice_get, OnOk, IfOk};
+ghost use Rattle.std.specs.Prelude.{◌≡◌, ◌+◌, ◌≤◌, ◌<◌, ◌&&◌, ℕ, None, false, length, replicate, take, slice_get, OnOk, IfOk};
 ghost use Rattle.std.specs.Option.{option_map};
 ghost use Rattle.byte_defs.specs.Choices.{is_some_and};
 ghost use Rattle.message_defs.specs.Spelling.{IsStatement};
@@ -11,7 +11,7 @@ ghost use Rattle.rp_base.specs.Views.{update as update_of};
 ghost use Rattle.stmt_codec.specs.Views.{stmt, claim as claim_of};
 ghost use Rattle.claim_index.specs.Kept.{claim_bytes, empty_pool, with_heard};
 ghost use Rattle.pool_values.specs.Updates.{has_update, AreNotified, notified_said};
-ghost use Rattle.pool_values.specs.Places.{ArePlaced, placed_in, after_one};
+ghost use Rattle.pool_values.specs.Places.{ArePlaced, is_place_of, placed_in, after_one};
 ghost use Rattle.pool_values.specs.Ends.{IsInitsEnd};
 
 use crate::ends::{PROCESSES, note_init};
@@ -118,7 +118,9 @@ fn batch_at(quorums: &Quorums, place: u16) -> Option<Batch>
     }
 }
 
-// Puts the batches of the places that are certified now behind those before.
+// Puts the batches of the places that are certified now behind those before. It is called where a place is certified, and stands apart
+// from what is called for each claim.
+#[inline(never)]
 fn follow(quorums: &Quorums, prefix: &mut PlacedBatches)
     requires view { prefix.old.view ≡ quorums.now.pool.view }
     requires placed { ArePlaced quorums.now.pool prefix.old.batches }
@@ -132,15 +134,28 @@ fn follow(quorums: &Quorums, prefix: &mut PlacedBatches)
     }
 }
 
-// The same, with this claim, the last that was heard: no other than a Place certifies a place.
+// Whether the statement is certified, and a Place of this place.
+fn is_placed_at(quorums: &Quorums, statement: &Statement<'_>, place: u16) -> bool
+    requires { IsStatement (stmt statement.now) }
+    ensures { result ≡ (is_place_of place (stmt statement.now) && defs.is_certified quorums.now.pool (stmt statement.now)) }
+{
+    match *statement {
+        Statement::Place { place: of, .. } => of == place && quorums.is_certified(statement),
+        _ => false,
+    }
+}
+
+// Puts the batches of the places that are certified with this claim, the last that was heard, behind those before. There is one only
+// where the claim is a Place of the next place, and is certified itself.
 fn follow_claim(quorums: &Quorums, statement: &Statement<'_>, prefix: &mut PlacedBatches)
+    requires range { IsStatement (stmt statement.now) }
     requires view { prefix.old.view ≡ quorums.now.pool.view }
     requires placed { ArePlaced quorums.now.pool prefix.old.batches }
     ensures { (h : Pool) (c : plain.Claim) → quorums.now.pool ≡ with_heard h c → c.statement ≡ stmt statement.now
         → defs.claim_on h.heard c.signer (plain.slot_of c.statement) ≡ None → 1 ≤ defs.number_of_members h → prefix.old ≡ placed_in h
         → prefix.new ≡ placed_in quorums.now.pool }
 {
-    if statement.kind() == PLACE {
+    if is_placed_at(quorums, statement, prefix.len()) {
         follow(quorums, prefix);
     }
 }
@@ -150,15 +165,21 @@ fn fixed_with(quorums: &Quorums, fixed: u16, statement: &Statement<'_>) -> u16
     requires { IsStatement (stmt statement.now) }
     ensures { result ≡ after_one fixed (defs.place_kept quorums.now.pool (stmt statement.now)) }
 {
-    match statement {
-        Statement::Keep { place, .. } if quorums.is_certified(statement) => {
-            fixed.max(*place + 1)
-        }
-        _ => fixed,
+    let Statement::Keep { place, .. } = *statement else {
+        return fixed;
+    };
+    if place < fixed {
+        return fixed;
+    }
+    if quorums.is_certified(statement) {
+        place + 1
+    } else {
+        fixed
     }
 }
 
-// Whether more than f members notify the update.
+// Whether more than f members notify the update. It is called for a Notify alone, and stands apart from what is called for each claim.
+#[inline(never)]
 fn is_notified(quorums: &Quorums, update: Update) -> bool
     ensures { result ≡ defs.is_notified quorums.now.pool (update_of update) }
 {

@@ -1,5 +1,5 @@
 //! Lists of claims as frames: a list is filled claim by claim, closed, and handed out frame by frame.
-ghost use Rattle.std.specs.Prelude.{◌≡◌, ◌≤◌, ◌++◌, ◌∷◌, [], map, flat_map, false, OnOk, IfOk, MatchOption};
+ghost use Rattle.std.specs.Prelude.{◌≡◌, ◌≤◌, ◌++◌, ◌∷◌, [], length, map, flat_map, false, OnOk, IfOk, MatchOption};
 ghost use Rattle.std.specs.List.{AllByRecursion, range_with_len};
 ghost use Rattle.message_defs.specs.Frames.{Want, frame_bytes};
 ghost use Rattle.message_defs.specs.Packing.{pack_from};
@@ -24,10 +24,11 @@ use std::mem;
 use stmt_codec::Payload;
 
 /// Frames, packed from lists of claims. Contracts see the frames that are not handed out yet, and the claims of the list that is
-/// being packed. The list keeps its memory from one to the next.
+/// being packed. List and sheet keep their memory from one to the next.
 pub struct Frames {
     alloc: Global,
     list: ClaimList,
+    sheet: Sheet,
     done: VecDeque<Payload>,
 }
 
@@ -37,9 +38,11 @@ impl Drop for Frames {
         let Frames {
             alloc: _,
             list,
+            sheet,
             done,
         } = self;
         mem::drop(list);
+        mem::drop(sheet);
         mem::drop(done);
     }
 }
@@ -73,28 +76,31 @@ fn put_all(list: &mut ClaimList, other: &ClaimList) -> Result<(), NoMemory>
 // Packs one more claim: into the sheet, or behind its end on a new one.
 fn pack_claim(
     alloc: Global,
-    sheet: Sheet,
+    sheet: &mut Sheet,
     done: &mut VecDeque<Payload>,
     kind: FrameKind,
     claim: &Lent<'_>,
-) -> Result<Sheet, NoMemory>
-    requires { IsShort (lent_claim claim.now) }
-    ensures { IfOk result (λ next. (cs : _)
-        → done.new.items ++ map (frame_as kind) (pack_from next.writer.groups cs) ≡ done.old.items
-        ++ map (frame_as kind) (pack_from sheet.writer.groups (lent_claim claim.now ∷ cs))) }
+) -> Result<(), NoMemory>
+    requires short { IsShort (lent_claim claim.now) }
+    requires begun { 1 ≤ length sheet.old.writer.groups }
+    ensures packs { OnOk result ((cs : _)
+        → done.new.items ++ map (frame_as kind) (pack_from sheet.new.writer.groups cs) ≡ done.old.items
+        ++ map (frame_as kind) (pack_from sheet.old.writer.groups (lent_claim claim.now ∷ cs))) }
+    ensures begun { OnOk result (1 ≤ length sheet.new.writer.groups) }
 {
-    let mut sheet = sheet;
     if sheet.add(claim) {
-        return Ok(sheet);
+        return Ok(());
     }
     put_frame(done, sheet.to_frame(alloc, kind)?)?;
-    Sheet::begin(alloc, claim)
+    sheet.begin(claim);
+    Ok(())
 }
 
 // Packs the claims of the list behind the frames that are done.
 fn pack(
     alloc: Global,
     list: &ClaimList,
+    sheet: &mut Sheet,
     done: &mut VecDeque<Payload>,
     kind: FrameKind,
 ) -> Result<(), NoMemory>
@@ -103,9 +109,9 @@ fn pack(
     if list.len() == 0 {
         return Ok(());
     }
-    let mut sheet = Sheet::begin(alloc, &list.at(0))?;
+    sheet.begin(&list.at(0));
     'claims: for place in 1..list.len() {
-        sheet = pack_claim(alloc, sheet, done, kind, &list.at(place))?;
+        pack_claim(alloc, sheet, done, kind, &list.at(place))?;
     }
     put_frame(done, sheet.to_frame(alloc, kind)?)
 }
@@ -119,6 +125,7 @@ impl Frames {
         Ok(Frames {
             alloc,
             list: ClaimList::new(alloc),
+            sheet: Sheet::new(alloc)?,
             done: VecDeque::new(alloc),
         })
     }
@@ -145,7 +152,13 @@ impl Frames {
         ensures frames { OnOk result (self.new.frames ≡ self.old.frames ++ frames_as kind self.old.claims) }
         ensures claims { OnOk result (self.new.claims ≡ []) }
     {
-        pack(self.alloc, &self.list, &mut self.done, kind)?;
+        pack(
+            self.alloc,
+            &self.list,
+            &mut self.sheet,
+            &mut self.done,
+            kind,
+        )?;
         self.list.clear();
         Ok(())
     }

@@ -21,13 +21,12 @@ pub enum FrameKind {
     Proof,
 }
 
-/// A frame that has claims, and may take more.
+/// A frame that is written claim by claim. It takes its room once, and keeps it from frame to frame.
 #[derive(Drop)]
 pub(crate) struct Sheet {
     writer: FrameWriter,
     ghost kind: { writer.kind ≡ 1 },
     ghost limit: { writer.room ≡ 61000 },
-    ghost some: { 1 ≤ length writer.groups },
 }
 
 // Adds the claim to the frame, where it has room for it. A frame without groups has.
@@ -62,16 +61,23 @@ fn number_of(kind: FrameKind) -> u8
 }
 
 impl Sheet {
-    /// A frame of this claim.
-    pub fn begin(alloc: Global, claim: &Lent<'_>) -> Result<Sheet, NoMemory>
-        requires { IsShort (lent_claim claim.now) }
-        ensures { IfOk result (λ s. s.writer.groups ≡ group_of (lent_claim claim.now) ∷ []) }
+    /// A frame without claims.
+    pub fn new(alloc: Global) -> Result<Sheet, NoMemory>
+        ensures { IfOk result (λ s. s.writer.groups ≡ []) }
     {
-        let mut writer = FrameWriter::new(alloc, BUNDLE, FRAME_BYTES)?;
-        if !add_claim(&mut writer, claim) {
+        let writer = FrameWriter::new(alloc, BUNDLE, FRAME_BYTES)?;
+        Ok(Sheet { writer })
+    }
+
+    /// Begins a frame of this claim, in place of the one before.
+    pub fn begin(&mut self, claim: &Lent<'_>)
+        requires { IsShort (lent_claim claim.now) }
+        ensures { self.new.writer.groups ≡ group_of (lent_claim claim.now) ∷ [] }
+    {
+        self.writer.restart(BUNDLE);
+        if !add_claim(&mut self.writer, claim) {
             unreachable!();
         }
-        Ok(Sheet { writer })
     }
 
     /// Adds the claim, where there is room for it.
@@ -84,8 +90,9 @@ impl Sheet {
         add_claim(&mut self.writer, claim)
     }
 
-    /// The frame's bytes.
+    /// The frame's bytes, where it has a claim.
     pub fn to_frame(&self, alloc: Global, kind: FrameKind) -> Result<Payload, NoMemory>
+        requires { 1 ≤ length self.now.writer.groups }
         ensures { IfOk result (λ f. f ≡ frame_as kind self.now.writer.groups) }
     {
         let mut bytes = Vec::from_slice(alloc, self.writer.frame())?;

@@ -2,4 +2,5 @@ mod Keyed
 pub mod Joining
 pub mod Hearing
 pub mod Asking
+pub mod Counted
 pub mod Marks

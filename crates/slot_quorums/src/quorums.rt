@@ -1,18 +1,19 @@
 ghost use Rattle.std.specs.Prelude.{◌≡◌, ◌+◌, ◌≤◌, ◌<◌, ◌++◌, [], Some, None, cond, length, nat_le, OnOk, IfSome, option_and_then};
 ghost use Rattle.std.specs.List.{AllByRecursion};
 ghost use Rattle.std.specs.Vec.{vec_len, vec_capacity};
-ghost use Rattle.std.specs.Option.{option_map};
+ghost use Rattle.std.specs.Option.{option_map, option_copied};
 ghost use Rattle.std.specs.Map.{lookup};
 ghost use Rattle.indexmap.specs.IndexMap.{spare};
+ghost use Rattle.byte_defs.specs.Choices.{is_some_and};
 ghost use Rattle.byte_defs.specs.Orders.{sorted};
 ghost use Rattle.message_defs.specs.Spelling.{IsStatement};
 ghost use Rattle.message_defs.specs.Statements as plain;
 ghost use Rattle.group_defs.specs.Views as views;
 ghost use Rattle.group_defs.specs.Certified as defs;
 ghost use Rattle.stmt_codec.specs.Views.{stmt, slot, claim, claim as claim_of};
-ghost use Rattle.claim_index.specs.Keys.{same_slot_key};
+ghost use Rattle.claim_index.specs.Keys.{slot_key, same_slot_key};
 ghost use Rattle.claim_index.specs.Kept.{by_number, claim_bytes, empty_pool, with_heard};
-ghost use Rattle.slot_quorums.specs.Cells.{IsCertifiedBy, StandsAt};
+ghost use Rattle.slot_quorums.specs.Cells.{said_at, IsCell, IsCertifiedBy, IsOf, StandsAt};
 ghost use Rattle.slot_quorums.specs.Marks.{noted, placed, restored};
 
 use crate::cell::{Cell, cell_with};
@@ -75,10 +76,10 @@ impl Model for Quorums {
 }
 
 // What is heard on the slot.
-fn cell_at(cells: &Cells, key: &SlotKey) -> Option<Cell>
-    ensures { result ≡ lookup (same_slot_key key.now) cells.now.entries }
+fn cell_at<'a>(cells: &'a Cells, key: &SlotKey) -> Option<&'a Cell>
+    ensures { option_copied result ≡ lookup (same_slot_key key.now) cells.now.entries }
 {
-    cells.get(key).copied()
+    cells.get(key)
 }
 
 // Where the slot's cell stands among the cells.
@@ -153,6 +154,39 @@ fn restore(cells: &mut Cells, changed: &mut Vec<(usize, Cell)>)
         let (_, kept) = cells.pair_mut(place);
         *kept = cell;
     }
+}
+
+// Whether the cell's content is this.
+fn is_content(claims: &ClaimIndex, cell: &Cell, statement: &Statement<'_>) -> bool
+    requires { IsStatement (stmt statement.now) }
+    ensures { result ≡ is_some_and (said_at claims.now.pool cell.now.place) (plain.same_statement (stmt statement.now)) }
+{
+    let mut spelled = [0; STATEMENT_BYTES];
+    let said = spell_into(statement, &mut spelled);
+    claims.says_at(cell.place(), statement, &spelled[..said])
+}
+
+// Hears the claim, the first of its signer on the slot of this key, and answers what the slot's cell becomes.
+fn hear(claims: &mut ClaimIndex, cell: Option<Cell>, key: SlotKey, claim: &Claim<'_>) -> Cell
+    requires range { IsStatement (stmt claim.now.statement) }
+    requires short { length claim.now.signature.now ≤ 16384 }
+    requires slot { key ≡ slot_key (plain.slot_of (stmt claim.now.statement)) }
+    requires fresh { defs.claim_on claims.old.pool.heard claim.now.signer (plain.slot_of (stmt claim.now.statement)) ≡ None }
+    requires claims { 1 ≤ claims.old.claims_left }
+    requires bytes { claim_bytes (claim_of claim.now) ≤ claims.old.bytes_left }
+    requires cell { IsOf claims.old.pool (plain.slot_of (stmt claim.now.statement)) cell }
+    ensures heard { claims.new.pool ≡ with_heard claims.old.pool (claim_of claim.now) }
+    ensures marked { claims.new.marked ≡ claims.old.marked }
+    ensures claims_left { claims.old.claims_left ≤ claims.new.claims_left + 1 }
+    ensures bytes_left { claims.old.bytes_left ≤ claims.new.bytes_left + claim_bytes (claim_of claim.now) }
+    ensures cell { IsCell claims.new.pool (plain.slot_of (stmt claim.now.statement)) result }
+{
+    // The bytes stand first, so that they are cleared once.
+    let mut spelled = [0; STATEMENT_BYTES];
+    let said = spell_into(&claim.statement, &mut spelled);
+    let (place, _) = claims.size();
+    claims.add(claim, key, &spelled[..said]);
+    cell_with(claims, cell, place, claim, &spelled[..said])
 }
 
 // Whether a quorum says the cell's content.
@@ -232,12 +266,12 @@ impl Quorums {
     }
 
     // The cell of that kind and slot, where its content is certified.
-    fn certified_cell(&self, kind: u8, about: &Slot) -> Option<Cell>
-        ensures { IsCertifiedBy self.now.pool (slot kind about.now) result }
+    fn certified_cell(&self, kind: u8, about: &Slot) -> Option<&Cell>
+        ensures { IsCertifiedBy self.now.pool (slot kind about.now) (option_copied result) }
     {
         let key = slot_key_at(kind, about)?;
         let cell = cell_at(&self.cells, &key)?;
-        if is_enough(&self.claims, &cell) {
+        if is_enough(&self.claims, cell) {
             Some(cell)
         } else {
             None
@@ -287,12 +321,7 @@ impl Quorums {
         let Some(cell) = cell_at(&self.cells, &slot_key_of(statement)) else {
             return 0;
         };
-        let mut spelled = [0; STATEMENT_BYTES];
-        let said = spell_into(statement, &mut spelled);
-        if self
-            .claims
-            .says_at(cell.place(), statement, &spelled[..said])
-        {
+        if is_content(&self.claims, cell, statement) {
             cell.count()
         } else {
             self.claims.count(statement)
@@ -304,7 +333,12 @@ impl Quorums {
         requires { IsStatement (stmt statement.now) }
         ensures { result ≡ defs.is_certified self.now.pool (stmt statement.now) }
     {
-        quorum(self.claims.view().members().len()) <= self.count(statement)
+        // A view has members, so that nobody is no quorum.
+        let _members = self.claims.view().members();
+        let Some(cell) = cell_at(&self.cells, &slot_key_of(statement)) else {
+            return false;
+        };
+        is_enough(&self.claims, cell) && is_content(&self.claims, cell, statement)
     }
 
     /// Hears a claim whose signer has none on the slot.
@@ -323,12 +357,8 @@ impl Quorums {
         let at = place_of(&self.cells, &key);
         note(&mut self.changed, &self.cells, self.marked, at);
         let was = cell_there(&self.cells, &key, at);
-        let (place, _) = self.claims.size();
         let _number = self.claims.view().number();
-        let mut spelled = [0; STATEMENT_BYTES];
-        let said = spell_into(&claim.statement, &mut spelled);
-        self.claims.add(claim, key, &spelled[..said]);
-        let cell = cell_with(&self.claims, was, place, claim, &spelled[..said]);
+        let cell = hear(&mut self.claims, was, key, claim);
         put(&mut self.cells, key, at, cell);
     }
 }

@@ -8,9 +8,9 @@ use std::marker::Model;
 /// among the sender's messages of the view. Contracts see the list of them.
 #[derive(Clone, Copy)]
 pub struct Batch {
+    len: u8,
     // those behind the first `len` are of process 0 and number 0, so that equal batches have equal fields
     messages: [(Pid, u16); 16],
-    len: u8,
 }
 
 impl Model for Batch {

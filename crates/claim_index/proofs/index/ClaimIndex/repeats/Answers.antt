@@ -13,10 +13,10 @@ returns-in-Some c =
     let heard : c.args.self.now.pool.heard
     ≡ heard_in c.self.inside.bytes.items c.self.inside.kept.entries = sym (ap (λ (r : Holding). r.pool.heard) c.self.view_is) in
     ap Some (c.is_said.ensures ∙ ap
-    (λ b. bytes_eq (statement_bytes b c.in-Some.kept) (take c.spell_into-said.result c.spell_into-said.new.out)) c.deref.ensures.value
-    ∙ ap (bytes_eq (statement_bytes c.self.inside.bytes.items c.in-Some.kept)) c.spell_into-said.ensures.spelled)
+    (λ b. bytes_eq (statement_bytes b c.in-Some.kept.now) (take c.spell_into-said.result c.spell_into-said.new.out)) c.deref.ensures.value
+    ∙ ap (bytes_eq (statement_bytes c.self.inside.bytes.items c.in-Some.kept.now)) c.spell_into-said.ensures.spelled)
     ∙ repeated c.args.self.now.pool c.self.inside.bytes.items c.self.inside.kept.entries heard c.self.invariant.now.kept c.args.signer
-    (stmt c.args.statement.now) c.requires c.in-Some.kept (rw (c.new.ensures, c.slot_key_of.ensures) at c.in-Some.ensures)
+    (stmt c.args.statement.now) c.requires c.in-Some.kept.now (rw (c.new.ensures, c.slot_key_of.ensures) at c.in-Some.ensures)
 
 pub returns-in-None : goal.returns-in-None
 returns-in-None c =

@@ -12,10 +12,10 @@ pub returns-in-Some : goal.returns-in-Some
 returns-in-Some c =
     let heard : c.args.self.now.pool.heard
     ≡ heard_in c.self.inside.bytes.items c.self.inside.kept.entries = sym (ap (λ (r : Holding). r.pool.heard) c.self.view_is) in
-    c.is_said.ensures ∙ ap (λ b. bytes_eq (statement_bytes b c.in-Some.kept) c.args.spelled.now) c.deref.ensures.value
-    ∙ ap (bytes_eq (statement_bytes c.self.inside.bytes.items c.in-Some.kept)) c.requires.spelled
+    c.is_said.ensures ∙ ap (λ b. bytes_eq (statement_bytes b c.in-Some.kept.now) c.args.spelled.now) c.deref.ensures.value
+    ∙ ap (bytes_eq (statement_bytes c.self.inside.bytes.items c.in-Some.kept.now)) c.requires.spelled
     ∙ says_by_bytes c.args.self.now.pool c.self.inside.bytes.items c.self.inside.kept.entries heard c.self.invariant.now.kept c.args.member
-    (stmt c.args.statement.now) c.requires.range c.in-Some.kept (rw (c.new.ensures, c.slot_key_of.ensures) at c.in-Some.ensures)
+    (stmt c.args.statement.now) c.requires.range c.in-Some.kept.now (rw (c.new.ensures, c.slot_key_of.ensures) at c.in-Some.ensures)
 
 pub returns-in-None : goal.returns-in-None
 returns-in-None c =
