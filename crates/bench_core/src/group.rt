@@ -23,6 +23,7 @@ struct Waiting {
 /// The cores of processes 0, 1, 2 and so on, and what happened between them.
 #[derive(Drop)]
 pub(crate) struct Group {
+    members: Vec<Pid>,
     cores: Vec<Core<PlainSigner>>,
     scheme: Counted<PlainScheme>,
     waiting: VecDeque<Waiting>,
@@ -35,7 +36,7 @@ pub(crate) struct Group {
 // The process of this number.
 fn process(n: usize) -> Result<Pid> {
     let number = u8::try_from(n).ok().and_then(Pid::new);
-    number.ok_or(anyhow!("no process"))
+    number.ok_or_else(|| anyhow!("no process"))
 }
 
 // The first so many processes, of which 16 at most are members of a view and have a key.
@@ -80,6 +81,7 @@ impl Group {
             cores.push(core_of(alloc, &members, *me)?)?;
         }
         Ok(Group {
+            members,
             cores,
             scheme: Counted::new(PlainScheme),
             waiting: VecDeque::new(alloc),
@@ -142,22 +144,33 @@ impl Group {
             bytes: next.frame.bytes(),
         };
         for n in 0..self.cores.len() {
-            if next.to.contains(process(n)?) {
+            if self.is_addressed(next.to, n) {
                 self.step(n, &event)?;
             }
         }
         Ok(())
     }
 
+    // Whether the member is one of these.
+    fn is_addressed(&self, to: PidSet, member: usize) -> bool {
+        match self.members.get(member) {
+            Some(pid) => to.contains(*pid),
+            None => false,
+        }
+    }
+
     // A member takes an event.
     fn step(&mut self, member: usize, event: &Event<'_>) -> Result<()> {
-        let Some(core) = self.cores.get_mut(member) else {
+        let Some(me) = self.members.get(member).copied() else {
             return Err(anyhow!("no member"));
+        };
+        let Some(core) = self.cores.get_mut(member) else {
+            return Err(anyhow!("no core"));
         };
         let Ok(outcome) = core.step(&self.scheme, event) else {
             return Err(anyhow!("no memory"));
         };
-        self.note(process(member)?, outcome)
+        self.note(me, outcome)
     }
 
     // Counts what a member signed and heard, and keeps the frames that it sends.

@@ -128,12 +128,14 @@ impl Keyless {
             roster: &self.roster,
             group: &self.group,
         };
+        let places = &mut self.places;
         let frames = &mut self.frames;
         let Ok((before, outcome)) = attempt(
             &mut self.state,
             self.alloc,
             &judge,
             &mut signer,
+            places,
             frames,
             &entry.event,
         ) else {

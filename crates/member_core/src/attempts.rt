@@ -44,6 +44,7 @@ fn run<G: Signer, V: Scheme>(
     alloc: Global,
     judge: &Judge<'_, V>,
     signer: &mut G,
+    places: &mut Vec<usize>,
     frames: &mut Frames,
     event: &Event<'_>,
 ) -> Result<Outcome, NoMemory>
@@ -66,7 +67,7 @@ fn run<G: Signer, V: Scheme>(
     ensures secret { G.signature signer.new ≡ G.signature signer.old }
 {
     match admit(state, event) {
-        Ok(input) => take(state, alloc, judge, signer, frames, &input),
+        Ok(input) => take(state, alloc, judge, signer, places, frames, &input),
         Err(fault) => Ok(refused(alloc, fault)),
     }
 }
@@ -78,6 +79,7 @@ pub(crate) fn attempt<G: Signer, V: Scheme>(
     alloc: Global,
     judge: &Judge<'_, V>,
     signer: &mut G,
+    places: &mut Vec<usize>,
     frames: &mut Frames,
     event: &Event<'_>,
 ) -> Result<(Before, Outcome), NoMemory>
@@ -101,7 +103,7 @@ pub(crate) fn attempt<G: Signer, V: Scheme>(
     ensures secret { G.signature signer.new ≡ G.signature signer.old }
 {
     let before = state.mark(is_asking(event))?;
-    match run(state, alloc, judge, signer, frames, event) {
+    match run(state, alloc, judge, signer, places, frames, event) {
         Ok(outcome) => Ok((before, outcome)),
         Err(NoMemory) => {
             state.rewind(before);

@@ -34,6 +34,7 @@ fn begin<G: Signer, V: Scheme>(
     alloc: Global,
     judge: &Judge<'_, V>,
     signer: &mut G,
+    places: &mut Vec<usize>,
     frames: &mut Frames,
     input: &Input<'_>,
 ) -> Result<Outcome, NoMemory>
@@ -61,7 +62,14 @@ fn begin<G: Signer, V: Scheme>(
     let mut signed = Vec::new(alloc);
     let spent = sign_all(state, alloc, judge.group, signer, &mut signed)?;
     let mut sends = Vec::new(alloc);
-    send_bundle(state, is_tick(input), signed.len(), frames, &mut sends)?;
+    send_bundle(
+        state,
+        is_tick(input),
+        signed.len(),
+        places,
+        frames,
+        &mut sends,
+    )?;
     Ok(Outcome {
         verdict: EventVerdict::Taken,
         heard,
@@ -102,6 +110,7 @@ pub(crate) fn take<G: Signer, V: Scheme>(
     alloc: Global,
     judge: &Judge<'_, V>,
     signer: &mut G,
+    places: &mut Vec<usize>,
     frames: &mut Frames,
     input: &Input<'_>,
 ) -> Result<Outcome, NoMemory>
@@ -128,7 +137,7 @@ pub(crate) fn take<G: Signer, V: Scheme>(
     ensures secret { G.signature signer.new ≡ G.signature signer.old }
 {
     let pairs = state.conflicts.len();
-    let mut outcome = begin(state, alloc, judge, signer, frames, input)?;
+    let mut outcome = begin(state, alloc, judge, signer, places, frames, input)?;
     end(state, alloc, pairs, frames, input, &mut outcome)?;
     Ok(outcome)
 }

@@ -15,6 +15,8 @@ pub(crate) struct Keyless {
     // on the heap: a process that is handed on is not copied
     pub(crate) state: Box<ProcessState>,
     pub(crate) frames: Frames,
+    // room for the places of the claims that an event sends
+    pub(crate) places: Vec<usize>,
     ghost real: { IsReal state.value },
     ghost unsent: { length frames.frames ≡ 0 },
     ghost unpacked: { length frames.claims ≡ 0 },
@@ -31,10 +33,12 @@ impl Drop for Keyless {
             roster,
             state,
             frames,
+            places,
         } = self;
         mem::drop(roster);
         mem::drop(state);
         mem::drop(frames);
+        mem::drop(places);
     }
 }
 

@@ -35,12 +35,14 @@ impl Keyless {
             roster: &self.roster,
             group: &self.group,
         };
+        let places = &mut self.places;
         let frames = &mut self.frames;
         let Ok((_before, outcome)) = attempt(
             &mut self.state,
             self.alloc,
             &judge,
             signer,
+            places,
             frames,
             event,
         ) else {

@@ -44,6 +44,7 @@ impl<G: Tally + Drop> Core<G> {
             roster,
             state: kept,
             frames,
+            places: Vec::new(alloc),
         };
         Ok(Core { keyless, signer })
     }

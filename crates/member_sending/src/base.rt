@@ -1,5 +1,5 @@
 //! The own claims that a Bundle has, by their places among those of the view.
-ghost use Rattle.std.specs.Prelude.{◌≡◌, ◌-◌, ◌++◌, ◌∷◌, [], length, map, filter, drop, not, if◌then◌else◌, IfOk, OnOk};
+ghost use Rattle.std.specs.Prelude.{◌≡◌, ◌-◌, ◌++◌, ◌∷◌, [], length, map, filter, drop, not, if◌then◌else◌, OnOk};
 ghost use Rattle.std.specs.List.{list_any};
 ghost use Rattle.group_defs.specs.Process.{Process};
 ghost use Rattle.group_defs.specs.Sending as sending;
@@ -11,7 +11,6 @@ ghost use Rattle.member_sending.specs.Began.{HasDone};
 
 use member_state::{Delivered, ProcessState};
 use rp_base::{NoMemory, Pid};
-use std::alloc::Global;
 use stmt_codec::Statement;
 
 // Whether it is the message of this number of this sender.
@@ -75,45 +74,48 @@ fn put_repeated(places: &mut Vec<usize>, state: &ProcessState, place: usize) -> 
 }
 
 // The places of the claims that a Tick repeats: all but those of messages and places that were delivered.
-fn repeated(alloc: Global, state: &ProcessState) -> Result<Vec<usize>, NoMemory>
-    ensures { IfOk result (λ places. (began : Process) → HasDone state.now began
-        → chosen state.now.said.claims places.items ≡ filter (λ c. not (sending.was_delivered began c.statement)) state.now.said.claims) }
+fn repeated(places: &mut Vec<usize>, state: &ProcessState) -> Result<(), NoMemory>
+    requires { places.old.items ≡ [] }
+    ensures { OnOk result ((began : Process) → HasDone state.now began
+        → chosen state.now.said.claims places.new.items
+        ≡ filter (λ c. not (sending.was_delivered began c.statement)) state.now.said.claims) }
 {
-    let mut places = Vec::new(alloc);
     'claims: for place in 0..state.said.len() {
-        put_repeated(&mut places, state, place)?;
+        put_repeated(places, state, place)?;
     }
-    Ok(places)
+    Ok(())
 }
 
 // The places of the last so many claims.
-fn last_places(alloc: Global, state: &ProcessState, newly: usize) -> Result<Vec<usize>, NoMemory>
-    ensures { IfOk result (λ places. chosen state.now.said.claims places.items
+fn last_places(places: &mut Vec<usize>, state: &ProcessState, newly: usize) -> Result<(), NoMemory>
+    requires { places.old.items ≡ [] }
+    ensures { OnOk result (chosen state.now.said.claims places.new.items
         ≡ drop (length state.now.said.claims - newly) state.now.said.claims) }
 {
     let count = state.said.len();
-    let mut places = Vec::new(alloc);
     'claims: for place in count.saturating_sub(newly)..count {
         places.push(place)?;
     }
-    Ok(places)
+    Ok(())
 }
 
-/// The places of the claims that a Bundle has: on a Tick of those that it repeats, else of the last so many.
+/// Puts into `places`, in place of what is there, the places of the claims that a Bundle has: on a Tick of those that it repeats, else
+/// of the last so many.
 pub(crate) fn base_places(
-    alloc: Global,
+    places: &mut Vec<usize>,
     state: &ProcessState,
     tick: bool,
     newly: usize,
-) -> Result<Vec<usize>, NoMemory>
-    ensures { IfOk result (λ places. (began : Process) → HasDone state.now began
-        → chosen state.now.said.claims places.items
+) -> Result<(), NoMemory>
+    ensures { OnOk result ((began : Process) → HasDone state.now began
+        → chosen state.now.said.claims places.new.items
         ≡ (if tick then filter (λ c. not (sending.was_delivered began c.statement)) state.now.said.claims
         else drop (length state.now.said.claims - newly) state.now.said.claims)) }
 {
+    places.clear();
     if tick {
-        repeated(alloc, state)
+        repeated(places, state)
     } else {
-        last_places(alloc, state, newly)
+        last_places(places, state, newly)
     }
 }

@@ -25,11 +25,12 @@ fn is_silent(tick: bool, newly: usize) -> bool
 
 /// Sends the Bundle of a process that has signed, and not settled yet: on a Tick what it signed in its view, but of messages and
 /// places that were delivered; else what it signed in this event, the last `newly` claims. It goes to the other members of the
-/// view, with what goes beside its Orders and Suggests.
+/// view, with what goes beside its Orders and Suggests. `places` is room, used again from event to event.
 pub fn send_bundle(
     state: &ProcessState,
     tick: bool,
     newly: usize,
+    places: &mut Vec<usize>,
     frames: &mut Frames,
     sends: &mut Vec<Sending>,
 ) -> Result<(), NoMemory>
@@ -47,7 +48,12 @@ pub fn send_bundle(
     if is_nobody(to) {
         return Ok(());
     }
-    let base = base_places(*sends.allocator(), state, tick, newly)?;
-    frames.resend(&state.pool, &state.said, &base, state.own.delivered)?;
+    base_places(places, state, tick, newly)?;
+    frames.resend(
+        &state.pool,
+        &state.said,
+        places.as_slice(),
+        state.own.delivered,
+    )?;
     hand_over(frames, to, sends)
 }

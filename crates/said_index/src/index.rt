@@ -2,6 +2,7 @@ ghost use Rattle.std.specs.Prelude.{◌≡◌, ◌||◌, ℕ, List, OnOk};
 ghost use Rattle.std.specs.Str.{bytes_eq};
 ghost use Rattle.said_index.specs.Among.{is_among};
 
+use crate::spelled::{Sought, Spelled};
 use indexmap::IndexSet;
 use rp_base::NoMemory;
 use std::alloc::Global;
@@ -10,7 +11,7 @@ use stmt_codec::OwnClaim;
 
 /// The statements that were said, each by its bytes. Whether one is among them, the word `is_said` of the specs says.
 pub struct SaidIndex {
-    spelled: IndexSet<Vec<u8>>,
+    spelled: IndexSet<Spelled>,
 }
 
 // Written out, so that whoever drops a value makes one call (docs/CONTRIBUTING.md).
@@ -22,10 +23,10 @@ impl Drop for SaidIndex {
 }
 
 // Puts a statement among the others, where it is not one of them.
-fn put(alloc: Global, all: &mut IndexSet<Vec<u8>>, spelled: &[u8]) -> Result<(), NoMemory>
+fn put(alloc: Global, all: &mut IndexSet<Spelled>, spelled: &[u8]) -> Result<(), NoMemory>
     ensures { (x : List ℕ) → OnOk result (is_among x all.new ≡ (is_among x all.old || bytes_eq x spelled.now)) }
 {
-    all.insert(Vec::from_slice(alloc, spelled)?)?;
+    all.insert(Spelled::copied(alloc, spelled)?)?;
     Ok(())
 }
 
@@ -46,7 +47,7 @@ impl SaidIndex {
     pub fn says(&self, spelled: &[u8]) -> bool
         ensures { result ≡ is_said spelled.now self.now }
     {
-        self.spelled.contains(spelled)
+        self.spelled.contains(Sought { bytes: spelled })
     }
 
     /// The statements of these claims are said, too. Where memory is wanting, some of them may be.

@@ -3,5 +3,6 @@
 #![tactic(auto)]
 
 mod index;
+mod spelled;
 
 pub use index::SaidIndex;

@@ -33,10 +33,10 @@ pub returns-clause-sent : goal.returns-clause-sent
 returns-clause-sent c = λ s began p begin is.
     let st = c.args.state.now in
     let done = has-done s p began st begin.number begin.delivered is in
-    let base : List Claim = chosen st.said.claims c.deref.result.now in
+    let base : List Claim = chosen st.said.claims c.as_slice.result.now in
     let cs : List Claim = with_what_goes_beside began st.pool.pool base in
     let same = bundle-is c.args.tick c.args.newly s p began st base begin is
-    (ap (chosen st.said.claims) c.deref.ensures.value ∙ c.in_ok-base.ensures began done) in
+    (ap (chosen st.said.claims) c.as_slice.ensures.value ∙ c.in_ok-base_places.ensures began done) in
     let to : c.others-to.result ≡ others began began.pool.view = c.others-to.ensures ∙ others-are began began.pool.view c.view.result.now
     st.own.me (begin.number ∙ is.place.number) (begin.view ∙ ap (λ (h : Pool). h.view) is.place.pool ∙ sym c.view.ensures) in
     let made = c.in_ok-resend.ensures.bundle began done.places ∙ ap (λ fs. fs ++ frames_of (Bundle cs)) c.requires.empty.frames in
