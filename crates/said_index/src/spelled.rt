@@ -1,4 +1,4 @@
-//! A statement's bytes as a key of a table, which are hashed in one piece.
+//! A statement's bytes as a key of a table. They are hashed in one piece, sixteen at a time, where a list of bytes is hashed byte by byte.
 ghost use Rattle.std.specs.Prelude.{◌≡◌, nat_eq, IfOk};
 ghost use Rattle.std.proofs.Common.{ap, rules};
 ghost use Rattle.std.specs.Ordering.{on};
