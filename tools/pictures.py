@@ -217,7 +217,7 @@ AREAS = {
     ),
     "laws and rows": (20, 1013, 2, "pool_laws rule_laws safety_laws event_laws group_rows schedule_laws schedule_rows"),
     "definitions": (20, 1195, 6, "byte_defs signature_defs message_defs text_defs group_defs kit_defs replay_defs"),
-    "a run shown": (348, 20, 2, "picture_defs story_words story_telling story_trace story_picture story_cli story"),
+    "a run shown": (348, 20, 2, "picture_defs story_words story_telling story_trace picture_labels story_picture story_cli story"),
     "beside other implementations": (
         348, 203, 2,
         "interop_words interop_signatures interop_levels interop_frames interop_kits interop_schedules interop_node interop_pool interop_lines"

@@ -1,6 +1,6 @@
 -- What is drawn of numbered rows, one row after the other.
-use Rattle.std.proofs.Common.{◌≡◌, ℕ, ◌+◌, ◌<◌, Bool, List, [], ◌∷◌, ◌++◌, map, take, length, get_or, ◌||◌, refl, sym, ap, ◌∙◌, arith}
-use Rattle.std.specs.List.{flat_map, enumerate_from, list_any}
+use Rattle.std.proofs.Common.{◌≡◌, ℕ, ◌+◌, ◌<◌, List, [], ◌∷◌, ◌++◌, map, take, length, get_or, refl, sym, ap, ◌∙◌, arith}
+use Rattle.std.specs.List.{flat_map, enumerate_from}
 use Rattle.std.proofs.lemmas.List.{append-nil, length-map, map-append, map_more}
 use Rattle.std.proofs.lemmas.List.Folds.{flat_map-map}
 use Rattle.std.proofs.lemmas.Grind.{flat_map-append}
@@ -38,11 +38,6 @@ row_more draw rows k r before out new lt at so_far wrote =
     (so_far ∙ ap (λ (t : List ℕ). before ++ t) (each_row-map draw (take k rows)))
     (wrote ∙ ap (λ (n : ℕ). out ++ draw n r.event (happening r.what)) (sym zero_and))
     ∙ ap (λ (t : List ℕ). before ++ t) (sym (each_row-map draw (take (k + 1) rows)))
-
--- a test of what is mapped
-pub any-map : {X Y : Type 0} (f : X → Y) (p : Y → Bool) (xs : List X) → list_any p (map f xs) ≡ list_any (λ x. p (f x)) xs
-any-map f p [] = refl
-any-map f p (x ∷ xs) = ap (λ b. p (f x) || b) (any-map f p xs)
 
 -- one element more of what is mapped
 pub mapped_more : {A B : Type 0} (f : B → List ℕ) (view : A → B) (xs : List A) (i : ℕ) (x : A) (before out new : List ℕ) → i < length xs

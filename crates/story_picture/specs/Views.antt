@@ -1,12 +1,7 @@
--- Points and rows of the code, as those of the definitions.
-use Rattle.picture_defs.specs.Elements as elements
+-- Rows of the code, as those of the definitions.
 use Rattle.picture_defs.specs.Pictures as pictures
 use Rattle.happenings.specs.Told.{happening}
-use Rattle.story_picture.specs.declared.elements.Point.{Point}
 use Rattle.story_picture.specs.declared.rows.Row.{Row}
-
-abbrev pub point : Point → elements.Point
-point p = record { x = p.x; y = p.y }
 
 abbrev pub row : Row → pictures.Row
 row r = (r.event, happening r.what)

@@ -6,12 +6,12 @@ ghost use Rattle.replay_defs.specs.Schedules.{is_corrupt as is_corrupt_of};
 ghost use Rattle.happenings.specs.Told.{handed as handed_of, happening as happening_of};
 ghost use Rattle.picture_defs.specs.Drawing as plain;
 ghost use Rattle.picture_defs.specs.Pictures as pictures;
-ghost use Rattle.story_picture.specs.Views.{point, row as row_view};
+ghost use Rattle.picture_labels.specs.Views.{point};
+ghost use Rattle.story_picture.specs.Views.{row as row_view};
 
-use crate::elements::{Point, push_dot, push_stroke};
-use crate::layout::place;
 use crate::rows::Row;
 use happenings::{Handed, Happening};
+use picture_labels::{Point, place, push_dot, push_stroke};
 use rp_base::{NoMemory, Pid};
 use schedule_file::Listed;
 use std::alloc::Global;

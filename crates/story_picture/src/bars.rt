@@ -8,10 +8,9 @@ ghost use Rattle.picture_defs.specs.Drawing as plain;
 ghost use Rattle.picture_defs.specs.Pictures.{each_row};
 ghost use Rattle.story_picture.specs.Views.{row as row_of};
 
-use crate::elements::{Point, push_bar, push_stroke};
-use crate::layout::{between, left_of, place, row};
 use crate::rows::Row;
 use happenings::{Happening, Seen};
+use picture_labels::{Point, between, left_of, place, push_bar, push_stroke, row};
 use rp_base::{NoMemory, Pid};
 use schedule_file::Listed;
 use stmt_codec::Note;

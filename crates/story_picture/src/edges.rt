@@ -5,11 +5,10 @@ ghost use Rattle.happenings.specs.Told.{stopped};
 ghost use Rattle.picture_defs.specs.Elements.{text_at};
 ghost use Rattle.picture_defs.specs.Styles as styles;
 ghost use Rattle.picture_defs.specs.Pictures as plain;
-ghost use Rattle.story_picture.specs.Views.{point};
+ghost use Rattle.picture_labels.specs.Views.{point};
 
-use crate::elements::{Point, push_text};
-use crate::layout::below;
 use happenings::Stopped;
+use picture_labels::{Point, below, push_text};
 use rp_base::NoMemory;
 use story_words::{Word, push_pieces};
 

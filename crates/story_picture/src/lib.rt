@@ -5,13 +5,9 @@
 mod arrows;
 mod bars;
 mod edges;
-mod elements;
 mod labels;
-mod layout;
 mod names;
 mod picture;
 mod rows;
-mod short;
-mod spans;
 
 pub use picture::push_picture;

@@ -7,10 +7,11 @@ ghost use Rattle.picture_defs.specs.Elements as elements;
 ghost use Rattle.picture_defs.specs.Pictures as plain;
 ghost use Rattle.story_picture.specs.Views.{row as row_view};
 
-use crate::elements::{Point, begin_text, end_text, push_spaced, push_stroke, push_text};
-use crate::layout::{above, below, left_of, width};
 use crate::rows::{Row, rows_before};
-use crate::spans::push_one_span;
+use picture_labels::{
+    Point, above, begin_text, below, end_text, left_of, push_one_span, push_spaced, push_stroke,
+    push_text, width,
+};
 use rp_base::{NoMemory, Pid};
 use schedule_file::Listed;
 use story_words::{Word, process_word, push_pieces};

@@ -1,7 +1,7 @@
 use Rattle.std.proofs.Common.{◌==◌, ◌&&◌, sym, ◌∙◌}
 use Rattle.replay_defs.specs.Schedules as plain
 use Rattle.schedule_file.specs.Views.{listed}
-use Rattle.story_picture.proofs.Numbered.{any-map}
+use Rattle.picture_labels.proofs.Mapped.{any-map}
 use Rattle.story_picture.proofs.arrows.is_corrupt.Goals as goal
 
 pub returns : goal.returns

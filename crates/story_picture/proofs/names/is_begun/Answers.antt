@@ -4,7 +4,7 @@ use Rattle.std.proofs.lemmas.List.{take-map}
 use Rattle.picture_defs.specs.Pictures as plain
 use Rattle.story_picture.specs.declared.rows.Row.{Row}
 use Rattle.story_picture.specs.Views.{row}
-use Rattle.story_picture.proofs.Numbered.{any-map}
+use Rattle.picture_labels.proofs.Mapped.{any-map}
 use Rattle.story_picture.proofs.names.is_begun.Goals as goal
 
 pub returns : goal.returns

@@ -2,7 +2,7 @@ use Rattle.std.proofs.Common.{◌≡◌, ◌++◌, map, take}
 use Rattle.std.specs.List.{flat_map}
 use Rattle.member_state.specs.Events.{note}
 use Rattle.picture_defs.specs.Labels.{note_span}
-use Rattle.story_picture.proofs.spans.push_notes.Given as goal
+use Rattle.picture_labels.proofs.spans.push_notes.Given as goal
 
 abbrev pub invariant-loop-note : goal.invariant-loop-note
 invariant-loop-note l = l.out.items ≡ l.fn.out.items ++ flat_map note_span (map note (take l.note-index l.notes))

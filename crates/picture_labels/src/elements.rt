@@ -4,20 +4,20 @@ ghost use Rattle.std.specs.Fmt.{decimal};
 ghost use Rattle.std.specs.List.{flat_map};
 ghost use Rattle.story_words.specs.Words.{spelled};
 ghost use Rattle.picture_defs.specs.Elements as plain;
-ghost use Rattle.story_picture.specs.Views.{point};
+ghost use Rattle.picture_labels.specs.Views.{point};
 
 use rp_base::{NoMemory, Pid};
 use story_words::{Word, process_word, push_pieces};
 
-/// A point of the picture, from its left upper corner.
+/// A point of the picture: how far right of its left upper corner, and how far below, in pixels.
 #[derive(Clone, Copy, Debug)]
-pub(crate) struct Point {
+pub struct Point {
     pub x: u64,
     pub y: u64,
 }
 
-/// A line from one point to another.
-pub(crate) fn push_stroke(
+/// A line of this class of the styles, from one point to another.
+pub fn push_stroke(
     out: &mut Vec<u8>,
     class: &[u8],
     from: Point,
@@ -43,8 +43,8 @@ pub(crate) fn push_stroke(
     )
 }
 
-/// A dot.
-pub(crate) fn push_dot(
+/// A dot of this class around a point. The radius is in pixels.
+pub fn push_dot(
     out: &mut Vec<u8>,
     class: &[u8],
     at: Point,
@@ -68,8 +68,8 @@ pub(crate) fn push_dot(
     )
 }
 
-/// A bar, by its left upper corner.
-pub(crate) fn push_bar(
+/// A bar of this class, by its left upper corner. Width and height are in pixels.
+pub fn push_bar(
     out: &mut Vec<u8>,
     class: &[u8],
     at: Point,
@@ -96,8 +96,8 @@ pub(crate) fn push_bar(
     )
 }
 
-/// The beginning of a text.
-pub(crate) fn begin_text(out: &mut Vec<u8>, class: &[u8], at: Point) -> Result<(), NoMemory>
+/// The beginning of a text of this class, by the left end of its base line. Words and spans follow, then `end_text`.
+pub fn begin_text(out: &mut Vec<u8>, class: &[u8], at: Point) -> Result<(), NoMemory>
     ensures { OnOk result (out.new.items ≡ out.old.items ++ plain.text_begin class.now (point at)) }
 {
     push_pieces(
@@ -114,16 +114,16 @@ pub(crate) fn begin_text(out: &mut Vec<u8>, class: &[u8], at: Point) -> Result<(
     )
 }
 
-/// The end of a text.
-pub(crate) fn end_text(out: &mut Vec<u8>) -> Result<(), NoMemory>
+/// The end of a text that `begin_text` began.
+pub fn end_text(out: &mut Vec<u8>) -> Result<(), NoMemory>
     ensures { OnOk result (out.new.items ≡ out.old.items ++ plain.text_end) }
 {
     out.extend_from_slice(b"</text>\n")?;
     Ok(())
 }
 
-/// A text of these pieces.
-pub(crate) fn push_text(
+/// A whole text of this class, by the left end of its base line: these pieces, with nothing between them.
+pub fn push_text(
     out: &mut Vec<u8>,
     class: &[u8],
     at: Point,
@@ -142,8 +142,8 @@ fn push_spaced_one(out: &mut Vec<u8>, process: Pid) -> Result<(), NoMemory>
     push_pieces(out, &[Word::Text(b" "), process_word(process)])
 }
 
-/// The numbers of processes, each behind a space.
-pub(crate) fn push_spaced(out: &mut Vec<u8>, processes: &[Pid]) -> Result<(), NoMemory>
+/// The numbers of processes in the order of the list, each behind a space.
+pub fn push_spaced(out: &mut Vec<u8>, processes: &[Pid]) -> Result<(), NoMemory>
     ensures { OnOk result (out.new.items ≡ out.old.items ++ plain.spaced processes.now) }
 {
     for process in processes {

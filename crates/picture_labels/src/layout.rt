@@ -1,8 +1,8 @@
-//! Where things stand in the picture. More than fits into a number can't be drawn.
+//! Where things stand in the picture, in pixels. More than fits into a number can't be drawn: then, too, the answer is `NoMemory`.
 ghost use Rattle.std.specs.Prelude.{◌≡◌, ◌+◌, ◌-◌, nat_lt, map, count_by, IfOk};
 ghost use Rattle.schedule_file.specs.Views.{listed};
 ghost use Rattle.picture_defs.specs.Layout as plain;
-ghost use Rattle.story_picture.specs.Views.{point};
+ghost use Rattle.picture_labels.specs.Views.{point};
 
 use crate::elements::Point;
 use rp_base::{NoMemory, Pid};
@@ -51,40 +51,40 @@ pub(crate) fn column(processes: &[Listed], p: Pid) -> Result<u64, NoMemory>
     LEFT.checked_add(behind).ok_or(NoMemory)
 }
 
-/// Some way to the left of a column.
-pub(crate) fn left_of(processes: &[Listed], p: Pid, by: u64) -> Result<u64, NoMemory>
+/// So many pixels to the left of the column of a process, and 0 at least.
+pub fn left_of(processes: &[Listed], p: Pid, by: u64) -> Result<u64, NoMemory>
     ensures { IfOk result (λ x. x ≡ plain.column (map listed processes.now) p - by) }
 {
     let x = column(processes, p)?;
     Ok(x.saturating_sub(by))
 }
 
-/// The row of this number.
-pub(crate) fn row(k: u64) -> Result<u64, NoMemory>
+/// How far down the row of this number is; the first has number 0.
+pub fn row(k: u64) -> Result<u64, NoMemory>
     ensures { IfOk result (λ y. y ≡ plain.row k) }
 {
     let below = ROW.checked_mul(k).ok_or(NoMemory)?;
     TOP.checked_add(below).ok_or(NoMemory)
 }
 
-/// Some way below a row.
-pub(crate) fn below(k: u64, by: u64) -> Result<u64, NoMemory>
+/// So many pixels below a row.
+pub fn below(k: u64, by: u64) -> Result<u64, NoMemory>
     ensures { IfOk result (λ y. y ≡ plain.row k + by) }
 {
     let y = row(k)?;
     y.checked_add(by).ok_or(NoMemory)
 }
 
-/// Some way above a row.
-pub(crate) fn above(k: u64, by: u64) -> Result<u64, NoMemory>
+/// So many pixels above a row, and 0 at least.
+pub fn above(k: u64, by: u64) -> Result<u64, NoMemory>
     ensures { IfOk result (λ y. y ≡ plain.row k - by) }
 {
     let y = row(k)?;
     Ok(y.saturating_sub(by))
 }
 
-/// From one row down to another.
-pub(crate) fn between(k: u64, n: u64) -> Result<u64, NoMemory>
+/// How many pixels it is from row k down to row n; 0, where that is not below.
+pub fn between(k: u64, n: u64) -> Result<u64, NoMemory>
     ensures { IfOk result (λ y. y ≡ plain.row n - plain.row k) }
 {
     let from = row(k)?;
@@ -92,8 +92,8 @@ pub(crate) fn between(k: u64, n: u64) -> Result<u64, NoMemory>
     Ok(to.saturating_sub(from))
 }
 
-/// Where a process stands in a row.
-pub(crate) fn place(processes: &[Listed], p: Pid, k: u64) -> Result<Point, NoMemory>
+/// Where a process stands in row k: processes stand from left to right by their numbers.
+pub fn place(processes: &[Listed], p: Pid, k: u64) -> Result<Point, NoMemory>
     ensures { IfOk result (λ at. point at ≡ plain.place (map listed processes.now) p k) }
 {
     Ok(Point {
@@ -102,8 +102,8 @@ pub(crate) fn place(processes: &[Listed], p: Pid, k: u64) -> Result<Point, NoMem
     })
 }
 
-/// How wide the picture is.
-pub(crate) fn width(processes: &[Listed]) -> Result<u64, NoMemory>
+/// How wide the picture of these processes is.
+pub fn width(processes: &[Listed]) -> Result<u64, NoMemory>
     ensures { IfOk result (λ x. x ≡ plain.width (map listed processes.now)) }
 {
     let all = gap(processes)
@@ -113,7 +113,7 @@ pub(crate) fn width(processes: &[Listed]) -> Result<u64, NoMemory>
 }
 
 /// How high a picture of so many rows is.
-pub(crate) fn height(rows: u64) -> Result<u64, NoMemory>
+pub fn height(rows: u64) -> Result<u64, NoMemory>
     ensures { IfOk result (λ y. y ≡ plain.height rows) }
 {
     below(rows, ROOM)

@@ -2,7 +2,7 @@ use Rattle.std.proofs.Common.{◌≡◌, ◌++◌, map, take}
 use Rattle.std.specs.List.{flat_map}
 use Rattle.stmt_codec.specs.Views.{signed}
 use Rattle.picture_defs.specs.Labels.{short_of}
-use Rattle.story_picture.proofs.short.push_all_short.Given as goal
+use Rattle.picture_labels.proofs.short.push_all_short.Given as goal
 
 abbrev pub invariant-loop-claim : goal.invariant-loop-claim
 invariant-loop-claim l = l.out.items ≡ l.fn.out.items

@@ -55,8 +55,8 @@ pub(crate) fn push_span(
     end_span(out)
 }
 
-// A text of this class.
-pub(crate) fn push_one_span(out: &mut Vec<u8>, class: &[u8], text: &[u8]) -> Result<(), NoMemory>
+/// A space, and words of this class within a text that was begun. They stand as they are: `<` and `&` are not escaped.
+pub fn push_one_span(out: &mut Vec<u8>, class: &[u8], text: &[u8]) -> Result<(), NoMemory>
     ensures { OnOk result (out.new.items ≡ out.old.items ++ plain.span class.now text.now) }
 {
     begin_span(out, class)?;

@@ -3,8 +3,8 @@ use Rattle.std.specs.List.{list_any}
 use Rattle.member_state.specs.Events.{note}
 use Rattle.stmt_codec.specs.declared.events.Note.{Note}
 use Rattle.picture_defs.specs.Labels.{is_delivery}
-use Rattle.story_picture.proofs.Numbered.{any-map}
-use Rattle.story_picture.proofs.labels.has_delivery.Goals as goal
+use Rattle.picture_labels.proofs.Mapped.{any-map}
+use Rattle.picture_labels.proofs.labels.has_delivery.Goals as goal
 
 pub returns : goal.returns
 returns c =
