@@ -17,12 +17,7 @@ pub struct Point {
 }
 
 /// A line of this class of the styles, from one point to another.
-pub fn push_stroke(
-    out: &mut Vec<u8>,
-    class: &[u8],
-    from: Point,
-    to: Point,
-) -> Result<(), NoMemory>
+pub fn push_stroke(out: &mut Vec<u8>, class: &[u8], from: Point, to: Point) -> Result<(), NoMemory>
     ensures { OnOk result (out.new.items ≡ out.old.items ++ plain.stroke class.now (point from) (point to)) }
 {
     push_pieces(
@@ -44,12 +39,7 @@ pub fn push_stroke(
 }
 
 /// A dot of this class around a point. The radius is in pixels.
-pub fn push_dot(
-    out: &mut Vec<u8>,
-    class: &[u8],
-    at: Point,
-    radius: u64,
-) -> Result<(), NoMemory>
+pub fn push_dot(out: &mut Vec<u8>, class: &[u8], at: Point, radius: u64) -> Result<(), NoMemory>
     ensures { OnOk result (out.new.items ≡ out.old.items ++ plain.dot class.now (point at) radius) }
 {
     push_pieces(
