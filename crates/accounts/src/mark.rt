@@ -1,5 +1,5 @@
 //! An account at a mark.
-ghost use Rattle.std.specs.Prelude.{◌≡◌, ◌-◌, ◌++◌, ◌∷◌, [], true, false, List, length, map, take, IfOk, IsSome, MatchOption};
+ghost use Rattle.std.specs.Prelude.{◌≡◌, ◌-◌, ◌++◌, ◌∷◌, [], true, false, None, List, length, map, take, IfOk, OnOk, IsSome, MatchOption};
 ghost use Rattle.group_defs.specs.Process as defs;
 ghost use Rattle.group_defs.specs.Accounts as plain;
 ghost use Rattle.accounts.specs.Views.{account, delivery};
@@ -40,6 +40,21 @@ fn cut_last(lists: &mut Vec<Vec<Delivered>>, count: usize)
     }
 }
 
+impl AccountMark {
+    /// Marks an account of which nothing is told: room for a mark.
+    pub fn new() -> AccountMark
+        ensures delivered { result.delivered ≡ 0 }
+        ensures accepted { result.accepted ≡ 0 }
+        ensures perceived { result.perceived ≡ None }
+    {
+        AccountMark {
+            delivered: 0,
+            accepted: 0,
+            perceived: None,
+        }
+    }
+}
+
 impl Account {
     // The perceived updates, where they are asked for.
     fn perceived_if(&self, asks: bool) -> Result<Option<Vec<(u16, Update)>>, NoMemory>
@@ -52,27 +67,26 @@ impl Account {
         Ok(Some(Vec::from_slice(alloc, &self.perceived)?))
     }
 
-    /// Marks what is told, so that it can be gone back to. `asks` says whether an update may be perceived until then.
-    pub fn mark(&self, asks: bool) -> Result<AccountMark, NoMemory>
+    /// Marks in `mark` what is told, so that it can be gone back to. `asks` says whether an update may be perceived until then.
+    pub fn mark(&self, asks: bool, mark: &mut AccountMark) -> Result<(), NoMemory>
         ensures tells { (before : List (List defs.Delivered)) (last : List defs.Delivered)
             → (account self.now).delivered ≡ before ++ last ∷ []
-            → IfOk result (λ m. TellsSince m (account self.now) (account self.now)) }
-        ensures asks { asks ≡ true → IfOk result (λ m. IsSome m.perceived) }
+            → OnOk result (TellsSince mark.new (account self.now) (account self.now)) }
+        ensures asks { asks ≡ true → OnOk result (IsSome mark.new.perceived) }
     {
-        Ok(AccountMark {
-            delivered: count_last(&self.delivered),
-            accepted: self.accepted.len(),
-            perceived: self.perceived_if(asks)?,
-        })
+        mark.delivered = count_last(&self.delivered);
+        mark.accepted = self.accepted.len();
+        mark.perceived = self.perceived_if(asks)?;
+        Ok(())
     }
 
     /// Goes back to what was told at the mark. It takes no memory.
-    pub fn rewind(&mut self, mark: AccountMark)
-        ensures { (was : plain.Account) → TellsSince mark was (account self.old) → account self.new ≡ was }
+    pub fn rewind(&mut self, mark: &mut AccountMark)
+        ensures { (was : plain.Account) → TellsSince mark.old was (account self.old) → account self.new ≡ was }
     {
         cut_last(&mut self.delivered, mark.delivered);
         self.accepted.truncate(mark.accepted);
-        if let Some(perceived) = mark.perceived {
+        if let Some(perceived) = mark.perceived.take() {
             self.perceived = perceived;
         }
     }

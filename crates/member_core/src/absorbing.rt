@@ -128,21 +128,20 @@ impl Keyless {
             roster: &self.roster,
             group: &self.group,
         };
-        let places = &mut self.places;
         let frames = &mut self.frames;
-        let Ok((before, outcome)) = attempt(
+        let Ok(outcome) = attempt(
             &mut self.state,
             self.alloc,
             &judge,
             &mut signer,
-            places,
+            &mut self.rooms,
             frames,
             &entry.event,
         ) else {
             return Err(AbsorbFault::NoMemory);
         };
         if !agrees(&judge, &outcome, count as usize, entry.spent) {
-            self.state.rewind(before);
+            self.state.rewind(&mut self.rooms.before);
             return Err(AbsorbFault::Differs);
         }
         self.state.go_on();

@@ -1,5 +1,5 @@
 //! An event that is taken in whole or not at all.
-ghost use Rattle.std.specs.Prelude.{◌≡◌, ◌-◌, ◌≤◌, length, true, IfOk, OnOk, OnErr, None};
+ghost use Rattle.std.specs.Prelude.{◌≡◌, ◌-◌, ◌≤◌, [], length, true, IfOk, OnOk, OnErr, None};
 ghost use Rattle.group_defs.specs.Process.{Setting, Process, all_kinds};
 ghost use Rattle.claim_hearing.specs.Hearing.{Shares};
 ghost use Rattle.ending_rules.specs.Perceiving.{fault as fault_of};
@@ -72,28 +72,49 @@ fn run<G: Signer, V: Scheme>(
     }
 }
 
-/// Takes the event, and answers with what came of it the mark of the process before it, to which it can still go back. Without
+/// What is used again from event to event: room for the places of the claims that an event sends, and the mark of the process before it.
+#[derive(Drop)]
+pub(crate) struct Rooms {
+    // what stands there means nothing between two events
+    pub(crate) places: Vec<usize>,
+    pub(crate) before: Before,
+}
+
+impl Rooms {
+    /// Rooms for this process.
+    pub(crate) fn new(alloc: Global, state: &ProcessState) -> Rooms
+        ensures { result.places.items ≡ [] }
+    {
+        Rooms {
+            places: Vec::new(alloc),
+            before: Before::new(state),
+        }
+    }
+}
+
+/// Takes the event, and answers what came of it; `rooms` keeps the mark of the process before it, to which it can still go back. Without
 /// memory it has gone back: the process is as before, and of the event nothing is left but signatures that were made.
 pub(crate) fn attempt<G: Signer, V: Scheme>(
     state: &mut ProcessState,
     alloc: Global,
     judge: &Judge<'_, V>,
     signer: &mut G,
-    places: &mut Vec<usize>,
+    rooms: &mut Rooms,
     frames: &mut Frames,
     event: &Event<'_>,
-) -> Result<(Before, Outcome), NoMemory>
+) -> Result<Outcome, NoMemory>
     requires real { IsReal state.old }
     requires here { state.old.left ≡ None }
     requires empty { IsEmpty frames.old }
     ensures taken { (s : Setting) (p : Process) → Shares s (V.valid judge.now.scheme.now) judge.now.group.now judge.now.roster.now
         → s.signs ≡ all_kinds → length p.signed ≡ G.Tally.used signer.old → IsStateOf s p state.old
-        → IfOk result (λ r. HasTaken s p (record {
+        → IfOk result (HasTaken s p (record {
           event = event_of event.now;
           allowance = G.Tally.total signer.old - G.Tally.used signer.old;
           signer = G.signature signer.old;
-        }) state.new (G.Tally.used signer.new) r.1) }
-    ensures back { (s : Setting) (p : Process) → IsStateOf s p state.old → IfOk result (λ r. Since r.0 state.old state.new) }
+        }) state.new (G.Tally.used signer.new)) }
+    ensures back { (s : Setting) (p : Process) → IsStateOf s p state.old
+        → OnOk result (Since rooms.new.before state.old state.new) }
     ensures lost { (s : Setting) (p : Process) → IsStateOf s p state.old → OnErr result (IsStateOf s p state.new) }
     ensures over { OnErr result (state.new.left ≡ None) }
     ensures real { IsReal state.new }
@@ -102,11 +123,12 @@ pub(crate) fn attempt<G: Signer, V: Scheme>(
     ensures total { G.Tally.total signer.new ≡ G.Tally.total signer.old }
     ensures secret { G.signature signer.new ≡ G.signature signer.old }
 {
-    let before = state.mark(is_asking(event))?;
+    state.mark(is_asking(event), &mut rooms.before)?;
+    let places = &mut rooms.places;
     match run(state, alloc, judge, signer, places, frames, event) {
-        Ok(outcome) => Ok((before, outcome)),
+        Ok(outcome) => Ok(outcome),
         Err(NoMemory) => {
-            state.rewind(before);
+            state.rewind(&mut rooms.before);
             frames.clear();
             Err(NoMemory)
         }

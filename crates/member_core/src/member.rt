@@ -1,6 +1,7 @@
 ghost use Rattle.std.specs.Prelude.{◌≡◌, length, is_none, true};
 ghost use Rattle.member_state.specs.States.{IsReal};
 
+use crate::attempts::Rooms;
 use member_state::ProcessState;
 use reliable_mcast::Frames;
 use rp_base::{GroupId, Roster};
@@ -15,8 +16,7 @@ pub(crate) struct Keyless {
     // on the heap: a process that is handed on is not copied
     pub(crate) state: Box<ProcessState>,
     pub(crate) frames: Frames,
-    // room for the places of the claims that an event sends
-    pub(crate) places: Vec<usize>,
+    pub(crate) rooms: Rooms,
     ghost real: { IsReal state.value },
     ghost unsent: { length frames.frames ≡ 0 },
     ghost unpacked: { length frames.claims ≡ 0 },
@@ -33,12 +33,12 @@ impl Drop for Keyless {
             roster,
             state,
             frames,
-            places,
+            rooms,
         } = self;
         mem::drop(roster);
         mem::drop(state);
         mem::drop(frames);
-        mem::drop(places);
+        mem::drop(rooms);
     }
 }
 

@@ -35,14 +35,13 @@ impl Keyless {
             roster: &self.roster,
             group: &self.group,
         };
-        let places = &mut self.places;
         let frames = &mut self.frames;
-        let Ok((_before, outcome)) = attempt(
+        let Ok(outcome) = attempt(
             &mut self.state,
             self.alloc,
             &judge,
             signer,
-            places,
+            &mut self.rooms,
             frames,
             event,
         ) else {

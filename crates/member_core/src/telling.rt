@@ -8,6 +8,7 @@ ghost use Rattle.view_phases.specs.Phases.{word};
 ghost use Rattle.member_state.specs.States.{liars_of, halted_at};
 ghost use Rattle.member_core.specs.Cores.{IsCore, Shares, signer_of};
 
+use crate::attempts::Rooms;
 use crate::member::{Core, Keyless};
 use member_state::{Account, ProcessState};
 use reliable_mcast::Frames;
@@ -37,6 +38,7 @@ impl<G: Tally + Drop> Core<G> {
     {
         let frames = Frames::new(alloc)?;
         let state = ProcessState::new(alloc, &roster, &genesis, me, batch_limit)?;
+        let rooms = Rooms::new(alloc, &state);
         let kept = Box::new(alloc, state)?;
         let keyless = Keyless {
             alloc,
@@ -44,7 +46,7 @@ impl<G: Tally + Drop> Core<G> {
             roster,
             state: kept,
             frames,
-            places: Vec::new(alloc),
+            rooms,
         };
         Ok(Core { keyless, signer })
     }

@@ -1,6 +1,7 @@
 //! A process at a mark, to which it goes back where an event comes to nothing.
-ghost use Rattle.std.specs.Prelude.{◌≡◌, IfOk, None, MatchOption, true};
+ghost use Rattle.std.specs.Prelude.{◌≡◌, OnOk, None, MatchOption, true};
 ghost use Rattle.group_defs.specs.Process.{Setting, Process};
+ghost use Rattle.view_phases.specs.Marks.{marked};
 ghost use Rattle.member_state.specs.Marks.{MayAsk, Stays, HasLeft, Since};
 ghost use Rattle.member_state.specs.States.{IsStateOf};
 
@@ -22,26 +23,39 @@ pub struct Before {
     account: AccountMark,
 }
 
+impl Before {
+    /// Marks of this process its phase and what was asked for alone: room for a mark.
+    pub fn new(state: &ProcessState) -> Before
+        ensures phase { marked result.phase ≡ state.now.phase }
+        ensures asked { result.perceived ≡ state.now.perceived }
+    {
+        Before {
+            own: OwnMark::new(state.own.me),
+            phase: state.phase.mark(),
+            perceived: state.perceived,
+            account: AccountMark::new(),
+        }
+    }
+}
+
 impl ProcessState {
-    /// Marks the process, so that it can be gone back to. `asks` says whether an update may be asked for until then.
-    pub fn mark(&mut self, asks: bool) -> Result<Before, NoMemory>
+    /// Marks the process in `before`, so that it can be gone back to. `asks` says whether an update may be asked for until then.
+    pub fn mark(&mut self, asks: bool, before: &mut Before) -> Result<(), NoMemory>
         requires { self.old.left ≡ None }
         ensures same { (s : Setting) (p : Process) → IsStateOf s p self.old → IsStateOf s p self.new }
         ensures stands { (s : Setting) (p : Process) → IsStateOf s p self.old
-            → IfOk result (λ b. Stays b self.old self.new) }
-        ensures asks { asks ≡ true → IfOk result MayAsk }
+            → OnOk result (Stays before.new self.old self.new) }
+        ensures asks { asks ≡ true → OnOk result (MayAsk before.new) }
         ensures left { self.new.left ≡ self.old.left }
     {
-        let account = self.account.mark(asks)?;
+        self.account.mark(asks, &mut before.account)?;
         self.pool.mark();
         self.said.mark();
         self.conflicts.mark();
-        Ok(Before {
-            own: self.own.mark(),
-            phase: self.phase.mark(),
-            perceived: self.perceived,
-            account,
-        })
+        self.own.mark(&mut before.own);
+        before.phase = self.phase.mark();
+        before.perceived = self.perceived;
+        Ok(())
     }
 
     // Goes back to the view that was left last.
@@ -74,29 +88,23 @@ impl ProcessState {
     }
 
     // Goes back to the mark, in the view of the mark.
-    fn rewind_here(&mut self, before: Before)
+    fn rewind_here(&mut self, before: &mut Before)
         ensures left { self.new.left ≡ self.old.left }
-        ensures back { (was : ProcessState) → Stays before was self.old → (s : Setting) (p : Process) → IsStateOf s p was
+        ensures back { (was : ProcessState) → Stays before.old was self.old → (s : Setting) (p : Process) → IsStateOf s p was
             → IsStateOf s p self.new }
     {
-        let Before {
-            own,
-            phase,
-            perceived,
-            account,
-        } = before;
         self.pool.rewind();
         self.said.rewind();
         self.conflicts.rewind();
-        self.own.rewind(&own);
-        self.phase.rewind(phase);
-        self.perceived = perceived;
-        self.account.rewind(account);
+        self.own.rewind(&before.own);
+        self.phase.rewind(&before.phase);
+        self.perceived = before.perceived;
+        self.account.rewind(&mut before.account);
     }
 
-    /// Goes back to what the process was at the mark. It takes no memory.
-    pub fn rewind(&mut self, before: Before)
-        ensures back { (was : ProcessState) → Since before was self.old → (s : Setting) (p : Process) → IsStateOf s p was
+    /// Goes back to what the process was at the mark, which serves once. It takes no memory.
+    pub fn rewind(&mut self, before: &mut Before)
+        ensures back { (was : ProcessState) → Since before.old was self.old → (s : Setting) (p : Process) → IsStateOf s p was
             → IsStateOf s p self.new }
         ensures stays { self.new.left ≡ None }
     {

@@ -82,37 +82,57 @@ pub struct OwnMark {
     earlier: u32,
 }
 
-// A copy, which takes no memory.
-fn copied(counts: &ArrayVec<u16, 16>) -> ArrayVec<u16, 16>
-    ensures { result.items ≡ counts.now.items }
+// Puts a copy of the counts into the place of others. It takes no memory.
+fn copy(counts: &ArrayVec<u16, 16>, to: &mut ArrayVec<u16, 16>)
+    ensures { to.new.items ≡ counts.now.items }
 {
-    let Ok(copy) = counts.clone() else {
+    to.clear();
+    let Ok(()) = to.try_extend_from_slice(counts) else {
         unreachable!()
     };
-    copy
+}
+
+impl OwnMark {
+    /// Marks nothing yet: room for a mark.
+    pub fn new(me: Pid) -> OwnMark
+        ensures { result.me ≡ me }
+    {
+        OwnMark {
+            me,
+            position: None,
+            keyed: PidSet::new(),
+            ended: false,
+            rank: 0,
+            ready: None,
+            ordered: 0,
+            orders: ArrayVec::new(),
+            delivered: 0,
+            counts: ArrayVec::new(),
+            earlier: 0,
+        }
+    }
 }
 
 impl Own {
-    /// Marks the own place, so that it can be gone back to.
-    pub fn mark(&mut self) -> OwnMark
-        ensures marked { IsMarkOf result self.old }
+    /// Marks the own place in `mark`, so that it can be gone back to. It stands where it is, since counts that are moved cost more than
+    /// their copy.
+    pub fn mark(&mut self, mark: &mut OwnMark)
+        ensures marked { IsMarkOf mark.new self.old }
         ensures same { IsSamePlace self.old self.new }
         ensures slots { self.new.signed.marked ≡ self.old.signed.slots }
     {
         self.signed.mark();
-        OwnMark {
-            me: self.me,
-            position: self.position,
-            keyed: self.keyed,
-            ended: self.ended,
-            rank: self.rank,
-            ready: self.ready,
-            ordered: self.ordered,
-            orders: copied(&self.orders),
-            delivered: self.delivered,
-            counts: copied(&self.counts),
-            earlier: self.earlier,
-        }
+        mark.me = self.me;
+        mark.position = self.position;
+        mark.keyed = self.keyed;
+        mark.ended = self.ended;
+        mark.rank = self.rank;
+        mark.ready = self.ready;
+        mark.ordered = self.ordered;
+        copy(&self.orders, &mut mark.orders);
+        mark.delivered = self.delivered;
+        copy(&self.counts, &mut mark.counts);
+        mark.earlier = self.earlier;
     }
 
     /// Goes back to what the own place was at the mark. It takes no memory.
@@ -127,9 +147,9 @@ impl Own {
         self.rank = mark.rank;
         self.ready = mark.ready;
         self.ordered = mark.ordered;
-        self.orders = copied(&mark.orders);
+        copy(&mark.orders, &mut self.orders);
         self.delivered = mark.delivered;
-        self.counts = copied(&mark.counts);
+        copy(&mark.counts, &mut self.counts);
         self.earlier = mark.earlier;
     }
 }

@@ -10,10 +10,11 @@ ghost use Rattle.own_place.specs.Signed.{has_slot};
 ghost use Rattle.own_place.specs.Rows.{slot_in};
 
 use crate::rows::{ROWS, Row, row_of, view_of};
-use claim_index::{SlotKey, slot_key_at, slot_key_of};
+use claim_index::{KeyHasher, SlotKey, slot_key_at, slot_key_of};
 use indexmap::IndexSet;
 use rp_base::{NoMemory, Pid};
 use std::alloc::Global;
+use std::hash::BuildHasherDefault;
 use std::marker::Model;
 use std::mem;
 use stmt_codec::{Slot, Statement};
@@ -21,10 +22,13 @@ use stmt_codec::{Slot, Statement};
 /// How many numbers, and how many places, a view has.
 const MOST_PLACES: u16 = 1_024;
 
+// The keys of slots, hashed as those of heard claims are.
+type Keys = IndexSet<SlotKey, BuildHasherDefault<KeyHasher>>;
+
 /// The slots that a process has signed in its view, each once, in order of signing. Contracts see them as that list, with those that
 /// were signed at a mark, and with how many more are noted without memory.
 pub struct SignedSlots {
-    keys: IndexSet<SlotKey>,
+    keys: Keys,
 
     // the view whose rows are followed, and for each of them a number below which all slots are signed
     view: u16,
@@ -62,7 +66,7 @@ impl Model for SignedSlots {
 }
 
 // Whether the kind and slot are among these.
-fn is_among(keys: &IndexSet<SlotKey>, key: &SlotKey) -> bool
+fn is_among(keys: &Keys, key: &SlotKey) -> bool
     ensures { result ≡ list_any (same_slot_key key.now) keys.now.keys }
 {
     keys.contains(key)
@@ -75,7 +79,7 @@ impl SignedSlots {
         ensures marked { result.marked ≡ [] }
     {
         SignedSlots {
-            keys: IndexSet::new(alloc),
+            keys: IndexSet::with_hasher(alloc, BuildHasherDefault::new()),
             view: 0,
             reached: [0; ROWS],
             marked: 0,

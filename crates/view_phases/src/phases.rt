@@ -171,8 +171,8 @@ impl Phase {
     }
 
     /// Goes back to the phase of the mark.
-    pub fn rewind(&mut self, mark: PhaseMark)
-        ensures { self.new ≡ marked mark }
+    pub fn rewind(&mut self, mark: &PhaseMark)
+        ensures { self.new ≡ marked mark.now }
     {
         *self = phase_of(mark.was);
     }

@@ -61,7 +61,7 @@ returns-then-not-agrees-clause-only g c s p left is rule made agrees =
 
 pub returns-then-not-agrees-clause-lost : goal.returns-then-not-agrees-clause-lost
 returns-then-not-agrees-clause-lost g c s p is = record {
-  state = undone-so c.in-Ok.before c.args.self.now.state.value _ c.attempt.new.state _ c.rewind.new.self c.deref_mut.ensures.value
+  state = undone-so c.attempt.new.rooms.before c.args.self.now.state.value _ c.attempt.new.state _ c.rewind.new.self c.deref_mut.ensures.value
       c.deref_mut-then-not-agrees.ensures.value c.in-Ok.ensures.back c.rewind.ensures.back s p is.state;
   group = is.group;
   roster = is.roster;
@@ -71,7 +71,7 @@ returns-then-not-agrees-clause-lost g c s p is = record {
 pub invariant_of-self-then-not-agrees-clause-real : goal.invariant_of-self-then-not-agrees-clause-real
 invariant_of-self-then-not-agrees-clause-real g c =
     real-so c.args.self.now.state.value c.rewind.new.self
-    (undone-so c.in-Ok.before c.args.self.now.state.value _ c.attempt.new.state _ c.rewind.new.self c.deref_mut.ensures.value
+    (undone-so c.attempt.new.rooms.before c.args.self.now.state.value _ c.attempt.new.state _ c.rewind.new.self c.deref_mut.ensures.value
     c.deref_mut-then-not-agrees.ensures.value c.in-Ok.ensures.back c.rewind.ensures.back) c.args.self.now.real
 
 pub invariant_of-self-then-not-agrees-clause-over : goal.invariant_of-self-then-not-agrees-clause-over

@@ -7,7 +7,7 @@ use Rattle.member_state.proofs.state.ProcessState.rewind.Goals as goal
 
 pub returns-clause-back : goal.returns-clause-back
 returns-clause-back c was since =
-    let here = subst (λ (o : Option LeftView). MatchOption o (Stays c.args.before was c.args.self.now)
-    (λ left. HasLeft c.args.before was left c.args.self.now)) (sym c.replace-left.ensures.value) since in
-    c.rewind_here.ensures.back was (c.come_back_if.ensures.stands c.args.before was
-    (rw c.replace-left.ensures.after (since_so c.args.before was c.args.self.now None c.replace-left.result here)))
+    let here = subst (λ (o : Option LeftView). MatchOption o (Stays c.args.before.now was c.args.self.now)
+    (λ left. HasLeft c.args.before.now was left c.args.self.now)) (sym c.replace-left.ensures.value) since in
+    c.rewind_here.ensures.back was (c.come_back_if.ensures.stands c.args.before.now was
+    (rw c.replace-left.ensures.after (since_so c.args.before.now was c.args.self.now None c.replace-left.result here)))
