@@ -210,7 +210,7 @@ AREAS = {
         "said_index replay_cast group_questions sound_question trace_defs told_defs told_laws happenings replay_world replay_questions"
         " report_lines replay_run",
     ),
-    "a member": (20, 413, 2, "accounts own_moves reliable_mcast member_state member_taking member_signing member_settling member_sending member_core"),
+    "a member": (20, 413, 2, "accounts own_moves sent_claims reliable_mcast member_state member_taking member_signing member_settling member_sending member_core"),
     "the rules": (20, 622, 2, "multicast_rules ending_rules rank_rules view_phases due_statements"),
     "what is heard": (
         20, 777, 2, "view_table claim_index claim_lists own_place slot_quorums placed_batches pool_values claim_pool pool_questions member_laws claim_hearing"

@@ -16,8 +16,8 @@ use Rattle.group_defs.specs.Accounts.{Account}
 use Rattle.group_defs.specs.Sending.{Bundle, was_delivered, repeated, newly_signed, with_what_goes_beside, bundle, others, answer, Proof, unless_empty}
 use Rattle.accounts.specs.Views.{delivery}
 use Rattle.pool_laws.proofs.Members.{All-mem, filter-mem}
-use Rattle.reliable_mcast.specs.Certificates.{IsRanged}
-use Rattle.reliable_mcast.proofs.Listed.{mem-all}
+use Rattle.sent_claims.specs.Certificates.{IsRanged}
+use Rattle.sent_claims.proofs.Listed.{mem-all}
 use Rattle.member_state.specs.declared.state.ProcessState.{ProcessState}
 use Rattle.member_state.specs.States.{IsStateOf, IsReal, signed_here}
 use Rattle.member_state.specs.Events.{frames_to}

@@ -5,8 +5,8 @@ use Rattle.std.specs.Option.{option_map}
 use Rattle.std.specs.List.{cons_option}
 use Rattle.std.proofs.lemmas.List.{append-nil}
 use Rattle.pool_laws.proofs.Tests.{some-same, none-some}
-use Rattle.reliable_mcast.proofs.Walks.{get-map}
-use Rattle.reliable_mcast.specs.Beside.{chosen}
+use Rattle.sent_claims.proofs.Walks.{get-map}
+use Rattle.sent_claims.specs.Beside.{chosen}
 
 pub chosen-more : {A : Type 0} (xs : List A) (ps : List ℕ) (p : ℕ) → chosen xs (ps ++ p ∷ []) ≡ chosen xs ps ++ chosen xs (p ∷ [])
 chosen-more xs [] p = refl

@@ -6,7 +6,7 @@ ghost use Rattle.group_defs.specs.Sending as sending;
 ghost use Rattle.group_defs.specs.Due.{same_message};
 ghost use Rattle.stmt_codec.specs.Views.{message, stmt};
 ghost use Rattle.accounts.specs.Views.{delivery};
-ghost use Rattle.reliable_mcast.specs.Beside.{chosen};
+ghost use Rattle.sent_claims.specs.Beside.{chosen};
 ghost use Rattle.member_sending.specs.Began.{HasDone};
 
 use member_state::{Delivered, ProcessState};

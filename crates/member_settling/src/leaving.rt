@@ -17,7 +17,7 @@ ghost use Rattle.claim_index.specs.Kept.{empty_pool};
 ghost use Rattle.own_place.specs.Owns.{Tells};
 ghost use Rattle.ending_rules.specs.Perceiving.{has_update};
 ghost use Rattle.member_laws.specs.Telling.{Begins};
-ghost use Rattle.reliable_mcast.specs.Certificates.{all_signed, IsRanged};
+ghost use Rattle.sent_claims.specs.Certificates.{all_signed, IsRanged};
 ghost use Rattle.view_phases.specs.Phases.{counts, decision_of, IsIn};
 ghost use Rattle.member_state.specs.Events.{note};
 ghost use Rattle.member_state.specs.Marks.{Stays, Since};

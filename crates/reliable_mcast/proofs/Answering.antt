@@ -10,12 +10,12 @@ use Rattle.group_defs.specs.Process.{Pool, Left, Process}
 use Rattle.group_defs.specs.Sending as sending
 use Rattle.group_defs.specs.Sending.{commits_of, pools_of, place_certificates, answer, frames_of}
 use Rattle.reliable_mcast.specs.declared.sheet.FrameKind.TheVariants as kinds
-use Rattle.reliable_mcast.specs.Lists.{extended}
+use Rattle.sent_claims.specs.Lists.{extended}
 use Rattle.reliable_mcast.specs.Packed.{Packing, frames_as, Fills}
-use Rattle.reliable_mcast.specs.Certificates.{all_signed}
+use Rattle.sent_claims.specs.Certificates.{all_signed}
 use Rattle.reliable_mcast.specs.Archives.{Archived, Keeps}
 use Rattle.reliable_mcast.specs.Answers.{places_kept, answer_kept}
-use Rattle.reliable_mcast.proofs.Extended.{extended-all}
+use Rattle.sent_claims.proofs.Extended.{extended-all}
 
 -- ---- the commit certificate of a view, by the numbers of those that were left
 

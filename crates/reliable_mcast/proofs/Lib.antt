@@ -1,11 +1,3 @@
-pub mod Appended
 pub mod Packing
-pub mod Walks
-pub mod Extended
-pub mod Certified
-pub mod Ways
 pub mod Answering
-pub mod Listed
-pub mod Numbers
-pub mod Putting
-pub mod Joining
+pub mod Kept

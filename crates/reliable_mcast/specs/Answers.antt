@@ -5,7 +5,7 @@ use Rattle.message_defs.specs.Statements.{Claim}
 use Rattle.message_defs.specs.Packing.{Signed}
 use Rattle.group_defs.specs.Process.{Pool}
 use Rattle.group_defs.specs.Sending.{place_certificates}
-use Rattle.reliable_mcast.specs.Certificates.{all_signed}
+use Rattle.sent_claims.specs.Certificates.{all_signed}
 use Rattle.reliable_mcast.specs.Archives.{Archived}
 
 -- the commit certificate of view x, where it was left

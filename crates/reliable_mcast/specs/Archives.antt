@@ -4,7 +4,7 @@ use Rattle.std.specs.List.{AllByRecursion, range_with_len}
 use Rattle.message_defs.specs.Reading.{statement_of}
 use Rattle.message_defs.specs.Packing.{Signed}
 use Rattle.group_defs.specs.Process.{Pool, Process}
-use Rattle.reliable_mcast.specs.Certificates.{all_signed, IsRanged}
+use Rattle.sent_claims.specs.Certificates.{all_signed, IsRanged}
 
 -- the pool of the view that was left last, what of that was heard at its mark, and the commit certificates of the views 0, 1, 2 and so on
 pub record Archived : Type 0 where

@@ -9,20 +9,19 @@ ghost use Rattle.group_defs.specs.Certified.{certificate, value_at};
 ghost use Rattle.rp_base.specs.Views.{value};
 ghost use Rattle.claim_index.specs.Kept.{Holding};
 ghost use Rattle.stmt_codec.specs.Views.{stmt, claim as claim_of};
-ghost use Rattle.reliable_mcast.specs.Lists.{extended};
-ghost use Rattle.reliable_mcast.specs.Certificates.{all_signed, IsRanged};
+ghost use Rattle.sent_claims.specs.Lists.{extended};
+ghost use Rattle.sent_claims.specs.Certificates.{all_signed, IsRanged};
 ghost use Rattle.reliable_mcast.specs.Archives.{AreReadable, Keeps};
 ghost use Rattle.reliable_mcast.specs.Answers.{places_kept};
 ghost use Rattle.reliable_mcast.specs.Packed.{Fills};
 ghost use Rattle.group_defs.specs.Process.{Process};
 ghost use Rattle.group_defs.specs.Sending.{Proof, answer, frames_of};
 
-use crate::certificates::put_certificate;
 use crate::frames::Frames;
-use crate::list::ClaimList;
 use crate::sheet::FrameKind;
 use claim_pool::{Commit, Pool};
 use rp_base::{NoMemory, Value};
+use sent_claims::{SentClaims, put_certificate};
 use std::alloc::Global;
 use std::marker::Model;
 use std::mem;
@@ -33,7 +32,7 @@ use stmt_codec::{Claim, Slot, read_statement};
 pub struct Archive {
     alloc: Global,
     previous: Option<Pool>,
-    commits: Vec<ClaimList>,
+    commits: Vec<SentClaims>,
 }
 
 // Written out, so that whoever drops a value makes one call (docs/CONTRIBUTING.md).
@@ -76,7 +75,7 @@ impl Model for Displaced {
     ghost use Rattle.std.specs.Option.{option_map};
     ghost use Rattle.group_defs.specs.Process.{Pool};
     ghost use Rattle.claim_index.specs.Kept.{Holding};
-    ghost use Rattle.reliable_mcast.specs.Certificates.{IsRanged};
+    ghost use Rattle.sent_claims.specs.Certificates.{IsRanged};
 
     ghost Value = { Option Pool };
 
@@ -86,7 +85,7 @@ impl Model for Displaced {
 }
 
 // The claim at this place; None exactly where the list has no more than so many.
-fn claim_at(kept: &ClaimList, place: usize) -> Option<Claim<'_>>
+fn claim_at(kept: &SentClaims, place: usize) -> Option<Claim<'_>>
     requires { AreReadable kept.now }
     ensures claim { option_map (λ c. signed_of (claim_of c)) result ≡ slice_get kept.now place }
     ensures range { IfSome result (λ c. IsStatement (stmt c.statement)) }
@@ -106,14 +105,14 @@ fn claim_at(kept: &ClaimList, place: usize) -> Option<Claim<'_>>
 }
 
 // The commit certificate of the view of this number.
-fn commit_at(commits: &[ClaimList], view: usize) -> Option<&ClaimList>
+fn commit_at(commits: &[SentClaims], view: usize) -> Option<&SentClaims>
     ensures { option_map (λ (l : _). l.now) result ≡ slice_get commits.now view }
 {
     commits.get(view)
 }
 
 // Puts the commit certificate of the view of this number, where that was left.
-fn put_commit(frames: &mut Frames, commits: &[ClaimList], view: u16) -> Result<(), NoMemory>
+fn put_commit(frames: &mut Frames, commits: &[SentClaims], view: u16) -> Result<(), NoMemory>
     ensures { OnOk result (Fills frames.old frames.new (extended false frames.old.claims (unwrap_or (slice_get commits.now view) []))) }
 {
     match commit_at(commits, view as usize) {
@@ -174,7 +173,7 @@ impl Archive {
             view,
             rank: commit.0,
         };
-        let mut kept = ClaimList::new(self.alloc);
+        let mut kept = SentClaims::new(self.alloc);
         put_certificate::<Commit>(&mut kept, pool, &slot, false)?;
         self.commits.push(kept)?;
         let left = mem::replace(pool, begun);

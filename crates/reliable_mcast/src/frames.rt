@@ -6,17 +6,16 @@ ghost use Rattle.message_defs.specs.Packing.{pack_from};
 ghost use Rattle.message_defs.specs.Spelling.{IsClaim};
 ghost use Rattle.group_defs.specs.Process.{Process, places_in};
 ghost use Rattle.group_defs.specs.Sending.{Bundle, frames_of, place_certificates, with_what_goes_beside};
-ghost use Rattle.reliable_mcast.specs.Lists.{extended, lent_claim, IsShort};
-ghost use Rattle.reliable_mcast.specs.Certificates.{all_signed, IsRanged};
-ghost use Rattle.reliable_mcast.specs.Beside.{chosen};
+ghost use Rattle.sent_claims.specs.Lists.{extended, lent_claim, IsShort};
+ghost use Rattle.sent_claims.specs.Certificates.{all_signed, IsRanged};
+ghost use Rattle.sent_claims.specs.Beside.{chosen};
 ghost use Rattle.reliable_mcast.specs.Packed.{Fills, frame_as, frames_as};
 
-use crate::beside::{put_base, put_orders, put_suggests};
-use crate::certificates::put_places;
-use crate::list::{ClaimList, Lent};
 use crate::sheet::{FrameKind, Sheet, want_frame};
+use claim_lists::ClaimList;
 use claim_pool::Pool;
 use rp_base::NoMemory;
+use sent_claims::{Lent, SentClaims, put_base, put_orders, put_places, put_suggests};
 use std::alloc::Global;
 use std::collections::VecDeque;
 use std::marker::Model;
@@ -27,7 +26,7 @@ use stmt_codec::Payload;
 /// being packed. List and sheet keep their memory from one to the next.
 pub struct Frames {
     alloc: Global,
-    list: ClaimList,
+    list: SentClaims,
     sheet: Sheet,
     done: VecDeque<Payload>,
 }
@@ -64,7 +63,7 @@ fn put_frame(done: &mut VecDeque<Payload>, frame: Payload) -> Result<(), NoMemor
 }
 
 // Puts the claims of the other list behind the others.
-fn put_all(list: &mut ClaimList, other: &ClaimList) -> Result<(), NoMemory>
+fn put_all(list: &mut SentClaims, other: &SentClaims) -> Result<(), NoMemory>
     ensures { OnOk result (list.new ≡ extended false list.old other.now) }
 {
     'claims: for place in 0..other.len() {
@@ -99,7 +98,7 @@ fn pack_claim(
 // Packs the claims of the list behind the frames that are done.
 fn pack(
     alloc: Global,
-    list: &ClaimList,
+    list: &SentClaims,
     sheet: &mut Sheet,
     done: &mut VecDeque<Payload>,
     kind: FrameKind,
@@ -124,14 +123,14 @@ impl Frames {
     {
         Ok(Frames {
             alloc,
-            list: ClaimList::new(alloc),
+            list: SentClaims::new(alloc),
             sheet: Sheet::new(alloc)?,
             done: VecDeque::new(alloc),
         })
     }
 
     /// Puts the claims of the other list behind the others.
-    pub(crate) fn put_list(&mut self, other: &ClaimList) -> Result<(), NoMemory>
+    pub(crate) fn put_list(&mut self, other: &SentClaims) -> Result<(), NoMemory>
         ensures { OnOk result (Fills self.old self.new (extended false self.old.claims other.now)) }
     {
         put_all(&mut self.list, other)
@@ -168,7 +167,7 @@ impl Frames {
     pub fn resend(
         &mut self,
         pool: &Pool,
-        said: &claim_lists::ClaimList,
+        said: &ClaimList,
         base: &[usize],
         delivered: u16,
     ) -> Result<(), NoMemory>

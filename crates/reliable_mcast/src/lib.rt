@@ -1,13 +1,9 @@
-//! What a process sends: which claims go out, how they are packed into frames, and what is kept of the views that were left
+//! What a process sends: how the claims that go out are packed into frames, and what is kept of the views that were left
 //! (docs/PROTOCOL.md, «What is sent»; docs/FORMATS.md, «Packing»).
 #![tactic(auto)]
 
 mod archive;
-mod beside;
-mod certificates;
 mod frames;
-mod list;
-mod order;
 mod sheet;
 
 pub use archive::{Archive, Displaced};

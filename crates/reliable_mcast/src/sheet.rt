@@ -2,12 +2,12 @@
 ghost use Rattle.std.specs.Prelude.{◌≡◌, ◌≤◌, ◌∷◌, [], length, IfOk, true, if◌then◌else◌};
 ghost use Rattle.message_defs.specs.Frames.{Want, frame_bytes};
 ghost use Rattle.message_defs.specs.Packing.{group_of, add, fits};
-ghost use Rattle.reliable_mcast.specs.Lists.{lent_claim, IsShort};
+ghost use Rattle.sent_claims.specs.Lists.{lent_claim, IsShort};
 ghost use Rattle.reliable_mcast.specs.Packed.{frame_as, kind_number};
 
-use crate::list::Lent;
 use frame_codec::{BUNDLE, FRAME_BYTES, FrameWriter, PROOF, write_want};
 use rp_base::NoMemory;
+use sent_claims::Lent;
 use std::alloc::Global;
 use stmt_codec::Payload;
 

@@ -3,7 +3,7 @@ use Rattle.group_defs.specs.Process as defs
 use Rattle.group_defs.specs.Due.{same_message}
 use Rattle.stmt_codec.specs.Views.{message}
 use Rattle.accounts.specs.Views.{delivery}
-use Rattle.reliable_mcast.proofs.Walks.{any-passed, any-found}
+use Rattle.sent_claims.proofs.Walks.{any-passed, any-found}
 use Rattle.member_sending.proofs.base.is_among.Goals as goal
 
 pub delivered-preserved : goal.delivered-preserved

@@ -1,7 +1,7 @@
 use Rattle.std.proofs.Common.{◌+◌, ◌++◌, drop, sym, ap, ◌∙◌, arith, List, ℕ}
 use Rattle.std.proofs.lemmas.List.{append-nil}
-use Rattle.reliable_mcast.specs.Beside.{chosen}
-use Rattle.reliable_mcast.proofs.Walks.{drop-past}
+use Rattle.sent_claims.specs.Beside.{chosen}
+use Rattle.sent_claims.proofs.Walks.{drop-past}
 use Rattle.member_sending.proofs.Places.{last-more}
 use Rattle.member_sending.proofs.base.last_places.Goals as goal
 

@@ -1,5 +1,5 @@
 use Rattle.std.proofs.Common.{◌≡◌, ◌++◌, ◌-◌, drop, length}
-use Rattle.reliable_mcast.specs.Beside.{chosen}
+use Rattle.sent_claims.specs.Beside.{chosen}
 use Rattle.member_sending.proofs.base.last_places.Given as goal
 
 abbrev pub invariant-claims : goal.invariant-claims

@@ -3,8 +3,8 @@ use Rattle.std.specs.Prelude.{filter, not}
 use Rattle.std.proofs.lemmas.List.{append-nil}
 use Rattle.message_defs.specs.Statements.{Claim}
 use Rattle.group_defs.specs.Sending.{was_delivered}
-use Rattle.reliable_mcast.specs.Beside.{chosen}
-use Rattle.reliable_mcast.proofs.Walks.{drop-past}
+use Rattle.sent_claims.specs.Beside.{chosen}
+use Rattle.sent_claims.proofs.Walks.{drop-past}
 use Rattle.member_sending.proofs.Places.{kept-more}
 use Rattle.member_sending.proofs.base.repeated.Goals as goal
 

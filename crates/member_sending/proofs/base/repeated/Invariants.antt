@@ -2,7 +2,7 @@ use Rattle.std.proofs.Common.{◌≡◌, ◌++◌, drop}
 use Rattle.std.specs.Prelude.{filter, not}
 use Rattle.group_defs.specs.Process.{Process}
 use Rattle.group_defs.specs.Sending.{was_delivered}
-use Rattle.reliable_mcast.specs.Beside.{chosen}
+use Rattle.sent_claims.specs.Beside.{chosen}
 use Rattle.member_sending.specs.Began.{HasDone}
 use Rattle.member_sending.proofs.base.repeated.Given as goal
 

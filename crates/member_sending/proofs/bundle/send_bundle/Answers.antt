@@ -6,7 +6,7 @@ use Rattle.std.proofs.lemmas.Result.{on_ok_weaker}
 use Rattle.message_defs.specs.Statements.{Claim}
 use Rattle.group_defs.specs.Process.{Pool}
 use Rattle.group_defs.specs.Sending.{Bundle, bundle, frames_of, others, unless_empty, with_what_goes_beside}
-use Rattle.reliable_mcast.specs.Beside.{chosen}
+use Rattle.sent_claims.specs.Beside.{chosen}
 use Rattle.member_state.specs.Events.{frame_to, frames_to}
 use Rattle.member_sending.specs.Sends.{each_to}
 use Rattle.member_sending.proofs.Parcels.{bundle-to, bundle-none}

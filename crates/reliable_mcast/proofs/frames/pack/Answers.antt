@@ -1,8 +1,8 @@
 use Rattle.std.proofs.Common.{◌+◌, ◌++◌, map, drop, ap, sym, ◌∙◌}
 use Rattle.message_defs.specs.Packing.{pack_from}
-use Rattle.reliable_mcast.specs.Lists.{lent_claim}
+use Rattle.sent_claims.specs.Lists.{lent_claim}
 use Rattle.reliable_mcast.specs.Packed.{frame_as}
-use Rattle.reliable_mcast.proofs.Walks.{drop-get}
+use Rattle.sent_claims.proofs.Walks.{drop-get}
 use Rattle.reliable_mcast.proofs.frames.pack.Goals as goal
 
 pub claims-preserved : goal.claims-preserved

@@ -2,7 +2,7 @@ use Rattle.std.proofs.Common.{◌≤◌, length, sym, subst, List, Bool, true, f
 use Rattle.std.specs.Prelude.{if◌then◌else◌}
 use Rattle.message_defs.specs.Frames.{Group}
 use Rattle.message_defs.specs.Packing.{Signed, add}
-use Rattle.reliable_mcast.specs.Lists.{lent_claim}
+use Rattle.sent_claims.specs.Lists.{lent_claim}
 use Rattle.reliable_mcast.proofs.Packing.{some_added}
 use Rattle.reliable_mcast.proofs.frames.pack_claim.Goals as goal
 

@@ -1,7 +1,7 @@
 use Rattle.std.proofs.Common.{false, drop, ◌+◌, ◌∷◌, [], arith}
-use Rattle.reliable_mcast.specs.Lists.{lent_claim}
-use Rattle.reliable_mcast.proofs.Walks.{drop-get, drop-past}
-use Rattle.reliable_mcast.proofs.Ways.{way-next, way-end}
+use Rattle.sent_claims.specs.Lists.{lent_claim}
+use Rattle.sent_claims.proofs.Walks.{drop-get, drop-past}
+use Rattle.sent_claims.proofs.Ways.{way-next, way-end}
 use Rattle.reliable_mcast.proofs.frames.put_all.Goals as goal
 
 pub claims-preserved : goal.claims-preserved

@@ -1,5 +1,5 @@
 use Rattle.std.proofs.Common.{◌≡◌, drop, false}
-use Rattle.reliable_mcast.specs.Lists.{extended}
+use Rattle.sent_claims.specs.Lists.{extended}
 use Rattle.reliable_mcast.proofs.frames.put_all.Given as goal
 
 abbrev pub invariant-claims : goal.invariant-claims

@@ -2,7 +2,7 @@ use Rattle.std.proofs.Common.{List, sym, ap, ◌∙◌}
 use Rattle.std.specs.Prelude.{slice_get, option_and_then}
 use Rattle.message_defs.specs.Packing.{Signed}
 use Rattle.reliable_mcast.specs.Archives.{Archived, AreReadable}
-use Rattle.reliable_mcast.proofs.Walks.{all-get}
+use Rattle.sent_claims.proofs.Walks.{all-get}
 use Rattle.reliable_mcast.proofs.archive.Archive.commit_claim.Goals as goal
 
 pub claim_at-requires : goal.claim_at-requires

@@ -9,11 +9,12 @@ use Rattle.rp_base.specs.declared.updates.Value.{Value}
 use Rattle.rp_base.specs.Views.{value}
 use Rattle.pool_laws.proofs.Tests.{some-same}
 use Rattle.claim_index.specs.Kept.{Holding}
-use Rattle.reliable_mcast.specs.Lists.{extended}
-use Rattle.reliable_mcast.specs.Certificates.{all_signed, IsRanged}
+use Rattle.sent_claims.specs.Lists.{extended}
+use Rattle.sent_claims.specs.Certificates.{all_signed, IsRanged}
 use Rattle.reliable_mcast.specs.Archives.{Archived}
-use Rattle.reliable_mcast.proofs.Certified.{commit-is, kept-more}
-use Rattle.reliable_mcast.proofs.Extended.{extended-all}
+use Rattle.sent_claims.proofs.Certified.{commit-is}
+use Rattle.sent_claims.proofs.Extended.{extended-all}
+use Rattle.reliable_mcast.proofs.Kept.{kept-more}
 use Rattle.reliable_mcast.proofs.archive.Archive.keep_view.Goals as goal
 
 abbrev said : (h : Pool) (r : ℕ) (v : Value) → Statement

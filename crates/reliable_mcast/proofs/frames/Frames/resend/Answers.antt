@@ -2,12 +2,12 @@ use Rattle.std.proofs.Common.{◌++◌, ap, ◌∙◌}
 use Rattle.std.proofs.lemmas.Result.{on_ok_weaker}
 use Rattle.group_defs.specs.Sending.{with_what_goes_beside}
 use Rattle.reliable_mcast.specs.declared.sheet.FrameKind.TheVariants as kinds
-use Rattle.reliable_mcast.specs.Beside.{chosen}
+use Rattle.sent_claims.specs.Beside.{chosen}
 use Rattle.reliable_mcast.specs.Packed.{Packing, frames_as}
 use Rattle.reliable_mcast.proofs.Answering.{bundles-are}
 use Rattle.message_defs.specs.Spelling.{IsClaim}
-use Rattle.reliable_mcast.proofs.Listed.{all-chosen}
-use Rattle.reliable_mcast.proofs.Joining.{bundle-is}
+use Rattle.sent_claims.proofs.Listed.{all-chosen}
+use Rattle.sent_claims.proofs.Joining.{bundle-is}
 use Rattle.reliable_mcast.proofs.frames.Frames.resend.Goals as goal
 
 pub returns-clause-bundle : goal.returns-clause-bundle

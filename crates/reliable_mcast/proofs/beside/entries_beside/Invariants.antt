@@ -1,8 +1,0 @@
-use Rattle.reliable_mcast.specs.Entries.{StandFrom}
-use Rattle.reliable_mcast.proofs.beside.entries_beside.Given as goal
-
-abbrev pub invariant-places : goal.invariant-places
-invariant-places l = StandFrom l.cut l.pool.pool.heard l.left l.entries.items
-
-abbrev pub decreases-places : goal.decreases-places
-decreases-places l = l.left

@@ -1,9 +1,0 @@
-use Rattle.std.proofs.Common.{◌≡◌, drop, false}
-use Rattle.reliable_mcast.specs.Lists.{extended}
-use Rattle.reliable_mcast.specs.Certificates.{all_signed}
-use Rattle.reliable_mcast.specs.Beside.{chosen}
-use Rattle.reliable_mcast.proofs.beside.put_base.Given as goal
-
-abbrev pub invariant-places : goal.invariant-places
-invariant-places l = extended false l.list (all_signed (chosen l.said.claims (drop l.place-index l.base)))
-    ≡ extended false l.fn.list (all_signed (chosen l.said.claims l.base))

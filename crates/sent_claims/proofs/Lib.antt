@@ -1,0 +1,9 @@
+pub mod Appended
+pub mod Walks
+pub mod Extended
+pub mod Certified
+pub mod Ways
+pub mod Listed
+pub mod Numbers
+pub mod Putting
+pub mod Joining

@@ -1,0 +1,4 @@
+pub mod Lists
+pub mod Certificates
+pub mod Beside
+pub mod Entries
