@@ -61,7 +61,7 @@ impl Hash for Spelled {
     }
 }
 
-/// The bytes of a statement that is looked up. Contracts see their list.
+/// The bytes of a statement that is looked up.
 #[derive(Clone, Copy)]
 pub struct Sought<'a> {
     pub bytes: &'a [u8],
