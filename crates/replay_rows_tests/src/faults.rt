@@ -34,7 +34,7 @@ const CHANGED: [(&[u8], usize, u8, FaultKind); 18] = [
 ];
 
 /// Events behind the header of `ONE_MEMBER`, with the fault of the whole and its place.
-const ALONE: [(&[u8], FaultKind, usize); 13] = [
+const ALONE: [(&[u8], FaultKind, usize); 15] = [
     (b"\x00", FaultKind::Tag, 62),
     (b"\x0a", FaultKind::Tag, 62),
     (b"\x09\x00\x0a", FaultKind::Tag, 64),
@@ -52,6 +52,22 @@ const ALONE: [(&[u8], FaultKind, usize); 13] = [
     (b"\x01\x00\xff\xff", FaultKind::Short, 66),
     (b"\x04\x00\x0f\x42\x41", FaultKind::TooMany, 62),
     (b"\x09\x00\x04\x00\x0f\x42\x40", FaultKind::TooMany, 64),
+    (
+        b"\x04\x00\x0f\x42\x40\x00\x00\x00\x00\x00\x00\x00\x00\x09\x00",
+        FaultKind::TooMany,
+        75,
+    ),
+    (
+        b"\x04\x00\x0f\x42\x40\x00\x00\x00\x00\x00\x00\x00\x00\x0a",
+        FaultKind::Tag,
+        75,
+    ),
+];
+
+/// Events behind the header of `THREE_SENDERS_ONE_LIAR` at its corrupt process, and the place of its number: a Submit and a Pass.
+const AT_THE_LIAR: [(&[u8], usize); 2] = [
+    (b"\x01\x03\x00\x00", 180),
+    (b"\x03\x00\x00\x00\x00\x03", 184),
 ];
 
 /// A Lie of process 3 to 0, 1 and 2, up to the length of its statement.
@@ -119,6 +135,18 @@ fn a_field_of_an_event_with_a_wrong_value(rt: HostRuntime) -> Result<(), Fail> {
     for (events, kind, place) in ALONE {
         let bytes = behind(rt.alloc(), ONE_MEMBER, 62, events)?;
         assert_eq!(rt; fault(rt.alloc(), &bytes)?, of_bytes(kind, place));
+    }
+    Ok(())
+}
+
+#[test]
+fn an_event_at_a_corrupt_process(rt: HostRuntime) -> Result<(), Fail> {
+    for (events, place) in AT_THE_LIAR {
+        let bytes = behind(rt.alloc(), THREE_SENDERS_ONE_LIAR, 179, events)?;
+        assert_eq!(rt;
+            fault(rt.alloc(), &bytes)?,
+            of_bytes(FaultKind::Field, place)
+        );
     }
     Ok(())
 }
