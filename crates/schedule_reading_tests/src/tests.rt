@@ -27,6 +27,18 @@ fn levels(alloc: Global) -> Result<Vec<u8>, AllocError> {
     Ok(bytes)
 }
 
+// A schedule of 67,108,864 bytes, the most that one has: 1,024 Submits of 65,535 bytes behind that header, and one of 962.
+fn longest(alloc: Global) -> Result<Vec<u8>, AllocError> {
+    let mut bytes = alone(alloc)?;
+    for _ in 0..1024 {
+        bytes.extend_from_slice(&[1, 0, 0xff, 0xfb])?;
+        bytes.extend_from_slice(&[0; 65_531])?;
+    }
+    bytes.extend_from_slice(&[1, 0, 0x03, 0xbe])?;
+    bytes.extend_from_slice(&[0; 958])?;
+    Ok(bytes)
+}
+
 #[test]
 fn one_submit_is_read(rt: HostRuntime) -> Result<(), Fail> {
     let mut bytes = alone(rt.alloc())?;
@@ -100,5 +112,20 @@ fn the_first_fault_is_told_with_its_place(rt: HostRuntime) -> Result<(), Fail> {
     let mut bytes = levels(rt.alloc())?;
     bytes.extend_from_slice(&[5, 0])?;
     assert!(rt; fault(&bytes) == Some(ScheduleFault::Field { place: 133 }));
+    Ok(())
+}
+
+#[test]
+fn past_the_limit_the_first_fault_is_told(rt: HostRuntime) -> Result<(), Fail> {
+    let fault = |bytes: &[u8]| read_schedule(rt.alloc(), bytes).err();
+    let mut bytes = longest(rt.alloc())?;
+    assert_eq!(rt; bytes.len(), 67_108_864);
+    assert!(rt; fault(&bytes).is_none());
+    bytes.push(0)?;
+    assert!(rt; fault(&bytes) == Some(ScheduleFault::TooLong { place: 67_108_864 }));
+    if let Some(byte) = bytes.get_mut(2) {
+        *byte = b'X';
+    }
+    assert!(rt; fault(&bytes) == Some(ScheduleFault::Magic { place: 0 }));
     Ok(())
 }
