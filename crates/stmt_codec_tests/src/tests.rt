@@ -12,6 +12,16 @@ fn pid(rt: &impl Abort, n: u8) -> Pid {
     Pid::new(n).expect(rt, "a process number")
 }
 
+// The kind of the statement that these bytes spell: 3 to 5 are spelled as 12 to 14 where a place has several messages.
+fn kind_in(bytes: &[u8]) -> Option<u8> {
+    let first = *bytes.first()?;
+    if first > 11 {
+        Some(first.wrapping_sub(9))
+    } else {
+        Some(first)
+    }
+}
+
 // The bytes are read as the statement, and the statement is spelled so.
 fn is_spelled(rt: &impl Abort, bytes: &[u8], statement: &Statement<'_>) {
     let Ok(read) = read_statement(bytes) else {
@@ -19,6 +29,7 @@ fn is_spelled(rt: &impl Abort, bytes: &[u8], statement: &Statement<'_>) {
         return;
     };
     assert!(rt; &read == statement, "read otherwise");
+    assert!(rt; kind_in(bytes) == Some(read.kind()), "of another kind");
     let mut out = [0; 1032];
     let len = spell_into(&read, &mut out);
     assert!(rt; &out[..len] == bytes, "spelled otherwise");
@@ -192,7 +203,6 @@ fn several_messages_of_a_place(rt: HostRuntime) {
         bytes[8 + 3 * number as usize] = number;
     }
     is_spelled(rt, &bytes, &most);
-    assert!(rt; most.kind() == 5);
 }
 
 #[test]
