@@ -17,6 +17,8 @@ def spelled(byte):
     """The byte within a literal."""
     if byte in b'"\\':
         return "\\" + chr(byte)
+    if byte == 0:
+        return "\\0"
     return chr(byte) if 32 <= byte < 127 else "\\x%02x" % byte
 
 
