@@ -2,7 +2,6 @@
 use Rattle.std.proofs.Common.{◌≡◌, ℕ, suc, ◌+◌, ◌<◌, ◌≤◌, ◌==◌, Bool, true, false, not, List, [], ◌∷◌, ◌++◌, length, take, drop, Option, None, Some, refl, ap, ◌∙◌, arith, length-append, length-take, ⊎_elim}
 use Rattle.std.specs.Prelude.{nat_lt, if◌then◌else◌}
 use Rattle.std.proofs.lemmas.Bool.{cases_lt, eqb-true, ltb-true, ltb-false}
-use Rattle.std.proofs.lemmas.List.{take-take}
 use Rattle.std.specs.List.{list_any, position, position_or_len}
 use Rattle.interop_lines.specs.Serving.{HasNoLine, IsLine, ended}
 
@@ -79,19 +78,15 @@ found_at bytes at found =
 found_nowhere : (bytes : List ℕ) → (let none : Option ℕ = None in none) ≡ position feed bytes → length bytes ≤ first_feed bytes
 found_nowhere bytes none = rw (← same_place bytes) (no_place (position_or_len feed bytes) (length bytes) _ refl none)
 
--- a line of at most so many bytes is taken
-pub taken : (bytes line after : List ℕ) (at : ℕ) → Some at ≡ position feed bytes → at ≤ 1000000 → line ≡ take at (take (at + 1) bytes)
-    → after ≡ drop (at + 1) bytes
-    → IsLine line × (bytes ≡ ended line ++ after)
-taken bytes line after at found short is rest =
+-- a line of at most so many bytes stands before the first line feed
+pub taken : (bytes : List ℕ) (at : ℕ) → Some at ≡ position feed bytes → at ≤ 1000000
+    → IsLine (take at bytes) × (bytes ≡ ended (take at bytes) ++ drop (at + 1) bytes)
+taken bytes at found short =
     let place = found_at bytes at found in
     let cut = cut_there bytes place.0 in
-    let front : line ≡ take (first_feed bytes) bytes = is ∙ ap (λ n. take n (take (at + 1) bytes)) place.1 ∙ take-take (first_feed bytes)
-    (at + 1) bytes (omega (arith, place.1)) in
     let next : at + 1 ≡ suc (first_feed bytes) = omega (arith, place.1) in
-    let tail : after ≡ drop (suc (first_feed bytes)) bytes = rest ∙ ap (λ n. drop n bytes) next in
-    let long : length line ≤ 1000000 = rw front (omega (arith, length-take (first_feed bytes) bytes, place.1)) in
-    (record { no_feed = rw front cut.no_feed; short = long }, rw (front, tail) cut.parts)
+    let long : length (take (first_feed bytes) bytes) ≤ 1000000 = omega (arith, length-take (first_feed bytes) bytes, place.1) in
+    rw (next, place.1) (record { no_feed = cut.no_feed; short = long }, cut.parts)
 
 -- where the first line feed stands too far behind, there is no line
 pub too_long : (bytes : List ℕ) (at : ℕ) → Some at ≡ position feed bytes → 1000000 < at → HasNoLine bytes

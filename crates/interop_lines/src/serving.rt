@@ -7,7 +7,7 @@ ghost use Rattle.interop_lines.specs.Stops.{line_of, status_of};
 ghost use Rattle.interop_lines.specs.Serving.{AllServed, HasNoQuestion, HasServed, Refused, ServedAndSays, ServedInPart, SomeServed, ended};
 
 use crate::answers::answer;
-use crate::line_reader::{read_on, take_line};
+use crate::line_reader::{Ahead, read_on};
 use crate::stops::Stop;
 use interop_words::LineFault;
 use rp_base::{Sink, Source, write_all};
@@ -54,16 +54,17 @@ fn answer_all<S: Source, K: Sink>(alloc: Global, input: &mut S, output: &mut K) 
         × HasNoQuestion ahead (S.left input.new) }
     ensures whole { (number : ℕ) → IsErrOf result (Stop.Line number) → S.faults input.new ≡ S.faults input.old }
 {
-    let mut ahead = Vec::new(alloc);
+    let mut ahead = Ahead::new(alloc);
     for number in 1..u64::MAX {
-        read_on(input, &mut ahead)?;
-        if ahead.is_empty() {
+        read_on(alloc, input, &mut ahead)?;
+        if ahead.bytes().is_empty() {
             return Ok(());
         }
-        let Some(line) = take_line(&mut ahead)? else {
+        let Some(end) = ahead.line() else {
             return Err(Stop::Line(number));
         };
-        answer_line(alloc, &line, number, output)?;
+        answer_line(alloc, &ahead.bytes()[..end], number, output)?;
+        ahead.skip(end + 1);
     }
     Err(Stop::NoMemory)
 }
