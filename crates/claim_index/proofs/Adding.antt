@@ -11,7 +11,7 @@ use Rattle.message_defs.specs.Statements.{Statement, Claim, kind_number, slot_of
 use Rattle.message_defs.specs.Reading.{statement_of}
 use Rattle.group_defs.specs.Views.{View}
 use Rattle.group_defs.specs.Certified.{claim_on}
-use Rattle.statements.proofs.Grammar.{spelling_again}
+use Rattle.stmt_codec.proofs.Grammar.{spelling_again}
 use Rattle.indexmap.specs.IndexMap.{IndexMap, insert_entry}
 use Rattle.indexmap.proofs.CallerLemmas.{insert_entry-new}
 use Rattle.claim_index.specs.declared.key.Key.{Key}

@@ -12,7 +12,7 @@ use Rattle.std.specs.Str.{bytes_eq}
 use Rattle.std.proofs.lemmas.Bool.Decides.{same_from_decides}
 use Rattle.byte_defs.specs.Choices.{is_some_and}
 use Rattle.group_defs.specs.Process.{Pool}
-use Rattle.statements.proofs.Grammar.{spelling_again}
+use Rattle.stmt_codec.proofs.Grammar.{spelling_again}
 use Rattle.pool_laws.proofs.Slots.{same_statement-is, is-same_statement}
 use Rattle.claim_index.specs.declared.key.SlotKey.{SlotKey}
 use Rattle.claim_index.specs.declared.key.Key.{Key}

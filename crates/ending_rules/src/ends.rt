@@ -8,8 +8,7 @@ ghost use Rattle.rule_laws.specs.Heard.{IsPool};
 ghost use Rattle.own_place.specs.Owns.{HasDelivered};
 ghost use Rattle.ending_rules.specs.Due.{IsLeastDue};
 
-use claim_pool::{Own, Pool};
-use pool_questions::has_notified;
+use pool_questions::{Own, Pool, has_notified};
 
 // Whether the process is a member that has not signed its End, and an update is notified.
 fn may_end(pool: &Pool, own: &Own) -> bool

@@ -17,7 +17,7 @@ ghost use Rattle.rule_laws.specs.Perceived.{most_updates};
 ghost use Rattle.ending_rules.specs.Perceiving.{asking, asking_fault, fault as fault_of, has_update, is_notify_open, TellsPerceived};
 
 use crate::updates::{MOST_UPDATES, update_at};
-use claim_pool::{Own, Pool};
+use pool_questions::{Own, Pool};
 use rp_base::{PidSet, Update};
 use stmt_codec::{EventFault, Slot};
 use view_table::{View, has_key, is_possible, next};

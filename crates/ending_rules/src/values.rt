@@ -14,8 +14,7 @@ ghost use Rattle.rule_laws.specs.Perceived.{update_at as plain_at, most_updates}
 ghost use Rattle.ending_rules.specs.Due.{HasKeys, is_below};
 
 use crate::updates::{MOST_UPDATES, update_at};
-use claim_pool::{Own, Pool};
-use pool_questions::{certified_batch, end_of};
+use pool_questions::{Own, Pool, certified_batch, end_of};
 use rp_base::{Pid, Update, Value};
 use view_table::{is_possible, quorum};
 

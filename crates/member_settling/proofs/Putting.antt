@@ -7,7 +7,7 @@ use Rattle.group_defs.specs.Process.{Pool}
 use Rattle.group_defs.specs.Certified.{payload_at}
 use Rattle.group_defs.specs.Events.{Delivers}
 use Rattle.group_defs.specs.Settle.{delivery}
-use Rattle.statements.specs.Batches.{message_of}
+use Rattle.stmt_codec.specs.Batches.{message_of}
 use Rattle.pool_laws.proofs.Tests.{map-some, some-same, then-some}
 use Rattle.stmt_codec.specs.declared.events.Delivered.{Delivered}
 use Rattle.stmt_codec.specs.declared.events.Note.{Note}

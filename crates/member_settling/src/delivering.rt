@@ -5,7 +5,7 @@ ghost use Rattle.group_defs.specs.Process.{Setting, Process, places_in};
 ghost use Rattle.group_defs.specs.Certified.{payload_at};
 ghost use Rattle.group_defs.specs.Settle as settle;
 ghost use Rattle.accounts.specs.Views.{delivery};
-ghost use Rattle.statements.specs.Batches.{message_of};
+ghost use Rattle.stmt_codec.specs.Batches.{message_of};
 ghost use Rattle.view_phases.specs.Phases.{IsIn};
 ghost use Rattle.member_state.specs.Marks.{Stays};
 ghost use Rattle.member_state.specs.States.{IsStateOf, IsReal};

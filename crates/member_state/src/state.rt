@@ -9,7 +9,6 @@ ghost use Rattle.member_state.specs.States.{ArePairs, IsStateOf, StartsWith, sig
 use crate::left::LeftView;
 use accounts::Account;
 use claim_lists::{ClaimList, Conflicts};
-use claim_pool::{Own, Pool};
 use ending_rules::Perceived;
 use own_moves::no_counts;
 use own_place::SignedSlots;
@@ -17,7 +16,7 @@ use reliable_mcast::Archive;
 use rp_base::{NoMemory, Pid, PidSet, Roster};
 use std::alloc::Global;
 use std::mem;
-use view_phases::Phase;
+use view_phases::{Own, Phase, Pool};
 use view_table::View;
 
 /// What a process keeps.

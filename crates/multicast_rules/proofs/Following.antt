@@ -20,7 +20,7 @@ use Rattle.rule_laws.specs.Placing.{FollowsSoFar}
 use Rattle.rule_laws.proofs.Certified.{backer}
 use Rattle.rule_laws.proofs.Ordering.{follows_on}
 use Rattle.rule_laws.proofs.Ranks.{rank-at}
-use Rattle.statements.specs.Batches.{message_of}
+use Rattle.stmt_codec.specs.Batches.{message_of}
 use Rattle.multicast_rules.specs.Placing.{IsFollower}
 use Rattle.multicast_rules.proofs.Ordering.{few-numbers}
 

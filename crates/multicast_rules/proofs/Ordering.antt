@@ -18,7 +18,7 @@ use Rattle.rule_laws.specs.Heard.{IsPool}
 use Rattle.rule_laws.specs.Placing.{may_order, counts_in, is_next, message_by, IsBatchSoFar}
 use Rattle.rule_laws.proofs.Certified.{certified-ranges}
 use Rattle.rule_laws.proofs.Ordering.{order_is_least, batch_begins, batch_goes_on, batch_is_full}
-use Rattle.statements.specs.Batches.{message_of}
+use Rattle.stmt_codec.specs.Batches.{message_of}
 use Rattle.multicast_rules.specs.Ordering.{is_in_turn, TakesNext}
 
 -- ---- the manager

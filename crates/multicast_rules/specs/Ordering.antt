@@ -8,7 +8,7 @@ use Rattle.group_defs.specs.Due.{window}
 use Rattle.own_place.specs.declared.own.Own.{Own}
 use Rattle.pool_laws.specs.Least.{IsLeastBelow}
 use Rattle.rule_laws.specs.Placing.{message_by, is_next}
-use Rattle.statements.specs.Batches.{message_of}
+use Rattle.stmt_codec.specs.Batches.{message_of}
 
 -- the process is the manager, has not signed its End, and its next place is in the window and within the numbers
 abbrev pub is_in_turn : Own → Bool

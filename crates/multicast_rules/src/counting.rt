@@ -3,7 +3,7 @@ ghost use Rattle.group_defs.specs.Certified.{messages as messages_in, placed};
 ghost use Rattle.rule_laws.specs.Placing.{counts_in};
 
 use arrayvec::ArrayVec;
-use claim_pool::Pool;
+use pool_questions::Pool;
 
 /// For each member, in rank order, how many of its messages are named.
 pub(crate) type Counts = ArrayVec<u16, 16>;

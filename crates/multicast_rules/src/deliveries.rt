@@ -6,13 +6,12 @@ ghost use Rattle.group_defs.specs.Process.{Process, delivered_from, places_in};
 ghost use Rattle.group_defs.specs.Certified.{number_of_members, payload_at};
 ghost use Rattle.group_defs.specs.Due.{are_certified};
 ghost use Rattle.group_defs.specs.Settle as settle;
-ghost use Rattle.statements.specs.Batches.{message};
+ghost use Rattle.stmt_codec.specs.Batches.{message};
 ghost use Rattle.multicast_rules.specs.Delivering.{batch_in};
 ghost use Rattle.own_place.specs.Owns.{HasDelivered};
 
 use crate::echoes::message_held;
-use claim_pool::{Own, Pool};
-use pool_questions::certified_batch;
+use pool_questions::{Own, Pool, certified_batch};
 use rp_base::Pid;
 use stmt_codec::Batch;
 

@@ -10,7 +10,7 @@ ghost use Rattle.rule_laws.specs.Heard.{IsPool};
 ghost use Rattle.rule_laws.specs.Messages.{echo_to};
 
 use crate::waiting::first_waiting;
-use claim_pool::{Message, Own, Pool};
+use pool_questions::{Message, Own, Pool};
 use rp_base::Pid;
 use stmt_codec::Slot;
 

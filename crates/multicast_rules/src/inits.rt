@@ -7,7 +7,7 @@ ghost use Rattle.own_place.specs.Owns.{Tells};
 ghost use Rattle.rule_laws.specs.Messages.{own_init};
 
 use crate::deliveries::counts_of;
-use claim_pool::{Own, Pool};
+use pool_questions::{Own, Pool};
 
 /// How far beyond what was delivered numbers and places may go.
 pub(crate) const WINDOW: u32 = 32;

@@ -5,7 +5,7 @@ ghost use Rattle.group_defs.specs.Process.{Setting, Process, Keeps};
 ghost use Rattle.group_defs.specs.Due.{least_due};
 ghost use Rattle.own_place.specs.Owns.{Tells};
 
-use claim_pool::{Own, Pool};
+use pool_questions::{Own, Pool};
 use stmt_codec::Batch;
 
 /// The place whose Keep is due, with its batch; None exactly where none is.

@@ -17,3 +17,4 @@ pub use inits::init_due;
 pub use keeps::keep_due;
 pub use orders::order_due;
 pub use places::place_due;
+pub use pool_questions::{Certificate, Commit, Own, Pool};

@@ -13,10 +13,9 @@ ghost use Rattle.multicast_rules.specs.Ordering.{is_in_turn, TakesNext};
 use crate::counting::{copied, count_one};
 use crate::echoes::message_held;
 use crate::inits::WINDOW;
-use claim_pool::{Own, Pool};
+use pool_questions::{Own, Pool};
 use rp_base::Pid;
-use statements::LAST_NUMBER;
-use stmt_codec::{Batch, Slot};
+use stmt_codec::{Batch, LAST_NUMBER, Slot};
 
 // Whether the process is the manager, has not signed its End, and its next place is in the window and within the numbers.
 fn is_in_turn(own: &Own) -> bool

@@ -10,16 +10,15 @@ ghost use Rattle.pool_laws.specs.Least.{IsLeastBelow};
 ghost use Rattle.rule_laws.specs.Heard.{IsPool};
 ghost use Rattle.rule_laws.specs.Placing as rules;
 ghost use Rattle.rule_laws.specs.Placing.{counts_in};
-ghost use Rattle.statements.specs.Batches.{message_of};
+ghost use Rattle.stmt_codec.specs.Batches.{message_of};
 ghost use Rattle.multicast_rules.specs.Waiting.{ordered_at, is_order_open};
 ghost use Rattle.multicast_rules.specs.Placing.{IsFollower};
 
 use crate::counting::{count_one, names_before};
 use crate::echoes::message_held;
 use crate::waiting::first_waiting_order;
-use claim_pool::{Own, Pool};
 use own_place::SignedSlots;
-use pool_questions::ordered_batch;
+use pool_questions::{Own, Pool, ordered_batch};
 use rp_base::Pid;
 use stmt_codec::Batch;
 

@@ -3,12 +3,10 @@ ghost use Rattle.message_defs.specs.Limits.{most_places};
 ghost use Rattle.pool_laws.specs.Least.{IsLeastFrom, IsLeastBelow};
 ghost use Rattle.multicast_rules.specs.Waiting.{is_init_waiting, IsFirstWaiting, is_order_waiting};
 
-use claim_pool::Pool;
 use own_place::SignedSlots;
-use pool_questions::ordered_batch;
+use pool_questions::{Pool, ordered_batch};
 use rp_base::Pid;
-use statements::LAST_NUMBER;
-use stmt_codec::Slot;
+use stmt_codec::{LAST_NUMBER, Slot};
 
 // Whether the sender's Init of this number is heard, and the own Echo of its message is not signed.
 fn is_init_waiting(pool: &Pool, signed: &SignedSlots, sender: Pid, number: u16) -> bool

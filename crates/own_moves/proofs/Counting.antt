@@ -7,7 +7,7 @@ use Rattle.std.proofs.lemmas.List.Sums.{sum_by-append}
 use Rattle.message_defs.specs.Statements.{Message, Batch}
 use Rattle.group_defs.specs.Views.{View, IsView, is_member, rank_of}
 use Rattle.group_defs.specs.Certified.{named}
-use Rattle.statements.specs.Batches.{message_of}
+use Rattle.stmt_codec.specs.Batches.{message_of}
 use Rattle.rule_laws.specs.Placing.{counts_in}
 use Rattle.rule_laws.proofs.Ordering.{counts_one_more}
 use Rattle.rule_laws.proofs.Ranks.{rank-at}

@@ -15,7 +15,7 @@ use Rattle.rule_laws.proofs.Ranks.{rank-at}
 use Rattle.pool_laws.proofs.Members.{Mem, mem-list_any}
 use Rattle.pool_laws.proofs.Places.{slice_get-index, slice_get-snoc, slice_get-length, take-get}
 use Rattle.pool_laws.proofs.Ranks.{rank-of-member}
-use Rattle.statements.specs.Batches.{message_of}
+use Rattle.stmt_codec.specs.Batches.{message_of}
 use Rattle.placed_batches.specs.Rows.{IsRow, AreRows, IsPrefix}
 
 -- ---- one message more

@@ -9,8 +9,7 @@ use Rattle.group_defs.specs.Process.{Pool}
 use Rattle.group_defs.specs.Certified.{is_notified, notified_updates, update_said, removed_rank, number_of_members}
 use Rattle.pool_laws.proofs.Members.{Mem, mem-some, none-in, filter-mem}
 use Rattle.rule_laws.proofs.Notifying.{notified-heard}
-use Rattle.pool_values.specs.declared.updates.UpdateSet.{UpdateSet}
-use Rattle.pool_values.specs.Updates.{has_update, AreNotified}
+use Rattle.claim_pool.specs.Updates.{UpdateSet, has_update, AreNotified}
 
 pub some-notified : (h : Pool) (s : UpdateSet) (u : Update) → AreNotified h s → has_update s u ≡ true
     → true ≡ nat_lt 0 (length (notified_updates h))

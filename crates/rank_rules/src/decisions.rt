@@ -7,11 +7,10 @@ ghost use Rattle.group_defs.specs.Certified as certified;
 ghost use Rattle.group_defs.specs.Settle as defs;
 ghost use Rattle.pool_laws.specs.Least.{IsLeastBelow};
 ghost use Rattle.stmt_codec.specs.Views.{report};
-ghost use Rattle.claim_pool.specs.Certificates.{content_of};
+ghost use Rattle.pool_questions.specs.Certificates.{content_of};
 ghost use Rattle.ending_rules.specs.Due.{HasKeys};
 
-use claim_pool::{Certificate, Commit, Own, Pool};
-use pool_questions::certified_ready;
+use pool_questions::{Certificate, Commit, Own, Pool, certified_ready};
 use rp_base::Value;
 use stmt_codec::Slot;
 use view_table::is_possible;

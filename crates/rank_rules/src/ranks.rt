@@ -4,7 +4,7 @@ ghost use Rattle.std.specs.List.{list_all};
 ghost use Rattle.message_defs.specs.Updates.{Remove};
 ghost use Rattle.group_defs.specs.Certified as defs;
 
-use claim_pool::Pool;
+use pool_questions::Pool;
 use rp_base::{Pid, Update};
 
 // Whether more than f members notify that the process is removed.

@@ -13,9 +13,8 @@ ghost use Rattle.ending_rules.specs.Due.{IsLeastDue};
 ghost use Rattle.rank_rules.specs.Open.{is_suggest_open};
 
 use crate::ways::{is_first_way, last_deciding};
-use claim_pool::{Own, Pool};
 use ending_rules::free_value;
-use pool_questions::{certified_ack, has_notified};
+use pool_questions::{Own, Pool, certified_ack, has_notified};
 use rp_base::Value;
 use stmt_codec::Slot;
 

@@ -7,7 +7,7 @@ use Rattle.message_defs.specs.Spelling.{IsClaim}
 use Rattle.message_defs.specs.Packing.{Signed}
 use Rattle.group_defs.specs.Process.{Pool}
 use Rattle.group_defs.specs.Certified.{certificate}
-use Rattle.statements.proofs.Grammar.{spelling_again}
+use Rattle.stmt_codec.proofs.Grammar.{spelling_again}
 use Rattle.sent_claims.specs.Certificates.{IsRanged, all_signed}
 use Rattle.sent_claims.proofs.Certified.{certificate-ranged}
 use Rattle.reliable_mcast.specs.Archives.{AreReadable}

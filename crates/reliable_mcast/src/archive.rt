@@ -19,9 +19,8 @@ ghost use Rattle.group_defs.specs.Sending.{Proof, answer, frames_of};
 
 use crate::frames::Frames;
 use crate::sheet::FrameKind;
-use claim_pool::{Commit, Pool};
 use rp_base::{NoMemory, Value};
-use sent_claims::{SentClaims, put_certificate};
+use sent_claims::{Commit, Pool, SentClaims, put_certificate};
 use std::alloc::Global;
 use std::marker::Model;
 use std::mem;

@@ -11,7 +11,7 @@ use Rattle.group_defs.specs.Events.{Turn, after, outcome}
 use Rattle.stmt_codec.specs.Views.{signed}
 use Rattle.stmt_codec.specs.declared.own.OwnClaim.{OwnClaim}
 use Rattle.stmt_codec.specs.declared.events.Outcome.{Outcome as Came}
-use Rattle.member_state.specs.Events.{IsOutcome}
+use Rattle.member_core.specs.Events.{IsOutcome}
 use Rattle.member_core.proofs.Joined.{signed-more}
 use Rattle.said_index.specs.declared.index.SaidIndex.{SaidIndex}
 use Rattle.said_index.specs.Said.{is_said, is_among_claims}

@@ -11,7 +11,7 @@ use Rattle.sig_scheme.specs.Signers.{used, total, signature}
 use Rattle.sig_scheme.specs.declared.any_signer.AnySigner.{AnySigner}
 use Rattle.stmt_codec.specs.declared.events.Event.{Event}
 use Rattle.stmt_codec.specs.declared.events.Outcome.{Outcome}
-use Rattle.member_state.specs.Events.{event, IsOutcome}
+use Rattle.member_core.specs.Events.{event, IsOutcome}
 use Rattle.member_core.specs.declared.member.Core.{Core}
 use Rattle.member_core.specs.Cores.{IsCore, Steps, signer_of}
 use Rattle.member_core.specs.Cores as cores

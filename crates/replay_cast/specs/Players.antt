@@ -12,7 +12,7 @@ use Rattle.sig_scheme.specs.Signers.{used, total, signature}
 use Rattle.sig_scheme.specs.declared.any_signer.AnySigner.{AnySigner}
 use Rattle.stmt_codec.specs.declared.events.Event.{Event}
 use Rattle.stmt_codec.specs.declared.events.Outcome.{Outcome}
-use Rattle.member_state.specs.Events.{event, IsOutcome}
+use Rattle.member_core.specs.Events.{event, IsOutcome}
 pub use Rattle.member_core.specs.declared.member.Core.{Core}
 pub use Rattle.member_core.specs.Cores.{IsCore}
 use Rattle.member_core.specs.Cores.{signer_of}

@@ -16,7 +16,7 @@ use crate::certificates::{put_claim, put_messages};
 use crate::list::SentClaims;
 use crate::order::{Numbers, claim_numbers, is_below};
 use claim_lists::ClaimList;
-use claim_pool::Pool;
+use pool_questions::Pool;
 use rp_base::NoMemory;
 use std::alloc::Global;
 use stmt_codec::Statement;

@@ -9,8 +9,7 @@ ghost use Rattle.sent_claims.specs.Lists.{added, extended};
 ghost use Rattle.sent_claims.specs.Certificates.{all_signed, certificate_of, message_certificate, messages_at, said_by, IsRanged};
 
 use crate::list::{Lent, SentClaims};
-use claim_pool::{CertKind, Keep, Message, Place, Pool};
-use pool_questions::certified_batch;
+use pool_questions::{CertKind, Keep, Message, Place, Pool, certified_batch};
 use rp_base::{NoMemory, Pid, PidSet};
 use stmt_codec::{Batch, Claim, STATEMENT_BYTES, Slot, spell_into};
 use view_table::quorum;

@@ -2,3 +2,4 @@ pub mod Looking
 pub mod Lending
 pub mod Fits
 pub mod Keeping
+pub mod Grammar

@@ -4,3 +4,4 @@ pub mod Cursor
 pub mod Left
 pub mod Finds
 pub mod Kept
+pub mod Batches

@@ -16,7 +16,7 @@ pub use events::{Delivered, Event, EventFault, EventVerdict, Note, Outcome, Send
 pub use own::OwnClaim;
 pub use payload::Payload;
 pub use statements::{
-    Batch, Claim, FrameFault, PAYLOAD_BYTES, STATEMENT_BYTES, Slot, Statement,
+    Batch, Claim, FrameFault, LAST_NUMBER, PAYLOAD_BYTES, STATEMENT_BYTES, Slot, Statement,
     body_determines_statement, body_into, conflicts, read_statement, slot_of, spell_into,
     spelled_len, spelling_determines_statement,
 };

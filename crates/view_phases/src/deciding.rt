@@ -2,7 +2,7 @@ ghost use Rattle.std.specs.Prelude.{◌≡◌, None, Some, IfOk, IfErr, IsSome};
 ghost use Rattle.std.specs.Option.{option_map};
 ghost use Rattle.std.specs.Result.{result_ok};
 ghost use Rattle.message_defs.specs.Statements.{ReadyAt};
-ghost use Rattle.claim_pool.specs.Certificates.{content_of};
+ghost use Rattle.multicast_rules.specs.Certificates.{content_of};
 ghost use Rattle.group_defs.specs.Process.{Setting, Process, keyed as keyed_by};
 ghost use Rattle.group_defs.specs.Certified.{readied, rank_said, certified_on};
 ghost use Rattle.group_defs.specs.Settle as defs;
@@ -10,7 +10,7 @@ ghost use Rattle.group_defs.specs.Settle.{phase_of, decided_at, decided_by, deci
 ghost use Rattle.view_phases.specs.Phases.{decision_of, decides, decided, IsDecided, IsClosing};
 
 use crate::phases::{ClosingView, DecidedView, Decision, Observing, OpenView};
-use claim_pool::{Certificate, Commit};
+use multicast_rules::{Certificate, Commit};
 use rp_base::PidSet;
 use stmt_codec::Statement;
 use view_table::{View, is_possible};

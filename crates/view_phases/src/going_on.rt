@@ -11,8 +11,8 @@ ghost use Rattle.rule_laws.specs.Heard.{IsPool};
 ghost use Rattle.rule_laws.specs.Messages.{echo_to};
 
 use crate::phases::OpenView;
-use claim_pool::{Own, Pool};
 use multicast_rules as rules;
+use multicast_rules::{Own, Pool};
 use rp_base::Pid;
 use stmt_codec::Batch;
 

@@ -7,6 +7,7 @@ mod going_on;
 mod phases;
 mod settling;
 
+pub use multicast_rules::{Own, Pool};
 pub use phases::{
     ClosingView, DecidedView, Decision, HaltedView, Observing, OpenView, Phase, PhaseMark,
     PhaseWord,

@@ -3,7 +3,7 @@ use Rattle.std.specs.Prelude.{not}
 use Rattle.std.specs.List.{list_any}
 use Rattle.message_defs.specs.Statements.{Message}
 use Rattle.group_defs.specs.Views.{is_member}
-use Rattle.statements.specs.Batches.{message_of}
+use Rattle.stmt_codec.specs.Batches.{message_of}
 use Rattle.claim_pool.proofs.Judged.{list_any-map}
 use Rattle.claim_pool.proofs.hearing.has_stranger.Goals as goal
 

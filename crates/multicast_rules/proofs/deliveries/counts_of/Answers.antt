@@ -1,7 +1,7 @@
 use Rattle.std.proofs.Common.{◌∙◌, ap}
 use Rattle.std.specs.Prelude.{unwrap_or, slice_index, option_map}
 use Rattle.group_defs.specs.Process.{Pool}
-use Rattle.claim_pool.proofs.Judged.{count-is}
+use Rattle.pool_questions.proofs.Judged.{count-is}
 use Rattle.multicast_rules.proofs.Telling.{stranger-unranked}
 use Rattle.multicast_rules.proofs.deliveries.counts_of.Goals as goal
 

@@ -4,7 +4,7 @@ use Rattle.std.specs.List.{list_all}
 use Rattle.std.proofs.lemmas.List.Folds.{list_all-map}
 use Rattle.message_defs.specs.Statements.{Message}
 use Rattle.group_defs.specs.Certified.{payload_at}
-use Rattle.statements.specs.Batches.{message_of}
+use Rattle.stmt_codec.specs.Batches.{message_of}
 use Rattle.multicast_rules.proofs.deliveries.is_held.Goals as goal
 
 pub returns : goal.returns

@@ -1,7 +1,7 @@
 use Rattle.std.proofs.Common.{◌∙◌, ap}
 use Rattle.group_defs.specs.Views.{View}
 use Rattle.stmt_codec.specs.Views.{message}
-use Rattle.claim_pool.specs.Certificates.{content_of}
+use Rattle.pool_questions.specs.Certificates.{content_of}
 use Rattle.multicast_rules.proofs.Certified.{held-is}
 use Rattle.multicast_rules.proofs.echoes.message_held.Goals as goal
 

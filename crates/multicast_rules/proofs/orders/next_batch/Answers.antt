@@ -1,6 +1,6 @@
 use Rattle.std.proofs.Common.{◌+◌, ap, arith, length}
 use Rattle.pool_laws.proofs.Places.{length-snoc}
-use Rattle.statements.specs.Batches.{message_of}
+use Rattle.stmt_codec.specs.Batches.{message_of}
 use Rattle.multicast_rules.proofs.Ordering.{first-one, no-first, next-one, no-more, full}
 use Rattle.multicast_rules.proofs.orders.next_batch.Goals as goal
 

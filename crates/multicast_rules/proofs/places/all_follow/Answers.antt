@@ -1,5 +1,5 @@
 use Rattle.std.proofs.Common.{map, sym}
-use Rattle.statements.specs.Batches.{message_of}
+use Rattle.stmt_codec.specs.Batches.{message_of}
 use Rattle.multicast_rules.proofs.Following.{message-at, goes-on, ends}
 use Rattle.multicast_rules.proofs.places.all_follow.Goals as goal
 

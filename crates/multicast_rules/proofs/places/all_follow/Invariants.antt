@@ -2,7 +2,7 @@ use Rattle.std.proofs.Common.{◌≡◌, List, map}
 use Rattle.message_defs.specs.Statements.{Message}
 use Rattle.rule_laws.specs.Heard.{IsPool}
 use Rattle.rule_laws.specs.Placing.{counts_in}
-use Rattle.statements.specs.Batches.{message_of}
+use Rattle.stmt_codec.specs.Batches.{message_of}
 use Rattle.multicast_rules.proofs.Following.{FollowSoFar}
 use Rattle.multicast_rules.proofs.places.all_follow.Given as goal
 

@@ -2,7 +2,7 @@ use Rattle.std.proofs.Common.{◌≡◌, sym, ap, ◌∙◌, subst, length, List
 use Rattle.std.specs.Prelude.{OnOk}
 use Rattle.message_defs.specs.Packing.{Signed}
 use Rattle.group_defs.specs.Views as views
-use Rattle.claim_pool.specs.Certificates.{content_of}
+use Rattle.pool_questions.specs.Certificates.{content_of}
 use Rattle.stmt_codec.specs.Views.{slot}
 use Rattle.sent_claims.specs.Lists.{extended}
 use Rattle.sent_claims.proofs.Certified.{certificate-parts}

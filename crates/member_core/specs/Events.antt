@@ -1,0 +1,2 @@
+-- An event and its outcome, in the words of the crate below, passed on to those who replay.
+pub use Rattle.member_state.specs.Events.{event, IsOutcome}
