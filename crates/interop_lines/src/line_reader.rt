@@ -36,6 +36,7 @@ impl Model for Ahead {
 }
 
 impl Ahead {
+    /// Nothing is read yet.
     pub(crate) fn new(alloc: Global) -> Ahead
         ensures { result ≡ [] }
     {
@@ -52,7 +53,7 @@ impl Ahead {
         &self.read[self.served..]
     }
 
-    /// Puts more bytes behind. What was served goes first, so that each byte is moved once for each piece that is read, not for each line.
+    /// Puts more bytes behind. What was served goes first: the rest is moved for each piece that is read, and not for each line.
     fn push(&mut self, alloc: Global, more: &[u8]) -> Result<(), AllocError>
         ensures pushed { OnOk result (self.new ≡ self.old ++ more.now) }
     {
@@ -65,7 +66,8 @@ impl Ahead {
 
     /// How many bytes the first line has before its line feed. None exactly where there is no line.
     pub(crate) fn line(&self) -> Option<usize>
-        ensures line { IfSome result (λ end. IsLine (take end self.now) × (self.now ≡ ended (take end self.now) ++ drop (end + 1) self.now)) }
+        ensures line { IfSome result (λ end. IsLine (take end self.now)
+            × (self.now ≡ ended (take end self.now) ++ drop (end + 1) self.now)) }
         ensures within { IfSome result (λ end. end < length self.now) }
         ensures none { IsNone result → HasNoLine self.now }
     {

@@ -73,7 +73,13 @@ returns-in_err-answer_line-clause-refused g c = λ number e.
         c.read_on.new.ahead,
         refused.0 ∙ before.1,
         rewritten before.0 _ _ _ _ _ _ read (ap g.K.Sink.written same),
-        inl (take c.in-Some.end c.read_on.new.ahead, drop (c.in-Some.end + 1) c.read_on.new.ahead, line.1, line.0, rw c.bytes-in-loop-number.ensures at refused.1),
+        inl (
+          take c.in-Some.end c.read_on.new.ahead,
+          drop (c.in-Some.end + 1) c.read_on.new.ahead,
+          line.1,
+          line.0,
+          rw c.bytes-in-loop-number.ensures at refused.1,
+        ),
       )
     ]
 
@@ -84,9 +90,11 @@ loop-number-preserved g c =
     let line = rw c.in-Some.is at c.line.ensures.line in
     let told = c.in_ok-answer_line.ensures.answered in
     let next : c.loop-number.number + 1 ≡ suc (suc before.0) = omega (arith, before.1) in
-    let answers : Answers (take c.in-Some.end c.read_on.new.ahead) told.0 = rw c.bytes-in-loop-number.ensures at told.1 in
+    let first : List ℕ = take c.in-Some.end c.read_on.new.ahead in
+    let answers : Answers first told.0 = rw c.bytes-in-loop-number.ensures at told.1 in
+    let parts = line.1 ∙ ap (λ (t : List ℕ). ended first ++ t) (sym c.skip.ensures) in
     record {
-      served = (suc before.0, next, served_one_more before.0 _ (take c.in-Some.end c.read_on.new.ahead) _ told.0 _ _ _ _ _ read line.0 (line.1 ∙ ap (λ (t : List ℕ). ended (take c.in-Some.end c.read_on.new.ahead) ++ t) (sym c.skip.ensures)) answers told.2);
+      served = (suc before.0, next, served_one_more before.0 _ first _ told.0 _ _ _ _ _ read line.0 parts answers told.2);
       read = c.in_ok-read_on.ensures.steady ∙ c.loop-number.invariant.read;
       wrote = c.in_ok-answer_line.ensures.steady ∙ c.loop-number.invariant.wrote;
     }
