@@ -1,0 +1,21 @@
+-- The first of the two journals alone convicts nobody.
+use Rattle.std.specs.Prelude.{◌≡◌, List, [], ◌∷◌, ◌++◌, codes}
+use Rattle.journal_defs.specs.declared.Version.TheVariants.{One}
+use Rattle.audit_defs.specs.Sources.{Source}
+use Rattle.audit_rows.specs.Scripts.{journal, line_of}
+
+unfoldable pub sources : List Source
+sources =
+    journal One (0 ∷ [])
+    (1 ∷ 0 ∷ 0 ∷ 0 ∷ 26 ∷ 0 ∷ 2 ∷ 3 ∷ 0 ∷ 18 ∷ 1 ∷ 1 ∷ 1 ∷ 0 ∷ 9 ∷ 2 ∷ 0 ∷ 0 ∷ 3 ∷ 0 ∷ 0 ∷ 0 ∷ 1 ∷ 97 ∷ 1 ∷ 3 ∷ 0 ∷ 0 ∷ 0 ∷ 0 ∷ 0
+    ∷ 0 ∷ [])
+    ∷ journal One (1 ∷ [])
+    (1 ∷ 0 ∷ 0 ∷ 0 ∷ 26 ∷ 1 ∷ 2 ∷ 3 ∷ 0 ∷ 18 ∷ 1 ∷ 1 ∷ 1 ∷ 0 ∷ 9 ∷ 2 ∷ 0 ∷ 0 ∷ 3 ∷ 0 ∷ 0 ∷ 0 ∷ 1 ∷ 98 ∷ 1 ∷ 3 ∷ 0 ∷ 0 ∷ 0 ∷ 0 ∷ 0
+    ∷ 0 ∷ [])
+    ∷ []
+
+-- the row: what the definitions give
+abbrev pub OneJournalAlone : Type 0
+OneJournalAlone = line_of (0 ∷ 1 ∷ 2 ∷ 3 ∷ []) (0 ∷ 1 ∷ 2 ∷ 3 ∷ []) sources (0 ∷ [])
+    ≡ codes "{\"agree\":true,\"bounded\":false,\"convicted\":[],\"honest\":true,\"processes\":[{\"delivered\":0,\"process\":0"
+    ++ codes ",\"views\":[[0,1,2,3]]}],\"sound\":true}\n"

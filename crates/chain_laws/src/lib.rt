@@ -1,0 +1,29 @@
+//! Laws of chains of views, over the definitions alone: a chain gives the views of the group, and two chains never fork.
+#![tactic(auto)]
+
+ghost use Rattle.chain_laws.specs.Chains.{ChainIsInstalled, ChainIsOfAll, ChainsDoNotFork, GenesisIsInstalled, GenesisIsOfAll};
+
+/// A chain may begin with the genesis.
+pub fn genesis_is_of_all()
+    ensures { GenesisIsOfAll }
+{}
+
+/// It is installed, where some process is correct.
+pub fn genesis_is_installed()
+    ensures { GenesisIsInstalled }
+{}
+
+/// Each view of a chain is the view that every correct process with its number has.
+pub fn chain_is_of_all()
+    ensures { ChainIsOfAll }
+{}
+
+/// A correct process has installed each view of a chain but the last one.
+pub fn chain_is_installed()
+    ensures { ChainIsInstalled }
+{}
+
+/// Of two chains the one begins as the other.
+pub fn chains_do_not_fork()
+    ensures { ChainsDoNotFork }
+{}

@@ -1,0 +1,5 @@
+pub mod Shown
+pub mod Frames
+pub mod Told
+pub mod Whole
+pub mod Premises

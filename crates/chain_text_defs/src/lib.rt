@@ -1,0 +1,2 @@
+//! What the program reads and writes of a chain of views, on plain data.
+#![tactic(auto)]

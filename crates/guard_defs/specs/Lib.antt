@@ -1,0 +1,3 @@
+pub mod Conviction
+pub mod Guarding
+pub mod Lines

@@ -1,0 +1,2 @@
+//! A guard on plain data: who is convicted by claims, whom a guard expels behind a frame, and what it says.
+#![tactic(auto)]

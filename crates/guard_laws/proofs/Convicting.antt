@@ -1,0 +1,113 @@
+-- Conviction, and that no correct process is convicted.
+use Rattle.std.proofs.Common.{◌≡◌, ◌≢◌, ℕ, List, Some, Bool, true, false, refl, sym, ap, ◌∙◌, slice_get}
+use Rattle.std.specs.Prelude.{◌&&◌, not, ◌==◌, Contains}
+use Rattle.std.specs.List.{list_any}
+use Rattle.std.proofs.lemmas.Bool.{eqb-true, eq-eqb}
+use Rattle.message_defs.specs.Statements.{Statement, Claim, Conflicts, slot_of, same_slot, same_statement}
+use Rattle.group_defs.specs.Process.{Setting, Process}
+use Rattle.group_defs.specs.Hearing.{is_valid}
+use Rattle.group_defs.specs.Family.{Correct, Family, numbers, end_of, ends, handed, statements_of, IsOwned, Honest}
+use Rattle.guard_defs.specs.Conviction.{Convicts, ConvictionIsTested, conflict, is_conviction, is_convicted}
+use Rattle.guard_laws.specs.Guards.{NoCorrectIsConvicted}
+use Rattle.pool_laws.proofs.Members.{All-mem, Contains-mem, Mem, list_any-mem, map-mem, mem-All, mem-Contains, mem-list_any}
+use Rattle.pool_laws.proofs.Places.{Compared, Pairs, ahead, all-pairs, behind, compared, level, mem-slice_get}
+use Rattle.pool_laws.proofs.Slots.{is-same_slot, is-same_statement, same_slot-is, same_statement-is}
+use Rattle.pool_laws.proofs.Tests.{and-four, and-first, and-second, both-true, not-both, some-same}
+use Rattle.safety_laws.proofs.OnePerSlot.{one_per_slot}
+use Rattle.safety_laws.proofs.Quorums.{in-ends, me-end_of}
+
+-- ---- the test
+
+not-true : (b : Bool) → (b ≡ true → ⊥) → not b ≡ true
+not-true true never = absurd (never refl)
+not-true false never = refl
+
+pub conflict-is : (a b : Claim) → conflict a b ≡ true → Conflicts a b
+conflict-is a b e =
+    let both = and-first ((a.signer == b.signer) && same_slot (slot_of a.statement) (slot_of b.statement)) (not
+    (same_statement a.statement b.statement)) e in (
+      eqb-true a.signer b.signer (and-first (a.signer == b.signer) (same_slot (slot_of a.statement) (slot_of b.statement)) both),
+      same_slot-is (slot_of a.statement) (slot_of b.statement)
+          (and-second (a.signer == b.signer) (same_slot (slot_of a.statement) (slot_of b.statement)) both),
+      λ same. not-both (same_statement a.statement b.statement) (is-same_statement a.statement b.statement same)
+          (and-second ((a.signer == b.signer) && same_slot (slot_of a.statement) (slot_of b.statement))
+          (not (same_statement a.statement b.statement)) e),
+    )
+
+is-conflict : (a b : Claim) → Conflicts a b → conflict a b ≡ true
+is-conflict a b c = both-true ((a.signer == b.signer) && same_slot (slot_of a.statement) (slot_of b.statement))
+    (not (same_statement a.statement b.statement))
+    (both-true (a.signer == b.signer) (same_slot (slot_of a.statement) (slot_of b.statement)) (eq-eqb a.signer b.signer c.0)
+    (is-same_slot (slot_of a.statement) (slot_of b.statement) c.1))
+    (not-true (same_statement a.statement b.statement) (λ e. c.2 (same_statement-is a.statement b.statement e)))
+
+pub conviction_is_tested : ConvictionIsTested
+conviction_is_tested s cs q = (to, from)
+  where
+    to : is_convicted s cs q ≡ true → Convicts s cs q
+    to e =
+        let a = list_any-mem (λ a. list_any (is_conviction s q a) cs) cs e in
+        let b = list_any-mem (is_conviction s q a.0) cs a.2 in
+        let is = and-four (a.0.signer == q) (conflict a.0 b.0) (is_valid s a.0) (is_valid s b.0) b.2 in
+        (a.0, b.0, mem-Contains cs a.0 a.1, mem-Contains cs b.0 b.1, (eqb-true a.0.signer q is.0, conflict-is a.0 b.0 is.1, is.2, is.3))
+
+    from : Convicts s cs q → is_convicted s cs q ≡ true
+    from (a, b, in_a, in_b, (signer, conflicts, valid, valid')) =
+        mem-list_any (λ a. list_any (is_conviction s q a) cs) cs a (Contains-mem cs a in_a)
+        (mem-list_any (is_conviction s q a) cs b (Contains-mem cs b in_b)
+        (both-true ((a.signer == q) && conflict a b && is_valid s a) (is_valid s b)
+        (both-true ((a.signer == q) && conflict a b) (is_valid s a)
+        (both-true (a.signer == q) (conflict a b) (eq-eqb a.signer q signer) (is-conflict a b conflicts)) valid) valid'))
+
+-- ---- more claims convict whom these convict
+
+pub convicts-more : (s : Setting) (cs ds : List Claim) (q : ℕ) → ((c : Claim) → Mem c cs → Mem c ds) → Convicts s cs q → Convicts s ds q
+convicts-more s cs ds q more (a, b, in_a, in_b, is) = (
+  a,
+  b,
+  mem-Contains ds a (more a (Contains-mem cs a in_a)),
+  mem-Contains ds b (more b (Contains-mem cs b in_b)),
+  is,
+)
+
+-- ---- no correct process is convicted
+
+-- one signed list has one claim of a slot
+one-claim : (cs : List Claim) → Pairs (λ c d. slot_of c.statement ≢ slot_of d.statement) cs → (a b : Claim) → Mem a cs → Mem b cs
+    → slot_of a.statement ≡ slot_of b.statement → a ≡ b
+one-claim cs once a b m n e =
+    let i = mem-slice_get cs a m in
+    let j = mem-slice_get cs b n in
+    go i.0 j.0 i.1 j.1 (compared i.0 j.0)
+  where
+    go : (i j : ℕ) → slice_get cs i ≡ Some a → slice_get cs j ≡ Some b → Compared i j → a ≡ b
+    go i j at_i at_j (ahead lt) = absurd (once i j a b lt at_i at_j e)
+    go i j at_i at_j (behind lt) = absurd (once j i b a lt at_j at_i (sym e))
+    go i j at_i at_j (level same) = some-same a b (sym at_i ∙ ap (slice_get cs) same ∙ at_j)
+
+-- a process signs no two statements of one slot
+signs-one : (s : Setting) (c : Correct) (st other : Statement) → Mem st (statements_of (end_of s c))
+    → Mem other (statements_of (end_of s c)) → slot_of st ≡ slot_of other → st ≡ other
+signs-one s c st other m n same =
+    let cs : List Claim = (end_of s c).signed in
+    let a = map-mem (λ (c : Claim). c.statement) cs st m in
+    let b = map-mem (λ (c : Claim). c.statement) cs other n in
+    let slots : slot_of a.0.statement ≡ slot_of b.0.statement = ap slot_of a.2 ∙ same ∙ sym (ap slot_of b.2) in
+    sym a.2 ∙ ap (λ (c : Claim). c.statement)
+    (one-claim cs (all-pairs (λ c d. slot_of c.statement ≢ slot_of d.statement) cs
+    (one_per_slot s c.me c.batch_limit c.turns)) a.0 b.0 a.1 b.1 slots) ∙ b.2
+
+-- a correct process's claim that was handed over is its own word
+own-word : (f : Family) → Honest f → (c : Correct) → Mem c f.correct → (d : Claim) → Contains (handed f) d → is_valid f.setting d ≡ true
+    → c.me ≡ d.signer → Mem d.statement (statements_of (end_of f.setting c))
+own-word f honest c m d there valid signer =
+    let p : Process = end_of f.setting c in
+    Contains-mem (statements_of p) d.statement (All-mem (λ (p : Process). p.me ≡ d.signer → Contains (statements_of p) d.statement) (ends f) p
+    (All-mem (IsOwned f) (handed f) d honest (Contains-mem (handed f) d there) valid) (in-ends f c m) (me-end_of f.setting c ∙ signer))
+
+pub no_correct_is_convicted : NoCorrectIsConvicted
+no_correct_is_convicted f q honest (a, b, in_a, in_b, (signer, conflicts, valid, valid')) = mem-All (λ p. p ≢ q) (numbers f)
+    (λ p m. λ is. let c = map-mem (λ (c : Correct). c.me) f.correct p m in
+    conflicts.2 (signs-one f.setting c.0 a.statement b.statement
+    (own-word f honest c.0 c.1 a in_a valid (c.2 ∙ is ∙ sym signer))
+    (own-word f honest c.0 c.1 b in_b valid' (c.2 ∙ is ∙ sym signer ∙ conflicts.0)) conflicts.1))

@@ -1,0 +1,4 @@
+pub mod Convicting
+pub mod Evidence
+pub mod Running
+pub mod Grounds

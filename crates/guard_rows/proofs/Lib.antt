@@ -1,0 +1,3 @@
+pub mod Convicted
+pub mod Runs
+pub mod Accusing

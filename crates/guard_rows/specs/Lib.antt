@@ -1,0 +1,4 @@
+pub mod Scripts
+pub mod Convicted
+pub mod Runs
+pub mod Accusing

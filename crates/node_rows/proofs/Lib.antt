@@ -1,0 +1,4 @@
+pub mod TwoProcesses
+pub mod FailingCalls
+pub mod TurnStopped
+pub mod Begun

@@ -1,0 +1,5 @@
+pub mod Outsides
+pub mod TwoProcesses
+pub mod FailingCalls
+pub mod TurnStopped
+pub mod Begun

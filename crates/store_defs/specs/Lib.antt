@@ -1,0 +1,11 @@
+pub mod Stores
+pub mod Records
+pub mod Keys
+pub mod Votes
+pub mod Transfers
+pub mod Holding
+pub mod Serving
+pub mod Words
+pub mod Services
+pub mod Asking
+pub mod Laws

@@ -1,0 +1,14 @@
+pub mod Maps
+pub mod Tests
+pub mod Orders
+pub mod Staying
+pub mod Grammar
+pub mod RecordGrammar
+pub mod Voting
+pub mod Transferring
+pub mod Holding
+pub mod Joining
+pub mod Answers
+pub mod Leaves
+pub mod OnePlaceOneAnswer
+pub mod Following

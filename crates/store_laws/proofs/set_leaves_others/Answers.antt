@@ -1,0 +1,5 @@
+use Rattle.store_laws.proofs.Maps as laws
+use Rattle.store_laws.proofs.set_leaves_others.Goals as goal
+
+pub returns : goal.returns
+returns c = laws.set_leaves_others

@@ -1,0 +1,5 @@
+use Rattle.store_laws.proofs.RecordGrammar as laws
+use Rattle.store_laws.proofs.state_is_spelled.Goals as goal
+
+pub returns : goal.returns
+returns c = laws.state_is_spelled
