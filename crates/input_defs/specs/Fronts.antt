@@ -1,15 +1,16 @@
 -- An input of the program that begins with a kit: the kit's lines, and then the line `go`.
 --   the lines of a kit
 --   go
--- and behind it what the command asks for. A line has the first fault that it shows, as in a kit that is read alone; the line `go`
--- is Missing where a line of the kit does not stand; and the end of the input before it is Line, with the number of the line that
+-- and after it what the command asks for. A line has the first fault that it shows, as in a kit that is read alone; the line `go`
+-- is Missing where a line of the kit is not there; and the end of the input before it is Line, with the number of the line that
 -- would come.
 use Rattle.std.specs.Prelude.{ℕ, ◌+◌, ◌==◌, if◌then◌else◌, List, [], ◌∷◌, ◌++◌, codes, Result, Ok, Err}
+use Rattle.std.specs.Fmt.{decimal}
 use Rattle.byte_defs.specs.Fields.{◌>>=◌}
 use Rattle.byte_defs.specs.Equality.{same_bytes}
 use Rattle.text_defs.specs.Words.{line_feed, line_text}
 use Rattle.kit_defs.specs.Kits.{Kit, kit_text}
-use Rattle.kit_defs.specs.KitReading.{KitFault, Line, Draft, nothing, take_line, finish}
+use Rattle.kit_defs.specs.KitReading.{KitFault, Line, Repeated, Missing, KeyMismatch, Draft, nothing, take_line, finish}
 
 -- the line that ends a kit
 abbrev pub go : List ℕ
@@ -40,3 +41,10 @@ front_of bytes = front_at [] 1 nothing bytes
 -- how it is spelled
 abbrev pub front_text : Kit → List ℕ
 front_text kit = kit_text kit ++ line_text (go ∷ [])
+
+-- the word and the line of a fault
+abbrev pub fault_words : KitFault → List (List ℕ)
+fault_words (Line n) = codes "line" ∷ decimal n ∷ []
+fault_words (Repeated n) = codes "repeated" ∷ decimal n ∷ []
+fault_words (Missing n) = codes "missing" ∷ decimal n ∷ []
+fault_words (KeyMismatch n made listed) = codes "keymismatch" ∷ decimal n ∷ []

@@ -18,26 +18,12 @@ use Rattle.message_defs.specs.Limits.{last_number, most_members}
 use Rattle.group_defs.specs.Views.{View}
 use Rattle.text_defs.specs.Words.{words_of, line_text, parts_of, number_within, process_of, bytes_of}
 use Rattle.kit_defs.specs.Kits.{Kit, roster_of, key_length}
-use Rattle.kit_defs.specs.KitReading.{KitFault, Line, Repeated, Missing, KeyMismatch, Draft, nothing, take_line, finish, members_by, most_line_bytes}
+use Rattle.kit_defs.specs.KitReading.{KitFault, Line, members_by, most_line_bytes}
+use Rattle.input_defs.specs.Fronts.{front_of, fault_words}
 use Rattle.store_defs.specs.Records.{Reply, reply_of}
 use Rattle.store_defs.specs.Votes.{Content, new_vote, vote_after, accepted}
 use Rattle.store_defs.specs.Words.{some_bytes_of, listed_process}
 use Rattle.store_defs.specs.Services.{behind_first}
-
--- ---- a kit, the line `go`, and the lines behind it
-
--- the line that ends a kit
-abbrev pub is_go : List ℕ → Bool
-is_go line = same_bytes line (codes "go")
-
--- of an input's parts between line feeds, from the line of this number on: the kit, the number of the first line behind it, and the parts
--- from there on, of which the last stands behind the last line feed
-unfoldable pub kit_before : ℕ → Draft → List (List ℕ) → Result (Kit × ℕ × List (List ℕ)) KitFault
-kit_before n d [] = Err (Line n)
-kit_before n d (rest ∷ []) = Err (Line n)
-kit_before n d (line ∷ next ∷ more) =
-    if is_go line then finish n d >>= (λ kit. Ok (kit, n + 1, next ∷ more))
-    else take_line n d line >>= (λ taken. kit_before (n + 1) taken (next ∷ more))
 
 -- ---- reply keys
 
@@ -143,19 +129,12 @@ abbrev pub answer_text : ℕ → Option Content → List ℕ
 answer_text x None = line_text (codes "answer" ∷ codes "none" ∷ [])
 answer_text x (Some c) = line_text (codes "answer" ∷ decimal x ∷ decimal c.place ∷ decimal c.position ∷ encode_lower c.answer ∷ [])
 
--- the word and the line of a fault
-abbrev pub fault_words : KitFault → List (List ℕ)
-fault_words (Line n) = codes "line" ∷ decimal n ∷ []
-fault_words (Repeated n) = codes "repeated" ∷ decimal n ∷ []
-fault_words (Missing n) = codes "missing" ∷ decimal n ∷ []
-fault_words (KeyMismatch n made listed) = codes "keymismatch" ∷ decimal n ∷ []
-
 -- the question that an input asks behind its kit
 unfoldable pub asked : List ℕ → Result (Kit × Question) KitFault
 asked input = do
-  start ← kit_before 1 nothing (parts_of input)
-  question ← question_from start.0.scheme (roster_of start.0.keys) start.1 [] start.2
-  Ok (start.0, question)
+  front ← front_of input
+  question ← question_from front.kit.scheme (roster_of front.kit.keys) front.line [] (parts_of front.rest)
+  Ok (front.kit, question)
 
 -- what is written, and the status
 unfoldable pub ask_output : List ℕ → List ℕ → List ℕ × ℕ

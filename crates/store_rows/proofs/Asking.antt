@@ -8,8 +8,9 @@ use Rattle.store_defs.specs.Stores.{applied, carried_out, command_behind, exchan
 use Rattle.store_defs.specs.Records.{reply_body, reply_of, short_at, small_at, state_at, state_body, state_record_of}
 use Rattle.text_defs.specs.Words.{begin_with, bytes_of, number_of, value_behind}
 use Rattle.kit_defs.specs.KitReading.{finish, is_repeated, line_by, members_by, take_line}
+use Rattle.input_defs.specs.Fronts.{front_at}
 use Rattle.store_defs.specs.Votes.{accepted, offer, vote_after}
-use Rattle.store_defs.specs.Asking.{ask_output, asked, kit_before, most_replies, question_from, replies_from}
+use Rattle.store_defs.specs.Asking.{ask_output, asked, most_replies, question_from, replies_from}
 use Rattle.store_rows.specs.Scripts.{get_a, text_of}
 use Rattle.store_rows.specs.Asked.{Asked, broken, kit, replies, reply_key, view}
 
@@ -17,7 +18,7 @@ both : ask_output get_a (text_of (kit ++ reply_key ++ view ++ replies)) ≡ (tex
 unfolding digits encode_with decode_pairs compress digest_bytes first_words hash_after rounds schedule sha256
     applied carried_out command_behind exchange_at key_at most_keys pairs_at request_of set_at store_after store_bytes store_of text_within with_pair
     reply_body reply_of short_at small_at state_at state_body state_record_of
-    begin_with bytes_of number_of value_behind finish is_repeated line_by members_by take_line ask_output asked kit_before most_replies question_from replies_from
+    begin_with bytes_of number_of value_behind finish is_repeated line_by members_by take_line ask_output asked front_at most_replies question_from replies_from
     accepted offer vote_after get_a broken kit replies reply_key view
 both = refl
 
@@ -25,7 +26,7 @@ nothing : ask_output get_a (text_of (kit ++ reply_key ++ view)) ≡ (text_of (co
 unfolding digits encode_with decode_pairs compress digest_bytes first_words hash_after rounds schedule sha256
     applied carried_out command_behind exchange_at key_at most_keys pairs_at request_of set_at store_after store_bytes store_of text_within with_pair
     reply_body reply_of short_at small_at state_at state_body state_record_of
-    begin_with bytes_of number_of value_behind finish is_repeated line_by members_by take_line ask_output asked kit_before most_replies question_from replies_from
+    begin_with bytes_of number_of value_behind finish is_repeated line_by members_by take_line ask_output asked front_at most_replies question_from replies_from
     accepted offer vote_after get_a broken kit replies reply_key view
 nothing = refl
 
@@ -33,7 +34,7 @@ no_key : ask_output get_a (text_of (kit ++ view ++ replies)) ≡ (text_of (codes
 unfolding digits encode_with decode_pairs compress digest_bytes first_words hash_after rounds schedule sha256
     applied carried_out command_behind exchange_at key_at most_keys pairs_at request_of set_at store_after store_bytes store_of text_within with_pair
     reply_body reply_of short_at small_at state_at state_body state_record_of
-    begin_with bytes_of number_of value_behind finish is_repeated line_by members_by take_line ask_output asked kit_before most_replies question_from replies_from
+    begin_with bytes_of number_of value_behind finish is_repeated line_by members_by take_line ask_output asked front_at most_replies question_from replies_from
     accepted offer vote_after get_a broken kit replies reply_key view
 no_key = refl
 
@@ -41,7 +42,7 @@ no_line : ask_output get_a (text_of (kit ++ reply_key ++ view ++ broken)) ≡ (t
 unfolding digits encode_with decode_pairs compress digest_bytes first_words hash_after rounds schedule sha256
     applied carried_out command_behind exchange_at key_at most_keys pairs_at request_of set_at store_after store_bytes store_of text_within with_pair
     reply_body reply_of short_at small_at state_at state_body state_record_of
-    begin_with bytes_of number_of value_behind finish is_repeated line_by members_by take_line ask_output asked kit_before most_replies question_from replies_from
+    begin_with bytes_of number_of value_behind finish is_repeated line_by members_by take_line ask_output asked front_at most_replies question_from replies_from
     accepted offer vote_after get_a broken kit replies reply_key view
 no_line = refl
 
