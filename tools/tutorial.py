@@ -2,7 +2,7 @@
 """Runs docs/TUTORIAL.md as its reader does, and holds what is written against what the page shows.
 
     python3 tools/tutorial.py            runs it; the status is 1 where anything differs
-    python3 tools/tutorial.py write      writes its stories and what is shown of them for the gate's tests (crates/tutorial_tests)
+    python3 tools/tutorial.py write      writes its stories and what is shown of them for the gate's tests (crates/program_tests)
 
 A block of the page that begins with `$ ` is a command, and what is written then; another one is a file, named in the line before it.
 """
@@ -14,7 +14,7 @@ import tempfile
 
 TOP = pathlib.Path(__file__).resolve().parent.parent
 PAGE = TOP / "docs" / "TUTORIAL.md"
-DATA = TOP / "crates" / "tutorial_tests" / "src" / "data.rt"
+DATA = TOP / "crates" / "program_tests" / "src" / "tutorial" / "data.rt"
 
 
 def blocks():

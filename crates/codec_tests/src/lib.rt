@@ -1,0 +1,7 @@
+//! Frames and statements, read, spelled and refused.
+#![tactic(auto)]
+
+#[cfg(test)]
+mod claims;
+#[cfg(test)]
+mod frames;

@@ -1,5 +1,0 @@
-//! Commands as words.
-#![tactic(auto)]
-
-#[cfg(test)]
-mod tests;

@@ -1,5 +1,0 @@
-//! Tests of `file_disk`.
-#![tactic(auto)]
-
-#[cfg(test)]
-mod tests;

@@ -1,5 +1,0 @@
-//! Frames that are cut, written and read again.
-#![tactic(auto)]
-
-#[cfg(test)]
-mod tests;

@@ -1,5 +1,0 @@
-//! Tests of `group_questions`.
-#![tactic(auto)]
-
-#[cfg(test)]
-mod questions;

@@ -1,5 +1,0 @@
-//! Lines that are answered, and runs that stop.
-#![tactic(auto)]
-
-#[cfg(test)]
-mod tests;

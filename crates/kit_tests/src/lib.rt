@@ -1,0 +1,9 @@
+//! Words, command lines and kits.
+#![tactic(auto)]
+
+#[cfg(test)]
+mod commands;
+#[cfg(test)]
+mod kits;
+#[cfg(test)]
+mod texts;

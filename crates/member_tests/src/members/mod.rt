@@ -1,0 +1,4 @@
+mod absorbed;
+mod alone;
+mod lost;
+mod members;

@@ -1,0 +1,83 @@
+use crate::tutorial::data::{FAULTS, REPORTS, TRACES};
+use rampart_cli::rampart;
+use rp_base::{MemSink, MemSource, NoDisk, NoLink};
+use std::alloc::{AllocError, Global};
+use std::test::Fail;
+use story_cli::story;
+
+/// One word.
+fn asked(alloc: Global, word: &str) -> Result<Vec<String>, AllocError> {
+    let mut words = Vec::new(alloc);
+    words.push(String::from_str(alloc, word)?)?;
+    Ok(words)
+}
+
+/// The status of `story`, and what it wrote and told.
+fn told(alloc: Global, word: &str, input: &[u8]) -> Result<(u8, MemSink, MemSink), AllocError> {
+    let mut source = MemSource::new(input.to_vec(alloc)?, Vec::new(alloc));
+    let mut sink = MemSink::new(alloc, Vec::new(alloc));
+    let mut errors = MemSink::new(alloc, Vec::new(alloc));
+    let status = story(
+        alloc,
+        &asked(alloc, word)?,
+        &mut source,
+        &mut sink,
+        &mut errors,
+    );
+    Ok((status, sink, errors))
+}
+
+/// The status of `rampart replay`, and what it wrote.
+fn replayed(alloc: Global, input: &[u8]) -> Result<(u8, MemSink), AllocError> {
+    let mut source = MemSource::new(input.to_vec(alloc)?, Vec::new(alloc));
+    let mut sink = MemSink::new(alloc, Vec::new(alloc));
+    let status = rampart(
+        alloc,
+        &asked(alloc, "replay")?,
+        &mut source,
+        &mut sink,
+        &mut NoDisk::new(),
+        &mut NoLink::new(),
+    );
+    Ok((status, sink))
+}
+
+/// Whether the part stands in the text.
+fn shows(text: &[u8], part: &[u8]) -> bool {
+    (0..text.len()).any(|at| text[at..].starts_with(part))
+}
+
+#[test]
+fn each_story_has_the_report_that_is_shown(rt: HostRuntime) -> Result<(), Fail> {
+    for (text, report) in REPORTS {
+        let (status, schedule, _errors) = told(rt.alloc(), "assemble", text)?;
+        assert_eq!(rt; status, 0);
+        let (status, written) = replayed(rt.alloc(), schedule.bytes())?;
+        assert_eq!(rt; status, 0);
+        assert_eq!(rt; written.bytes(), report);
+    }
+    Ok(())
+}
+
+#[test]
+fn what_is_shown_of_a_run_stands_in_its_trace(rt: HostRuntime) -> Result<(), Fail> {
+    for (text, part) in TRACES {
+        let (status, schedule, _errors) = told(rt.alloc(), "assemble", text)?;
+        assert_eq!(rt; status, 0);
+        let (status, trace, _errors) = told(rt.alloc(), "run", schedule.bytes())?;
+        assert_eq!(rt; status, 0);
+        assert!(rt; shows(trace.bytes(), part));
+    }
+    Ok(())
+}
+
+#[test]
+fn a_text_that_is_no_story_is_told_as_shown(rt: HostRuntime) -> Result<(), Fail> {
+    for (text, line) in FAULTS {
+        let (status, written, errors) = told(rt.alloc(), "assemble", text)?;
+        assert_eq!(rt; status, 5);
+        assert!(rt; written.bytes().is_empty());
+        assert_eq!(rt; errors.bytes(), line);
+    }
+    Ok(())
+}

@@ -1,5 +1,0 @@
-//! Tests of `report_lines`.
-#![tactic(auto)]
-
-#[cfg(test)]
-mod lines;

@@ -1,5 +1,0 @@
-//! Tests of `rp_devices`.
-#![tactic(auto)]
-
-#[cfg(test)]
-mod tests;

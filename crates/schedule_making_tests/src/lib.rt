@@ -1,5 +1,0 @@
-//! Schedules from a number, beside those that another program makes.
-#![tactic(auto)]
-
-#[cfg(test)]
-mod tests;

@@ -1,5 +1,0 @@
-//! Schedules in pieces beside those read whole.
-#![tactic(auto)]
-
-#[cfg(test)]
-mod tests;

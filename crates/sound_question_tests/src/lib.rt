@@ -1,5 +1,0 @@
-//! Tests of `sound_question`.
-#![tactic(auto)]
-
-#[cfg(test)]
-mod questions;

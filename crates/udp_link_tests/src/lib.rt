@@ -1,5 +1,0 @@
-//! Tests of `udp_link`.
-#![tactic(auto)]
-
-#[cfg(test)]
-mod tests;
