@@ -216,8 +216,7 @@ fn a_batch_grows_to_sixteen_messages(rt: HostRuntime) {
         format!(in rt.alloc(); "{batch:?}").ok().as_deref(),
         Some("[(Pid(3), 5), (Pid(2), 0)]")
     );
-    assert!(rt; many(&rt, 15).len() == 15);
-    assert!(rt; many(&rt, 16).is_full());
+    assert!(rt; many(&rt, 15).len() == 15 && many(&rt, 16).is_full());
 }
 
 #[test]
@@ -295,16 +294,13 @@ fn fault_of(bytes: &[u8]) -> Option<FrameFault> {
     }
 }
 
-#[test]
-fn the_claims_of_a_frame(rt: HostRuntime) {
-    let bytes = frame(frame_codec::PROOF, 63);
-    let Ok(view) = split_frame(&bytes) else {
-        assert!(rt; false, "no frame");
-        return;
+// The kinds of the claims in a frame, and their signers, two digits each.
+fn kinds_and_signers(bytes: &[u8]) -> Option<(u32, u32)> {
+    let Ok(view) = split_frame(bytes) else {
+        return None;
     };
     let Ok(claims) = claims_of(&view) else {
-        assert!(rt; false, "no claims");
-        return;
+        return None;
     };
     let mut kinds = 0u32;
     let mut signers = 0u32;
@@ -316,19 +312,29 @@ fn the_claims_of_a_frame(rt: HostRuntime) {
             .wrapping_mul(100)
             .wrapping_add(claim.signer.get() as u32);
     }
-    assert_eq!(rt; kinds, 111102);
-    assert_eq!(rt; signers, 36300);
-    assert_eq!(rt;
-        fault_of(&frame(frame_codec::PROOF, 64)),
-        Some(FrameFault::Range)
-    );
-    let mut notify = frame(frame_codec::PROOF, 63);
+    Some((kinds, signers))
+}
+
+#[test]
+fn the_claims_of_a_frame(rt: HostRuntime) {
+    let bytes = frame(frame_codec::PROOF, 63);
+    assert!(rt; kinds_and_signers(&bytes) == Some((111102, 36300)));
+    let mut notify = bytes;
     notify[23] = 1;
-    assert_eq!(rt; fault_of(&notify), Some(FrameFault::Misplaced));
-    notify[1] = frame_codec::BUNDLE;
-    assert_eq!(rt; fault_of(&notify), Some(FrameFault::Statement));
-    assert_eq!(rt; fault_of(&[1, 3, 3, 255, 4, 0]), None);
-    assert_eq!(rt; fault_of(&[1, 3, 4, 0, 0, 0]), Some(FrameFault::Range));
+    let mut bundle = notify;
+    bundle[1] = frame_codec::BUNDLE;
+    for (bytes, fault) in [
+        (
+            frame(frame_codec::PROOF, 64).as_slice(),
+            Some(FrameFault::Range),
+        ),
+        (&notify, Some(FrameFault::Misplaced)),
+        (&bundle, Some(FrameFault::Statement)),
+        (&[1, 3, 3, 255, 4, 0], None),
+        (&[1, 3, 4, 0, 0, 0], Some(FrameFault::Range)),
+    ] {
+        assert_eq!(rt; fault_of(bytes), fault, "{bytes:?}");
+    }
 }
 
 #[test]
@@ -385,10 +391,10 @@ fn what_core_and_journal_share(rt: HostRuntime) -> Result<(), Fail> {
     })?;
     outcome.notes.push(Note::Spent)?;
     assert!(rt; outcome.verdict != EventVerdict::Refused(EventFault::Outsider));
-    let Some((signatures, rest)) = EntrySignatures::read(2, &[0, 1, 0xaa, 0, 0, 9]) else {
-        assert!(rt; false, "no signatures");
-        return Ok(());
-    };
+    let (signatures, rest) = EntrySignatures::read(2, &[0, 1, 0xaa, 0, 0, 9]).expect(
+        &rt,
+        "two signatures",
+    );
     assert!(rt; rest == [9].as_slice());
     let entry = Entry {
         process: pid(&rt, 1),

@@ -3,40 +3,46 @@ use text_codec::{
     Parts, WordFault, byte_list, bytes, number, process, push_byte_list, push_hex, push_number,
 };
 
+// Whether these are the next parts, and no part is left then.
+fn are_left(parts: &mut Parts, wanted: &[&[u8]]) -> bool {
+    for part in wanted {
+        if parts.next() != Some(*part) {
+            return false;
+        }
+    }
+    parts.is_done() && parts.next().is_none()
+}
+
 #[test]
 fn a_text_is_cut_into_lines_and_words(rt: HostRuntime) {
     let mut parts = Parts::words(b"a b c");
-    assert_eq!(rt; parts.next(), Some(b"a".as_slice()));
-    assert_eq!(rt; parts.next(), Some(b"b".as_slice()));
-    assert_eq!(rt; parts.next(), Some(b"c".as_slice()));
-    assert_eq!(rt; parts.next(), None);
+    assert!(rt; are_left(&mut parts, &[b"a", b"b", b"c"]));
     let mut lines = Parts::lines(b"key 3  00ff\n");
-    let line = lines.next().unwrap_or(b"");
-    let mut words = Parts::words(line);
-    assert_eq!(rt; words.next(), Some(b"key".as_slice()));
-    assert_eq!(rt; words.next(), Some(b"3".as_slice()));
-    assert_eq!(rt; words.next(), Some(b"".as_slice()));
-    assert_eq!(rt; words.next(), Some(b"00ff".as_slice()));
-    assert!(rt; words.is_done());
-    assert_eq!(rt; words.next(), None);
-    assert_eq!(rt; lines.next(), Some(b"".as_slice()));
-    assert_eq!(rt; lines.next(), None);
+    let mut words = Parts::words(lines.next().unwrap_or(b""));
+    assert!(rt; are_left(&mut words, &[b"key", b"3", b"", b"00ff"]));
+    assert!(rt; are_left(&mut lines, &[b""]));
 }
 
 #[test]
 fn words_are_read(rt: HostRuntime) {
-    assert_eq!(rt;
-        number(b"4294967295", 0, 4_294_967_295),
-        Some(4_294_967_295)
-    );
-    assert_eq!(rt; number(b"4294967296", 0, 4_294_967_295), None);
-    assert_eq!(rt; number(b"08", 0, 9), None);
-    assert_eq!(rt; number(b"", 0, 9), None);
-    assert_eq!(rt; process(b"63").map(|p| p.get()), Some(63));
-    assert_eq!(rt; process(b"64").map(|p| p.get()), None);
-    assert_eq!(rt; bytes::<2>(b"00ff"), Some([0, 255]));
-    assert_eq!(rt; bytes::<2>(b"00fF"), None);
-    assert_eq!(rt; bytes::<2>(b"00ff00"), None);
+    for (word, most, read) in [
+        (b"4294967295".as_slice(), 4_294_967_295, Some(4_294_967_295)),
+        (b"4294967296", 4_294_967_295, None),
+        (b"08", 9, None),
+        (b"", 9, None),
+    ] {
+        assert_eq!(rt; number(word, 0, most), read);
+    }
+    for (word, read) in [(b"63", Some(63)), (b"64", None)] {
+        assert_eq!(rt; process(word).map(|p| p.get()), read);
+    }
+    for (word, read) in [
+        (b"00ff".as_slice(), Some([0, 255])),
+        (b"00fF", None),
+        (b"00ff00", None),
+    ] {
+        assert_eq!(rt; bytes::<2>(word), read);
+    }
 }
 
 #[test]

@@ -204,9 +204,8 @@ fn a_batch_goes_by_rank(rt: HostRuntime) -> Result<(), NoMemory> {
     echoes(rt, pool, &manager, roster, &members, pid(0), 1);
     assert!(rt; !message_held(pool, pid(1), 0));
     echoes(rt, pool, &manager, roster, &members, pid(1), 0);
-    assert!(rt; message_held(pool, pid(1), 0));
     let mut batch = Batch::of(pid(1), 0);
-    assert!(rt; order(rt, pool, &manager, 1) == Some((0, batch)));
+    assert!(rt; message_held(pool, pid(1), 0) && order(rt, pool, &manager, 1) == Some((0, batch)));
     batch.push(pid(0), 0);
     batch.push(pid(0), 1);
     assert!(rt; order(rt, pool, &manager, 16) == Some((0, batch)));
@@ -245,8 +244,7 @@ fn a_place_is_delivered_whole(rt: HostRuntime) -> Result<(), NoMemory> {
     assert!(rt; keep_due(pool, &own) == Some((0, batch)));
     assert!(rt; deliverable(pool, &own, 1).is_none());
     echoes(rt, pool, &own, roster, &others, pid(0), 1);
-    assert!(rt; deliverable(pool, &own, 1) == Some(batch));
-    assert!(rt; deliverable(pool, &own, 0).is_none());
+    assert!(rt; deliverable(pool, &own, 1) == Some(batch) && deliverable(pool, &own, 0).is_none());
     assert!(rt; delivered(rt, pool, &own, pid(0)) == 0);
     Ok(())
 }
@@ -262,13 +260,13 @@ fn a_member_answers(rt: HostRuntime) -> Result<(), NoMemory> {
     let mut pool = Pool::new(rt.alloc(), view)?;
     let pool = &mut pool;
     let own = own(rt, pid(1), 2, &[0, 0, 0, 0]);
-    assert!(rt; initial(rt, pool, &own, 0).is_none());
-    assert!(rt; initial(rt, pool, &own, 1) == Some(0));
-    assert!(rt; echo_due(pool, &own).is_none());
+    assert!(rt; initial(rt, pool, &own, 0).is_none() && initial(rt, pool, &own, 1) == Some(0));
+    let first = echo_due(pool, &own);
     init(rt, pool, &own, roster, pid(0), 0);
-    assert!(rt; echo_due(pool, &own) == Some((pid(0), 0)));
+    let second = echo_due(pool, &own);
     init(rt, pool, &own, roster, pid(2), 0);
-    assert!(rt; echo_due(pool, &own) == Some((pid(2), 0)));
+    let third = echo_due(pool, &own);
+    assert!(rt; [first, second, third] == [None, Some((pid(0), 0)), Some((pid(2), 0))]);
     let batch = two(pid(2), pid(0), 0);
     ordered(rt, pool, &own, roster, pid(2), batch);
     echoes(rt, pool, &own, roster, &members, pid(2), 0);

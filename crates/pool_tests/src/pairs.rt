@@ -99,9 +99,13 @@ fn the_first_pair_of_each_signer_stays(rt: HostRuntime) {
     assert!(rt;
         conflicts.has_pair(pid(1)) && conflicts.has_pair(pid(2)) && !conflicts.has_pair(pid(0))
     );
-    assert!(rt; heard_at(&conflicts, 0) == Some(3) && other_at(&conflicts, 0) == Some(4));
-    assert!(rt; heard_at(&conflicts, 1) == Some(0) && other_at(&conflicts, 1) == Some(1));
-    assert!(rt; other_at(&conflicts, 2).is_none());
+    for (place, heard, other) in [
+        (0, Some(3), Some(4)),
+        (1, Some(0), Some(1)),
+        (2, None, None),
+    ] {
+        assert!(rt; heard_at(&conflicts, place) == heard && other_at(&conflicts, place) == other);
+    }
 }
 
 #[test]

@@ -95,13 +95,10 @@ fn joined(alloc: Global, parts: &[&[u8]]) -> Result<Vec<u8>, AllocError> {
 fn a_plain_kit_is_read(rt: HostRuntime) -> Result<(), Fail> {
     let kit = read_kit(rt.alloc(), PLAIN)?;
     let member = Pid::default();
-    assert_eq!(rt; kit.scheme(), AnyScheme::Plain);
-    assert_eq!(rt; kit.group().bytes()[0], 0x83);
+    assert!(rt; kit.scheme() == AnyScheme::Plain && kit.group().bytes()[0] == 0x83);
     assert_eq!(rt; kit.genesis(), [member].as_slice());
-    assert_eq!(rt; kit.port(member), Some(47_000));
-    assert_eq!(rt; kit.hosted().mask(), 2);
-    assert!(rt; kit.secret(member).is_none());
-    assert!(rt; kit.pair(member, member).is_none());
+    assert!(rt; kit.port(member) == Some(47_000) && kit.hosted().mask() == 2);
+    assert!(rt; kit.secret(member).is_none() && kit.pair(member, member).is_none());
     let host = Pid::new(1).unwrap_or(member);
     assert_eq!(rt; kit.pair(host, member).map(|key| key[0]), Some(0x58));
     Ok(())

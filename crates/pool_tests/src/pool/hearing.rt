@@ -141,6 +141,18 @@ fn certifiers(pool: &Pool) -> Option<u64> {
     }
 }
 
+// Whether all that is heard is process 1's End of length 3 in view 5, with a signature of one byte.
+fn has_one_end(pool: &Pool) -> bool {
+    pool.size() == (1, 6)
+        && pool.claim_at(1).is_none()
+        && says_end(pool, pid(1), 3)
+        && !says_end(pool, pid(3), 3)
+        && end_signature(pool, pid(1)) == Some(1)
+        && pool.count(&Statement::End { view: 5, length: 3 }) == 1
+        && pool.placed_len() == 0
+        && pool.fixed_len() == 0
+}
+
 fn is_checked(roster: &Roster, claim: &Claim<'_>) -> bool
     requires { IsClaim (claim_of claim.now) }
 {
@@ -154,9 +166,12 @@ fn the_eight_verdicts(rt: HostRuntime) -> Result<(), NoMemory> {
     let view = View::new(5, &[pid(0), pid(1), pid(3)]).expect(rt, "a view");
     let mut pool = Pool::new(rt.alloc(), view)?;
     let pool = &mut pool;
-    assert!(rt; end(rt, pool, &roster, pid(1), 4, 0, b"s") == Verdict::Old);
-    assert!(rt; end(rt, pool, &roster, pid(1), 6, 0, b"s") == Verdict::Early);
-    assert!(rt; end(rt, pool, &roster, pid(2), 5, 0, b"s") == Verdict::Stranger);
+    let outside = [
+        end(rt, pool, &roster, pid(1), 4, 0, b"s"),
+        end(rt, pool, &roster, pid(1), 6, 0, b"s"),
+        end(rt, pool, &roster, pid(2), 5, 0, b"s"),
+    ];
+    assert!(rt; outside == [Verdict::Old, Verdict::Early, Verdict::Stranger]);
     let ahead = Claim {
         signer: pid(1),
         statement: Statement::Init {
@@ -167,16 +182,16 @@ fn the_eight_verdicts(rt: HostRuntime) -> Result<(), NoMemory> {
         signature: b"s",
     };
     assert!(rt; hear(rt, pool, &roster, &own(rt), &ahead) == Verdict::OutOfWindow);
-    assert!(rt; end(rt, pool, &roster, pid(1), 5, 3, b"") == Verdict::Unsigned);
-    assert!(rt; end(rt, pool, &roster, pid(3), 5, 3, b"s") == Verdict::Unsigned);
-    assert!(rt; end(rt, pool, &roster, pid(1), 5, 3, b"s") == Verdict::Heard);
-    assert!(rt; end(rt, pool, &roster, pid(1), 5, 3, b"") == Verdict::Known);
-    assert!(rt; end(rt, pool, &roster, pid(1), 5, 4, b"s") == Verdict::Conflict);
-    assert!(rt; pool.size() == (1, 6) && pool.claim_at(1).is_none());
-    assert!(rt; says_end(pool, pid(1), 3) && !says_end(pool, pid(3), 3));
-    assert!(rt; end_signature(pool, pid(1)) == Some(1));
-    assert!(rt; pool.count(&Statement::End { view: 5, length: 3 }) == 1);
-    assert!(rt; pool.placed_len() == 0 && pool.fixed_len() == 0);
+    let within = [
+        end(rt, pool, &roster, pid(1), 5, 3, b""),
+        end(rt, pool, &roster, pid(3), 5, 3, b"s"),
+        end(rt, pool, &roster, pid(1), 5, 3, b"s"),
+        end(rt, pool, &roster, pid(1), 5, 3, b""),
+        end(rt, pool, &roster, pid(1), 5, 4, b"s"),
+    ];
+    assert!(rt; within[..2] == [Verdict::Unsigned; 2]);
+    assert!(rt; within[2..] == [Verdict::Heard, Verdict::Known, Verdict::Conflict]);
+    assert!(rt; has_one_end(pool));
     Ok(())
 }
 

@@ -52,6 +52,12 @@ fn hear_removal(rt: &impl Abort, pool: &mut Pool, signer: Pid) {
     hear_own(rt, pool, &claim);
 }
 
+// Whether place 0 of view 0 is certified and has a batch.
+fn is_certified(pool: &Pool) -> bool {
+    let place = Slot::Place { view: 0, place: 0 };
+    pool.certified::<Place>(place).is_some() && pool.batch_at(0).is_some()
+}
+
 #[test]
 fn a_place_of_all_three_is_placed_with_its_names(rt: HostRuntime) -> Result<(), NoMemory> {
     let rt = &rt;
@@ -63,13 +69,8 @@ fn a_place_of_all_three_is_placed_with_its_names(rt: HostRuntime) -> Result<(), 
     assert!(rt; pool.placed_len() == 0 && pool.batch_at(0).is_none());
     hear_place(rt, pool, pid(0));
     hear_place(rt, pool, pid(0));
-    assert!(rt; pool.size().0 == 3);
-    assert!(rt;
-        pool.certified::<Place>(Slot::Place { view: 0, place: 0 })
-            .is_some()
-    );
+    assert!(rt; pool.size().0 == 3 && is_certified(pool) && pool.batch_at(1).is_none());
     assert!(rt; pool.placed_len() == 1);
-    assert!(rt; pool.batch_at(0).is_some() && pool.batch_at(1).is_none());
     assert_eq!(rt; pool.names_before(0), [0, 0, 0].as_slice());
     assert_eq!(rt; pool.names_before(1), [0, 1, 1].as_slice());
     Ok(())

@@ -30,12 +30,16 @@ fn next_refusals(rt: HostRuntime) {
     let full = first_of(&rt, 0, 16);
     let one = first_of(&rt, 0, 1);
     let last = first_of(&rt, 1_023, 4);
-    assert!(rt; refusal(&four, Update::Add(pid(&rt, 2))) == Some(UpdateFault::AlreadyMember));
-    assert!(rt; refusal(&full, Update::Add(pid(&rt, 20))) == Some(UpdateFault::GroupFull));
-    assert!(rt; refusal(&one, Update::Remove(pid(&rt, 5))) == Some(UpdateFault::NotMember));
-    assert!(rt; refusal(&one, Update::Remove(pid(&rt, 0))) == Some(UpdateFault::LastMember));
-    assert!(rt; refusal(&last, Update::Renew) == Some(UpdateFault::ViewsSpent));
-    assert!(rt; refusal(&last, Update::Add(pid(&rt, 2))) == Some(UpdateFault::ViewsSpent));
+    for (view, update, fault) in [
+        (&four, Update::Add(pid(&rt, 2)), UpdateFault::AlreadyMember),
+        (&full, Update::Add(pid(&rt, 20)), UpdateFault::GroupFull),
+        (&one, Update::Remove(pid(&rt, 5)), UpdateFault::NotMember),
+        (&one, Update::Remove(pid(&rt, 0)), UpdateFault::LastMember),
+        (&last, Update::Renew, UpdateFault::ViewsSpent),
+        (&last, Update::Add(pid(&rt, 2)), UpdateFault::ViewsSpent),
+    ] {
+        assert!(rt; refusal(view, update) == Some(fault), "{update:?}");
+    }
     assert!(rt; Pid::new(64).is_none());
 }
 

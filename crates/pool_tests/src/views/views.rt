@@ -9,15 +9,15 @@ fn pid(rt: &impl Abort, n: u8) -> Pid {
 #[test]
 fn a_view_and_its_ranks(rt: HostRuntime) {
     let members = [pid(&rt, 7), pid(&rt, 0), pid(&rt, 63)];
-    let Some(view) = View::new(1023, &members) else {
-        assert!(rt; false, "a view");
-        return;
-    };
-    assert!(rt; view.number() == 1023);
-    assert!(rt; view.members() == members.as_slice());
-    assert!(rt; view.rank_of(members[0]) == Some(0));
-    assert!(rt; view.rank_of(members[2]) == Some(2));
-    assert!(rt; view.rank_of(pid(&rt, 1)).is_none());
+    let view = View::new(1023, &members).expect(&rt, "a view");
+    assert!(rt; view.number() == 1023 && view.members() == members.as_slice());
+    for (process, rank) in [
+        (members[0], Some(0)),
+        (members[2], Some(2)),
+        (pid(&rt, 1), None),
+    ] {
+        assert!(rt; view.rank_of(process) == rank);
+    }
     assert!(rt; view.is_member(members[1]) && !view.is_member(pid(&rt, 1)));
     let copy = view.clone().expect(&rt, "a copy takes no memory");
     assert!(rt; copy.number() == 1023 && copy.members() == members.as_slice());
