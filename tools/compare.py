@@ -36,6 +36,7 @@ def first_difference(ours, theirs):
 
 
 def main(first, count, command):
+    subprocess.run([OURS[0], "--prove"], check=True)
     seen = dict.fromkeys(SEEN, 0)
     different = 0
     for number in range(first, first + count):

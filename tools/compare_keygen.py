@@ -41,6 +41,7 @@ def answer(command, words):
 
 
 def main(command):
+    subprocess.run([os.path.join(TOP, "rampart"), "--prove"], check=True)
     questions = [(n, r, keys, seed) for n, r, keys in ORDERS for seed in (SEED, OTHER_SEED)]
     questions += [(n, r, keys, SEED) for n, r, keys in REFUSED] + [(1, 1, "plain:1", seed) for seed in BAD_SEEDS]
     questions += [(1, 1, "plain:1"), (1, 1, "plain:1", SEED, "go")]

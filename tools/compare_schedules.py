@@ -243,6 +243,7 @@ def main(number, count, folder):
     texts = list(fixed())
     texts += [drawing.text() for _ in range(count - len(texts))]
     build()
+    subprocess.run([str(PROGRAM), "--prove"], check=True)
     different = compare([("schedule " + word(text), theirs.answer(text)) for text in texts], kind)
     draw = random.Random(number)
     numbers = [0, 1, 2, 2**31, 2**32 - 1] + [draw.getrandbits(32) for _ in range(95)]

@@ -198,6 +198,8 @@ def ours(program, data):
 
 
 def main(first, count, folder, program=STORY):
+    if program == STORY:
+        subprocess.run([str(STORY), "--prove"], check=True)
     reader = their_modules(folder).other
     ours_of_schedules = sys.modules.pop("schedules")
     sys.modules["schedules"] = reader

@@ -5,6 +5,7 @@ set -eu
 top=$(cd "$(dirname "$0")/.." && pwd)
 room=$(mktemp -d)
 trap 'rm -rf "$room"' EXIT
+"$top/story" --prove
 for name in $(sed -n 's|.*(pictures/\([a-z_]*\)\.svg).*|\1|p' "$top/docs/EXAMPLES.md"); do
     "$top/story" draw <"$top/examples/$name.rps" >"$top/docs/pictures/$name.svg"
 done

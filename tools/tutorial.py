@@ -48,6 +48,7 @@ def run():
     with tempfile.TemporaryDirectory() as folder:
         for program in ("story", "rampart"):
             (pathlib.Path(folder) / program).symlink_to(TOP / program)
+            subprocess.run([str(TOP / program), "--prove"], check=True)
         for what, name, text in steps():
             if what == "file":
                 (pathlib.Path(folder) / name).write_text(text)
