@@ -1,0 +1,4 @@
+pub mod DigestWords
+pub mod Four
+pub mod InLane
+mod Short
