@@ -3,10 +3,9 @@
 // | Bytes | 0 to 15 | 16 to 19 | 20 to 21 | 22 | 23 to 54 |
 // |---|---|---|---|---|---|
 // | Field | I | q | chain i | step j | value |
-ghost use Rattle.std.specs.Prelude.{◌≡◌, ◌<◌, ◌≤◌, ◌-◌, ◌++◌, length, take};
+ghost use Rattle.std.specs.Prelude.{◌≡◌, ◌++◌, length, take};
 ghost use Rattle.sha2.specs.Sha256.{sha256};
 ghost use Rattle.signature_defs.specs.Strings.{u8str, u16str, u32str};
-ghost use Rattle.signature_defs.specs.LmOts.{chain};
 
 use sha2::{Digest, Sha256};
 
@@ -53,19 +52,4 @@ pub(crate) fn secret(head: &[u8; 22], seed: &[u8; 32]) -> [u8; 32]
     ensures { result ≡ sha256 (head.now ++ u8str 0xff ++ seed.now) }
 {
     step(&mut block_of(head), 0xff, seed)
-}
-
-// The value before step `to`, from the one before step `from`.
-pub(crate) fn walk(head: &[u8; 22], from: u8, to: u8, start: &[u8]) -> [u8; 32]
-    requires forward { from ≤ to }
-    requires start { length start.now ≡ 32 }
-    ensures { result ≡ chain head.now from (to - from) start.now }
-{
-    let mut block = block_of(head);
-    let mut value = [0u8; 32];
-    value.copy_from_slice(start);
-    for j in from..to {
-        value = step(&mut block, j, &value);
-    }
-    value
 }

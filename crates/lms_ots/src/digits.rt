@@ -1,9 +1,10 @@
 // Digits of a message's hash and of its checksum (RFC 8554, sections 3.1.3 and 4.4).
-ghost use Rattle.std.specs.Prelude.{◌≡◌, ◌<◌, ◌≤◌, ◌*◌, ◌/◌, ◌++◌, length};
+ghost use Rattle.std.specs.Prelude.{◌≡◌, ℕ, ◌<◌, ◌≤◌, ◌*◌, ◌/◌, ◌++◌, length, slice_index};
 ghost use Rattle.signature_defs.specs.Strings.{coef};
 ghost use Rattle.signature_defs.specs.LmOts.{checksum, digit, ots_chains, ots_steps, ots_width};
 
-use crate::kinds::{ots_shift, ots_steps, ots_width};
+use crate::kinds::{ots_chains, ots_shift, ots_steps, ots_width};
+use lms_chains::{CHAINS, Numbers};
 use signature_defs::OtsType;
 
 // The digit at place `i` of a string.
@@ -51,5 +52,16 @@ impl Digits {
         ensures bound { result ≤ ots_steps kind }
     {
         coef(&self.bytes, usize::from(i), kind)
+    }
+    // The digits of all chains.
+    pub(crate) fn all(&self, kind: OtsType) -> Numbers
+        ensures value { (i : ℕ) → i < ots_chains kind → slice_index result i ≡ coef self.now.bytes i (ots_width kind) }
+        ensures bound { (i : ℕ) → i < ots_chains kind → slice_index result i ≤ ots_steps kind }
+    {
+        let mut all = [0u16; CHAINS];
+        'digits: for i in 0..ots_chains(kind) {
+            all[usize::from(i)] = u16::from(self.at(i, kind));
+        }
+        all
     }
 }

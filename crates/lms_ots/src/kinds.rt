@@ -58,6 +58,7 @@ pub(crate) fn ots_width(kind: OtsType) -> usize
 // p, the number of chains.
 pub(crate) fn ots_chains(kind: OtsType) -> u16
     ensures value { result ≡ ots_chains kind }
+    ensures some { 1 ≤ result }
     ensures bound { result ≤ 265 }
 {
     match kind {

@@ -3,17 +3,18 @@
 // | Bytes | 0 to 3 | 4 to 35 | 36 to 67 | ... |
 // |---|---|---|---|---|
 // | Field | typecode | C | y[0] | ... to y[p - 1] |
-ghost use Rattle.std.specs.Prelude.{◌≡◌, ◌<◌, ◌≤◌, ◌++◌, length};
+ghost use Rattle.std.specs.Prelude.{◌≡◌, ℕ, ◌+◌, ◌*◌, ◌<◌, ◌≤◌, ◌++◌, [], length, slice_index_or};
 ghost use Rattle.std.specs.Option.{option_map};
 ghost use Rattle.sha2.specs.Sha256.{sha256};
 ghost use Rattle.sha2.specs.Hashers.{Holds256};
-ghost use Rattle.signature_defs.specs.Strings.{u16str, u32str};
+ghost use Rattle.signature_defs.specs.Strings.{part, u16str, u32str};
 ghost use Rattle.signature_defs.specs.LmOts.{message_hash, ots_candidate, ots_public_key, ots_signature, ots_signature_length, ots_signature_type, randomizer};
 
-use crate::chains::{chain_head, key_head, secret, walk};
+use crate::chains::{chain_head, key_head, secret};
 use crate::digits::Digits;
 use crate::fields::u32_at;
 use crate::kinds::{ots_chains, ots_signature_length, ots_steps, ots_type_of, ots_typecode};
+use lms_chains::{CHAINS, Steps, Values, same, secrets, walk_alike, walk_by_length};
 use sha2::{Digest, Sha256};
 use signature_defs::OtsType;
 
@@ -49,12 +50,12 @@ pub fn ots_public(kind: OtsType, id: &[u8; 16], q: u32, seed: &[u8; 32]) -> [u8;
     ensures { result ≡ ots_public_key kind id.now q seed.now }
 {
     let key = key_head(id, q);
-    let steps = ots_steps(kind);
+    let count = ots_chains(kind);
+    let starts = secrets(&key, count, seed);
+    let ends = walk_alike(&key, count, ots_steps(kind), &starts);
     let mut hasher = tagged(&key, D_PBLC);
-    for i in 0..ots_chains(kind) {
-        let head = chain_head(&key, i);
-        let end = walk(&head, 0, steps, &secret(&head, seed));
-        hasher.update(&end);
+    for i in 0..count {
+        hasher.update(&ends[usize::from(i)]);
     }
     hasher.finalize()
 }
@@ -78,11 +79,15 @@ pub fn ots_sign_into(
     let digits = Digits::new(&message_hash(&key, &c, message), kind);
     out[..4].copy_from_slice(&ots_typecode(kind).to_be_bytes());
     out[4..36].copy_from_slice(&c);
-    for i in 0..ots_chains(kind) {
-        let head = chain_head(&key, i);
-        let value = walk(&head, 0, digits.at(i, kind), &secret(&head, seed));
+    let count = ots_chains(kind);
+    let steps = Steps {
+        from: same(0),
+        to: digits.all(kind),
+    };
+    let ends = walk_by_length(&key, count, &steps, &secrets(&key, count, seed));
+    for i in 0..count {
         let at = 36 + 32 * usize::from(i);
-        out[at..at + 32].copy_from_slice(&value);
+        out[at..at + 32].copy_from_slice(&ends[usize::from(i)]);
     }
     ots_signature_length(kind)
 }
@@ -102,6 +107,30 @@ fn signature_type(sig: &[u8]) -> Option<OtsType>
     }
 }
 
+// The value of a chain in a signature.
+fn value_at(sig: &[u8], i: u16) -> [u8; 32]
+    requires { 68 + 32 * i ≤ length sig.now }
+    ensures { result ≡ part (36 + 32 * i) 32 sig.now }
+{
+    let at = 36 + 32 * usize::from(i);
+    let mut value = [0u8; 32];
+    value.copy_from_slice(&sig[at..at + 32]);
+    value
+}
+
+// The values of all chains in a signature.
+fn values_of(sig: &[u8], count: u16) -> Values
+    requires count { count ≤ 265 }
+    requires length { 36 + 32 * count ≤ length sig.now }
+    ensures { (i : ℕ) → i < count → slice_index_or result i [] ≡ part (36 + 32 * i) 32 sig.now }
+{
+    let mut values = [[0u8; 32]; CHAINS];
+    'values: for i in 0..count {
+        values[usize::from(i)] = value_at(sig, i);
+    }
+    values
+}
+
 /// The public key that a signature on the message leads to (RFC 8554, section 4.6, algorithm 4b). None exactly where the
 /// typecode is not 1 to 4 or the length is not that type's.
 pub fn ots_candidate(id: &[u8; 16], q: u32, message: &[u8], sig: &[u8]) -> Option<[u8; 32]>
@@ -110,13 +139,15 @@ pub fn ots_candidate(id: &[u8; 16], q: u32, message: &[u8], sig: &[u8]) -> Optio
     let kind = signature_type(sig)?;
     let key = key_head(id, q);
     let digits = Digits::new(&message_hash(&key, &sig[4..36], message), kind);
-    let steps = ots_steps(kind);
+    let count = ots_chains(kind);
+    let steps = Steps {
+        from: digits.all(kind),
+        to: same(u16::from(ots_steps(kind))),
+    };
+    let ends = walk_by_length(&key, count, &steps, &values_of(sig, count));
     let mut hasher = tagged(&key, D_PBLC);
-    for i in 0..ots_chains(kind) {
-        let head = chain_head(&key, i);
-        let at = 36 + 32 * usize::from(i);
-        let end = walk(&head, digits.at(i, kind), steps, &sig[at..at + 32]);
-        hasher.update(&end);
+    for i in 0..count {
+        hasher.update(&ends[usize::from(i)]);
     }
     Some(hasher.finalize())
 }

@@ -1,5 +1,4 @@
-use Rattle.std.proofs.Common.{◌≡◌, ◌∙◌, ◌++◌, ℕ, List, arith, append-nil}
-use Rattle.std.proofs.Math.Nat.{sub-zero}
+use Rattle.std.proofs.Common.{◌≡◌, ◌<◌, ◌∙◌, ◌++◌, ℕ, List, [], slice_index_or, arith, append-nil, refl}
 use Rattle.signature_defs.specs.Strings.{u16str, u32str}
 use Rattle.signature_defs.specs.LmOts.{D_PBLC, chain, chain_head, ots_chains, ots_steps, secret}
 use Rattle.signature_defs.proofs.StringLaws.{before_strings_more, strings_none}
@@ -12,8 +11,10 @@ pub loop-i-preserved : goal.loop-i-preserved
 loop-i-preserved c =
     let end : ℕ → List ℕ = λ i. chain (chain_head c.args.id.now c.args.q i) 0 (ots_steps c.args.kind)
     (secret c.args.id.now c.args.q c.args.seed.now i) in
-    let here : c.walk-end.result ≡ end c.loop-i.i =
-    c.walk-end.ensures ∙ rw (sub-zero, c.secret.ensures, c.chain_head-head.ensures, c.key_head-key.ensures, c.ots_steps-steps.ensures) in
+    let low : c.loop-i.i < c.ots_chains-count.result = omega arith in
+    let here : slice_index_or c.walk_alike-ends.result c.from.result [] ≡ end c.loop-i.i =
+    rw c.from.ensures (c.walk_alike-ends.ensures c.loop-i.i low
+    ∙ rw (c.secrets-starts.ensures c.loop-i.i low, c.key_head-key.ensures, c.ots_steps.ensures)) in
     rw (← before_strings_more (c.args.id.now ++ u32str c.args.q ++ u16str D_PBLC) end c.loop-i.i, ← here)
     (c.update.ensures _ c.loop-i.invariant)
 

@@ -1,4 +1,4 @@
-use Rattle.std.proofs.Common.{◌≡◌, ◌≤◌, ◌∙◌, ◌+◌, ◌-◌, ◌*◌, ◌++◌, ℕ, List, length, drop, refl, ap, arith}
+use Rattle.std.proofs.Common.{◌≡◌, ◌<◌, [], slice_index_or, ◌≤◌, ◌∙◌, ◌+◌, ◌-◌, ◌*◌, ◌++◌, ℕ, List, length, drop, refl, ap, arith}
 use Rattle.std.proofs.Math.Nat.{sub-zero}
 use Rattle.std.proofs.lemmas.Slice.{take-put_mid}
 use borrow.Rule.Slice.PartMut.{mid_len}
@@ -25,19 +25,21 @@ loop-i-preserved c =
     let random : List ℕ = randomizer c.args.id.now c.args.q c.args.seed.now in
     let value : ℕ → List ℕ = signed_value c.args.kind c.args.id.now c.args.q c.args.seed.now
     (message_hash c.args.id.now c.args.q random c.args.message.now) in
-    let here : c.copy_from_slice-in-loop-i.new.self ≡ value c.loop-i.i =
-    c.copy_from_slice-in-loop-i.ensures.after ∙ c.walk-value.ensures
+    let low : c.loop-i.i < c.ots_chains-count.result = omega arith in
+    let there : slice_index_or c.walk_by_length-ends.result c.from-2.result [] ≡ value c.loop-i.i =
+    rw c.from-2.ensures (c.walk_by_length-ends.ensures c.loop-i.i low
     ∙ rw (
+      c.secrets.ensures c.loop-i.i low,
+      c.same.ensures c.loop-i.i (omega arith),
       sub-zero,
-      c.at.ensures.value,
+      c.all.ensures.value c.loop-i.i (omega arith),
       c.new-digits.ensures,
       c.message_hash.ensures,
       c.secret-c.ensures,
       c.chain_head.ensures,
-      c.secret.ensures,
-      c.chain_head-head.ensures,
       c.key_head-key.ensures,
-    ) in
+    )) in
+    let here : c.copy_from_slice-in-loop-i.new.self ≡ value c.loop-i.i = c.copy_from_slice-in-loop-i.ensures.after ∙ there in
     let at : ℕ = 36 + 32 * c.from.result in
     let fits : at + 32 ≤ length c.loop-i.out = omega arith in
     let long : length c.copy_from_slice-in-loop-i.new.self

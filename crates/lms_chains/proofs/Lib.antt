@@ -1,0 +1,3 @@
+mod LaneBlock
+mod ChainSteps
+mod Placed

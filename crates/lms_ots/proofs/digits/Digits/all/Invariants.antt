@@ -1,0 +1,10 @@
+use Rattle.std.proofs.Common.{◌≡◌, ℕ, ◌<◌, ◌≤◌, length, slice_index}
+use Rattle.signature_defs.specs.Strings.{coef}
+use Rattle.signature_defs.specs.LmOts.{ots_steps, ots_width}
+use Rattle.lms_ots.proofs.digits.Digits.all.Given as goal
+
+abbrev pub invariant-digits : goal.invariant-digits
+invariant-digits l = record {
+  value : (k : ℕ) → k < l.i → slice_index l.all k ≡ coef l.fn.self.bytes k (ots_width l.fn.kind);
+  bound : (k : ℕ) → k < l.i → slice_index l.all k ≤ ots_steps l.fn.kind;
+}
