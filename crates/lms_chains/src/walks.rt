@@ -82,12 +82,7 @@ fn greatest(numbers: &Numbers, at: [u16; 4]) -> u16
 }
 
 // Walks the chains of these numbers.
-fn walk_these(
-    key: &[u32; 5],
-    at: [u16; 4],
-    steps: &Steps,
-    starts: &Values,
-) -> [[u8; 32]; 4]
+fn walk_these(key: &[u32; 5], at: [u16; 4], steps: &Steps, starts: &Values) -> [[u8; 32]; 4]
     requires at { (l : ℕ) → l < 4 → slice_index at l < 265 }
     requires steps { (l : ℕ) → l < 4 → HasSteps steps.now.from steps.now.to (slice_index at l) }
     ensures { (l : ℕ) → l < 4 → slice_index_or result l []
@@ -108,13 +103,7 @@ fn walk_these(
 }
 
 // The same, each end in its chain's place.
-fn walk_into(
-    key: &[u32; 5],
-    at: [u16; 4],
-    steps: &Steps,
-    starts: &Values,
-    ends: &mut Values,
-)
+fn walk_into(key: &[u32; 5], at: [u16; 4], steps: &Steps, starts: &Values, ends: &mut Values)
     requires at { (l : ℕ) → l < 4 → slice_index at l < 265 }
     requires steps { (l : ℕ) → l < 4 → HasSteps steps.now.from steps.now.to (slice_index at l) }
     ensures there { (l : ℕ) → l < 4 → slice_index_or ends.new (slice_index at l) []
@@ -131,12 +120,7 @@ fn walk_into(
 }
 
 // All chains, of which four at a time are neighbours: for chains of like lengths. The last four may have a chain twice.
-pub fn walk_in_order(
-    key: &[u8; 20],
-    count: u16,
-    steps: &Steps,
-    starts: &Values,
-) -> Values
+pub fn walk_in_order(key: &[u8; 20], count: u16, steps: &Steps, starts: &Values) -> Values
     requires count { count ≤ 265 }
     requires steps { (i : ℕ) → i < count → HasSteps steps.now.from steps.now.to i }
     ensures { (i : ℕ) → i < count → slice_index_or result i [] ≡ end_of key.now steps.now.from steps.now.to starts.now i }
@@ -182,12 +166,7 @@ pub fn secrets(key: &[u8; 20], count: u16, seed: &[u8; 32]) -> Values
 }
 
 // The values of all chains before step `to`, from those before step 0.
-pub fn walk_alike(
-    key: &[u8; 20],
-    count: u16,
-    to: u8,
-    starts: &Values,
-) -> Values
+pub fn walk_alike(key: &[u8; 20], count: u16, to: u8, starts: &Values) -> Values
     requires count { count ≤ 265 }
     ensures { (i : ℕ) → i < count → slice_index_or result i [] ≡ chain (key.now ++ u16str i) 0 to (slice_index_or starts.now i []) }
 {
@@ -272,12 +251,7 @@ fn none_done() -> [bool; CHAINS]
 
 // All chains, of which four at a time take about as many steps, the longest first; the last ones, fewer than four and the
 // shortest, are walked each alone.
-pub fn walk_by_length(
-    key: &[u8; 20],
-    count: u16,
-    steps: &Steps,
-    starts: &Values,
-) -> Values
+pub fn walk_by_length(key: &[u8; 20], count: u16, steps: &Steps, starts: &Values) -> Values
     requires some { 1 ≤ count }
     requires count { count ≤ 265 }
     requires steps { (i : ℕ) → i < count → HasSteps steps.now.from steps.now.to i }

@@ -7,7 +7,7 @@ ghost use Rattle.std.specs.Prelude.{◌≡◌, ℕ, ◌+◌, ◌*◌, ◌<◌, �
 ghost use Rattle.std.specs.Option.{option_map};
 ghost use Rattle.sha2.specs.Sha256.{sha256};
 ghost use Rattle.sha2.specs.Hashers.{Holds256};
-ghost use Rattle.signature_defs.specs.Strings.{part, u16str, u32str};
+ghost use Rattle.signature_defs.specs.Strings.{part, strings, u16str, u32str};
 ghost use Rattle.signature_defs.specs.LmOts.{message_hash, ots_candidate, ots_public_key, ots_signature, ots_signature_length, ots_signature_type, randomizer};
 
 use crate::chains::{chain_head, key_head, secret};
@@ -44,6 +44,18 @@ fn message_hash(key: &[u8; 20], c: &[u8], message: &[u8]) -> [u8; 32]
     hasher.finalize()
 }
 
+// The ends of all chains hashed to a public key.
+fn hash_of_ends(key: &[u8; 20], count: u16, ends: &Values) -> [u8; 32]
+    requires { count ≤ 265 }
+    ensures { result ≡ sha256 (key.now ++ u16str 0x8080 ++ strings (λ i. slice_index_or ends.now i []) count) }
+{
+    let mut hasher = tagged(key, D_PBLC);
+    for i in 0..count {
+        hasher.update(&ends[usize::from(i)]);
+    }
+    hasher.finalize()
+}
+
 /// The public key of one-time key `q` (RFC 8554, section 4.3), whose chains begin at values made from the seed
 /// (Appendix A).
 pub fn ots_public(kind: OtsType, id: &[u8; 16], q: u32, seed: &[u8; 32]) -> [u8; 32]
@@ -53,11 +65,7 @@ pub fn ots_public(kind: OtsType, id: &[u8; 16], q: u32, seed: &[u8; 32]) -> [u8;
     let count = ots_chains(kind);
     let starts = secrets(&key, count, seed);
     let ends = walk_alike(&key, count, ots_steps(kind), &starts);
-    let mut hasher = tagged(&key, D_PBLC);
-    for i in 0..count {
-        hasher.update(&ends[usize::from(i)]);
-    }
-    hasher.finalize()
+    hash_of_ends(&key, count, &ends)
 }
 
 /// Writes the signature of one-time key `q` on the message (RFC 8554, section 4.5), and gives its length. Its C is made
@@ -145,9 +153,5 @@ pub fn ots_candidate(id: &[u8; 16], q: u32, message: &[u8], sig: &[u8]) -> Optio
         to: same(u16::from(ots_steps(kind))),
     };
     let ends = walk_by_length(&key, count, &steps, &values_of(sig, count));
-    let mut hasher = tagged(&key, D_PBLC);
-    for i in 0..count {
-        hasher.update(&ends[usize::from(i)]);
-    }
-    Some(hasher.finalize())
+    Some(hash_of_ends(&key, count, &ends))
 }

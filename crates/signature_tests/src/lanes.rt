@@ -37,12 +37,7 @@ fn four_lanes_hash_four_messages_of_the_standard_and_of_other_lengths(
     let abc = b"abc";
     let one_block = b"a block with its padding has room for fifty-five bytes.";
     let other = b"another message";
-    let digests = hash_short(blocks(&[
-        halves(abc),
-        halves(b""),
-        halves(one_block),
-        halves(other),
-    ]));
+    let digests = hash_short(blocks(&[halves(abc), halves(b""), halves(one_block), halves(other)]));
     for (lane, message, head) in [
         (0, abc.as_slice(), 0xba7816bf8f01cfea),
         (1, b"".as_slice(), 0xe3b0c44298fc1c14),

@@ -1,28 +1,34 @@
-use Rattle.std.proofs.Common.{◌≡◌, ◌<◌, [], slice_index_or, ◌∙◌, ◌+◌, ◌-◌, ◌*◌, ◌++◌, ℕ, List, arith}
-use Rattle.signature_defs.specs.Strings.{part, u16str, u32str}
-use Rattle.signature_defs.specs.LmOts.{D_PBLC, message_hash, reached_end}
-use Rattle.signature_defs.proofs.StringLaws.{before_strings_more, before_strings_none}
+use Rattle.std.proofs.Common.{◌≡◌, ◌<◌, ◌∙◌, ◌++◌, ℕ, List, [], Some, slice_index_or, ap, arith}
+use Rattle.std.specs.Option.{option_map}
+use Rattle.sha2.specs.Sha256.{sha256}
+use Rattle.signature_defs.specs.declared.OtsType.{OtsType}
+use Rattle.signature_defs.specs.Strings.{part, strings, u16str, u32str}
+use Rattle.signature_defs.specs.LmOts.{D_PBLC, candidate_by, message_hash, ots_chains, reached_end}
+use Rattle.signature_defs.proofs.StringLaws.{same_strings}
 use Rattle.lms_ots.proofs.signatures.ots_candidate.Goals as goal
 
-pub loop-i-init : goal.loop-i-init
-loop-i-init c = rw (← before_strings_none, ← c.key_head-key.ensures) c.tagged-hasher.ensures
-
-pub loop-i-preserved : goal.loop-i-preserved
-loop-i-preserved c =
-    let end : ℕ → List ℕ = reached_end c.in_ok-kind.kind c.args.id.now c.args.q
-    (message_hash c.args.id.now c.args.q (part 4 32 c.args.sig.now) c.args.message.now) c.args.sig.now in
-    let low : c.loop-i.i < c.ots_chains-count.result = omega arith in
-    let here : slice_index_or c.walk_by_length-ends.result c.from-2.result [] ≡ end c.loop-i.i =
-    rw c.from-2.ensures (c.walk_by_length-ends.ensures c.loop-i.i low
+pub returns : goal.returns
+returns c =
+    let id : List ℕ = c.args.id.now in
+    let sig : List ℕ = c.args.sig.now in
+    let kind : OtsType = c.in_ok-kind.kind in
+    let by : OtsType → List ℕ = λ (k : OtsType). candidate_by k id c.args.q c.args.message.now sig in
+    let end : ℕ → List ℕ = reached_end kind id c.args.q (message_hash id c.args.q (part 4 32 sig) c.args.message.now) sig in
+    let same = same_strings (λ (i : ℕ). slice_index_or c.walk_by_length-ends.result i []) end (ots_chains kind)
+    (λ i among.
+    let low : i < c.ots_chains-count.result = omega arith in
+    c.walk_by_length-ends.ensures i low
     ∙ rw (
-      c.values_of.ensures c.loop-i.i low,
-      c.same.ensures c.loop-i.i (omega arith),
+      c.values_of.ensures i low,
+      c.same.ensures i (omega arith),
       c.from.ensures,
-      c.all.ensures.value c.loop-i.i (omega arith),
+      c.all.ensures.value i (omega arith),
       c.new-digits.ensures,
       c.message_hash.ensures,
       c.key_head-key.ensures,
       c.ots_steps.ensures,
     )) in
-    rw (← before_strings_more (c.args.id.now ++ u32str c.args.q ++ u16str D_PBLC) end c.loop-i.i, ← here)
-    (c.update.ensures _ c.loop-i.invariant)
+    let hash : c.hash_of_ends.result ≡ by kind =
+    c.hash_of_ends.ensures ∙ rw (c.key_head-key.ensures, c.ots_chains-count.ensures.value)
+    (ap (λ (s : List ℕ). sha256 (id ++ u32str c.args.q ++ u16str D_PBLC ++ s)) same) in
+    ap (λ (k : List ℕ). Some k) hash ∙ ap (option_map by) c.in_ok-kind.ensures

@@ -26,8 +26,8 @@ loop-i-preserved c =
     let value : ℕ → List ℕ = signed_value c.args.kind c.args.id.now c.args.q c.args.seed.now
     (message_hash c.args.id.now c.args.q random c.args.message.now) in
     let low : c.loop-i.i < c.ots_chains-count.result = omega arith in
-    let there : slice_index_or c.walk_by_length-ends.result c.from-2.result [] ≡ value c.loop-i.i =
-    rw c.from-2.ensures (c.walk_by_length-ends.ensures c.loop-i.i low
+    let there : slice_index_or c.walk_by_length-ends.result c.from-in-loop-i.result [] ≡ value c.loop-i.i =
+    rw c.from-in-loop-i.ensures (c.walk_by_length-ends.ensures c.loop-i.i low
     ∙ rw (
       c.secrets.ensures c.loop-i.i low,
       c.same.ensures c.loop-i.i (omega arith),

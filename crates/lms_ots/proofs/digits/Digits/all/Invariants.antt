@@ -5,6 +5,7 @@ use Rattle.lms_ots.proofs.digits.Digits.all.Given as goal
 
 abbrev pub invariant-digits : goal.invariant-digits
 invariant-digits l = record {
+  whole : length l.all ≡ 265;
   value : (k : ℕ) → k < l.i → slice_index l.all k ≡ coef l.fn.self.bytes k (ots_width l.fn.kind);
   bound : (k : ℕ) → k < l.i → slice_index l.all k ≤ ots_steps l.fn.kind;
 }
