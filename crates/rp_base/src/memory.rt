@@ -2,8 +2,7 @@ ghost use Rattle.std.specs.Prelude.{◌≡◌};
 
 use std::alloc::{AllocError, AllocFailed};
 
-/// An allocation was refused. Nothing has changed unless the call's page says otherwise, so the same call may be
-/// tried again.
+/// An allocation was refused. What the call has changed by then, its clauses say.
 #[derive(Clone, Copy, Debug, PartialEq, Eq)]
 pub struct NoMemory;
 

@@ -1,4 +1,4 @@
-ghost use Rattle.std.specs.Prelude.{◌≡◌, ◌<◌, ◌≤◌, ◌+◌, ◌++◌, ℕ, List, Bool, true, length, take, IfOk, OnErr, IsErr, IsTrue, ◌↔◌, ◌≢◌};
+ghost use Rattle.std.specs.Prelude.{◌≡◌, ◌<◌, ◌≤◌, ◌+◌, ◌++◌, ℕ, List, Bool, true, length, take, drop, IfOk, OnErr, IsErr, IsTrue, ◌↔◌, ◌≢◌};
 ghost use Rattle.signature_defs.specs.Plain.{plain_signature, plain_valid};
 
 use sha2::{Digest, Sha256};
@@ -73,8 +73,8 @@ pub trait Signer: Tally {
         ensures bound { result ≤ 16384 };
 
     /// Writes the signature that the secret, the number used and the body determine to the front of `out`, which has
-    /// at least `sig_len` bytes, and answers its length. The signer's own rule admits it, and one more is used.
-    /// `Spent` comes exactly where all are used, and changes nothing.
+    /// at least `sig_len` bytes, and answers its length; the bytes after it stay. The signer's own rule admits it, and one
+    /// more is used. `Spent` comes exactly where all are used, and changes nothing.
     fn sign(&mut self, body: &[u8], out: &mut [u8]) -> Result<usize, Spent>
         requires { sig_len self.old ≤ length out.old }
         ensures written { IfOk result (λ n. (n ≤ sig_len self.old) × (take n out.new ≡ signature self.old (Self.used self.old) body.now)) }
@@ -83,6 +83,7 @@ pub trait Signer: Tally {
         ensures spent { IsErr result ↔ (Self.used self.old ≡ Self.total self.old) }
         ensures same { OnErr result (self.new ≡ self.old) }
         ensures unwritten { OnErr result (out.new ≡ out.old) }
+        ensures rest { IfOk result (λ n. drop n out.new ≡ drop n out.old) }
         ensures total { Self.total self.new ≡ Self.total self.old }
         ensures key { public self.new ≡ public self.old }
         ensures secret { signature self.new ≡ signature self.old }

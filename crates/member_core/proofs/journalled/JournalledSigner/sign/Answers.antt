@@ -1,7 +1,7 @@
 use Rattle.std.proofs.Common.{◌-◌, ◌≤◌, ◌∙◌, length, drop, refl, sym, arith}
 use Rattle.std.proofs.lemmas.List.{length-take-le}
 use Rattle.stmt_codec.specs.Kept.{signatures_left}
-use Rattle.rp_base.proofs.Copies.{front_is}
+use Rattle.rp_base.proofs.Copies.{front_is, rest_is}
 use Rattle.member_core.proofs.Handing.{next-short, next-is, some-left, one-more, passed-on}
 use Rattle.member_core.proofs.journalled.JournalledSigner.sign.Goals as goal
 
@@ -56,3 +56,8 @@ returns-clause-written c =
       front_is (length sig) _ sig (drop (length sig) c.args.out.now) refl c.copy_from_slice.ensures.after ∙ sym
           (next-is (signatures_left j.all) (j.used - j.before) sig more (sym j.rest ∙ c.in-Some.ensures.steps)),
     )
+
+pub returns-clause-rest : goal.returns-clause-rest
+returns-clause-rest c =
+    let sig = c.in-Some.signature.now in
+    rest_is (length sig) _ sig (drop (length sig) c.args.out.now) refl c.copy_from_slice.ensures.after
