@@ -31,7 +31,7 @@ pub const SEAL_BYTES: usize = 54;
 pub const FRAME_BYTES: usize = 61000;
 
 /// A frame, and who sent it: a process that knows the key that the receiver shares with `from`.
-#[derive(Clone, Copy, Debug)]
+#[derive(Clone, Copy)]
 pub struct Opened<'a> {
     /// The sender.
     pub from: Pid,

@@ -25,7 +25,7 @@ use stmt_codec::{Claim, STATEMENT_BYTES, Slot, Statement, read_statement, spell_
 use view_table::{View, quorum};
 
 /// Where the bytes of a claim stand: its statement's from `start` on, and its signature's behind them.
-#[derive(Clone, Copy, Debug)]
+#[derive(Clone, Copy)]
 pub struct Kept {
     start: usize,
     said: u16,
@@ -36,7 +36,7 @@ pub struct Kept {
 const KIND_NUMBERS: usize = 12;
 
 // How many claims are kept, how many bytes they have, and which kinds are among them.
-#[derive(Clone, Copy, Debug)]
+#[derive(Clone, Copy)]
 struct Filled {
     claims: usize,
     bytes: usize,

@@ -9,7 +9,7 @@ use rp_base::{Pid, Update};
 use stmt_codec::{Slot, Statement};
 
 /// A kind and a slot of that kind, by their numbers: a Message has its sender first, an Update its tag, others 0.
-#[derive(Clone, Copy, Debug, PartialEq, Eq, Hash)]
+#[derive(Clone, Copy, PartialEq, Eq, Hash)]
 pub struct SlotKey {
     view: u16,
     first: u8,
@@ -18,7 +18,7 @@ pub struct SlotKey {
 }
 
 /// What a claim is found by: its signer and its slot.
-#[derive(Clone, Copy, Debug, PartialEq, Eq, Hash)]
+#[derive(Clone, Copy, PartialEq, Eq, Hash)]
 pub struct Key {
     slot: SlotKey,
     signer: Pid,

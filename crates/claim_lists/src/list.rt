@@ -22,7 +22,7 @@ pub struct ClaimList {
 }
 
 // How many claims are kept, and how many bytes.
-#[derive(Clone, Copy, Debug)]
+#[derive(Clone, Copy)]
 struct Filled {
     claims: usize,
     bytes: usize,

@@ -15,23 +15,23 @@ pub trait CertKind {
 }
 
 /// Echoes of a message.
-#[derive(Clone, Copy, Debug)]
+#[derive(Clone, Copy)]
 pub struct Message;
 
 /// Places of a place.
-#[derive(Clone, Copy, Debug)]
+#[derive(Clone, Copy)]
 pub struct Place;
 
 /// Keeps of a place.
-#[derive(Clone, Copy, Debug)]
+#[derive(Clone, Copy)]
 pub struct Keep;
 
 /// Acks of a rank.
-#[derive(Clone, Copy, Debug)]
+#[derive(Clone, Copy)]
 pub struct Ack;
 
 /// Readies of a rank, which decide the view.
-#[derive(Clone, Copy, Debug)]
+#[derive(Clone, Copy)]
 pub struct Commit;
 
 impl CertKind for Message {

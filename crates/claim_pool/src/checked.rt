@@ -12,7 +12,7 @@ use stmt_codec::Claim;
 const BODY_BYTES: usize = 1_100;
 
 /// A claim whose signature is valid. `check` alone makes one.
-#[derive(Clone, Copy, Debug)]
+#[derive(Clone, Copy)]
 pub struct Checked<'a, 'c> {
     claim: &'a Claim<'c>,
 }

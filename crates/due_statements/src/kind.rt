@@ -1,5 +1,5 @@
 /// The kinds of statements, in the order in which an event goes through them.
-#[derive(Clone, Copy, Debug, PartialEq, Eq)]
+#[derive(Clone, Copy, PartialEq, Eq)]
 pub enum Kind {
     Init,
     Echo,

@@ -23,7 +23,7 @@ use stmt_codec::{EventFault, Slot};
 use view_table::{View, has_key, is_possible, next};
 
 /// The updates that were asked for at a process in its current view, each once.
-#[derive(Clone, Copy, Debug)]
+#[derive(Clone, Copy)]
 pub struct Perceived {
     /// The processes that are to be removed.
     pub remove: PidSet,

@@ -7,7 +7,7 @@ use std::alloc::Global;
 use stmt_codec::{EventVerdict, Note, Outcome, OwnClaim, Sending};
 
 /// What came of an event at a process. Of a frame that it sends, it has to whom it goes.
-#[derive(Debug, Drop)]
+#[derive(Drop)]
 pub struct Seen {
     pub verdict: EventVerdict,
 

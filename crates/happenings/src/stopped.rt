@@ -1,7 +1,7 @@
 //! Why a run stops.
 
 /// Why an event stops a run, by the event's number, from 0.
-#[derive(Clone, Copy, Debug, PartialEq, Eq)]
+#[derive(Clone, Copy, PartialEq, Eq)]
 pub enum Stopped {
     /// A Pass names a frame that is not sent yet: `sent` frames were.
     NoSuchFrame { event: u64, frame: u32, sent: usize },

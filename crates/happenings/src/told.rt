@@ -7,7 +7,7 @@ use rp_base::{NoMemory, Pid, PidSet};
 use stmt_codec::Payload;
 
 /// What a process is handed.
-#[derive(Clone, Copy, Debug)]
+#[derive(Clone, Copy)]
 pub enum Handed {
     /// A payload, to be sent to the group.
     Payload,
@@ -32,7 +32,7 @@ pub enum Handed {
 }
 
 /// What happens to a process, or between processes.
-#[derive(Debug, Drop)]
+#[derive(Drop)]
 pub enum Happening {
     /// The process takes what it is handed, and this is seen of it. The next frame that is sent gets the number `first`.
     Takes {
@@ -64,7 +64,7 @@ pub enum Happening {
 }
 
 /// What is told of what happens: all of it in its order, or nothing, where nobody asks.
-#[derive(Debug, Drop)]
+#[derive(Drop)]
 pub enum Told {
     Unasked,
     Kept(Vec<Happening>),

@@ -5,7 +5,7 @@ use crate::reading::read_entry;
 use stmt_codec::Entry;
 
 /// The bytes of one entry. Only bytes that are an entry are ever kept so.
-#[derive(Debug, Drop)]
+#[derive(Drop)]
 pub struct EntryBytes {
     bytes: Vec<u8>,
     pub ghost readable: { IsOk (entry_of bytes.items) },

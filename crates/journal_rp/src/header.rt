@@ -22,7 +22,7 @@ pub(crate) const HEADER_BYTES: usize = 60;
 pub(crate) const FRESH_BYTES: usize = 61;
 
 /// Whose journal it is: the header behind its magic.
-#[derive(Clone, Copy, Debug)]
+#[derive(Clone, Copy)]
 pub struct Header {
     /// The group.
     pub group: GroupId,

@@ -4,11 +4,11 @@ use journal_defs::Version;
 use std::marker::PhantomData;
 
 /// The entries of the journal are being read.
-#[derive(Clone, Copy, Debug)]
+#[derive(Clone, Copy)]
 pub struct Reading;
 
 /// The journal takes in turns.
-#[derive(Clone, Copy, Debug)]
+#[derive(Clone, Copy)]
 pub struct Writing;
 
 /// A journal on a disk: the gate at which it stands, and how long the disk is. The disk is handed to each call; the journal keeps

@@ -5,11 +5,11 @@ use std::marker::PhantomData;
 use stmt_codec::{Event, Note, Outcome, Sending};
 
 /// The turn is not in the journal yet.
-#[derive(Clone, Copy, Debug)]
+#[derive(Clone, Copy)]
 pub struct Unsynced;
 
 /// The turn is in the journal, whatever crash comes.
-#[derive(Clone, Copy, Debug)]
+#[derive(Clone, Copy)]
 pub struct Synced;
 
 /// What one event brought about at a process, and its entry. What is to be sent and told is lent once the entry is in the

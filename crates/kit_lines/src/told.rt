@@ -6,7 +6,7 @@ ghost use Rattle.kit_lines.specs.LineViews.{may, version};
 use sig_scheme::AnyScheme;
 
 /// The versions of the format, by their numbers.
-#[derive(Clone, Copy, Debug, PartialEq, Eq)]
+#[derive(Clone, Copy, PartialEq, Eq)]
 pub enum Version {
     /// Kits of plain and of LMS keys.
     One,
@@ -16,7 +16,7 @@ pub enum Version {
 }
 
 /// What the lines that stand tell of the scheme.
-#[derive(Clone, Copy, Debug)]
+#[derive(Clone, Copy)]
 pub struct Told {
     pub version: Option<Version>,
     pub scheme: Option<AnyScheme>,

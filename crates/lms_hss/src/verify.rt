@@ -67,7 +67,7 @@ pub fn hss_verify(key: &[u8], body: &[u8], sig: &[u8]) -> bool
 }
 
 /// HSS signatures: a key's 60 bytes name its levels, and the types of its top tree.
-#[derive(Clone, Copy, Debug)]
+#[derive(Clone, Copy)]
 pub struct HssScheme;
 
 impl Scheme for HssScheme {

@@ -99,7 +99,7 @@ pub fn lms_verify(key: &[u8], body: &[u8], sig: &[u8]) -> bool
 }
 
 /// LMS signatures: a key's 56 bytes name its types.
-#[derive(Clone, Copy, Debug)]
+#[derive(Clone, Copy)]
 pub struct LmsScheme;
 
 impl Scheme for LmsScheme {

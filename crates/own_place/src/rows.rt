@@ -9,7 +9,7 @@ use stmt_codec::Statement;
 
 /// The slots of one kind of a view that differ in one number: those of the Inits, of the Places, of the Keeps, or of the Echoes of one
 /// sender's messages.
-#[derive(Clone, Copy, Debug)]
+#[derive(Clone, Copy)]
 pub(crate) enum Row {
     Inits,
     Places,

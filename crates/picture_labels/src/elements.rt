@@ -10,7 +10,7 @@ use rp_base::{NoMemory, Pid};
 use story_words::{Word, process_word, push_pieces};
 
 /// A point of the picture: how far right of its left upper corner, and how far below, in pixels.
-#[derive(Clone, Copy, Debug)]
+#[derive(Clone, Copy)]
 pub struct Point {
     pub x: u64,
     pub y: u64,

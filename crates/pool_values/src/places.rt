@@ -45,7 +45,7 @@ pub struct Places {
 }
 
 // How many places are certified from the first on, and what else is told of the heard claims.
-#[derive(Clone, Copy, Debug)]
+#[derive(Clone, Copy)]
 struct Reached {
     placed: u16,
     fixed: u16,

@@ -12,7 +12,7 @@ use std::alloc::Global;
 use stmt_codec::Payload;
 
 /// How a list of claims is sent.
-#[derive(Clone, Copy, Debug, PartialEq, Eq)]
+#[derive(Clone, Copy, PartialEq, Eq)]
 pub enum FrameKind {
     /// To the other members: what the process signed.
     Bundle,

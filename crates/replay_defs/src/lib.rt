@@ -46,7 +46,7 @@ pub enum FaultKind {
 }
 
 /// A fault, told by how many bytes of the input are left where it stands.
-#[derive(Clone, Copy, Debug, PartialEq, Eq)]
+#[derive(Clone, Copy, PartialEq, Eq)]
 pub struct Found {
     pub kind: FaultKind,
     pub left: usize,

@@ -22,7 +22,7 @@ pub enum ReplayFault {
 }
 
 /// Why a replay ends without a report.
-#[derive(Clone, Copy, Debug)]
+#[derive(Clone, Copy)]
 pub(crate) enum Stop {
     /// The bytes have no report, for this reason.
     Fault(ReplayFault),

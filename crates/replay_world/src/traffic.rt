@@ -19,7 +19,7 @@ use stmt_codec::{Payload, Sending};
 const MOST_SENT: u64 = 1_073_741_824;
 
 /// A frame that was sent. Frames are numbered from 0 in order of sending.
-#[derive(Debug, Drop)]
+#[derive(Drop)]
 pub struct Sent {
     pub sender: Pid,
     pub bytes: Payload,
@@ -29,7 +29,7 @@ pub struct Sent {
 }
 
 /// A frame that waits to be delivered to one process, by its number.
-#[derive(Clone, Copy, Debug)]
+#[derive(Clone, Copy)]
 pub struct Delivery {
     pub frame: usize,
     pub to: Pid,

@@ -26,7 +26,7 @@ use std::mem;
 use stmt_codec::{Event, EventFault, EventVerdict, Outcome, Payload, Sending};
 
 /// An event that a process refused, by the event's number in the schedule, from 0.
-#[derive(Clone, Copy, Debug)]
+#[derive(Clone, Copy)]
 pub struct Refused {
     pub event: u64,
     pub process: Pid,

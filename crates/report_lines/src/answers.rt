@@ -6,7 +6,7 @@ use crate::words::{end_line, push_word};
 use rp_base::NoMemory;
 
 /// The two premises of the theorems, and what follows from them.
-#[derive(Clone, Copy, Debug, PartialEq, Eq)]
+#[derive(Clone, Copy, PartialEq, Eq)]
 pub struct Answers {
     /// What was handed over of correct processes is their own word.
     pub honest: bool,

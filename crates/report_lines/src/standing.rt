@@ -3,7 +3,7 @@ use rp_base::PidSet;
 use view_phases::PhaseWord;
 
 /// What a report tells of a process. Which process of the definitions stands so, the word `StandsAs` of the specs says.
-#[derive(Clone, Copy, Debug)]
+#[derive(Clone, Copy)]
 pub struct Standing<'a> {
     /// What the process tells of itself.
     pub account: &'a Account,

@@ -7,7 +7,7 @@ use crate::failed::Failed;
 use crate::link::{Got, Link};
 
 /// A disk that isn't there: each call answers `Failed`, and its count rises.
-#[derive(Debug, Default, Drop)]
+#[derive(Default, Drop)]
 pub struct NoDisk {
     faults: u64,
 }
@@ -78,7 +78,7 @@ impl Disk for NoDisk {
 }
 
 /// A link that isn't there: each call answers `Failed`, and its count rises.
-#[derive(Debug, Default, Drop)]
+#[derive(Default, Drop)]
 pub struct NoLink {
     faults: u64,
 }

@@ -5,7 +5,7 @@ ghost use Rattle.rp_base.specs.Causes.{HasCause};
 use crate::failed::Failed;
 
 /// What a receive gave.
-#[derive(Clone, Copy, Debug, PartialEq, Eq)]
+#[derive(Clone, Copy, PartialEq, Eq)]
 pub enum Got {
     /// No datagram is coming on the port.
     Nothing,

@@ -117,7 +117,7 @@ impl PidSet {
 }
 
 /// The members of a set that are left, by rising number.
-#[derive(Clone, Debug, Drop)]
+#[derive(Clone, Drop)]
 pub struct Pids {
     left: PidSet,
 }

@@ -12,7 +12,7 @@ use std::mem;
 const MOST: usize = 64;
 
 /// A process and its public key.
-#[derive(Debug, Drop)]
+#[derive(Drop)]
 struct Listed {
     process: Pid,
     key: Vec<u8>,
@@ -20,7 +20,6 @@ struct Listed {
 
 /// The processes that have a key, with their public keys, by rising process number. Contracts see it as the list of
 /// (number, key).
-#[derive(Debug)]
 pub struct Roster {
     listed: Vec<Listed>,
 }

@@ -111,7 +111,7 @@ pub trait Retract: Signer {
 
 /// Plain signatures, for rehearsals: the signature is SHA-256 of key and body, and the public key is the key. Whoever
 /// knows a public key can sign for it.
-#[derive(Clone, Copy, Debug, PartialEq, Eq)]
+#[derive(Clone, Copy, PartialEq, Eq)]
 pub struct PlainScheme;
 
 fn digest(key: &[u8], body: &[u8]) -> [u8; 32]
@@ -225,7 +225,7 @@ impl Retract for PlainSigner {
 }
 
 /// A count of signatures without a key, for whoever checks signatures that others made.
-#[derive(Debug, Drop)]
+#[derive(Drop)]
 pub struct Count {
     total: u32,
     used: u32,

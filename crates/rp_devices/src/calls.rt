@@ -3,7 +3,7 @@ ghost use Rattle.rp_devices.specs.Calls.{is_to_fail, called, faulted, fresh};
 
 /// The calls of a device: how many were made, which are to fail (the first call is number 0), from which on all do, and
 /// how many have failed.
-#[derive(Debug, Drop)]
+#[derive(Drop)]
 pub(crate) struct Calls {
     pub(crate) made: u64,
     failing: Vec<u64>,

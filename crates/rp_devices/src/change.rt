@@ -1,5 +1,5 @@
 /// A change of a disk.
-#[derive(Debug, Drop)]
+#[derive(Drop)]
 pub enum Change {
     /// This piece was written at that place; it may be torn.
     Wrote { at: u64, piece: Vec<u8> },
@@ -9,7 +9,7 @@ pub enum Change {
 }
 
 /// What a crash leaves of the writes since the last sync.
-#[derive(Clone, Copy, Debug, PartialEq, Eq)]
+#[derive(Clone, Copy, PartialEq, Eq)]
 pub enum Left {
     /// Nothing of them.
     Nothing,

@@ -14,7 +14,7 @@ use std::alloc::{AllocError, Global};
 /// A disk in memory, which remembers each change. Of its calls those fail whose numbers are in a list, the first being
 /// number 0, those that find no memory, and all from the call on at which it is stopped. A write at which it stops may
 /// be torn; any other call that fails changes nothing.
-#[derive(Debug, Drop)]
+#[derive(Drop)]
 pub struct MemDisk {
     alloc: Global,
     bytes: Vec<u8>,

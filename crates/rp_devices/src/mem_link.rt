@@ -8,7 +8,7 @@ use rp_base::{Failed, Got, Link};
 use std::alloc::{AllocError, Global};
 
 /// A datagram, and the port that it was sent to.
-#[derive(Debug, Drop)]
+#[derive(Drop)]
 pub struct Datagram {
     pub port: u16,
     pub bytes: Vec<u8>,
@@ -16,7 +16,7 @@ pub struct Datagram {
 
 /// A link in memory: what is sent comes on the port that it was sent to. Of its calls those fail whose numbers are in a
 /// list, the first being number 0, and those that find no memory. A call that fails sends and takes nothing.
-#[derive(Debug, Drop)]
+#[derive(Drop)]
 pub struct MemLink {
     alloc: Global,
     sent: Vec<Datagram>,

@@ -89,7 +89,7 @@ impl<T: Drop> From<AllocFailed<T>> for ScheduleFault {
 }
 
 /// Why reading stopped, before the place of a fault is known.
-#[derive(Clone, Copy, Debug)]
+#[derive(Clone, Copy)]
 pub enum ReadError {
     NoMemory,
     Found(Found),

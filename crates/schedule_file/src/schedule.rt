@@ -9,7 +9,7 @@ use rp_base::{GroupId, Pid, PidSet};
 use signature_defs::OtsType;
 
 /// What a process signs with.
-#[derive(Clone, Copy, Debug)]
+#[derive(Clone, Copy)]
 pub enum Key {
     /// A plain key, private and public at once.
     Plain {
@@ -63,7 +63,7 @@ impl Default for Key {
 }
 
 /// A process that takes part.
-#[derive(Clone, Copy, Debug, Default)]
+#[derive(Clone, Copy, Default)]
 pub struct Listed {
     pub process: Pid,
 
@@ -75,7 +75,7 @@ pub struct Listed {
 }
 
 /// Who takes part in a run.
-#[derive(Debug, Drop)]
+#[derive(Drop)]
 pub struct Header {
     pub scheme: Scheme,
 
@@ -91,7 +91,7 @@ pub struct Header {
 }
 
 /// What happens to a correct process, or between processes.
-#[derive(Debug, Drop)]
+#[derive(Drop)]
 pub enum ScheduleEvent {
     /// A payload of at most 65,535 bytes is handed to a process, to be sent to the group.
     Submit {
@@ -161,7 +161,7 @@ impl ScheduleEvent {
 }
 
 /// Who takes part in a run, and what happens in it. docs/FORMATS.md says how it is spelled.
-#[derive(Debug, Drop)]
+#[derive(Drop)]
 pub struct Schedule {
     pub header: Header,
 

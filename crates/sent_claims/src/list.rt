@@ -9,7 +9,7 @@ use std::marker::Model;
 use std::mem;
 
 /// Where the bytes of a claim stand: its statement's from `start` on, and its signature's behind them.
-#[derive(Clone, Copy, Debug)]
+#[derive(Clone, Copy)]
 pub(crate) struct Listed {
     signer: Pid,
     start: usize,
@@ -18,7 +18,7 @@ pub(crate) struct Listed {
 }
 
 /// A claim, lent: one of a list, or one that is to be put into a list.
-#[derive(Clone, Copy, Debug)]
+#[derive(Clone, Copy)]
 pub struct Lent<'a> {
     /// Who signed.
     pub signer: Pid,

@@ -16,7 +16,7 @@ use stmt_codec::{Claim, Statement};
 
 /// What is heard on a slot: the place, in order of hearing, of a claim whose content no fewer members say than any other, the members
 /// who say it, and all who have a claim on the slot.
-#[derive(Clone, Copy, Debug)]
+#[derive(Clone, Copy)]
 pub struct Cell {
     place: usize,
     backers: PidSet,

@@ -12,7 +12,7 @@ use rp_base::{Pid, Update, Value};
 /// In range (docs/FORMATS.md, «Statements») are view numbers, message numbers and the places of Order, Place and Keep
 /// up to 1,023, the length of End and a value's cut up to 1,024, ranks up to 15, payloads of at most 1,024 bytes, and
 /// in a Last a rank of the Ready below the Last's own.
-#[derive(Clone, Copy, Debug, PartialEq, Eq)]
+#[derive(Clone, Copy, PartialEq, Eq)]
 pub enum Statement<'a> {
     /// The sender's own message of this number.
     Init {
@@ -92,7 +92,7 @@ pub enum Statement<'a> {
 }
 
 /// What a statement of a kind is about. Of each kind and slot a correct process signs one statement at most.
-#[derive(Clone, Copy, Debug, PartialEq, Eq)]
+#[derive(Clone, Copy, PartialEq, Eq)]
 pub enum Slot {
     /// Of an Init.
     Number { view: u16, number: u16 },
@@ -114,7 +114,7 @@ pub enum Slot {
 }
 
 /// A statement that a process signed.
-#[derive(Clone, Copy, Debug)]
+#[derive(Clone, Copy)]
 pub struct Claim<'a> {
     /// Who signed.
     pub signer: Pid,

@@ -5,7 +5,7 @@ use message_defs::FrameFault;
 use rp_base::{Pid, PidSet, UpdateFault};
 
 /// What is handed to a process. One event is taken whole.
-#[derive(Clone, Copy, Debug)]
+#[derive(Clone, Copy)]
 pub enum Event<'a> {
     /// The process is to multicast this payload.
     Submit(&'a [u8]),

@@ -46,7 +46,7 @@ pub struct StoryFault {
 }
 
 /// A line that was taken: its number, what it is, and how many bytes of the schedule it stands for.
-#[derive(Clone, Copy, Debug, PartialEq, Eq)]
+#[derive(Clone, Copy, PartialEq, Eq)]
 pub struct Mark {
     pub line: usize,
     pub expected: Expected,
@@ -54,7 +54,7 @@ pub struct Mark {
 }
 
 /// Which lines may follow.
-#[derive(Clone, Copy, Debug, PartialEq, Eq)]
+#[derive(Clone, Copy, PartialEq, Eq)]
 pub enum Stage {
     /// The group's line.
     Opening,

@@ -69,7 +69,7 @@ fn mask(set: PidSet) -> u64
 }
 
 /// The words of a line that are left.
-#[derive(Clone, Copy, Debug)]
+#[derive(Clone, Copy)]
 pub struct Words<'a> {
     parts: Parts<'a>,
 }

@@ -10,7 +10,7 @@ use rp_base::NoMemory;
 use std::alloc::Global;
 
 /// What happens in the event of this number.
-#[derive(Debug, Drop)]
+#[derive(Drop)]
 pub(crate) struct Row {
     pub event: u64,
     pub what: Happening,

@@ -22,7 +22,7 @@ use story_lines::LineFault;
 use text_codec::Parts as Lines;
 
 /// The lines that were taken, up to the first that may not follow or to the end.
-#[derive(Debug, Drop)]
+#[derive(Drop)]
 pub struct Taken {
     pub draft: Draft,
 

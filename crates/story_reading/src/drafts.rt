@@ -18,7 +18,7 @@ use story_lines::{Expected, LineFault, Words, plain_line};
 const PROCESSES: u8 = 64;
 
 /// What a line adds to those that stand.
-#[derive(Debug, Drop)]
+#[derive(Drop)]
 pub enum Addition {
     /// The line is blank.
     Nothing,
@@ -37,7 +37,7 @@ pub enum Addition {
 }
 
 /// What stands of a story.
-#[derive(Debug, Drop)]
+#[derive(Drop)]
 pub struct Draft {
     /// Which lines may follow.
     pub stage: Stage,

@@ -10,7 +10,7 @@ use rp_base::{NoMemory, PidSet};
 use text_codec::{push_byte_list, push_number};
 
 /// A token of a line.
-#[derive(Clone, Copy, Debug)]
+#[derive(Clone, Copy)]
 pub enum Token<'a> {
     Word(&'a [u8]),
     Number(u64),

@@ -27,7 +27,7 @@ fn cut(text: &[u8], at: u8) -> (&[u8], Option<&[u8]>)
 /// lines of a text.
 ///
 /// A text that ends with a line feed has an empty last part behind it; a text with none is one part.
-#[derive(Clone, Copy, Debug)]
+#[derive(Clone, Copy)]
 pub struct Parts<'a> {
     at: u8,
     rest: Option<&'a [u8]>,

@@ -12,7 +12,7 @@ use rp_base::{Pid, Value};
 use view_table::View;
 
 /// What decided a view: the rank of a certified Ready, and its value.
-#[derive(Clone, Copy, Debug, PartialEq, Eq)]
+#[derive(Clone, Copy, PartialEq, Eq)]
 pub struct Decision {
     /// The rank, 0 to 15.
     pub rank: u8,
@@ -22,35 +22,35 @@ pub struct Decision {
 }
 
 /// The view is undecided, and the process is no member of it.
-#[derive(Debug, Drop)]
+#[derive(Drop)]
 pub struct Observing(());
 
 /// The view is undecided, and the process is a member that has not signed its End. What echoes, orders, places and keeps
 /// asks for an `OpenView`. It has no copy, so behind an End there is none.
-#[derive(Debug, Drop)]
+#[derive(Drop)]
 pub struct OpenView(());
 
 /// The view is undecided, and the process is a member that has signed its End.
-#[derive(Debug, Drop)]
+#[derive(Drop)]
 pub struct ClosingView {
     pub(crate) length: u16,
 }
 
 /// The view is decided, and the process has not left it.
-#[derive(Debug, Drop)]
+#[derive(Drop)]
 pub struct DecidedView {
     pub(crate) decision: Decision,
 }
 
 /// The view is decided, and the process is a member that delivered more places than count. It stays so for good.
-#[derive(Debug, Drop)]
+#[derive(Drop)]
 pub struct HaltedView {
     pub(crate) decision: Decision,
     pub(crate) delivered: u16,
 }
 
 /// The phase of a process in its view, with what it keeps.
-#[derive(Debug, Drop)]
+#[derive(Drop)]
 pub enum Phase {
     /// No member.
     Observing(Observing),
@@ -69,7 +69,7 @@ pub enum Phase {
 }
 
 /// The name of a phase.
-#[derive(Clone, Copy, Debug, PartialEq, Eq)]
+#[derive(Clone, Copy, PartialEq, Eq)]
 pub enum PhaseWord {
     /// No member.
     Observing,
@@ -118,13 +118,13 @@ impl Phase {
 }
 
 /// A phase as it was at a mark. Of an open view, too, there is no copy: a mark serves to go back alone.
-#[derive(Debug, Drop)]
+#[derive(Drop)]
 pub struct PhaseMark {
     was: Was,
 }
 
 // What a phase keeps.
-#[derive(Clone, Copy, Debug)]
+#[derive(Clone, Copy)]
 enum Was {
     Observing,
     OpenView,

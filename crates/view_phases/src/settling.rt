@@ -8,7 +8,7 @@ use crate::phases::{DecidedView, HaltedView};
 use rp_base::Update;
 
 /// What becomes of a process whose view is decided.
-#[derive(Debug, Drop)]
+#[derive(Drop)]
 pub enum Settled {
     /// The process waits for what is left below the cut.
     Waiting(DecidedView),
