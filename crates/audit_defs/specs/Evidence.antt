@@ -11,7 +11,7 @@ use Rattle.message_defs.specs.Packing.{signed_of, group_of}
 use Rattle.message_defs.specs.Frames.{Bundle, frame_bytes}
 use Rattle.message_defs.specs.Statements.{Claim}
 use Rattle.group_defs.specs.Process.{Setting}
-use Rattle.audit_defs.specs.Convictions.{Conviction, convicted}
+use Rattle.conviction_defs.specs.Convictions.{Conviction, convicted}
 
 -- whom the claims of a frame convict; a frame without claims nobody
 abbrev pub convicted_by : Setting → Frame → List ℕ

@@ -18,7 +18,7 @@ use Rattle.group_defs.specs.Accounts.{Account, bounded, agree, sound}
 use Rattle.group_defs.specs.Family.{accounts, numbers, honest, handed_to}
 use Rattle.kit_defs.specs.KitReading.{KitFault, Line, Repeated, Missing, KeyMismatch}
 use Rattle.audit_defs.specs.Inputs.{input_of}
-use Rattle.audit_defs.specs.Convictions.{Conviction, convictions, convicted}
+use Rattle.conviction_defs.specs.Convictions.{Conviction, convictions, convicted}
 use Rattle.audit_defs.specs.Audits as audits
 use Rattle.audit_defs.specs.Audits.{Audited, AuditFault, Entry, audited}
 

@@ -13,35 +13,10 @@ use Rattle.journal_defs.specs.Entries.{Entry, IsEntry}
 use Rattle.journal_defs.specs.Journals.{open_gate, record_bytes, record_at}
 use Rattle.audit_defs.specs.Sources.{Source, Step, Takes, Breaks, steps_from, steps_of}
 use Rattle.audit_defs.specs.Players.{setting_of, turns_from, is_written, IsWritten}
-use Rattle.audit_defs.specs.Convictions.{Conviction, Convicts, convictions, convicted}
+use Rattle.conviction_defs.specs.Convictions.{Convicts, convicted}
 use Rattle.audit_defs.specs.Audits.{Audited, audited_in, audited}
 use Rattle.audit_defs.specs.Findings.{Findings, findings_of}
 use Rattle.audit_defs.specs.Evidence.{convicted_in, pair_frame}
-
--- ---- of claims alone
-
--- those are convicted of whom two valid claims conflict, and nobody else
-abbrev pub ConvictedIsConvicts : Type 0
-ConvictedIsConvicts = (s : Setting) (claims : List Claim) (q : ℕ) → Contains (convicted s claims) q ↔ Convicts s claims q
-
--- The two claims that are told: before the second one no two claims of the signer conflict, the first one is among them, the two conflict,
--- and no claim on their slot stands before the first one.
-pub record IsFirstPair (s : Setting) (claims : List Claim) (c : Conviction) : Type 0 where
-  pub before : List Claim
-  pub between : List Claim
-  pub behind : List Claim
-  pub parts : filter (λ d. (d.signer == c.process) && is_valid s d) claims ≡ before ++ c.first ∷ (between ++ c.second ∷ behind)
-  pub conflict : Conflicts c.first c.second
-  pub earliest : All (λ d. slot_of d.statement ≢ slot_of c.second.statement) before
-  pub none_earlier : (d e : Claim) → Contains (before ++ c.first ∷ between) d → Contains (before ++ c.first ∷ between) e → ¬ Conflicts d e
-
-abbrev pub PairIsFirst : Type 0
-PairIsFirst = (s : Setting) (claims : List Claim) → All (IsFirstPair s claims) (convictions s claims)
-
--- more claims convict no fewer
-abbrev pub ConvictionsStand : Type 0
-ConvictionsStand = (s : Setting) (claims more : List Claim) (q : ℕ) → ((c : Claim) → Contains claims c → Contains more c)
-    → Convicts s claims q → Convicts s more q
 
 -- ---- of an audit
 

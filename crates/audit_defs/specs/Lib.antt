@@ -1,7 +1,6 @@
 pub mod Inputs
 pub mod Sources
 pub mod Players
-pub mod Convictions
 pub mod Audits
 pub mod Findings
 pub mod Evidence

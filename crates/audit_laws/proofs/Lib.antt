@@ -1,5 +1,3 @@
-pub mod Pairs
-pub mod Convicted
 pub mod Written
 pub mod TurnsTaken
 pub mod OwnWords

@@ -11,11 +11,11 @@ use Rattle.kit_defs.specs.Kits.{Kit}
 use Rattle.pool_laws.proofs.Members.{All-mem, Contains-mem, Mem, map-mem, mem-All, mem-Contains, mem-map}
 use Rattle.pool_laws.proofs.Slots.{same_statement-is, is-same_statement}
 use Rattle.audit_defs.specs.Players.{setting_of}
-use Rattle.audit_defs.specs.Convictions.{Convicts, convicted}
+use Rattle.conviction_defs.specs.Convictions.{Convicts, convicted}
 use Rattle.audit_defs.specs.Audits.{Audited, audited}
 use Rattle.audit_defs.specs.Evidence.{convicted_by, convicted_in}
 use Rattle.audit_defs.specs.Laws.{IsOfListed, NoneListedIsConvicted, HonestByFirsts, EvidenceSparesCorrect}
-use Rattle.audit_laws.proofs.Convicted.{convicts-by}
+use Rattle.conviction_laws.proofs.Convicted.{convicted_is_convicts}
 use Rattle.audit_laws.proofs.OwnWords.{one-word, own-name, number-of, of-number, one-process}
 use Rattle.audit_laws.proofs.OfListed.{audit_is_of_listed}
 
@@ -55,7 +55,7 @@ none-of kit listed a o rising honest' q there c =
 pub none_listed_is_convicted : NoneListedIsConvicted
 none_listed_is_convicted kit listed journals a rising e honest' q there m =
     none-of kit listed a (audit_is_of_listed kit listed journals a e) rising honest' q there
-    (convicts-by a.family.setting a.claims q (Contains-mem (convicted a.family.setting a.claims) q m))
+    ((convicted_is_convicts a.family.setting a.claims q).0 m)
 
 -- ---- by the first claims
 
@@ -120,4 +120,4 @@ evidence_spares_correct f bytes claims said words q there m =
     spared f claims q p.0 p.1 p.2
     (λ c n signer valid. Contains-mem (statements_of p.0) c.statement
     (words c (mem-Contains claims c n) valid p.0 (mem-Contains (ends f) p.0 p.1) (p.2 ∙ sym signer)))
-    (convicts-by f.setting claims q (Contains-mem (convicted f.setting claims) q in'))
+    ((convicted_is_convicts f.setting claims q).0 in')

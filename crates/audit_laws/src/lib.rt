@@ -1,24 +1,7 @@
 //! The laws of an audit, over the definitions alone: each is the contract of a function with an empty body.
 #![tactic(auto)]
 
-ghost use Rattle.audit_defs.specs.Laws.{AuditIsOfListed, BreakIsMet, ConvictedIsConvicts, ConvictionsStand, EvidenceSparesCorrect, FamilyIsOfEntries, FindingsHeadline, HonestByFirsts, JournalIsWalked, NoneListedIsConvicted, PairIsFirst, WrittenIsTested};
-
-// ---- of claims alone
-
-/// Those are convicted of whom two valid claims conflict, and nobody else.
-pub fn convicted_is_convicts()
-    ensures { ConvictedIsConvicts }
-{}
-
-/// The pair that is told is the first one: no two claims before its second conflict, and its first is the earliest of the slot.
-pub fn pair_is_first()
-    ensures { PairIsFirst }
-{}
-
-/// More claims convict no fewer.
-pub fn convictions_stand()
-    ensures { ConvictionsStand }
-{}
+ghost use Rattle.audit_defs.specs.Laws.{AuditIsOfListed, BreakIsMet, EvidenceSparesCorrect, FamilyIsOfEntries, FindingsHeadline, HonestByFirsts, JournalIsWalked, NoneListedIsConvicted, WrittenIsTested};
 
 // ---- of an audit
 

@@ -22,7 +22,7 @@ use Rattle.journal_defs.specs.Entries.{submit_at, frame_at, of_process_at, event
 use Rattle.journal_defs.specs.Journals.{behind_gate, record_at}
 use Rattle.audit_defs.specs.Sources.{steps_from}
 use Rattle.audit_defs.specs.Players.{taking, most_signatures}
-use Rattle.audit_defs.specs.Convictions.{pair_behind}
+use Rattle.conviction_defs.specs.Convictions.{pair_behind}
 use Rattle.audit_defs.specs.Audits.{goes_through, audited_in}
 
 unfoldable pub all_opened : ⊤

@@ -17,10 +17,10 @@ use Rattle.frame_codec.proofs.Grammar.{frame_again}
 use Rattle.statements.proofs.Grammar.{spelling_again}
 use Rattle.pool_laws.proofs.Members.{mem-Contains}
 use Rattle.std.proofs.Common.{inl, inr}
-use Rattle.audit_defs.specs.Convictions.{Convicts, convicted}
+use Rattle.conviction_defs.specs.Convictions.{Convicts, convicted}
 use Rattle.audit_defs.specs.Evidence.{convicted_by, convicted_in, pair_frame}
 use Rattle.audit_defs.specs.Laws.{EvidenceConvicts}
-use Rattle.audit_laws.proofs.Convicted.{convicted_is_convicts}
+use Rattle.conviction_laws.proofs.Convicted.{convicted_is_convicts}
 use Rattle.evidence_laws.proofs.Spelled.{statements_are_short}
 
 abbrev group : Claim → Group

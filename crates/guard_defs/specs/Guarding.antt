@@ -11,7 +11,7 @@ use Rattle.group_defs.specs.Due.{is_perceived}
 use Rattle.group_defs.specs.Signing.{Signer}
 use Rattle.group_defs.specs.Events.{Event, Hand, Suspect, Join, RenewView, Turn, Note, Liar, refusal, after, outcome}
 use Rattle.group_defs.specs.Family.{Correct, Family, claims_in}
-use Rattle.guard_defs.specs.Conviction.{Convicts, is_convicted}
+use Rattle.conviction_defs.specs.Convictions.{Convicts, is_convicted}
 
 -- ---- what a frame shows
 

@@ -1,3 +1,2 @@
-pub mod Conviction
 pub mod Guarding
 pub mod Lines

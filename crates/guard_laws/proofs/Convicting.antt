@@ -7,7 +7,6 @@ use Rattle.message_defs.specs.Statements.{Statement, Claim, Conflicts, slot_of, 
 use Rattle.group_defs.specs.Process.{Setting, Process}
 use Rattle.group_defs.specs.Hearing.{is_valid}
 use Rattle.group_defs.specs.Family.{Correct, Family, numbers, end_of, ends, handed, statements_of, IsOwned, Honest}
-use Rattle.guard_defs.specs.Conviction.{Convicts, ConvictionIsTested, conflict, is_conviction, is_convicted}
 use Rattle.guard_laws.specs.Guards.{NoCorrectIsConvicted}
 use Rattle.pool_laws.proofs.Members.{All-mem, Contains-mem, Mem, list_any-mem, map-mem, mem-All, mem-Contains, mem-list_any}
 use Rattle.pool_laws.proofs.Places.{Compared, Pairs, ahead, all-pairs, behind, compared, level, mem-slice_get}
@@ -15,60 +14,6 @@ use Rattle.pool_laws.proofs.Slots.{is-same_slot, is-same_statement, same_slot-is
 use Rattle.pool_laws.proofs.Tests.{and-four, and-first, and-second, both-true, not-both, some-same}
 use Rattle.safety_laws.proofs.OnePerSlot.{one_per_slot}
 use Rattle.safety_laws.proofs.Quorums.{in-ends, me-end_of}
-
--- ---- the test
-
-not-true : (b : Bool) → (b ≡ true → ⊥) → not b ≡ true
-not-true true never = absurd (never refl)
-not-true false never = refl
-
-pub conflict-is : (a b : Claim) → conflict a b ≡ true → Conflicts a b
-conflict-is a b e =
-    let both = and-first ((a.signer == b.signer) && same_slot (slot_of a.statement) (slot_of b.statement)) (not
-    (same_statement a.statement b.statement)) e in (
-      eqb-true a.signer b.signer (and-first (a.signer == b.signer) (same_slot (slot_of a.statement) (slot_of b.statement)) both),
-      same_slot-is (slot_of a.statement) (slot_of b.statement)
-          (and-second (a.signer == b.signer) (same_slot (slot_of a.statement) (slot_of b.statement)) both),
-      λ same. not-both (same_statement a.statement b.statement) (is-same_statement a.statement b.statement same)
-          (and-second ((a.signer == b.signer) && same_slot (slot_of a.statement) (slot_of b.statement))
-          (not (same_statement a.statement b.statement)) e),
-    )
-
-is-conflict : (a b : Claim) → Conflicts a b → conflict a b ≡ true
-is-conflict a b c = both-true ((a.signer == b.signer) && same_slot (slot_of a.statement) (slot_of b.statement))
-    (not (same_statement a.statement b.statement))
-    (both-true (a.signer == b.signer) (same_slot (slot_of a.statement) (slot_of b.statement)) (eq-eqb a.signer b.signer c.0)
-    (is-same_slot (slot_of a.statement) (slot_of b.statement) c.1))
-    (not-true (same_statement a.statement b.statement) (λ e. c.2 (same_statement-is a.statement b.statement e)))
-
-pub conviction_is_tested : ConvictionIsTested
-conviction_is_tested s cs q = (to, from)
-  where
-    to : is_convicted s cs q ≡ true → Convicts s cs q
-    to e =
-        let a = list_any-mem (λ a. list_any (is_conviction s q a) cs) cs e in
-        let b = list_any-mem (is_conviction s q a.0) cs a.2 in
-        let is = and-four (a.0.signer == q) (conflict a.0 b.0) (is_valid s a.0) (is_valid s b.0) b.2 in
-        (a.0, b.0, mem-Contains cs a.0 a.1, mem-Contains cs b.0 b.1, (eqb-true a.0.signer q is.0, conflict-is a.0 b.0 is.1, is.2, is.3))
-
-    from : Convicts s cs q → is_convicted s cs q ≡ true
-    from (a, b, in_a, in_b, (signer, conflicts, valid, valid')) =
-        mem-list_any (λ a. list_any (is_conviction s q a) cs) cs a (Contains-mem cs a in_a)
-        (mem-list_any (is_conviction s q a) cs b (Contains-mem cs b in_b)
-        (both-true ((a.signer == q) && conflict a b && is_valid s a) (is_valid s b)
-        (both-true ((a.signer == q) && conflict a b) (is_valid s a)
-        (both-true (a.signer == q) (conflict a b) (eq-eqb a.signer q signer) (is-conflict a b conflicts)) valid) valid'))
-
--- ---- more claims convict whom these convict
-
-pub convicts-more : (s : Setting) (cs ds : List Claim) (q : ℕ) → ((c : Claim) → Mem c cs → Mem c ds) → Convicts s cs q → Convicts s ds q
-convicts-more s cs ds q more (a, b, in_a, in_b, is) = (
-  a,
-  b,
-  mem-Contains ds a (more a (Contains-mem cs a in_a)),
-  mem-Contains ds b (more b (Contains-mem cs b in_b)),
-  is,
-)
 
 -- ---- no correct process is convicted
 
@@ -106,8 +51,8 @@ own-word f honest c m d there valid signer =
     (All-mem (IsOwned f) (handed f) d honest (Contains-mem (handed f) d there) valid) (in-ends f c m) (me-end_of f.setting c ∙ signer))
 
 pub no_correct_is_convicted : NoCorrectIsConvicted
-no_correct_is_convicted f q honest (a, b, in_a, in_b, (signer, conflicts, valid, valid')) = mem-All (λ p. p ≢ q) (numbers f)
+no_correct_is_convicted f q honest it = mem-All (λ p. p ≢ q) (numbers f)
     (λ p m. λ is. let c = map-mem (λ (c : Correct). c.me) f.correct p m in
-    conflicts.2 (signs-one f.setting c.0 a.statement b.statement
-    (own-word f honest c.0 c.1 a in_a valid (c.2 ∙ is ∙ sym signer))
-    (own-word f honest c.0 c.1 b in_b valid' (c.2 ∙ is ∙ sym signer ∙ conflicts.0)) conflicts.1))
+    it.conflict.2 (signs-one f.setting c.0 it.one.statement it.other.statement
+    (own-word f honest c.0 c.1 it.one it.one_of it.one_valid (c.2 ∙ is ∙ sym it.signer))
+    (own-word f honest c.0 c.1 it.other it.other_of it.other_valid (c.2 ∙ is ∙ sym it.signer ∙ it.conflict.0)) it.conflict.1))

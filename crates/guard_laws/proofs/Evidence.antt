@@ -21,9 +21,9 @@ use Rattle.group_defs.specs.Events.{Event, Submit, Hand, Suspect, Join, RenewVie
 use Rattle.group_defs.specs.Family.{claims_in}
 use Rattle.event_laws.proofs.Settled.{settling_leaves}
 use Rattle.event_laws.proofs.Signed.{signing_leaves}
-use Rattle.guard_defs.specs.Conviction.{Convicts, is_convicted}
+use Rattle.conviction_defs.specs.Convictions.{Convicts, is_convicted}
 use Rattle.guard_defs.specs.Guarding.{liar_of, shown_by, shown}
-use Rattle.guard_laws.proofs.Convicting.{convicts-more, conviction_is_tested}
+use Rattle.conviction_laws.proofs.Convicted.{convicts-more, conviction_is_tested}
 use Rattle.pool_laws.proofs.Members.{Mem, append-mem, filter-mem, filter_map-mem, find-is, list_any-mem, map-mem, mem-Contains, mem-drop, snoc-mem}
 use Rattle.pool_laws.proofs.Slots.{is-same_statement, same_slot-is}
 use Rattle.pool_laws.proofs.Tests.{and-first, and-second, none-some, not-false, or-cases, some-same}
@@ -287,13 +287,16 @@ module _ (s : Setting) (from : List Claim) (me : ℕ) where
 
   -- a kept pair convicts its signer, where that is another
   kept-convicts : (pair : Claim × Claim) → IsKept pair → (q : ℕ) → pair.1.signer ≡ q → q ≢ me → Convicts s from q
-  kept-convicts pair (conflicts, (inl first), m, valid) q is other = (
-    pair.0,
-    pair.1,
-    mem-Contains from pair.0 first.0,
-    mem-Contains from pair.1 m,
-    (conflicts.0 ∙ is, conflicts, first.1, valid),
-  )
+  kept-convicts pair (conflicts, (inl first), m, valid) q is other = record {
+    one = pair.0;
+    other = pair.1;
+    one_of = mem-Contains from pair.0 first.0;
+    other_of = mem-Contains from pair.1 m;
+    signer = conflicts.0 ∙ is;
+    one_valid = first.1;
+    other_valid = valid;
+    conflict = conflicts;
+  }
   kept-convicts pair (conflicts, (inr own), m, valid) q is other = absurd (other (sym is ∙ sym conflicts.0 ∙ own))
 
   pub shown-convicts : (p : Process) (t : Turn) → ((c : Claim) → Mem c (claims_in t.event) → Mem c from) → Fair p → (q : ℕ)

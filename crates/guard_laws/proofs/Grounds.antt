@@ -17,10 +17,11 @@ use Rattle.group_defs.specs.Accounts.{Account, account_of, HasCause}
 use Rattle.group_defs.specs.Family.{Correct, numbers, end_of, ends, accounts, claims_in, handed, handed_to, statements_of, Honest}
 use Rattle.event_laws.proofs.Settled.{settling_leaves}
 use Rattle.event_laws.proofs.Signed.{signing_leaves}
-use Rattle.guard_defs.specs.Conviction.{Convicts}
+use Rattle.conviction_defs.specs.Convictions.{Convicts}
 use Rattle.guard_defs.specs.Guarding.{Given, GuardRun, MayAdd, Guard, IsGuarded, shown, shown_behind, turns_of, correct_of, family_of, start_of, update_of, WasHandedIn, RemovesConvicted}
 use Rattle.guard_laws.specs.Guards.{ExpelledIsConvicted, NoCorrectIsExpelled, RemovalsAreHandedIn, HasGrounds, ViewsHaveGrounds, end}
-use Rattle.guard_laws.proofs.Convicting.{convicts-more, no_correct_is_convicted}
+use Rattle.conviction_laws.proofs.Convicted.{convicts-more}
+use Rattle.guard_laws.proofs.Convicting.{no_correct_is_convicted}
 use Rattle.guard_laws.proofs.Evidence.{Fair, after-fair, after-some, shown-convicts}
 use Rattle.pool_laws.proofs.Members.{All-mem, Contains-mem, Mem, list_any-mem, map-mem, mem-All, mem-Contains, mem-append, mem-behind, mem-flat_map, mem-map}
 use Rattle.pool_laws.proofs.Places.{mem-slice_get}

@@ -8,7 +8,7 @@ use Rattle.group_defs.specs.Events.{Event, Suspect}
 use Rattle.group_defs.specs.Accounts.{group_of}
 use Rattle.group_defs.specs.Family.{Family, numbers, end_of, accounts, handed, handed_to, statements_of, Honest}
 use Rattle.group_defs.specs.Laws.{Premises}
-use Rattle.guard_defs.specs.Conviction.{Convicts}
+use Rattle.conviction_defs.specs.Convictions.{Convicts}
 use Rattle.guard_defs.specs.Guarding.{Key, GuardRun, Guard, IsGuarded, guarded_all, turns_of, correct_of, family_of, start_of, WasHandedIn, RemovesConvicted}
 
 -- what a guard makes of events is a run of a guard

@@ -1,13 +1,7 @@
 //! Laws of guards, over the definitions alone: whom they expel, and what ends the views of their group.
 #![tactic(auto)]
 
-ghost use Rattle.guard_defs.specs.Conviction.{ConvictionIsTested};
 ghost use Rattle.guard_laws.specs.Guards.{ExpelledIsConvicted, GuardsAreRuns, NoCorrectIsConvicted, NoCorrectIsExpelled, RemovalsAreHandedIn, ViewsHaveGrounds};
-
-/// Whether claims convict a signer is what is computed.
-pub fn conviction_is_tested()
-    ensures { ConvictionIsTested }
-{}
 
 /// A guard adds only what it may.
 pub fn guards_are_runs()

@@ -4,7 +4,7 @@ use native.Mathlib.Decide.{ℕ_discrete}
 use Rattle.byte_defs.specs.Equality.{bytes_discrete, list_discrete, option_discrete, pair_discrete}
 use Rattle.message_defs.specs.Updates.{Value-discrete}
 use Rattle.message_defs.specs.Statements.{Message-discrete, Batch-discrete}
-use Rattle.guard_defs.specs.Conviction.{convicted}
+use Rattle.conviction_defs.specs.Convictions.{convicted}
 use Rattle.guard_rows.specs.Scripts.{s}
 use Rattle.guard_rows.specs.Convicted.{Convicted, two_echoes, one_claim, same_twice, two_signers, two_slots, two_views, two_kinds, one_forged, other_forged, forged_between, forged_first, later_pair, other_view, stranger, keyless, two_liars}
 

@@ -1,7 +1,7 @@
 -- Whom claims convict, and whom they do not. Each answer is the reference's.
 use Rattle.std.specs.Prelude.{◌≡◌, List, [], ◌∷◌}
 use Rattle.message_defs.specs.Statements.{Echo, Place, Keep, End, Claim}
-use Rattle.guard_defs.specs.Conviction.{convicted}
+use Rattle.conviction_defs.specs.Convictions.{convicted}
 use Rattle.guard_rows.specs.Scripts.{s, by, forged, msg}
 
 unfoldable pub two_echoes : List Claim

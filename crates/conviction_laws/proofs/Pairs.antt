@@ -7,7 +7,7 @@ use Rattle.message_defs.specs.Statements.{Claim, slot_of, same_slot, same_statem
 use Rattle.pool_laws.proofs.Members.{Mem, append-mem, find-is, list_any-mem, mem-append, mem-behind, mem-find, mem-list_any, snoc-mem}
 use Rattle.pool_laws.proofs.Slots.{is-same_slot, is-same_statement, same_slot-is, same_statement-is}
 use Rattle.pool_laws.proofs.Tests.{and-first, and-second, both-true, not-both, not-false}
-use Rattle.audit_defs.specs.Convictions.{is_on_slot, is_conflict, earliest_with, pair_behind}
+use Rattle.conviction_defs.specs.Convictions.{is_on_slot, is_conflict, earliest_with, pair_behind}
 
 -- ---- lists
 
@@ -57,12 +57,21 @@ none-passes {A} test xs e x m = go (test x) refl
 abbrev pub NoneConflict : List Claim → Type 0
 NoneConflict cs = (d e : Claim) → Mem d cs → Mem e cs → slot_of d.statement ≡ slot_of e.statement → d.statement ≡ e.statement
 
-conflict-test : (c b : Claim) → is_conflict c b ≡ true → (slot_of b.statement ≡ slot_of c.statement) × (b.statement ≢ c.statement)
+pub conflict-test : (c b : Claim) → is_conflict c b ≡ true → (slot_of b.statement ≡ slot_of c.statement) × (b.statement ≢ c.statement)
 conflict-test c b e = (
   same_slot-is (slot_of b.statement) (slot_of c.statement) (and-first (is_on_slot c b) (not (same_statement b.statement c.statement)) e),
   λ is. not-both (same_statement b.statement c.statement) (is-same_statement b.statement c.statement is)
       (and-second (is_on_slot c b) (not (same_statement b.statement c.statement)) e),
 )
+
+pub test-conflict : (c b : Claim) → slot_of b.statement ≡ slot_of c.statement → b.statement ≢ c.statement → is_conflict c b ≡ true
+test-conflict c b same differ = both-true (is_on_slot c b) (not (same_statement b.statement c.statement))
+    (is-same_slot (slot_of b.statement) (slot_of c.statement) same)
+    (never (same_statement b.statement c.statement) (λ e. differ (same_statement-is b.statement c.statement e)))
+  where
+    never : (t : Bool) → (t ≡ true → ⊥) → not t ≡ true
+    never true nay = absurd (nay refl)
+    never false nay = refl
 
 no-conflict-test : (c b : Claim) → is_conflict c b ≡ false → slot_of b.statement ≡ slot_of c.statement → b.statement ≡ c.statement
 no-conflict-test c b e same = go (same_slot (slot_of b.statement) (slot_of c.statement))

@@ -3,7 +3,7 @@
 -- A signer is convicted by a list of claims where two of them are its own, valid, and conflict: kind and slot are equal, and the contents
 -- differ. Of several such pairs one is told: `second` is the first claim of the signer that conflicts with one before it, and `first` the
 -- earliest one of that kind and slot.
-use Rattle.std.specs.Prelude.{◌≡◌, ℕ, ◌==◌, ◌&&◌, not, if◌then◌else◌, Bool, List, [], ◌∷◌, ◌++◌, map, filter, find, Option, None, option_map, Contains, IsTrue}
+use Rattle.std.specs.Prelude.{◌≡◌, ℕ, ◌==◌, ◌&&◌, not, if◌then◌else◌, Bool, List, [], ◌∷◌, ◌++◌, filter, find, Option, None, option_map, Contains, IsTrue}
 use Rattle.std.specs.List.{list_any, filter_map}
 use Rattle.message_defs.specs.Statements.{Claim, Conflicts, slot_of, same_slot, same_statement}
 use Rattle.group_defs.specs.Process.{Setting, keyed}
@@ -28,7 +28,7 @@ pub record Convicts (s : Setting) (claims : List Claim) (q : ℕ) : Type 0 where
   pub other_valid : IsTrue (is_valid s other)
   pub conflict : Conflicts one other
 
--- ---- and which two
+-- ---- as a test
 
 -- the claim is on the slot of the other
 abbrev pub is_on_slot : Claim → Claim → Bool
@@ -37,6 +37,24 @@ is_on_slot c b = same_slot (slot_of b.statement) (slot_of c.statement)
 -- of one signer, the two conflict
 abbrev pub is_conflict : Claim → Claim → Bool
 is_conflict c b = is_on_slot c b && not (same_statement b.statement c.statement)
+
+-- the valid claims of a signer, in order
+abbrev pub claims_by : Setting → List Claim → ℕ → List Claim
+claims_by s claims q = filter (λ c. (c.signer == q) && is_valid s c) claims
+
+-- of these claims of one signer, two conflict
+abbrev pub has_conflict : List Claim → Bool
+has_conflict claims = list_any (λ c. list_any (is_conflict c) claims) claims
+
+-- the claims convict the process
+abbrev pub is_convicted : Setting → List Claim → ℕ → Bool
+is_convicted s claims q = has_conflict (claims_by s claims q)
+
+-- all whom the claims convict, in the roster's order; nobody without a key has valid claims
+abbrev pub convicted : Setting → List Claim → List ℕ
+convicted s claims = filter (is_convicted s claims) (keyed s)
+
+-- ---- and which two
 
 -- the earliest of these claims that is on the claim's slot, and the claim
 abbrev pub earliest_with : List Claim → Claim → Option (Claim × Claim)
@@ -48,21 +66,13 @@ pair_behind before [] = None
 pair_behind before (c ∷ cs) =
     if list_any (is_conflict c) before then earliest_with before c else pair_behind (before ++ c ∷ []) cs
 
--- the valid claims of a signer, in order
-abbrev pub claims_by : Setting → List Claim → ℕ → List Claim
-claims_by s claims q = filter (λ c. (c.signer == q) && is_valid s c) claims
-
 -- the conviction of the process, where the claims convict it
 abbrev pub conviction_of : Setting → List Claim → ℕ → Option Conviction
 conviction_of s claims q = option_map (λ pair. record { process = q; first = pair.0; second = pair.1 }) (pair_behind [] (claims_by s claims q))
 
--- all that the claims convict, by process number; nobody without a key has valid claims
+-- one conviction of each whom the claims convict, in the same order
 abbrev pub convictions : Setting → List Claim → List Conviction
 convictions s claims = filter_map (conviction_of s claims) (keyed s)
-
--- the numbers of those whom the claims convict
-abbrev pub convicted : Setting → List Claim → List ℕ
-convicted s claims = map (λ c. c.process) (convictions s claims)
 
 -- ---- by the first claims alone, as they are kept
 

@@ -1,5 +1,0 @@
-use Rattle.audit_laws.proofs.Convicted.{convictions_stand}
-use Rattle.audit_laws.proofs.convictions_stand.Goals as goal
-
-pub returns : goal.returns
-returns c = convictions_stand

@@ -1,0 +1,2 @@
+pub mod Convictions
+pub mod Laws

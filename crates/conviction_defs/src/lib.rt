@@ -1,0 +1,2 @@
+//! Conviction on plain data: whom claims convict, and by which two of them.
+#![tactic(auto)]
