@@ -10,6 +10,7 @@ use Rattle.event_laws.proofs.Taken.{taking_in_leaves}
 use Rattle.event_laws.proofs.Signed.{signing_leaves}
 use Rattle.event_laws.proofs.Settled.{settling_leaves}
 use Rattle.pool_laws.proofs.Members.{Mem, append-mem, mem-append, mem-behind}
+use Rattle.safety_laws.proofs.GroupGrows.{run-append}
 use Rattle.safety_laws.proofs.Settlings.{after-none}
 
 drop-front : {A : Type 0} (xs ys : List A) → drop (length xs) (xs ++ ys) ≡ ys
@@ -50,11 +51,6 @@ module _ (s : Setting) (p : Process) (t : Turn) where
           ∙ ap (λ cs. p.signed ++ cs) (sym (outcome-some fault e))
 
 -- ---- turn by turn
-
-pub run-append : (s : Setting) (p : Process) (ts us : List Turn) → run s p (ts ++ us) ≡ run s (run s p ts) us
-unfolding run
-run-append s p [] us = refl
-run-append s p (t ∷ ts) us = run-append s (after s p t) ts us
 
 pub run-one : (s : Setting) (p : Process) (t : Turn) → run s p (t ∷ []) ≡ after s p t
 unfolding run

@@ -1,4 +1,4 @@
--- Conviction, and that no correct process is convicted.
+-- That no correct process is convicted.
 use Rattle.std.proofs.Common.{◌≡◌, ◌≢◌, ℕ, List, Some, Bool, true, false, refl, sym, ap, ◌∙◌, slice_get}
 use Rattle.std.specs.Prelude.{◌&&◌, not, ◌==◌, Contains}
 use Rattle.std.specs.List.{list_any}
@@ -12,35 +12,10 @@ use Rattle.pool_laws.proofs.Members.{All-mem, Contains-mem, Mem, list_any-mem, m
 use Rattle.pool_laws.proofs.Places.{Compared, Pairs, ahead, all-pairs, behind, compared, level, mem-slice_get}
 use Rattle.pool_laws.proofs.Slots.{is-same_slot, is-same_statement, same_slot-is, same_statement-is}
 use Rattle.pool_laws.proofs.Tests.{and-four, and-first, and-second, both-true, not-both, some-same}
-use Rattle.safety_laws.proofs.OnePerSlot.{one_per_slot}
+use Rattle.safety_laws.proofs.OneContent.{one-of-slot}
 use Rattle.safety_laws.proofs.Quorums.{in-ends, me-end_of}
 
 -- ---- no correct process is convicted
-
--- one signed list has one claim of a slot
-one-claim : (cs : List Claim) → Pairs (λ c d. slot_of c.statement ≢ slot_of d.statement) cs → (a b : Claim) → Mem a cs → Mem b cs
-    → slot_of a.statement ≡ slot_of b.statement → a ≡ b
-one-claim cs once a b m n e =
-    let i = mem-slice_get cs a m in
-    let j = mem-slice_get cs b n in
-    go i.0 j.0 i.1 j.1 (compared i.0 j.0)
-  where
-    go : (i j : ℕ) → slice_get cs i ≡ Some a → slice_get cs j ≡ Some b → Compared i j → a ≡ b
-    go i j at_i at_j (ahead lt) = absurd (once i j a b lt at_i at_j e)
-    go i j at_i at_j (behind lt) = absurd (once j i b a lt at_j at_i (sym e))
-    go i j at_i at_j (level same) = some-same a b (sym at_i ∙ ap (slice_get cs) same ∙ at_j)
-
--- a process signs no two statements of one slot
-signs-one : (s : Setting) (c : Correct) (st other : Statement) → Mem st (statements_of (end_of s c))
-    → Mem other (statements_of (end_of s c)) → slot_of st ≡ slot_of other → st ≡ other
-signs-one s c st other m n same =
-    let cs : List Claim = (end_of s c).signed in
-    let a = map-mem (λ (c : Claim). c.statement) cs st m in
-    let b = map-mem (λ (c : Claim). c.statement) cs other n in
-    let slots : slot_of a.0.statement ≡ slot_of b.0.statement = ap slot_of a.2 ∙ same ∙ sym (ap slot_of b.2) in
-    sym a.2 ∙ ap (λ (c : Claim). c.statement)
-    (one-claim cs (all-pairs (λ c d. slot_of c.statement ≢ slot_of d.statement) cs
-    (one_per_slot s c.me c.batch_limit c.turns)) a.0 b.0 a.1 b.1 slots) ∙ b.2
 
 -- a correct process's claim that was handed over is its own word
 own-word : (f : Family) → Honest f → (c : Correct) → Mem c f.correct → (d : Claim) → Contains (handed f) d → is_valid f.setting d ≡ true
@@ -53,6 +28,6 @@ own-word f honest c m d there valid signer =
 pub no_correct_is_convicted : NoCorrectIsConvicted
 no_correct_is_convicted f q honest it = mem-All (λ p. p ≢ q) (numbers f)
     (λ p m. λ is. let c = map-mem (λ (c : Correct). c.me) f.correct p m in
-    it.conflict.2 (signs-one f.setting c.0 it.one.statement it.other.statement
+    it.conflict.2 (one-of-slot f.setting c.0 it.one.statement it.other.statement
     (own-word f honest c.0 c.1 it.one it.one_of it.one_valid (c.2 ∙ is ∙ sym it.signer))
     (own-word f honest c.0 c.1 it.other it.other_of it.other_valid (c.2 ∙ is ∙ sym it.signer ∙ it.conflict.0)) it.conflict.1))

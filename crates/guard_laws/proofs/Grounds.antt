@@ -28,16 +28,11 @@ use Rattle.pool_laws.proofs.Places.{mem-slice_get}
 use Rattle.pool_laws.proofs.Tests.{and-first, not-both, some-same, yes-is}
 use Rattle.safety_laws.proofs.EachWasDue.{each_was_due}
 use Rattle.safety_laws.proofs.MaySign.{notify-perceived}
-use Rattle.safety_laws.proofs.Causes.{causes}
+use Rattle.safety_laws.proofs.Causes.{causes, perceived-mem}
 use Rattle.safety_laws.proofs.Quorums.{me-end_of}
 use Rattle.safety_laws.proofs.Settlings.{after-none}
 
 -- ---- what is perceived
-
-perceived-mem : (p : Process) (e : ℕ × Update) → is_perceived p e ≡ true → Mem e p.perceived
-perceived-mem p e is =
-    let found = list_any-mem (λ d. is_yes (pair_discrete ℕ_discrete (Update-discrete ℕ_discrete) d e)) p.perceived is in
-    subst (λ d. Mem d p.perceived) (yes-is (pair_discrete ℕ_discrete (Update-discrete ℕ_discrete) found.0 e) found.2) found.1
 
 mem-put : (e : ℕ × Update) (es : List (ℕ × Update)) (d : ℕ × Update) → Mem d (put perceived_numbers e es) → Mem d es ⊎ (e ≡ d)
 mem-put e [] d (inl is) = inr is

@@ -29,7 +29,7 @@ use Rattle.pool_laws.proofs.Tests.{and-first, and-four, some-is, yes-is}
 use Rattle.safety_laws.proofs.ViewsAgree.{backed, of-history, one-view}
 use Rattle.safety_laws.proofs.ViewsOf.{left-before, left-view}
 
-perceived-mem : (p : Process) (e : ℕ × Update) → is_perceived p e ≡ true → Mem e p.perceived
+pub perceived-mem : (p : Process) (e : ℕ × Update) → is_perceived p e ≡ true → Mem e p.perceived
 perceived-mem p e is =
     let found = list_any-mem (λ d. is_yes (pair_discrete ℕ_discrete (Update-discrete ℕ_discrete) d e)) p.perceived is in
     subst (λ d. Mem d p.perceived) (yes-is (pair_discrete ℕ_discrete (Update-discrete ℕ_discrete) found.0 e) found.2) found.1

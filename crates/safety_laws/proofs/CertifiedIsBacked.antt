@@ -52,7 +52,7 @@ module _ (f : Family) (rising : IsStrictlyIncreasing (numbers f)) where
       let two = index-map f.correct j b at_j in
       omega (arith, up', one, two)
 
-  one-of-number : (a b : Correct) → Mem a f.correct → Mem b f.correct → a.me ≡ b.me → a ≡ b
+  pub one-of-number : (a b : Correct) → Mem a f.correct → Mem b f.correct → a.me ≡ b.me → a ≡ b
   one-of-number a b m n e =
       let i = mem-slice_get f.correct a m in
       let j = mem-slice_get f.correct b n in

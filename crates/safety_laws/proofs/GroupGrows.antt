@@ -65,7 +65,7 @@ extends-at : (old p : Process) → Extends old p → (i : ℕ)
 unfolding Extends
 extends-at old p e i = e i
 
-run-append : (s : Setting) (p : Process) (ts us : List Turn) → run s p (ts ++ us) ≡ run s (run s p ts) us
+pub run-append : (s : Setting) (p : Process) (ts us : List Turn) → run s p (ts ++ us) ≡ run s (run s p ts) us
 unfolding run
 run-append s p [] us = refl
 run-append s p (t ∷ ts) us = run-append s (after s p t) ts us

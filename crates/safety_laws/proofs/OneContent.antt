@@ -23,7 +23,7 @@ one-claim cs once a b m n e =
     go i j at_i at_j (behind lt) = absurd (once j i b a lt at_j at_i (sym e))
     go i j at_i at_j (level same) = some-same a b (sym at_i ∙ ap (slice_get cs) same ∙ at_j)
 
-one-of-slot : (s : Setting) (c : Correct) (st other : Statement) → Mem st (statements_of (end_of s c))
+pub one-of-slot : (s : Setting) (c : Correct) (st other : Statement) → Mem st (statements_of (end_of s c))
     → Mem other (statements_of (end_of s c)) → slot_of st ≡ slot_of other → st ≡ other
 one-of-slot s c st other m n same =
     let cs : List Claim = (end_of s c).signed in
