@@ -9,38 +9,17 @@
 use Rattle.std.specs.Prelude.{ℕ, ◌+◌, ◌/◌, ◌==◌, nat_lt, if◌then◌else◌, List, [], ◌∷◌, ◌++◌, length, map, Option, Some, None, Result, Ok, Err, codes}
 use Rattle.std.specs.Fmt.{decimal}
 use Rattle.byte_defs.specs.Equality.{same_bytes}
-use Rattle.byte_defs.specs.Fields.{◌>>=◌}
 use Rattle.text_defs.specs.Words.{words_of, line_text, parts_of, bytes_of}
 use Rattle.signature_defs.specs.Schemes as schemes
 use Rattle.kit_defs.specs.Kits.{Kit}
-use Rattle.kit_defs.specs.KitReading.{KitFault, Line, Repeated, Missing, KeyMismatch, Draft, nothing, take_line, finish}
+use Rattle.kit_defs.specs.KitReading.{KitFault, Line, Repeated, Missing, KeyMismatch}
+use Rattle.input_defs.specs.Fronts.{Front, front_of}
 use Rattle.group_defs.specs.Views.{View}
 use Rattle.group_defs.specs.Process.{Setting, all_kinds}
 use Rattle.replay_defs.specs.Reports.{frame_word}
 use Rattle.chain_defs.specs.declared.ChainFault.{ChainFault}
 use Rattle.chain_defs.specs.declared.ChainFault.TheVariants as faults
 use Rattle.chain_defs.specs.Advance.{advance}
-
--- ---- a kit in an input
-
--- a kit, and what stands behind its line `go`: the lines there, and the number of the first
-pub record Opened : Type 0 where
-  pub kit : Kit
-  pub number : ℕ
-  pub lines : List (List ℕ)
-
--- the lines from this number on, up to the line `go`; the input's end before it is a Line
-unfoldable pub opened_at : ℕ → Draft → List (List ℕ) → Result Opened KitFault
-opened_at n d [] = Err (Line n)
-opened_at n d (rest ∷ []) = Err (Line n)
-opened_at n d (line ∷ next ∷ more) =
-    if same_bytes line (codes "go")
-    then (finish n d >>= λ kit. Ok (record { kit = kit; number = n + 1; lines = next ∷ more }))
-    else (take_line n d line >>= λ taken. opened_at (n + 1) taken (next ∷ more))
-
--- the kit that an input begins with
-unfoldable pub opened : List ℕ → Result Opened KitFault
-opened bytes = opened_at 1 nothing (parts_of bytes)
 
 -- what the processes of a kit share
 abbrev pub setting_of : Kit → Setting
@@ -122,9 +101,9 @@ chain_at s n v (line ∷ next ∷ more) = elim (proof_in line) [
 ]
 
 -- the lines behind a kit, from the genesis on
-abbrev pub chain_from : Opened → Answer
-chain_from o = let s = setting_of o.kit in behind (view_line s.genesis) (chain_at s o.number s.genesis o.lines)
+abbrev pub chain_from : Front → Answer
+chain_from f = let s = setting_of f.kit in behind (view_line s.genesis) (chain_at s f.line s.genesis (parts_of f.rest))
 
 -- what `chain` answers to an input
 unfoldable pub chain_of : List ℕ → Answer
-chain_of bytes = elim (opened bytes) [ Err fault ↦ stopped (kit_words fault) | Ok o ↦ chain_from o ]
+chain_of bytes = elim (front_of bytes) [ Err fault ↦ stopped (kit_words fault) | Ok f ↦ chain_from f ]
