@@ -1,6 +1,5 @@
--- What a guard reads and writes beside a node:
+-- What a guard reads and writes beside a node, whose `expel` line it also writes:
 --   P accuse Q        a script line: P's conflict of Q goes to the other members
---   expel P Q         before the Suspect that P adds
 --   accuse P Q        the conflict is sent
 --   accuse P none     P keeps none
 use Rattle.std.specs.Prelude.{ℕ, ◌==◌, List, [], ◌∷◌, find, Option, Some, None, if◌then◌else◌, codes}
@@ -10,9 +9,6 @@ use Rattle.text_defs.specs.Words.{line_text, process_of}
 use Rattle.message_defs.specs.Statements.{Claim}
 use Rattle.group_defs.specs.Process.{Process}
 use Rattle.group_defs.specs.Sending.{Sending, Bundle, others, sends_to}
-
-abbrev pub expel_line : ℕ → ℕ → List ℕ
-expel_line p q = line_text (codes "expel" ∷ decimal p ∷ decimal q ∷ [])
 
 -- ---- accuse
 

@@ -16,7 +16,8 @@ use Rattle.group_defs.specs.Events.{after, run}
 use Rattle.group_defs.specs.Accounts.{bounded}
 use Rattle.group_defs.specs.Family.{accounts, numbers, honest}
 use Rattle.guard_defs.specs.Guarding.{expelled, guarded_all}
-use Rattle.guard_defs.specs.Lines.{expel_line, accused_by, accuse_line, accusation}
+use Rattle.node_defs.specs.Lines.{expel_line}
+use Rattle.guard_defs.specs.Lines.{accused_by, accuse_line, accusation}
 use Rattle.guard_rows.specs.Scripts.{s, frames_sent, expels_in}
 use Rattle.guard_rows.specs.Accusing.{two_echoes, behind, all, Accusing}
 

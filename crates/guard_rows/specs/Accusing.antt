@@ -7,7 +7,8 @@ use Rattle.group_defs.specs.Events.{Event, Hand}
 use Rattle.group_defs.specs.Accounts.{bounded}
 use Rattle.group_defs.specs.Family.{Family, accounts, numbers, honest}
 use Rattle.guard_defs.specs.Guarding.{family_of, given_run}
-use Rattle.guard_defs.specs.Lines.{expel_line, accused_by, accuse_line, accusation}
+use Rattle.node_defs.specs.Lines.{expel_line}
+use Rattle.guard_defs.specs.Lines.{accused_by, accuse_line, accusation}
 use Rattle.guard_rows.specs.Scripts.{s, by, msg, given, frames_sent, expels_in}
 
 -- a frame of two claims of 3 that conflict
