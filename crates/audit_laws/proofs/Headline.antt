@@ -1,10 +1,10 @@
 -- Findings that are honest and bounded agree and are sound.
-use Rattle.std.proofs.Common.{◌≡◌, ◌≢◌, ℕ, List, true, refl, sym, subst}
+use Rattle.std.proofs.Common.{◌≡◌, ℕ, List, true, refl, sym, subst}
 use Rattle.std.specs.List.Sorted.{IsStrictlyIncreasing}
 use Rattle.group_defs.specs.Process.{Setting, keyed}
 use Rattle.group_defs.specs.Views.{IsView}
-use Rattle.group_defs.specs.Accounts.{bounded, agree, sound}
-use Rattle.group_defs.specs.Family.{Family, ends, accounts, numbers, honest}
+use Rattle.group_defs.specs.Accounts.{bounded}
+use Rattle.group_defs.specs.Family.{ends, accounts, numbers, honest}
 use Rattle.group_defs.specs.Laws.{Premises}
 use Rattle.kit_defs.specs.Kits.{Kit, IsKit}
 use Rattle.safety_laws.proofs.Tested.{bounded_is_tested, honest_is_tested}
@@ -13,8 +13,7 @@ use Rattle.safety_laws.proofs.SoundTested.{sound_is_tested}
 use Rattle.safety_laws.proofs.AllAgree.{agreement}
 use Rattle.safety_laws.proofs.OwnPayloads.{cause_and_order}
 use Rattle.audit_defs.specs.Players.{setting_of}
-use Rattle.audit_defs.specs.Audits.{Audited, audited}
-use Rattle.audit_defs.specs.Findings.{findings_of}
+use Rattle.audit_defs.specs.Audits.{Audited}
 use Rattle.audit_defs.specs.Laws.{IsOfListed, FindingsHeadline}
 use Rattle.audit_laws.proofs.OfListed.{audit_is_of_listed}
 

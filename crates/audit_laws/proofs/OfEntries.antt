@@ -1,18 +1,18 @@
 -- The turns of each process are those of its own entries.
-use Rattle.std.proofs.Common.{◌≡◌, ◌≢◌, ◌⊎◌, inl, inr, ℕ, zero, suc, ◌+◌, ◌<◌, List, [], ◌∷◌, ◌++◌, map, length, Option, Some, None, Bool, true, false, refl, sym, ap, ◌∙◌, subst, arith}
+use Rattle.std.proofs.Common.{◌≡◌, inl, inr, ℕ, suc, ◌+◌, ◌<◌, List, [], ◌∷◌, ◌++◌, map, Option, Some, None, Bool, true, false, refl, sym, ap, ◌∙◌, subst, arith}
 use Rattle.std.specs.Prelude.{if◌then◌else◌, ◌==◌, ◌&&◌, slice_index, option_map, All, Result, Ok, Err}
 use Rattle.std.specs.List.Sorted.{IsStrictlyIncreasing}
-use Rattle.std.proofs.lemmas.Bool.{eqb-true, eq-eqb}
+use Rattle.std.proofs.lemmas.Bool.{eqb-true}
 use Rattle.std.proofs.lemmas.List.{append-nil, append_assoc}
 use Rattle.byte_defs.specs.Fields.{◌>>=◌}
 use Rattle.journal_defs.specs.Entries.{Entry}
-use Rattle.group_defs.specs.Process.{Setting, Process, start}
-use Rattle.group_defs.specs.Events.{Turn, after}
+use Rattle.group_defs.specs.Process.{Setting, start}
+use Rattle.group_defs.specs.Events.{after}
 use Rattle.group_defs.specs.Family.{Correct}
-use Rattle.pool_laws.proofs.Members.{Mem, map-mem, mem-All, mem-map}
-use Rattle.audit_defs.specs.Sources.{Source, Step, Takes, Breaks, steps_of}
+use Rattle.pool_laws.proofs.Members.{Mem, map-mem, mem-All}
+use Rattle.audit_defs.specs.Sources.{Step, Takes, Breaks, steps_of}
 use Rattle.audit_defs.specs.Players.{Player, Taken, turn_of, is_written, claims_of, with_turn, absorbed, behind, taking, turns_from, correct_of, family_of}
-use Rattle.audit_defs.specs.Audits.{AuditFault, Known, knows, goes, goes_through, cast_of, Audited, audited_in}
+use Rattle.audit_defs.specs.Audits.{AuditFault, Known, knows, goes_through, cast_of, Audited, audited_in}
 use Rattle.audit_defs.specs.Laws.{own_entries, FamilyIsOfEntries}
 use Rattle.audit_laws.proofs.OfListed.{Begins, cast-begins}
 

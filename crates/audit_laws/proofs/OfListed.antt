@@ -1,8 +1,7 @@
 -- What an audit speaks of: the listed processes, and the claims that were handed to them or that they signed.
 use Rattle.std.proofs.Common.{◌≡◌, ◌⊎◌, inl, inr, ℕ, List, [], ◌∷◌, ◌++◌, map, Option, Some, None, Bool, true, false, refl, sym, ap, ◌∙◌, subst}
-use Rattle.std.specs.Prelude.{if◌then◌else◌, ◌==◌, ◌&&◌, not, nat_lt, find, filter, filter_map, length, option_map, flat_map, All, Contains, IsTrue, Result, Ok, Err}
+use Rattle.std.specs.Prelude.{if◌then◌else◌, ◌==◌, ◌&&◌, nat_lt, find, filter, length, option_map, flat_map, All, Contains, IsTrue, Result, Ok, Err}
 use Rattle.std.specs.List.{list_all, cons_option, enumerate_from}
-use Rattle.std.proofs.lemmas.Bool.{eqb-true, eq-eqb}
 use Rattle.byte_defs.specs.Fields.{◌>>=◌}
 use Rattle.message_defs.specs.Statements.{Claim}
 use Rattle.group_defs.specs.Process.{Setting, Process, start}
@@ -12,11 +11,11 @@ use Rattle.group_defs.specs.Family.{Correct, Family, numbers, end_of, ends, clai
 use Rattle.byte_defs.specs.Members.{has}
 use Rattle.journal_defs.specs.Entries.{Entry}
 use Rattle.kit_defs.specs.Kits.{Kit}
-use Rattle.pool_laws.proofs.Members.{Contains-mem, Mem, append-mem, list_all-mem, map-mem, mem-All, mem-Contains, mem-append, mem-behind, mem-filter, mem-find, mem-flat_map, mem-map}
+use Rattle.pool_laws.proofs.Members.{Contains-mem, Mem, append-mem, list_all-mem, map-mem, mem-All, mem-Contains, mem-append, mem-behind, mem-find, mem-flat_map, mem-map}
 use Rattle.pool_laws.proofs.Tests.{and-second}
 use Rattle.audit_defs.specs.Sources.{Source, Step, Takes, Breaks, steps_of}
 use Rattle.audit_defs.specs.Players.{Player, Taken, setting_of, hosts_of, is_missing, player, player_by, players_of, turn_of, is_written, claims_of, with_turn, absorbed, behind, taking, correct_of, family_of}
-use Rattle.audit_defs.specs.Audits.{AuditFault, Missing, Repeated, Entry as faulty_entry, Known, knows, goes, goes_through, sources_of, cast_of, Audited, audited_in, audited}
+use Rattle.audit_defs.specs.Audits.{AuditFault, Missing, Repeated, Known, knows, goes, goes_through, sources_of, cast_of, Audited, audited_in, audited}
 use Rattle.audit_defs.specs.Laws.{IsOfListed, AuditIsOfListed}
 use Rattle.audit_laws.proofs.Written.{written_is_tested}
 use Rattle.audit_laws.proofs.TurnsTaken.{turn-signs, run-more, handed-more, handed-before, handed-last}

@@ -1,13 +1,10 @@
 -- What a process of a family signed: one statement of a slot, and in its own name.
-use Rattle.std.proofs.Common.{◌≡◌, ◌≢◌, ℕ, zero, suc, ◌+◌, ◌-◌, ◌<◌, List, [], ◌∷◌, map, length, Some, refl, sym, ap, ◌∙◌, subst, arith, slice_get}
-use Rattle.std.specs.Prelude.{slice_index}
+use Rattle.std.proofs.Common.{◌≡◌, ℕ, sym, ap, ◌∙◌, subst}
 use Rattle.std.specs.List.Sorted.{IsStrictlyIncreasing}
 use Rattle.message_defs.specs.Statements.{Statement, Claim, slot_of}
-use Rattle.group_defs.specs.Process.{Setting, Process}
+use Rattle.group_defs.specs.Process.{Process}
 use Rattle.group_defs.specs.Family.{Correct, Family, numbers, end_of, ends, statements_of}
 use Rattle.pool_laws.proofs.Members.{Mem, map-mem, mem-map}
-use Rattle.pool_laws.proofs.Places.{Compared, Pairs, ahead, all-pairs, behind, compared, level, mem-slice_get, slice_get-length}
-use Rattle.pool_laws.proofs.Tests.{some-same}
 use Rattle.safety_laws.proofs.CertifiedIsBacked.{one-of-number}
 use Rattle.safety_laws.proofs.OneContent.{one-of-slot}
 use Rattle.safety_laws.proofs.OnePerSlot.{own-signers}

@@ -1,9 +1,9 @@
 -- Who is not convicted, and how honesty is told.
-use Rattle.std.proofs.Common.{◌≡◌, ◌≢◌, ◌⊎◌, inl, inr, ℕ, List, map, Bool, true, false, refl, sym, ap, ◌∙◌, subst}
+use Rattle.std.proofs.Common.{◌≡◌, ◌⊎◌, inl, inr, ℕ, List, Bool, true, false, refl, sym, ap, ◌∙◌, subst}
 use Rattle.std.specs.Prelude.{All, Contains, IsTrue}
 use Rattle.std.specs.List.Sorted.{IsStrictlyIncreasing}
-use Rattle.message_defs.specs.Statements.{Statement, Claim, slot_of, same_statement}
-use Rattle.message_defs.specs.Claims.{Frame, Claims, frame_said}
+use Rattle.message_defs.specs.Statements.{Claim, slot_of, same_statement}
+use Rattle.message_defs.specs.Claims.{Frame}
 use Rattle.group_defs.specs.Process.{Setting, Process}
 use Rattle.group_defs.specs.Hearing.{is_valid}
 use Rattle.group_defs.specs.Family.{Family, numbers, ends, handed, statements_of, IsOwned, Honest}
@@ -12,8 +12,8 @@ use Rattle.pool_laws.proofs.Members.{All-mem, Contains-mem, Mem, map-mem, mem-Al
 use Rattle.pool_laws.proofs.Slots.{same_statement-is, is-same_statement}
 use Rattle.audit_defs.specs.Players.{setting_of}
 use Rattle.conviction_defs.specs.Convictions.{Convicts, convicted}
-use Rattle.audit_defs.specs.Audits.{Audited, audited}
-use Rattle.audit_defs.specs.Evidence.{convicted_by, convicted_in}
+use Rattle.audit_defs.specs.Audits.{Audited}
+use Rattle.audit_defs.specs.Evidence.{convicted_by}
 use Rattle.audit_defs.specs.Laws.{IsOfListed, NoneListedIsConvicted, HonestByFirsts, EvidenceSparesCorrect}
 use Rattle.conviction_laws.proofs.Convicted.{convicted_is_convicts}
 use Rattle.audit_laws.proofs.OwnWords.{one-word, own-name, number-of, of-number, one-process}

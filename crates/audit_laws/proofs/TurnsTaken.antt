@@ -1,9 +1,8 @@
 -- What a turn adds to what a process signed, and to what was handed to it.
-use Rattle.std.proofs.Common.{◌≡◌, ◌⊎◌, inl, inr, ℕ, List, [], ◌∷◌, ◌++◌, length, drop, Option, Some, None, false, refl, sym, ap, ◌∙◌, subst}
+use Rattle.std.proofs.Common.{◌≡◌, ◌⊎◌, inl, inr, List, [], ◌∷◌, ◌++◌, length, drop, Option, Some, None, false, refl, sym, ap, ◌∙◌, subst}
 use Rattle.std.proofs.lemmas.List.{append-nil}
 use Rattle.message_defs.specs.Statements.{Claim}
 use Rattle.group_defs.specs.Process.{Setting, Process}
-use Rattle.group_defs.specs.Settle.{settle}
 use Rattle.group_defs.specs.Events.{Turn, EventFault, Outcome, refusal, take_in, signing, answered, outcome, after, run}
 use Rattle.group_defs.specs.Family.{claims_in, handed_to}
 use Rattle.event_laws.proofs.Taken.{taking_in_leaves}

@@ -1,12 +1,10 @@
 -- The test of an entry.
-use Rattle.std.proofs.Common.{◌≡◌, Bool, true, false, refl, sym, subst, length}
-use Rattle.std.specs.Prelude.{◌+◌, ◌==◌, ◌&&◌, not, nat_le, IsTrue, if◌then◌else◌}
-use Rattle.std.specs.List.{list_all}
+use Rattle.std.proofs.Common.{◌≡◌, Bool, true, false, refl, length}
+use Rattle.std.specs.Prelude.{◌&&◌}
 use Rattle.std.proofs.lemmas.Bool.{eqb-true, eq-eqb}
-use Rattle.pool_laws.proofs.Tests.{and-four, both-true}
-use Rattle.group_defs.specs.Hearing.{is_valid}
-use Rattle.group_defs.specs.Events.{Outcome, outcome}
-use Rattle.audit_defs.specs.Players.{same_answer, turn_of, most_signatures, is_written, IsWritten}
+use Rattle.pool_laws.proofs.Tests.{and-four}
+use Rattle.group_defs.specs.Events.{outcome}
+use Rattle.audit_defs.specs.Players.{same_answer, turn_of}
 use Rattle.audit_defs.specs.Laws.{WrittenIsTested}
 
 same-is : (a b : Bool) → same_answer a b ≡ true → a ≡ b

@@ -1,17 +1,12 @@
 -- That no correct process is convicted.
-use Rattle.std.proofs.Common.{◌≡◌, ◌≢◌, ℕ, List, Some, Bool, true, false, refl, sym, ap, ◌∙◌, slice_get}
-use Rattle.std.specs.Prelude.{◌&&◌, not, ◌==◌, Contains}
-use Rattle.std.specs.List.{list_any}
-use Rattle.std.proofs.lemmas.Bool.{eqb-true, eq-eqb}
-use Rattle.message_defs.specs.Statements.{Statement, Claim, Conflicts, slot_of, same_slot, same_statement}
-use Rattle.group_defs.specs.Process.{Setting, Process}
+use Rattle.std.proofs.Common.{◌≡◌, ◌≢◌, true, sym, ◌∙◌}
+use Rattle.std.specs.Prelude.{Contains}
+use Rattle.message_defs.specs.Statements.{Claim}
+use Rattle.group_defs.specs.Process.{Process}
 use Rattle.group_defs.specs.Hearing.{is_valid}
 use Rattle.group_defs.specs.Family.{Correct, Family, numbers, end_of, ends, handed, statements_of, IsOwned, Honest}
 use Rattle.guard_laws.specs.Guards.{NoCorrectIsConvicted}
-use Rattle.pool_laws.proofs.Members.{All-mem, Contains-mem, Mem, list_any-mem, map-mem, mem-All, mem-Contains, mem-list_any}
-use Rattle.pool_laws.proofs.Places.{Compared, Pairs, ahead, all-pairs, behind, compared, level, mem-slice_get}
-use Rattle.pool_laws.proofs.Slots.{is-same_slot, is-same_statement, same_slot-is, same_statement-is}
-use Rattle.pool_laws.proofs.Tests.{and-four, and-first, and-second, both-true, not-both, some-same}
+use Rattle.pool_laws.proofs.Members.{All-mem, Contains-mem, Mem, map-mem, mem-All}
 use Rattle.safety_laws.proofs.OneContent.{one-of-slot}
 use Rattle.safety_laws.proofs.Quorums.{in-ends, me-end_of}
 

@@ -1,11 +1,9 @@
 -- What a guard perceives was handed in, or is grounded on frames that convict; and whom a guard expels.
 use Rattle.std.proofs.Common.{◌≡◌, ◌≢◌, ◌⊎◌, inl, inr, ℕ, List, [], ◌∷◌, map, Option, Some, None, Bool, true, false, refl, sym, ap, ◌∙◌, subst}
 use Rattle.std.specs.Prelude.{◌&&◌, if◌then◌else◌, not, ◌==◌, IsTrue, All, Contains}
-use native.Mathlib.Decide.{ℕ_discrete}
 use Rattle.std.proofs.lemmas.Bool.{eq-eqb}
-use Rattle.byte_defs.specs.Equality.{is_yes, pair_discrete}
 use Rattle.byte_defs.specs.Orders.{put}
-use Rattle.message_defs.specs.Updates.{Update, Update-discrete, Remove, Add, Renew}
+use Rattle.message_defs.specs.Updates.{Update, Remove, Add, Renew}
 use Rattle.message_defs.specs.Statements.{Claim, Notify}
 use Rattle.message_defs.specs.Claims.{Claims, Wants, Faulty}
 use Rattle.group_defs.specs.Views.{is_member}
@@ -23,9 +21,9 @@ use Rattle.guard_laws.specs.Guards.{ExpelledIsConvicted, NoCorrectIsExpelled, Re
 use Rattle.conviction_laws.proofs.Convicted.{convicts-more}
 use Rattle.guard_laws.proofs.Convicting.{no_correct_is_convicted}
 use Rattle.guard_laws.proofs.Evidence.{Fair, after-fair, after-some, shown-convicts}
-use Rattle.pool_laws.proofs.Members.{All-mem, Contains-mem, Mem, list_any-mem, map-mem, mem-All, mem-Contains, mem-append, mem-behind, mem-flat_map, mem-map}
+use Rattle.pool_laws.proofs.Members.{All-mem, Contains-mem, Mem, map-mem, mem-All, mem-Contains, mem-append, mem-behind, mem-flat_map, mem-map}
 use Rattle.pool_laws.proofs.Places.{mem-slice_get}
-use Rattle.pool_laws.proofs.Tests.{and-first, not-both, some-same, yes-is}
+use Rattle.pool_laws.proofs.Tests.{and-first, not-both, some-same}
 use Rattle.safety_laws.proofs.EachWasDue.{each_was_due}
 use Rattle.safety_laws.proofs.MaySign.{notify-perceived}
 use Rattle.safety_laws.proofs.Causes.{causes, perceived-mem}
