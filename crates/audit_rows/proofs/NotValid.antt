@@ -1,5 +1,5 @@
 -- The row of specs/NotValid.antt, computed.
-use Rattle.std.proofs.Common.{◌≡◌, refl}
+use Rattle.std.proofs.Common.{refl}
 use Rattle.audit_rows.proofs.Opened.{all_opened}
 use Rattle.audit_rows.specs.NotValid.{sources, NotValid}
 

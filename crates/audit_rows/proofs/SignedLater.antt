@@ -1,5 +1,5 @@
 -- The row of specs/SignedLater.antt, computed.
-use Rattle.std.proofs.Common.{◌≡◌, refl}
+use Rattle.std.proofs.Common.{refl}
 use Rattle.audit_rows.proofs.Opened.{all_opened}
 use Rattle.audit_rows.specs.SignedLater.{sources, SignedLater}
 

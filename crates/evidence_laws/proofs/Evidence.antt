@@ -1,6 +1,6 @@
 -- The frame of two claims is read as them, and so it convicts.
-use Rattle.std.proofs.Common.{◌≡◌, ℕ, ◌+◌, ◌≤◌, List, [], ◌∷◌, ◌++◌, length, Bool, true, false, refl, sym, ap, ◌∙◌, subst, arith}
-use Rattle.std.specs.Prelude.{Contains, Result, Ok, Err, nat_lt}
+use Rattle.std.proofs.Common.{◌≡◌, ℕ, ◌+◌, List, [], ◌∷◌, ◌++◌, length, Bool, refl, sym, ap, ◌∙◌, subst, arith}
+use Rattle.std.specs.Prelude.{Contains, Result, Ok}
 use Rattle.std.proofs.lemmas.Bool.{le-ltb}
 use Rattle.std.proofs.lemmas.List.{length-append}
 use Rattle.byte_defs.specs.Fields.{◌>>=◌, refuse_if, text}
@@ -9,16 +9,14 @@ use Rattle.message_defs.specs.declared.FrameFault.TheVariants.{Range}
 use Rattle.message_defs.specs.Statements.{Statement, Claim}
 use Rattle.message_defs.specs.Spelling.{IsClaim, IsStatement, spelling}
 use Rattle.message_defs.specs.Reading.{statement_in, statement_of}
-use Rattle.message_defs.specs.Frames.{Group, FrameView, Bundle, IsGroup, IsFrame, signature_bytes, group_bytes, frame_bytes, frame_of}
+use Rattle.message_defs.specs.Frames.{Group, Bundle, IsGroup, IsFrame, signature_bytes, group_bytes}
 use Rattle.message_defs.specs.Packing.{signed_of, group_of}
 use Rattle.message_defs.specs.Claims.{Frame, Claims, in_bundle, claims_on, claims_of_group, claims_of_groups, claims_of, said, said_by, frame_said}
-use Rattle.group_defs.specs.Process.{Setting}
 use Rattle.frame_codec.proofs.Grammar.{frame_again}
 use Rattle.statements.proofs.Grammar.{spelling_again}
 use Rattle.pool_laws.proofs.Members.{mem-Contains}
 use Rattle.std.proofs.Common.{inl, inr}
-use Rattle.conviction_defs.specs.Convictions.{Convicts, convicted}
-use Rattle.audit_defs.specs.Evidence.{convicted_by, convicted_in, pair_frame}
+use Rattle.audit_defs.specs.Evidence.{convicted_by, pair_frame}
 use Rattle.audit_defs.specs.Laws.{EvidenceConvicts}
 use Rattle.conviction_laws.proofs.Convicted.{convicted_is_convicts}
 use Rattle.evidence_laws.proofs.Spelled.{statements_are_short}
