@@ -30,8 +30,9 @@ impl<'a, 'c> Checked<'a, 'c> {
     }
 }
 
-/// Whether the signature is valid under the signer's key in the roster, on the body of the claim in this group.
-pub(crate) fn is_signed<V: Scheme>(
+/// Whether the signature is valid under the signer's key in the roster, on the body of the claim in this group. The statement is in
+/// its ranges (docs/FORMATS.md, «Statements»).
+pub fn is_signed<V: Scheme>(
     scheme: &V,
     roster: &Roster,
     group: &GroupId,

@@ -9,7 +9,7 @@ mod pool;
 mod verdict;
 
 pub use certificate::{Ack, CertKind, Certificate, Commit, Keep, Message, Place};
-pub use checked::{Checked, check};
+pub use checked::{Checked, check, is_signed};
 pub use own_place::Own;
 pub use pool::Pool;
 pub use pool_values::UpdateSet;

@@ -15,4 +15,4 @@ pub use limits::{LAST_NUMBER, MOST_PLACES, PAYLOAD_BYTES, STATEMENT_BYTES};
 pub use message_defs::FrameFault;
 pub use reading::{Carrier, read_carried, read_statement};
 pub use spelling::{body_into, spell_into, spelled_len};
-pub use statement::{Claim, Slot, Statement, conflicts, slot_of};
+pub use statement::{Claim, Slot, Statement, conflicts, is_same_slot, slot_of};

@@ -175,7 +175,8 @@ pub fn slot_of(statement: &Statement<'_>) -> Slot
     }
 }
 
-fn is_same_slot(a: &Statement<'_>, b: &Statement<'_>) -> bool
+/// Whether kind and slot are equal.
+pub fn is_same_slot(a: &Statement<'_>, b: &Statement<'_>) -> bool
     ensures { IsTrue result ↔ (plain.slot_of (stmt a.now) ≡ plain.slot_of (stmt b.now)) }
 {
     a.kind() == b.kind() && slot_of(a) == slot_of(b)

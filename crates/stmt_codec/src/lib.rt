@@ -17,6 +17,6 @@ pub use own::OwnClaim;
 pub use payload::Payload;
 pub use statements::{
     Batch, Claim, FrameFault, LAST_NUMBER, PAYLOAD_BYTES, STATEMENT_BYTES, Slot, Statement,
-    body_determines_statement, body_into, conflicts, read_statement, slot_of, spell_into,
-    spelled_len, spelling_determines_statement,
+    body_determines_statement, body_into, conflicts, is_same_slot, read_statement, slot_of,
+    spell_into, spelled_len, spelling_determines_statement,
 };
