@@ -14,7 +14,8 @@ use Rattle.std.specs.Fmt.{decimal}
 use Rattle.link_defs.specs.declared.LinkFault.{LinkFault}
 use Rattle.link_defs.specs.declared.LinkFault.TheVariants.{Short, Magic, OtherGroup, NotForMe, UnknownPeer, BadTag}
 use Rattle.text_defs.specs.Words.{line_text, bytes_word}
-use Rattle.kit_defs.specs.KitReading.{KitFault, Line, Repeated, Missing, KeyMismatch}
+use Rattle.kit_defs.specs.KitReading.{KitFault}
+use Rattle.input_defs.specs.Fronts.{fault_words}
 use Rattle.group_defs.specs.Process.{Process, deliveries_of}
 use Rattle.group_defs.specs.Events.{Note, Delivers, Installs, Liar, Spent, Halts, EventFault}
 use Rattle.replay_defs.specs.Reports.{view_line, liar_line, refusal_word}
@@ -96,13 +97,6 @@ status_of (BadSnap line) = 7
 status_of (BadJournal place) = 8
 status_of (Full whole entry) = 9
 
--- the words of a kit's fault
-abbrev pub kit_fault_words : KitFault → List (List ℕ)
-kit_fault_words (Line n) = codes "line" ∷ decimal n ∷ []
-kit_fault_words (Repeated n) = codes "repeated" ∷ decimal n ∷ []
-kit_fault_words (Missing n) = codes "missing" ∷ decimal n ∷ []
-kit_fault_words (KeyMismatch n made listed) = codes "keymismatch" ∷ decimal n ∷ []
-
 -- the last line that is written, which for some stops is none
 abbrev pub stop_line : Stop → List ℕ
 stop_line Ended = []
@@ -111,7 +105,7 @@ stop_line ReadFailed = codes "stop 3 read\n"
 stop_line WriteFailed = []
 stop_line DiskFailed = codes "stop 5 disk\n"
 stop_line BindFailed = codes "stop 6 link\n"
-stop_line (BadKit fault) = line_text (codes "stop" ∷ codes "7" ∷ kit_fault_words fault)
+stop_line (BadKit fault) = line_text (codes "stop" ∷ codes "7" ∷ fault_words fault)
 stop_line (BadLine n) = line_text (codes "stop" ∷ codes "7" ∷ codes "line" ∷ decimal n ∷ [])
 stop_line (BadSnap n) = line_text (codes "stop" ∷ codes "7" ∷ codes "snap" ∷ decimal n ∷ [])
 stop_line (BadJournal place) = line_text (codes "stop" ∷ codes "8" ∷ codes "journal" ∷ codes "0" ∷ decimal place ∷ [])
