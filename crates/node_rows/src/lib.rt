@@ -6,7 +6,7 @@ ghost use Rattle.node_rows.specs.FailingCalls.{FailingCalls};
 ghost use Rattle.node_rows.specs.TurnStopped.{TurnStopped};
 ghost use Rattle.node_rows.specs.Begun.{Begun};
 
-/// What process 0 submits is delivered at both processes of a node.
+/// What process 0 submits is delivered at both processes of a node; a turn's notes come before the lines of its failed sends.
 pub fn two_processes()
     ensures { TwoProcesses }
 {}
