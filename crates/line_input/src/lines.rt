@@ -1,0 +1,173 @@
+ghost use Rattle.std.specs.Prelude.{◌≡◌, ◌==◌, ◌⊎◌, ◌<◌, ◌≤◌, true, false, [], length, drop, IfOk, IsErrOf, OnErr, OnOk};
+ghost use Rattle.std.specs.List.{position};
+ghost use Rattle.std.specs.Io.KnownBytes.{IsAtEnd, Keeps};
+ghost use Rattle.rp_base.specs.Causes.{Rose};
+ghost use Rattle.line_input.specs.Taking.{Answered, HasFeed, ReadOn, Takes};
+
+use crate::faults::InputFault;
+use rp_base::Source;
+use std::alloc::Global;
+use std::marker::Model;
+
+/// How many bytes are asked of a source at a time.
+const PIECE: usize = 16_384;
+
+/// What is there in place of a further line, or that one is.
+#[derive(Clone, Copy, Debug, PartialEq, Eq)]
+pub enum Next {
+    /// A line was taken: [`Lines::line`] lends it.
+    Line,
+
+    /// The bytes that come next are no line: there are more of them than a line may have before the first line feed, or the input ends in
+    /// them. They are not taken.
+    Broken,
+
+    /// The input has ended.
+    End,
+}
+
+/// The lines of an input, which are taken one after another. It reads ahead in pieces, so one value is to serve an input from its first
+/// line to its last. Contracts see the line that was taken last, and the bytes that were read and not yet taken.
+#[derive(Drop)]
+pub struct Lines {
+    read: Vec<u8>,
+
+    // the line that was taken last is here among the bytes read
+    begin: usize,
+    end: usize,
+
+    // the first byte that was not yet taken
+    next: usize,
+}
+
+impl Model for Lines {
+    ghost use Rattle.std.specs.Prelude.{◌≤◌, drop, length, slice_range};
+    ghost use Rattle.line_input.specs.Taking.{Taken};
+
+    ghost Value = { Taken };
+
+    ghost view = { λ l. record { line = slice_range l.read.items l.begin l.end; ahead = drop l.next l.read.items } };
+
+    ghost invariant = { λ l. (l.begin ≤ l.end) × (l.end ≤ l.next) × (l.next ≤ length l.read.items) };
+}
+
+// The place of the first line feed.
+fn first_feed(bytes: &[u8]) -> Option<usize>
+    ensures { result ≡ position (λ b. b == 10) bytes.now }
+{
+    bytes.iter().position(|b| *b == b'\n')
+}
+
+impl Lines {
+    /// Of an input of which nothing is read yet. It takes no memory before the first read.
+    pub fn new(alloc: Global) -> Lines
+        ensures { result ≡ record { line = []; ahead = [] } }
+    {
+        Lines {
+            read: Vec::new(alloc),
+            begin: 0,
+            end: 0,
+            next: 0,
+        }
+    }
+
+    /// The line that was taken last, without its line feed.
+    pub fn line(&self) -> &[u8]
+        ensures { result.now ≡ self.now.line }
+    {
+        &self.read[self.begin..self.end]
+    }
+
+    // The bytes that were read and not yet taken.
+    fn ahead(&self) -> &[u8]
+        ensures { result.now ≡ self.now.ahead }
+    {
+        &self.read[self.next..]
+    }
+
+    // Moves what is ahead to the front, for each piece that is read and not for each line.
+    fn drop_taken(&mut self)
+        ensures { self.new.ahead ≡ self.old.ahead }
+    {
+        let left = self.read.len() - self.next;
+        self.read.copy_within(self.next.., 0);
+        self.read.truncate(left);
+        self.begin = 0;
+        self.end = 0;
+        self.next = 0;
+    }
+
+    // Reads a piece, and answers whether there was one. Nothing is lost by a fault.
+    fn read_piece<S: Source>(&mut self, input: &mut S) -> Result<bool, InputFault>
+        ensures read { ReadOn (S.left input.old) (S.left input.new) self.old.ahead self.new.ahead }
+        ensures more { IfOk result (λ some. (some ≡ true → length self.old.ahead < length self.new.ahead)
+            × (some ≡ false → IsAtEnd (S.left input.new))) }
+        ensures failed { IsErrOf result InputFault.Read → Rose (S.faults input.old) (S.faults input.new) }
+        ensures steady { IsErrOf result InputFault.Read ⊎ (S.faults input.new ≡ S.faults input.old) }
+    {
+        self.drop_taken();
+        self.read.reserve(PIECE)?;
+        let mut piece = [0u8; PIECE];
+        let n = input.read(&mut piece)?;
+        let Ok(()) = self.read.extend_from_slice(&piece[..n]) else {
+            unreachable!();
+        };
+        Ok(n > 0)
+    }
+
+    // Whether a line feed is ahead, or more bytes than a line may have.
+    fn is_enough(&self, most: usize) -> bool
+        ensures enough { result ≡ true → HasFeed self.now.ahead ⊎ (most < length self.now.ahead) }
+        ensures little { result ≡ false → length self.now.ahead ≤ most }
+    {
+        let ahead = self.ahead();
+        ahead.len() > most || ahead.contains(&b'\n')
+    }
+
+    // Reads on until a line feed is ahead, or more bytes than a line may have, or the input ends.
+    fn read_on<S: Source>(&mut self, input: &mut S, most: usize) -> Result<(), InputFault>
+        ensures read { ReadOn (S.left input.old) (S.left input.new) self.old.ahead self.new.ahead }
+        ensures enough { OnOk result (HasFeed self.new.ahead ⊎ (most < length self.new.ahead) ⊎ IsAtEnd (S.left input.new)) }
+        ensures failed { IsErrOf result InputFault.Read → Rose (S.faults input.old) (S.faults input.new) }
+        ensures steady { IsErrOf result InputFault.Read ⊎ (S.faults input.new ≡ S.faults input.old) }
+    {
+        'pieces: while !self.is_enough(most) {
+            if !self.read_piece(input)? {
+                return Ok(());
+            }
+        }
+        Ok(())
+    }
+
+    // Takes the line that is ahead.
+    fn take(&mut self, most: usize) -> Next
+        ensures { Takes most self.old.ahead self.new result }
+    {
+        let ahead = self.ahead();
+        match first_feed(ahead) {
+            Some(end) if end <= most => {
+                self.begin = self.next;
+                self.end = self.next + end;
+                self.next = self.end + 1;
+                Next::Line
+            }
+            None if ahead.is_empty() => Next::End,
+            _ => Next::Broken,
+        }
+    }
+
+    /// Takes the next line of the input, which has at most `most` bytes before its line feed. It is to be called with the same source each
+    /// time.
+    ///
+    /// # Errors
+    /// [`InputFault::Read`] only where a read failed; [`InputFault::NoMemory`]. What was read is kept ahead.
+    pub fn read<S: Source>(&mut self, input: &mut S, most: usize) -> Result<Next, InputFault>
+        ensures answers { IfOk result (Answered most (S.left input.old) (S.left input.new) self.old.ahead self.new) }
+        ensures kept { OnErr result (ReadOn (S.left input.old) (S.left input.new) self.old.ahead self.new.ahead) }
+        ensures failed { IsErrOf result InputFault.Read → Rose (S.faults input.old) (S.faults input.new) }
+        ensures steady { IsErrOf result InputFault.Read ⊎ (S.faults input.new ≡ S.faults input.old) }
+    {
+        self.read_on(input, most)?;
+        Ok(self.take(most))
+    }
+}
