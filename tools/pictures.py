@@ -234,6 +234,10 @@ AREAS = {
     "kits and words": (676, 413, 2, "text_codec kit_file kit_lines kit_draft kit_reading kit_making command_line"),
     "signatures": (676, 622, 2, "lms_ots lms_tree lms_hss sig_scheme bench_parts"),
     "links and journals": (676, 777, 2, "link_defs auth_link journal_defs journal_disk journal_entries journal_rp"),
+    "nodes": (1040, 20, 2, "image_defs image_laws node_defs node_laws node_rows"),
+    "audits": (1040, 175, 2, "input_defs audit_defs audit_laws evidence_laws findings_laws audit_rows"),
+    "chains of views, and guards": (1040, 330, 2, "chain_defs chain_text_defs chain_laws chain_rows guard_defs guard_laws guard_rows"),
+    "a store": (1040, 512, 2, "store_defs store_laws store_rows"),
 }
 
 # The lines from each area to those that it uses, without those that others imply.
@@ -260,6 +264,12 @@ LINES = {
     ("kits and words", "signatures"): [(828, 559), (828, 622)],
     ("signatures", "the outside"): [(676, 690), (664, 690), (664, 1070), (652, 1070)],
     ("the outside", "definitions"): [(500, 1132), (500, 1195)],
+    ("nodes", "links and journals"): [(1040, 100), (1024, 100), (1024, 850), (980, 850)],
+    ("audits", "links and journals"): [(1040, 255), (1024, 255), (1024, 850), (980, 850)],
+    ("nodes", "laws and rows"): [(1040, 60), (1012, 60), (1012, 985), (336, 985), (336, 1070), (324, 1070)],
+    ("audits", "laws and rows"): [(1040, 215), (1012, 215), (1012, 985), (336, 985), (336, 1070), (324, 1070)],
+    ("chains of views, and guards", "laws and rows"): [(1040, 400), (1012, 400), (1012, 985), (336, 985), (336, 1070), (324, 1070)],
+    ("a store", "laws and rows"): [(1040, 560), (1012, 560), (1012, 985), (336, 985), (336, 1070), (324, 1070)],
 }
 
 
@@ -287,7 +297,7 @@ def crates_picture():
     """The crates by areas: each area stands above those that it uses; lines that others imply are left out."""
     crates = {name: below for name, below in read_crates().items() if not name.endswith("_tests")}
     check_areas(crates)
-    p = Picture(1010, 1326, "The crates and what stands on what")
+    p = Picture(1364, 1326, "The crates and what uses what")
     for points in LINES.values():
         p.arrow(points)
     for area, (x, y, across, names) in AREAS.items():
@@ -301,7 +311,7 @@ def crates_picture():
             left, top = x + 8 + step * (i % across), y + 32 + 27 * (i // across)
             p.parts.append(f'<rect x="{left:g}" y="{top}" width="{step - 4:g}" height="23" rx="4" class="{kind}"/>')
             p.text(left + (step - 4) / 2, top + 16, name)
-    p.text(20, 1312, "Green: definitions. Yellow: laws and rows. Blue: code. In an area no crate stands on one that comes after it.", "small", "start")
+    p.text(20, 1312, "Green: definitions. Yellow: laws and rows. Blue: code. In an area no crate uses one that comes after it. Lines that others imply are left out.", "small", "start")
     p.write("crates")
 
 
