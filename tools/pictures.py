@@ -216,7 +216,7 @@ AREAS = {
         20, 777, 2, "view_table claim_index claim_lists own_place slot_quorums placed_batches pool_values claim_pool pool_questions member_laws claim_hearing"
     ),
     "laws and rows": (20, 1013, 2, "pool_laws rule_laws safety_laws event_laws group_rows schedule_laws schedule_rows"),
-    "definitions": (20, 1195, 6, "byte_defs signature_defs message_defs text_defs group_defs kit_defs replay_defs"),
+    "definitions": (20, 1195, 6, "byte_defs signature_defs message_defs text_defs group_defs kit_defs replay_defs input_defs"),
     "a run shown": (348, 20, 2, "picture_defs story_words story_telling story_trace picture_labels story_picture story_cli story"),
     "beside other implementations": (
         348, 203, 2,
@@ -235,7 +235,7 @@ AREAS = {
     "signatures": (676, 622, 2, "lms_ots lms_tree lms_hss sig_scheme bench_parts"),
     "links and journals": (676, 777, 2, "link_defs auth_link journal_defs journal_disk journal_entries journal_rp"),
     "nodes": (1040, 20, 2, "image_defs image_laws node_defs node_laws node_rows"),
-    "audits": (1040, 175, 2, "input_defs audit_defs audit_laws evidence_laws findings_laws audit_rows"),
+    "audits": (1040, 175, 2, "audit_defs audit_laws evidence_laws findings_laws audit_rows"),
     "chains of views, and guards": (1040, 330, 2, "chain_defs chain_text_defs chain_laws chain_rows guard_defs guard_laws guard_rows"),
     "a store": (1040, 512, 2, "store_defs store_laws store_rows"),
 }
