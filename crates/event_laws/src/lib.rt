@@ -2,6 +2,7 @@
 #![tactic(auto)]
 
 ghost use Rattle.event_laws.specs.Parts.{TakingInLeaves, SigningLeaves, SettlingLeaves};
+ghost use Rattle.event_laws.specs.Slots.{SigningFillsSlots, SlotsAreFew};
 
 /// Taking an event in signs and delivers nothing, and stays in the view.
 pub fn taking_in_leaves()
@@ -16,4 +17,14 @@ pub fn signing_leaves()
 /// Settling signs nothing, and finds no conflict.
 pub fn settling_leaves()
     ensures { SettlingLeaves }
+{}
+
+/// What is signed in one event is of the current view, and fills each slot once.
+pub fn signing_fills_slots()
+    ensures { SigningFillsSlots }
+{}
+
+/// A view has at most 20,674 slots, so no event signs more statements.
+pub fn slots_are_few()
+    ensures { SlotsAreFew }
 {}
