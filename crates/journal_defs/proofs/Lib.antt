@@ -3,3 +3,4 @@ pub mod Entering
 pub mod Gates
 pub mod Recording
 pub mod Running
+pub mod Marking

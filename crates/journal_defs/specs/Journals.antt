@@ -1,5 +1,5 @@
 -- The bytes of a journal: a header, and records of which each stands behind a gate.
-use Rattle.std.specs.Prelude.{◌≡◌, ◌≢◌, ℕ, ◌+◌, ◌≤◌, nat_lt, List, [], ◌∷◌, ◌++◌, length, drop, codes, Ok}
+use Rattle.std.specs.Prelude.{◌≡◌, ◌≢◌, ℕ, ◌+◌, ◌<◌, ◌≤◌, nat_lt, List, [], ◌∷◌, ◌++◌, length, take, drop, codes, Ok}
 use Rattle.std.specs.List.{flat_map, AllByRecursion}
 use Rattle.std.specs.Int.{w32, w64, to_be_bytes}
 use Rattle.byte_defs.specs.Fields.{◌>>=◌, refuse_if, number_at, bytes_at, four_bytes}
@@ -155,3 +155,9 @@ OneEntry = (bytes : List ℕ) (place : ℕ) (e f : Entry) (m n : ℕ) → HasEnt
 -- bytes read as one list of entries at most
 abbrev pub OneReading : Type 0
 OneReading = (head bytes : List ℕ) (es fs : List Entry) → ReadsAs head bytes es → ReadsAs head bytes fs → es ≡ fs
+
+-- Where the bytes before a place are those that were marked there, and the bytes go on at it, the entries stand before it that stood before
+-- it when it was marked.
+abbrev pub MarkedAgain : Type 0
+MarkedAgain = (head marked bytes : List ℕ) (es : List Entry) (place : ℕ) → StandsBefore head marked es place
+    → take place bytes ≡ take place marked → place < length bytes → StandsBefore head bytes es place

@@ -2,7 +2,7 @@
 #![tactic(auto)]
 
 ghost use Rattle.journal_defs.specs.Entries.{EntryIsSpelled, EntryIsRead};
-ghost use Rattle.journal_defs.specs.Journals.{RecordIsSpelled, RecordIsRead, OneReading, EntryGoesOn, ClosedGateEnds, BrokenGateBreaks, EntryIsThere, GateIsThere, OneEntry};
+ghost use Rattle.journal_defs.specs.Journals.{RecordIsSpelled, RecordIsRead, OneReading, EntryGoesOn, ClosedGateEnds, BrokenGateBreaks, EntryIsThere, GateIsThere, OneEntry, MarkedAgain};
 ghost use Rattle.journal_defs.specs.Crashes.{TornBehindTheGate, WrittenBehindTheGate, TornGate, AtRestIsImage, OpeningIsImage, OpenedIsAtRest, OneImageStands, ImageReads};
 
 /// The kind of a journal, which stands in its magic. A place holds one message in a journal of the first kind, and up to 16 in
@@ -109,4 +109,9 @@ pub fn one_entry()
 /// Bytes read as one list of entries at most.
 pub fn one_reading()
     ensures { OneReading }
+{}
+
+/// Before a place that is marked stand the entries that stood there, where the bytes before it are those that were marked.
+pub fn marked_again()
+    ensures { MarkedAgain }
 {}
