@@ -175,9 +175,10 @@ impl Group {
 
     // Counts what a member signed and heard, and keeps the frames that it sends.
     fn note(&mut self, from: Pid, outcome: Outcome) -> Result<()> {
-        self.signed = and_signed(self.signed, &outcome.signed);
         self.heard = self.heard.wrapping_add(u64::from(outcome.heard));
-        self.keep(from, outcome.sends)
+        let (signed, sends, _notes) = outcome.into_parts();
+        self.signed = and_signed(self.signed, &signed);
+        self.keep(from, sends)
     }
 
     fn keep(&mut self, from: Pid, sends: Vec<Sending>) -> Result<()> {

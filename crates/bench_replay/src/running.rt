@@ -255,8 +255,9 @@ impl Run {
 
     // Counts what a process signed, and sends its frames.
     fn note(&mut self, sender: Pid, outcome: Outcome) -> Result<()> {
-        self.signed = and_signed(self.signed, &outcome.signed);
-        self.send_all(sender, outcome.sends)
+        let (signed, sends, _notes) = outcome.into_parts();
+        self.signed = and_signed(self.signed, &signed);
+        self.send_all(sender, sends)
     }
 
     fn send_all(&mut self, sender: Pid, sends: Vec<Sending>) -> Result<()> {

@@ -4,10 +4,10 @@ ghost use Rattle.happenings.specs.Told.{IsSeenOf};
 
 use rp_base::{NoMemory, PidSet};
 use std::alloc::Global;
+use std::mem;
 use stmt_codec::{EventVerdict, Note, Outcome, OwnClaim, Sending};
 
 /// What came of an event at a process. Of a frame that it sends, it has to whom it goes.
-#[derive(Drop)]
 pub struct Seen {
     pub verdict: EventVerdict,
 
@@ -25,6 +25,23 @@ pub struct Seen {
 
     /// What it is told, in this order.
     pub notes: Vec<Note>,
+}
+
+// Written out, so that whoever drops a value makes one call (docs/CONTRIBUTING.md).
+impl Drop for Seen {
+    fn drop(self) {
+        let Seen {
+            verdict: _,
+            heard: _,
+            signed,
+            spent: _,
+            to,
+            notes,
+        } = self;
+        mem::drop(signed);
+        mem::drop(to);
+        mem::drop(notes);
+    }
 }
 
 // To whom each frame goes.
@@ -45,14 +62,16 @@ impl Seen {
         ensures sends { IfOk result (λ all. all.1 ≡ outcome.sends) }
     {
         let to = addressees(alloc, &outcome.sends)?;
+        let (verdict, heard, spent) = (outcome.verdict, outcome.heard, outcome.spent);
+        let (signed, sends, notes) = outcome.into_parts();
         let seen = Seen {
-            verdict: outcome.verdict,
-            heard: outcome.heard,
-            signed: outcome.signed,
-            spent: outcome.spent,
+            verdict,
+            heard,
+            signed,
+            spent,
             to,
-            notes: outcome.notes,
+            notes,
         };
-        Ok((seen, outcome.sends))
+        Ok((seen, sends))
     }
 }

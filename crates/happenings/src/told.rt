@@ -4,6 +4,7 @@ ghost use Rattle.happenings.specs.Told.{happening, told_of, Tells};
 
 use crate::seen::Seen;
 use rp_base::{NoMemory, Pid, PidSet};
+use std::mem;
 use stmt_codec::Payload;
 
 /// What a process is handed.
@@ -32,7 +33,6 @@ pub enum Handed {
 }
 
 /// What happens to a process, or between processes.
-#[derive(Drop)]
 pub enum Happening {
     /// The process takes what it is handed, and this is seen of it. The next frame that is sent gets the number `first`.
     Takes {
@@ -61,6 +61,32 @@ pub enum Happening {
     Silent {
         signer: Pid,
     },
+}
+
+// Written out, so that whoever drops a value makes one call (docs/CONTRIBUTING.md).
+impl Drop for Happening {
+    fn drop(self) {
+        match self {
+            Happening::Takes {
+                at: _,
+                handed: _,
+                first: _,
+                seen,
+            } => mem::drop(seen),
+            Happening::Lies {
+                signer: _,
+                statement,
+                frame: _,
+                to: _,
+            } => mem::drop(statement),
+            Happening::Loses {
+                frame: _,
+                from: _,
+                to: _,
+            }
+            | Happening::Silent { signer: _ } => {}
+        }
+    }
 }
 
 /// What is told of what happens: all of it in its order, or nothing, where nobody asks.

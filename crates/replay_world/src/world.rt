@@ -170,7 +170,8 @@ fn tell(
     ensures tells { OnOk result (TellsStep told.old at handed first outcome told.new) }
 {
     if !told.is_asked() {
-        return Ok(outcome.sends);
+        let (_signed, sends, _notes) = outcome.into_parts();
+        return Ok(sends);
     }
     let (seen, sends) = Seen::of(alloc, outcome)?;
     told.add(Happening::Takes {

@@ -7,6 +7,7 @@ use arrayvec::ArrayVec;
 use replay_defs::Scheme;
 use rp_base::{GroupId, Pid, PidSet};
 use signature_defs::OtsType;
+use std::mem;
 
 /// What a process signs with.
 #[derive(Clone, Copy)]
@@ -75,7 +76,6 @@ pub struct Listed {
 }
 
 /// Who takes part in a run.
-#[derive(Drop)]
 pub struct Header {
     pub scheme: Scheme,
 
@@ -90,8 +90,22 @@ pub struct Header {
     pub genesis: ArrayVec<Pid, 16>,
 }
 
+// Written out, so that whoever drops a value makes one call (docs/CONTRIBUTING.md).
+impl Drop for Header {
+    fn drop(self) {
+        let Header {
+            scheme: _,
+            batch: _,
+            group: _,
+            processes,
+            genesis,
+        } = self;
+        mem::drop(processes);
+        mem::drop(genesis);
+    }
+}
+
 /// What happens to a correct process, or between processes.
-#[derive(Drop)]
 pub enum ScheduleEvent {
     /// A payload of at most 65,535 bytes is handed to a process, to be sent to the group.
     Submit {
@@ -146,6 +160,31 @@ pub enum ScheduleEvent {
     Tick {
         at: Pid,
     },
+}
+
+// Written out, so that whoever drops a value makes one call (docs/CONTRIBUTING.md).
+impl Drop for ScheduleEvent {
+    fn drop(self) {
+        match self {
+            ScheduleEvent::Submit { at: _, payload } => mem::drop(payload),
+            ScheduleEvent::Raw {
+                to: _,
+                from: _,
+                bytes,
+            } => mem::drop(bytes),
+            ScheduleEvent::Lie {
+                signer: _,
+                to: _,
+                statement,
+            } => mem::drop(statement),
+            ScheduleEvent::Pass { frame: _, to: _ }
+            | ScheduleEvent::Drain { count: _, to: _ }
+            | ScheduleEvent::Suspect { at: _, of: _ }
+            | ScheduleEvent::Join { at: _, of: _ }
+            | ScheduleEvent::Renew { at: _ }
+            | ScheduleEvent::Tick { at: _ } => {}
+        }
+    }
 }
 
 impl ScheduleEvent {

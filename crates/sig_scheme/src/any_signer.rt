@@ -1,9 +1,10 @@
 use lms_hss::HssKey;
 use lms_tree::LmsKey;
 use rp_base::{PlainSigner, Retract, Signer, Spent, Tally};
+use std::mem;
 
 /// A signer of a group's scheme. Its `Debug` shows no key.
-#[derive(Debug, Drop)]
+#[derive(Debug)]
 pub enum AnySigner {
     /// It signs up to the total that it was made with.
     Plain(PlainSigner),
@@ -13,6 +14,17 @@ pub enum AnySigner {
 
     /// It signs once with each leaf of its lowest trees, which follow one another.
     Hss(HssKey),
+}
+
+// Written out, so that whoever drops a value makes one call (docs/CONTRIBUTING.md).
+impl Drop for AnySigner {
+    fn drop(self) {
+        match self {
+            AnySigner::Plain(signer) => mem::drop(signer),
+            AnySigner::Lms(key) => mem::drop(key),
+            AnySigner::Hss(key) => mem::drop(key),
+        }
+    }
 }
 
 impl Tally for AnySigner {

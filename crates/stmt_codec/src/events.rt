@@ -3,6 +3,7 @@ use crate::payload::Payload;
 use arrayvec::ArrayVec;
 use message_defs::FrameFault;
 use rp_base::{Pid, PidSet, UpdateFault};
+use std::mem;
 
 /// What is handed to a process. One event is taken whole.
 #[derive(Clone, Copy)]
@@ -113,7 +114,7 @@ pub enum Note {
 }
 
 /// What one event brought about.
-#[derive(Debug, Drop)]
+#[derive(Debug)]
 pub struct Outcome {
     /// Whether the event was taken.
     pub verdict: EventVerdict,
@@ -132,4 +133,42 @@ pub struct Outcome {
 
     /// Deliveries, the view that was installed, liars, Spent and Halted, in this order.
     pub notes: Vec<Note>,
+}
+
+// Written out, so that whoever drops a value makes one call (docs/CONTRIBUTING.md).
+impl Drop for Outcome {
+    fn drop(self) {
+        let Outcome {
+            verdict: _,
+            heard: _,
+            signed,
+            spent: _,
+            sends,
+            notes,
+        } = self;
+        mem::drop(signed);
+        mem::drop(sends);
+        mem::drop(notes);
+    }
+}
+
+impl Outcome {
+    ghost use Rattle.std.specs.Prelude.{◌≡◌};
+
+    /// What was signed, what is to be sent, and the notes.
+    pub fn into_parts(self) -> (Vec<OwnClaim>, Vec<Sending>, Vec<Note>)
+        ensures signed { result.0 ≡ self.signed }
+        ensures sends { result.1 ≡ self.sends }
+        ensures notes { result.2 ≡ self.notes }
+    {
+        let Outcome {
+            verdict: _,
+            heard: _,
+            signed,
+            spent: _,
+            sends,
+            notes,
+        } = self;
+        (signed, sends, notes)
+    }
 }
