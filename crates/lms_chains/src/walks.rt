@@ -1,9 +1,9 @@
-// All chains of a one-time key, four at a time.
-ghost use Rattle.std.specs.Prelude.{◌≡◌, ℕ, ◌<◌, ◌≤◌, ◌++◌, false, [], slice_index, slice_index_or};
+// Chains of a one-time key, four at a time, and all chains of equal lengths.
+ghost use Rattle.std.specs.Prelude.{◌≡◌, ℕ, ◌<◌, ◌≤◌, ◌++◌, [], slice_index, slice_index_or};
 ghost use Rattle.sha2.specs.Sha256.{digest_bytes, sha256};
 ghost use Rattle.signature_defs.specs.Strings.{u8str, u16str};
 ghost use Rattle.signature_defs.specs.LmOts.{chain};
-ghost use Rattle.lms_chains.specs.Walks.{AreDone, HasSteps, end_of};
+ghost use Rattle.lms_chains.specs.Walks.{HasSteps, end_of};
 
 use crate::lanes::{key_words, walk_four};
 use sha256_lanes::{from_lane, to_lanes};
@@ -81,7 +81,7 @@ fn greatest(numbers: &Numbers, at: [u16; 4]) -> u16
         .max(numbers[usize::from(d)])
 }
 
-// Walks the chains of these numbers.
+// The ends of the chains of these numbers.
 fn walk_these(key: &[u32; 5], at: [u16; 4], steps: &Steps, starts: &Values) -> [[u8; 32]; 4]
     requires at { (l : ℕ) → l < 4 → slice_index at l < 265 }
     requires steps { (l : ℕ) → l < 4 → HasSteps steps.now.from steps.now.to (slice_index at l) }
@@ -102,8 +102,14 @@ fn walk_these(key: &[u32; 5], at: [u16; 4], steps: &Steps, starts: &Values) -> [
     ]
 }
 
-// The same, each end in its chain's place.
-fn walk_into(key: &[u32; 5], at: [u16; 4], steps: &Steps, starts: &Values, ends: &mut Values)
+// Walks the chains of these numbers, and puts each end into its chain's place.
+pub(crate) fn walk_into(
+    key: &[u32; 5],
+    at: [u16; 4],
+    steps: &Steps,
+    starts: &Values,
+    ends: &mut Values,
+)
     requires at { (l : ℕ) → l < 4 → slice_index at l < 265 }
     requires steps { (l : ℕ) → l < 4 → HasSteps steps.now.from steps.now.to (slice_index at l) }
     ensures there { (l : ℕ) → l < 4 → slice_index_or ends.new (slice_index at l) []
@@ -120,7 +126,7 @@ fn walk_into(key: &[u32; 5], at: [u16; 4], steps: &Steps, starts: &Values, ends:
 }
 
 // All chains, of which four at a time are neighbours: for chains of like lengths. The last four may have a chain twice.
-pub fn walk_in_order(key: &[u8; 20], count: u16, steps: &Steps, starts: &Values) -> Values
+fn walk_in_order(key: &[u8; 20], count: u16, steps: &Steps, starts: &Values) -> Values
     requires count { count ≤ 265 }
     requires steps { (i : ℕ) → i < count → HasSteps steps.now.from steps.now.to i }
     ensures { (i : ℕ) → i < count → slice_index_or result i [] ≡ end_of key.now steps.now.from steps.now.to starts.now i }
@@ -140,7 +146,7 @@ pub fn walk_in_order(key: &[u8; 20], count: u16, steps: &Steps, starts: &Values)
     ends
 }
 
-// So many steps for each chain.
+/// One number for all chains.
 pub fn same(n: u16) -> Numbers
     ensures { (i : ℕ) → i < 265 → slice_index result i ≡ n }
 {
@@ -153,7 +159,7 @@ fn same_starts(seed: &[u8; 32]) -> Values
     [*seed; CHAINS]
 }
 
-// The secret values at which the chains begin (RFC 8554, Appendix A).
+/// The secret values at which the first `count` chains begin (RFC 8554, Appendix A).
 pub fn secrets(key: &[u8; 20], count: u16, seed: &[u8; 32]) -> Values
     requires count { count ≤ 265 }
     ensures { (i : ℕ) → i < count → slice_index_or result i [] ≡ sha256 ((key.now ++ u16str i) ++ u8str 0xff ++ seed.now) }
@@ -165,7 +171,7 @@ pub fn secrets(key: &[u8; 20], count: u16, seed: &[u8; 32]) -> Values
     walk_in_order(key, count, &steps, &same_starts(seed))
 }
 
-// The values of all chains before step `to`, from those before step 0.
+/// The values of the first `count` chains before step `to`, from those before step 0.
 pub fn walk_alike(key: &[u8; 20], count: u16, to: u8, starts: &Values) -> Values
     requires count { count ≤ 265 }
     ensures { (i : ℕ) → i < count → slice_index_or result i [] ≡ chain (key.now ++ u16str i) 0 to (slice_index_or starts.now i []) }
@@ -175,108 +181,4 @@ pub fn walk_alike(key: &[u8; 20], count: u16, to: u8, starts: &Values) -> Values
         to: same(u16::from(to)),
     };
     walk_in_order(key, count, &steps, starts)
-}
-
-// Walks four chains, and notes that they are done.
-fn walk_and_note(
-    key: &[u32; 5],
-    at: [u16; 4],
-    steps: &Steps,
-    starts: &Values,
-    ends: &mut Values,
-    done: &mut [bool; CHAINS],
-)
-    requires at { (l : ℕ) → l < 4 → slice_index at l < 265 }
-    requires steps { (l : ℕ) → l < 4 → HasSteps steps.now.from steps.now.to (slice_index at l) }
-    requires sound { AreDone (digest_bytes key.now 5) steps.now.from steps.now.to starts.now ends.old done.old }
-    ensures { AreDone (digest_bytes key.now 5) steps.now.from steps.now.to starts.now ends.new done.new }
-{
-    walk_into(key, at, steps, starts, ends);
-    let [a, b, c, d] = at;
-    done[usize::from(a)] = true;
-    done[usize::from(b)] = true;
-    done[usize::from(c)] = true;
-    done[usize::from(d)] = true;
-}
-
-// The most steps that a chain takes.
-fn longest(count: u16, steps: &Steps) -> u16
-    requires count { count ≤ 265 }
-    requires steps { (i : ℕ) → i < count → HasSteps steps.now.from steps.now.to i }
-{
-    let mut most = 0;
-    for i in 0..count {
-        let at = usize::from(i);
-        most = most.max(steps.to[at] - steps.from[at]);
-    }
-    most
-}
-
-// Puts chain `i` into a group, at a place that is free, and walks the group where it is full. Gives the next free place.
-fn take_in(
-    key: &[u32; 5],
-    i: u16,
-    place: usize,
-    at: &mut [u16; 4],
-    steps: &Steps,
-    starts: &Values,
-    ends: &mut Values,
-    done: &mut [bool; CHAINS],
-) -> usize
-    requires place { place < 4 }
-    requires i { i < 265 }
-    requires i_steps { HasSteps steps.now.from steps.now.to i }
-    requires at { (l : ℕ) → l < 4 → slice_index at.old l < 265 }
-    requires steps { (l : ℕ) → l < 4 → HasSteps steps.now.from steps.now.to (slice_index at.old l) }
-    requires sound { AreDone (digest_bytes key.now 5) steps.now.from steps.now.to starts.now ends.old done.old }
-    ensures place { result < 4 }
-    ensures at { (l : ℕ) → l < 4 → slice_index at.new l < 265 }
-    ensures steps { (l : ℕ) → l < 4 → HasSteps steps.now.from steps.now.to (slice_index at.new l) }
-    ensures sound { AreDone (digest_bytes key.now 5) steps.now.from steps.now.to starts.now ends.new done.new }
-{
-    at[place] = i;
-    if place == 3 {
-        walk_and_note(key, *at, steps, starts, ends, done);
-        0
-    } else {
-        place + 1
-    }
-}
-
-fn none_done() -> [bool; CHAINS]
-    ensures { (i : ℕ) → i < 265 → slice_index_or result i false ≡ false }
-{
-    [false; CHAINS]
-}
-
-// All chains, of which four at a time take about as many steps, the longest first; the last ones, fewer than four and the
-// shortest, are walked each alone.
-pub fn walk_by_length(key: &[u8; 20], count: u16, steps: &Steps, starts: &Values) -> Values
-    requires some { 1 ≤ count }
-    requires count { count ≤ 265 }
-    requires steps { (i : ℕ) → i < count → HasSteps steps.now.from steps.now.to i }
-    ensures { (i : ℕ) → i < count → slice_index_or result i [] ≡ end_of key.now steps.now.from steps.now.to starts.now i }
-{
-    let words = key_words(key);
-    let mut ends = [[0u8; 32]; CHAINS];
-    let mut done = none_done();
-    let mut at = [0u16; 4];
-    let mut place = 0;
-    let most = longest(count, steps);
-    'lengths: for less in 0..=most {
-        'chains: for i in 0..count {
-            let chain = usize::from(i);
-            if steps.to[chain] - steps.from[chain] == most - less {
-                place = take_in(
-                    &words, i, place, &mut at, steps, starts, &mut ends, &mut done,
-                );
-            }
-        }
-    }
-    'rest: for i in 0..count {
-        if !done[usize::from(i)] {
-            walk_into(&words, [i; 4], steps, starts, &mut ends);
-        }
-    }
-    ends
 }

@@ -2,17 +2,17 @@ use lms_ots::{OtsType, ots_candidate, ots_public, ots_sign_into, ots_signature_l
 use sha2::{Digest, Sha256};
 use std::test::Fail;
 
-const ID: [u8; 16] = [0, 1, 2, 3, 4, 5, 6, 7, 8, 9, 10, 11, 12, 13, 14, 15];
+pub(crate) const ID: [u8; 16] = [0, 1, 2, 3, 4, 5, 6, 7, 8, 9, 10, 11, 12, 13, 14, 15];
 
-const SEED: [u8; 32] = [
+pub(crate) const SEED: [u8; 32] = [
     32, 33, 34, 35, 36, 37, 38, 39, 40, 41, 42, 43, 44, 45, 46, 47, 48, 49, 50, 51, 52, 53, 54, 55,
     56, 57, 58, 59, 60, 61, 62, 63,
 ];
 
-const LEAF: u32 = 0x0102_0304;
+pub(crate) const LEAF: u32 = 0x0102_0304;
 
 // The number that a hash begins with.
-fn head(hash: &[u8; 32]) -> u64 {
+pub(crate) fn head(hash: &[u8; 32]) -> u64 {
     u64::from_be_bytes([
         hash[0], hash[1], hash[2], hash[3], hash[4], hash[5], hash[6], hash[7],
     ])

@@ -2,7 +2,7 @@ use Rattle.std.proofs.Common.{◌≡◌, ◌∙◌, ℕ, List, [], slice_index, 
 use Rattle.sha2.specs.Sha256.{digest_bytes}
 use Rattle.lms_chains.specs.Walks.{end_of}
 use Rattle.lms_chains.proofs.Placed.{marked}
-use Rattle.lms_chains.proofs.walks.walk_and_note.Goals as goal
+use Rattle.lms_chains.proofs.by_length.walk_and_note.Goals as goal
 
 pub returns : goal.returns
 returns c = λ i low noted.
