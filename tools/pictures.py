@@ -229,15 +229,15 @@ AREAS = {
         " story_defs story_laws story_lines story_statements story_headers story_events story_reading story_writing",
     ),
     "frames and statements": (348, 777, 2, "byte_fields frame_codec statements stmt_codec"),
-    "the outside": (348, 1013, 2, "rp_base rp_devices net_edge file_disk udp_link"),
+    "the outside": (348, 1013, 2, "rp_base rp_devices line_input net_edge file_disk udp_link"),
     "how fast": (676, 20, 2, "bench_lms bench_frames bench_schedules bench_journal bench_link bench_pool bench_core bench_replay"),
     "kits and words": (676, 413, 2, "text_codec kit_file kit_lines kit_draft kit_reading kit_making command_line"),
-    "signatures": (676, 622, 2, "lms_ots lms_tree lms_hss sig_scheme bench_parts"),
+    "signatures": (676, 622, 2, "sha256_lanes lms_chains lms_ots lms_tree lms_hss sig_scheme bench_parts"),
     "links and journals": (676, 777, 2, "link_defs auth_link journal_defs journal_disk journal_entries journal_rp"),
-    "nodes": (1040, 20, 2, "image_defs image_laws node_defs node_laws node_rows"),
-    "audits": (1040, 175, 2, "audit_defs audit_laws evidence_laws findings_laws audit_rows"),
-    "chains of views, and guards": (1040, 330, 2, "chain_defs chain_text_defs chain_laws chain_rows guard_defs guard_laws guard_rows"),
-    "a store": (1040, 512, 2, "store_defs store_laws store_rows"),
+    "a store": (1040, 20, 2, "store_defs store_laws store_rows"),
+    "chains of views, and guards": (1040, 150, 2, "chain_defs chain_text_defs chain_laws chain_rows guard_defs guard_laws guard_rows"),
+    "convictions and audits": (1040, 340, 2, "conviction_defs conviction_laws audit_defs audit_laws evidence_laws findings_laws audit_rows"),
+    "nodes": (1040, 530, 2, "image_defs image_laws node_defs node_laws node_rows"),
 }
 
 # The lines from each area to those that it uses, without those that others imply.
@@ -264,12 +264,13 @@ LINES = {
     ("kits and words", "signatures"): [(828, 559), (828, 622)],
     ("signatures", "the outside"): [(676, 690), (664, 690), (664, 1070), (652, 1070)],
     ("the outside", "definitions"): [(500, 1132), (500, 1195)],
-    ("nodes", "links and journals"): [(1040, 100), (1024, 100), (1024, 850), (980, 850)],
-    ("audits", "links and journals"): [(1040, 255), (1024, 255), (1024, 850), (980, 850)],
-    ("nodes", "laws and rows"): [(1040, 60), (1012, 60), (1012, 985), (336, 985), (336, 1070), (324, 1070)],
-    ("audits", "laws and rows"): [(1040, 215), (1012, 215), (1012, 985), (336, 985), (336, 1070), (324, 1070)],
-    ("chains of views, and guards", "laws and rows"): [(1040, 400), (1012, 400), (1012, 985), (336, 985), (336, 1070), (324, 1070)],
-    ("a store", "laws and rows"): [(1040, 560), (1012, 560), (1012, 985), (336, 985), (336, 1070), (324, 1070)],
+    ("a store", "laws and rows"): [(1040, 60), (1012, 60), (1012, 985), (336, 985), (336, 1070), (324, 1070)],
+    ("chains of views, and guards", "convictions and audits"): [(1192, 296), (1192, 340)],
+    ("chains of views, and guards", "nodes"): [(1344, 223), (1354, 223), (1354, 590), (1344, 590)],
+    ("convictions and audits", "laws and rows"): [(1040, 380), (1012, 380), (1012, 985), (336, 985), (336, 1070), (324, 1070)],
+    ("convictions and audits", "links and journals"): [(1040, 420), (1024, 420), (1024, 850), (980, 850)],
+    ("nodes", "laws and rows"): [(1040, 560), (1012, 560), (1012, 985), (336, 985), (336, 1070), (324, 1070)],
+    ("nodes", "links and journals"): [(1040, 600), (1024, 600), (1024, 850), (980, 850)],
 }
 
 
