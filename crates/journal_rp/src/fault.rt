@@ -5,7 +5,8 @@ use rp_base::{Failed, NoMemory};
 use std::alloc::{AllocError, AllocFailed};
 use thiserror::Error;
 
-/// Why a call of a journal failed. After any of these no further call is made on it: the disk is started again.
+/// Why a call of a journal failed. `read`, `skip` and `mark` then leave the journal as it was; `start` gave none, and `finish` and `append`
+/// have taken theirs, so the disk is started again.
 #[derive(Clone, Copy, Debug, PartialEq, Eq, Error)]
 pub enum JournalFault {
     /// A call of the disk failed, and its count rose. What was made last before stays.
@@ -26,11 +27,11 @@ pub enum JournalFault {
     Other(u64),
 
     /// The journal would pass 1,073,741,824 bytes: it has so many up to and with its closed gate, and the entry has so many.
-    /// It stays as it is.
+    /// Nothing was written.
     #[error("a journal of {length} bytes has no room for an entry of {entry}")]
     Full { length: u64, entry: u64 },
 
-    /// No memory is left. The journal stays as it is.
+    /// No memory is left.
     #[error("no memory is left")]
     NoMemory,
 }

@@ -28,6 +28,9 @@ impl Journal<Reading> {
     /// Goes to this place, which was marked with this digest: what stands before it is hashed, and not read. No `read` was made
     /// before.
     ///
+    /// What other calls promise of the entries before the gate holds after this where the bytes before the place are those that were
+    /// marked, of which the digest is the only witness (`journal_defs::marked_again`).
+    ///
     /// `Other` with the place comes exactly where the place is below 60, the disk has no byte at it, or SHA-256 of the bytes before
     /// it is another.
     pub fn skip<D: Disk>(

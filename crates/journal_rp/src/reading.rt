@@ -83,7 +83,7 @@ impl Journal<Reading> {
     }
 
     /// The entry behind the gate, and the journal then stands at the next gate. None comes at the first gate that is not open.
-    /// Without memory the journal stands where it stood.
+    /// After a fault the journal stands where it stood.
     ///
     /// `Entry` with the gate's place comes exactly where the gate is open, and no whole entry and next gate stand behind it.
     pub fn read<D: Disk>(
