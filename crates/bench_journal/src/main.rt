@@ -4,7 +4,7 @@
 
 use anyhow::{Result, anyhow};
 use file_disk::FileDisk;
-use journal_rp::{Header, Journal, Reading, Turn, Unsynced, Writing};
+use journal_rp::{Header, Journal, Journalled, Reading, Turn, Unsynced, Writing};
 use rp_base::{GroupId, Pid, PidSet};
 use std::alloc::Global;
 use std::fs::OpenFile;
@@ -31,7 +31,26 @@ fn header() -> Header {
     }
 }
 
-fn turn(alloc: Global) -> Result<Turn<Unsynced>> {
+// Process 0, which is said to have taken whatever has a spelling.
+#[derive(Drop)]
+struct Anyone;
+
+impl Journalled for Anyone {
+    ghost use Rattle.journal_defs.specs.Entries.{IsEntry};
+    ghost use Rattle.journal_entries.specs.Views.{event as event_of, turn_entry};
+
+    ghost number = { λ p. 0 };
+
+    ghost took = { λ p e o. IsEntry (turn_entry 0 (event_of e) o) };
+
+    fn number(&self) -> Pid {
+        Pid::default()
+    }
+
+    ghost spells = { λ p e o took. took };
+}
+
+fn turn(alloc: Global) -> Result<Turn<Unsynced, Anyone>> {
     let outcome = Outcome {
         verdict: EventVerdict::Taken,
         heard: 0,
@@ -40,7 +59,7 @@ fn turn(alloc: Global) -> Result<Turn<Unsynced>> {
         sends: Vec::new(alloc),
         notes: Vec::new(alloc),
     };
-    match Turn::new(alloc, Pid::default(), &Event::Submit(&PAYLOAD), outcome) {
+    match Turn::new(alloc, Anyone, &Event::Submit(&PAYLOAD), outcome) {
         Ok(turn) => Ok(turn),
         Err(_) => Err(anyhow!("no memory")),
     }

@@ -3,9 +3,13 @@ use Rattle.std.specs.Prelude.{ℕ, List}
 use Rattle.stmt_codec.specs.declared.events.Outcome.{Outcome}
 use Rattle.journal_rp.specs.declared.turn.Turn.{Turn}
 
-abbrev pub outcome_of : {S : Type 0} → Turn S → Outcome
+abbrev pub outcome_of : {S P : Type 0} → Turn S P → Outcome
 outcome_of t = t.outcome
 
 -- what the journal takes in: its entry behind the entry's length, and the next gate, closed
-abbrev pub staged_of : {S : Type 0} → Turn S → List ℕ
+abbrev pub staged_of : {S P : Type 0} → Turn S P → List ℕ
 staged_of t = t.bytes.items
+
+-- who took it
+abbrev pub process_of : {S P : Type 0} → Turn S P → P
+process_of t = t.process

@@ -4,7 +4,7 @@ ghost use Rattle.journal_defs.specs.Journals.{IsClosedAt};
 ghost use Rattle.journal_defs.specs.Crashes.{IsWithOrWithout, Stands, staged};
 ghost use Rattle.journal_disk.specs.Disks.{HasRest, HasLength, EndsAt, EndsClosed, LeavesOnly, LeavesStaged, StagesThenOpens};
 ghost use Rattle.journal_rp.specs.Stages.{gate_of, len_of, version_of};
-ghost use Rattle.journal_rp.specs.Turns.{outcome_of, staged_of};
+ghost use Rattle.journal_rp.specs.Turns.{outcome_of, process_of, staged_of};
 ghost use Rattle.journal_rp.specs.Answers.{HasCauses, of_none, of_append, IfFull, IsFull};
 
 use crate::fault::JournalFault;
@@ -67,14 +67,15 @@ fn is_full(gate: u64, more: u64) -> bool
 
 impl Journal<Writing> {
     /// Takes in a turn: its entry is staged behind the closed gate and synced, then the gate is opened and synced. The turn may
-    /// then be sent and told. Two writes and two syncs are made. A fault ends the journal and drops the turn.
+    /// then be sent and told, and its process goes on. A fault ends the journal and drops the turn with its process, which may be ahead
+    /// of what the disk has.
     ///
     /// `Full` comes exactly where the place after the next gate would pass 2^30, and then nothing is written.
-    pub fn append<D: Disk>(
+    pub fn append<D: Disk, P: Drop>(
         self,
         disk: &mut D,
-        turn: Turn<Unsynced>,
-    ) -> Result<(Journal<Writing>, Turn<Synced>), JournalFault>
+        turn: Turn<Unsynced, P>,
+    ) -> Result<(Journal<Writing>, Turn<Synced, P>), JournalFault>
         requires as_left { HasLength (D.seen disk.old) (len_of self) }
 
         // At Ok every crash leaves the entry too.
@@ -100,6 +101,7 @@ impl Journal<Writing> {
         // The turn that was handed in is the one that is lent.
         ensures outcome { IfOk result (λ x. outcome_of x.1 ≡ outcome_of turn) }
         ensures entry { IfOk result (λ x. staged_of x.1 ≡ staged_of turn) }
+        ensures process { IfOk result (λ x. process_of x.1 ≡ process_of turn) }
 
         // `Full` tells the bytes up to and with the closed gate, and those of the entry.
         ensures full { IfFull result (λ whole entry. (whole ≡ gate_of self + 1) × (entry ≡ length (staged_of turn) - 5)

@@ -5,12 +5,31 @@ ghost use Rattle.journal_defs.specs.Journals.{IsClosedAt};
 ghost use Rattle.journal_disk.specs.Disks.{HasLength};
 ghost use Rattle.journal_rp.specs.Stages.{gate_of, len_of};
 
-use journal_rp::{EntryBytes, Header, Journal, Reading, Turn, Unsynced, Writing};
+use journal_rp::{EntryBytes, Header, Journal, Journalled, Reading, Turn, Unsynced, Writing};
 use rp_base::{GroupId, Pid, PidSet};
 use rp_devices::MemDisk;
 use std::alloc::Global;
 use std::process::Abort;
 use stmt_codec::{Event, EventVerdict, Outcome};
+
+/// Process 0, which is said to have taken whatever has a spelling.
+#[derive(Drop)]
+pub struct Anyone;
+
+impl Journalled for Anyone {
+    ghost use Rattle.journal_defs.specs.Entries.{IsEntry};
+    ghost use Rattle.journal_entries.specs.Views.{event as event_of, turn_entry};
+
+    ghost number = { λ p. 0 };
+
+    ghost took = { λ p e o. IsEntry (turn_entry 0 (event_of e) o) };
+
+    fn number(&self) -> Pid {
+        Pid::default()
+    }
+
+    ghost spells = { λ p e o took. took };
+}
 
 /// So many turns are taken in at most.
 pub const TURNS: u8 = 20;
@@ -25,7 +44,7 @@ pub fn header() -> Header {
 }
 
 /// Turn n.
-pub fn turn_of(rt: &impl Abort, alloc: Global, n: u8) -> Turn<Unsynced> {
+pub fn turn_of(rt: &impl Abort, alloc: Global, n: u8) -> Turn<Unsynced, Anyone> {
     let outcome = Outcome {
         verdict: EventVerdict::Taken,
         heard: 0,
@@ -34,7 +53,7 @@ pub fn turn_of(rt: &impl Abort, alloc: Global, n: u8) -> Turn<Unsynced> {
         sends: Vec::new(alloc),
         notes: Vec::new(alloc),
     };
-    Turn::new(alloc, Pid::default(), &Event::Submit(&[n]), outcome)
+    Turn::new(alloc, Anyone, &Event::Submit(&[n]), outcome)
         .ok()
         .expect(rt, "memory")
 }
