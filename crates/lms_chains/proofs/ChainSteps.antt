@@ -1,5 +1,5 @@
 -- A chain that takes part in some of the steps.
-use Rattle.std.proofs.Common.{◌≡◌, ℕ, ◌+◌, ◌-◌, ◌<◌, ◌≤◌, List, ◌++◌, min, refl, sym, ap, ◌∙◌, arith}
+use Rattle.std.proofs.Common.{◌≡◌, ℕ, ◌+◌, ◌-◌, ◌<◌, ◌≤◌, List, ◌++◌, min, refl, arith}
 use Rattle.sha2.specs.Sha256.{sha256}
 use Rattle.signature_defs.specs.Strings.{u8str}
 use Rattle.signature_defs.specs.LmOts.{chain}

@@ -1,5 +1,5 @@
 -- Ends that are put in their places one after another.
-use Rattle.std.proofs.Common.{◌≡◌, ◌⊎◌, slice_index, Bool, true, false, ℕ, ◌<◌, List, [], length, set, slice_index_or, length-set, sym, ap, ◌∙◌, inl, inr, arith}
+use Rattle.std.proofs.Common.{◌≡◌, ◌⊎◌, slice_index, Bool, true, false, ℕ, ◌<◌, List, [], length, set, slice_index_or, sym, ◌∙◌, inl, inr, arith}
 use Rattle.std.proofs.lemmas.List.{get_or-set_same, get_or-set_other}
 use Rattle.std.proofs.lemmas.Bool.{cases_eq, cases_lt}
 

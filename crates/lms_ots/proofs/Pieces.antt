@@ -1,5 +1,5 @@
 -- A buffer that is filled from the front, piece by piece.
-use Rattle.std.proofs.Common.{◌≡◌, ℕ, ◌+◌, ◌-◌, ◌≤◌, List, [], ◌∷◌, ◌++◌, length, take, drop, refl, sym, ap, ◌∙◌, subst, arith, append_assoc, append-nil}
+use Rattle.std.proofs.Common.{◌≡◌, ℕ, ◌+◌, ◌-◌, ◌≤◌, List, [], ◌∷◌, ◌++◌, length, take, drop, refl, sym, arith, append_assoc, append-nil}
 use Rattle.std.proofs.Common.{set, length-set, length-append}
 use Rattle.std.proofs.lemmas.List.{take_at, drop_at, drop_all, take_more_set, length-drop}
 use borrow.Rule.Slice.PartMut.{put_mid}

@@ -1,5 +1,5 @@
 -- Rows of the parameter sets, one for each.
-use Rattle.std.specs.Prelude.{ℕ, ◌+◌, ◌-◌, ◌/◌, List, [], ◌∷◌, map}
+use Rattle.std.specs.Prelude.{ℕ, ◌-◌, ◌/◌, List, [], ◌∷◌, map}
 use Rattle.std.specs.List.{range_with_len}
 use Rattle.signature_defs.specs.declared.OtsType.{OtsType}
 use Rattle.signature_defs.specs.declared.OtsType.TheVariants.{W1, W2, W4, W8}

@@ -1,4 +1,3 @@
-use Rattle.std.proofs.Common.{◌<◌, arith}
 use Rattle.lms_chains.proofs.by_length.take_length.Goals as goal
 use Rattle.lms_chains.proofs.by_length.take_length.Goals.{then-steps-chain, else-steps-chain}
 

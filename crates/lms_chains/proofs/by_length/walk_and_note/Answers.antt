@@ -1,4 +1,4 @@
-use Rattle.std.proofs.Common.{◌≡◌, ◌∙◌, ℕ, List, [], slice_index, slice_index_or, subst, sym, inl, inr, arith}
+use Rattle.std.proofs.Common.{◌≡◌, ◌∙◌, ℕ, [], slice_index_or, subst, sym, inl, inr, arith}
 use Rattle.sha2.specs.Sha256.{digest_bytes}
 use Rattle.lms_chains.specs.Walks.{end_of}
 use Rattle.lms_chains.proofs.Placed.{marked}

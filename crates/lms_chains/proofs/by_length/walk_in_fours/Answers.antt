@@ -1,7 +1,6 @@
-use Rattle.std.proofs.Common.{◌∙◌, ◌<◌, true, false, sym, arith}
+use Rattle.std.proofs.Common.{◌∙◌, sym, arith}
 use Rattle.std.proofs.lemmas.Bool.{false≢true}
 use Rattle.sha256_lanes.proofs.Four.{below_four}
-use Rattle.lms_chains.specs.Walks.{HasSteps}
 use Rattle.lms_chains.proofs.by_length.walk_in_fours.Goals as goal
 
 pub lengths-init : goal.lengths-init

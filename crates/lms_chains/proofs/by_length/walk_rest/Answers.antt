@@ -1,8 +1,8 @@
-use Rattle.std.proofs.Common.{◌≡◌, ◌<◌, ℕ, [], slice_index_or, subst, inl, inr, arith}
+use Rattle.std.proofs.Common.{◌≡◌, [], slice_index_or, subst, inl, inr, arith}
 use Rattle.std.proofs.lemmas.Bool.{cases_lt}
 use Rattle.sha2.specs.Sha256.{digest_bytes}
 use Rattle.sha256_lanes.proofs.Four.{below_four}
-use Rattle.lms_chains.specs.Walks.{HasSteps, end_of}
+use Rattle.lms_chains.specs.Walks.{end_of}
 use Rattle.lms_chains.proofs.by_length.walk_rest.Goals as goal
 use Rattle.lms_chains.proofs.by_length.walk_rest.Goals.{then-not-walked-from, else-not-walked-from}
 

@@ -1,4 +1,4 @@
-use Rattle.std.proofs.Common.{ℕ, ◌∙◌, arith}
+use Rattle.std.proofs.Common.{◌∙◌, arith}
 use Rattle.std.proofs.lemmas.List.{take_all}
 use Rattle.sha256_lanes.proofs.DigestWords.{digest_of_words}
 use Rattle.lms_chains.proofs.LaneBlock.{below_five}

@@ -1,4 +1,4 @@
-use Rattle.std.proofs.Common.{◌≡◌, ℕ, List, ◌++◌, ◌∙◌, slice_index, sym, arith, refl}
+use Rattle.std.proofs.Common.{ℕ, List, ◌++◌, ◌∙◌, slice_index, sym, arith}
 use Rattle.std.proofs.lemmas.Nat.{from_be_bytes-to_be_bytes_4}
 use Rattle.sha2.specs.Sha256.{digest_bytes}
 use Rattle.sha256_lanes.specs.Lanes.{lane}

@@ -1,9 +1,8 @@
-use Rattle.std.proofs.Common.{◌≡◌, ℕ, List, ◌-◌, ◌++◌, min, slice_index, ap, sym, inl, inr, ◌∙◌, refl, arith}
+use Rattle.std.proofs.Common.{◌≡◌, ℕ, List, ◌-◌, ◌++◌, min, slice_index, ap, sym, inl, inr, arith}
 use Rattle.std.proofs.lemmas.Bool.{cases_lt}
 use Rattle.sha2.specs.Sha256.{digest_bytes}
 use Rattle.sha256_lanes.specs.Lanes.{lane}
 use Rattle.signature_defs.specs.Strings.{u16str}
-use Rattle.signature_defs.specs.LmOts.{chain}
 use Rattle.signature_defs.proofs.ChainLaws.{chain_none}
 use Rattle.lms_chains.proofs.ChainSteps.{step_on, step_before, step_after}
 use Rattle.lms_chains.proofs.lanes.walk_four.Goals as goal

@@ -1,7 +1,5 @@
-use Rattle.std.proofs.Common.{◌≡◌, ◌<◌, ◌∙◌, ℕ, List, ◌++◌, refl, sym, arith}
+use Rattle.std.proofs.Common.{◌<◌, ◌∙◌, ◌++◌, sym, arith}
 use Rattle.signature_defs.specs.Strings.{u16str}
-use Rattle.signature_defs.specs.LmOts.{chain}
-use Rattle.signature_defs.proofs.ChainLaws.{chain_more}
 use Rattle.lms_chains.proofs.ChainSteps.{one_step}
 use Rattle.lms_chains.proofs.walks.secrets.Goals as goal
 

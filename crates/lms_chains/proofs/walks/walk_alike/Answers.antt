@@ -1,4 +1,4 @@
-use Rattle.std.proofs.Common.{◌≡◌, ◌<◌, ◌∙◌, ℕ, refl, sym, arith}
+use Rattle.std.proofs.Common.{◌<◌, ◌∙◌, refl, arith}
 use Rattle.std.proofs.Math.Nat.{sub-zero}
 use Rattle.lms_chains.proofs.walks.walk_alike.Goals as goal
 

@@ -1,4 +1,4 @@
-use Rattle.std.proofs.Common.{◌≤◌, arith}
+use Rattle.std.proofs.Common.{arith}
 use Rattle.lms_chains.proofs.walks.walk_these.Goals as goal
 
 pub walk_four-end-requires-clause-steps : goal.walk_four-end-requires-clause-steps

@@ -1,4 +1,4 @@
-use Rattle.std.proofs.Common.{◌≡◌, ◌∙◌, ap, refl, arith}
+use Rattle.std.proofs.Common.{◌∙◌, ap, refl, arith}
 use Rattle.sha2.specs.Sha256.{sha256}
 use Rattle.lms_ots.proofs.Pieces.{byte_and_piece}
 use Rattle.lms_ots.proofs.chains.step.Goals as goal

@@ -1,4 +1,4 @@
-use Rattle.std.proofs.Common.{◌≡◌, ◌∙◌, ◌-◌, ap, sym, refl, arith}
+use Rattle.std.proofs.Common.{◌-◌, sym, arith}
 use Rattle.signature_defs.specs.Strings.{coef}
 use Rattle.signature_defs.specs.LmOts.{ots_steps, ots_width}
 use Rattle.signature_defs.proofs.StringLaws.{sums_none, sums_more}

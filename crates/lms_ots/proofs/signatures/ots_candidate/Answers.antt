@@ -2,7 +2,7 @@ use Rattle.std.proofs.Common.{◌≡◌, ◌<◌, ◌∙◌, ◌++◌, ℕ, List
 use Rattle.std.specs.Option.{option_map}
 use Rattle.sha2.specs.Sha256.{sha256}
 use Rattle.signature_defs.specs.declared.OtsType.{OtsType}
-use Rattle.signature_defs.specs.Strings.{part, strings, u16str, u32str}
+use Rattle.signature_defs.specs.Strings.{part, u16str, u32str}
 use Rattle.signature_defs.specs.LmOts.{D_PBLC, candidate_by, message_hash, ots_chains, reached_end}
 use Rattle.signature_defs.proofs.StringLaws.{same_strings}
 use Rattle.lms_ots.proofs.signatures.ots_candidate.Goals as goal

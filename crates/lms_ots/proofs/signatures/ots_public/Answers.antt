@@ -1,4 +1,4 @@
-use Rattle.std.proofs.Common.{◌≡◌, ◌<◌, ◌∙◌, ◌++◌, ℕ, List, [], slice_index_or, ap, arith}
+use Rattle.std.proofs.Common.{◌<◌, ◌∙◌, ◌++◌, ℕ, List, [], slice_index_or, ap, arith}
 use Rattle.sha2.specs.Sha256.{sha256}
 use Rattle.signature_defs.specs.Strings.{u16str, u32str}
 use Rattle.signature_defs.specs.LmOts.{D_PBLC, chain, chain_head, ots_chains, ots_steps, secret}

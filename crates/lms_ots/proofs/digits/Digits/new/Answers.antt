@@ -1,4 +1,4 @@
-use Rattle.std.proofs.Common.{◌≡◌, ◌∙◌, ◌∷◌, [], refl, arith}
+use Rattle.std.proofs.Common.{◌∙◌, ◌∷◌, [], refl, arith}
 use Rattle.lms_ots.proofs.Pieces.{two_pieces}
 use Rattle.lms_ots.proofs.digits.Digits.new.Goals as goal
 
