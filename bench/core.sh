@@ -3,8 +3,8 @@
 # in the first and in the last hundred of 1,000 places, and which share of the whole time the SHA-256 blocks of the signatures take,
 # hashed alone in the same run. Run it from any folder, with `rt` in the path.
 set -eu
-cd "$(dirname "$0")/../crates/bench_core"
+cd "$(dirname "$0")/../crates/bench"
 for members in 4 16; do
     echo "$members members"
-    rt run -- "$members" 10
+    rt run -- core "$members" 10
 done

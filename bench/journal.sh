@@ -3,11 +3,11 @@
 # same sizes, each with an fdatasync, in the same run; and the time of reading 100,000 entries of 142 bytes, beside that of reading
 # their bytes. The files lie in a folder of their own under the first word, or under the temporary folder. Run it from any folder,
 # with `rt` in the path.
-cd "$(dirname "$0")/../crates/bench_journal" || exit 1
-rt run >/dev/null 2>&1 || { echo 'bench_journal is not built' >&2; exit 1; }
-program=$PWD/out/bench_journal
+cd "$(dirname "$0")/../crates/bench" || exit 1
+rt run >/dev/null 2>&1 || { echo 'bench is not built' >&2; exit 1; }
+program=$PWD/out/bench
 folder=$(mktemp -d "${1:-${TMPDIR:-/tmp}}/bench_journal.XXXXXX") && cd "$folder" || exit 1
-"$program" times | awk '
+"$program" journal | awk '
     /^[0-9]/ { turns = $1; entries = $5 }
     /^turns/ {
         printf "a turn: %.0f us, two bare writes: %.0f us, %.2f times\n", $2 / turns, $4 / turns, $2 / $4

@@ -6,8 +6,8 @@
 # Run it from any folder, with `rt` in the path.
 set -eu
 here=$(cd "$(dirname "$0")" && pwd)
-cd "$here/../crates/bench_pool"
-rt run >/dev/null 2>&1 || { echo 'bench_pool is not built' >&2; exit 1; }
+cd "$here/../crates/bench"
+rt run >/dev/null 2>&1 || { echo 'bench is not built' >&2; exit 1; }
 PYTHONPATH=$here python3 - <<'PY'
 import subprocess
 
@@ -18,11 +18,11 @@ SIZES = [1000, 10000, 100000]
 
 def run(claims):
     """The program's words with their numbers, and the most memory that it had, in bytes."""
-    child = subprocess.Popen(["out/bench_pool", str(claims)], stdout=subprocess.PIPE, text=True)
+    child = subprocess.Popen(["out/bench", "pool", str(claims)], stdout=subprocess.PIPE, text=True)
     most = most_memory(child)
     words = child.stdout.read().split()
     if child.returncode:
-        raise SystemExit("bench_pool failed")
+        raise SystemExit("bench pool failed")
     return {word: float(number) for word, number in zip(words[::2], words[1::2])}, most
 
 

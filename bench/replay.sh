@@ -4,10 +4,11 @@
 # folder, with `rt` in the path.
 set -eu
 top=$(cd "$(dirname "$0")/.." && pwd)
-cd "$top/crates/bench_replay"
-rt run >/dev/null 2>&1 || { echo 'bench_replay is not built' >&2; exit 1; }
+cd "$top/crates/bench"
+rt run >/dev/null 2>&1 || { echo 'bench is not built' >&2; exit 1; }
 work=$(mktemp -d)
 trap 'rm -rf "$work"' EXIT
+"$top/rampart" --prove
 "$top/rampart" gen 1 >"$work/once"
 PYTHONPATH=$top/bench python3 - "$top/crates/rampart/out/rampart" "$work" <<'PY'
 import subprocess
@@ -39,8 +40,8 @@ def replay(path):
 
 
 def counts(path, *words):
-    """What bench_replay tells, by its words."""
-    told = subprocess.run(["out/bench_replay", path, *words], check=True, capture_output=True, text=True).stdout.split()
+    """What `bench replay` tells, by its words."""
+    told = subprocess.run(["out/bench", "replay", path, *words], check=True, capture_output=True, text=True).stdout.split()
     return {word: float(number) for word, number in zip(told[::2], told[1::2])}
 
 
@@ -56,7 +57,7 @@ spent, report = min(ran for ran, _ in turns)
 told = min((told for _, told in turns), key=lambda it: it["block"])
 signed = sum(int(line.split()[5]) for line in report.splitlines() if line.startswith("process "))
 if signed != told["claims"]:
-    raise SystemExit(f"the report has {signed} claims, bench_replay counts {told['claims']:.0f}")
+    raise SystemExit(f"the report has {signed} claims, bench replay counts {told['claims']:.0f}")
 hashing = told["blocks"] * told["block"] / 1e9
 print(f"gen 1: {spent:.3f} s, {told['frames']:,.0f} frames, {told['claims']:,.0f} claims, {most_memory(run(once)) / 1e6:.0f} MB at most")
 print(f"its signatures and their checks: {told['blocks']:,.0f} blocks of {told['block']:.0f} ns, {hashing:.3f} s; "

@@ -1,0 +1,108 @@
+//! What the dear calls of the layers cost: `bench WORD`, and behind the word what it wants, measures one of them and prints its times.
+//! With no word each of them is called in small, and no time is printed.
+#![tactic(auto)]
+
+mod cores;
+mod frames;
+mod journal;
+mod link;
+mod lms;
+mod pool;
+mod replay;
+mod schedules;
+
+use anyhow::{Error, Result};
+use std::process::ExitCode;
+use std::time::CpuClock;
+use std::{env, io};
+
+/// The status where the word names nothing that is measured.
+const OTHER_WORD: u8 = 2;
+
+const WORDS: &str =
+    "lms, link, journal, frames GROUPS TIMES, schedules submits|ticks|copy PIECES, pool CLAIMS, core MEMBERS HUNDREDS, \
+    or replay FILE [times]";
+
+/// What is measured.
+#[derive(Clone, Copy)]
+enum Measure {
+    Lms,
+    Frames,
+    Schedules,
+    Link,
+    Journal,
+    Pool,
+    Core,
+    Replay,
+}
+
+impl Measure {
+    // What the word names, if anything.
+    fn of(word: &str) -> Option<Measure> {
+        match word {
+            "lms" => Some(Measure::Lms),
+            "frames" => Some(Measure::Frames),
+            "schedules" => Some(Measure::Schedules),
+            "link" => Some(Measure::Link),
+            "journal" => Some(Measure::Journal),
+            "pool" => Some(Measure::Pool),
+            "core" => Some(Measure::Core),
+            "replay" => Some(Measure::Replay),
+            _ => None,
+        }
+    }
+
+    // Measures it, by the words behind its own.
+    fn run(self, rt: &HostRuntime, words: &[String]) -> Result<()> {
+        match self {
+            Measure::Lms => lms::print_times(rt),
+            Measure::Frames => frames::split(rt, words),
+            Measure::Schedules => schedules::read(rt, words),
+            Measure::Link => link::times(rt),
+            Measure::Journal => journal::times(rt),
+            Measure::Pool => pool::times_of(rt, words),
+            Measure::Core => cores::times_of(rt, words),
+            Measure::Replay => replay::count_in(rt, words),
+        }
+    }
+}
+
+// Each once, in small.
+fn once(rt: &HostRuntime) -> Result<()> {
+    lms::once(rt)?;
+    frames::once(rt)?;
+    schedules::once(rt)?;
+    link::once(rt)?;
+    journal::once(rt)?;
+    pool::once(rt)?;
+    cores::once(rt)?;
+    replay::once(rt)
+}
+
+/// The seconds of the processor that this thread has had.
+pub(crate) fn seconds(rt: &impl CpuClock) -> io::Result<f64> {
+    Ok(rt.thread_cpu_time()?.as_secs_f64())
+}
+
+// The words behind the program's name.
+fn words(rt: &HostRuntime) -> Result<Vec<String>> {
+    let mut words = Vec::new(rt.alloc());
+    for word in env::args(rt)?.skip(1) {
+        words.push(word)?;
+    }
+    Ok(words)
+}
+
+fn main(rt: HostRuntime) -> Result<ExitCode, Error> {
+    let words = words(&rt)?;
+    let Some((first, behind)) = words.split_first() else {
+        once(&rt)?;
+        return Ok(ExitCode::SUCCESS);
+    };
+    let Some(measure) = Measure::of(first.as_str()) else {
+        eprintln!(rt; "bench: {WORDS}")?;
+        return Ok(ExitCode::from(OTHER_WORD));
+    };
+    measure.run(&rt, behind)?;
+    Ok(ExitCode::SUCCESS)
+}
