@@ -153,18 +153,27 @@ fn fault_of(keys: &LinkKeys, datagram: &[u8]) -> Option<LinkFault> {
 #[test]
 fn each_fault_is_the_first(rt: HostRuntime) {
     let keys = receiver();
-    assert!(rt; fault_of(&keys, &EMPTY[..53]) == Some(LinkFault::Short));
-    let mut bytes = HI;
-    bytes[55] ^= 1;
-    assert!(rt; fault_of(&keys, &bytes) == Some(LinkFault::BadTag));
-    bytes[20] = 3;
-    assert!(rt; fault_of(&keys, &bytes) == Some(LinkFault::UnknownPeer));
-    bytes[20] = 200;
-    assert!(rt; fault_of(&keys, &bytes) == Some(LinkFault::UnknownPeer));
-    bytes[21] = 1;
-    assert!(rt; fault_of(&keys, &bytes) == Some(LinkFault::NotForMe));
-    bytes[19] = 0;
-    assert!(rt; fault_of(&keys, &bytes) == Some(LinkFault::OtherGroup));
-    bytes[3] = 0x32;
-    assert!(rt; fault_of(&keys, &bytes) == Some(LinkFault::Magic));
+    let mut changed = HI;
+    changed[55] ^= 1;
+    let mut stranger = changed;
+    stranger[20] = 3;
+    let mut no_process = stranger;
+    no_process[20] = 200;
+    let mut not_for_me = no_process;
+    not_for_me[21] = 1;
+    let mut other_group = not_for_me;
+    other_group[19] = 0;
+    let mut magic = other_group;
+    magic[3] = 0x32;
+    for (datagram, fault) in [
+        (&EMPTY[..53], LinkFault::Short),
+        (&changed, LinkFault::BadTag),
+        (&stranger, LinkFault::UnknownPeer),
+        (&no_process, LinkFault::UnknownPeer),
+        (&not_for_me, LinkFault::NotForMe),
+        (&other_group, LinkFault::OtherGroup),
+        (&magic, LinkFault::Magic),
+    ] {
+        assert!(rt; fault_of(&keys, datagram) == Some(fault), "{datagram:?}");
+    }
 }

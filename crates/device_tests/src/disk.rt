@@ -32,6 +32,11 @@ fn image_of(rt: &impl Abort, disk: &MemDisk, left: Left) -> (bool, bool) {
     stands(image.as_slice())
 }
 
+// The images that have nothing of the last writes, all of them, and other bytes.
+fn images(rt: &impl Abort, disk: &MemDisk) -> [(bool, bool); 3] {
+    [Left::Nothing, Left::All, Left::Each(0xa5)].map(|left| image_of(rt, disk, left))
+}
+
 #[test]
 fn stopped_at_the_first_write_or_sync_the_entry_is_absent(rt: HostRuntime) -> Result<(), Fail> {
     for call in 0..2 {
@@ -39,9 +44,7 @@ fn stopped_at_the_first_write_or_sync_the_entry_is_absent(rt: HostRuntime) -> Re
         assert!(rt; disk.bytes().len() == 61);
         assert!(rt; append(&mut disk, 60, &TICK).is_err());
         assert!(rt; disk.log().len() == 1);
-        assert!(rt; image_of(&rt, &disk, Left::Nothing) == (true, false));
-        assert!(rt; image_of(&rt, &disk, Left::All) == (true, false));
-        assert!(rt; image_of(&rt, &disk, Left::Each(0xa5)) == (true, false));
+        assert!(rt; images(&rt, &disk) == [(true, false); 3]);
     }
     Ok(())
 }
@@ -52,9 +55,7 @@ fn stopped_at_the_second_it_is_absent_or_whole(rt: HostRuntime) -> Result<(), Fa
         let mut disk = stopping(&rt, rt.alloc(), call)?;
         assert!(rt; disk.bytes().len() == 61);
         assert!(rt; append(&mut disk, 60, &TICK).is_err());
-        assert!(rt; image_of(&rt, &disk, Left::Nothing) == (true, false));
-        assert!(rt; image_of(&rt, &disk, Left::All) == (false, true));
-        assert!(rt; image_of(&rt, &disk, Left::Each(0xa5)) == (true, false));
+        assert!(rt; images(&rt, &disk) == [(true, false), (false, true), (true, false)]);
     }
     Ok(())
 }

@@ -8,22 +8,31 @@ const FOLDER: &str = "file_disk_tests_folder";
 
 const PATH: &str = "file_disk_tests_folder/journal";
 
+// Writes 1, 2, 7, 8 in two pieces.
+fn write_four(disk: &mut FileDisk<'_, HostRuntime>) -> Result<(), Failed> {
+    disk.write_at(0, &[1, 2, 3])?;
+    disk.write_at(2, &[7, 8])?;
+    disk.sync()
+}
+
+// The three bytes behind the first, and the length.
+fn behind_first(disk: &mut FileDisk<'_, HostRuntime>) -> Result<([u8; 3], u64), Failed> {
+    let mut into = [0; 3];
+    disk.read_at(1, &mut into)?;
+    let length = disk.len()?;
+    Ok((into, length))
+}
+
 #[test]
 fn a_file_is_written_closed_and_read_again(rt: HostRuntime) -> Result<(), Fail> {
     let _ = fs::remove_dir_all(&rt, FOLDER);
     fs::create_dir(&rt, FOLDER)?;
     let mut disk = FileDisk::new(&rt, PATH);
-    assert!(rt; !fs::exists(&rt, PATH)?);
-    assert!(rt; disk.len() == Ok(0));
-    assert!(rt; disk.write_at(0, &[1, 2, 3]) == Ok(()));
-    assert!(rt; disk.write_at(2, &[7, 8]) == Ok(()));
-    assert!(rt; disk.sync() == Ok(()));
+    assert!(rt; !fs::exists(&rt, PATH)? && disk.len() == Ok(0));
+    assert!(rt; write_four(&mut disk) == Ok(()));
     drop(disk);
     let mut again = FileDisk::new(&rt, PATH);
-    let mut into = [0; 3];
-    assert!(rt; again.read_at(1, &mut into) == Ok(()));
-    assert!(rt; into == [2, 7, 8]);
-    assert!(rt; again.len() == Ok(4));
+    assert!(rt; behind_first(&mut again) == Ok(([2, 7, 8], 4)));
     assert!(rt; again.write_at(0, &[9]) == Ok(()));
     drop(again);
     assert!(rt; fs::read(&rt, PATH)?.as_slice() == [9, 2, 7, 8].as_slice());

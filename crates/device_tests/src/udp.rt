@@ -72,8 +72,7 @@ fn a_long_datagram_is_cut(rt: HostRuntime) -> Result<(), Fail> {
 fn what_cannot_be_done_fails(rt: HostRuntime) -> Result<(), Fail> {
     let mut link = UdpLink::new(rt.alloc(), &rt);
     let mut into = [0; 2];
-    assert!(rt; link.bind(0) == Err(Failed));
-    assert!(rt; link.recv(FIRST_PORT, &mut into) == Err(Failed));
+    assert!(rt; link.bind(0) == Err(Failed) && link.recv(FIRST_PORT, &mut into) == Err(Failed));
     let port = bound(&rt, &mut link).expect(&rt, "a port");
     assert!(rt; link.bind(port) == Err(Failed));
     assert!(rt; link.send(0, &[1]) == Err(Failed));

@@ -206,14 +206,25 @@ fn the_header_is_there_once_it_is_whole(rt: HostRuntime) -> Result<(), Fail> {
     let mut reader = ScheduleReader::new(rt.alloc())?;
     assert!(rt; feed(&mut reader, &front).is_ok());
     assert!(rt; reader.header().is_none() && reader.waiting() == 61);
-    assert!(rt; feed(&mut reader, &[last]).is_ok());
-    assert_eq!(rt; reader.waiting(), 0);
+    assert!(rt; feed(&mut reader, &[last]).is_ok() && reader.waiting() == 0);
     let Some(header) = reader.header() else {
         panic!(rt; "a header");
     };
     assert!(rt; header.batch == 1 && header.processes.len() == 1 && header.genesis.len() == 1);
     assert!(rt; reader.end().is_ok());
     Ok(())
+}
+
+// A reader that was given the header of process 0 alone.
+fn started(alloc: Global) -> Result<ScheduleReader, Stopped> {
+    let mut reader = ScheduleReader::new(alloc).map_err(|_| ScheduleFault::NoMemory)?;
+    feed(&mut reader, &alone(alloc)?)?;
+    Ok(reader)
+}
+
+// Whether a piece is taken, and all events that are whole then.
+fn is_taken(reader: &mut ScheduleReader, piece: &[u8], events: &mut Vec<ScheduleEvent>) -> bool {
+    feed(reader, piece).is_ok() && take(reader, events).is_ok()
 }
 
 // 1,024 Submits of 65,531 bytes each, and one that the limit cuts off in its payload, which stands from byte 67,107,906 on.
@@ -224,29 +235,20 @@ fn more_than_the_limit_is_too_long_unless_a_fault_stands_before(
     let mut submit = Vec::new(rt.alloc());
     submit.extend_from_slice(&[1, 0, 0xff, 0xfb])?;
     submit.extend_from_slice(&[0; 65_531])?;
-    let mut reader = ScheduleReader::new(rt.alloc())?;
+    let mut reader = started(rt.alloc()).ok().expect(&rt, "a reader");
     let mut events = Vec::new(rt.alloc());
-    assert!(rt; feed(&mut reader, &alone(rt.alloc())?).is_ok());
     for _ in 0..1024 {
-        assert!(rt; feed(&mut reader, &submit).is_ok());
-        assert!(rt; take(&mut reader, &mut events).is_ok());
+        assert!(rt; is_taken(&mut reader, &submit, &mut events));
         events.clear();
     }
-    assert!(rt; reader.end().is_ok());
     let Some(cut) = submit.get(..67_108_864 - 62 - 1024 * 65_535) else {
         panic!(rt; "a part of a Submit");
     };
-    assert!(rt; feed(&mut reader, cut).is_ok() && take(&mut reader, &mut events).is_ok());
+    assert!(rt; reader.end().is_ok() && is_taken(&mut reader, cut, &mut events));
     assert!(rt; reader.end() == Err(ScheduleFault::Short { place: 67_107_906 }));
-    assert!(rt; feed(&mut reader, &[0]).is_ok());
-    assert!(rt; reader.end() == Err(ScheduleFault::TooLong { place: 67_108_864 }));
-    assert!(rt;
-        matches!(
-            reader.next(),
-            Err(ScheduleFault::TooLong { place: 67_108_864 })
-        )
-    );
-    assert_eq!(rt; reader.waiting(), 0);
+    let limit = ScheduleFault::TooLong { place: 67_108_864 };
+    assert!(rt; feed(&mut reader, &[0]).is_ok() && reader.end() == Err(limit));
+    assert!(rt; reader.next().err() == Some(limit) && reader.waiting() == 0);
     Ok(())
 }
 
@@ -257,17 +259,14 @@ fn the_step_behind_a_million_is_too_many(rt: HostRuntime) -> Result<(), Fail> {
     for _ in 0..32_768 {
         ticks.extend_from_slice(&[9, 0])?;
     }
-    let mut reader = ScheduleReader::new(rt.alloc())?;
+    let mut reader = started(rt.alloc()).ok().expect(&rt, "a reader");
     let mut events = Vec::new(rt.alloc());
-    assert!(rt; feed(&mut reader, &alone(rt.alloc())?).is_ok());
     for _ in 0..30 {
-        assert!(rt; feed(&mut reader, &ticks).is_ok());
-        assert!(rt; take(&mut reader, &mut events).is_ok());
+        assert!(rt; is_taken(&mut reader, &ticks, &mut events));
     }
     assert_eq!(rt; events.len(), 983_040);
-    assert!(rt; feed(&mut reader, &ticks).is_ok());
-    assert!(rt; take(&mut reader, &mut events).is_err());
-    assert_eq!(rt; events.len(), 1_000_000);
-    assert!(rt; reader.end() == Err(ScheduleFault::TooMany { place: 2_000_062 }));
+    assert!(rt; feed(&mut reader, &ticks).is_ok() && take(&mut reader, &mut events).is_err());
+    let many = ScheduleFault::TooMany { place: 2_000_062 };
+    assert!(rt; events.len() == 1_000_000 && reader.end() == Err(many));
     Ok(())
 }

@@ -38,7 +38,7 @@ fn next_refusals(rt: HostRuntime) {
         (&last, Update::Renew, UpdateFault::ViewsSpent),
         (&last, Update::Add(pid(&rt, 2)), UpdateFault::ViewsSpent),
     ] {
-        assert!(rt; refusal(view, update) == Some(fault), "{update:?}");
+        assert!(rt; refusal(view, update) == Some(fault));
     }
     assert!(rt; Pid::new(64).is_none());
 }
