@@ -7,27 +7,30 @@ use sha256_lanes::{from_lane, hash_short, splat, to_lanes};
 use std::simd::u32x4;
 use std::test::Fail;
 
-// The halves of the one block that a message is with its padding.
-fn halves(message: &[u8]) -> ([u8; 32], [u8; 32])
+// The one block that a message is with its padding.
+fn padded(message: &[u8]) -> [u8; 64]
     requires { length message.now ≤ 55 }
 {
     let mut block = [0u8; 64];
     block[..message.len()].copy_from_slice(message);
     block[message.len()] = 0x80;
     block[62..].copy_from_slice(&(8 * message.len() as u16).to_be_bytes());
-    let mut first = [0u8; 32];
-    first.copy_from_slice(&block[..32]);
-    let mut second = [0u8; 32];
-    second.copy_from_slice(&block[32..]);
-    (first, second)
+    block
+}
+
+fn half(block: &[u8; 64], at: usize) -> [u8; 32]
+    requires { at ≤ 32 }
+{
+    let mut half = [0u8; 32];
+    half.copy_from_slice(&block[at..at + 32]);
+    half
 }
 
 // The words of four blocks.
-fn blocks(halves: &[([u8; 32], [u8; 32]); 4]) -> [u32x4; 16] {
-    let [a, b, c, d] = halves;
+fn blocks(a: &[u8; 64], b: &[u8; 64], c: &[u8; 64], d: &[u8; 64]) -> [u32x4; 16] {
     let mut words = [splat(0); 16];
-    words[..8].copy_from_slice(&to_lanes(&[a.0, b.0, c.0, d.0]));
-    words[8..].copy_from_slice(&to_lanes(&[a.1, b.1, c.1, d.1]));
+    words[..8].copy_from_slice(&to_lanes(&[half(a, 0), half(b, 0), half(c, 0), half(d, 0)]));
+    words[8..].copy_from_slice(&to_lanes(&[half(a, 32), half(b, 32), half(c, 32), half(d, 32)]));
     words
 }
 
@@ -39,7 +42,12 @@ fn four_lanes_hash_four_messages_of_the_standard_and_of_other_lengths(
     let abc = b"abc";
     let one_block = b"a block with its padding has room for fifty-five bytes.";
     let other = b"another message";
-    let digests = hash_short(blocks(&[halves(abc), halves(b""), halves(one_block), halves(other)]));
+    let digests = hash_short(blocks(
+        &padded(abc),
+        &padded(b""),
+        &padded(one_block),
+        &padded(other),
+    ));
     for (lane, message, first) in [
         (0, abc.as_slice(), 0xba7816bf8f01cfea),
         (1, b"".as_slice(), 0xe3b0c44298fc1c14),

@@ -188,7 +188,7 @@ impl Times {
     fn hash(&mut self, rt: &impl CpuClock) -> Result<()> {
         let hashed = time_blocks(rt, BLOCKS)?;
         let (digest, lanes) = time_lanes(rt, BLOCKS)?;
-        if hashed.bytes[..32] != digest {
+        if !hashed.bytes.starts_with(&digest) {
             return Err(anyhow!("not the same digest"));
         }
         self.block = self.block.min(hashed.seconds / f64::from(BLOCKS));
