@@ -240,15 +240,11 @@ fn a_fault_of_the_bytes_comes_first_for_every_cut(rt: HostRuntime) -> Result<(),
 #[test]
 fn other_words_stop(rt: HostRuntime) -> Result<(), Fail> {
     let alloc = rt.alloc();
-    let (status, sink) = run(alloc, &Vec::new(alloc), &ONE_MEMBER, &[])?;
-    assert_eq!(rt; sink.bytes(), b"stop 2 words\n".as_slice());
-    assert_eq!(rt; status, 2);
-    let (status, sink) = run(alloc, &asked(alloc, &["replays"])?, &ONE_MEMBER, &[])?;
-    assert_eq!(rt; sink.bytes(), b"stop 2 words\n".as_slice());
-    assert_eq!(rt; status, 2);
-    let (status, sink) = run(alloc, &asked(alloc, &["replay", "long"])?, &ONE_MEMBER, &[])?;
-    assert_eq!(rt; sink.bytes(), b"stop 2 words\n".as_slice());
-    assert_eq!(rt; status, 2);
+    for words in [[].as_slice(), &["replays"], &["replay", "long"]] {
+        let (status, sink) = run(alloc, &asked(alloc, words)?, &ONE_MEMBER, &[])?;
+        assert_eq!(rt; sink.bytes(), b"stop 2 words\n".as_slice());
+        assert_eq!(rt; status, 2);
+    }
     Ok(())
 }
 
@@ -302,14 +298,14 @@ fn a_write_that_fails_leaves_a_prefix(rt: HostRuntime) -> Result<(), Fail> {
 #[test]
 fn a_kit_is_written_as_the_other_program_does(rt: HostRuntime) -> Result<(), Fail> {
     let alloc = rt.alloc();
-    let (status, sink) = run(alloc, &asked(alloc, &KEYGEN)?, &[], &[])?;
-    assert_eq!(rt; sink.bytes(), KIT);
-    assert_eq!(rt; status, 0);
-    let (status, sink) = run(alloc, &asked(alloc, &KEYGEN_OF_LEVELS)?, &[], &[])?;
-    assert_eq!(rt; sink.bytes(), KIT_OF_LEVELS);
-    assert_eq!(rt; status, 0);
-    let (status, sink) = run(alloc, &asked(alloc, &KEYGEN[..4])?, &[], &[])?;
-    assert_eq!(rt; sink.bytes(), b"stop 2 words\n".as_slice());
-    assert_eq!(rt; status, 2);
+    for (words, written, ended) in [
+        (KEYGEN.as_slice(), KIT, 0),
+        (KEYGEN_OF_LEVELS.as_slice(), KIT_OF_LEVELS, 0),
+        (&KEYGEN[..4], b"stop 2 words\n", 2),
+    ] {
+        let (status, sink) = run(alloc, &asked(alloc, words)?, &[], &[])?;
+        assert_eq!(rt; sink.bytes(), written);
+        assert_eq!(rt; status, ended);
+    }
     Ok(())
 }

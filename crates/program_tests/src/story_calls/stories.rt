@@ -47,14 +47,14 @@ fn run(
 
 #[test]
 fn a_schedule_is_told_and_assembled(rt: HostRuntime) -> Result<(), Fail> {
-    let (status, text, errors) = run(rt.alloc(), "text", BYTES, [&[], &[]])?;
-    assert_eq!(rt; status, 0);
-    assert_eq!(rt; text.bytes(), STORY);
-    assert!(rt; errors.bytes().is_empty());
-    for input in [STORY, LOOSE] {
-        let (status, bytes, errors) = run(rt.alloc(), "assemble", input, [&[], &[]])?;
+    for (word, input, written) in [
+        ("text", BYTES, STORY),
+        ("assemble", STORY, BYTES),
+        ("assemble", LOOSE, BYTES),
+    ] {
+        let (status, sink, errors) = run(rt.alloc(), word, input, [&[], &[]])?;
         assert_eq!(rt; status, 0);
-        assert_eq!(rt; bytes.bytes(), BYTES);
+        assert_eq!(rt; sink.bytes(), written);
         assert!(rt; errors.bytes().is_empty());
     }
     Ok(())
@@ -62,18 +62,19 @@ fn a_schedule_is_told_and_assembled(rt: HostRuntime) -> Result<(), Fail> {
 
 #[test]
 fn what_happens_in_a_run_is_told(rt: HostRuntime) -> Result<(), Fail> {
-    let (status, text, errors) = run(rt.alloc(), "run", SPENT_KEY, [&[], &[]])?;
-    assert_eq!(rt; status, 0);
-    assert_eq!(rt; text.bytes(), SPENT_TRACE);
-    assert!(rt; errors.bytes().is_empty());
     let mut longer = SPENT_KEY.to_vec(rt.alloc())?;
     longer.extend_from_slice(TOO_EARLY)?;
     let mut trace = SPENT_TRACE.to_vec(rt.alloc())?;
     trace.extend_from_slice(STOPPED_TRACE)?;
-    let (status, text, errors) = run(rt.alloc(), "run", &longer, [&[], &[]])?;
-    assert_eq!(rt; status, 0);
-    assert_eq!(rt; text.bytes(), trace.as_slice());
-    assert!(rt; errors.bytes().is_empty());
+    for (input, written) in [
+        (SPENT_KEY, SPENT_TRACE),
+        (longer.as_slice(), trace.as_slice()),
+    ] {
+        let (status, text, errors) = run(rt.alloc(), "run", input, [&[], &[]])?;
+        assert_eq!(rt; status, 0);
+        assert_eq!(rt; text.bytes(), written);
+        assert!(rt; errors.bytes().is_empty());
+    }
     Ok(())
 }
 
@@ -121,16 +122,20 @@ fn a_run_is_drawn(rt: HostRuntime) -> Result<(), Fail> {
 
 #[test]
 fn other_words_and_failing_streams_have_their_statuses(rt: HostRuntime) -> Result<(), Fail> {
-    let (status, _out, errors) = run(rt.alloc(), "disassemble", BYTES, [&[], &[]])?;
-    assert_eq!(rt; status, 2);
-    assert_eq!(rt; errors.bytes(), b"stop 2 words\n".as_slice());
-    let (status, out, errors) = run(rt.alloc(), "text", BYTES, [&[1], &[]])?;
-    assert_eq!(rt; status, 3);
-    assert!(rt; out.bytes().is_empty());
-    assert_eq!(rt; errors.bytes(), b"stop 3 read\n".as_slice());
-    let (status, out, errors) = run(rt.alloc(), "text", BYTES, [&[], &[0]])?;
-    assert_eq!(rt; status, 4);
-    assert!(rt; out.bytes().is_empty());
-    assert!(rt; errors.bytes().is_empty());
+    for (word, failing, ended, told) in [
+        (
+            "disassemble",
+            [[].as_slice(), &[]],
+            2,
+            b"stop 2 words\n".as_slice(),
+        ),
+        ("text", [&[1], &[]], 3, b"stop 3 read\n"),
+        ("text", [&[], &[0]], 4, b""),
+    ] {
+        let (status, out, errors) = run(rt.alloc(), word, BYTES, failing)?;
+        assert_eq!(rt; status, ended);
+        assert!(rt; out.bytes().is_empty());
+        assert_eq!(rt; errors.bytes(), told);
+    }
     Ok(())
 }
