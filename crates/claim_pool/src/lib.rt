@@ -3,14 +3,14 @@
 #![tactic(auto)]
 
 mod certificate;
-mod checked;
 mod hearing;
 mod pool;
+mod signed;
 mod verdict;
 
 pub use certificate::{Ack, CertKind, Certificate, Commit, Keep, Message, Place};
-pub use checked::{Checked, check, is_signed};
 pub use own_place::Own;
 pub use pool::Pool;
 pub use pool_values::UpdateSet;
+pub use signed::is_signed;
 pub use verdict::Verdict;

@@ -22,8 +22,8 @@ ghost use Rattle.own_place.specs.Owns.{HasDelivered};
 ghost use Rattle.claim_pool.specs.Verdicts.{verdict, after, with_own, late_tests};
 
 use crate::certificate::{CertKind, Certificate};
-use crate::checked::is_signed;
 use crate::hearing::turned_away;
+use crate::signed::is_signed;
 use crate::verdict::Verdict;
 use claim_index::ClaimIndex;
 use own_place::Own;
@@ -57,7 +57,7 @@ impl Model for Pool {
     ghost view = { λ p. p.heard };
 }
 
-// The verdict on a claim of the view, in its window. The signature is looked at last of all.
+// The verdict on a claim of the view, in its window.
 fn heard_verdict<V: Scheme>(
     quorums: &Quorums,
     scheme: &V,

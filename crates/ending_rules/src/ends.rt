@@ -1,11 +1,10 @@
 //! The End of a view: it is due once an update is notified by more than f members (docs/PROTOCOL.md, «What is signed»).
-ghost use Rattle.std.specs.Prelude.{◌≡◌, ◌-◌, ◌&&◌, not, nat_lt, length, is_some};
+ghost use Rattle.std.specs.Prelude.{◌≡◌, ◌&&◌, not, nat_lt, length, is_some};
 ghost use Rattle.std.specs.Option.{option_map};
 ghost use Rattle.message_defs.specs.Statements.{End};
-ghost use Rattle.group_defs.specs.Process.{Ends, Process, places_in};
+ghost use Rattle.group_defs.specs.Process.{Ends};
 ghost use Rattle.group_defs.specs.Certified.{notified_updates};
 ghost use Rattle.rule_laws.specs.Heard.{IsPool};
-ghost use Rattle.own_place.specs.Owns.{HasDelivered};
 ghost use Rattle.ending_rules.specs.Due.{IsLeastDue};
 
 use pool_questions::{Own, Pool, has_notified};
@@ -28,11 +27,4 @@ pub fn end_due(pool: &Pool, own: &Own) -> Option<u16>
     } else {
         None
     }
-}
-
-/// How many places of the cut are not delivered: 0 where all of them are, or more.
-pub fn flush_left(own: &Own, cut: u16) -> u16
-    ensures { (p : Process) → HasDelivered own.now p → result ≡ cut - places_in p.delivered }
-{
-    cut.saturating_sub(own.delivered)
 }

@@ -7,6 +7,6 @@ mod notifies;
 mod updates;
 mod values;
 
-pub use ends::{end_due, flush_left};
-pub use notifies::{Perceived, backed, notify_due, perceive};
+pub use ends::end_due;
+pub use notifies::{Perceived, notify_due, perceive};
 pub use values::{cut_justified, free_value, is_quorum};

@@ -5,7 +5,6 @@ ghost use Rattle.std.specs.Option.{option_map};
 ghost use Rattle.std.specs.Result.{result_err};
 ghost use Rattle.byte_defs.specs.Members.{has};
 ghost use Rattle.message_defs.specs.Statements.{Notify};
-ghost use Rattle.group_defs.specs.Certified.{is_notified};
 ghost use Rattle.group_defs.specs.Views.{has_keys, is_member};
 ghost use Rattle.group_defs.specs.Process.{Notifies, Setting, Process, keyed as keyed_by};
 ghost use Rattle.group_defs.specs.Due.{least_due};
@@ -120,13 +119,6 @@ pub fn perceive(
             Ok(())
         }
     }
-}
-
-/// Whether more than f members notify the update.
-pub fn backed(pool: &Pool, update: Update) -> bool
-    ensures { result ≡ is_notified pool.now.pool (update_of update) }
-{
-    pool.is_notified(update)
 }
 
 // Whether the update of this number is asked for and possible, and its Notify is not signed.

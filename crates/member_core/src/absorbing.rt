@@ -17,7 +17,7 @@ ghost use Rattle.member_core.specs.Entries.{Agrees, Absorbs};
 use crate::attempts::attempt;
 use crate::journalled::Journalled;
 use crate::member::{Core, Keyless};
-use claim_pool::check;
+use claim_pool::is_signed;
 use member_taking::Judge;
 use rp_base::{NoMemory, Scheme, Tally};
 use stmt_codec::{Claim, Entry, EntrySignatures, Outcome, OwnClaim, read_statement};
@@ -49,7 +49,7 @@ fn is_valid<V: Scheme>(judge: &Judge<'_, V>, own: &OwnClaim) -> bool
         statement,
         signature,
     };
-    check(judge.scheme, judge.roster, judge.group, &claim).is_some()
+    is_signed(judge.scheme, judge.roster, judge.group, &claim)
 }
 
 // Whether the signature of each claim is valid.

@@ -1,5 +1,5 @@
 //! What a quorum says.
-ghost use Rattle.std.specs.Prelude.{◌≡◌, is_some};
+ghost use Rattle.std.specs.Prelude.{◌≡◌};
 ghost use Rattle.std.specs.Option.{option_map};
 ghost use Rattle.message_defs.specs.Statements.{AckAt, ReadyAt};
 ghost use Rattle.group_defs.specs.Certified as defs;
@@ -58,11 +58,4 @@ pub fn certified_payload(pool: &Pool, sender: Pid, number: u16) -> Option<&[u8]>
         Some(statement) => payload_of(&statement),
         None => None,
     }
-}
-
-/// Whether the sender's message of this number is certified.
-pub fn is_message_certified(pool: &Pool, sender: Pid, number: u16) -> bool
-    ensures { result ≡ is_some (defs.payload_at pool.now.pool (message sender number)) }
-{
-    certified_payload(pool, sender, number).is_some()
 }

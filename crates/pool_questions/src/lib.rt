@@ -7,9 +7,7 @@ mod notices;
 mod parts;
 mod said;
 
-pub use certified::{
-    certified_ack, certified_batch, certified_payload, certified_ready, is_message_certified,
-};
+pub use certified::{certified_ack, certified_batch, certified_payload, certified_ready};
 pub use claim_pool::{CertKind, Certificate, Commit, Keep, Message, Own, Place, Pool};
 pub use notices::{has_notified, removed_rank};
 pub use said::{end_of, last_of, ordered_batch, suggestion};

@@ -13,6 +13,5 @@ mod ways;
 pub use acks::{ack_candidate, justified, next_ack};
 pub use decisions::{commit, decided};
 pub use lasts::last_due;
-pub use ranks::query_backed;
 pub use readies::ready_due;
 pub use suggests::{choose, next_suggest, suggest_due};

@@ -1,6 +1,5 @@
 //! Ranks whose members are to be removed: the deputy behind them takes its turn (docs/PROTOCOL.md, «What is signed»).
-ghost use Rattle.std.specs.Prelude.{◌≡◌, ◌<◌, take, take_while, length};
-ghost use Rattle.std.specs.List.{list_all};
+ghost use Rattle.std.specs.Prelude.{◌≡◌, take_while, length};
 ghost use Rattle.message_defs.specs.Updates.{Remove};
 ghost use Rattle.group_defs.specs.Certified as defs;
 
@@ -12,17 +11,6 @@ fn is_removed(pool: &Pool, p: Pid) -> bool
     ensures { result ≡ defs.is_notified pool.now.pool (Remove p) }
 {
     pool.is_notified(Update::Remove(p))
-}
-
-/// Whether the removal of each member of a rank below this one is notified by more than f members.
-pub fn query_backed(pool: &Pool, rank: u8) -> bool
-    ensures { result ≡ list_all (λ m. defs.is_notified pool.now.pool (Remove m)) (take rank pool.now.pool.view.members) }
-{
-    pool.view()
-        .members()
-        .iter()
-        .take(rank as usize)
-        .all(|m| is_removed(pool, *m))
 }
 
 // How many members in front are to be removed.

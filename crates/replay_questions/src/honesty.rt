@@ -15,7 +15,7 @@ ghost use Rattle.replay_questions.specs.Owned.{is_owned, is_unhanded_or_owned};
 use crate::frames::claims_in;
 use crate::groups::is_frame_of_words;
 use crate::words::is_word;
-use claim_pool::check;
+use claim_pool::is_signed;
 use replay_world::{Sent, World};
 use stmt_codec::{Claim, Claims, Payload};
 
@@ -25,7 +25,7 @@ fn is_own(world: &World, claim: &Claim<'_>) -> bool
     ensures { (h : Header) (v : plain.World) → Shows h world.now v → result ≡ is_owned (family_of h v) (claim_of claim.now) }
 {
     is_word(world.players(), claim)
-        || check(world.scheme(), world.roster(), world.group(), claim).is_none()
+        || !is_signed(world.scheme(), world.roster(), world.group(), claim)
 }
 
 // Whether each of these claims is its signer's own.

@@ -5,7 +5,7 @@ ghost use Rattle.group_defs.specs.Certified.{number_of_members};
 use crate::pool::claims::{piece, sender, signer, statement};
 use crate::pool::summing::Summing;
 use bench_parts::process;
-use claim_pool::{Message, Own, Place, Pool, Verdict, check};
+use claim_pool::{Message, Own, Place, Pool, Verdict, is_signed};
 use rp_base::{GroupId, Roster};
 use stmt_codec::{Claim, Slot, spelled_len};
 
@@ -70,7 +70,7 @@ fn is_valid(judge: &Judge, text: &[u8], place: u16, index: u32) -> bool
         statement,
         signature: piece(text, 0),
     };
-    check(&judge.scheme, &judge.roster, &GROUP, &claim).is_some()
+    is_signed(&judge.scheme, &judge.roster, &GROUP, &claim)
 }
 
 /// Makes the same claims, checks their signatures alone, and answers how many are valid.

@@ -3,7 +3,7 @@ ghost use Rattle.message_defs.specs.Spelling.{IsClaim};
 ghost use Rattle.stmt_codec.specs.Views.{claim as claim_of};
 
 use arrayvec::ArrayVec;
-use claim_pool::{Message, Own, Pool, Verdict, check};
+use claim_pool::{Message, Own, Pool, Verdict, is_signed};
 use own_place::SignedSlots;
 use rp_base::{GroupId, NoMemory, Pid, PidSet, Roster, Scheme};
 use std::process::Abort;
@@ -156,7 +156,7 @@ fn has_one_end(pool: &Pool) -> bool {
 fn is_checked(roster: &Roster, claim: &Claim<'_>) -> bool
     requires { IsClaim (claim_of claim.now) }
 {
-    check(&NotEmpty, roster, &GroupId([7; 16]), claim).is_some()
+    is_signed(&NotEmpty, roster, &GroupId([7; 16]), claim)
 }
 
 #[test]

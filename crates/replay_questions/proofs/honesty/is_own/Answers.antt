@@ -1,6 +1,4 @@
 use Rattle.std.proofs.Common.{Bool, not, ◌||◌, refl, sym, ap, ◌∙◌}
-use Rattle.std.proofs.Math.Bool.{not-not}
-use Rattle.std.specs.Prelude.{is_some}
 use Rattle.std.specs.List.{list_all}
 use Rattle.signature_defs.specs.Schemes as schemes
 use Rattle.sig_scheme.specs.Views.{scheme as scheme_in}
@@ -24,9 +22,8 @@ pub returns-else-is_word : goal.returns-else-is_word
 returns-else-is_word c = λ h v shows.
     let w = c.args.world.now in
     let x = claim_of c.args.claim.now in
-    sym (not-not c.is_none.result) ∙ ap not (sym c.is_none.ensures)
-    ∙ (sym (ap (λ b. b || not (is_some c.check.result)) c.if-is_word.false)
-    ∙ owned_same h w v x c.is_word.result (is_some c.check.result) c.requires shows
+    sym (ap (λ b. b || not c.is_signed.result) c.if-is_word.false)
+    ∙ owned_same h w v x c.is_word.result c.is_signed.result c.requires shows
     (c.is_word.ensures ∙ ap (list_all (says_own x)) c.players.ensures)
-    (c.check.ensures.exactly ∙ (λ i. is_valid
-    (as_setting (schemes.is_valid (scheme_in (c.scheme.ensures i))) (c.group.ensures i) (c.roster.ensures i)) x)))
+    (c.is_signed.ensures ∙ (λ i. is_valid
+    (as_setting (schemes.is_valid (scheme_in (c.scheme.ensures i))) (c.group.ensures i) (c.roster.ensures i)) x))
