@@ -44,27 +44,6 @@ misuse() {
     fi
 }
 
-# asks PHASE CALL: a program that asks a view in this phase
-asks() {
-    printf 'use claim_pool::{Own, Pool};
-use view_phases::%s;
-
-fn asked(view: &%s, pool: &Pool, own: &Own) {
-    let _due = view.%s;
-}
-
-fn main() {}' "$1" "$1" "$2"
-}
-
-misuse 'a checked claim that nobody checked' 'use claim_pool::Checked;
-use stmt_codec::Claim;
-
-fn forged<'"'"'a, '"'"'c>(claim: &'"'"'a Claim<'"'"'c>) -> Checked<'"'"'a, '"'"'c> {
-    Checked { claim }
-}
-
-fn main() {}'
-
 misuse 'a certificate of nobody' 'use claim_pool::{Certificate, Commit};
 use rp_base::PidSet;
 use std::marker::PhantomData;
@@ -88,7 +67,7 @@ fn changed(pool: &mut Pool) {
 
 fn main() {}'
 
-use 'a claim that is checked by its signature' 'use claim_pool::check;
+use 'a claim whose signature is looked at' 'use claim_pool::is_signed;
 use rp_base::{GroupId, Pid, PlainScheme, Roster};
 use stmt_codec::{Claim, Statement};
 
@@ -101,19 +80,8 @@ fn main(rt: HostRuntime) {
         statement: Statement::End { view: 0, length: 0 },
         signature: b"",
     };
-    if let Some(checked) = check(&PlainScheme, &roster, &GroupId([0; 16]), &claim) {
-        let _claim = checked.claim();
-    }
+    let _signed = is_signed(&PlainScheme, &roster, &GroupId([0; 16]), &claim);
 }'
-
-misuse 'another claim in place of the one that was checked' 'use claim_pool::Checked;
-use stmt_codec::Claim;
-
-fn exchanged<'"'"'a, '"'"'c>(checked: &mut Checked<'"'"'a, '"'"'c>, other: &'"'"'a Claim<'"'"'c>) {
-    checked.claim = other;
-}
-
-fn main() {}'
 
 use 'a certificate that a pool is asked for' 'use claim_pool::{Commit, Pool};
 use rp_base::Pid;
@@ -172,13 +140,9 @@ fn exchanged(pool: &mut Pool, heard: Places) {
 
 fn main() {}'
 
-use 'an open view that is asked what is due, and closed by its End' 'use claim_pool::{Own, Pool};
-use view_phases::{ClosingView, OpenView};
+use 'an open view that is closed by its End' 'use view_phases::{ClosingView, OpenView};
 
-fn asks_before_the_end(view: OpenView, pool: &Pool, own: &Own) -> ClosingView {
-    let _echo = view.echo_due(pool, own);
-    let _place = view.place_due(pool, own);
-    let _keep = view.keep_due(pool, own);
+fn closes(view: OpenView) -> ClosingView {
     view.close(0)
 }
 
@@ -192,29 +156,23 @@ fn main() {
 
 misuse 'a closing view that is handed where an open one is wanted' 'use view_phases::{ClosingView, OpenView};
 
-// As what echoes, orders, places and keeps asks for.
-fn echoes(_view: &OpenView) {}
+fn closes(view: OpenView) -> ClosingView {
+    view.close(0)
+}
 
-fn echoes_behind_the_end(view: &ClosingView) {
-    echoes(view);
+fn closes_again(view: ClosingView) -> ClosingView {
+    closes(view)
 }
 
 fn main() {}' mismatched-types
 
 misuse 'an open view that is used behind its own End' 'use view_phases::OpenView;
 
-fn echoes(_view: &OpenView) {}
-
-fn echoes_behind_the_end(view: OpenView) {
+fn closes_twice(view: OpenView) {
     let _closing = view.close(0);
-    echoes(&view);
+    let _again = view.close(0);
 }
 
 fn main() {}' borrow-e0382
-
-for call in 'echo_due(pool, own)' 'order_due(pool, own, 1)' 'place_due(pool, own)' 'keep_due(pool, own)'; do
-    misuse "a closing view that is asked: $call" "$(asks ClosingView "$call")" unknown-method
-    use "an open view that is asked: $call" "$(asks OpenView "$call")"
-done
 
 exit $failed

@@ -9,7 +9,6 @@ ghost use Rattle.view_phases.specs.Phases.{decides, IsIn};
 ghost use Rattle.member_state.specs.Marks.{Stays};
 ghost use Rattle.member_state.specs.States.{IsStateOf};
 
-use crate::taking::take_phase;
 use claim_pool::{Certificate, Commit, Own, Pool};
 use member_state::{Before, ProcessState};
 use rank_rules::{commit, decided};
@@ -64,7 +63,6 @@ pub(crate) fn decide(state: &mut ProcessState)
     ensures stays { (b : Before) (was : ProcessState) → Stays b was state.old → Stays b was state.new }
     ensures left { state.new.left ≡ state.old.left }
 {
-    let begun = Phase::begin(state.pool.view(), state.own.me);
-    let phase = take_phase(&mut state.phase, begun);
+    let phase = state.phase.take();
     state.phase = phase_then(phase, &state.pool, &state.own);
 }

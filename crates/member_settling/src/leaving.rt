@@ -25,7 +25,6 @@ ghost use Rattle.member_state.specs.States.{IsStateOf, IsReal};
 ghost use Rattle.member_settling.specs.Steps.{in_phase, IsLeaving, CanLeave, Leaves};
 ghost use Rattle.member_settling.specs.Begun.{IsLast, HasShortLast};
 
-use crate::taking::take_phase;
 use arrayvec::ArrayVec;
 use claim_lists::ClaimList;
 use claim_pool::{Own, Pool};
@@ -264,8 +263,7 @@ pub(crate) fn leave(
         → OnOk result (Leaves s p (settle.leave p) state.new notes.old.items notes.new.items) }
     ensures since { (b : Before) (was : ProcessState) → Stays b was state.old → Since b was state.new }
 {
-    let begun = Phase::begin(state.pool.view(), state.own.me);
-    match take_phase(&mut state.phase, begun) {
+    match state.phase.take() {
         Phase::DecidedView(decided) => leave_decided(state, decided, alloc, notes),
         phase => {
             state.phase = phase;

@@ -5,6 +5,5 @@ mod deciding;
 mod delivering;
 mod leaving;
 mod settling;
-mod taking;
 
 pub use settling::settle;

@@ -33,11 +33,6 @@ preceding true b c d before = absurd before
 preceding false true c d before = absurd before
 preceding false false c d before = refl
 
-unhalted : (a b c d : Bool) → Precedes (phase_by a b c d) → a ≡ false
-unfolding phase_by
-unhalted true b c d before = absurd before
-unhalted false b c d before = refl
-
 none-where : {A : Type 0} (o : Option A) → is_some o ≡ false → o ≡ None
 none-where None e = refl
 none-where (Some a) e = absurd cc
@@ -46,11 +41,6 @@ none-where (Some a) e = absurd cc
 pub undecided : (p : Process) → Precedes (phase_of p) → p.decision ≡ None
 unfolding phase_by
 undecided p before = none-where p.decision (preceding p.halted (is_some p.decision) (not (is_member p.pool.view p.me)) (is_ended p) before)
-
--- and the process has not halted
-pub not-halted : (p : Process) → Precedes (phase_of p) → p.halted ≡ false
-unfolding phase_by
-not-halted p before = unhalted p.halted (is_some p.decision) (not (is_member p.pool.view p.me)) (is_ended p) before
 
 no-member : (a b c d : Bool) → phase_by a b c d ≡ Observing → c ≡ true
 unfolding phase_by

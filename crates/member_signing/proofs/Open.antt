@@ -1,21 +1,19 @@
 -- Which phases go before the decision, and which statement changes them.
-use Rattle.std.proofs.Common.{◌≡◌, ℕ, Bool, true, false, Some, None, refl, sym, ◌∙◌, ap, subst}
-use Rattle.std.specs.Prelude.{if◌then◌else◌}
+use Rattle.std.proofs.Common.{◌≡◌, ℕ, true, false, Some, None, refl, sym, ◌∙◌, ap, subst}
 use Rattle.message_defs.specs.Statements.{Statement, End, EndAt, view_of}
 use Rattle.group_defs.specs.Process.{Setting, Process}
-use Rattle.group_defs.specs.Certified.{is_signed, is_ended}
 use Rattle.group_defs.specs.Due.{may_sign}
 use Rattle.group_defs.specs.Signing.{Signer, signs}
 use Rattle.group_defs.specs.Values.{length_said}
 use Rattle.group_defs.specs.Settle as defs
 use Rattle.rule_laws.proofs.Signable.{may-parts}
 use Rattle.own_place.specs.Noting.{is_end}
-use Rattle.view_phases.specs.Phases.{IsIn, IsClosing, as_phase}
+use Rattle.view_phases.specs.Phases.{IsIn, IsClosing}
 use Rattle.view_phases.specs.declared.phases.Phase.{Phase}
 use Rattle.view_phases.specs.declared.phases.Phase.TheVariants.{Observing, OpenView, ClosingView, DecidedView, HaltedView}
 use Rattle.view_phases.specs.declared.phases.ClosingView.{ClosingView as Closing}
 use Rattle.member_signing.specs.Signed.{IsUndecided}
-use Rattle.member_signing.proofs.Ending.{Precedes, end-kept, not-halted, observer-signs-none, one-end, phase-kept, undecided}
+use Rattle.member_signing.proofs.Ending.{Precedes, end-kept, observer-signs-none, one-end, phase-kept, undecided}
 
 -- before the decision nothing is decided
 pub none-decided : (phase : Phase) (p : Process) → IsUndecided phase → IsIn phase p → p.decision ≡ None
@@ -24,28 +22,6 @@ none-decided (OpenView o) p before is = undecided p (subst Precedes (sym is) tt)
 none-decided (ClosingView c) p before is = undecided p (subst Precedes (sym is.phase) tt)
 none-decided (DecidedView d) p before is = absurd before
 none-decided (HaltedView h) p before is = absurd before
-
-pub none-halted : (phase : Phase) (p : Process) → IsUndecided phase → IsIn phase p → p.halted ≡ false
-none-halted (Observing o) p before is = not-halted p (subst Precedes (sym is) tt)
-none-halted (OpenView o) p before is = not-halted p (subst Precedes (sym is) tt)
-none-halted (ClosingView c) p before is = not-halted p (subst Precedes (sym is.phase) tt)
-none-halted (DecidedView d) p before is = absurd before
-none-halted (HaltedView h) p before is = absurd before
-
--- a view that begins is not decided
-pub begun : (phase : Phase) (b : Bool) → as_phase phase ≡ (if b then defs.OpenView else defs.Observing) → IsUndecided phase
-begun (Observing o) b e = tt
-begun (OpenView o) b e = tt
-begun (ClosingView c) b e = tt
-begun (DecidedView d) true e = absurd cc
-begun (DecidedView d) false e = absurd cc
-begun (HaltedView h) true e = absurd cc
-begun (HaltedView h) false e = absurd cc
-
--- an End is signed where none is
-pub end-unsigned : (s : Setting) (p : Process) (x k : ℕ) → may_sign s p (End x k) ≡ true → is_ended p ≡ false
-end-unsigned s p x k may = let parts = may-parts s p (End x k) may in subst
-    (λ x. is_signed p (EndAt x) ≡ false) parts.current parts.unsigned
 
 -- what a process signs that is not an End leaves its phase as it is
 pub other-stays : (phase : Phase) (s : Setting) (signer : Signer) (p : Process) (st : Statement) → IsUndecided phase → is_end st ≡ false

@@ -20,7 +20,7 @@ ghost use Rattle.member_signing.specs.Signed.{IsUndecided, IsOwed, IsReadable};
 use claim_lists::ClaimList;
 use claim_pool::{Own, Pool};
 use member_state::{Before, ProcessState};
-use rp_base::{NoMemory, Pid};
+use rp_base::NoMemory;
 use stmt_codec::{Claim, OwnClaim, Statement, read_statement, spelled_len};
 use view_phases::Phase;
 use view_table::View;
@@ -117,17 +117,17 @@ fn closed(phase: Phase, length: u16) -> Phase
     }
 }
 
-// The phase behind the statement: an End closes the view. The process is `me`, in this view, and before its End the view is open.
-fn close(phase: &mut Phase, view: &View, me: Pid, statement: &Statement<'_>)
+// The phase after the statement: an End closes the view. Before its End the view is open.
+fn close(phase: &mut Phase, statement: &Statement<'_>)
     requires { IsUndecided phase.old }
-    ensures closes { (s : defs.Setting) (signer : Signer) (p : defs.Process) → p.pool.view ≡ view.now → p.me ≡ me
-        → IsTrue (may_sign s p (stmt statement.now)) → IsIn phase.old p → IsIn phase.new (signs s signer p (stmt statement.now)) }
+    ensures closes { (s : defs.Setting) (signer : Signer) (p : defs.Process) → IsTrue (may_sign s p (stmt statement.now))
+        → IsIn phase.old p → IsIn phase.new (signs s signer p (stmt statement.now)) }
     ensures undecided { IsUndecided phase.new }
 {
     let Some(length) = length_said(statement) else {
         return;
     };
-    *phase = closed(Phase::begin(view, me), length);
+    *phase = closed(phase.take(), length);
 }
 
 /// Puts the own claim into the state of the process that may sign its statement next.
@@ -146,11 +146,6 @@ pub fn put(state: &mut ProcessState, own: &OwnClaim) -> Result<(), NoMemory>
     hear(&mut state.pool, &claim)?;
     note(&mut state.own, state.pool.view(), &claim.statement)?;
     keep(&mut state.said, &claim)?;
-    close(
-        &mut state.phase,
-        state.pool.view(),
-        state.own.me,
-        &claim.statement,
-    );
+    close(&mut state.phase, &claim.statement);
     Ok(())
 }

@@ -1,9 +1,8 @@
-//! How far a process is in its view, with a type for each phase: what a phase does not have, a process in it cannot do
-//! (docs/PROTOCOL.md, «Settling»).
+//! How far a process is in its view, with a type for each phase, which keeps what the process is to remember of it
+//! (docs/PROTOCOL.md, «Settling»). What may be signed in a phase is the rules' (`multicast_rules`, `ending_rules`, `rank_rules`).
 #![tactic(auto)]
 
 mod deciding;
-mod going_on;
 mod phases;
 mod settling;
 

@@ -25,8 +25,7 @@ pub struct Decision {
 #[derive(Drop)]
 pub struct Observing(());
 
-/// The view is undecided, and the process is a member that has not signed its End. What echoes, orders, places and keeps
-/// asks for an `OpenView`. It has no copy, so behind an End there is none.
+/// The view is undecided, and the process is a member that has not signed its End. It has no copy, and its End takes it.
 #[derive(Drop)]
 pub struct OpenView(());
 
@@ -103,6 +102,15 @@ impl Phase {
         }
     }
 
+    /// Takes the phase out, for a step to the next one. In its place is that of an observer, until the next one is put there.
+    pub fn take(&mut self) -> Phase
+        ensures { result ≡ self.old }
+    {
+        let taken = phase_of(was_of(self));
+        *self = Phase::Observing(Observing(()));
+        taken
+    }
+
     /// The name of the phase.
     pub fn word(&self) -> PhaseWord
         ensures { word result ≡ as_phase self.now }
@@ -117,7 +125,7 @@ impl Phase {
     }
 }
 
-/// A phase as it was at a mark. Of an open view, too, there is no copy: a mark serves to go back alone.
+/// A phase as it was at a mark, which serves to go back alone.
 #[derive(Drop)]
 pub struct PhaseMark {
     was: Was,
@@ -186,15 +194,6 @@ impl OpenView {
             → IsClosing result (signs s signer p (End p.pool.view.number length)) }
     {
         ClosingView { length }
-    }
-}
-
-impl ClosingView {
-    /// The length that the own End tells.
-    pub fn length(&self) -> u16
-        ensures { result ≡ self.now.length }
-    {
-        self.length
     }
 }
 

@@ -8,4 +8,4 @@ pub returns-clause-decides : goal.returns-clause-decides
 returns-clause-decides c = λ s p ok.
     decides-state s p c.args.state.now c.phase_then-state.result
     (c.phase_then-state.ensures s p ok.place.keys ok.place.pool
-    (subst (λ (phase : Phase). IsIn phase p) (sym c.take_phase-phase.ensures.taken) ok.phase)) ok
+    (subst (λ (phase : Phase). IsIn phase p) (sym c.take-phase.ensures) ok.phase)) ok

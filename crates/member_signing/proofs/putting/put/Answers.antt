@@ -63,7 +63,7 @@ returns-clause-puts c s signer p st may own is =
     let heard = c.in_ok-hear.ensures.heard s signer p is.place.pool (ap (own_claim s signer p) said ∙ sym same) in
     let seen = ap (λ (h : Pool). h.view) (sym is.place.pool) ∙ ap (λ (h : Pool). h.view) heard ∙ sym c.view.ensures in
     let tells = c.in_ok-note.ensures.noted s signer p c.args.state.now.pool.pool c.hear.new.pool.pool is.place seen now heard in
-    let phase = c.close.ensures.closes s signer p (ap (λ (h : Pool). h.view) heard ∙ sym c.view-2.ensures) tells.number now is.phase in
+    let phase = c.close.ensures.closes s signer p now is.phase in
     signed-state s signer p st _ _ is may (none-decided _ p c.requires.undecided is.phase)
     (subst IsClaim same c.read_own-claim.ensures.range)
     (record {
