@@ -1,8 +1,9 @@
 -- Why a run stopped, by its status.
-use Rattle.std.proofs.Common.{◌≡◌, ◌⊎◌, ℕ, ◌<◌, true, Option, Some, None, List, ◌++◌, Result, Ok, Err, refl, sym, ap, subst, ◌∙◌, arith, inl, inr}
-use Rattle.std.specs.Prelude.{IsErrOf, IsOk, IsSomeAnd}
+use Rattle.std.proofs.Common.{◌≡◌, ◌⊎◌, ℕ, ◌<◌, true, Option, Some, None, List, [], ◌++◌, take, Result, Ok, Err, refl, sym, ap, subst, ◌∙◌, arith, inl, inr}
+use Rattle.std.specs.Prelude.{IsErrOf, IsOk, IsSomeAnd, codes}
 use Rattle.std.proofs.lemmas.List.{append-nil}
-use Rattle.std.specs.Io.KnownBytes.{Consumes, IsAtEnd}
+use lib.Seq.{take-nil}
+use Rattle.std.specs.Io.KnownBytes.{Appends, Consumes, IsAtEnd, Keeps}
 use Rattle.rp_base.specs.Streams.{Says}
 use Rattle.replay_defs.specs.declared.Fault.{Fault}
 use Rattle.replay_defs.specs.Reading.{schedule_of}
@@ -40,6 +41,63 @@ at_schedule Read e = absurd (omega arith)
 at_schedule Write e = absurd (omega arith)
 at_schedule (Story fault) e = absurd (omega arith)
 at_schedule (Schedule fault) e = (fault, refl)
+
+-- a failed read has status 3 alone
+pub read_by_status : (stop : Stop) → (status_of stop ≡ 4) ⊎ (status_of stop ≡ 5) ⊎ (status_of stop ≡ 7) → stop ≡ Read → ⊥
+read_by_status Read (inl e) is = absurd (omega arith)
+read_by_status Read (inr (inl e)) is = absurd (omega arith)
+read_by_status Read (inr (inr e)) is = absurd (omega arith)
+read_by_status NoMemory e is = absurd cc
+read_by_status Write e is = absurd cc
+read_by_status (Story fault) e is = absurd cc
+read_by_status (Schedule fault) e is = absurd cc
+
+-- so where another status comes, no read failed
+pub unread_fault : {P Q : Type 0} (r : ℕ) (stop : Stop) → (r ≡ 1) ⊎ ((r ≡ status_of stop) × P) → (stop ≡ Read) ⊎ Q
+    → (r ≡ 4) ⊎ (r ≡ 5) ⊎ (r ≡ 7) → Q
+unread_fault r stop told (inr q) came = q
+unread_fault r stop (inl one) (inl is) (inl e) = absurd (omega (arith, one, e))
+unread_fault r stop (inl one) (inl is) (inr (inl e)) = absurd (omega (arith, one, e))
+unread_fault r stop (inl one) (inl is) (inr (inr e)) = absurd (omega (arith, one, e))
+unread_fault r stop (inr told) (inl is) (inl e) = absurd (read_by_status stop (inl (sym told.0 ∙ e)) is)
+unread_fault r stop (inr told) (inl is) (inr (inl e)) = absurd (read_by_status stop (inr (inl (sym told.0 ∙ e))) is)
+unread_fault r stop (inr told) (inl is) (inr (inr e)) = absurd (read_by_status stop (inr (inr (sym told.0 ∙ e))) is)
+
+pub at_read : (stop : Stop) → status_of stop ≡ 3 → line_of stop ≡ codes "stop 3 read\n"
+at_read NoMemory e = absurd (omega arith)
+at_read Read e = refl
+at_read Write e = absurd (omega arith)
+at_read (Story fault) e = absurd (omega arith)
+at_read (Schedule fault) e = absurd (omega arith)
+
+-- no line is written where memory ran out or a write failed
+mute : (stop : Stop) → (status_of stop ≡ 0) ⊎ (status_of stop ≡ 1) ⊎ (status_of stop ≡ 4) → line_of stop ≡ []
+mute NoMemory e = refl
+mute Write e = refl
+mute Read (inl e) = absurd (omega arith)
+mute Read (inr (inl e)) = absurd (omega arith)
+mute Read (inr (inr e)) = absurd (omega arith)
+mute (Story fault) (inl e) = absurd (omega arith)
+mute (Story fault) (inr (inl e)) = absurd (omega arith)
+mute (Story fault) (inr (inr e)) = absurd (omega arith)
+mute (Schedule fault) (inl e) = absurd (omega arith)
+mute (Schedule fault) (inr (inl e)) = absurd (omega arith)
+mute (Schedule fault) (inr (inr e)) = absurd (omega arith)
+
+-- where no line is written, what was written stays
+nothing_more : (old new : Option (List ℕ)) (bytes : List ℕ) → bytes ≡ [] → Appends old new bytes → Keeps old new
+nothing_more None new bytes none is = tt
+nothing_more (Some xs) None bytes none is = is
+nothing_more (Some xs) (Some ys) bytes none is = is ∙ ap (λ (l : List ℕ). xs ++ l) none ∙ append-nil xs
+
+says_nothing : (old new : Option (List ℕ)) (faults faults_now : ℕ) → Says [] old new faults faults_now → Keeps old new
+says_nothing old new faults faults_now (inl all) = nothing_more old new [] refl all.0
+says_nothing old new faults faults_now (inr part) = nothing_more old new (take part.0.0 []) (take-nil part.0.0) part.0.2
+
+pub says_none : (stop : Stop) (old new : Option (List ℕ)) (faults faults_now : ℕ)
+    → (status_of stop ≡ 0) ⊎ (status_of stop ≡ 1) ⊎ (status_of stop ≡ 4) → Says (line_of stop) old new faults faults_now → Keeps old new
+says_none stop old new faults faults_now which says = says_nothing old new faults faults_now
+    (subst (λ (line : List ℕ). Says line old new faults faults_now) (mute stop which) says)
 
 pub stopped_so : (stop is : Stop) → stop ≡ is → IsErrOf {T = Unit {0}} (Err stop) is
 stopped_so stop is e = cc

@@ -1,5 +1,6 @@
 //! Each command to its end.
 ghost use Rattle.std.specs.Prelude.{◌≡◌, ◌⊎◌, ◌≢◌, IfOk, OnOk, IfErr, IsErrOf};
+ghost use Rattle.std.specs.Io.KnownBytes.{Keeps};
 ghost use Rattle.rp_base.specs.Causes.{Rose};
 ghost use Rattle.rp_base.specs.Streams.{Says};
 ghost use Rattle.replay_defs.specs.declared.Fault.{Fault};
@@ -19,6 +20,7 @@ pub fn made_of<S: Source>(alloc: Global, command: Command, input: &mut S) -> Res
     ensures made { IfOk result (λ out. Given command (S.left input.old) (S.left input.new) out.items) }
     ensures steady { OnOk result (S.faults input.new ≡ S.faults input.old) }
     ensures read { IsErrOf result Stop.Read → Rose (S.faults input.old) (S.faults input.new) }
+    ensures whole { IfErr result (λ stop. (stop ≡ Stop.Read) ⊎ (S.faults input.new ≡ S.faults input.old)) }
     ensures story { (fault : StoryFault) → IsErrOf result (Stop.Story fault)
         → IsNoStory command (S.left input.old) (S.left input.new) fault }
     ensures schedule { (fault : Fault) → IsErrOf result (Stop.Schedule fault)
@@ -44,6 +46,7 @@ pub fn run<S: Source, K: Sink>(
     ensures done { OnOk result (Made command (S.left input.old) (S.left input.new) (K.written output.old) (K.written output.new)) }
     ensures steady { OnOk result ((S.faults input.new ≡ S.faults input.old) × (K.faults output.new ≡ K.faults output.old)) }
     ensures read { IsErrOf result Stop.Read → Rose (S.faults input.old) (S.faults input.new) }
+    ensures whole { IfErr result (λ stop. (stop ≡ Stop.Read) ⊎ (S.faults input.new ≡ S.faults input.old)) }
     ensures write { IsErrOf result Stop.Write → Rose (K.faults output.old) (K.faults output.new) }
     ensures part { IsErrOf result Stop.Write
         → MadeInPart command (S.left input.old) (S.left input.new) (K.written output.old) (K.written output.new) }
@@ -70,6 +73,7 @@ pub fn say<E: Sink>(errors: &mut E, line: &[u8])
 /// Writes the line that says why a run stops, and answers its status, or 1 where there is no memory for the line.
 pub fn tell<E: Sink>(alloc: Global, errors: &mut E, stop: Stop) -> u8
     ensures write { stop ≡ Stop.Write → result ≡ 4 }
+    ensures quiet { (result ≡ 0) ⊎ (result ≡ 1) ⊎ (result ≡ 4) → Keeps (E.written errors.old) (E.written errors.new) }
     ensures told { (result ≡ 1) ⊎ ((result ≡ status_of stop)
         × Says (line_of stop) (E.written errors.old) (E.written errors.new) (E.faults errors.old) (E.faults errors.new)) }
 {

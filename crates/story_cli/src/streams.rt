@@ -15,6 +15,7 @@ pub fn read_all<S: Source>(alloc: Global, input: &mut S) -> Result<Vec<u8>, Stop
     ensures ended { OnOk result (IsAtEnd (S.left input.new)) }
     ensures steady { OnOk result (S.faults input.new ≡ S.faults input.old) }
     ensures failed { IsErrOf result Stop.Read → Rose (S.faults input.old) (S.faults input.new) }
+    ensures whole { IfErr result (λ stop. (stop ≡ Stop.Read) ⊎ (S.faults input.new ≡ S.faults input.old)) }
     ensures only { IfErr result (λ stop. (stop ≡ Stop.Read) ⊎ (stop ≡ Stop.NoMemory)) }
 {
     let mut all = Vec::new(alloc);

@@ -1,4 +1,5 @@
 ghost use Rattle.std.specs.Prelude.{◌≡◌, ◌≢◌, ◌↔◌, ◌⊎◌, codes, IsSomeAnd};
+ghost use Rattle.std.specs.Io.KnownBytes.{Keeps};
 ghost use Rattle.rp_base.specs.Causes.{Rose};
 ghost use Rattle.rp_base.specs.Streams.{Says};
 ghost use Rattle.story_cli.specs.declared.commands.Command.{Command};
@@ -26,6 +27,10 @@ pub fn story<S: Source, K: Sink, E: Sink>(
     ensures done { (command : Command) → Asks words.now command → result ≡ 0
         → Made command (S.left input.old) (S.left input.new) (K.written output.old) (K.written output.new) }
 
+    // 0: nothing failed.
+    ensures steady { result ≡ 0
+        → (S.faults input.new ≡ S.faults input.old) × (K.faults output.new ≡ K.faults output.old) }
+
     // 2: exactly where the words are no command; nothing was read.
     ensures words { (result ≡ 2) ↔ (¬ AskAny words.now) }
     ensures unread { result ≡ 2 → input.new ≡ input.old }
@@ -34,6 +39,8 @@ pub fn story<S: Source, K: Sink, E: Sink>(
 
     // 3: only where the source failed.
     ensures read { result ≡ 3 → Rose (S.faults input.old) (S.faults input.new) }
+    ensures read_line { result ≡ 3 → Says (codes "stop 3 read\n")
+        (E.written errors.old) (E.written errors.new) (E.faults errors.old) (E.faults errors.new) }
 
     // 4: only where the sink failed; a prefix was written and nothing else.
     ensures write { result ≡ 4 → Rose (K.faults output.old) (K.faults output.new) }
@@ -47,6 +54,12 @@ pub fn story<S: Source, K: Sink, E: Sink>(
     // 7: the words are those of a command that reads a schedule, and the input is none; the line says why.
     ensures schedule { result ≡ 7 → AskOfSchedule words.now × NoSchedule (S.left input.old) (S.left input.new)
         (E.written errors.old) (E.written errors.new) (E.faults errors.old) (E.faults errors.new) }
+
+    // 4, 5, 7: no read failed.
+    ensures whole { (result ≡ 4) ⊎ (result ≡ 5) ⊎ (result ≡ 7) → S.faults input.new ≡ S.faults input.old }
+
+    // 0, 1, 4: nothing is written on standard error.
+    ensures quiet { (result ≡ 0) ⊎ (result ≡ 1) ⊎ (result ≡ 4) → Keeps (E.written errors.old) (E.written errors.new) }
 
     // Where the words are a command, the input has what it needs and nothing failed, 0 comes, or 1 where memory ran out.
     ensures completes { (command : Command) → Asks words.now command → IsSomeAnd (S.left input.old) (Has command)

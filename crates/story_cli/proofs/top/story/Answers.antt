@@ -1,8 +1,9 @@
-use Rattle.std.proofs.Common.{◌≡◌, sym, subst, inl, inr}
+use Rattle.std.proofs.Common.{◌≡◌, ℕ, List, sym, subst, inl, inr}
 use Rattle.story_cli.specs.declared.commands.Command.{Command}
 use Rattle.std.specs.Prelude.{IsSomeAnd}
 use Rattle.story_cli.specs.Top.{AskOfSchedule, Asks, Has, MadeInPart}
-use Rattle.story_cli.proofs.Stopped.{at_write, at_story, at_schedule, has_schedule, has_story, no_memory, no_story, no_schedule, said, same_command, stopped_so, touched}
+use Rattle.story_cli.proofs.Stopped.{at_write, at_story, at_schedule, has_schedule, has_story, no_memory, no_story, no_schedule, at_read, said, same_command, stopped_so, touched, unread_fault}
+use Rattle.rp_base.specs.Streams.{Says}
 use Rattle.story_cli.proofs.top.story.Goals as goal
 
 pub returns-in-Err-clause-part : goal.returns-in-Err-clause-part
@@ -42,3 +43,12 @@ returns-in-Err-clause-completes g c = λ command asks has calm calm_sink.
     (λ is. calm_sink (c.in-Err.ensures.write (stopped_so _ _ is)))
     (λ fault is. has_story _ _ _ fault (c.in-Err.ensures.story fault (stopped_so _ _ is)) needs)
     (λ fault is. has_schedule _ _ _ fault (c.in-Err.ensures.schedule fault (stopped_so _ _ is)) needs)
+
+pub returns-in-Err-clause-read_line : goal.returns-in-Err-clause-read_line
+returns-in-Err-clause-read_line g c = λ three.
+    let told = said _ _ 3 (omega Rattle.std.proofs.Common.arith) three c.tell.ensures.told in
+    subst (λ (line : List ℕ). Says line (g.E.Sink.written c.args.errors.now) (g.E.Sink.written c.tell.new.errors)
+    (g.E.Sink.faults c.args.errors.now) (g.E.Sink.faults c.tell.new.errors)) (at_read c.in-Err.stop told.0) told.1
+
+pub returns-in-Err-clause-whole : goal.returns-in-Err-clause-whole
+returns-in-Err-clause-whole g c = unread_fault _ c.in-Err.stop c.tell.ensures.told c.in-Err.ensures.whole
