@@ -3,6 +3,7 @@ ghost use Rattle.std.specs.Prelude.{◌≡◌, ◌<◌};
 
 use auth_link::{LinkFault, LinkKeys, hmac, seal_into, unseal};
 use rp_base::{GroupId, Pid};
+use std::test::Fail;
 
 #[test]
 fn a_key_of_20_bytes(rt: HostRuntime) {
@@ -176,4 +177,15 @@ fn each_fault_is_the_first(rt: HostRuntime) {
     ] {
         assert!(rt; fault_of(&keys, datagram) == Some(fault), "{datagram:?}");
     }
+}
+
+#[test]
+fn link_keys_are_printed_without_the_keys(rt: HostRuntime) -> Result<(), Fail> {
+    let keys = receiver();
+    let printed = format!(in rt.alloc(); "{keys:?}")?;
+    assert_eq!(rt;
+        printed.as_str(),
+        "LinkKeys { me: Pid(2), group: GroupId([0, 1, 2, 3, 4, 5, 6, 7, 8, 9, 10, 11, 12, 13, 14, 15]), .. }"
+    );
+    Ok(())
 }

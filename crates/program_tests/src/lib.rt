@@ -2,7 +2,11 @@
 #![tactic(auto)]
 
 #[cfg(test)]
+mod command_lines;
+#[cfg(test)]
 mod interop_calls;
+#[cfg(test)]
+mod large_examples;
 #[cfg(test)]
 mod rampart_calls;
 #[cfg(test)]

@@ -6,10 +6,10 @@ use std::alloc::{AllocError, Global};
 use std::test::Fail;
 
 /// Process 0 alone submits `hi`. The group is 16 dots, and the key is 32 digits 0 and makes 256 signatures.
-const ONE_MEMBER: [u8; 68] =
+pub(crate) const ONE_MEMBER: [u8; 68] =
     *b"RPS1\x00................\x01\x00\x0000000000000000000000000000000000\x00\x00\x01\x00\x01\x00\x01\x00\x00\x02hi";
 
-const REPORT: &[u8] = b"rampart report 1
+pub(crate) const REPORT: &[u8] = b"rampart report 1
 events 1
 process 0 open 1 1 5
 view 0 0 : 0
@@ -20,7 +20,7 @@ agree yes
 sound yes
 ";
 
-const SHORT_REPORT: &[u8] = b"rampart report 1
+pub(crate) const SHORT_REPORT: &[u8] = b"rampart report 1
 events 1
 refused 0
 process 0 open 1 1 5
@@ -31,7 +31,7 @@ sound yes
 ";
 
 // What another program says of the schedule of number 1.
-const LARGE_REPORT: &[u8] = b"rampart report 1
+pub(crate) const LARGE_REPORT: &[u8] = b"rampart report 1
 events 2160
 refused 100
 process 0 open 21 1000 4434
@@ -55,7 +55,7 @@ const STOPPED: [(&[u8], &[u8]); 4] = [
 ];
 
 // What another program, in Python, writes for these words.
-const KEYGEN: [&str; 5] = [
+pub(crate) const KEYGEN: [&str; 5] = [
     "keygen",
     "1",
     "2",
@@ -63,7 +63,7 @@ const KEYGEN: [&str; 5] = [
     "000102030405060708090a0b0c0d0e0f101112131415161718191a1b1c1d1e1f",
 ];
 
-const KIT: &[u8] = b"rampart kit 1
+pub(crate) const KIT: &[u8] = b"rampart kit 1
 scheme plain
 group 8303ca4d81d97afed6931bd5391d7eb0
 key 0 3427359e9e727deb642976176fede3de0e5cb7af24fca3d2ddec8c3c5663fe09
@@ -96,7 +96,7 @@ host 0 hss 2 5 4 b966e4bbf7b7b3988d0ef56ca47ddcd2 f4b2494c729deaf404ac48765e64f1
 go
 ";
 
-fn asked(alloc: Global, all: &[&str]) -> Result<Vec<String>, AllocError> {
+pub(crate) fn asked(alloc: Global, all: &[&str]) -> Result<Vec<String>, AllocError> {
     let mut words = Vec::new(alloc);
     for word in all {
         words.push(String::from_str(alloc, word)?)?;
@@ -105,7 +105,7 @@ fn asked(alloc: Global, all: &[&str]) -> Result<Vec<String>, AllocError> {
 }
 
 /// The status, and what was written.
-fn run(
+pub(crate) fn run(
     alloc: Global,
     words: &[String],
     input: &[u8],

@@ -1,2 +1,2 @@
-mod data;
+pub(crate) mod data;
 mod stories;
