@@ -38,8 +38,8 @@ pub fn rampart<S: Source, K: Sink, D: Disk, L: Link>(
     ensures steady { result ≡ 0
         → (S.faults input.new ≡ S.faults input.old) × (K.faults output.new ≡ K.faults output.old) }
 
-    // 1: no memory is left; nothing was written. No clause says when memory is left: a body that always answered 1 would meet this
-    // contract, and tests show otherwise (README, «What is only tested»).
+    // 1: no memory is left; nothing was written. No clause says when memory is left: a body that answered 1 always, or for inputs of
+    // its choice, would meet this contract, and tests show otherwise of their inputs (docs/TESTED.md).
     ensures silent { result ≡ 1 → Keeps (K.written output.old) (K.written output.new) }
 
     // 2: exactly where the words are no command; nothing was read.
