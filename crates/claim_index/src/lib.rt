@@ -9,3 +9,4 @@ mod key;
 pub use hasher::KeyHasher;
 pub use index::{ClaimIndex, Kept, lent, store};
 pub use key::{Key, SlotKey, slot_key_at, slot_key_of};
+pub use view_table::{View, faulty, quorum};

@@ -11,10 +11,10 @@ ghost use Rattle.own_place.specs.Owns.{HasDelivered};
 ghost use Rattle.claim_pool.specs.Verdicts.{verdict, early_tests};
 
 use crate::verdict::Verdict;
+use claim_index::View;
 use own_place::Own;
 use rp_base::Pid;
 use stmt_codec::{Batch, Claim, Statement};
-use view_table::View;
 
 /// How far beyond what was delivered numbers and places may go.
 const WINDOW: u32 = 32;

@@ -25,7 +25,7 @@ use crate::certificate::{CertKind, Certificate};
 use crate::hearing::turned_away;
 use crate::signed::is_signed;
 use crate::verdict::Verdict;
-use claim_index::ClaimIndex;
+use claim_index::{ClaimIndex, View};
 use own_place::Own;
 use pool_values::{Places, Quorums, UpdateSet};
 use rp_base::{GroupId, NoMemory, Pid, Roster, Scheme, Update};
@@ -33,7 +33,6 @@ use std::alloc::Global;
 use std::marker::{Model, PhantomData};
 use std::mem;
 use stmt_codec::{Batch, Claim, Slot, Statement};
-use view_table::View;
 
 /// The heard claims of a view, in order of hearing. Contracts see them as the definitions' pool, with the pool at a mark, and with the
 /// room that is left: how many claims more, with how many bytes of statements and signatures in all, are heard without memory.

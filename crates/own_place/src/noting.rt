@@ -13,9 +13,9 @@ ghost use Rattle.own_place.specs.Signed.{has_slot};
 ghost use Rattle.own_place.specs.Noting as noting;
 
 use crate::own::Own;
+use claim_index::View;
 use rp_base::Value;
 use stmt_codec::{Batch, Statement};
-use view_table::View;
 
 // Whether the statement is an End.
 fn is_end(statement: &Statement<'_>) -> bool

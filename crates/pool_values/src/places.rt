@@ -16,6 +16,7 @@ ghost use Rattle.pool_values.specs.Ends.{IsInitsEnd};
 
 use crate::ends::{PROCESSES, note_init};
 use crate::updates::UpdateSet;
+use claim_index::{View, faulty};
 use placed_batches::PlacedBatches;
 use rp_base::{NoMemory, Pid, Update};
 use slot_quorums::Quorums;
@@ -23,7 +24,6 @@ use std::alloc::Global;
 use std::marker::Model;
 use std::mem;
 use stmt_codec::{Batch, Claim, Slot, Statement};
-use view_table::{View, faulty};
 
 /// How many places a view has.
 const MOST_PLACES: u16 = 1_024;

@@ -17,7 +17,7 @@ ghost use Rattle.slot_quorums.specs.Cells.{said_at, IsCell, IsCertifiedBy, IsOf,
 ghost use Rattle.slot_quorums.specs.Marks.{noted, placed, restored};
 
 use crate::cell::{Cell, cell_with};
-use claim_index::{ClaimIndex, KeyHasher, SlotKey, slot_key_at, slot_key_of};
+use claim_index::{ClaimIndex, KeyHasher, SlotKey, View, quorum, slot_key_at, slot_key_of};
 use indexmap::IndexMap;
 use rp_base::{NoMemory, Pid, PidSet};
 use std::alloc::Global;
@@ -25,7 +25,6 @@ use std::hash::BuildHasherDefault;
 use std::marker::Model;
 use std::mem;
 use stmt_codec::{Claim, STATEMENT_BYTES, Slot, Statement, spell_into};
-use view_table::{View, quorum};
 
 // A cell for each slot, found by the slot's key.
 type Cells = IndexMap<SlotKey, Cell, BuildHasherDefault<KeyHasher>>;

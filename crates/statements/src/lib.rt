@@ -14,5 +14,6 @@ pub use laws::{body_determines_statement, spelling_determines_statement};
 pub use limits::{LAST_NUMBER, MOST_PLACES, PAYLOAD_BYTES, STATEMENT_BYTES};
 pub use message_defs::FrameFault;
 pub use reading::{Carrier, read_carried, read_statement};
+pub use rp_base::{Pid, PidSet, UpdateFault};
 pub use spelling::{body_into, spell_into, spelled_len};
 pub use statement::{Claim, Slot, Statement, conflicts, is_same_slot, slot_of};

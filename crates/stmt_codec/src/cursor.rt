@@ -6,8 +6,7 @@ ghost use Rattle.statements.specs.Views.{claim};
 ghost use Rattle.stmt_codec.specs.Cursor.{all_left, groups_of, of_begun, of_group, with_first};
 
 use frame_codec::{Group, Groups};
-use rp_base::Pid;
-use statements::{Carrier, Claim, read_carried};
+use statements::{Carrier, Claim, Pid, read_carried};
 
 /// The claims that are left in a frame, by group and signer. They borrow the frame's bytes: a statement is read when its
 /// claim is lent. That all can be read was found before the first one.

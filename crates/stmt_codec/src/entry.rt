@@ -11,7 +11,7 @@ ghost use Rattle.stmt_codec.specs.Finds.{Finds};
 
 use crate::events::Event;
 use frame_codec::{SIGNATURE_BYTES, bytes_at, u16_at};
-use rp_base::Pid;
+use statements::Pid;
 
 /// What a journal keeps of one event.
 #[derive(Clone, Copy)]

@@ -2,7 +2,7 @@ use crate::own::OwnClaim;
 use crate::payload::Payload;
 use arrayvec::ArrayVec;
 use message_defs::FrameFault;
-use rp_base::{Pid, PidSet, UpdateFault};
+use statements::{Pid, PidSet, UpdateFault};
 use std::mem;
 
 /// What is handed to a process. One event is taken whole.

@@ -1,5 +1,5 @@
 use crate::payload::Payload;
-use rp_base::Pid;
+use statements::Pid;
 
 /// A claim that a process made or keeps: its statement is the statement's bytes (docs/FORMATS.md, «Statements»).
 #[derive(Debug, Drop)]
