@@ -15,9 +15,9 @@ ghost use Rattle.member_taking.specs.Inputs.{handed, InRange};
 use crate::inputs::{Input, read_frame};
 use ending_rules::perceive;
 use member_state::ProcessState;
-use multicast_rules::counts_of;
 use rp_base::{Pid, Update};
 use stmt_codec::{Event, EventFault, PAYLOAD_BYTES};
+use view_phases::counts_of;
 
 /// The most accepted payloads that are not delivered yet.
 const MOST_WAITING: usize = 256;

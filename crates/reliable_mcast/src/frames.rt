@@ -12,9 +12,10 @@ ghost use Rattle.sent_claims.specs.Beside.{chosen};
 ghost use Rattle.reliable_mcast.specs.Packed.{Fills, frame_as, frames_as};
 
 use crate::sheet::{FrameKind, Sheet, want_frame};
-use claim_lists::ClaimList;
 use rp_base::NoMemory;
-use sent_claims::{Lent, Pool, SentClaims, put_base, put_orders, put_places, put_suggests};
+use sent_claims::{
+    ClaimList, Lent, Pool, SentClaims, put_base, put_orders, put_places, put_suggests,
+};
 use std::alloc::Global;
 use std::collections::VecDeque;
 use std::marker::Model;

@@ -14,7 +14,7 @@ use Rattle.stmt_codec.specs.declared.events.Event.{Event}
 use Rattle.stmt_codec.specs.declared.events.Outcome.{Outcome}
 use Rattle.member_core.specs.Events.{event, IsOutcome}
 pub use Rattle.member_core.specs.declared.member.Core.{Core}
-pub use Rattle.member_core.specs.Cores.{IsCore}
+unfoldable pub use Rattle.member_core.specs.Cores.{IsCore}
 use Rattle.member_core.specs.Cores.{signer_of}
 use Rattle.said_index.specs.declared.index.SaidIndex.{SaidIndex}
 use Rattle.said_index.specs.Said.{is_said}

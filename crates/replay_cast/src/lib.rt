@@ -11,4 +11,5 @@ mod roster;
 
 pub use cast::Cast;
 pub use liar::Liar;
+pub use member_core::{Core, Event, Outcome, OwnClaim, Payload, Sending};
 pub use player::Player;

@@ -3,3 +3,4 @@ pub mod Told
 pub mod Tested
 pub mod OwnWords
 pub mod Whole
+pub mod Seats

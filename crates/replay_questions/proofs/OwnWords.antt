@@ -21,8 +21,7 @@ use Rattle.replay_defs.specs.Worlds.{setting_of, correct_of}
 use Rattle.sig_scheme.specs.Signers.{used}
 use Rattle.sig_scheme.specs.declared.any_signer.AnySigner.{AnySigner}
 use Rattle.said_index.specs.Said.{is_said}
-use Rattle.member_core.specs.Cores.{IsCore}
-use Rattle.replay_world.specs.Cast.{Core, Player, Plays, ArePlayers}
+use Rattle.replay_world.specs.Cast.{Core, IsCore, Player, Plays, ArePlayers}
 use Rattle.replay_world.specs.Worlds.{IsRun}
 use Rattle.replay_questions.specs.Owned.{is_word_of}
 use Rattle.replay_questions.specs.Words.{says}

@@ -8,3 +8,4 @@ mod honesty;
 mod words;
 
 pub use honesty::honest;
+pub use replay_world::{Player, Refused, Told, World, WorldFault};

@@ -1,5 +1,5 @@
 use crate::data::THREE_PLACES;
-use replay_world::World;
+use replay_run::World;
 use schedule_reading::read_schedule;
 use std::test::Fail;
 

@@ -7,9 +7,9 @@ use Rattle.replay_defs.specs.Schedules.{Header}
 use Rattle.replay_defs.specs.Worlds.{World, family_of}
 use Rattle.replay_defs.specs.Reports.{answer_line, answer_lines, head_lines, refused_count, refused_line, process_line, block, report_by}
 use Rattle.report_lines.specs.declared.answers.Answers.{Answers}
-use Rattle.replay_world.specs.declared.world.World.{World as CodeWorld}
-use Rattle.replay_world.specs.Stepping.{refused}
-use Rattle.replay_world.specs.Worlds.{Shows}
+use Rattle.replay_questions.specs.Runs.{World as CodeWorld}
+use Rattle.replay_questions.specs.Worlds.{refused}
+use Rattle.replay_questions.specs.Worlds.{Shows}
 use Rattle.replay_run.specs.Answered.{AreAnswers}
 use Rattle.replay_run.specs.Reported.{middle_lines}
 use Rattle.replay_run.proofs.Questions.{written_of_ends}

@@ -4,7 +4,7 @@ use Rattle.std.specs.List.{flat_map}
 use Rattle.std.proofs.lemmas.List.{drop_more, drop_all}
 use Rattle.group_defs.specs.Process.{Setting}
 use Rattle.replay_defs.specs.Worlds as plain
-use Rattle.replay_world.specs.Cast.{Player, Plays, ArePlayers}
+use Rattle.replay_questions.specs.Cast.{Player, Plays, ArePlayers}
 
 -- the player of the definitions at the same place
 pub record At (s : Setting) (p : Player) (cs : List plain.Player) (i : ℕ) : Type 0 where

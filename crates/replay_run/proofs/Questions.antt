@@ -10,8 +10,8 @@ use Rattle.group_defs.specs.Family.{accounts, numbers, end_of}
 use Rattle.replay_defs.specs.Schedules.{Header}
 use Rattle.replay_defs.specs.Worlds as plain
 use Rattle.replay_defs.specs.Worlds.{setting_of, family_of, correct_of}
-use Rattle.replay_world.specs.Cast.{Player, ArePlayers, process_of}
-use Rattle.replay_world.specs.Worlds.{IsRun}
+use Rattle.replay_questions.specs.Cast.{Player, ArePlayers, process_of}
+use Rattle.replay_questions.specs.Worlds.{IsRun}
 
 accounts_now : (h : Header) (cs : List plain.Player) → AllByRecursion (IsRun h) cs
     → map (λ c. account_of c.now) cs ≡ map account_of (map (end_of (setting_of h)) (map (correct_of h) cs))

@@ -9,8 +9,7 @@ use Rattle.accounts.specs.Views.{account}
 use Rattle.view_phases.specs.Phases.{word}
 use Rattle.sig_scheme.specs.Signers.{used}
 use Rattle.sig_scheme.specs.declared.any_signer.AnySigner.{AnySigner}
-use Rattle.member_core.specs.Cores.{IsCore}
-use Rattle.replay_world.specs.Cast.{Core, liars_of, halted_at}
+use Rattle.replay_questions.specs.Cast.{Core, IsCore, liars_of, halted_at}
 use Rattle.report_lines.specs.declared.standing.Standing.{Standing}
 use Rattle.report_lines.specs.Standings.{StandsAs}
 

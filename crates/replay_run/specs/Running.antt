@@ -4,9 +4,9 @@ use Rattle.std.specs.Option.{option_map}
 use Rattle.replay_defs.specs.Schedules.{Header, ScheduleEvent, IsEvent}
 use Rattle.replay_defs.specs.Worlds.{World, WorldFault, run_events, start_of}
 use Rattle.replay_defs.specs.Reports as plain
-use Rattle.replay_world.specs.Worlds.{Shows, count_of}
-use Rattle.replay_world.specs.declared.world.World.{World as CodeWorld}
-use Rattle.replay_world.specs.declared.fault.WorldFault.{WorldFault as CodeFault}
+use Rattle.replay_questions.specs.Worlds.{Shows, count_of}
+use Rattle.replay_questions.specs.Runs.{World as CodeWorld}
+use Rattle.replay_questions.specs.Runs.{WorldFault as CodeFault}
 use Rattle.replay_run.specs.Faults.{fault, fault_of_run}
 use Rattle.replay_run.specs.declared.run.Run.{Run}
 use Rattle.replay_run.specs.declared.run.Run.TheVariants.{Waits, Runs, Stops}

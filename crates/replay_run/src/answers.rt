@@ -3,13 +3,12 @@ ghost use Rattle.std.specs.Prelude.{IfOk};
 ghost use Rattle.replay_defs.specs.Schedules.{Header};
 ghost use Rattle.replay_defs.specs.Worlds as plain;
 ghost use Rattle.replay_defs.specs.Worlds.{family_of};
-ghost use Rattle.replay_world.specs.Worlds.{Shows};
+ghost use Rattle.replay_questions.specs.Worlds.{Shows};
 ghost use Rattle.replay_run.specs.Answered.{AreAnswers};
 
 use crate::standings::{accounts_of, numbers_of};
 use group_questions::{agree, bounded};
-use replay_questions::honest;
-use replay_world::World;
+use replay_questions::{World, honest};
 use report_lines::Answers;
 use rp_base::NoMemory;
 use sound_question::sound;

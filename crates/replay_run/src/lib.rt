@@ -13,5 +13,6 @@ mod under_way;
 
 pub use fault::ReplayFault;
 pub use pieces::PIECE_BYTES;
+pub use replay_questions::World;
 pub use replaying::replay;
 pub use under_way::Replay;

@@ -6,14 +6,14 @@ ghost use Rattle.replay_defs.specs.Schedules.{Header};
 ghost use Rattle.replay_defs.specs.Worlds as worlds;
 ghost use Rattle.replay_defs.specs.Worlds.{family_of};
 ghost use Rattle.replay_defs.specs.Reports as plain;
-ghost use Rattle.replay_world.specs.Cast.{Plays, ArePlayers};
-ghost use Rattle.replay_world.specs.Stepping.{refused as refused_in};
-ghost use Rattle.replay_world.specs.Worlds.{Shows};
+ghost use Rattle.replay_questions.specs.Cast.{Plays, ArePlayers};
+ghost use Rattle.replay_questions.specs.Worlds.{refused as refused_in};
+ghost use Rattle.replay_questions.specs.Worlds.{Shows};
 ghost use Rattle.replay_run.specs.Reported.{middle_lines};
 
 use crate::answers::answers_of;
 use crate::standings::standing_of;
-use replay_world::{Player, Refused, World};
+use replay_questions::{Player, Refused, World};
 use report_lines::{
     push_answers, push_block, push_head, push_process, push_refused, push_refused_count,
 };

@@ -5,12 +5,12 @@ ghost use Rattle.group_defs.specs.Process.{Setting};
 ghost use Rattle.group_defs.specs.Accounts.{account_of};
 ghost use Rattle.accounts.specs.Views.{account};
 ghost use Rattle.replay_defs.specs.Worlds as plain;
-ghost use Rattle.replay_world.specs.Cast.{Plays, ArePlayers, process_of};
+ghost use Rattle.replay_questions.specs.Cast.{Plays, ArePlayers, process_of};
 ghost use Rattle.report_lines.specs.Standings.{StandsAs};
 
 use crate::copies::copy_account;
 use accounts::Account;
-use replay_world::Player;
+use replay_questions::Player;
 use report_lines::Standing;
 use rp_base::{NoMemory, PidSet};
 use std::alloc::Global;

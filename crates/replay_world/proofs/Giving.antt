@@ -16,7 +16,7 @@ use Rattle.replay_defs.specs.Worlds as plain
 use Rattle.replay_defs.specs.Worlds.{setting_of, turn_of}
 use Rattle.stmt_codec.specs.declared.events.Event.{Event}
 use Rattle.stmt_codec.specs.declared.events.Outcome.{Outcome}
-use Rattle.member_state.specs.Events.{event, IsOutcome}
+use Rattle.happenings.specs.Events.{event, IsOutcome}
 use Rattle.replay_cast.specs.declared.player.Player.{Player}
 use Rattle.replay_world.specs.declared.traffic.Sent.{Sent}
 use Rattle.replay_world.specs.declared.traffic.Traffic.{Traffic}

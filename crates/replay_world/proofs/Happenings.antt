@@ -17,7 +17,7 @@ use Rattle.replay_world.specs.declared.fault.WorldFault.TheVariants.{NoSuchFrame
 use Rattle.replay_world.specs.declared.traffic.Traffic.{Traffic}
 use Rattle.replay_world.proofs.Sums.{sum_within}
 use Rattle.replay_world.proofs.Sends.{Extends, extends-refl, extends-trans, sends_flat, sends_extend}
-use Rattle.member_state.specs.Events.{frames_to}
+use Rattle.happenings.specs.Events.{frames_to}
 use Rattle.std.specs.List.{flat_map}
 
 -- ---- elements

@@ -6,7 +6,7 @@ use Rattle.byte_defs.specs.Members.{has}
 use Rattle.group_defs.specs.Sending.{Sending, frames_of}
 use Rattle.replay_defs.specs.Worlds as plain
 use Rattle.replay_defs.specs.Worlds.{World, Sent, Player}
-use Rattle.member_state.specs.Events.{frames_to}
+use Rattle.happenings.specs.Events.{frames_to}
 use Rattle.replay_world.specs.Traffic.{sends_all, IsTooMuch}
 use Rattle.replay_world.specs.declared.fault.WorldFault.{WorldFault}
 use Rattle.replay_world.specs.declared.fault.WorldFault.TheVariants.{NoSuchFrame, TooMuchSent, NoMemory}

@@ -16,7 +16,7 @@ use Rattle.replay_defs.specs.Worlds.{setting_of, with_turn, turn_of, takes, corr
 use Rattle.stmt_codec.specs.declared.events.EventVerdict.{EventVerdict}
 use Rattle.stmt_codec.specs.declared.events.EventVerdict.TheVariants as verdicts
 use Rattle.stmt_codec.specs.declared.events.Outcome.{Outcome}
-use Rattle.member_state.specs.Events.{frame_to, IsOutcome, refusal}
+use Rattle.happenings.specs.Events.{frame_to, IsOutcome, refusal}
 use Rattle.signature_defs.specs.Schemes.{is_valid}
 use Rattle.sig_scheme.specs.Views.{scheme as scheme_of}
 use Rattle.replay_cast.specs.declared.player.Player.{Player}

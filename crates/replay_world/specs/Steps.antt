@@ -6,7 +6,7 @@ use Rattle.group_defs.specs.Events as group
 use Rattle.replay_defs.specs.Schedules.{Header}
 use Rattle.replay_defs.specs.Worlds as plain
 use Rattle.stmt_codec.specs.declared.events.Outcome.{Outcome}
-use Rattle.member_state.specs.Events.{IsOutcome}
+use Rattle.happenings.specs.Events.{IsOutcome}
 use Rattle.replay_world.specs.Traffic.{IsTooMuch, numbers}
 use Rattle.replay_world.specs.Worlds.{Shows}
 use Rattle.replay_world.specs.declared.world.World.{World}

@@ -8,7 +8,7 @@ use Rattle.trace_defs.specs.Outcomes.{seen}
 use Rattle.trace_defs.specs.Happenings.{Happening, Takes}
 use Rattle.told_defs.specs.Told.{gets_frame, loses, next_tells}
 use Rattle.stmt_codec.specs.declared.events.Outcome.{Outcome}
-use Rattle.member_state.specs.Events.{IsOutcome}
+use Rattle.happenings.specs.Events.{IsOutcome}
 use Rattle.happenings.specs.declared.told.Handed.{Handed}
 use Rattle.happenings.specs.declared.told.Told.{Told}
 use Rattle.happenings.specs.Told.{handed, Tells}

@@ -3,7 +3,7 @@ ghost use Rattle.std.specs.Prelude.{◌≡◌, ◌++◌, ◌∷◌, [], if◌the
 ghost use Rattle.std.specs.VecDeque.{deque_items};
 ghost use Rattle.byte_defs.specs.Members.{has};
 ghost use Rattle.replay_defs.specs.Worlds as plain;
-ghost use Rattle.member_state.specs.Events.{frame_to};
+ghost use Rattle.happenings.specs.Events.{frame_to};
 ghost use Rattle.replay_cast.specs.Players.{process_of};
 ghost use Rattle.replay_world.specs.Traffic.{delivery, sends_all, Carries, Sends, SendsTooMuch};
 ghost use Rattle.replay_world.specs.Handing.{handed_frames};

@@ -1,7 +1,7 @@
 //! The world of a schedule: its correct processes, each a real one, and the frames that were sent.
 ghost use Rattle.std.specs.Prelude.{◌≡◌, ◌==◌, ◌<◌, ◌+◌, ◌-◌, ◌^◌, ◌++◌, length, map, OnOk, IfOk, IfErr};
 ghost use Rattle.std.specs.List.{position_from};
-ghost use Rattle.member_state.specs.Events.{event as event_of};
+ghost use Rattle.happenings.specs.Events.{event as event_of};
 ghost use Rattle.rp_base.specs.Pids.{mask_of};
 ghost use Rattle.replay_defs.specs.Worlds as plain;
 ghost use Rattle.replay_defs.specs.Worlds.{setting_of};

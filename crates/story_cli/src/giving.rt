@@ -16,10 +16,9 @@ use rp_base::NoMemory;
 use schedule_file::Schedule;
 use schedule_reading::{ScheduleFault, read_schedule};
 use std::alloc::Global;
-use story_picture::push_picture;
+use story_picture::{push_picture, push_trace};
 use story_reading::{AssembleFault, assemble};
 use story_telling::tell;
-use story_trace::push_trace;
 use story_writing::push_story;
 
 /// The bytes of the schedule that the text spells.

@@ -2,7 +2,7 @@
 ghost use Rattle.std.specs.Prelude.{◌≡◌, ◌++◌, map, OnOk};
 ghost use Rattle.std.specs.List.{flat_map};
 ghost use Rattle.schedule_file.specs.Views.{listed};
-ghost use Rattle.member_state.specs.Events.{note as note_of};
+ghost use Rattle.happenings.specs.Events.{note as note_of};
 ghost use Rattle.happenings.specs.Told.{happening as happening_of};
 ghost use Rattle.picture_defs.specs.Drawing as plain;
 ghost use Rattle.picture_defs.specs.Pictures.{each_row};

@@ -11,3 +11,4 @@ mod picture;
 mod rows;
 
 pub use picture::push_picture;
+pub use story_trace::push_trace;

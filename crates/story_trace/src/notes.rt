@@ -4,7 +4,7 @@ ghost use Rattle.text_defs.specs.Words.{line_text};
 ghost use Rattle.statements.specs.Batches.{message};
 ghost use Rattle.view_table.specs.Views.{as_view};
 ghost use Rattle.group_defs.specs.Events as group;
-ghost use Rattle.member_state.specs.Events.{note as note_of};
+ghost use Rattle.happenings.specs.Events.{note as note_of};
 ghost use Rattle.trace_defs.specs.Outcomes.{note_line};
 
 use rp_base::{NoMemory, Pid};

@@ -4,7 +4,7 @@ ghost use Rattle.std.specs.List.{flat_map, enumerate_from, join_with_byte};
 ghost use Rattle.std.specs.Fmt.{decimal};
 ghost use Rattle.text_defs.specs.Words.{space, line_text};
 ghost use Rattle.stmt_codec.specs.Views.{signed as signed_of};
-ghost use Rattle.member_state.specs.Events.{note as note_of};
+ghost use Rattle.happenings.specs.Events.{note as note_of};
 ghost use Rattle.trace_defs.specs.Outcomes as lines;
 ghost use Rattle.trace_defs.specs.Outcomes.{claims_word as claims_word_of};
 ghost use Rattle.trace_defs.specs.Happenings as plain;

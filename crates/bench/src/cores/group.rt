@@ -1,7 +1,7 @@
 //! A group whose cores hand each other their frames.
 use anyhow::{Result, anyhow};
 use bench_parts::{Counted, Work, key_of, plain_roster};
-use member_core::{Core, Event, Outcome, OwnClaim, Payload, Sending};
+use replay_cast::{Core, Event, Outcome, OwnClaim, Payload, Sending};
 use rp_base::{GroupId, Pid, PidSet, PlainScheme, PlainSigner};
 use std::alloc::Global;
 use std::collections::VecDeque;

@@ -5,8 +5,7 @@ ghost use Rattle.schedule_file.specs.Views as views;
 
 use anyhow::{Result, anyhow};
 use bench_parts::{Counted, Work};
-use member_core::{Core, Event, Outcome, OwnClaim, Payload, Sending};
-use replay_cast::{Cast, Liar, Player};
+use replay_cast::{Cast, Core, Event, Liar, Outcome, OwnClaim, Payload, Player, Sending};
 use rp_base::{GroupId, NoMemory, Pid, PidSet};
 use schedule_file::{Schedule, ScheduleEvent};
 use sig_scheme::{AnyScheme, AnySigner};

@@ -5,7 +5,7 @@ use Rattle.group_defs.specs.Accounts.{Account}
 use Rattle.group_defs.specs.Family.{accounts, numbers}
 use Rattle.replay_defs.specs.Worlds.{family_of, setting_of}
 use Rattle.accounts.specs.Views.{account}
-use Rattle.replay_world.specs.Cast.{Player, ArePlayers}
+use Rattle.replay_questions.specs.Cast.{Player, ArePlayers}
 use Rattle.replay_run.proofs.Questions.{accounts_same, family_numbers, bounded_by_members}
 use Rattle.replay_run.proofs.answers.answers_of.Goals as goal
 

@@ -3,7 +3,7 @@ use Rattle.std.specs.List.{flat_map}
 use Rattle.group_defs.specs.Process.{Setting}
 use Rattle.replay_defs.specs.Worlds as worlds
 use Rattle.replay_defs.specs.Reports as plain
-use Rattle.replay_world.specs.Cast.{ArePlayers}
+use Rattle.replay_questions.specs.Cast.{ArePlayers}
 use Rattle.replay_run.proofs.reporting.push_players.Given as goal
 
 abbrev pub invariant-loop-player : goal.invariant-loop-player

@@ -1,7 +1,7 @@
 use Rattle.std.proofs.Common.{◌≡◌, ◌++◌, map, take}
 use Rattle.std.specs.List.{flat_map}
 use Rattle.replay_defs.specs.Reports.{refused_line}
-use Rattle.replay_world.specs.Stepping.{refused}
+use Rattle.replay_questions.specs.Worlds.{refused}
 use Rattle.replay_run.proofs.reporting.push_refusals.Given as goal
 
 abbrev pub invariant-loop-one : goal.invariant-loop-one

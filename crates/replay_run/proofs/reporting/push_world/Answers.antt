@@ -3,8 +3,8 @@ use Rattle.std.specs.List.{flat_map}
 use Rattle.std.proofs.lemmas.Result.{on_ok_weaker}
 use Rattle.replay_defs.specs.Reports.{refused_line, block}
 use Rattle.replay_defs.specs.Worlds.{setting_of}
-use Rattle.replay_world.specs.Cast.{Player, ArePlayers}
-use Rattle.replay_world.specs.Stepping.{refused}
+use Rattle.replay_questions.specs.Cast.{Player, ArePlayers}
+use Rattle.replay_questions.specs.Worlds.{refused}
 use Rattle.replay_run.proofs.Ending.{short_written, long_written, refused_many}
 use Rattle.replay_run.proofs.reporting.push_world.Goals as goal
 

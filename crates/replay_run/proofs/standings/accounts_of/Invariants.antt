@@ -4,7 +4,7 @@ use Rattle.group_defs.specs.Process.{Setting}
 use Rattle.group_defs.specs.Accounts.{account_of}
 use Rattle.replay_defs.specs.Worlds as plain
 use Rattle.accounts.specs.Views.{account}
-use Rattle.replay_world.specs.Cast.{ArePlayers}
+use Rattle.replay_questions.specs.Cast.{ArePlayers}
 use Rattle.replay_run.proofs.standings.accounts_of.Given as goal
 
 abbrev pub invariant-loop-player : goal.invariant-loop-player

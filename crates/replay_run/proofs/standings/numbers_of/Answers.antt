@@ -1,6 +1,6 @@
 use Rattle.std.proofs.Common.{Bool, eqb, ap, sym, ◌∙◌}
 use Rattle.std.specs.Prelude.{◌||◌}
-use Rattle.replay_world.specs.Cast.{process_of}
+use Rattle.replay_questions.specs.Cast.{process_of}
 use Rattle.schedule_header.proofs.Processes.{has-put_once, list_any-next}
 use Rattle.replay_run.proofs.standings.numbers_of.Goals as goal
 

@@ -1,6 +1,6 @@
 use Rattle.std.proofs.Common.{◌≡◌, ℕ, map, take}
 use Rattle.byte_defs.specs.Members.{has}
-use Rattle.replay_world.specs.Cast.{process_of}
+use Rattle.replay_questions.specs.Cast.{process_of}
 use Rattle.replay_run.proofs.standings.numbers_of.Given as goal
 
 abbrev pub invariant-loop-player : goal.invariant-loop-player

@@ -1,6 +1,6 @@
 use Rattle.std.proofs.Common.{map}
 use Rattle.schedule_file.specs.Views.{listed}
-use Rattle.member_state.specs.Events.{note}
+use Rattle.happenings.specs.Events.{note}
 use Rattle.picture_defs.specs.Drawing.{note_bar}
 use Rattle.story_picture.proofs.Numbered.{mapped_more}
 use Rattle.story_picture.proofs.bars.push_note_bars.Goals as goal

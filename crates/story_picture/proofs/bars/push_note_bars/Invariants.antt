@@ -1,7 +1,7 @@
 use Rattle.std.proofs.Common.{◌≡◌, ◌++◌, map, take}
 use Rattle.std.specs.List.{flat_map}
 use Rattle.schedule_file.specs.Views.{listed}
-use Rattle.member_state.specs.Events.{note}
+use Rattle.happenings.specs.Events.{note}
 use Rattle.picture_defs.specs.Drawing.{note_bar}
 use Rattle.story_picture.proofs.bars.push_note_bars.Given as goal
 

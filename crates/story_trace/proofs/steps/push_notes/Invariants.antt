@@ -1,7 +1,7 @@
 use Rattle.std.proofs.Common.{◌≡◌, ◌++◌, map, take}
 use Rattle.std.specs.List.{flat_map}
 use Rattle.text_defs.specs.Words.{line_text}
-use Rattle.member_state.specs.Events.{note}
+use Rattle.happenings.specs.Events.{note}
 use Rattle.trace_defs.specs.Outcomes.{note_line}
 use Rattle.story_trace.proofs.steps.push_notes.Given as goal
 

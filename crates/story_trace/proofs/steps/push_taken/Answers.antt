@@ -5,7 +5,7 @@ use Rattle.text_defs.specs.Words.{line_text}
 use Rattle.stmt_codec.specs.declared.own.OwnClaim.{OwnClaim}
 use Rattle.stmt_codec.specs.declared.events.Note.{Note}
 use Rattle.stmt_codec.specs.Views.{signed}
-use Rattle.member_state.specs.Events.{note}
+use Rattle.happenings.specs.Events.{note}
 use Rattle.trace_defs.specs.Outcomes.{signed_line, note_line, sent_line}
 use Rattle.story_trace.proofs.Behind.{three_of}
 use Rattle.story_trace.proofs.steps.push_taken.Goals as goal

@@ -1,6 +1,6 @@
 use Rattle.std.proofs.Common.{◌≡◌, map, length}
 use Rattle.std.specs.Vec.Iter.{into_iter_items}
-use Rattle.member_state.specs.Events.{frame_to}
+use Rattle.happenings.specs.Events.{frame_to}
 use Rattle.replay_world.specs.Handing.{handed_frames}
 use Rattle.replay_world.proofs.Carrying.{SendsOn}
 use Rattle.replay_world.proofs.traffic.Traffic.send_all.Given as goal

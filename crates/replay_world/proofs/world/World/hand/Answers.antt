@@ -1,6 +1,6 @@
 use Rattle.std.proofs.Common.{◌==◌, List, arith, refl, subst, sym}
 use Rattle.std.proofs.lemmas.Result.{on_ok_weaker, IfErr-weaker}
-use Rattle.member_state.specs.Events.{event}
+use Rattle.happenings.specs.Events.{event}
 use Rattle.replay_world.specs.Steps.{NotesTooMuch}
 use Rattle.replay_cast.specs.declared.player.Player.{Player}
 use Rattle.replay_defs.specs.Worlds.{setting_of}
