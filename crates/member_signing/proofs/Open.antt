@@ -1,11 +1,10 @@
 -- Which phases go before the decision, and which statement changes them.
 use Rattle.std.proofs.Common.{◌≡◌, ℕ, true, false, Some, None, refl, sym, ◌∙◌, ap, subst}
-use Rattle.message_defs.specs.Statements.{Statement, End, EndAt, view_of}
+use Rattle.message_defs.specs.Statements.{Statement, End, view_of}
 use Rattle.group_defs.specs.Process.{Setting, Process}
 use Rattle.group_defs.specs.Due.{may_sign}
 use Rattle.group_defs.specs.Signing.{Signer, signs}
 use Rattle.group_defs.specs.Values.{length_said}
-use Rattle.group_defs.specs.Settle as defs
 use Rattle.rule_laws.proofs.Signable.{may-parts}
 use Rattle.own_place.specs.Noting.{is_end}
 use Rattle.view_phases.specs.Phases.{IsIn, IsClosing}
