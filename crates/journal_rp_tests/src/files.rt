@@ -110,6 +110,19 @@ fn three_turns<D: Disk>(rt: &impl Abort, alloc: Global, disk: &mut D) -> (u64, [
     mark
 }
 
+// Whether the entry of this turn is the next one, and the last.
+fn ends_with<D: Disk>(
+    alloc: Global,
+    disk: &mut D,
+    journal: &mut Journal<Reading>,
+    turn: u8,
+) -> bool {
+    match journal.read(alloc, disk) {
+        Ok(Some(entry)) => is_turn(&entry, turn) && matches!(journal.read(alloc, disk), Ok(None)),
+        _ => false,
+    }
+}
+
 #[test]
 fn a_journal_in_a_file_is_read_again(rt: HostRuntime) -> Result<(), Fail> {
     let path = "journal_rp_tests_file";
@@ -131,12 +144,7 @@ fn a_journal_in_a_file_is_read_again(rt: HostRuntime) -> Result<(), Fail> {
         .ok()
         .expect(&rt, "a journal");
     assert!(rt; journal.skip(&mut again, place, &digest).is_ok());
-    let Ok(Some(entry)) = journal.read(rt.alloc(), &mut again) else {
-        assert!(rt; false, "an entry");
-        return Ok(());
-    };
-    assert!(rt; is_turn(&entry, 2));
-    assert!(rt; matches!(journal.read(rt.alloc(), &mut again), Ok(None)));
+    assert!(rt; ends_with(rt.alloc(), &mut again, &mut journal, 2));
     assert!(rt; journal.finish(&mut again).is_ok());
     fs::remove_file(&rt, path)?;
     Ok(())

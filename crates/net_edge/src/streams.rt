@@ -157,10 +157,10 @@ mod tests {
             reader: Line { turn: 0 },
             faults: 0,
         };
-        assert_eq!(rt; source.read(&mut [0; 8]), Ok(1));
-        assert_eq!(rt; source.faults, 0);
-        assert_eq!(rt; source.read(&mut [0; 8]), Err(Failed));
-        assert_eq!(rt; source.faults, 1);
+        for (read, faults) in [(Ok(1), 0), (Err(Failed), 1)] {
+            assert_eq!(rt; source.read(&mut [0; 8]), read);
+            assert_eq!(rt; source.faults, faults);
+        }
         let mut sink = Writing {
             writer: Line { turn: 0 },
             faults: 0,

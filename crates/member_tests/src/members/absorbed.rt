@@ -179,8 +179,9 @@ fn an_entry_of_a_refused_event_has_no_signature(rt: HostRuntime) {
 fn a_process_that_refused_an_entry_absorbs_the_one_that_is_its_own(rt: HostRuntime) {
     let bytes = kept_of_hi(&rt).expect(&rt, "memory");
     let mut core = one_by_journal(&rt, 100);
-    assert!(rt; absorbed(&mut core, Happening::Hi, false, 4, &bytes).is_err());
-    assert!(rt; absorbed(&mut core, Happening::Hi, true, 5, &bytes).is_err());
+    for (spent, count) in [(false, 4), (true, 5)] {
+        assert!(rt; absorbed(&mut core, Happening::Hi, spent, count, &bytes).is_err());
+    }
     assert!(rt; core.used() == 0);
     assert!(rt; core.account().accepted.is_empty());
     assert!(rt; absorbed(&mut core, Happening::Hi, false, 5, &bytes).is_ok());

@@ -36,11 +36,8 @@ fn one_member_signs_five_statements_and_delivers(rt: HostRuntime) {
     let mut core = one_member(&rt, 100);
     let event = Event::Submit(b"hi");
     let outcome = after(&rt, &mut core, &event);
-    assert!(rt; outcome.verdict == EventVerdict::Taken);
-    assert!(rt; outcome.signed.len() == 5);
-    assert!(rt; outcome.sends.is_empty());
-    assert!(rt; !outcome.spent);
-    assert!(rt; core.used() == 5);
+    assert!(rt; outcome.verdict == EventVerdict::Taken && !outcome.spent);
+    assert!(rt; outcome.signed.len() == 5 && outcome.sends.is_empty() && core.used() == 5);
     assert!(rt; outcome.notes.len() == 1);
     assert!(rt; is_first(&outcome.notes[0], b"hi"));
     assert!(rt; delivered_at_first(&core) == Some(1));
@@ -65,10 +62,8 @@ fn a_payload_of_1024_bytes_is_taken_and_one_of_1025_is_too_long(rt: HostRuntime)
     let long = Event::Submit(&bytes);
     let outcome = after(&rt, &mut core, &long);
     assert!(rt; outcome.verdict == EventVerdict::Refused(EventFault::TooLong));
-    assert!(rt; outcome.signed.is_empty());
-    assert!(rt; outcome.notes.is_empty());
-    assert!(rt; core.used() == 0);
-    assert!(rt; core.account().accepted.is_empty());
+    assert!(rt; outcome.signed.is_empty() && outcome.notes.is_empty());
+    assert!(rt; core.used() == 0 && core.account().accepted.is_empty());
     let short = Event::Submit(&bytes[..1024]);
     let outcome = after(&rt, &mut core, &short);
     assert!(rt; outcome.verdict == EventVerdict::Taken);
