@@ -37,6 +37,7 @@ fn sign_body<G: Signer>(alloc: Global, body: &[u8], signer: &mut G) -> Result<Pa
     ensures rises { G.Tally.used signer.old ≤ G.Tally.used signer.new }
     ensures total { G.Tally.total signer.new ≡ G.Tally.total signer.old }
     ensures secret { G.signature signer.new ≡ G.signature signer.old }
+    ensures key { G.public signer.new ≡ G.public signer.old }
 {
     let most = signer.sig_len();
     let mut signature = Vec::new(alloc);
@@ -64,6 +65,7 @@ fn sign_statement<G: Signer>(
     ensures rises { G.Tally.used signer.old ≤ G.Tally.used signer.new }
     ensures total { G.Tally.total signer.new ≡ G.Tally.total signer.old }
     ensures secret { G.signature signer.new ≡ G.signature signer.old }
+    ensures key { G.public signer.new ≡ G.public signer.old }
 {
     let mut room = [0; BODY_ROOM];
     let len = body_into(group, me, statement, &mut room);
@@ -88,6 +90,7 @@ pub fn make<G: Signer>(
     ensures rises { G.Tally.used signer.old ≤ G.Tally.used signer.new }
     ensures total { G.Tally.total signer.new ≡ G.Tally.total signer.old }
     ensures secret { G.signature signer.new ≡ G.signature signer.old }
+    ensures key { G.public signer.new ≡ G.public signer.old }
 {
     let bytes = spelled(alloc, statement)?;
     let signature = sign_statement(alloc, group, me, statement, signer)?;

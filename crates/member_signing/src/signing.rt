@@ -72,6 +72,7 @@ fn next<G: Signer>(
     ensures rises { G.Tally.used signer.old ≤ G.Tally.used signer.new }
     ensures total { G.Tally.total signer.new ≡ G.Tally.total signer.old }
     ensures secret { G.signature signer.new ≡ G.signature signer.old }
+    ensures key { G.public signer.new ≡ G.public signer.old }
 {
     let Some(statement) = due(&standing(state), kind) else {
         return Ok(None);
@@ -102,6 +103,7 @@ fn sign_kind<G: Signer>(
     ensures rises { G.Tally.used signer.old ≤ G.Tally.used signer.new }
     ensures total { G.Tally.total signer.new ≡ G.Tally.total signer.old }
     ensures secret { G.signature signer.new ≡ G.signature signer.old }
+    ensures key { G.public signer.new ≡ G.public signer.old }
     ensures stays { (b : Before) (was : ProcessState) → Stays b was state.old → Stays b was state.new }
     ensures left { state.new.left ≡ state.old.left }
 {
@@ -139,6 +141,7 @@ fn sign_any<G: Signer>(
     ensures rises { G.Tally.used signer.old ≤ G.Tally.used signer.new }
     ensures total { G.Tally.total signer.new ≡ G.Tally.total signer.old }
     ensures secret { G.signature signer.new ≡ G.signature signer.old }
+    ensures key { G.public signer.new ≡ G.public signer.old }
     ensures stays { (b : Before) (was : ProcessState) → Stays b was state.old → Stays b was state.new }
     ensures left { state.new.left ≡ state.old.left }
 {
@@ -168,6 +171,7 @@ fn sign_kinds<G: Signer>(
     ensures rises { G.Tally.used signer.old ≤ G.Tally.used signer.new }
     ensures total { G.Tally.total signer.new ≡ G.Tally.total signer.old }
     ensures secret { G.signature signer.new ≡ G.signature signer.old }
+    ensures key { G.public signer.new ≡ G.public signer.old }
     ensures stays { (b : Before) (was : ProcessState) → Stays b was state.old → Stays b was state.new }
     ensures left { state.new.left ≡ state.old.left }
 {
@@ -200,6 +204,7 @@ pub fn sign_all<G: Signer>(
     ensures rises { G.Tally.used signer.old ≤ G.Tally.used signer.new }
     ensures total { G.Tally.total signer.new ≡ G.Tally.total signer.old }
     ensures secret { G.signature signer.new ≡ G.signature signer.old }
+    ensures key { G.public signer.new ≡ G.public signer.old }
     ensures stays { (b : Before) (was : ProcessState) → Stays b was state.old → Stays b was state.new }
     ensures left { state.new.left ≡ state.old.left }
 {

@@ -28,6 +28,7 @@ signatures-init g c = (
   omega arith,
   (λ b was is. is),
   refl,
+  refl,
 )
 
 pub next-requires-clause-left : goal.next-requires-clause-left
@@ -92,6 +93,7 @@ signatures-preserved g c =
       (let before = inv.5 in omega (arith, before, made)),
       (λ b was is. c.put.ensures.stays b was (inv.6 b was is)),
       c.put.ensures.left ∙ inv.7,
+      c.next.ensures.key ∙ inv.8,
     )
 
 pub returns-in-None-clause-signs : goal.returns-in-None-clause-signs

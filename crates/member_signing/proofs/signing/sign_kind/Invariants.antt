@@ -22,6 +22,7 @@ invariant-signatures g l =
     × (g.G.Signer.signature l.signer ≡ g.G.Signer.signature l.fn.signer)
     × (g.G.Tally.used l.fn.signer ≤ g.G.Tally.used l.signer)
     × ((b : Before) (was : ProcessState) → Stays b was l.fn.state → Stays b was l.state) × (l.state.left ≡ l.fn.state.left)
+    × (g.G.Signer.public l.signer ≡ g.G.Signer.public l.fn.signer)
 
 abbrev pub decreases-signatures : goal.decreases-signatures
 decreases-signatures g l = g.G.Tally.total l.signer - g.G.Tally.used l.signer

@@ -30,6 +30,7 @@ kinds-init g c = (
   omega arith,
   (λ b was is. is),
   refl,
+  refl,
 )
 
 pub kinds-preserved : goal.kinds-preserved
@@ -61,6 +62,7 @@ kinds-preserved g c =
       (let before = inv.5 in let more = c.sign_any.ensures.rises in omega (arith, before, more)),
       (λ b was is. c.sign_any.ensures.stays b was (inv.6 b was is)),
       c.sign_any.ensures.left ∙ inv.7,
+      c.sign_any.ensures.key ∙ inv.8,
     )
 
 pub returns-then-lacks-clause-signs : goal.returns-then-lacks-clause-signs

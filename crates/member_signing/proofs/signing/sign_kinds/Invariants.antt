@@ -23,3 +23,4 @@ invariant-kinds g l =
     × (g.G.Signer.signature l.signer ≡ g.G.Signer.signature l.fn.signer)
     × (g.G.Tally.used l.fn.signer ≤ g.G.Tally.used l.signer)
     × ((b : Before) (was : ProcessState) → Stays b was l.fn.state → Stays b was l.state) × (l.state.left ≡ l.fn.state.left)
+    × (g.G.Signer.public l.signer ≡ g.G.Signer.public l.fn.signer)
