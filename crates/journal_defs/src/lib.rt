@@ -2,7 +2,8 @@
 #![tactic(auto)]
 
 ghost use Rattle.journal_defs.specs.Entries.{EntryIsSpelled, EntryIsRead};
-ghost use Rattle.journal_defs.specs.Journals.{RecordIsSpelled, RecordIsRead, OneReading, EntryGoesOn, ClosedGateEnds, BrokenGateBreaks, EntryIsThere, GateIsThere, OneEntry, MarkedAgain};
+ghost use Rattle.journal_defs.specs.Journals.{RecordIsSpelled, RecordIsRead, OneReading, EntryGoesOn, ClosedGateEnds, BrokenGateBreaks};
+ghost use Rattle.journal_defs.specs.Journals.{EntryIsThere, GateIsThere, OneEntry, MarkedAgain};
 ghost use Rattle.journal_defs.specs.Crashes.{TornBehindTheGate, WrittenBehindTheGate, TornGate, AtRestIsImage, OpeningIsImage, OpenedIsAtRest, OneImageStands, ImageReads};
 
 /// The kind of a journal, which stands in its magic. A place holds one message in a journal of the first kind, and up to 16 in
