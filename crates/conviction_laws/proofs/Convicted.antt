@@ -124,7 +124,7 @@ pub convicted_is_convicts : ConvictedIsConvicts
 convicted_is_convicts s claims q = (
   λ there. convicts-by s claims q (filter-mem (is_convicted s claims) (keyed s) q (Contains-mem (convicted s claims) q there)).1,
   λ c. mem-Contains (convicted s claims) q (mem-filter (is_convicted s claims) (keyed s) q
-  (subst (λ p. Mem p (keyed s)) c.signer (has-key s c.one c.one_valid)) (by-convicts s claims q c)),
+      (subst (λ p. Mem p (keyed s)) c.signer (has-key s c.one c.one_valid)) (by-convicts s claims q c)),
 )
 
 pub each_has_conviction : EachHasConviction
