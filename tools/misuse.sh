@@ -1,6 +1,6 @@
 #!/bin/bash
-# Programs that must not compile: each makes or changes by itself what only its own crate may make, or hands one phase of a view where
-# another is wanted. Beside them, programs that do the same as it is meant to be done, which must compile and run. Run by hand.
+# Programs that must not compile: each makes or changes by itself what only its own crate may make, hands one phase of a view where another
+# is wanted, or goes on with a process whose turn is not in its journal. Beside them, programs that do the same as it is meant to be done, which must compile and run. Run by hand.
 #
 #     tools/misuse.sh
 #
@@ -11,7 +11,7 @@ top=$(git rev-parse --show-toplevel)
 work=$(mktemp -d)
 trap 'rm -rf "$work"' EXIT
 git -C "$top" archive HEAD crates crates.txt HANDLES | tar -x -C "$work"
-echo 'misuse: rp_base stmt_codec view_table claim_index pool_values claim_pool view_phases' >> "$work/crates.txt"
+echo 'misuse: rp_base stmt_codec view_table claim_index pool_values claim_pool view_phases rp_devices journal_rp member_core hosted_core' >> "$work/crates.txt"
 mkdir -p "$work/crates/misuse/src"
 failed=0
 
@@ -174,5 +174,125 @@ fn closes_twice(view: OpenView) {
 }
 
 fn main() {}' borrow-e0382
+
+# ---- turns
+
+misuse 'a synced turn that nobody synced' 'use journal_rp::{Synced, Turn};
+use std::marker::PhantomData;
+use stmt_codec::Outcome;
+
+fn forged(bytes: Vec<u8>, outcome: Outcome) -> Turn<Synced, ()> {
+    Turn {
+        bytes,
+        outcome,
+        process: (),
+        state: PhantomData,
+    }
+}
+
+fn main() {}'
+
+misuse 'a turn that is sent before it is in the journal' 'use hosted_core::Hosted;
+use journal_rp::{Turn, Unsynced};
+use rp_base::PlainSigner;
+
+fn early(turn: &Turn<Unsynced, Hosted<PlainSigner>>) {
+    let _sends = turn.sends();
+}
+
+fn main() {}' unknown-method
+
+misuse 'a process that is taken back before its turn is in the journal' 'use hosted_core::Hosted;
+use journal_rp::{Turn, Unsynced};
+use rp_base::PlainSigner;
+
+fn early(turn: Turn<Unsynced, Hosted<PlainSigner>>) -> Hosted<PlainSigner> {
+    turn.into_process()
+}
+
+fn main() {}' unknown-method
+
+misuse 'a process that takes another event after its turn was lost' 'use hosted_core::Hosted;
+use member_core::Event;
+use rp_base::{PlainScheme, PlainSigner};
+use std::alloc::Global;
+
+fn goes_on(hosted: Hosted<PlainSigner>, alloc: Global) {
+    if hosted.take(alloc, &PlainScheme, &Event::Tick).is_err() {
+        let _again = hosted.take(alloc, &PlainScheme, &Event::Tick);
+    }
+}
+
+fn main() {}' borrow-e0382
+
+misuse 'a process that is stepped without a turn' 'use hosted_core::Hosted;
+use member_core::Event;
+use rp_base::{PlainScheme, PlainSigner};
+
+fn steps(hosted: &mut Hosted<PlainSigner>) {
+    let _outcome = hosted.core.step(&PlainScheme, &Event::Tick);
+}
+
+fn main() {}'
+
+misuse 'a turn of a core that was stepped in the hand' 'use journal_rp::{Turn, Unsynced};
+use member_core::{Core, Event, Outcome};
+use rp_base::{NoMemory, PlainSigner};
+use std::alloc::Global;
+
+fn turn(alloc: Global, core: Core<PlainSigner>, outcome: Outcome) -> Result<Turn<Unsynced, Core<PlainSigner>>, NoMemory> {
+    Turn::new(alloc, core, &Event::Tick, outcome)
+}
+
+fn main() {}' BOUND
+
+misuse 'a journal that is appended to after a fault' 'use hosted_core::Hosted;
+use journal_rp::{Journal, Turn, Unsynced, Writing};
+use rp_base::PlainSigner;
+use rp_devices::MemDisk;
+
+type Next = Turn<Unsynced, Hosted<PlainSigner>>;
+
+fn goes_on(journal: Journal<Writing>, disk: &mut MemDisk, turn: Next, next: Next) {
+    if journal.append(disk, turn).is_err() {
+        let _again = journal.append(disk, next);
+    }
+}
+
+fn main() {}' borrow-e0382
+
+misuse 'a journal that is appended to before it was read to its end' 'use hosted_core::Hosted;
+use journal_rp::{Journal, Reading, Turn, Unsynced};
+use rp_base::PlainSigner;
+use rp_devices::MemDisk;
+
+fn early(journal: Journal<Reading>, disk: &mut MemDisk, turn: Turn<Unsynced, Hosted<PlainSigner>>) {
+    let _turn = journal.append(disk, turn);
+}
+
+fn main() {}' unknown-method
+
+use 'a turn that is taken, appended, sent and taken back from' 'use hosted_core::{Hosted, Taken};
+use journal_rp::{Journal, Writing};
+use member_core::Event;
+use rp_base::{PlainScheme, PlainSigner};
+use rp_devices::MemDisk;
+use std::alloc::Global;
+
+fn turn(hosted: Hosted<PlainSigner>, alloc: Global, journal: Journal<Writing>, disk: &mut MemDisk) -> Option<Hosted<PlainSigner>> {
+    match hosted.take(alloc, &PlainScheme, &Event::Tick) {
+        Ok(Taken::Turn(turn)) => match journal.append(disk, turn) {
+            Ok((_journal, turn)) => {
+                let _sends = turn.sends();
+                Some(turn.into_process())
+            }
+            Err(_) => None,
+        },
+        Ok(Taken::Refused(hosted, _) | Taken::Lost(hosted)) => Some(hosted),
+        Err(_) => None,
+    }
+}
+
+fn main() {}'
 
 exit $failed

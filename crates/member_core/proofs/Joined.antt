@@ -1,9 +1,10 @@
 -- The parts of an event, put together.
 use Rattle.std.proofs.Common.{◌≡◌, ℕ, ◌-◌, List, [], ◌∷◌, ◌++◌, map, length, drop, Option, None, Some, Bool, true, false, refl, sym, ap, subst, ◌∙◌, arith, inl, inr}
-use Rattle.std.specs.Prelude.{if◌then◌else◌, ◌==◌, filter, nat_lt}
+use Rattle.std.specs.Prelude.{if◌then◌else◌, ◌==◌, ◌≤◌, filter, nat_lt, All}
 use Rattle.std.specs.List.{flat_map}
 use Rattle.std.proofs.lemmas.List.{append_assoc, append-nil, drop_at, length-append, length-map}
 use Rattle.std.proofs.lemmas.Bool.{eqb-false}
+use Rattle.message_defs.specs.Spelling.{IsClaim, IsStatement}
 use Rattle.message_defs.specs.Statements.{Claim, view_of}
 use Rattle.message_defs.specs.Packing.{Signed, signed_of}
 use Rattle.group_defs.specs.Process.{Setting, Process}
@@ -17,11 +18,14 @@ use Rattle.stmt_codec.specs.declared.events.EventVerdict.TheVariants.{Taken}
 use Rattle.stmt_codec.specs.declared.own.OwnClaim.{OwnClaim}
 use Rattle.member_state.specs.declared.state.ProcessState.{ProcessState}
 use Rattle.member_signing.specs.Signed.{IsSigned}
-use Rattle.pool_laws.proofs.Members.{Mem, All-mem}
+use Rattle.pool_laws.proofs.Members.{Mem, All-mem, mem-All, mem-behind}
 use Rattle.event_laws.specs.Parts.{HasSigned}
 use Rattle.event_laws.proofs.Taken.{taking_in_leaves}
 use Rattle.event_laws.proofs.Signed.{signing_leaves}
 use Rattle.event_laws.proofs.Settled.{settling_leaves}
+use Rattle.event_laws.specs.Slots.{FillsSlots, most_signed}
+use Rattle.event_laws.proofs.Slots.{slots_are_few}
+use Rattle.event_laws.proofs.Once.{signing_fills_slots}
 use Rattle.member_state.specs.States.{IsStateOf, signed_here}
 use Rattle.member_state.specs.Events.{refusal as verdict-of, frame_to, frames_to, note, IsOutcome}
 use Rattle.member_sending.specs.Began.{Began}
@@ -109,6 +113,22 @@ began-so s signer left p e newly long =
           (sym still) ∙ last-here p' q r ∙ ap (λ n. drop (length (signed_here q) - n) (signed_here q)) (sym many);
     }
 
+-- ---- no more is signed than a view has slots
+
+few-so : (s : Setting) (p : Process) (t : Turn) (was st : ProcessState) → IsStateOf s (take_in s p t.event) was
+    → IsStateOf s (signing s p t).now st → length (drop (length p.signed) (signing s p t).now.signed) ≤ most_signed
+few-so s p t was st before now =
+    let p' : Process = take_in s p t.event in
+    let lawful = before.lawful in
+    let f : FillsSlots p' (signing s p t).now = signing_fills_slots s t.signer t.allowance p' lawful.pool.of_view lawful.own in
+    let all : (signing s p t).now.signed ≡ p.signed ++ f.more = f.signed ∙ ap (λ cs. cs ++ f.more) (signed-still s p t.event) in
+    let range : All (λ (c : Claim). IsStatement c.statement) f.more = mem-All (λ (c : Claim). IsStatement c.statement) f.more
+    (λ c m. (All-mem IsClaim (signing s p t).now.signed c now.lawful.said
+    (subst (Mem c) (sym all) (mem-behind p.signed f.more c m))).1) in
+    subst (λ (cs : List Claim). length cs ≤ most_signed)
+    (sym (ap (drop (length p.signed)) all ∙ drop_at p.signed f.more (length p.signed) refl))
+    (slots_are_few p'.pool.view f.more lawful.pool.view f.of_view range f.once)
+
 -- ---- the halves
 
 -- as many were signed as stand in frames
@@ -130,15 +150,16 @@ module _ (s : Setting) (p : Process) (t : Turn) (st : ProcessState) (total many 
   began-here n xs lacks is long = began-so s t.signer t.allowance p t.event n
       (counted-so n xs (drop (length p.signed) (signing s p t).now.signed) long (signed-here-so xs lacks is))
 
-  pub begun-so : (r : Came) (tick : Bool) (sends : List (List ℕ × List ℕ))
+  pub begun-so : (r : Came) (tick : Bool) (sends : List (List ℕ × List ℕ)) (was : ProcessState) → IsStateOf s (take_in s p t.event) was
       → IsSigned s (take_in s p t.event) (signing s p t) st total many before (map signed r.signed.items) r.spent
       → r.verdict ≡ Taken → r.heard ≡ length (take_in s p t.event).pool.heard - length p.pool.heard → tick ≡ is_tick t.event → sends ≡ []
       → map frame_to r.sends.items ≡ sends
       ++ flat_map frames_to (unless_empty (bundle tick p (signing s p t).now) Bundle (others p p.pool.view)) → map note r.notes.items ≡ []
       → HasBegun s p t st many r
-  begun-so r tick sends is verdict heard same empty sent told = record {
+  begun-so r tick sends was before is verdict heard same empty sent told = record {
     state = is.state;
     used = is.used;
+    few = few-so s p t was st before is.state;
     verdict = verdict;
     heard = heard;
     signed_now = signed-here-so r.signed.items r.spent is;
@@ -174,11 +195,11 @@ answered-so s p t st st' many pairs was r first begun ended =
           ++ liars_from (first i) q.conflicts ++ note_if (sym begun.spent i) Spent ++ halts q));
     }
 
-outcome-answered : (s : Setting) (p : Process) (t : Turn) → refusal s p t.event ≡ None → outcome s p t ≡ answered s p t (signing s p t)
+pub outcome-answered : (s : Setting) (p : Process) (t : Turn) → refusal s p t.event ≡ None → outcome s p t ≡ answered s p t (signing s p t)
 outcome-answered s p t none = ap
     (λ (o : Option EventFault). elim o [ None ↦ answered s p t (signing s p t) | Some fault ↦ refusing fault ]) none
 
-outcome-refusing : (s : Setting) (p : Process) (t : Turn) (fault : EventFault) → refusal s p t.event ≡ Some fault
+pub outcome-refusing : (s : Setting) (p : Process) (t : Turn) (fault : EventFault) → refusal s p t.event ≡ Some fault
     → outcome s p t ≡ refusing fault
 outcome-refusing s p t fault some = ap
     (λ (o : Option EventFault). elim o [ None ↦ answered s p t (signing s p t) | Some fault ↦ refusing fault ]) some
@@ -197,9 +218,18 @@ after-taken : (s : Setting) (p : Process) (t : Turn) → refusal s p t.event ≡
 unfolding after
 after-taken s p t none = ap (λ (o : Option EventFault). elim o [ None ↦ settle s (signing s p t).now | Some fault ↦ p ]) none
 
-after-refused : (s : Setting) (p : Process) (t : Turn) (fault : EventFault) → refusal s p t.event ≡ Some fault → after s p t ≡ p
+pub after-refused : (s : Setting) (p : Process) (t : Turn) (fault : EventFault) → refusal s p t.event ≡ Some fault → after s p t ≡ p
 unfolding after
 after-refused s p t fault some = ap (λ (o : Option EventFault). elim o [ None ↦ settle s (signing s p t).now | Some fault ↦ p ]) some
+
+-- a turn leaves the process's number
+pub after-me : (s : Setting) (p : Process) (t : Turn) → (after s p t).me ≡ p.me
+after-me s p t = go (refusal s p t.event) refl
+  where
+    go : (r : Option EventFault) → refusal s p t.event ≡ r → (after s p t).me ≡ p.me
+    go None e = ap (λ (q : Process). q.me) (after-taken s p t e) ∙ (settling_leaves s (signing s p t).now).me
+        ∙ (same-so s t.signer t.allowance p t.event).me
+    go (Some fault) e = ap (λ (q : Process). q.me) (after-refused s p t fault e)
 
 -- ---- what is signed
 
@@ -230,6 +260,7 @@ module _ (s : Setting) (p : Process) (t : Turn) where
     state = subst (λ (q : Process). IsStateOf s q st') (sym (after-taken s p t none)) ended.state;
     used = ap (λ (q : Process). length q.signed) (after-taken s p t none)
         ∙ ap length (settling_leaves s (signing s p t).now).signed ∙ begun.used;
+    few = subst (λ (o : Outcome). length o.signed ≤ most_signed) (sym (outcome-answered s p t none)) begun.few;
     outcome = outcome-taken s p t r none (answered-so s p t st st' many pairs was r first begun ended);
   }
 
@@ -239,5 +270,6 @@ module _ (s : Setting) (p : Process) (t : Turn) where
   refused-so st many r fault some is made came = record {
     state = subst (λ (q : Process). IsStateOf s q st) (sym (after-refused s p t fault some)) is;
     used = ap (λ (q : Process). length q.signed) (after-refused s p t fault some) ∙ made;
+    few = subst (λ (o : Outcome). length o.signed ≤ most_signed) (sym (outcome-refusing s p t fault some)) (omega arith);
     outcome = outcome-refused s p t r fault some came;
   }

@@ -5,3 +5,4 @@ mod Judging
 mod Back
 pub mod Stepped
 mod Absorbed
+pub mod Spelled

@@ -1,8 +1,9 @@
 -- Which process of the definitions a core is, and what a step of it gives.
-use Rattle.std.specs.Prelude.{◌≡◌, ℕ, ◌-◌, List, length}
+use Rattle.std.specs.Prelude.{◌≡◌, ℕ, ◌-◌, ◌≤◌, List, length}
 use Rattle.group_defs.specs.Views.{View}
 use Rattle.group_defs.specs.Process.{Setting, Process, all_kinds}
 use Rattle.group_defs.specs.Events as defs
+use Rattle.event_laws.specs.Slots.{most_signed}
 use Rattle.stmt_codec.specs.declared.events.Outcome.{Outcome}
 use Rattle.member_state.specs.States.{IsStateOf}
 use Rattle.member_state.specs.Events.{IsOutcome}
@@ -19,6 +20,10 @@ pub record Shares (s : Setting) (g : List ℕ) (r : List (ℕ × List ℕ)) (v :
 -- the signer
 abbrev pub signer_of : {G : Type 0} → Core G → G
 signer_of c = c.signer
+
+-- the process's number
+abbrev pub me_of : {G : Type 0} → Core G → ℕ
+me_of c = c.keyless.state.value.own.me
 
 -- This is process p in this setting, whoever signs for it: its state, its group and its roster are.
 pub record IsKeyless (s : Setting) (p : Process) (k : Keyless) : Type 0 where
@@ -45,10 +50,11 @@ left_of used total c = total c.signer - used c.signer
 abbrev pub turn_of : {G : Type 0} → (G → ℕ) → (G → ℕ) → (G → ℕ → List ℕ → List ℕ) → Core G → defs.Event → defs.Turn
 turn_of used total signature c e = record { event = e; allowance = left_of used total c; signer = signature c.signer }
 
--- the process has taken the turn, with which so many signatures are used, and the outcome is that of the turn
+-- the process has taken the turn, with which so many signatures are used, no more than a view has slots, and the outcome is that of the turn
 pub record Takes (s : Setting) (p : Process) (t : defs.Turn) (new : Keyless) (many : ℕ) (r : Outcome) : Type 0 where
   pub keyless : IsKeyless s (defs.after s p t) new
   pub used : length (defs.after s p t).signed ≡ many
+  pub few : length (defs.outcome s p t).signed ≤ most_signed
   pub outcome : IsOutcome (defs.outcome s p t) r
 
 -- the new core is the process after the turn, and the outcome is that of the turn

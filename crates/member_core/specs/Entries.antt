@@ -1,9 +1,12 @@
 -- What becomes of a process that absorbs an entry of its journal.
 use Rattle.std.specs.Prelude.{ℕ, ◌≤◌, Bool, List, length, IsTrue}
+use Rattle.message_defs.specs.Limits.{last_process}
 use Rattle.std.specs.List.{list_all}
 use Rattle.group_defs.specs.Process.{Setting, Process}
 use Rattle.group_defs.specs.Hearing.{is_valid}
 use Rattle.group_defs.specs.Events as defs
+use Rattle.stmt_codec.specs.declared.events.Event.{Event}
+use Rattle.stmt_codec.specs.declared.events.Event.TheVariants as events
 use Rattle.stmt_codec.specs.declared.events.Outcome.{Outcome}
 use Rattle.member_state.specs.Events.{IsOutcome}
 use Rattle.member_core.specs.declared.member.Core.{Core}
@@ -22,3 +25,10 @@ pub record Absorbs {G : Type 0} (used : G → ℕ) (s : Setting) (p : Process) (
   pub agrees : Agrees s p left e signatures spent
   pub core : IsCore used s (defs.after s p (defs.journalled p e signatures)) new
   pub outcome : IsOutcome (defs.outcome s p (defs.journalled p e signatures)) r
+
+-- the processes that the event names are numbered from 0 to 63
+abbrev pub NamesProcesses : Event → Type 0
+NamesProcesses (events.Frame from bytes) = from ≤ last_process
+NamesProcesses (events.Suspect q) = q ≤ last_process
+NamesProcesses (events.Join q) = q ≤ last_process
+NamesProcesses _ = Unit {0}

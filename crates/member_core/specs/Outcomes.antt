@@ -1,5 +1,5 @@
 -- What came of an event, in its two halves: up to what it signs and sends of that, and from settling on.
-use Rattle.std.specs.Prelude.{◌≡◌, ℕ, ◌-◌, nat_lt, Bool, true, false, List, [], ◌++◌, length, map, drop, Some}
+use Rattle.std.specs.Prelude.{◌≡◌, ℕ, ◌-◌, ◌≤◌, nat_lt, Bool, true, false, List, [], ◌++◌, length, map, drop, Some}
 use Rattle.std.specs.Option.{option_map_or}
 use Rattle.std.specs.List.{flat_map}
 use Rattle.message_defs.specs.Statements.{Claim}
@@ -8,6 +8,7 @@ use Rattle.group_defs.specs.Process.{Setting, Process, places_in}
 use Rattle.group_defs.specs.Settle.{decide, deliver, settle}
 use Rattle.group_defs.specs.Sending.{Bundle, bundle, others, unless_empty}
 use Rattle.group_defs.specs.Events as defs
+use Rattle.event_laws.specs.Slots.{most_signed}
 use Rattle.stmt_codec.specs.Views.{signed}
 use Rattle.stmt_codec.specs.declared.events.Outcome.{Outcome}
 use Rattle.stmt_codec.specs.declared.events.EventVerdict.TheVariants.{Taken}
@@ -31,11 +32,12 @@ liars_from place pairs = map (λ pair. defs.Liar pair.1.signer) (drop place pair
 
 -- ---- the halves
 
--- Process p has taken the event in and signed: this is its state then, so many signatures are used, and the outcome has what was heard
--- and signed, whether a signature was wanting, and the frames of the Bundle, but no notes.
+-- Process p has taken the event in and signed: this is its state then, so many signatures are used, no more than a view has slots, and the
+-- outcome has what was heard and signed, whether a signature was wanting, and the frames of the Bundle, but no notes.
 pub record HasBegun (s : Setting) (p : Process) (t : defs.Turn) (st : ProcessState) (many : ℕ) (r : Outcome) : Type 0 where
   pub state : IsStateOf s (defs.signing s p t).now st
   pub used : length (defs.signing s p t).now.signed ≡ many
+  pub few : length (drop (length p.signed) (defs.signing s p t).now.signed) ≤ most_signed
   pub verdict : r.verdict ≡ Taken
   pub heard : r.heard ≡ length (defs.take_in s p t.event).pool.heard - length p.pool.heard
   pub signed_now : map signed r.signed.items ≡ map signed_of (drop (length p.signed) (defs.signing s p t).now.signed)
@@ -60,10 +62,12 @@ pub record HasEnded (s : Setting) (p : Process) (e : defs.Event) (pairs : ℕ) (
       ++ defs.note_if was.spent defs.Spent
       ++ halts (settle s p)
 
--- Process p has taken its turn: this is its state then, so many signatures are used, and the outcome is that of the turn.
+-- Process p has taken its turn: this is its state then, so many signatures are used, no more than a view has slots, and the outcome is that
+-- of the turn.
 pub record HasTaken (s : Setting) (p : Process) (t : defs.Turn) (st : ProcessState) (many : ℕ) (r : Outcome) : Type 0 where
   pub state : IsStateOf s (defs.after s p t) st
   pub used : length (defs.after s p t).signed ≡ many
+  pub few : length (defs.outcome s p t).signed ≤ most_signed
   pub outcome : IsOutcome (defs.outcome s p t) r
 
 -- an update is asked for

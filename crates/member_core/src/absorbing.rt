@@ -11,7 +11,7 @@ ghost use Rattle.stmt_codec.specs.Kept.{signatures_left};
 ghost use Rattle.claim_hearing.specs.Hearing.{Shares};
 ghost use Rattle.group_defs.specs.Events as defs;
 ghost use Rattle.member_state.specs.Events.{event as event_of, IsOutcome};
-ghost use Rattle.member_core.specs.Cores.{IsCore, IsKeyless, Takes, left_of, signer_of};
+ghost use Rattle.member_core.specs.Cores.{IsCore, IsKeyless, Takes, left_of, me_of, signer_of};
 ghost use Rattle.member_core.specs.Entries.{Agrees, Absorbs};
 
 use crate::attempts::attempt;
@@ -160,8 +160,9 @@ impl<G: Tally + Drop> Core<G> {
         self.signer.total() - used
     }
 
-    /// The event of an entry of this process's journal, taken again with the entry's signatures in place of new ones: the process
-    /// after it and what comes of it are the definitions'. The signer counts as many signatures more as the entry has.
+    /// The event of an entry of this process, taken again with the entry's signatures in place of new ones: the process after it and
+    /// what comes of it are the definitions'. The signer counts as many signatures more as the entry has. A journal may host several
+    /// processes: whose entry it is, the caller looks.
     ///
     /// After a fault the process and its key are as they were.
     ///
@@ -175,6 +176,7 @@ impl<G: Tally + Drop> Core<G> {
         scheme: &V,
         entry: &Entry<'_>,
     ) -> Result<Outcome, AbsorbFault>
+        requires whose { entry.now.process ≡ me_of self.old }
         ensures absorbs { (s : Setting) (p : Process) → IsCore G.used s p self.old → s.valid ≡ V.valid scheme.now
             → IfOk result (Absorbs G.used s p (left_of G.used G.total self.old) self.new (event_of entry.now.event)
             (signatures_left entry.now.signatures) entry.now.spent) }

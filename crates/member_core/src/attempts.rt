@@ -65,6 +65,7 @@ fn run<G: Signer, V: Scheme>(
     ensures rises { G.Tally.used signer.old ≤ G.Tally.used signer.new }
     ensures total { G.Tally.total signer.new ≡ G.Tally.total signer.old }
     ensures secret { G.signature signer.new ≡ G.signature signer.old }
+    ensures key { G.public signer.new ≡ G.public signer.old }
 {
     match admit(state, event) {
         Ok(input) => take(state, alloc, judge, signer, places, frames, &input),
@@ -122,6 +123,7 @@ pub(crate) fn attempt<G: Signer, V: Scheme>(
     ensures rises { G.Tally.used signer.old ≤ G.Tally.used signer.new }
     ensures total { G.Tally.total signer.new ≡ G.Tally.total signer.old }
     ensures secret { G.signature signer.new ≡ G.signature signer.old }
+    ensures key { G.public signer.new ≡ G.public signer.old }
 {
     state.mark(is_asking(event), &mut rooms.before)?;
     let places = &mut rooms.places;

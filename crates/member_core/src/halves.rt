@@ -57,6 +57,7 @@ fn begin<G: Signer, V: Scheme>(
     ensures rises { G.Tally.used signer.old ≤ G.Tally.used signer.new }
     ensures total { G.Tally.total signer.new ≡ G.Tally.total signer.old }
     ensures secret { G.signature signer.new ≡ G.signature signer.old }
+    ensures key { G.public signer.new ≡ G.public signer.old }
 {
     let heard = take_in(state, judge, input)?;
     let mut signed = Vec::new(alloc);
@@ -135,6 +136,7 @@ pub(crate) fn take<G: Signer, V: Scheme>(
     ensures rises { G.Tally.used signer.old ≤ G.Tally.used signer.new }
     ensures total { G.Tally.total signer.new ≡ G.Tally.total signer.old }
     ensures secret { G.signature signer.new ≡ G.signature signer.old }
+    ensures key { G.public signer.new ≡ G.public signer.old }
 {
     let pairs = state.conflicts.len();
     let mut outcome = begin(state, alloc, judge, signer, places, frames, input)?;

@@ -1,5 +1,5 @@
 //! What an event tells behind what was delivered and installed.
-ghost use Rattle.std.specs.Prelude.{◌≡◌, ◌++◌, map, OnOk};
+ghost use Rattle.std.specs.Prelude.{◌≡◌, ◌++◌, false, map, OnOk, IsOk};
 ghost use Rattle.group_defs.specs.Process.{Setting, Process};
 ghost use Rattle.group_defs.specs.Events as defs;
 ghost use Rattle.member_state.specs.Events.{note};
@@ -25,7 +25,8 @@ fn tell_liars(conflicts: &Conflicts, from: usize, notes: &mut Vec<Note>) -> Resu
 
 // Tells that a signature was wanting, where one was.
 fn tell_spent(spent: bool, notes: &mut Vec<Note>) -> Result<(), NoMemory>
-    ensures { OnOk result (map note notes.new.items ≡ map note notes.old.items ++ defs.note_if spent defs.Spent) }
+    ensures told { OnOk result (map note notes.new.items ≡ map note notes.old.items ++ defs.note_if spent defs.Spent) }
+    ensures none { spent ≡ false → IsOk result }
 {
     if spent {
         notes.push(Note::Spent)?;

@@ -6,7 +6,7 @@ ghost use Rattle.group_defs.specs.Settle.{phase_of};
 ghost use Rattle.accounts.specs.Views.{account};
 ghost use Rattle.view_phases.specs.Phases.{word};
 ghost use Rattle.member_state.specs.States.{liars_of, halted_at};
-ghost use Rattle.member_core.specs.Cores.{IsCore, Shares, signer_of};
+ghost use Rattle.member_core.specs.Cores.{IsCore, Shares, me_of, signer_of};
 
 use crate::attempts::Rooms;
 use crate::member::{Core, Keyless};
@@ -49,6 +49,15 @@ impl<G: Tally + Drop> Core<G> {
             rooms,
         };
         Ok(Core { keyless, signer })
+    }
+
+    /// The process's number.
+    #[tactic(auto, unfolding(crate::specs::Cores::IsCore))]
+    pub fn me(&self) -> Pid
+        ensures value { result ≡ me_of self.now }
+        ensures process { (s : Setting) (p : Process) → IsCore G.used s p self.now → p.me ≡ result }
+    {
+        self.keyless.state.own.me
     }
 
     /// What the process tells of itself.

@@ -57,8 +57,9 @@ fn absorbed(
         return Err(AbsorbFault::NoMemory);
     };
     let event = what.event();
+    let process = core.me();
     let entry = Entry {
-        process: Pid::new(0).unwrap(),
+        process,
         event,
         spent,
         signatures,

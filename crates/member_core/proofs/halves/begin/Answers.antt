@@ -26,7 +26,8 @@ returns-clause-begins g c s p shares kinds used is =
     (c.in_ok-heard.ensures.taken s p shares is) in
     let began = began-here s p t st total many before none c.len.result xs c.in_ok-spent.spent signs
     (c.len.ensures ∙ c.sign_all.new.signed.ok.0) in
-    begun-so s p t st total many before none _ c.is_tick.result (map frame_to c.new-sends.result.items) signs refl
+    begun-so s p t st total many before none _ c.is_tick.result (map frame_to c.new-sends.result.items)
+    c.take_in.new.state (c.in_ok-heard.ensures.taken s p shares is) signs refl
     (c.in_ok-heard.ensures.heard s p shares is) c.is_tick.ensures (ap (map frame_to) c.new-sends.ensures.items)
     (c.in_ok-send_bundle.ensures.sent s p (signing s p t).now began signs.state) (ap (map note) c.new.ensures.items)
 

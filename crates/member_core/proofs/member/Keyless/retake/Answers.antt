@@ -36,6 +36,7 @@ returns-clause-absorbs g c s p left is rule made few =
           kinds = is.kinds;
         };
         used = grown-so s p e sigs c.args.made c.args.count made c.requires.count told.0;
+        few = taken.few;
         outcome = taken.outcome;
       },
     )

@@ -29,6 +29,7 @@ returns-clause-takes g c s p is rule made =
         kinds = is.kinds;
       };
       used = taken.used;
+      few = taken.few;
       outcome = taken.outcome;
     }
 
