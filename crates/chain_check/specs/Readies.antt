@@ -31,7 +31,8 @@ sayers h r v = length (backers h (Ready h.view.number r v))
 -- none is said by more members at the rank than this one; where there is none, nobody says one
 abbrev pub IsLeading : Pool → ℕ → Option Leading → Type 0
 IsLeading h r None = (w : updates.Value) → sayers h r w ≡ 0
-IsLeading h r (Some l) = (l.count ≡ sayers h r (value l.value)) × (0 < l.count) × (l.count ≤ 16) × ((w : updates.Value) → sayers h r w ≤ l.count)
+IsLeading h r (Some l) = (l.count ≡ sayers h r (value l.value)) × (0 < l.count) × (l.count ≤ 16)
+    × ((w : updates.Value) → sayers h r w ≤ l.count)
 
 -- the value that was found is said by so many; where none was found, by nobody
 abbrev pub IsBest : Pool → ℕ → Option Leading → ℕ → Type 0

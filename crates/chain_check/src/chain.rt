@@ -111,7 +111,8 @@ impl Chain {
     ) -> Result<View, ChainFault>
         ensures shown { IfOk result (λ w. (defs.advance (as_setting (V.valid scheme.now) group.now roster.now) self.old frame.now ≡ Ok w)
             × (self.new ≡ w)) }
-        ensures refused { IfErr result (λ e. (defs.advance (as_setting (V.valid scheme.now) group.now roster.now) self.old frame.now ≡ Err e)
+        ensures refused { IfErr result (λ e.
+            (defs.advance (as_setting (V.valid scheme.now) group.now roster.now) self.old frame.now ≡ Err e)
             × (self.new ≡ self.old)) }
     {
         match view_shown(&self.view, scheme, roster, group, frame) {

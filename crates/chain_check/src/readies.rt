@@ -76,7 +76,8 @@ impl Readies {
         claims: Claims<'_>,
     ) -> Readies
         requires { AllByRecursion IsClaim (claims_left claims) }
-        ensures { IsTable (counted (as_setting (V.valid scheme.now) group.now roster.now) view.now (claims_left claims.entry)) result.cells }
+        ensures { IsTable (counted (as_setting (V.valid scheme.now) group.now roster.now) view.now
+            (claims_left claims.entry)) result.cells }
     {
         let mut readies = Readies::new(view);
         let mut left = claims;
@@ -96,8 +97,10 @@ impl Readies {
         claim: &Claim<'_>,
     )
         requires { IsStatement (stmt claim.now.statement) }
-        ensures { (done : List plain.Claim) → IsTable (counted (as_setting (V.valid scheme.now) group.now roster.now) view.now done) self.old.cells
-            → IsTable (counted (as_setting (V.valid scheme.now) group.now roster.now) view.now (done ++ claim_of claim.now ∷ [])) self.new.cells }
+        ensures { (done : List plain.Claim)
+            → IsTable (counted (as_setting (V.valid scheme.now) group.now roster.now) view.now done) self.old.cells
+            → IsTable (counted (as_setting (V.valid scheme.now) group.now roster.now) view.now
+            (done ++ claim_of claim.now ∷ [])) self.new.cells }
     {
         let Some((rank, value)) = ready_of(view, &claim.statement) else {
             return;
