@@ -11,7 +11,7 @@ top=$(git rev-parse --show-toplevel)
 work=$(mktemp -d)
 trap 'rm -rf "$work"' EXIT
 git -C "$top" archive HEAD crates crates.txt HANDLES | tar -x -C "$work"
-echo 'misuse: rp_base stmt_codec view_table claim_index pool_values claim_pool view_phases rp_devices journal_rp member_core hosted_core' >> "$work/crates.txt"
+echo 'misuse: rp_base stmt_codec view_table claim_index pool_values claim_pool view_phases rp_devices journal_rp member_core hosted_core chain_check' >> "$work/crates.txt"
 mkdir -p "$work/crates/misuse/src"
 failed=0
 
@@ -291,6 +291,30 @@ fn turn(hosted: Hosted<PlainSigner>, alloc: Global, journal: Journal<Writing>, d
         Ok(Taken::Refused(hosted, _) | Taken::Lost(hosted)) => Some(hosted),
         Err(_) => None,
     }
+}
+
+fn main() {}'
+
+use 'a chain that begins with a view, and is handed a proof' 'use chain_check::Chain;
+use rp_base::{GroupId, Pid, PlainScheme, Roster};
+use view_table::View;
+
+fn main(rt: HostRuntime) {
+    let Some(genesis) = View::new(0, &[Pid::default()]) else {
+        return;
+    };
+    let Ok(roster) = Roster::new(rt.alloc()) else {
+        return;
+    };
+    let mut chain = Chain::new(genesis);
+    let _shown = chain.advance(&PlainScheme, &roster, &GroupId([0; 16]), b"");
+}'
+
+misuse 'a chain that is made of its field' 'use chain_check::Chain;
+use view_table::View;
+
+fn forged(view: View) -> Chain {
+    Chain { view }
 }
 
 fn main() {}'

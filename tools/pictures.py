@@ -210,7 +210,7 @@ AREAS = {
         "said_index replay_cast group_questions sound_question trace_defs told_defs told_laws happenings replay_world replay_questions"
         " report_lines replay_run",
     ),
-    "a member": (20, 413, 2, "accounts own_moves sent_claims reliable_mcast member_state member_taking member_signing member_settling member_sending member_core"),
+    "a member": (20, 405, 2, "accounts own_moves sent_claims reliable_mcast member_state member_taking member_signing member_settling member_sending member_core hosted_core"),
     "the rules": (20, 622, 2, "multicast_rules ending_rules rank_rules view_phases due_statements"),
     "what is heard": (
         20, 777, 2, "view_table claim_index claim_lists own_place slot_quorums placed_batches pool_values claim_pool pool_questions member_laws claim_hearing"
@@ -235,7 +235,7 @@ AREAS = {
     "signatures": (676, 622, 2, "sha256_lanes lms_chains lms_ots lms_tree lms_hss sig_scheme bench_parts"),
     "links and journals": (676, 777, 2, "link_defs auth_link journal_defs journal_disk journal_entries journal_rp"),
     "a store": (1040, 20, 2, "store_defs store_laws store_rows"),
-    "chains of views, and guards": (1040, 150, 2, "chain_defs chain_text_defs chain_laws chain_rows guard_defs guard_laws guard_rows"),
+    "chains of views, and guards": (1040, 150, 2, "chain_defs chain_text_defs chain_laws chain_rows chain_check guard_defs guard_laws guard_rows"),
     "convictions and audits": (1040, 340, 2, "conviction_defs conviction_laws audit_defs audit_laws evidence_laws findings_laws audit_rows"),
     "nodes": (1040, 530, 2, "image_defs image_laws node_defs node_laws node_rows"),
 }
@@ -243,9 +243,10 @@ AREAS = {
 # The lines from each area to those that it uses, without those that others imply.
 LINES = {
     ("the program", "a replay"): [(172, 85), (172, 121)],
-    ("a replay", "a member"): [(172, 321), (172, 413)],
+    ("a replay", "a member"): [(172, 321), (172, 405)],
     ("a replay", "schedules and stories"): [(250, 321), (250, 394), (430, 394), (430, 413)],
-    ("a member", "the rules"): [(172, 586), (172, 622)],
+    ("a member", "the rules"): [(172, 606), (172, 622)],
+    ("a member", "links and journals"): [(324, 598), (339, 598), (339, 722), (670, 722), (670, 840), (676, 840)],
     ("the rules", "what is heard"): [(172, 741), (172, 777)],
     ("what is heard", "laws and rows"): [(172, 977), (172, 1013)],
     ("what is heard", "frames and statements"): [(324, 823), (348, 823)],
@@ -255,7 +256,6 @@ LINES = {
     ("beside other implementations", "what is heard"): [(348, 300), (342, 300), (342, 800), (324, 800)],
     ("beside other implementations", "links and journals"): [(652, 369), (996, 369), (996, 830), (980, 830)],
     ("how fast", "a replay"): [(676, 40), (664, 40), (664, 8), (332, 8), (332, 150), (324, 150)],
-    ("how fast", "links and journals"): [(980, 66), (996, 66), (996, 830), (980, 830)],
     ("schedules and stories", "kits and words"): [(652, 486), (676, 486)],
     ("schedules and stories", "frames and statements"): [(500, 667), (500, 777)],
     ("schedules and stories", "laws and rows"): [(348, 510), (336, 510), (336, 1070), (324, 1070)],
@@ -265,6 +265,7 @@ LINES = {
     ("signatures", "the outside"): [(676, 690), (664, 690), (664, 1070), (652, 1070)],
     ("the outside", "definitions"): [(500, 1132), (500, 1195)],
     ("a store", "laws and rows"): [(1040, 60), (1012, 60), (1012, 985), (336, 985), (336, 1070), (324, 1070)],
+    ("chains of views, and guards", "what is heard"): [(1040, 200), (1004, 200), (1004, 940), (324, 940)],
     ("chains of views, and guards", "convictions and audits"): [(1192, 296), (1192, 340)],
     ("chains of views, and guards", "nodes"): [(1344, 223), (1354, 223), (1354, 590), (1344, 590)],
     ("convictions and audits", "laws and rows"): [(1040, 380), (1012, 380), (1012, 985), (336, 985), (336, 1070), (324, 1070)],

@@ -68,8 +68,7 @@ pair_behind before (c ∷ cs) =
 
 -- the conviction of the process, where the claims convict it
 abbrev pub conviction_of : Setting → List Claim → ℕ → Option Conviction
-conviction_of s claims q =
-    option_map (λ pair. record { process = q; first = pair.0; second = pair.1 }) (pair_behind [] (claims_by s claims q))
+conviction_of s claims q = option_map (λ pair. record { process = q; first = pair.0; second = pair.1 }) (pair_behind [] (claims_by s claims q))
 
 -- one conviction of each whom the claims convict, in the same order
 abbrev pub convictions : Setting → List Claim → List Conviction

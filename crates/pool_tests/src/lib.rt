@@ -1,6 +1,10 @@
-//! What a member hears and keeps.
+//! What a member hears and keeps, and what a proof of it shows to others.
 #![tactic(auto)]
 
+#[cfg(test)]
+mod chains;
+#[cfg(test)]
+mod group;
 #[cfg(test)]
 mod multicast;
 #[cfg(test)]
