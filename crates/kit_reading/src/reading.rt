@@ -15,7 +15,7 @@ use text_codec::Parts as Lines;
 
 // Where all lines of a kit stand, the kit; else one is missing where this line would stand.
 #[tactic(auto, unfolding(kit_defs::specs::KitReading::finish))]
-fn finish(number: usize, draft: Draft) -> Result<Parts, KitFault>
+pub(crate) fn finish(number: usize, draft: Draft) -> Result<Parts, KitFault>
     ensures { Makes fault_of (λ parts. parts) result (plain.finish number draft) }
 {
     if draft.is_unfinished() {

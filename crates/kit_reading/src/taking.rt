@@ -24,7 +24,7 @@ use std::alloc::Global;
 use text_codec::Parts as Words;
 
 /// The most bytes of a line.
-const MOST_LINE_BYTES: usize = 70_000;
+pub(crate) const MOST_LINE_BYTES: usize = 70_000;
 
 fn array_of<const N: usize>(bytes: &[u8]) -> [u8; N]
     requires { length bytes.now ≡ N }
