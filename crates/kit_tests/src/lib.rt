@@ -4,6 +4,10 @@
 #[cfg(test)]
 mod commands;
 #[cfg(test)]
+mod fronts;
+#[cfg(test)]
+mod inputs;
+#[cfg(test)]
 mod kits;
 #[cfg(test)]
 mod texts;

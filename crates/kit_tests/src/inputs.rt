@@ -1,0 +1,51 @@
+//! Lines of an input.
+use line_input::{InputFault, Lines, Next};
+use rp_base::MemSource;
+use std::test::Fail;
+
+#[test]
+fn a_line_has_at_most_so_many_bytes(rt: HostRuntime) -> Result<(), Fail> {
+    let bytes = b"one\n\nabcde\nabcdef\n".to_vec(rt.alloc())?;
+    let mut input = MemSource::new(bytes, Vec::new(rt.alloc()));
+    let mut lines = Lines::new(rt.alloc());
+    for line in [b"one".as_slice(), b"".as_slice(), b"abcde".as_slice()] {
+        assert_eq!(rt; lines.read(&mut input, 5)?, Next::Line);
+        assert_eq!(rt; lines.line(), line);
+    }
+    assert_eq!(rt; lines.read(&mut input, 5)?, Next::Broken, "six bytes");
+    assert_eq!(rt;
+        lines.read(&mut input, 6)?,
+        Next::Line,
+        "nothing of it was taken"
+    );
+    assert_eq!(rt; lines.read(&mut input, 6)?, Next::End);
+    Ok(())
+}
+
+#[test]
+fn the_end_ends_no_line(rt: HostRuntime) -> Result<(), Fail> {
+    let bytes = b"a\nb".to_vec(rt.alloc())?;
+    let mut input = MemSource::new(bytes, Vec::new(rt.alloc()));
+    let mut lines = Lines::new(rt.alloc());
+    assert_eq!(rt; lines.read(&mut input, 9)?, Next::Line);
+    assert_eq!(rt; lines.read(&mut input, 9)?, Next::Broken);
+    Ok(())
+}
+
+#[test]
+fn a_failed_read_loses_nothing(rt: HostRuntime) -> Result<(), Fail> {
+    let mut bytes = Vec::new(rt.alloc());
+    bytes.resize(40_000, b'a')?;
+    bytes.push(b'\n')?;
+    let mut failing = Vec::new(rt.alloc());
+    failing.push(1)?;
+    let mut input = MemSource::new(bytes, failing);
+    let mut lines = Lines::new(rt.alloc());
+    assert_eq!(rt;
+        lines.read(&mut input, 40_000).err(),
+        Some(InputFault::Read)
+    );
+    assert_eq!(rt; lines.read(&mut input, 40_000)?, Next::Line);
+    assert_eq!(rt; lines.line().len(), 40_000);
+    Ok(())
+}
