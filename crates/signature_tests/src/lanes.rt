@@ -1,6 +1,6 @@
 ghost use Rattle.std.specs.Prelude.{◌≤◌, length};
 
-use crate::tests::{ID, LEAF, SEED, head};
+use crate::ots::{ID, LEAF, SEED, head};
 use lms_ots::{OtsType, ots_candidate, ots_public, ots_sign_into, ots_signature_length};
 use sha2::{Digest, Sha256};
 use sha256_lanes::{from_lane, hash_short, splat, to_lanes};
