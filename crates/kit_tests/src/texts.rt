@@ -10,7 +10,9 @@ fn are_left(parts: &mut Parts, wanted: &[&[u8]]) -> bool {
             return false;
         }
     }
-    parts.is_done() && parts.next().is_none()
+    let is_done = parts.is_done();
+    let is_none_next = parts.next().is_none();
+    is_done && is_none_next
 }
 
 #[test]
