@@ -244,7 +244,7 @@ fn turn(alloc: Global, core: Core<PlainSigner>, outcome: Outcome) -> Result<Turn
     Turn::new(alloc, core, &Event::Tick, outcome)
 }
 
-fn main() {}' BOUND
+fn main() {}' unsatisfied-bound
 
 misuse 'a journal that is appended to after a fault' 'use hosted_core::Hosted;
 use journal_rp::{Journal, Turn, Unsynced, Writing};
