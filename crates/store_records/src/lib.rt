@@ -1,0 +1,10 @@
+//! What a replicated store is spoken to with: requests, replies and states, read from bytes and spelled, and the keys that sign them
+//! (docs/FORMATS.md, «The store»).
+#![tactic(auto)]
+
+mod command;
+mod fields;
+mod reply;
+
+pub use command::{Command, read_request};
+pub use reply::{Reply, read_reply};
