@@ -5,6 +5,8 @@
 mod command;
 mod fields;
 mod reply;
+mod spelling;
 
 pub use command::{Command, read_request};
 pub use reply::{Reply, read_reply};
+pub use spelling::{push_reply, push_reply_body};
