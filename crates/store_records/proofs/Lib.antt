@@ -1,1 +1,4 @@
 pub mod Readers
+pub mod Orders
+mod Cursors
+pub mod Lengths

@@ -1,6 +1,5 @@
 -- A reader with one fault that answers what reading on lists gives is exact over the grammar that reading has.
-use Rattle.std.proofs.Common.{◌≡◌, ℕ, ◌<◌, List, Option, Some, None, Ok, Err, sym, ap, ◌∙◌}
-use Rattle.std.specs.Prelude.{slice_index}
+use Rattle.std.proofs.Common.{◌≡◌, ℕ, List, Option, Some, None, Ok, Err, sym, ap, ◌∙◌}
 use Rattle.std.specs.Option.{IfSome, IsSomeAnd}
 use Rattle.store_defs.specs.Stores.{Reading}
 use Rattle.store_defs.specs.Laws.{AreBytes}

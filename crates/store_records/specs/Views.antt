@@ -4,6 +4,8 @@ use Rattle.store_defs.specs.Records as records
 use Rattle.store_records.specs.declared.command.Command.{Command}
 use Rattle.store_records.specs.declared.command.Command.TheVariants.{Set, Get, Remove, Exchange}
 use Rattle.store_records.specs.declared.reply.Reply.{Reply}
+use Rattle.store_records.specs.declared.pairs.Pair.{Pair}
+use Rattle.store_records.specs.declared.state.StateRecord.{StateRecord}
 
 abbrev pub command : Command → stores.Command
 command (Set key value) = stores.Set key.now value.now
@@ -21,3 +23,9 @@ reply r = record {
   answer = r.answer.now;
   signature = r.signature.now;
 }
+
+abbrev pub pair : Pair → stores.Pair
+pair e = (e.key.now, e.value.now)
+
+abbrev pub state_record : StateRecord → records.StateRecord
+state_record r = record { signer = r.signer; view = r.view; state = r.state.now; signature = r.signature.now }

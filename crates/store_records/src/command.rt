@@ -14,20 +14,27 @@ ghost use Rattle.store_defs.specs.Stores as plain;
 ghost use Rattle.store_records.specs.Views.{command};
 ghost use Rattle.store_records.specs.Finds.{Finds};
 
-use crate::fields::{key_at, text_within};
+use crate::fields::{VALUE_BYTES, key_at, text_within};
 use byte_fields::{bytes_at, u8_at};
 
 /// What a request asks of the store.
 #[derive(Clone, Copy)]
 pub enum Command<'a> {
     /// The key is set to the value.
-    Set { key: &'a [u8], value: &'a [u8] },
+    Set {
+        key: &'a [u8],
+        value: &'a [u8],
+    },
 
     /// The value of the key.
-    Get { key: &'a [u8] },
+    Get {
+        key: &'a [u8],
+    },
 
     /// The key is removed.
-    Remove { key: &'a [u8] },
+    Remove {
+        key: &'a [u8],
+    },
 
     /// The key is set to the value, where its value is the expected one.
     Exchange {
@@ -38,8 +45,6 @@ pub enum Command<'a> {
 }
 
 const TAG_BYTES: usize = 8;
-
-const VALUE_BYTES: u16 = 512;
 
 #[tactic(auto, unfolding(store_defs::specs::Stores::set_at))]
 fn set_at<'a>(key: &'a [u8], bytes: &'a [u8]) -> Result<(Command<'a>, &'a [u8]), ()>

@@ -9,6 +9,12 @@ use byte_fields::{bytes_at, u8_at, u16_at};
 /// The greatest number of a view or a place.
 pub(crate) const LAST_NUMBER: u16 = 1023;
 
+pub(crate) const VALUE_BYTES: u16 = 512;
+
+pub(crate) const LAST_PROCESS: u8 = 63;
+
+pub(crate) const SIGNATURE_BYTES: u16 = 16384;
+
 // 1 to 64 bytes after their length, and the bytes after them.
 #[tactic(auto, unfolding(store_defs::specs::Stores::key_at))]
 pub(crate) fn key_at(bytes: &[u8]) -> Result<(&[u8], &[u8]), ()>

@@ -16,7 +16,7 @@ ghost use Rattle.store_defs.specs.Records.{IsReply, reply_bytes, reply_of};
 ghost use Rattle.store_records.specs.Views.{reply};
 ghost use Rattle.store_records.specs.Finds.{Finds};
 
-use crate::fields::{short_at, small_at, text_within};
+use crate::fields::{LAST_PROCESS, SIGNATURE_BYTES, short_at, small_at, text_within};
 use rp_base::Pid;
 
 /// A reply, whose bytes are borrowed.
@@ -31,15 +31,11 @@ pub struct Reply<'a> {
     pub signature: &'a [u8],
 }
 
-const LAST_PROCESS: u8 = 63;
-
 const LAST_POSITION: u8 = 15;
 
 const PAYLOAD_BYTES: u16 = 1024;
 
 const ANSWER_BYTES: u16 = 513;
-
-const SIGNATURE_BYTES: u16 = 16384;
 
 #[tactic(auto, unfolding(store_defs::specs::Records::reply_of))]
 fn reply_in(bytes: &[u8]) -> Option<Reply<'_>>
