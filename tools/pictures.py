@@ -268,6 +268,8 @@ LINES = {
     ("chains of views, and guards", "what is heard"): [(1040, 200), (1008, 200), (1008, 940), (324, 940)],
     ("a store", "signatures"): [(1040, 100), (1004, 100), (1004, 690), (980, 690)],
     ("a store", "frames and statements"): [(1040, 120), (1032, 120), (1032, 906), (658, 906), (658, 850), (652, 850)],
+    ("a store", "signatures"): [(1040, 100), (1004, 100), (1004, 690), (980, 690)],
+    ("a store", "frames and statements"): [(1040, 120), (1032, 120), (1032, 906), (658, 906), (658, 850), (652, 850)],
     ("chains of views, and guards", "convictions and audits"): [(1192, 296), (1192, 340)],
     ("chains of views, and guards", "nodes"): [(1344, 223), (1354, 223), (1354, 590), (1344, 590)],
     ("convictions and audits", "laws and rows"): [(1040, 380), (1012, 380), (1012, 985), (336, 985), (336, 1070), (324, 1070)],
