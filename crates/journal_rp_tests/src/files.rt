@@ -6,6 +6,7 @@ use rp_devices::MemDisk;
 use std::alloc::Global;
 use std::fs;
 use std::process::Abort;
+use std::rt::Files;
 use std::test::Fail;
 use stmt_codec::Event;
 
@@ -111,9 +112,9 @@ fn three_turns<D: Disk>(rt: &impl Abort, alloc: Global, disk: &mut D) -> (u64, [
 }
 
 // Whether the entry of this turn is the next one, and the last.
-fn ends_with<D: Disk>(
+fn ends_with<R: Files>(
     alloc: Global,
-    disk: &mut D,
+    disk: &mut FileDisk<'_, R>,
     journal: &mut Journal<Reading>,
     turn: u8,
 ) -> bool {

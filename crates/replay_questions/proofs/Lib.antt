@@ -1,5 +1,5 @@
 pub mod Wants
-pub mod Told
+pub mod ToldWords
 pub mod Tested
 pub mod OwnWords
 pub mod Whole
