@@ -15,18 +15,6 @@ pub events-preserved : goal.events-preserved
 events-preserved c = λ fed midway.
     (rw c.in-Some.is at c.in_ok-event.ensures.gives c.events.run fed (c.events.invariant fed midway)).1 c.in_ok-run.run' c.in_ok-run.ensures
 
-pub events-preserved-in_ok-run : goal.events-preserved-in_ok-run
-events-preserved-in_ok-run c = λ fed midway.
-    (rw c.in-Some.is at c.in_ok-event.ensures.gives c.events.run fed (c.events.invariant fed midway)).1 c.in_ok-run.run' c.in_ok-run.ensures
-
-pub events-preserved-in_ok-run-2 : goal.events-preserved-in_ok-run-2
-events-preserved-in_ok-run-2 c = λ fed midway.
-    (rw c.in-Some.is at c.in_ok-event.ensures.gives c.events.run fed (c.events.invariant fed midway)).1 c.in_ok-run.run' c.in_ok-run.ensures
-
-pub events-preserved-in_ok-run-3 : goal.events-preserved-in_ok-run-3
-events-preserved-in_ok-run-3 c = λ fed midway.
-    (rw c.in-Some.is at c.in_ok-event.ensures.gives c.events.run fed (c.events.invariant fed midway)).1 c.in_ok-run.run' c.in_ok-run.ensures
-
 pub returns-clause-after : goal.returns-clause-after
 returns-clause-after c = λ fed midway. rw c.in_default.is at c.in_ok-event.ensures.gives c.events.run fed (c.events.invariant fed midway)
 
