@@ -1,6 +1,6 @@
 // The functions on words (FIPS 180-4, section 4.1.2), on each lane of a vector.
 ghost use Rattle.std.specs.Prelude.{◌≡◌, ℕ, ◌<◌, ◌*◌, ◌/◌, ◌%◌, ◌^◌, if◌then◌else◌, nat_lt, slice_index, bit_and, bit_xor};
-ghost use Rattle.std.specs.Int.{w32, bit_not, rotate_right};
+ghost use Rattle.std.specs.Int.{w32, rotate_right};
 ghost use Rattle.sha2.specs.Sha256.{add32, big_sigma0, big_sigma1, ch, maj, small_sigma0, small_sigma1};
 
 use std::simd::u32x4;
@@ -33,13 +33,6 @@ fn and(x: u32x4, y: u32x4) -> u32x4
     ensures { (j : ℕ) → j < 4 → slice_index result j ≡ bit_and (slice_index x j) (slice_index y j) }
 {
     x & y
-}
-
-#[inline(always)]
-fn not(x: u32x4) -> u32x4
-    ensures { (j : ℕ) → j < 4 → slice_index result j ≡ bit_not w32 (slice_index x j) }
-{
-    !x
 }
 
 /// A shift to the left in each lane.
@@ -77,56 +70,54 @@ pub fn choose(a: u32x4, b: u32x4, x: u32x4, y: u32x4) -> u32x4
     a.simd_lt(b).select(x, y)
 }
 
+// One operation fewer than the standard's form.
 #[inline(always)]
 pub(crate) fn ch(x: u32x4, y: u32x4, z: u32x4) -> u32x4
     ensures { (j : ℕ) → j < 4 → slice_index result j ≡ ch (slice_index x j) (slice_index y j) (slice_index z j) }
 {
-    xor(and(x, y), and(not(x), z))
+    xor(z, and(x, xor(y, z)))
 }
 
+// One round's `x ^ y` is the next round's `y ^ z`, so it is computed once.
 #[inline(always)]
 pub(crate) fn maj(x: u32x4, y: u32x4, z: u32x4) -> u32x4
     ensures { (j : ℕ) → j < 4 → slice_index result j ≡ maj (slice_index x j) (slice_index y j) (slice_index z j) }
 {
-    xor(xor(and(x, y), and(x, z)), and(y, z))
+    xor(y, and(xor(x, y), xor(y, z)))
 }
 
+// A rotation goes through xor, so the four functions below rotate `two` or `three` words that are joined already, which takes
+// fewer copies of `x` than to rotate each alone.
 #[inline(always)]
 pub(crate) fn big_sigma0(x: u32x4) -> u32x4
     ensures { (j : ℕ) → j < 4 → slice_index result j ≡ big_sigma0 (slice_index x j) }
 {
-    xor(
-        xor(rotate_right(x, 2), rotate_right(x, 13)),
-        rotate_right(x, 22),
-    )
+    let two = xor(x, rotate_right(x, 9));
+    let three = xor(x, rotate_right(two, 11));
+    rotate_right(three, 2)
 }
 
 #[inline(always)]
 pub(crate) fn big_sigma1(x: u32x4) -> u32x4
     ensures { (j : ℕ) → j < 4 → slice_index result j ≡ big_sigma1 (slice_index x j) }
 {
-    xor(
-        xor(rotate_right(x, 6), rotate_right(x, 11)),
-        rotate_right(x, 25),
-    )
+    let two = xor(x, rotate_right(x, 14));
+    let three = xor(x, rotate_right(two, 5));
+    rotate_right(three, 6)
 }
 
 #[inline(always)]
 pub(crate) fn small_sigma0(x: u32x4) -> u32x4
     ensures { (j : ℕ) → j < 4 → slice_index result j ≡ small_sigma0 (slice_index x j) }
 {
-    xor(
-        xor(rotate_right(x, 7), rotate_right(x, 18)),
-        shift_right(x, 3),
-    )
+    let two = xor(x, rotate_right(x, 11));
+    xor(rotate_right(two, 7), shift_right(x, 3))
 }
 
 #[inline(always)]
 pub(crate) fn small_sigma1(x: u32x4) -> u32x4
     ensures { (j : ℕ) → j < 4 → slice_index result j ≡ small_sigma1 (slice_index x j) }
 {
-    xor(
-        xor(rotate_right(x, 17), rotate_right(x, 19)),
-        shift_right(x, 10),
-    )
+    let two = xor(x, rotate_right(x, 2));
+    xor(rotate_right(two, 17), shift_right(x, 10))
 }
