@@ -3,10 +3,9 @@
 ghost use Rattle.std.specs.Prelude.{◌≡◌, ◌≢◌, ◌≤◌, ◌+◌, IsSome, length};
 ghost use Rattle.auth_link.specs.Keys.{pair_key};
 
-use crate::seconds;
 use anyhow::{Result, anyhow};
 use auth_link::{FRAME_BYTES, LinkKeys, SEAL_BYTES, seal_into, unseal};
-use bench_parts::process;
+use bench_parts::{process, seconds};
 use rp_base::{GroupId, Pid};
 use sha2::{Digest, Sha256};
 use std::num::nearest_usize_to_f64;

@@ -2,19 +2,16 @@
 //! With no word each of them is called in small, and no time is printed.
 #![tactic(auto)]
 
-mod cores;
 mod frames;
 mod journal;
 mod link;
 mod lms;
-mod pool;
-mod replay;
 mod schedules;
 
 use anyhow::{Error, Result};
+use group_measures::{cores, replay};
+use std::env;
 use std::process::ExitCode;
-use std::time::CpuClock;
-use std::{env, io};
 
 /// The status where the word names nothing that is measured.
 const OTHER_WORD: u8 = 2;
@@ -60,7 +57,7 @@ impl Measure {
             Measure::Schedules => schedules::read(rt, words),
             Measure::Link => link::times(rt),
             Measure::Journal => journal::times(rt),
-            Measure::Pool => pool::times_of(rt, words),
+            Measure::Pool => pool_measures::times_of(rt, words),
             Measure::Core => cores::times_of(rt, words),
             Measure::Replay => replay::count_in(rt, words),
         }
@@ -74,14 +71,9 @@ fn once(rt: &HostRuntime) -> Result<()> {
     schedules::once(rt)?;
     link::once(rt)?;
     journal::once(rt)?;
-    pool::once(rt)?;
+    pool_measures::once(rt)?;
     cores::once(rt)?;
     replay::once(rt)
-}
-
-/// The seconds of the processor that this thread has had.
-pub(crate) fn seconds(rt: &impl CpuClock) -> io::Result<f64> {
-    Ok(rt.thread_cpu_time()?.as_secs_f64())
 }
 
 // The words behind the program's name.

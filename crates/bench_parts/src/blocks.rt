@@ -21,6 +21,11 @@ pub struct TimedBlocks {
     pub seconds: f64,
 }
 
+/// The seconds of the processor that this thread has had.
+pub fn seconds(rt: &impl CpuClock) -> io::Result<f64> {
+    Ok(rt.thread_cpu_time()?.as_secs_f64())
+}
+
 // Hashes one block, and puts the digest into it.
 fn hash_block(block: &mut [u8; 55])
     ensures { block.new ≡ hashed_once block.old }
@@ -43,8 +48,11 @@ fn hash_blocks(count: u32) -> [u8; 55]
 pub fn time_blocks(rt: &impl CpuClock, count: u32) -> io::Result<TimedBlocks>
     ensures { IfOk result (λ timed. timed.bytes ≡ hashed count) }
 {
-    let begun = rt.thread_cpu_time()?.as_secs_f64();
+    let begun = seconds(rt)?;
     let bytes = hash_blocks(count);
-    let seconds = rt.thread_cpu_time()?.as_secs_f64() - begun;
-    Ok(TimedBlocks { bytes, seconds })
+    let ended = seconds(rt)?;
+    Ok(TimedBlocks {
+        bytes,
+        seconds: ended - begun,
+    })
 }

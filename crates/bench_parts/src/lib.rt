@@ -5,6 +5,6 @@ mod blocks;
 mod counted;
 mod processes;
 
-pub use blocks::{TimedBlocks, blocks_of, time_blocks};
+pub use blocks::{TimedBlocks, blocks_of, seconds, time_blocks};
 pub use counted::{Counted, Work};
 pub use processes::{key_of, plain_roster, process};

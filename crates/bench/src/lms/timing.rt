@@ -1,9 +1,8 @@
 //! Each call is timed in several runs, all calls one after another in each of them, and of each call the quickest time counts: so the
 //! blocks that are hashed alone and the calls are measured at like moments of the machine, and what disturbs one run is left out.
 use crate::lms::{MESSAGE, make, make_levels, sign};
-use crate::seconds;
 use anyhow::{Result, anyhow};
-use bench_parts::time_blocks;
+use bench_parts::{seconds, time_blocks};
 use lms_tree::{OtsType, lms_verify};
 use rp_base::Signer;
 use sha256_lanes::{from_lane, hash_short, splat};

@@ -2,8 +2,8 @@
 ghost use Rattle.std.specs.Prelude.{◌≡◌, ◌≤◌, ◌+◌, ◌*◌, length};
 ghost use Rattle.group_defs.specs.Certified.{number_of_members};
 
-use crate::pool::claims::{piece, sender, signer, statement};
-use crate::pool::summing::Summing;
+use crate::claims::{piece, sender, signer, statement};
+use crate::summing::Summing;
 use bench_parts::process;
 use claim_pool::{Message, Own, Place, Pool, Verdict, is_signed};
 use rp_base::{GroupId, Roster};

@@ -1,6 +1,6 @@
 use Rattle.std.proofs.Common.{◌≡◌, length, All}
 use Rattle.message_defs.specs.Spelling.{IsMessage}
-use Rattle.bench.proofs.pool.claims.batch.Given as goal
+use Rattle.pool_measures.proofs.claims.batch.Given as goal
 
 abbrev pub invariant-members : goal.invariant-members
 invariant-members l = record {

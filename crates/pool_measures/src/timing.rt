@@ -1,13 +1,12 @@
 //! A pool that hears so many claims, and the times of what it is asked.
 ghost use Rattle.std.specs.Prelude.{◌≤◌};
 
-use crate::pool::claims::{CLAIM_BYTES, CLAIMS, MEMBERS, PLACES, TEXT};
-use crate::pool::hearing::{Judge, certify, check_all, hear, walk_placed};
-use crate::pool::summing::Summing;
-use crate::seconds;
+use crate::claims::{CLAIM_BYTES, CLAIMS, MEMBERS, PLACES, TEXT};
+use crate::hearing::{Judge, certify, check_all, hear, walk_placed};
+use crate::summing::Summing;
 use anyhow::{Result, anyhow};
 use arrayvec::ArrayVec;
-use bench_parts::{plain_roster, process};
+use bench_parts::{plain_roster, process, seconds};
 use claim_pool::{Own, Pool};
 use own_place::SignedSlots;
 use rp_base::{Pid, PidSet};

@@ -5,9 +5,8 @@
 mod group;
 
 use crate::cores::group::Group;
-use crate::seconds;
 use anyhow::{Result, anyhow};
-use bench_parts::time_blocks;
+use bench_parts::{seconds, time_blocks};
 use std::num::nearest_u64_to_f64;
 use std::time::CpuClock;
 
@@ -53,7 +52,7 @@ fn deliver_hundred(rt: &impl CpuClock, group: &mut Group, members: u32) -> Resul
 }
 
 /// Four members deliver three places.
-pub(crate) fn once(rt: &(impl Print + AllocGlobal)) -> Result<()> {
+pub fn once(rt: &(impl Print + AllocGlobal)) -> Result<()> {
     let mut group = Group::new(rt.alloc(), 4)?;
     deliver(&mut group, 4, 3)?;
     let delivered = group.delivered();
@@ -115,7 +114,7 @@ fn number(word: Option<&String>) -> Result<u32> {
 }
 
 /// Prints the times of a group as the words say.
-pub(crate) fn times_of(rt: &(impl Print + AllocGlobal + CpuClock), words: &[String]) -> Result<()> {
+pub fn times_of(rt: &(impl Print + AllocGlobal + CpuClock), words: &[String]) -> Result<()> {
     let members = number(words.first())?;
     let hundreds = number(words.get(1))?;
     times(rt, members, hundreds)

@@ -1,6 +1,8 @@
 //! The time of a pool that hears so many claims, as the word says, in nanoseconds: of making a claim and `take`, of making it and
 //! checking its signature alone, which hashes nothing, of `certificate`, and of the placed length with one of the placed batches; and the
 //! bytes of a claim's statement and signature. In small 1,000 claims are heard.
+#![tactic(auto)]
+
 mod claims;
 mod hearing;
 mod summing;
@@ -14,7 +16,7 @@ use timing::{Hearer, times};
 const FEW: u32 = 1_000;
 
 /// Hears a few claims, and asks for certificates and places.
-pub(crate) fn once(rt: &(impl Print + CpuClock + AllocGlobal)) -> Result<()> {
+pub fn once(rt: &(impl Print + CpuClock + AllocGlobal)) -> Result<()> {
     let mut hearer = Hearer::new(rt.alloc())?;
     let heard = hearer.hear_all(rt, FEW)?;
     let claims = heard.claims;
@@ -25,7 +27,7 @@ pub(crate) fn once(rt: &(impl Print + CpuClock + AllocGlobal)) -> Result<()> {
 }
 
 /// Prints the times of a pool that hears so many claims, as the word says.
-pub(crate) fn times_of(rt: &(impl Print + CpuClock + AllocGlobal), words: &[String]) -> Result<()> {
+pub fn times_of(rt: &(impl Print + CpuClock + AllocGlobal), words: &[String]) -> Result<()> {
     match words.first().and_then(|word| word.parse().ok()) {
         Some(claims) => times(rt, claims),
         None => Err(anyhow!("the word is a number of claims, 101 to 103,424")),

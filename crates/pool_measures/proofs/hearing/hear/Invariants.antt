@@ -1,6 +1,6 @@
 use Rattle.std.proofs.Common.{◌≡◌, ◌+◌, ◌*◌, ◌≤◌, length}
 use Rattle.group_defs.specs.Certified.{number_of_members}
-use Rattle.bench.proofs.pool.hearing.hear.Given as goal
+use Rattle.pool_measures.proofs.hearing.hear.Given as goal
 
 abbrev pub invariant-claims : goal.invariant-claims
 invariant-claims l = record {

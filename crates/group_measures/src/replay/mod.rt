@@ -66,12 +66,12 @@ fn count(rt: &(impl Print + AllocGlobal), bytes: &[u8]) -> Result<()> {
 }
 
 /// Counts in the run of eight Submits.
-pub(crate) fn once(rt: &(impl Print + AllocGlobal)) -> Result<()> {
+pub fn once(rt: &(impl Print + AllocGlobal)) -> Result<()> {
     count(rt, &eight_submits(rt.alloc())?)
 }
 
 /// Counts in the run of the schedule in the file that the first word names, and prints the time of a block where there is a second.
-pub(crate) fn count_in(
+pub fn count_in(
     rt: &(impl Print + Files + CpuClock + AllocGlobal),
     words: &[String],
 ) -> Result<()> {
