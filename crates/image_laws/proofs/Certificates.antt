@@ -1,14 +1,14 @@
 -- A certificate tells what it certifies: it has a claim, and that says the content.
-use Rattle.std.proofs.Common.{◌≡◌, ◌⊎◌, ℕ, zero, suc, ◌+◌, ◌-◌, ◌≤◌, ◌<◌, List, [], ◌∷◌, length, map, take, Bool, true, false, refl, sym, ap, ◌∙◌, subst, arith, Option, Some, None, inl, inr}
-use Rattle.std.specs.Prelude.{filter, filter_map, nat_le, if◌then◌else◌, option_map}
+use Rattle.std.proofs.Common.{◌≡◌, ℕ, zero, suc, ◌≤◌, List, [], ◌∷◌, length, take, Bool, true, false, refl, sym, ap, subst, arith, Option, Some, None, inl, inr}
+use Rattle.std.specs.Prelude.{filter, filter_map, if◌then◌else◌, option_map}
 use Rattle.std.specs.List.{cons_option}
 use Rattle.std.proofs.lemmas.Bool.{leb-true}
 use Rattle.byte_defs.specs.Choices.{is_some_and}
 use Rattle.byte_defs.specs.Orders.{sorted}
 use Rattle.message_defs.specs.Statements.{Statement, Claim, slot_of, same_statement}
-use Rattle.group_defs.specs.Views.{quorum, faulty}
+use Rattle.group_defs.specs.Views.{quorum}
 use Rattle.group_defs.specs.Process.{Pool}
-use Rattle.group_defs.specs.Certified.{claim_on, heard_on, number_of_members, says, backers, is_certified, certificate}
+use Rattle.group_defs.specs.Certified.{claim_on, number_of_members, says, backers, is_certified, certificate}
 use Rattle.pool_laws.proofs.Members.{Mem}
 use Rattle.pool_laws.proofs.Sorting.{mem-sorted, length-sorted}
 use Rattle.pool_laws.proofs.Slots.{same_statement-is}
@@ -31,10 +31,10 @@ mem-passes {A} test (x ∷ xs) y m = go (test x) refl m (mem-passes test xs y)
     go false e there rest = rest there
 
 module _ (h : Pool) (st : Statement) where
-  abbrev claim-of : ℕ → Option Claim
+  abbrev pub claim-of : ℕ → Option Claim
   claim-of m = claim_on h.heard m (slot_of st)
 
-  said : (m : ℕ) → says h st m ≡ true → (c : Claim) × (claim-of m ≡ Some c) × (c.statement ≡ st)
+  pub said : (m : ℕ) → says h st m ≡ true → (c : Claim) × (claim-of m ≡ Some c) × (c.statement ≡ st)
   said m ok = go (claim-of m) refl ok
     where
       go : (o : Option Claim) → claim-of m ≡ o → is_some_and (option_map (λ (c : Claim). c.statement) o) (same_statement st) ≡ true

@@ -1,2 +1,14 @@
 pub mod Certificates
 pub mod Restoring
+pub mod Taken
+pub mod Perceiving
+pub mod Accepting
+pub mod Deciding
+pub mod Signing
+pub mod Within
+pub mod Hearing
+pub mod Rising
+pub mod Committing
+pub mod Leaving
+pub mod Placing
+pub mod Making

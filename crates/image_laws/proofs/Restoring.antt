@@ -1,8 +1,7 @@
 -- The image of a process gives it back: its views follow from the values that its commit certificates tell.
-use Rattle.std.proofs.Common.{◌≡◌, ◌⊎◌, ℕ, zero, suc, List, [], ◌∷◌, ◌++◌, length, map, Bool, true, refl, sym, ap, ◌∙◌, subst, Option, Some, None, inl, inr}
+use Rattle.std.proofs.Common.{◌≡◌, ℕ, List, [], ◌∷◌, ◌++◌, length, map, true, refl, sym, ap, ◌∙◌, subst, Option, Some, None, inl, inr}
 use Rattle.std.specs.Prelude.{slice_index_or, is_none}
 use Rattle.std.specs.Option.{option_map_or}
-use Rattle.std.proofs.lemmas.List.{map-append, append_assoc, length-map}
 use Rattle.message_defs.specs.Updates.{Value}
 use Rattle.message_defs.specs.Statements.{Ready, Claim}
 use Rattle.group_defs.specs.Views.{View, IsView, has_keys, is_possible, next_fault, next_view}
@@ -16,8 +15,8 @@ use Rattle.pool_laws.proofs.Growing.{is_certified-stays}
 use Rattle.pool_laws.proofs.Tests.{and-first, none-is, none-some, option_or-is}
 use Rattle.safety_laws.proofs.Induction.{Keeps, run-keeps}
 use Rattle.safety_laws.proofs.Installed.{decided_by-is}
-use Rattle.image_defs.specs.Images.{LeftView, Image, left_by, told_by, image_of, first_list, other_lists, lefts_from, view_behind, previous_from, process_of, ProcessIsRestored}
-use Rattle.image_laws.proofs.Certificates.{First, certificate-first}
+use Rattle.image_defs.specs.Images.{LeftView, left_by, told_by, image_of, lefts_from, view_behind, previous_from, process_of, ProcessIsRestored}
+use Rattle.image_laws.proofs.Certificates.{certificate-first}
 
 -- the views of these, by what their commit certificates tell
 abbrev tellings : List Left → List LeftView
