@@ -26,6 +26,16 @@ pub proof-to : (cs : List Claim) (q : ℕ) → each_to (q ∷ []) (frames_of (Pr
 proof-to [] q = refl
 proof-to (c ∷ cs) q = to-some (Proof (c ∷ cs)) q []
 
+-- where no Proof goes out, there are no claims
+pub proof-none : (cs : List Claim) (q : ℕ) → unless_empty cs Proof (q ∷ []) ≡ [] → cs ≡ []
+proof-none [] q e = refl
+proof-none (c ∷ cs) q e = absurd cc
+
+-- what goes out to nobody
+pub sends-none : (to : List ℕ) (parcel : Parcel) → sends_to to parcel ≡ [] → to ≡ []
+sends-none [] parcel e = refl
+sends-none (q ∷ qs) parcel e = absurd cc
+
 -- to nobody there are none
 pub bundle-none : (cs : List Claim) (to : List ℕ) → to ≡ [] → flat_map frames_to (unless_empty cs Bundle to) ≡ []
 bundle-none [] to e = refl

@@ -1,4 +1,4 @@
-ghost use Rattle.std.specs.Prelude.{◌≡◌, ◌≤◌, ◌++◌, map, OnOk};
+ghost use Rattle.std.specs.Prelude.{◌≡◌, ◌≤◌, ◌++◌, [], map, IsOk, OnOk};
 ghost use Rattle.std.specs.List.{flat_map};
 ghost use Rattle.message_defs.specs.Claims.{Wants};
 ghost use Rattle.group_defs.specs.Process.{Setting, Process};
@@ -30,6 +30,7 @@ fn answer(
     ensures sent { (s : Setting) (q : Process) → IsStateOf s q state.now
         → OnOk result (map frame_to sends.new.items ≡ map frame_to sends.old.items
         ++ flat_map frames_to (answers s q (Hand from (Wants view place)))) }
+    ensures none { (s : Setting) (q : Process) → IsStateOf s q state.now → answers s q (Hand from (Wants view place)) ≡ [] → IsOk result }
     ensures empty { OnOk result (IsEmpty frames.new) }
 {
     if !state.own.keyed.contains(from) {
@@ -46,6 +47,7 @@ fn ask(state: &ProcessState, frames: &mut Frames, sends: &mut Vec<Sending>) -> R
     requires { IsEmpty frames.old }
     ensures sent { (s : Setting) (q : Process) → IsStateOf s q state.now
         → OnOk result (map frame_to sends.new.items ≡ map frame_to sends.old.items ++ flat_map frames_to (answers s q Tick)) }
+    ensures none { (s : Setting) (q : Process) → IsStateOf s q state.now → answers s q Tick ≡ [] → IsOk result }
     ensures empty { OnOk result (IsEmpty frames.new) }
 {
     let view = state.pool.view();
@@ -58,7 +60,8 @@ fn ask(state: &ProcessState, frames: &mut Frames, sends: &mut Vec<Sending>) -> R
 }
 
 /// Sends what answers the input, of a process that has settled: to a Want of a process that has a key Proofs, on a Tick to the
-/// other members a Want for the places that come next.
+/// other members a Want for the places that come next. Where nothing is to be sent, it takes no memory: a process that has no key, or asks
+/// for a view that was neither left nor begun, is answered nothing.
 pub fn send_answers(
     state: &ProcessState,
     input: &Input<'_>,
@@ -70,6 +73,7 @@ pub fn send_answers(
     requires empty { IsEmpty frames.old }
     ensures sent { (s : Setting) (q : Process) → IsStateOf s q state.now
         → OnOk result (map frame_to sends.new.items ≡ map frame_to sends.old.items ++ flat_map frames_to (answers s q (handed input.now))) }
+    ensures none { (s : Setting) (q : Process) → IsStateOf s q state.now → answers s q (handed input.now) ≡ [] → IsOk result }
     ensures empty { OnOk result (IsEmpty frames.new) }
 {
     match *input {

@@ -1,4 +1,4 @@
-ghost use Rattle.std.specs.Prelude.{◌≡◌, ◌++◌, map, false, OnOk};
+ghost use Rattle.std.specs.Prelude.{◌≡◌, ◌++◌, [], map, true, false, IsOk, OnOk};
 ghost use Rattle.std.specs.Bool.{OnTrue};
 ghost use Rattle.std.specs.List.{flat_map};
 ghost use Rattle.group_defs.specs.Process.{Setting, Process};
@@ -19,13 +19,15 @@ use stmt_codec::Sending;
 fn is_silent(tick: bool, newly: usize) -> bool
     ensures once { OnTrue result (tick ≡ false) }
     ensures none { OnTrue result (newly ≡ 0) }
+    ensures silent { tick ≡ false → newly ≡ 0 → result ≡ true }
 {
     !tick && newly == 0
 }
 
 /// Sends the Bundle of a process that has signed, and not settled yet: on a Tick what it signed in its view, but of messages and
 /// places that were delivered; else what it signed in this event, the last `newly` claims. It goes to the other members of the
-/// view, with what goes beside its Orders and Suggests. `places` is room, used again from event to event.
+/// view, with what goes beside its Orders and Suggests. `places` is room, used again from event to event. Where nothing is new and nothing
+/// is repeated, or there is no other member, it takes no memory.
 pub fn send_bundle(
     state: &ProcessState,
     tick: bool,
@@ -39,6 +41,9 @@ pub fn send_bundle(
     ensures sent { (s : Setting) (began p : Process) → Began newly began p → IsStateOf s p state.now
         → OnOk result (map frame_to sends.new.items ≡ map frame_to sends.old.items
         ++ flat_map frames_to (unless_empty (bundle tick began p) Bundle (others began began.pool.view))) }
+    ensures silent { tick ≡ false → newly ≡ 0 → IsOk result }
+    ensures alone { (s : Setting) (began p : Process) → Began newly began p → IsStateOf s p state.now
+        → others began began.pool.view ≡ [] → IsOk result }
     ensures empty { OnOk result (IsEmpty frames.new) }
 {
     if is_silent(tick, newly) {

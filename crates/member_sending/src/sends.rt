@@ -1,5 +1,5 @@
 //! Frames that are handed over to processes.
-ghost use Rattle.std.specs.Prelude.{◌≡◌, ◌≢◌, ◌++◌, ◌==◌, [], true, false, not, map, filter, OnOk};
+ghost use Rattle.std.specs.Prelude.{◌≡◌, ◌≢◌, ◌++◌, ◌==◌, [], true, false, not, map, filter, IsOk, OnOk};
 ghost use Rattle.byte_defs.specs.Orders.{sorted};
 ghost use Rattle.claim_index.specs.Kept.{by_number};
 ghost use Rattle.member_state.specs.Events.{frame_to};
@@ -36,7 +36,7 @@ pub(crate) fn is_nobody(to: PidSet) -> bool
     left.pop_first().is_none()
 }
 
-/// Hands all frames over to these processes.
+/// Hands all frames over to these processes. Where there are none, it takes no memory.
 pub(crate) fn hand_over(
     frames: &mut Frames,
     to: PidSet,
@@ -44,6 +44,7 @@ pub(crate) fn hand_over(
 ) -> Result<(), NoMemory>
     requires { frames.old.claims ≡ [] }
     ensures sends { OnOk result (map frame_to sends.new.items ≡ map frame_to sends.old.items ++ each_to to frames.old.frames) }
+    ensures none { frames.old.frames ≡ [] → IsOk result }
     ensures empty { OnOk result (IsEmpty frames.new) }
 {
     'frames: while let Some(frame) = frames.next_frame() {

@@ -14,8 +14,9 @@ use Rattle.sent_claims.specs.Lists.{extended}
 use Rattle.reliable_mcast.specs.Packed.{Packing, frames_as, Fills}
 use Rattle.sent_claims.specs.Certificates.{all_signed}
 use Rattle.reliable_mcast.specs.Archives.{Archived, Keeps}
-use Rattle.reliable_mcast.specs.Answers.{places_kept, answer_kept}
+use Rattle.reliable_mcast.specs.Answers.{commit_kept, pools_kept, places_kept, answer_kept}
 use Rattle.sent_claims.proofs.Extended.{extended-all}
+use Rattle.sent_claims.proofs.Ways.{none-first, none-others}
 
 -- ---- the commit certificate of a view, by the numbers of those that were left
 
@@ -125,6 +126,27 @@ parts-are a h x k commits f f1 f2 f3 same empty one two three =
     ∙ ap (λ cs. cs ++ before) (extended-all (extended false [] commit) current ∙ ap (λ cs. cs ++ current) (extended-all [] commit))
     ∙ append_assoc commit current before
     ∙ (λ i. unwrap_or (slice_get (same i) x) [] ++ sym (pools-parts h (option_to_list a.previous) x k) i)
+
+-- none of the three parts has a claim
+pub record HasNone (a : Archived) (h : Pool) (x k : ℕ) : Type 0 where
+  pub commit : unwrap_or (slice_get a.commits x) [] ≡ []
+  pub current : all_signed (places_kept (pools_in (h ∷ []) x) k) ≡ []
+  pub before : all_signed (places_kept (pools_in (option_to_list a.previous) x) k) ≡ []
+  pub all : answer_kept a h x k ≡ []
+
+pub has-none : (a : Archived) (h : Pool) (p : Process) (x k : ℕ) → Keeps a p → p.pool ≡ h → answer p x k ≡ [] → HasNone a h x k
+has-none a h p x k keeps same e =
+    let places : List Signed = all_signed (places_kept (pools_kept a h x) k) in
+    let current : List Signed = all_signed (places_kept (pools_in (h ∷ []) x) k) in
+    let before : List Signed = all_signed (places_kept (pools_in (option_to_list a.previous) x) k) in
+    let all : answer_kept a h x k ≡ [] = sym (answer-is a h p x k keeps same) ∙ ap all_signed e in
+    let both : current ++ before ≡ [] = sym (pools-parts h (option_to_list a.previous) x k) ∙ none-others (commit_kept a x) places all in
+    record {
+      commit = none-first (commit_kept a x) places all;
+      current = none-first current before both;
+      before = none-others current before both;
+      all = all;
+    }
 
 -- and nothing was packed
 pub frames-same : (f f1 f2 f3 : Packing) (cs ds es : List Signed) → Fills f f1 cs → Fills f1 f2 ds → Fills f2 f3 es → f3.frames ≡ f.frames

@@ -1,6 +1,6 @@
 //! What is kept of the views that were left: of the last one its pool, and of each its commit certificate
 //! (docs/PROTOCOL.md, «What is sent»).
-ghost use Rattle.std.specs.Prelude.{◌≡◌, ◌≤◌, ◌++◌, ◌∷◌, ◌-◌, [], length, take, Some, None, OnOk, OnErr, IfOk, IfSome, ◌==◌, false, filter, unwrap_or, option_to_list, option_and_then, slice_get};
+ghost use Rattle.std.specs.Prelude.{◌≡◌, ◌≤◌, ◌++◌, ◌∷◌, ◌-◌, [], length, take, Some, None, IsOk, OnOk, OnErr, IfOk, IfSome, ◌==◌, false, filter, unwrap_or, option_to_list, option_and_then, slice_get};
 ghost use Rattle.std.specs.Option.{option_map};
 ghost use Rattle.message_defs.specs.Statements.{Ready, ReadyAt};
 ghost use Rattle.message_defs.specs.Spelling.{IsStatement};
@@ -112,7 +112,8 @@ fn commit_at(commits: &[SentClaims], view: usize) -> Option<&SentClaims>
 
 // Puts the commit certificate of the view of this number, where that was left.
 fn put_commit(frames: &mut Frames, commits: &[SentClaims], view: u16) -> Result<(), NoMemory>
-    ensures { OnOk result (Fills frames.old frames.new (extended false frames.old.claims (unwrap_or (slice_get commits.now view) []))) }
+    ensures list { OnOk result (Fills frames.old frames.new (extended false frames.old.claims (unwrap_or (slice_get commits.now view) []))) }
+    ensures none { unwrap_or (slice_get commits.now view) [] ≡ [] → IsOk result }
 {
     match commit_at(commits, view as usize) {
         Some(commit) => frames.put_list(commit),
@@ -124,8 +125,9 @@ fn put_commit(frames: &mut Frames, commits: &[SentClaims], view: u16) -> Result<
 fn put_pool(frames: &mut Frames, pool: &Pool, view: u16, place: u16) -> Result<(), NoMemory>
     requires range { IsRanged pool.now.pool }
     requires place { place ≤ 1024 }
-    ensures { OnOk result (Fills frames.old frames.new
+    ensures list { OnOk result (Fills frames.old frames.new
         (extended false frames.old.claims (all_signed (places_kept (filter (λ g. g.view.number == view) (pool.now.pool ∷ [])) place)))) }
+    ensures none { all_signed (places_kept (filter (λ g. g.view.number == view) (pool.now.pool ∷ [])) place) ≡ [] → IsOk result }
 {
     if pool.view().number() == view {
         frames.put_places(pool, place)
@@ -196,9 +198,11 @@ impl Archive {
     // Puts the certificates of eight places of the previous view, where that is the view of this number.
     fn put_previous(&self, view: u16, place: u16, frames: &mut Frames) -> Result<(), NoMemory>
         requires { place ≤ 1024 }
-        ensures { OnOk result (Fills frames.old frames.new
+        ensures list { OnOk result (Fills frames.old frames.new
             (extended false frames.old.claims
             (all_signed (places_kept (filter (λ g. g.view.number == view) (option_to_list self.now.previous)) place)))) }
+        ensures none { all_signed (places_kept (filter (λ g. g.view.number == view) (option_to_list self.now.previous)) place) ≡ []
+            → IsOk result }
     {
         match &self.previous {
             Some(previous) => put_pool(frames, previous, view, place),
@@ -207,7 +211,8 @@ impl Archive {
     }
 
     /// Packs the answer to a Want for the view of this number from this place on: the commit certificate of the view, where it
-    /// was left, and the certificates of eight places, where its pool is this one or the previous one.
+    /// was left, and the certificates of eight places, where its pool is this one or the previous one. An answer without claims takes no
+    /// memory, as that to a Want for a view that was not left and is not the current one.
     pub fn answer_want(
         &self,
         pool: &Pool,
@@ -222,6 +227,7 @@ impl Archive {
         // The answer of each process that has this pool and keeps this archive.
         ensures answer { OnOk result ((p : Process) → Keeps self.now p → p.pool ≡ pool.now.pool
             → frames.new.frames ≡ frames.old.frames ++ frames_of (Proof (answer p view place))) }
+        ensures none { (p : Process) → Keeps self.now p → p.pool ≡ pool.now.pool → answer p view place ≡ [] → IsOk result }
         ensures empty { OnOk result (frames.new.claims ≡ []) }
     {
         put_commit(frames, &self.commits, view)?;

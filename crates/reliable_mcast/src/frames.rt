@@ -1,5 +1,5 @@
 //! Lists of claims as frames: a list is filled claim by claim, closed, and handed out frame by frame.
-ghost use Rattle.std.specs.Prelude.{◌≡◌, ◌≤◌, ◌++◌, ◌∷◌, [], length, map, flat_map, false, OnOk, IfOk, MatchOption};
+ghost use Rattle.std.specs.Prelude.{◌≡◌, ◌≤◌, ◌++◌, ◌∷◌, [], length, map, flat_map, false, IsOk, OnOk, IfOk, MatchOption};
 ghost use Rattle.std.specs.List.{AllByRecursion, range_with_len};
 ghost use Rattle.message_defs.specs.Frames.{Want, frame_bytes};
 ghost use Rattle.message_defs.specs.Packing.{pack_from};
@@ -64,7 +64,8 @@ fn put_frame(done: &mut VecDeque<Payload>, frame: Payload) -> Result<(), NoMemor
 
 // Puts the claims of the other list behind the others.
 fn put_all(list: &mut SentClaims, other: &SentClaims) -> Result<(), NoMemory>
-    ensures { OnOk result (list.new ≡ extended false list.old other.now) }
+    ensures list { OnOk result (list.new ≡ extended false list.old other.now) }
+    ensures none { other.now ≡ [] → IsOk result }
 {
     'claims: for place in 0..other.len() {
         list.put(&other.at(place), false)?;
@@ -103,7 +104,8 @@ fn pack(
     done: &mut VecDeque<Payload>,
     kind: FrameKind,
 ) -> Result<(), NoMemory>
-    ensures { OnOk result (done.new.items ≡ done.old.items ++ frames_as kind list.now) }
+    ensures frames { OnOk result (done.new.items ≡ done.old.items ++ frames_as kind list.now) }
+    ensures none { list.now ≡ [] → IsOk result }
 {
     if list.len() == 0 {
         return Ok(());
@@ -131,7 +133,8 @@ impl Frames {
 
     /// Puts the claims of the other list behind the others.
     pub(crate) fn put_list(&mut self, other: &SentClaims) -> Result<(), NoMemory>
-        ensures { OnOk result (Fills self.old self.new (extended false self.old.claims other.now)) }
+        ensures list { OnOk result (Fills self.old self.new (extended false self.old.claims other.now)) }
+        ensures none { other.now ≡ [] → IsOk result }
     {
         put_all(&mut self.list, other)
     }
@@ -140,16 +143,19 @@ impl Frames {
     pub(crate) fn put_places(&mut self, pool: &Pool, place: u16) -> Result<(), NoMemory>
         requires range { IsRanged pool.now.pool }
         requires place { place ≤ 1024 }
-        ensures { OnOk result (Fills self.old self.new
+        ensures list { OnOk result (Fills self.old self.new
             (extended false self.old.claims (all_signed (flat_map (place_certificates pool.now.pool) (range_with_len place 8))))) }
+        ensures none { all_signed (flat_map (place_certificates pool.now.pool) (range_with_len place 8)) ≡ [] → IsOk result }
     {
         put_places(&mut self.list, pool, place)
     }
 
-    /// Packs the list into frames of this kind, behind those that are not handed out yet, and begins a new list.
+    /// Packs the list into frames of this kind, behind those that are not handed out yet, and begins a new list. An empty list takes no
+    /// memory.
     pub(crate) fn close(&mut self, kind: FrameKind) -> Result<(), NoMemory>
         ensures frames { OnOk result (self.new.frames ≡ self.old.frames ++ frames_as kind self.old.claims) }
         ensures claims { OnOk result (self.new.claims ≡ []) }
+        ensures none { self.old.claims ≡ [] → IsOk result }
     {
         pack(
             self.alloc,

@@ -21,6 +21,15 @@ way-next once now new whole left part rest e way made = ap (λ cs. extended once
 pub way-end : (once : Bool) (now whole left : List Signed) → left ≡ [] → extended once now left ≡ whole → now ≡ whole
 way-end once now whole left e way = sym (ap (extended once now) e) ∙ way
 
+-- where there are no claims in all, there are none in a part
+pub none-first : (part rest : List Signed) → part ++ rest ≡ [] → part ≡ []
+none-first [] rest e = refl
+none-first (c ∷ cs) rest e = absurd cc
+
+pub none-others : (part rest : List Signed) → part ++ rest ≡ [] → rest ≡ []
+none-others [] rest e = e
+none-others (c ∷ cs) rest e = absurd cc
+
 -- the claims that are made of the first of several, and those of the others
 pub signed-next : {A : Type 0} (f : A → List Claim) (x : A) (xs : List A)
     → all_signed (flat_map f (x ∷ xs)) ≡ all_signed (f x) ++ all_signed (flat_map f xs)

@@ -1,5 +1,5 @@
 //! The claims of a pool's certificates, put into a list.
-ghost use Rattle.std.specs.Prelude.{◌≡◌, ◌≤◌, ◌∷◌, [], take, false, flat_map, OnOk};
+ghost use Rattle.std.specs.Prelude.{◌≡◌, ◌≤◌, ◌∷◌, [], take, false, flat_map, IsOk, OnOk};
 ghost use Rattle.std.specs.List.{range_with_len};
 ghost use Rattle.message_defs.specs.Spelling.{IsClaim};
 ghost use Rattle.message_defs.specs.Packing.{signed_of};
@@ -46,7 +46,8 @@ fn put_said(
     once: bool,
 ) -> Result<(), NoMemory>
     requires { IsRanged pool.now.pool }
-    ensures { OnOk result (list.new ≡ extended once list.old (all_signed (said_by pool.now.pool (slot_at kind about.now) (member ∷ [])))) }
+    ensures list { OnOk result (list.new ≡ extended once list.old (all_signed (said_by pool.now.pool (slot_at kind about.now) (member ∷ [])))) }
+    ensures none { all_signed (said_by pool.now.pool (slot_at kind about.now) (member ∷ [])) ≡ [] → IsOk result }
 {
     match pool.heard_claim(member, kind, *about) {
         Some(claim) => put_claim(list, &claim, once),
@@ -65,8 +66,9 @@ fn put_first(
     once: bool,
 ) -> Result<(), NoMemory>
     requires { IsRanged pool.now.pool }
-    ensures { OnOk result (list.new
+    ensures list { OnOk result (list.new
         ≡ extended once list.old (all_signed (said_by pool.now.pool (slot_at kind about.now) (take count members)))) }
+    ensures none { all_signed (said_by pool.now.pool (slot_at kind about.now) (take count members)) ≡ [] → IsOk result }
 {
     let mut left = members;
     'members: for _done in 0..count {
@@ -79,7 +81,8 @@ fn put_first(
 }
 
 /// Puts the claims of the certificate of that kind and slot, of the first Q signers by process number, behind the others of the list;
-/// with `once`, only those that are not among them. None where nothing is certified there, or the kind has no such slots.
+/// with `once`, only those that are not among them. None where nothing is certified there, or the kind has no such slots, and then no memory
+/// is taken.
 pub fn put_certificate<K: CertKind>(
     list: &mut SentClaims,
     pool: &Pool,
@@ -87,7 +90,8 @@ pub fn put_certificate<K: CertKind>(
     once: bool,
 ) -> Result<(), NoMemory>
     requires { IsRanged pool.now.pool }
-    ensures { OnOk result (list.new ≡ extended once list.old (all_signed (certificate_of pool.now.pool (slot_at K.kind about.now)))) }
+    ensures list { OnOk result (list.new ≡ extended once list.old (all_signed (certificate_of pool.now.pool (slot_at K.kind about.now)))) }
+    ensures none { all_signed (certificate_of pool.now.pool (slot_at K.kind about.now)) ≡ [] → IsOk result }
 {
     let Some(certificate) = pool.certificate::<K>(*about) else {
         return Ok(());
@@ -113,7 +117,8 @@ fn put_message(
     once: bool,
 ) -> Result<(), NoMemory>
     requires { IsRanged pool.now.pool }
-    ensures { OnOk result (list.new ≡ extended once list.old (all_signed (message_certificate pool.now.pool (message sender number)))) }
+    ensures list { OnOk result (list.new ≡ extended once list.old (all_signed (message_certificate pool.now.pool (message sender number)))) }
+    ensures none { all_signed (message_certificate pool.now.pool (message sender number)) ≡ [] → IsOk result }
 {
     let about = Slot::Message {
         view: pool.view().number(),
@@ -131,7 +136,8 @@ pub(crate) fn put_messages(
     once: bool,
 ) -> Result<(), NoMemory>
     requires { IsRanged pool.now.pool }
-    ensures { OnOk result (list.new ≡ extended once list.old (all_signed (message_certificates pool.now.pool batch.now))) }
+    ensures list { OnOk result (list.new ≡ extended once list.old (all_signed (message_certificates pool.now.pool batch.now))) }
+    ensures none { all_signed (message_certificates pool.now.pool batch.now) ≡ [] → IsOk result }
 {
     'messages: for (sender, number) in batch.messages() {
         put_message(list, pool, *sender, *number, once)?;
@@ -142,7 +148,8 @@ pub(crate) fn put_messages(
 // Puts the certificates of the messages of the batch that is certified of the place, where one is.
 fn put_placed(list: &mut SentClaims, pool: &Pool, place: u16) -> Result<(), NoMemory>
     requires { IsRanged pool.now.pool }
-    ensures { OnOk result (list.new ≡ extended false list.old (all_signed (messages_at pool.now.pool place))) }
+    ensures list { OnOk result (list.new ≡ extended false list.old (all_signed (messages_at pool.now.pool place))) }
+    ensures none { all_signed (messages_at pool.now.pool place) ≡ [] → IsOk result }
 {
     match certified_batch(pool, place) {
         Some(batch) => put_messages(list, pool, &batch, false),
@@ -153,7 +160,8 @@ fn put_placed(list: &mut SentClaims, pool: &Pool, place: u16) -> Result<(), NoMe
 // Puts the certificates of the place: its own, those of its messages, and the Keep.
 fn put_place(list: &mut SentClaims, pool: &Pool, place: u16) -> Result<(), NoMemory>
     requires { IsRanged pool.now.pool }
-    ensures { OnOk result (list.new ≡ extended false list.old (all_signed (place_certificates pool.now.pool place))) }
+    ensures list { OnOk result (list.new ≡ extended false list.old (all_signed (place_certificates pool.now.pool place))) }
+    ensures none { all_signed (place_certificates pool.now.pool place) ≡ [] → IsOk result }
 {
     let view = pool.view().number();
     let about = Slot::Place { view, place };
@@ -162,12 +170,14 @@ fn put_place(list: &mut SentClaims, pool: &Pool, place: u16) -> Result<(), NoMem
     put_certificate::<Keep>(list, pool, &about, false)
 }
 
-/// Puts the certificates of eight places, from this one on, behind the claims of the list. The first place is 0 to 1,024.
+/// Puts the certificates of eight places, from this one on, behind the claims of the list. The first place is 0 to 1,024. Where there
+/// are none, it takes no memory.
 pub fn put_places(list: &mut SentClaims, pool: &Pool, place: u16) -> Result<(), NoMemory>
     requires range { IsRanged pool.now.pool }
     requires place { place ≤ 1024 }
-    ensures { OnOk result (list.new
+    ensures list { OnOk result (list.new
         ≡ extended false list.old (all_signed (flat_map (place_certificates pool.now.pool) (range_with_len place 8)))) }
+    ensures none { all_signed (flat_map (place_certificates pool.now.pool) (range_with_len place 8)) ≡ [] → IsOk result }
 {
     'places: for next in place..place + ANSWERED {
         put_place(list, pool, next)?;

@@ -7,7 +7,7 @@ use Rattle.group_defs.specs.Sending as sending
 use Rattle.group_defs.specs.Sending.{Proof, frames_of}
 use Rattle.member_state.specs.Events.{frame_to, frames_to}
 use Rattle.member_sending.specs.Sends.{each_to}
-use Rattle.member_sending.proofs.Parcels.{proof-to}
+use Rattle.member_sending.proofs.Parcels.{proof-to, proof-none}
 use Rattle.member_sending.proofs.Own.{real-ranged, wanted}
 use Rattle.member_sending.proofs.answers.answer.Goals as goal
 
@@ -32,3 +32,19 @@ returns-then-not-contains-clause-sent c = λ s q is.
     ∙ ap (λ outs. map frame_to c.args.sends.now.items ++ flat_map frames_to outs)
     (sym (wanted s q c.args.from c.args.view c.args.place c.args.state.now.own.keyed false (is.place.keys c.args.from)
     (sym c.contains.ensures ∙ c.if-not-contains.true)))
+
+pub returns-in_err-answer_want-clause-none : goal.returns-in_err-answer_want-clause-none
+returns-in_err-answer_want-clause-none c = λ s q is e.
+    let out = wanted s q c.args.from c.args.view c.args.place c.args.state.now.own.keyed true (is.place.keys c.args.from)
+    (sym c.contains.ensures ∙ c.if-not-contains.false) in
+    absurd (cc (c.in_err-answer_want.ensures.none q is.kept is.place.pool
+    (proof-none (sending.answer q c.args.view c.args.place) c.args.from (sym out ∙ e))))
+
+pub returns-clause-none : goal.returns-clause-none
+returns-clause-none c = λ s q is e.
+    let out = wanted s q c.args.from c.args.view c.args.place c.args.state.now.own.keyed true (is.place.keys c.args.from)
+    (sym c.contains.ensures ∙ c.if-not-contains.false) in
+    let none = proof-none (sending.answer q c.args.view c.args.place) c.args.from (sym out ∙ e) in
+    let made = c.in_ok-answer_want.ensures.answer q is.kept is.place.pool
+    ∙ ap (λ fs. fs ++ frames_of (Proof (sending.answer q c.args.view c.args.place))) c.requires.empty.frames in
+    c.hand_over.ensures.none (made ∙ ap (λ cs. frames_of (Proof cs)) none)

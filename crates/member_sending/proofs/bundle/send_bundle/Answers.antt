@@ -51,3 +51,21 @@ returns-then-is_silent-clause-sent c = λ s began p begin is.
     (sym (bundle-silent c.args.tick c.args.newly began p (others began began.pool.view)
     (subst (λ b. OnTrue b (c.args.tick ≡ false)) c.if-is_silent.true c.is_silent.ensures.once)
     (subst (λ b. OnTrue b (c.args.newly ≡ 0)) c.if-is_silent.true c.is_silent.ensures.none) begin))
+
+pub returns-in_err-base_places-clause-alone : goal.returns-in_err-base_places-clause-alone
+returns-in_err-base_places-clause-alone c = λ s began p begin is e.
+    let to : c.others-to.result ≡ others began began.pool.view = c.others-to.ensures ∙ others-are began began.pool.view c.view.result.now
+    c.args.state.now.own.me (begin.number ∙ is.place.number) (begin.view ∙ ap (λ (h : Pool). h.view) is.place.pool ∙ sym c.view.ensures) in
+    absurd (c.is_nobody.ensures.somebody c.if-is_nobody.false (to ∙ e))
+
+pub returns-in_err-resend-clause-alone : goal.returns-in_err-resend-clause-alone
+returns-in_err-resend-clause-alone c = λ s began p begin is e.
+    let to : c.others-to.result ≡ others began began.pool.view = c.others-to.ensures ∙ others-are began began.pool.view c.view.result.now
+    c.args.state.now.own.me (begin.number ∙ is.place.number) (begin.view ∙ ap (λ (h : Pool). h.view) is.place.pool ∙ sym c.view.ensures) in
+    absurd (c.is_nobody.ensures.somebody c.if-is_nobody.false (to ∙ e))
+
+pub returns-clause-alone : goal.returns-clause-alone
+returns-clause-alone c = λ s began p begin is e.
+    let to : c.others-to.result ≡ others began began.pool.view = c.others-to.ensures ∙ others-are began began.pool.view c.view.result.now
+    c.args.state.now.own.me (begin.number ∙ is.place.number) (begin.view ∙ ap (λ (h : Pool). h.view) is.place.pool ∙ sym c.view.ensures) in
+    absurd (c.is_nobody.ensures.somebody c.if-is_nobody.false (to ∙ e))

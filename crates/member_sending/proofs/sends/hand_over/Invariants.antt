@@ -7,6 +7,7 @@ abbrev pub invariant-frames : goal.invariant-frames
 invariant-frames l = record {
   handed : map frame_to l.sends.items ++ each_to l.to l.frames.frames ≡ map frame_to l.fn.sends.items ++ each_to l.to l.fn.frames.frames;
   claims : l.frames.claims ≡ [];
+  none : l.fn.frames.frames ≡ [] → l.frames.frames ≡ [];
 }
 
 abbrev pub decreases-frames : goal.decreases-frames

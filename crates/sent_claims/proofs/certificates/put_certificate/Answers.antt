@@ -1,5 +1,5 @@
-use Rattle.std.proofs.Common.{◌≡◌, sym, ap, ◌∙◌, subst, length, List}
-use Rattle.std.specs.Prelude.{OnOk}
+use Rattle.std.proofs.Common.{◌≡◌, sym, ap, ◌∙◌, subst, length, List, []}
+use Rattle.std.specs.Prelude.{IsOk, OnOk}
 use Rattle.message_defs.specs.Packing.{Signed}
 use Rattle.group_defs.specs.Views as views
 use Rattle.pool_questions.specs.Certificates.{content_of}
@@ -16,5 +16,8 @@ returns g c =
     (content_of c.in-Some.certificate) c.signers.result c.quorum-count.result
     (ap (λ k. slot k c.args.about.now) c.number.ensures) (sym c.in-Some.ensures.content)
     (c.signers.ensures ∙ c.in-Some.ensures.signers) count in
-    subst (λ (cs : List Signed). OnOk c.put_first.result (c.put_first.new.list ≡ extended c.args.once c.args.list.now cs))
-    (sym parts) c.put_first.ensures
+    record {
+      list = subst (λ (cs : List Signed). OnOk c.put_first.result (c.put_first.new.list ≡ extended c.args.once c.args.list.now cs))
+          (sym parts) c.put_first.ensures.list;
+      none = subst (λ (cs : List Signed). cs ≡ [] → IsOk c.put_first.result) (sym parts) c.put_first.ensures.none;
+    }

@@ -42,7 +42,7 @@ returns-clause-commits c =
     let h : Pool = c.args.pool.now.pool in
     let number : c.number-view.result ≡ h.view.number = c.number-view.ensures.value ∙ ap (λ (v : views.View). v.number) c.view.ensures in
     more h c.args.commit.0 c.number-view.result c.args.commit.1 c.new-kept.result c.put_certificate.new.list c.self.inside.commits.items
-    c.push.new.self.items number c.new-kept.ensures c.requires.certified c.in_ok-put_certificate.ensures c.in_ok-push.ensures.items
+    c.push.new.self.items number c.new-kept.ensures c.requires.certified c.in_ok-put_certificate.ensures.list c.in_ok-push.ensures.items
     ∙ ap (λ (a : Archived). a.commits ++ all_signed (certificate h (said h c.args.commit.0 c.args.commit.1)) ∷ []) c.self.view_is
 
 pub invariant_of-self-2 : goal.invariant_of-self-2
@@ -57,6 +57,6 @@ invariant_of-self-2 c =
       readable = kept-more c.self.inside.commits.items c.push.new.self.items h
           (said h c.args.commit.0 c.args.commit.1) c.requires.range c.self.invariant.readable
           (more h c.args.commit.0 c.number-view.result c.args.commit.1 c.new-kept.result c.put_certificate.new.list
-          c.self.inside.commits.items c.push.new.self.items number c.new-kept.ensures c.requires.certified c.in_ok-put_certificate.ensures
-          c.in_ok-push.ensures.items);
+          c.self.inside.commits.items c.push.new.self.items number c.new-kept.ensures c.requires.certified
+          c.in_ok-put_certificate.ensures.list c.in_ok-push.ensures.items);
     }
