@@ -1,11 +1,13 @@
 //! A member as it starts, and what it tells of itself.
 ghost use Rattle.std.specs.Prelude.{◌≡◌, ◌≤◌, length, IfOk};
+ghost use Rattle.std.specs.Option.{option_map};
 ghost use Rattle.group_defs.specs.Process.{Setting, Process, start};
 ghost use Rattle.group_defs.specs.Accounts.{account_of};
 ghost use Rattle.group_defs.specs.Settle.{phase_of};
 ghost use Rattle.accounts.specs.Views.{account};
+ghost use Rattle.stmt_codec.specs.Views.{claim as claim_of};
 ghost use Rattle.view_phases.specs.Phases.{word};
-ghost use Rattle.member_state.specs.States.{liars_of, halted_at};
+ghost use Rattle.member_state.specs.States.{kept_of, liars_of, halted_at};
 ghost use Rattle.member_core.specs.Cores.{IsCore, Shares, me_of, signer_of};
 
 use crate::attempts::Rooms;
@@ -14,6 +16,7 @@ use member_state::{Account, ProcessState};
 use reliable_mcast::Frames;
 use rp_base::{GroupId, NoMemory, Pid, PidSet, Roster, Tally};
 use std::alloc::Global;
+use stmt_codec::Claim;
 use view_phases::PhaseWord;
 use view_table::View;
 
@@ -90,6 +93,16 @@ impl<G: Tally + Drop> Core<G> {
         ensures { (s : Setting) (p : Process) → IsCore G.used s p self.now → liars_of p ≡ result }
     {
         self.keyless.state.liars()
+    }
+
+    /// The first two claims of this signer that the process keeps as a conflict, the heard one first; None exactly where it keeps none.
+    /// Nothing is copied.
+    #[tactic(auto, unfolding(crate::specs::Cores::IsCore))]
+    pub fn conflict(&self, signer: Pid) -> Option<(Claim<'_>, Claim<'_>)>
+        ensures { (s : Setting) (p : Process) → IsCore G.used s p self.now
+            → option_map (λ pair. (claim_of pair.0, claim_of pair.1)) result ≡ kept_of signer p.conflicts }
+    {
+        self.keyless.state.conflict(signer)
     }
 
     /// Where the process has halted: how many places it has delivered, and the cut, which is below that.

@@ -1,4 +1,5 @@
 mod Liars
+mod Seeking
 pub mod Ranges
 pub mod Entries
 mod Starting

@@ -1,5 +1,5 @@
 -- Which process of the definitions a state is.
-use Rattle.std.specs.Prelude.{◌≡◌, ◌≢◌, ℕ, ◌<◌, ◌≤◌, ◌==◌, true, List, [], ◌∷◌, length, map, filter, All, AllPairs, Option, Some, None, option_and_then, if◌then◌else◌, IsTrue}
+use Rattle.std.specs.Prelude.{◌≡◌, ◌≢◌, ℕ, ◌<◌, ◌≤◌, ◌==◌, true, List, [], ◌∷◌, length, map, filter, find, All, AllPairs, Option, Some, None, option_and_then, if◌then◌else◌, IsTrue}
 use Rattle.byte_defs.specs.Orders.{sorted}
 use Rattle.message_defs.specs.Updates.{Value}
 use Rattle.message_defs.specs.Statements.{Claim, ReadyAt, view_of}
@@ -77,6 +77,10 @@ signers_in pairs = sorted (λ q. q ∷ []) (map (λ pair. pair.0.signer) pairs)
 -- the signers with a kept conflict, rising
 abbrev pub liars_of : Process → List ℕ
 liars_of p = signers_in p.conflicts
+
+-- the pair that is kept of the signer q
+abbrev pub kept_of : ℕ → List (Claim × Claim) → Option (Claim × Claim)
+kept_of q pairs = find (λ pair. pair.0.signer == q) pairs
 
 -- where it has halted, how many places it delivered, and the cut
 abbrev pub halted_at : Process → Option (ℕ × ℕ)

@@ -1,10 +1,12 @@
-ghost use Rattle.std.specs.Prelude.{◌≡◌, ◌≤◌, ℕ, IfOk, None};
+ghost use Rattle.std.specs.Prelude.{◌≡◌, ◌≤◌, ℕ, IfOk, None, slice_get};
+ghost use Rattle.std.specs.Option.{option_map};
 ghost use Rattle.group_defs.specs.Process.{Setting, Process, start};
 ghost use Rattle.group_defs.specs.Accounts.{account_of};
 ghost use Rattle.claim_index.specs.Kept.{empty_pool};
 ghost use Rattle.own_place.specs.Owns.{Tells};
 ghost use Rattle.accounts.specs.Views.{account};
-ghost use Rattle.member_state.specs.States.{ArePairs, IsStateOf, StartsWith, signers_in, liars_of, halted_at};
+ghost use Rattle.stmt_codec.specs.Views.{claim as claim_of};
+ghost use Rattle.member_state.specs.States.{ArePairs, IsStateOf, StartsWith, kept_of, signers_in, liars_of, halted_at};
 
 use crate::left::LeftView;
 use accounts::Account;
@@ -16,6 +18,7 @@ use reliable_mcast::Archive;
 use rp_base::{NoMemory, Pid, PidSet, Roster};
 use std::alloc::Global;
 use std::mem;
+use stmt_codec::Claim;
 use view_phases::{Own, Phase, Pool};
 use view_table::View;
 
@@ -125,6 +128,30 @@ fn copied(view: &View) -> View
     copy
 }
 
+// The pair at this place, the heard claim first.
+fn pair_at(conflicts: &Conflicts, place: usize) -> Option<(Claim<'_>, Claim<'_>)>
+    ensures { option_map (λ pair. (claim_of pair.0, claim_of pair.1)) result ≡ slice_get conflicts.now.pairs place }
+{
+    match (conflicts.heard_at(place), conflicts.other_at(place)) {
+        (Some(heard), Some(other)) => Some((heard, other)),
+        _ => None,
+    }
+}
+
+// The pair of this signer, if there is one.
+fn pair_of(conflicts: &Conflicts, signer: Pid) -> Option<(Claim<'_>, Claim<'_>)>
+    ensures { option_map (λ pair. (claim_of pair.0, claim_of pair.1)) result ≡ kept_of signer conflicts.now.pairs }
+{
+    'pairs: for place in 0..conflicts.len() {
+        if let Some((heard, other)) = pair_at(conflicts, place) {
+            if heard.signer == signer {
+                return Some((heard, other));
+            }
+        }
+    }
+    None
+}
+
 // The signers of these pairs.
 fn liars_in(conflicts: &Conflicts) -> PidSet
     ensures { ArePairs conflicts.now.pairs → result ≡ signers_in conflicts.now.pairs }
@@ -176,6 +203,13 @@ impl ProcessState {
         ensures { (s : Setting) (p : Process) → IsStateOf s p self.now → liars_of p ≡ result }
     {
         liars_in(&self.conflicts)
+    }
+
+    /// The first two claims of this signer that the process keeps as a conflict, the heard one first; None exactly where it keeps none.
+    pub fn conflict(&self, signer: Pid) -> Option<(Claim<'_>, Claim<'_>)>
+        ensures { (s : Setting) (p : Process) → IsStateOf s p self.now → option_map (λ pair. (claim_of pair.0, claim_of pair.1)) result ≡ kept_of signer p.conflicts }
+    {
+        pair_of(&self.conflicts, signer)
     }
 
     /// Where the process has halted: how many places it has delivered, and the cut, which is below that.
