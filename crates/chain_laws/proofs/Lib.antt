@@ -1,3 +1,4 @@
 pub mod Shown
 pub mod Fewer
 pub mod Agreeing
+pub mod Commits

@@ -2,6 +2,7 @@
 #![tactic(auto)]
 
 ghost use Rattle.chain_laws.specs.Chains.{ChainIsInstalled, ChainIsOfAll, ChainsDoNotFork, GenesisIsInstalled, GenesisIsOfAll};
+ghost use Rattle.chain_laws.specs.Commits.{CommitShows};
 
 /// A chain may begin with the genesis.
 pub fn genesis_is_of_all()
@@ -26,4 +27,9 @@ pub fn chain_is_installed()
 /// Of two chains the one begins as the other.
 pub fn chains_do_not_fork()
     ensures { ChainsDoNotFork }
+{}
+
+/// The commit certificate of a view that a process left shows the view that it installed next.
+pub fn commit_shows()
+    ensures { CommitShows }
 {}

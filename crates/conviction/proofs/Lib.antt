@@ -1,0 +1,5 @@
+pub mod Conflicts
+pub mod Few
+pub mod Kept
+pub mod Sought
+pub mod Walking
