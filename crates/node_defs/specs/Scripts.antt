@@ -6,9 +6,11 @@
 --   P tick
 --   P recv M         M from 1 to 1,000
 --   snap
--- Each of these has at most 70,000 bytes. Another line that begins with P goes to the node's service.
+-- Each of these has at most 70,000 bytes. Another line that begins with P goes to the node's service, where it is UTF-8: what the service
+-- reads is text.
 use Rattle.std.specs.Prelude.{ℕ, ◌/◌, ◌==◌, ◌&&◌, nat_le, if◌then◌else◌, List, [], ◌∷◌, length, Option, Some, None, option_map, codes}
-use Rattle.std.specs.Option.{unwrap_or}
+use Rattle.std.specs.Option.{option_or}
+use Rattle.std.specs.Str.{is_utf8}
 use Rattle.byte_defs.specs.Choices.{and_then, first_that_holds}
 use Rattle.byte_defs.specs.Equality.{same_bytes}
 use Rattle.byte_defs.specs.Members.{has}
@@ -52,13 +54,17 @@ said_by (word ∷ arg ∷ []) =
     else None
 said_by _ = None
 
+-- for the service, which is handed no line that is not UTF-8
+abbrev pub other_said : List ℕ → Option Said
+other_said line = if is_utf8 line then Some Other else None
+
 -- in the node's own words, or for the service
-abbrev pub said_or_other : List ℕ → List (List ℕ) → Said
-said_or_other line words = unwrap_or (if nat_le (length line) most_own_bytes then said_by words else None) Other
+abbrev pub said_or_other : List ℕ → List (List ℕ) → Option Said
+said_or_other line words = option_or (if nat_le (length line) most_own_bytes then said_by words else None) (other_said line)
 
 -- a line of this process, where it is hosted
 abbrev pub line_if_hosted : List ℕ → List ℕ → List (List ℕ) → ℕ → Option Line
-line_if_hosted hosted line words p = if has hosted p then Some (Of p (said_or_other line words)) else None
+line_if_hosted hosted line words p = if has hosted p then option_map (Of p) (said_or_other line words) else None
 
 abbrev pub line_of_words : List ℕ → List ℕ → List (List ℕ) → Option Line
 line_of_words hosted line [] = None

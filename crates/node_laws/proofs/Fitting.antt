@@ -1,6 +1,6 @@
 -- What a stop leaves fits: it may have been written by the processes, so it is opened again.
 use Rattle.std.proofs.Common.{arith, ◌≡◌, ◌≢◌, ℕ, suc, zero, ◌+◌, ◌-◌, ◌<◌, ◌≤◌, List, [], ◌∷◌, ◌++◌, map, length, Bool, true, false, refl, sym, ap, ◌∙◌, subst, Option, Some, None, Result, Ok, Err, inl, inr}
-use Rattle.std.specs.Prelude.{codes, ◌==◌, ◌&&◌, nat_le, if◌then◌else◌, IsTrue}
+use Rattle.std.specs.Prelude.{codes, option_map, ◌==◌, ◌&&◌, nat_le, if◌then◌else◌, IsTrue}
 use Rattle.std.specs.Option.{option_to_list}
 use Rattle.std.specs.List.{list_all}
 use Rattle.std.proofs.lemmas.List.{append-nil, append_assoc, length-map}
@@ -251,9 +251,13 @@ line-hosted : (c : Cast) (line : List ℕ) → LineHosted c (line_said c.hosted 
 unfolding line_said
 line-hosted c line = go (same_bytes line (codes "snap"))
   where
+    said : (p : ℕ) (e : has c.hosted p ≡ true) (o : Option Said) → LineHosted c (option_map (Of p) o)
+    said p e None = tt
+    said p e (Some s) = e
+
     hosted : (words : List (List ℕ)) (p : ℕ) (b : Bool) → has c.hosted p ≡ b
-        → LineHosted c (if b then Some (Of p (said_or_other line words)) else None)
-    hosted words p true e = e
+        → LineHosted c (if b then option_map (Of p) (said_or_other line words) else None)
+    hosted words p true e = said p e (said_or_other line words)
     hosted words p false e = tt
 
     named : (words : List (List ℕ)) (o : Option ℕ) → LineHosted c (and_then o (line_if_hosted c.hosted line words))

@@ -7,7 +7,9 @@ use Rattle.message_defs.specs.Statements.{Message-discrete, Batch-discrete}
 use Rattle.message_defs.specs.Claims.{frame_said, claims_of, claims_of_groups, claims_of_group, claims_on}
 use Rattle.message_defs.specs.Frames.{frame_of, all_groups, groups_at, group_at, signatures_at, signature_at, want_at}
 use Rattle.message_defs.specs.Reading.{statement_in, content_at, init_at, payload_at, echo_at, message_at, placed_at, count_at, messages_at, end_at, last_at, notify_at, report_at, update_at, value_at, valued_at}
+use Rattle.std.specs.Char.{encode_utf8}
 use Rattle.std.specs.Fmt.{digits}
+use Rattle.std.specs.Str.{is_utf8, chars}
 use Rattle.hex.specs.Hex.{decode_pairs, encode_with}
 use Rattle.node_defs.specs.Casts.{may_have_written}
 use Rattle.group_defs.specs.Certified.{placed}
@@ -86,7 +88,7 @@ unfolding ℕ_discrete bytes_discrete option_discrete pair_discrete Value-discre
     line_said said_by payload_of most_lines call_of answered after_task after_leaving after_read reads answer drive first_on c
     frame_said claims_of claims_of_groups claims_of_group claims_on frame_of all_groups groups_at group_at signatures_at signature_at want_at
     statement_in content_at init_at payload_at echo_at message_at placed_at count_at messages_at end_at last_at notify_at report_at update_at value_at valued_at
-    digits decode_pairs encode_with may_have_written
+    digits decode_pairs encode_with may_have_written is_utf8 chars encode_utf8
 upper_case = refl
 
 refused : (run (outside (codes "0 suspect 9" ∷ []))).1 ≡ codes "host 0 view 0 delivered 0 entries 0\nhost 1 view 0 delivered 0 entries 0\nrefused 0 notmember\n"

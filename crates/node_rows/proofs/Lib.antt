@@ -2,3 +2,4 @@ pub mod TwoProcesses
 pub mod FailingCalls
 pub mod TurnStopped
 pub mod Begun
+pub mod ScriptLines
