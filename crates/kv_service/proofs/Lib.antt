@@ -1,0 +1,4 @@
+mod Entries
+pub mod Carrying
+mod Reading
+mod Lengths

@@ -1,0 +1,3 @@
+mod Leasts
+mod Mapped
+mod Offering

@@ -1,0 +1,36 @@
+use Rattle.std.proofs.Common.{◌+◌, ◌<◌, ◌≤◌, ◌∙◌, sym, ap, ℕ, Bool, List, length, drop, arith}
+use Rattle.std.specs.Prelude.{◌==◌, ◌&&◌, ◌||◌}
+use Rattle.std.specs.List.{list_any}
+use Rattle.std.proofs.lemmas.List.{drop_all}
+use Rattle.store_defs.specs.Votes.{Content, same_content}
+use Rattle.vote_client.specs.Counted.{counted}
+use Rattle.vote_client.specs.Views.{content}
+use Rattle.vote_client.specs.declared.vote.Given.{Given}
+use Rattle.vote_client.proofs.Mapped.{from-place}
+use Rattle.vote_client.proofs.vote.has_given.Goals as goal
+
+pub counted-preserved : goal.counted-preserved
+counted-preserved c =
+    let p : ℕ × Content → Bool = λ g. (g.0 == c.args.signer) && same_content (content c.args.content) g.1 in
+    let rest : List Given = drop (c.counted.given-index + 1) c.args.counted.now in
+    let lt : c.counted.given-index < length c.args.counted.now = omega arith in
+    sym (ap (λ (xs : List Given). list_any p (counted xs))
+    (from-place c.args.counted.now c.counted.given-index c.given-item.result lt c.given-item.is)
+    ∙ ap (λ (b : Bool). b || list_any p (counted rest)) (sym c.is_of.ensures ∙ c.if-is_of.false))
+    ∙ c.counted.invariant
+
+pub returns-then-is_of : goal.returns-then-is_of
+returns-then-is_of c =
+    let p : ℕ × Content → Bool = λ g. (g.0 == c.args.signer) && same_content (content c.args.content) g.1 in
+    let rest : List Given = drop (c.counted.given-index + 1) c.args.counted.now in
+    let lt : c.counted.given-index < length c.args.counted.now = omega arith in
+    sym (ap (λ (xs : List Given). list_any p (counted xs))
+    (from-place c.args.counted.now c.counted.given-index c.given-item.result lt c.given-item.is)
+    ∙ ap (λ (b : Bool). b || list_any p (counted rest)) (sym c.is_of.ensures ∙ c.if-is_of.true))
+    ∙ c.counted.invariant
+
+pub returns : goal.returns
+returns c =
+    let p : ℕ × Content → Bool = λ g. (g.0 == c.args.signer) && same_content (content c.args.content) g.1 in
+    let le : length c.args.counted.now ≤ c.counted.given-index = omega arith in
+    sym (ap (λ (xs : List Given). list_any p (counted xs)) (drop_all c.counted.given-index c.args.counted.now le)) ∙ c.counted.invariant
