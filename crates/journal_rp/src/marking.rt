@@ -25,6 +25,13 @@ impl Journal<Reading> {
         }
     }
 
+    /// The place of the gate that is read next: after the entries that were read.
+    pub fn place(&self) -> u64
+        ensures { result ≡ gate_of self.now }
+    {
+        self.gate
+    }
+
     /// Goes to this place, which was marked with this digest: what stands before it is hashed, and not read. No `read` was made
     /// before.
     ///
