@@ -230,14 +230,14 @@ AREAS = {
     ),
     "frames and statements": (348, 777, 2, "byte_fields frame_codec statements stmt_codec"),
     "the outside": (348, 1013, 2, "rp_base rp_devices line_input net_edge file_disk udp_link"),
-    "how fast": (676, 20, 2, "bench"),
+    "how fast": (676, 20, 2, "pool_measures group_measures bench"),
     "kits and words": (676, 413, 2, "text_codec kit_file kit_lines kit_draft kit_reading kit_making command_line"),
     "signatures": (676, 622, 2, "sha256_lanes lms_chains lms_ots lms_tree lms_hss sig_scheme bench_parts"),
     "links and journals": (676, 777, 2, "link_defs auth_link journal_defs journal_disk journal_entries journal_rp"),
-    "a store": (1040, 20, 2, "store_defs store_laws store_rows store_records"),
+    "a store": (1040, 20, 2, "store_defs store_laws store_rows store_records kv_service vote_client state_transfer"),
     "chains of views, and guards": (1040, 150, 2, "chain_defs chain_text_defs chain_laws chain_rows chain_check guard_defs guard_laws guard_rows"),
-    "convictions and audits": (1040, 340, 2, "conviction_defs conviction_laws audit_defs audit_laws evidence_laws findings_laws audit_rows"),
-    "nodes": (1040, 530, 2, "image_defs image_laws node_defs node_laws node_rows"),
+    "convictions and audits": (1040, 340, 2, "conviction_defs conviction_laws conviction audit_defs audit_laws evidence_laws findings_laws journal_steps findings_json audit_rows"),
+    "nodes": (1040, 530, 2, "image_defs image_laws node_defs node_laws node_text node_keys node_traces node_rows"),
 }
 
 # The lines from each area to those that it uses, without those that others imply.
@@ -264,18 +264,14 @@ LINES = {
     ("kits and words", "signatures"): [(828, 559), (828, 622)],
     ("signatures", "the outside"): [(676, 690), (664, 690), (664, 1070), (652, 1070)],
     ("the outside", "definitions"): [(500, 1132), (500, 1195)],
-    ("a store", "laws and rows"): [(1040, 60), (1012, 60), (1012, 985), (336, 985), (336, 1070), (324, 1070)],
-    ("chains of views, and guards", "what is heard"): [(1040, 200), (1008, 200), (1008, 940), (324, 940)],
+    ("a store", "what is heard"): [(1040, 120), (1032, 120), (1032, 940), (324, 940)],
+    ("convictions and audits", "kits and words"): [(1040, 440), (980, 440)],
+    ("nodes", "a replay"): [(1040, 600), (662, 600), (662, 706), (330, 706), (330, 290), (324, 290)],
     ("a store", "signatures"): [(1040, 100), (1004, 100), (1004, 690), (980, 690)],
-    ("a store", "frames and statements"): [(1040, 120), (1032, 120), (1032, 906), (658, 906), (658, 850), (652, 850)],
     ("a store", "signatures"): [(1040, 100), (1004, 100), (1004, 690), (980, 690)],
-    ("a store", "frames and statements"): [(1040, 120), (1032, 120), (1032, 906), (658, 906), (658, 850), (652, 850)],
     ("chains of views, and guards", "convictions and audits"): [(1192, 296), (1192, 340)],
     ("chains of views, and guards", "nodes"): [(1344, 223), (1354, 223), (1354, 590), (1344, 590)],
-    ("convictions and audits", "laws and rows"): [(1040, 380), (1012, 380), (1012, 985), (336, 985), (336, 1070), (324, 1070)],
-    ("convictions and audits", "links and journals"): [(1040, 420), (1024, 420), (1024, 850), (980, 850)],
-    ("nodes", "laws and rows"): [(1040, 560), (1012, 560), (1012, 985), (336, 985), (336, 1070), (324, 1070)],
-    ("nodes", "links and journals"): [(1040, 600), (1024, 600), (1024, 850), (980, 850)],
+    ("convictions and audits", "a member"): [(1040, 380), (1012, 380), (1012, 590), (658, 590), (658, 710), (334, 710), (334, 560), (324, 560)],
 }
 
 

@@ -1,7 +1,11 @@
-//! Frames and statements, read, spelled and refused.
+//! Frames and statements, journals and the lines of a node, read, spelled and refused.
 #![tactic(auto)]
 
 #[cfg(test)]
 mod claims;
 #[cfg(test)]
 mod frames;
+#[cfg(test)]
+mod journals;
+#[cfg(test)]
+mod nodes;

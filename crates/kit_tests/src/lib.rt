@@ -6,8 +6,12 @@ mod commands;
 #[cfg(test)]
 mod fronts;
 #[cfg(test)]
+mod hosted;
+#[cfg(test)]
 mod inputs;
 #[cfg(test)]
 mod kits;
+#[cfg(test)]
+mod stores;
 #[cfg(test)]
 mod texts;

@@ -2,7 +2,11 @@
 #![tactic(auto)]
 
 #[cfg(test)]
+mod asked;
+#[cfg(test)]
 mod chains;
+#[cfg(test)]
+mod convictions;
 #[cfg(test)]
 mod group;
 #[cfg(test)]

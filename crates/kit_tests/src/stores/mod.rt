@@ -1,0 +1,3 @@
+//! A replicated store, and the records that speak of it.
+mod commands;
+mod records;
