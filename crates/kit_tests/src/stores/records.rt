@@ -5,8 +5,8 @@ use std::alloc::Global;
 use std::process::Abort;
 use std::test::Fail;
 use store_records::{
-    Command, Pair, Pairs, is_store, push_reply, push_reply_body, push_state, push_state_body, read_reply,
-    read_request, read_state, reply_secret, state_secret,
+    Command, Pair, Pairs, is_store, push_reply, push_reply_body, push_state, push_state_body,
+    read_reply, read_request, read_state, reply_secret, state_secret,
 };
 use text_codec::{byte_list, bytes};
 
