@@ -1,3 +1,5 @@
 pub mod Ways
 pub mod Outside
 pub mod Stops
+pub mod Goes
+pub mod Seen
