@@ -1,0 +1,4 @@
+pub mod Addressees
+pub mod Frames
+pub mod Claims
+pub mod Keeping

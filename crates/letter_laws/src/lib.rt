@@ -1,0 +1,19 @@
+//! Laws of what a turn sends, over the definitions alone: to whom, and how long the frames are. So each letter of a turn can be sealed.
+#![tactic(auto)]
+
+ghost use Rattle.letter_laws.specs.Letters.{SendsToOthers, FramesAreShort, KeptIsInRange};
+
+/// A process sends to others alone, of whom the roster has keys.
+pub fn sends_to_others()
+    ensures { SendsToOthers }
+{}
+
+/// A frame has at most 61,000 bytes.
+pub fn frames_are_short()
+    ensures { FramesAreShort }
+{}
+
+/// What a process keeps is in range, where all that it was handed and has signed is.
+pub fn kept_is_in_range()
+    ensures { KeptIsInRange }
+{}

@@ -1,0 +1,123 @@
+-- What is let out one after the other.
+use Rattle.std.proofs.Common.{◌≡◌, ℕ, List, [], ◌∷◌, ◌++◌, refl, sym, ap, subst, ◌∙◌}
+use Rattle.std.specs.Prelude.{flat_map, zip}
+use Rattle.std.specs.List.{AllZip}
+use Rattle.std.proofs.lemmas.Grind.{flat_map-append}
+use Rattle.std.proofs.lemmas.List.{append-nil, append_assoc}
+use Rattle.node_defs.specs.Casts.{Cast}
+use Rattle.node_defs.specs.Lines.{fault_line}
+use Rattle.node_defs.specs.Nodes.{Leaving, Sends, Call, leaving_call, SendsTo, Answer, Done, Failed}
+use Rattle.node_traces.specs.Ways.{Through}
+use Rattle.node_traces.specs.Outside.{LinkSeen, LinkStep, LinkAnswered}
+use Rattle.node_traces.proofs.Joined.{one-after-the-other}
+use Rattle.letting_laws.specs.Letting.{Fits, asked, told_by, failed_by, Edge, edge, LetOut, HasBegun, LetOutInARow}
+
+all_zip-append : (ls ms : List Leaving) (ws bs : List Answer) → AllZip Fits ls ws → AllZip Fits ms bs → AllZip Fits (ls ++ ms) (ws ++ bs)
+all_zip-append [] ms [] bs first more = more
+all_zip-append [] ms (a ∷ ws) bs first more = absurd first
+all_zip-append (l ∷ ls) ms [] bs first more = absurd first
+all_zip-append (l ∷ ls) ms (a ∷ ws) bs first more = (first.0, all_zip-append ls ms ws bs first.1 more)
+
+zip-append : (ls ms : List Leaving) (ws bs : List Answer) → AllZip Fits ls ws → zip (ls ++ ms) (ws ++ bs) ≡ zip ls ws ++ zip ms bs
+zip-append [] ms [] bs first = refl
+zip-append [] ms (a ∷ ws) bs first = absurd first
+zip-append (l ∷ ls) ms [] bs first = absurd first
+zip-append (l ∷ ls) ms (a ∷ ws) bs first = ap (λ (xs : List (Leaving × Answer)). (l, a) ∷ xs) (zip-append ls ms ws bs first.1)
+
+asked-append : (c : Cast) (ls ms : List Leaving) (ws bs : List Answer) → AllZip Fits ls ws
+    → asked c (ls ++ ms) (ws ++ bs) ≡ asked c ls ws ++ asked c ms bs
+asked-append c [] ms [] bs first = refl
+asked-append c [] ms (a ∷ ws) bs first = absurd first
+asked-append c (l ∷ ls) ms [] bs first = absurd first
+asked-append c (l ∷ ls) ms (a ∷ ws) bs first = ap (λ (xs : List (Call × Answer)). (leaving_call c l, a) ∷ xs) (asked-append c ls ms ws bs first.1)
+
+pub let-nothing : (c : Cast) (e : Edge) → LetOut c [] e e
+unfolding Through
+let-nothing c e = record { answers = []; each = tt; link = refl; text = sym (append-nil e.text); late = sym (append-nil e.late) }
+
+-- of both lists
+of-both : (told : Leaving × Answer → List ℕ) (ls ms : List Leaving) (ws bs : List Answer) (old mid new : List ℕ) → AllZip Fits ls ws
+    → mid ≡ old ++ flat_map told (zip ls ws) → new ≡ mid ++ flat_map told (zip ms bs)
+    → new ≡ old ++ flat_map told (zip (ls ++ ms) (ws ++ bs))
+of-both told ls ms ws bs old mid new first one two =
+    two ∙ ap (λ (t : List ℕ). t ++ flat_map told (zip ms bs)) one ∙ append_assoc old (flat_map told (zip ls ws)) (flat_map told (zip ms bs))
+    ∙ ap (λ (t : List ℕ). old ++ t) (sym (flat_map-append told (zip ls ws) (zip ms bs))
+    ∙ ap (flat_map told) (sym (zip-append ls ms ws bs first)))
+
+calls-of-both : (c : Cast) (ls ms : List Leaving) (ws bs : List Answer) (k l m : LinkSeen) → AllZip Fits ls ws
+    → LinkAnswered k (asked c ls ws) l → LinkAnswered l (asked c ms bs) m → LinkAnswered k (asked c (ls ++ ms) (ws ++ bs)) m
+calls-of-both c ls ms ws bs k l m each first more =
+    subst (λ cs. LinkAnswered k cs m) (sym (asked-append c ls ms ws bs each))
+    (one-after-the-other LinkStep k l m (asked c ls ws) (asked c ms bs) first more)
+
+pub let-both : (c : Cast) (ls ms : List Leaving) (e f g : Edge) → LetOut c ls e f → LetOut c ms f g → LetOut c (ls ++ ms) e g
+let-both c ls ms e f g first more = record {
+  answers = first.answers ++ more.answers;
+  each = all_zip-append ls ms first.answers more.answers first.each more.each;
+  link = calls-of-both c ls ms first.answers more.answers e.link f.link g.link first.each first.link more.link;
+  text = of-both told_by ls ms first.answers more.answers e.text f.text g.text first.each first.text more.text;
+  late = of-both failed_by ls ms first.answers more.answers e.late f.late g.late first.each first.late more.late;
+}
+
+-- ---- one letter
+
+pub sent-one : (c : Cast) (me q : ℕ) (frame : List ℕ) (k l : LinkSeen) (text late : List ℕ)
+    → LinkStep k (SendsTo (c.port q) (c.seal me q frame), Done) l → LetOut c (Sends me q frame ∷ []) (edge k text late) (edge l text late)
+unfolding Through
+sent-one c me q frame k l text late step = record {
+  answers = Done ∷ [];
+  each = (tt, tt);
+  link = (l, step, refl);
+  text = sym (append-nil text);
+  late = sym (append-nil late);
+}
+
+pub failed-one : (c : Cast) (me q : ℕ) (frame : List ℕ) (k l : LinkSeen) (text late new : List ℕ)
+    → LinkStep k (SendsTo (c.port q) (c.seal me q frame), Failed) l → new ≡ late ++ fault_line me
+    → LetOut c (Sends me q frame ∷ []) (edge k text late) (edge l text new)
+unfolding Through
+failed-one c me q frame k l text late new step is = record {
+  answers = Failed ∷ [];
+  each = (tt, tt);
+  link = (l, step, refl);
+  text = sym (append-nil text);
+  late = is ∙ ap (λ (t : List ℕ). late ++ t) (sym (append-nil (fault_line me)));
+}
+
+-- ---- some of it
+
+pub begun-with : (c : Cast) (ls : List Leaving) (e f : Edge) → LetOut c ls e f → HasBegun c ls e.link f.link
+begun-with c ls e f out = record {
+  first = ls;
+  others = [];
+  splits = sym (append-nil ls);
+  answers = out.answers;
+  each = out.each;
+  link = out.link;
+}
+
+-- more was to come
+pub begun-front : (c : Cast) (ls ms : List Leaving) (k l : LinkSeen) → HasBegun c ls k l → HasBegun c (ls ++ ms) k l
+begun-front c ls ms k l some = record {
+  first = some.first;
+  others = some.others ++ ms;
+  splits = ap (λ (xs : List Leaving). xs ++ ms) some.splits ∙ append_assoc some.first some.others ms;
+  answers = some.answers;
+  each = some.each;
+  link = some.link;
+}
+
+-- others went out before
+pub begun-after : (c : Cast) (ls ms : List Leaving) (e f : Edge) (l : LinkSeen) → LetOut c ls e f → HasBegun c ms f.link l
+    → HasBegun c (ls ++ ms) e.link l
+begun-after c ls ms e f l before some = record {
+  first = ls ++ some.first;
+  others = some.others;
+  splits = ap (λ (xs : List Leaving). ls ++ xs) some.splits ∙ sym (append_assoc ls some.first some.others);
+  answers = before.answers ++ some.answers;
+  each = all_zip-append ls some.first before.answers some.answers before.each some.each;
+  link = calls-of-both c ls some.first before.answers some.answers e.link f.link l before.each before.link some.link;
+}
+
+pub let_out_in_a_row : LetOutInARow
+let_out_in_a_row = record { both = let-both; begun = begun-with; front = begun-front; after = begun-after }

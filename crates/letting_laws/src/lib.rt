@@ -1,0 +1,15 @@
+//! What a node lets out of a turn, and its calls: laws over the definitions alone, each the contract of a function with an empty body.
+#![tactic(auto)]
+
+ghost use Rattle.letting_laws.specs.Letting.{EachLetsOut, LetOutInARow};
+
+/// A node that is given an answer for each thing that its turn lets out makes just these calls, in this order, and is as it was but for
+/// the lines that wait.
+pub fn each_lets_out()
+    ensures { EachLetsOut }
+{}
+
+/// What was let out one after the other is let out together.
+pub fn let_out_in_a_row()
+    ensures { LetOutInARow }
+{}

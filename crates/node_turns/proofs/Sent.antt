@@ -1,0 +1,226 @@
+-- Letters that were sealed and sent.
+use Rattle.std.proofs.Common.{◌≡◌, inl, ℕ, ◌+◌, ◌<◌, ◌≤◌, List, [], ◌∷◌, ◌++◌, length, map, get_or, take, drop, Option, None, Some, refl, sym, ap, subst, ◌∙◌}
+use Rattle.std.specs.Prelude.{Result, Ok, Err, OnOk, OnErr, IsSome, IfSome, All, slice_index_or}
+use Rattle.std.specs.Option.{option_map_or}
+use Rattle.std.proofs.lemmas.Grind.{flat_map-append}
+use Rattle.std.proofs.lemmas.List.{append-nil, append_assoc, map-append, take_all, take_more, take-append-drop}
+use Rattle.pool_laws.proofs.Members.{Mem, All-mem, mem-All, mem-map, mem-behind, mem-flat_map, index-mem}
+use Rattle.stmt_codec.specs.declared.events.Sending.{Sending}
+use Rattle.member_state.specs.Events.{frame_to}
+use Rattle.rp_base.specs.Causes.{HasCause}
+use Rattle.rp_base.specs.Links.{Sends as LinkSends}
+use Rattle.link_defs.specs.Datagrams.{Known, sealed}
+use Rattle.auth_link.specs.declared.keys.LinkKeys.{LinkKeys}
+use Rattle.auth_link.specs.Keys.{known, pair_key}
+use Rattle.auth_link.specs.Opening.{sent_by}
+use Rattle.kit_defs.specs.Kits.{Kit}
+use Rattle.journal_defs.specs.declared.Version.{Version}
+use Rattle.node_defs.specs.Casts.{Cast, cast_of, datagram, known_of, pair_of}
+use Rattle.node_defs.specs.Lines.{fault_line}
+use Rattle.node_defs.specs.Nodes.{Sends, SendsTo, Answer}
+use Rattle.node_traces.specs.Outside.{LinkSeen, LinkStep}
+use Rattle.letting_laws.specs.Letting.{Edge, edge, LetOut, HasBegun}
+use Rattle.node_turns.specs.Letters.{letters_to, letters_in, sends_of, IsSealable, answer_of}
+use Rattle.letting_laws.proofs.Joined.{let-nothing, let-both, sent-one, failed-one, begun-with, begun-after, begun-front}
+
+-- ---- one letter
+
+-- the link did what its call answered
+pub sent-so : {T E : Type 0} (result : Result T E) (k l : LinkSeen) (port : ℕ) (bytes : List ℕ)
+    → OnOk result (LinkSends k.sent l.sent k.coming l.coming port bytes) → OnErr result ((l.sent ≡ k.sent) × (l.coming ≡ k.coming))
+    → HasCause k.faults l.faults result → LinkStep k (SendsTo port bytes, answer_of result) l
+sent-so (Ok x) k l port bytes ok err cause = record { sends = ok; steady = cause.steady }
+sent-so (Err e) k l port bytes ok err cause = record { sent = err.0; coming = err.1; rose = cause.failed }
+
+-- the datagram that is sealed with the key that this process shares with that one
+abbrev IsSealed : Known → ℕ → List ℕ → List ℕ → Type 0
+IsSealed k to frame bytes = IfSome (k.pair to)
+    (λ key. bytes ≡ sealed key (record { group = k.group; from = k.me; to = to; frame = frame }))
+
+pub sealed-so : (kit : Kit) (me to : ℕ) (frame bytes : List ℕ) (keys : LinkKeys) → known keys ≡ known_of kit me → IsSome (pair_of kit me to)
+    → IfSome (pair_key keys to) (λ key. bytes ≡ sealed key (sent_by keys to frame))
+    → bytes ≡ option_map_or (λ key. sealed key (datagram kit me to frame)) (pair_of kit me to) []
+sealed-so kit me to frame bytes keys same shared is =
+    go (pair_of kit me to) shared (subst (λ (k : Known). IsSealed k to frame bytes) same is)
+  where
+    go : (o : Option (List ℕ)) → IsSome o → IfSome o (λ key. bytes ≡ sealed key (datagram kit me to frame))
+        → bytes ≡ option_map_or (λ key. sealed key (datagram kit me to frame)) o []
+    go None none is = absurd cc
+    go (Some key) some is = is
+
+pub shares-key : (kit : Kit) (me to : ℕ) (keys : LinkKeys) → known keys ≡ known_of kit me → IsSome (pair_of kit me to)
+    → IsSome (pair_key keys to)
+shares-key kit me to keys same shared = subst (λ (k : Known). IsSome (k.pair to)) (sym same) shared
+
+-- the letter's datagram went to its port, or the send failed
+pub letter-sent : {T E : Type 0} (kit : Kit) (version : Version) (me to : ℕ) (frame bytes : List ℕ) (port : ℕ) (result : Result T E)
+    (k l : LinkSeen) → port ≡ (cast_of kit version).port to → bytes ≡ (cast_of kit version).seal me to frame
+    → LinkStep k (SendsTo port bytes, answer_of result) l
+    → LinkStep k (SendsTo ((cast_of kit version).port to) ((cast_of kit version).seal me to frame), answer_of result) l
+letter-sent kit version me to frame bytes port result k l port_is sealed_is step =
+    subst (λ (p : ℕ). LinkStep k (SendsTo p ((cast_of kit version).seal me to frame), answer_of result) l) port_is
+    (subst (λ (b : List ℕ). LinkStep k (SendsTo port b, answer_of result) l) sealed_is step)
+
+pub on-ok : {T E P Q : Type 0} (r : Result T E) → (P → Q) → OnOk r P → OnOk r Q
+on-ok (Ok x) f p = f p
+on-ok (Err e) f p = tt
+
+pub on-err : {T E Q : Type 0} (r : Result T E) → Q → OnErr r Q
+on-err (Ok x) q = tt
+on-err (Err e) q = q
+
+pub letter-out : {T E : Type 0} (c : Cast) (me to : ℕ) (frame : List ℕ) (k l : LinkSeen) (late : List ℕ) (r : Result T E) (x : T) → r ≡ Ok x
+    → LinkStep k (SendsTo (c.port to) (c.seal me to frame), answer_of r) l
+    → LetOut c (sends_of me ((to, frame) ∷ [])) (edge k [] late) (edge l [] late)
+letter-out c me to frame k l late r x is step = sent-one c me to frame k l [] late
+    (subst (λ (a : Answer). LinkStep k (SendsTo (c.port to) (c.seal me to frame), a) l) (ap answer_of is) step)
+
+pub letter-failed : {T E : Type 0} (c : Cast) (me to : ℕ) (frame : List ℕ) (k l : LinkSeen) (late new : List ℕ) (r : Result T E) (e : E)
+    → r ≡ Err e → LinkStep k (SendsTo (c.port to) (c.seal me to frame), answer_of r) l → new ≡ late ++ fault_line me
+    → LetOut c (sends_of me ((to, frame) ∷ [])) (edge k [] late) (edge l [] new)
+letter-failed c me to frame k l late new r e is step more = failed-one c me to frame k l [] late new
+    (subst (λ (a : Answer). LinkStep k (SendsTo (c.port to) (c.seal me to frame), a) l) (ap answer_of is) step) more
+
+-- whatever becomes of its line, the letter was tried
+pub letter-begun : {T E : Type 0} (c : Cast) (me to : ℕ) (frame : List ℕ) (k l : LinkSeen) (r : Result T E) (e : E) → r ≡ Err e
+    → LinkStep k (SendsTo (c.port to) (c.seal me to frame), answer_of r) l → HasBegun c (sends_of me ((to, frame) ∷ [])) k l
+letter-begun c me to frame k l r e is step = begun-with c (sends_of me ((to, frame) ∷ [])) (edge k [] []) (edge l [] (fault_line me))
+    (letter-failed c me to frame k l [] (fault_line me) r e is step refl)
+
+-- ---- the letters of a frame
+
+abbrev to_each : List ℕ → List ℕ → List (ℕ × List ℕ)
+to_each frame ps = map (λ q. (q, frame)) ps
+
+sends-append : (me : ℕ) (xs ys : List (ℕ × List ℕ)) → sends_of me (xs ++ ys) ≡ sends_of me xs ++ sends_of me ys
+sends-append me xs ys = map-append (λ (l : ℕ × List ℕ). Sends me l.0 l.1) xs ys
+
+-- the letters to the first of these processes went out, and those to others are left
+pub record Along (c : Cast) (me : ℕ) (frame : List ℕ) (all left : List ℕ) (e f : Edge) : Type 0 where
+  pub done : List ℕ
+  pub splits : all ≡ done ++ left
+  pub out : LetOut c (sends_of me (to_each frame done)) e f
+
+pub along-begins : (c : Cast) (me : ℕ) (frame all left : List ℕ) (e : Edge) → left ≡ all → Along c me frame all left e e
+along-begins c me frame all left e same = record { done = []; splits = sym same; out = let-nothing c e }
+
+one-more : (me : ℕ) (frame done : List ℕ) (q : ℕ)
+    → sends_of me (to_each frame done) ++ sends_of me ((q, frame) ∷ []) ≡ sends_of me (to_each frame (done ++ q ∷ []))
+one-more me frame done q = sym (sends-append me (to_each frame done) ((q, frame) ∷ []))
+    ∙ ap (sends_of me) (sym (map-append (λ (q : ℕ). (q, frame)) done (q ∷ [])))
+
+pub along-more : (c : Cast) (me : ℕ) (frame all : List ℕ) (q : ℕ) (left : List ℕ) (e f g : Edge) → Along c me frame all (q ∷ left) e f
+    → LetOut c (sends_of me ((q, frame) ∷ [])) f g → Along c me frame all left e g
+along-more c me frame all q left e f g before one = record {
+  done = before.done ++ q ∷ [];
+  splits = before.splits ∙ sym (append_assoc before.done (q ∷ []) left);
+  out = subst (λ ls. LetOut c ls e g) (one-more me frame before.done q)
+      (let-both c (sends_of me (to_each frame before.done)) (sends_of me ((q, frame) ∷ [])) e f g before.out one);
+}
+
+pub along-ended : (c : Cast) (me : ℕ) (frame all left : List ℕ) (e f : Edge) → left ≡ [] → Along c me frame all left e f
+    → LetOut c (sends_of me (to_each frame all)) e f
+along-ended c me frame all left e f none before =
+    subst (λ ps. LetOut c (sends_of me (to_each frame ps)) e f)
+    (sym (append-nil before.done) ∙ ap (λ ps. before.done ++ ps) (sym none) ∙ sym before.splits) before.out
+
+with-rest : (me : ℕ) (frame all done : List ℕ) (q : ℕ) (left : List ℕ) → all ≡ done ++ q ∷ left
+    → (sends_of me (to_each frame done) ++ sends_of me ((q, frame) ∷ [])) ++ sends_of me (to_each frame left) ≡ sends_of me (to_each frame all)
+with-rest me frame all done q left splits =
+    ap (λ ls. ls ++ sends_of me (to_each frame left)) (one-more me frame done q)
+    ∙ sym (sends-append me (to_each frame (done ++ q ∷ [])) (to_each frame left))
+    ∙ ap (sends_of me) (sym (map-append (λ (q : ℕ). (q, frame)) (done ++ q ∷ []) left))
+    ∙ ap (λ ps. sends_of me (to_each frame ps)) (append_assoc done (q ∷ []) left ∙ sym splits)
+
+pub along-begun : (c : Cast) (me : ℕ) (frame all : List ℕ) (q : ℕ) (left : List ℕ) (e f : Edge) (l : LinkSeen)
+    → Along c me frame all (q ∷ left) e f → HasBegun c (sends_of me ((q, frame) ∷ [])) f.link l
+    → HasBegun c (sends_of me (to_each frame all)) e.link l
+along-begun c me frame all q left e f l before some =
+    subst (λ ls. HasBegun c ls e.link l) (with-rest me frame all before.done q left before.splits)
+    (begun-front c (sends_of me (to_each frame before.done) ++ sends_of me ((q, frame) ∷ [])) (sends_of me (to_each frame left)) e.link l
+    (begun-after c (sends_of me (to_each frame before.done)) (sends_of me ((q, frame) ∷ [])) e f l before.out some))
+
+pub next-sealable : (c : Cast) (kit : Kit) (me : ℕ) (frame all : List ℕ) (q : ℕ) (left : List ℕ) (e f : Edge)
+    → Along c me frame all (q ∷ left) e f → All (IsSealable kit me) (to_each frame all) → IsSealable kit me (q, frame)
+next-sealable c kit me frame all q left e f before each = All-mem (IsSealable kit me) (to_each frame all) (q, frame) each
+    (mem-map (λ (q : ℕ). (q, frame)) all q
+    (subst (λ ps. Mem q ps) (sym before.splits) (mem-behind before.done (q ∷ left) q (inl refl))))
+
+-- as the loop has it: the processes that were left before this one, and the bytes of the frame as they are lent
+pub along-step : (c : Cast) (me : ℕ) (frame all : List ℕ) (q : ℕ) (left old bytes : List ℕ) (e f g : Edge) → old ≡ q ∷ left → bytes ≡ frame
+    → Along c me frame all old e f → LetOut c (sends_of me ((q, bytes) ∷ [])) f g → Along c me frame all left e g
+along-step c me frame all q left old bytes e f g steps lent before one =
+    along-more c me frame all q left e f g (subst (λ ps. Along c me frame all ps e f) steps before)
+    (subst (λ b. LetOut c (sends_of me ((q, b) ∷ [])) f g) lent one)
+
+pub along-stop : (c : Cast) (me : ℕ) (frame all : List ℕ) (q : ℕ) (left old bytes : List ℕ) (e f : Edge) (l : LinkSeen) → old ≡ q ∷ left
+    → bytes ≡ frame → Along c me frame all old e f → HasBegun c (sends_of me ((q, bytes) ∷ [])) f.link l
+    → HasBegun c (sends_of me (to_each frame all)) e.link l
+along-stop c me frame all q left old bytes e f l steps lent before some =
+    along-begun c me frame all q left e f l (subst (λ ps. Along c me frame all ps e f) steps before)
+    (subst (λ b. HasBegun c (sends_of me ((q, b) ∷ [])) f.link l) lent some)
+
+pub along-sealable : (c : Cast) (kit : Kit) (me : ℕ) (frame all : List ℕ) (q : ℕ) (left old bytes : List ℕ) (e f : Edge) → old ≡ q ∷ left
+    → bytes ≡ frame → Along c me frame all old e f → All (IsSealable kit me) (to_each frame all) → IsSealable kit me (q, bytes)
+along-sealable c kit me frame all q left old bytes e f steps lent before each =
+    subst (λ b. IsSealable kit me (q, b)) (sym lent)
+    (next-sealable c kit me frame all q left e f (subst (λ ps. Along c me frame all ps e f) steps before) each)
+
+-- ---- the frames
+
+letters-snoc : (xs : List Sending) (x : Sending) → letters_in (xs ++ x ∷ []) ≡ letters_in xs ++ letters_to (frame_to x)
+letters-snoc xs x = flat_map-append (λ (out : Sending). letters_to (frame_to out)) xs (x ∷ [])
+    ∙ ap (λ ls. letters_in xs ++ ls) (append-nil (letters_to (frame_to x)))
+
+pub frames-more : (c : Cast) (me : ℕ) (xs ys : List Sending) (x : Sending) (e f g : Edge) → ys ≡ xs ++ x ∷ []
+    → LetOut c (sends_of me (letters_in xs)) e f → LetOut c (sends_of me (letters_to (frame_to x))) f g
+    → LetOut c (sends_of me (letters_in ys)) e g
+frames-more c me xs ys x e f g is before one =
+    subst (λ ls. LetOut c ls e g) (sym (sends-append me (letters_in xs) (letters_to (frame_to x)))
+    ∙ ap (sends_of me) (sym (letters-snoc xs x) ∙ ap letters_in (sym is)))
+    (let-both c (sends_of me (letters_in xs)) (sends_of me (letters_to (frame_to x))) e f g before one)
+
+pub frames-begun : (c : Cast) (me : ℕ) (all xs : List Sending) (x : Sending) (rest : List Sending) (e f : Edge) (l : LinkSeen)
+    → all ≡ (xs ++ x ∷ []) ++ rest → LetOut c (sends_of me (letters_in xs)) e f
+    → HasBegun c (sends_of me (letters_to (frame_to x))) f.link l → HasBegun c (sends_of me (letters_in all)) e.link l
+frames-begun c me all xs x rest e f l is before some =
+    subst (λ ls. HasBegun c ls e.link l) whole
+    (begun-front c (sends_of me (letters_in xs) ++ sends_of me (letters_to (frame_to x))) (sends_of me (letters_in rest)) e.link l
+    (begun-after c (sends_of me (letters_in xs)) (sends_of me (letters_to (frame_to x))) e f l before some))
+  where
+    whole : (sends_of me (letters_in xs) ++ sends_of me (letters_to (frame_to x))) ++ sends_of me (letters_in rest)
+        ≡ sends_of me (letters_in all)
+    whole = ap (λ ls. ls ++ sends_of me (letters_in rest)) (sym (sends-append me (letters_in xs) (letters_to (frame_to x)))
+        ∙ ap (sends_of me) (sym (letters-snoc xs x)))
+        ∙ sym (sends-append me (letters_in (xs ++ x ∷ [])) (letters_in rest))
+        ∙ ap (sends_of me) (sym (flat_map-append (λ (out : Sending). letters_to (frame_to out)) (xs ++ x ∷ []) rest) ∙ ap letters_in (sym is))
+
+pub frame-sealable : (kit : Kit) (me : ℕ) (sends : List Sending) (i : ℕ) (d : Sending) → i < length sends
+    → All (IsSealable kit me) (letters_in sends) → All (IsSealable kit me) (letters_to (frame_to (slice_index_or sends i d)))
+frame-sealable kit me sends i d lt each = mem-All (IsSealable kit me) (letters_to (frame_to (slice_index_or sends i d)))
+    (λ letter m. All-mem (IsSealable kit me) (letters_in sends) letter each
+    (mem-flat_map (λ (out : Sending). letters_to (frame_to out)) sends (slice_index_or sends i d) letter (index-mem sends i d lt) m))
+
+-- as the loop has it: this is the frame at the place
+pub frames-step : (c : Cast) (me : ℕ) (sends : List Sending) (i : ℕ) (x : Sending) (e f g : Edge) → i < length sends → x ≡ get_or sends i x
+    → LetOut c (sends_of me (letters_in (take i sends))) e f → LetOut c (sends_of me (letters_to (frame_to x))) f g
+    → LetOut c (sends_of me (letters_in (take (i + 1) sends))) e g
+frames-step c me sends i x e f g lt is before one = frames-more c me (take i sends) (take (i + 1) sends) x e f g
+    (take_more sends i x lt ∙ ap (λ (y : Sending). take i sends ++ y ∷ []) (sym is)) before one
+
+pub frames-stop : (c : Cast) (me : ℕ) (sends : List Sending) (i : ℕ) (x : Sending) (e f : Edge) (l : LinkSeen) → i < length sends
+    → x ≡ get_or sends i x → LetOut c (sends_of me (letters_in (take i sends))) e f
+    → HasBegun c (sends_of me (letters_to (frame_to x))) f.link l → HasBegun c (sends_of me (letters_in sends)) e.link l
+frames-stop c me sends i x e f l lt is before some = frames-begun c me sends (take i sends) x (drop (i + 1) sends) e f l
+    (sym (take-append-drop (i + 1) sends) ∙ ap (λ (ys : List Sending). ys ++ drop (i + 1) sends)
+    (take_more sends i x lt ∙ ap (λ (y : Sending). take i sends ++ y ∷ []) (sym is))) before some
+
+pub item-sealable : (kit : Kit) (me : ℕ) (sends : List Sending) (i : ℕ) (x : Sending) → i < length sends → x ≡ get_or sends i x
+    → All (IsSealable kit me) (letters_in sends) → All (IsSealable kit me) (letters_to (frame_to x))
+item-sealable kit me sends i x lt is each =
+    subst (λ (y : Sending). All (IsSealable kit me) (letters_to (frame_to y))) (sym is) (frame-sealable kit me sends i x lt each)
+
+pub frames-ended : (c : Cast) (me : ℕ) (sends : List Sending) (i : ℕ) (e f : Edge) → length sends ≤ i
+    → LetOut c (sends_of me (letters_in (take i sends))) e f → LetOut c (sends_of me (letters_in sends)) e f
+frames-ended c me sends i e f past before =
+    subst (λ (ys : List Sending). LetOut c (sends_of me (letters_in ys)) e f) (take_all i sends past) before

@@ -1,0 +1,55 @@
+//! Letting a turn out.
+ghost use Rattle.std.specs.Prelude.{◌≡◌, ◌≤◌, length, All, IfSome, OnOk, OnErr};
+ghost use Rattle.group_defs.specs.Events.{Outcome};
+ghost use Rattle.journal_defs.specs.declared.Version.{Version};
+ghost use Rattle.journal_rp.specs.Turns.{outcome_of, staged_of};
+ghost use Rattle.member_state.specs.Events.{IsOutcome};
+ghost use Rattle.node_defs.specs.Casts.{cast_of};
+ghost use Rattle.node_defs.specs.Nodes.{leaving_of};
+ghost use Rattle.node_turns.specs.Kept.{IsLast};
+ghost use Rattle.letting_laws.specs.Letting.{HasBegun};
+ghost use Rattle.node_turns.specs.Letters.{IsSealable, LetsTurnOut, letters_in, link_seen};
+
+use crate::notes::tell_notes;
+use crate::sending::let_frames_out;
+use crate::speaker::Speaker;
+use journal_rp::{Synced, Turn};
+use rp_base::{Disk, Link, NoMemory};
+use std::alloc::Global;
+
+/// Lets out what a turn sends and tells, once its entry is in the journal for good, which the disk is lent for: each frame is sealed in the
+/// room for each process that it goes to, by rising number, and sent to that one's port; then each note is a line behind the text, and last
+/// a line for each send that failed. The room has at least 61,054 bytes (`SEALED_BYTES`), so sealing takes no memory.
+///
+/// # Errors
+/// `NoMemory` where memory for a line is refused: the first letters and notes went out, and the text is as it was.
+pub fn let_out<P: Drop, D: Disk, L: Link>(
+    alloc: Global,
+    turn: &Turn<Synced, P>,
+    speaker: &Speaker<'_>,
+    disk: &D,
+    link: &mut L,
+    room: &mut [u8],
+    text: &mut Vec<u8>,
+) -> Result<(), NoMemory>
+    // Where the disk tells, each of its images holds the turn's entry.
+    requires kept { IfSome (D.seen disk.now) (λ file. IsLast (D.seen disk.now) (D.may_leave disk.now) (staged_of turn.now)) }
+    requires sealable { All (IsSealable speaker.now.kit.now speaker.now.me) (letters_in (outcome_of turn.now).sends.items) }
+    requires room { 61054 ≤ length room.old }
+
+    // Just these calls, in this order, with answers that are told as the text says.
+    ensures out { (version : Version) (o : Outcome) → IsOutcome o (outcome_of turn.now)
+        → OnOk result (LetsTurnOut (cast_of speaker.now.kit.now version) (leaving_of speaker.now.me o)
+        (link_seen L.sent L.coming L.faults link.old) (link_seen L.sent L.coming L.faults link.new) text.old.items text.new.items) }
+
+    // The first of these calls, in this order.
+    ensures begun { (version : Version) (o : Outcome) → IsOutcome o (outcome_of turn.now)
+        → OnErr result (HasBegun (cast_of speaker.now.kit.now version) (leaving_of speaker.now.me o)
+        (link_seen L.sent L.coming L.faults link.old) (link_seen L.sent L.coming L.faults link.new)) }
+    ensures unchanged { OnErr result (text.new.items ≡ text.old.items) }
+{
+    let _ = disk;
+    let mut late = Vec::new(alloc);
+    let_frames_out(speaker, turn.sends(), link, room, &mut late)?;
+    tell_notes(speaker.me, turn.notes(), late.as_slice(), text)
+}

@@ -1,0 +1,14 @@
+//! What a node does with one turn, once its entry is in the journal for good: it lets out what the turn sends, and tells its notes
+//! (docs/FORMATS.md, «Nodes»).
+#![tactic(auto)]
+
+mod letting;
+mod notes;
+mod sending;
+mod speaker;
+
+pub use journal_rp::{Synced, Turn};
+pub use letting::let_out;
+pub use node_keys::{Kit, LinkKeys};
+pub use sending::SEALED_BYTES;
+pub use speaker::Speaker;

@@ -1,0 +1,114 @@
+//! The letters of a turn.
+ghost use Rattle.std.specs.Prelude.{◌≡◌, ◌≤◌, [], ◌∷◌, ℕ, List, length, map, All, OnOk, OnErr};
+ghost use Rattle.journal_defs.specs.declared.Version.{Version};
+ghost use Rattle.node_defs.specs.Casts.{cast_of};
+ghost use Rattle.node_defs.specs.Nodes.{SendsTo};
+ghost use Rattle.node_traces.specs.Outside.{LinkStep};
+ghost use Rattle.member_state.specs.Events.{frame_to};
+ghost use Rattle.letting_laws.specs.Letting.{edge, LetOut, HasBegun};
+ghost use Rattle.node_turns.specs.Letters.{IsSealable, letters_in, letters_to, sends_of, answer_of, link_seen};
+
+use crate::speaker::Speaker;
+use auth_link::{FRAME_BYTES, SEAL_BYTES, seal_into};
+use node_text::push_fault;
+use rp_base::{Failed, Link, NoMemory, Pid};
+use stmt_codec::Sending;
+
+/// The most bytes of a frame that is sealed. A room of so many serves for each letter.
+pub const SEALED_BYTES: usize = FRAME_BYTES + SEAL_BYTES;
+
+// Seals the frame for this process, and sends it.
+fn send_letter<L: Link>(
+    speaker: &Speaker<'_>,
+    to: Pid,
+    frame: &[u8],
+    link: &mut L,
+    room: &mut [u8],
+) -> Result<(), Failed>
+    requires sealable { IsSealable speaker.now.kit.now speaker.now.me (to, frame.now) }
+    requires room { 61054 ≤ length room.old }
+    ensures { (version : Version) → let c = cast_of speaker.now.kit.now version in
+        LinkStep (link_seen L.sent L.coming L.faults link.old) (SendsTo (c.port to) (c.seal speaker.now.me to frame.now), answer_of result)
+        (link_seen L.sent L.coming L.faults link.new) }
+{
+    let len = seal_into(speaker.keys, to, frame, room);
+    let (datagram, _) = room.split_at(len);
+    link.send(speaker.port(to), datagram)
+}
+
+// Lets a letter out: where its send fails, a line tells of it.
+fn let_letter_out<L: Link>(
+    speaker: &Speaker<'_>,
+    to: Pid,
+    frame: &[u8],
+    link: &mut L,
+    room: &mut [u8],
+    late: &mut Vec<u8>,
+) -> Result<(), NoMemory>
+    requires sealable { IsSealable speaker.now.kit.now speaker.now.me (to, frame.now) }
+    requires room { 61054 ≤ length room.old }
+    ensures out { (version : Version) → OnOk result (LetOut (cast_of speaker.now.kit.now version)
+        (sends_of speaker.now.me ((to, frame.now) ∷ []))
+        (edge (link_seen L.sent L.coming L.faults link.old) [] late.old.items)
+        (edge (link_seen L.sent L.coming L.faults link.new) [] late.new.items)) }
+    ensures begun { (version : Version) → OnErr result (HasBegun (cast_of speaker.now.kit.now version)
+        (sends_of speaker.now.me ((to, frame.now) ∷ [])) (link_seen L.sent L.coming L.faults link.old)
+        (link_seen L.sent L.coming L.faults link.new)) }
+{
+    match send_letter(speaker, to, frame, link, room) {
+        Ok(()) => Ok(()),
+        Err(Failed) => push_fault(late, speaker.me),
+    }
+}
+
+// The letters of a frame, by rising number of whom they go to.
+fn let_frame_out<L: Link>(
+    speaker: &Speaker<'_>,
+    out: &Sending,
+    link: &mut L,
+    room: &mut [u8],
+    late: &mut Vec<u8>,
+) -> Result<(), NoMemory>
+    requires sealable { All (IsSealable speaker.now.kit.now speaker.now.me) (letters_to (frame_to out.now)) }
+    requires room { 61054 ≤ length room.old }
+    ensures out { (version : Version) → OnOk result (LetOut (cast_of speaker.now.kit.now version)
+        (sends_of speaker.now.me (letters_to (frame_to out.now)))
+        (edge (link_seen L.sent L.coming L.faults link.old) [] late.old.items)
+        (edge (link_seen L.sent L.coming L.faults link.new) [] late.new.items)) }
+    ensures begun { (version : Version) → OnErr result (HasBegun (cast_of speaker.now.kit.now version)
+        (sends_of speaker.now.me (letters_to (frame_to out.now))) (link_seen L.sent L.coming L.faults link.old)
+        (link_seen L.sent L.coming L.faults link.new)) }
+{
+    'letters: for to in out.to.iter() {
+        let_letter_out(speaker, to, out.frame.bytes(), link, room, late)?;
+    }
+    Ok(())
+}
+
+/// Lets the letters of these frames out, frame by frame and by rising number of whom each goes to: each is sealed in the room and sent.
+/// For each send that fails a line is appended to `late`.
+///
+/// # Errors
+/// `NoMemory` where memory for such a line is refused: the first letters went out, and the others were not tried.
+pub(crate) fn let_frames_out<L: Link>(
+    speaker: &Speaker<'_>,
+    sends: &[Sending],
+    link: &mut L,
+    room: &mut [u8],
+    late: &mut Vec<u8>,
+) -> Result<(), NoMemory>
+    requires sealable { All (IsSealable speaker.now.kit.now speaker.now.me) (letters_in sends.now) }
+    requires room { 61054 ≤ length room.old }
+    ensures out { (version : Version) → OnOk result (LetOut (cast_of speaker.now.kit.now version)
+        (sends_of speaker.now.me (letters_in sends.now))
+        (edge (link_seen L.sent L.coming L.faults link.old) [] late.old.items)
+        (edge (link_seen L.sent L.coming L.faults link.new) [] late.new.items)) }
+    ensures begun { (version : Version) → OnErr result (HasBegun (cast_of speaker.now.kit.now version)
+        (sends_of speaker.now.me (letters_in sends.now)) (link_seen L.sent L.coming L.faults link.old)
+        (link_seen L.sent L.coming L.faults link.new)) }
+{
+    'frames: for out in sends {
+        let_frame_out(speaker, out, link, room, late)?;
+    }
+    Ok(())
+}

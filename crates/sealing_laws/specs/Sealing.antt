@@ -1,0 +1,24 @@
+-- That each letter of a turn can be sealed.
+use Rattle.std.specs.Prelude.{ℕ, List, [], ◌∷◌, ◌++◌, All, IsTrue}
+use Rattle.byte_defs.specs.Members.{has}
+use Rattle.message_defs.specs.Spelling.{IsClaim}
+use Rattle.kit_defs.specs.Kits.{Kit, IsKit}
+use Rattle.group_defs.specs.Process.{Setting, Process, start}
+use Rattle.group_defs.specs.Family.{handed_to}
+use Rattle.group_defs.specs.Events.{Turn, after, outcome, run}
+use Rattle.stmt_codec.specs.declared.events.Outcome.{Outcome}
+use Rattle.member_state.specs.Events.{IsOutcome}
+use Rattle.node_defs.specs.Casts.{hosted_by, setting_of}
+use Rattle.letter_laws.specs.Letters.{IsFromOther}
+use Rattle.node_turns.specs.Letters.{IsSealable, letters_in}
+
+-- A hosted process of a kit, whatever claims in range it was handed, as long as the frame is not its own: where all that it has signed by
+-- then is in range, it shares a key with whom each letter goes to, and no frame is too long.
+abbrev pub CanBeSealed : Kit → ℕ → Process → Turn → Outcome → Type 0
+CanBeSealed kit me p t r = All IsClaim (after (setting_of kit) p t).signed → IsOutcome (outcome (setting_of kit) p t) r
+    → All (IsSealable kit me) (letters_in r.sends.items)
+
+abbrev pub LettersCanBeSealed : Type 0
+LettersCanBeSealed = (kit : Kit) (me limit : ℕ) (ts : List Turn) (t : Turn) (r : Outcome) → IsKit kit → IsTrue (has (hosted_by kit) me)
+    → IsFromOther me t.event → All IsClaim (handed_to (ts ++ t ∷ []))
+    → CanBeSealed kit me (run (setting_of kit) (start (setting_of kit) me limit) ts) t r
