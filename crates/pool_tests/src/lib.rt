@@ -8,6 +8,8 @@ mod chains;
 #[cfg(test)]
 mod convictions;
 #[cfg(test)]
+mod firsts;
+#[cfg(test)]
 mod group;
 #[cfg(test)]
 mod multicast;

@@ -1,0 +1,31 @@
+use Rattle.std.proofs.Common.{◌≡◌, [], ◌∷◌, ◌++◌, map, ap, ◌∙◌}
+use Rattle.std.specs.Prelude.{filter_map}
+use Rattle.rp_base.specs.PidsLeft.{pids_left}
+use Rattle.claim_firsts.specs.Told.{conviction, conviction_by}
+use Rattle.claim_firsts.proofs.Telling.{next-none, next-told, none-left}
+use Rattle.claim_firsts.proofs.firsts.Firsts.convictions_of.Goals as goal
+
+pub loop-q-init : goal.loop-q-init
+loop-q-init c =
+    let left : pids_left c.into_iter-q-iterator.result ≡ c.args.of = cc
+    (c.into_iter-q-iterator.ensures.into_iter_gives, c.iter-q-items.ensures) in
+    ap (λ xs. map conviction xs ++ filter_map (conviction_by c.args.self.now) (pids_left c.into_iter-q-iterator.result)) c.new-all.ensures.items
+    ∙ ap (filter_map (conviction_by c.args.self.now)) left
+
+pub loop-q-preserved-in-Ok-1 : goal.loop-q-preserved-in-Ok-1
+loop-q-preserved-in-Ok-1 c =
+    ap (λ xs. map conviction xs ++ filter_map (conviction_by c.args.self.now) (pids_left c.next.new.self))
+    (c.in-Ok.ensures.items ∙ ap (λ xs. xs ++ c.in-Some-conviction_of.told ∷ []) c.in_ok-reserve.ensures.items)
+    ∙ next-told (conviction_by c.args.self.now) c.loop-q.all.items (pids_left c.loop-q.q-iterator) (pids_left c.next.new.self) c.in-Some.q
+    (filter_map (conviction_by c.args.self.now) c.args.of) c.loop-q.invariant c.in-Some.ensures.steps c.in-Some-conviction_of.told
+    c.in-Some-conviction_of.ensures
+
+pub loop-q-preserved : goal.loop-q-preserved
+loop-q-preserved c =
+    next-none (conviction_by c.args.self.now) c.loop-q.all.items (pids_left c.loop-q.q-iterator) (pids_left c.next.new.self) c.in-Some.q
+    (filter_map (conviction_by c.args.self.now) c.args.of) c.loop-q.invariant c.in-Some.ensures.steps c.in_default.ensures
+
+pub returns : goal.returns
+returns c =
+    none-left (conviction_by c.args.self.now) c.loop-q.all.items (pids_left c.loop-q.q-iterator)
+    (filter_map (conviction_by c.args.self.now) c.args.of) c.loop-q.invariant c.in-None.ensures.steps.0

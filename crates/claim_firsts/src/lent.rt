@@ -1,0 +1,67 @@
+//! Claims as a table keeps them: lent by what was handed over.
+ghost use Rattle.std.specs.Prelude.{◌≡◌};
+ghost use Rattle.stmt_codec.specs.Views.{stmt, claim as claim_of};
+ghost use Rattle.conviction_defs.specs.Convictions as defs;
+
+use stmt_codec::{Claim, Statement, conflicts};
+
+/// A claim of the table.
+#[derive(Clone, Copy)]
+pub struct Lent<'a> {
+    pub claim: Claim<'a>,
+}
+
+// The statement, once more. Written out, since what lends bytes is not copied from a reference (docs/CONTRIBUTING.md).
+fn statement_again<'a>(statement: &Statement<'a>) -> Statement<'a>
+    ensures { stmt result ≡ stmt statement.now }
+{
+    match *statement {
+        Statement::Init {
+            view,
+            number,
+            payload,
+        } => Statement::Init {
+            view,
+            number,
+            payload,
+        },
+        Statement::Echo {
+            view,
+            sender,
+            number,
+            payload,
+        } => Statement::Echo {
+            view,
+            sender,
+            number,
+            payload,
+        },
+        Statement::Order { view, place, batch } => Statement::Order { view, place, batch },
+        Statement::Place { view, place, batch } => Statement::Place { view, place, batch },
+        Statement::Keep { view, place, batch } => Statement::Keep { view, place, batch },
+        Statement::Notify { view, update } => Statement::Notify { view, update },
+        Statement::End { view, length } => Statement::End { view, length },
+        Statement::Last { view, rank, ready } => Statement::Last { view, rank, ready },
+        Statement::Suggest { view, rank, value } => Statement::Suggest { view, rank, value },
+        Statement::Ack { view, rank, value } => Statement::Ack { view, rank, value },
+        Statement::Ready { view, rank, value } => Statement::Ready { view, rank, value },
+    }
+}
+
+/// The claim, once more.
+pub fn claim_again<'a>(claim: &Claim<'a>) -> Claim<'a>
+    ensures { claim_of result ≡ claim_of claim.now }
+{
+    Claim {
+        signer: claim.signer,
+        statement: statement_again(&claim.statement),
+        signature: claim.signature,
+    }
+}
+
+/// Whether the claim is on the slot of the other and says something else.
+pub fn is_conflict(claim: &Claim<'_>, other: &Claim<'_>) -> bool
+    ensures { result ≡ defs.is_conflict (claim_of other.now) (claim_of claim.now) }
+{
+    conflicts(&claim.statement, &other.statement)
+}

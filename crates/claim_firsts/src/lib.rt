@@ -1,0 +1,10 @@
+//! The first valid claim of each signer and slot, from which it is told who is convicted and by which two claims (docs/PROTOCOL.md,
+//! «Statements and slots»).
+#![tactic(auto)]
+
+mod conviction;
+mod firsts;
+mod lent;
+
+pub use conviction::Conviction;
+pub use firsts::Firsts;
