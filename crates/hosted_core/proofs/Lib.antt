@@ -1,2 +1,3 @@
 mod Turned
 mod Absorbed
+pub mod Cores
