@@ -4,6 +4,8 @@
 #[cfg(test)]
 mod files;
 #[cfg(test)]
+mod lost;
+#[cfg(test)]
 mod runs;
 #[cfg(test)]
 mod tests;

@@ -1,0 +1,9 @@
+use Rattle.std.proofs.Common.{Some}
+use Rattle.rp_devices.specs.Disks.{disk_bytes}
+use Rattle.journal_disk.specs.Disks.{HasLength}
+use Rattle.journal_rp.specs.Stages.{len_of}
+use Rattle.journal_rp_tests.proofs.lost.signed.Given as goal
+
+-- the disk is as long as the last read left it
+abbrev pub invariant-entries : goal.invariant-entries
+invariant-entries l = HasLength (Some (disk_bytes l.disk)) (len_of l.journal)
