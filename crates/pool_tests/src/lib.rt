@@ -4,6 +4,8 @@
 #[cfg(test)]
 mod asked;
 #[cfg(test)]
+mod chain_lines;
+#[cfg(test)]
 mod chains;
 #[cfg(test)]
 mod convictions;
