@@ -235,9 +235,9 @@ AREAS = {
     "signatures": (676, 622, 2, "sha256_lanes lms_chains lms_ots lms_tree lms_hss sig_scheme bench_parts"),
     "links and journals": (676, 777, 2, "link_defs auth_link journal_defs journal_disk journal_entries journal_rp"),
     "a store": (1040, 20, 2, "store_defs store_laws store_rows store_records kv_service vote_client state_transfer"),
-    "chains of views, and guards": (1040, 150, 2, "chain_defs chain_text_defs chain_laws chain_rows chain_check chain_words guard_defs guard_laws guard_rows"),
-    "convictions and audits": (1040, 354, 2, "conviction_defs conviction_laws conviction audit_defs audit_laws evidence_laws findings_laws claim_firsts journal_steps findings_json audit_rows"),
-    "nodes": (1040, 584, 2, "image_defs image_laws node_defs node_laws node_text node_keys node_traces opening_laws letting_laws letter_laws node_turns sealing_laws node_rows"),
+    "chains of views, and guards": (1040, 190, 2, "chain_defs chain_text_defs chain_laws chain_rows chain_check chain_words guard_defs guard_laws guard_rows"),
+    "convictions and audits": (1040, 384, 2, "conviction_defs conviction_laws conviction audit_defs audit_laws evidence_laws findings_laws claim_firsts journal_steps findings_json audit_rows"),
+    "nodes": (1040, 604, 2, "image_defs image_laws node_defs node_laws node_text node_keys node_traces opening_laws letting_laws letter_laws node_turns sealing_laws node_rows"),
 }
 
 # The lines from each area to those that it uses, without those that others imply.
@@ -266,12 +266,12 @@ LINES = {
     ("the outside", "definitions"): [(500, 1132), (500, 1195)],
     ("a store", "what is heard"): [(1040, 120), (1032, 120), (1032, 940), (324, 940)],
     ("convictions and audits", "kits and words"): [(1040, 440), (980, 440)],
-    ("nodes", "a replay"): [(1040, 600), (662, 600), (662, 706), (330, 706), (330, 290), (324, 290)],
+    ("nodes", "a replay"): [(1040, 608), (662, 608), (662, 706), (330, 706), (330, 290), (324, 290)],
     ("a store", "signatures"): [(1040, 100), (1004, 100), (1004, 690), (980, 690)],
     ("a store", "signatures"): [(1040, 100), (1004, 100), (1004, 690), (980, 690)],
-    ("nodes", "convictions and audits"): [(1192, 584), (1192, 556)],
-    ("chains of views, and guards", "nodes"): [(1344, 223), (1354, 223), (1354, 640), (1344, 640)],
-    ("convictions and audits", "a member"): [(1040, 380), (1012, 380), (1012, 590), (658, 590), (658, 710), (334, 710), (334, 560), (324, 560)],
+    ("nodes", "convictions and audits"): [(1192, 604), (1192, 584)],
+    ("chains of views, and guards", "nodes"): [(1344, 260), (1354, 260), (1354, 660), (1344, 660)],
+    ("convictions and audits", "a member"): [(1040, 404), (1012, 404), (1012, 590), (658, 590), (658, 710), (334, 710), (334, 560), (324, 560)],
 }
 
 
