@@ -1,0 +1,5 @@
+mod Starting
+mod Standing
+pub mod Turning
+pub mod Written
+mod Absorbing

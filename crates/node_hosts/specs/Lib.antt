@@ -1,0 +1,3 @@
+pub mod Places
+pub mod Hosts
+pub mod Turns

@@ -1,0 +1,13 @@
+//! The processes that a node hosts: each as it starts, with the keys that it shares with the others and its port, and lent or handed out by
+//! its number. Which process of the definitions each is, `AreHosts` of the specs says.
+#![tactic(auto)]
+
+mod host;
+mod hosts;
+mod making;
+
+pub use host::Host;
+pub use hosted_core::Hosted;
+pub use hosts::Hosts;
+pub use node_keys::{Kit, LinkKeys};
+pub use sig_scheme::AnySigner;
