@@ -15,7 +15,7 @@ use journal_rp::{EntryBytes, Header, Journal, Reading, Writing};
 use rp_base::{GroupId, NoMemory, Pid, PidSet, PlainScheme, PlainSigner, Roster};
 use rp_devices::MemDisk;
 use std::alloc::Global;
-use stmt_codec::{Event, Sending, claims_of};
+use stmt_codec::{Entry, Event, Sending, claims_of};
 use view_table::View;
 
 const KEYS: [[u8; 32]; 4] = [[1; 32], [2; 32], [3; 32], [4; 32]];
@@ -36,7 +36,12 @@ fn roster(alloc: Global) -> Result<Roster, NoMemory> {
 fn member(alloc: Global) -> Result<Hosted<PlainSigner>, NoMemory>
     ensures { IfOk result (IsReal used_of) }
 {
-    let four = [0, 1, 2, 3].map(|n| Pid::new(n).unwrap());
+    let four = [
+        Pid::new(0).unwrap(),
+        Pid::new(1).unwrap(),
+        Pid::new(2).unwrap(),
+        Pid::new(3).unwrap(),
+    ];
     let Some(genesis) = View::new(0, &four) else {
         return Err(NoMemory);
     };
@@ -66,8 +71,22 @@ fn take_up(hosted: &mut Hosted<PlainSigner>, bytes: &EntryBytes) -> bool
     requires { IsReal used_of hosted.old }
     ensures { IsReal used_of hosted.new }
 {
-    let entry = bytes.entry();
-    entry.process == hosted.core().me() && hosted.absorb(&PlainScheme, &entry).is_ok()
+    let Entry {
+        process,
+        event,
+        spent,
+        signatures,
+    } = bytes.entry();
+
+    // The type is named, since the checker is not told of it here otherwise.
+    let event: Event<'_> = event;
+    let entry = Entry {
+        process,
+        event,
+        spent,
+        signatures,
+    };
+    process == hosted.core().me() && hosted.absorb(&PlainScheme, &entry).is_ok()
 }
 
 // Takes up the journal. False where memory ran out.

@@ -7,4 +7,4 @@ use Rattle.journal_rp_tests.proofs.lost.live.Given as goal
 
 -- where the node is there, the disk is as long as its journal left it
 abbrev pub invariant-events : goal.invariant-events
-invariant-events g l = IfSome l.node (λ n. HasLength (Some (disk_bytes l.disk)) (len_of n.journal))
+invariant-events l = IfSome l.node (λ n. HasLength (Some (disk_bytes l.disk)) (len_of n.journal))

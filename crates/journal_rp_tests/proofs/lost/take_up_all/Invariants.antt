@@ -1,4 +1,3 @@
-use Rattle.std.specs.Prelude.{◌×◌}
 use Rattle.std.proofs.Common.{Some}
 use Rattle.rp_devices.specs.Disks.{disk_bytes}
 use Rattle.rp_base.specs.Signer.{used_of}
