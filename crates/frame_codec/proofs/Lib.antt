@@ -2,3 +2,4 @@ pub mod Loops
 pub mod Items
 pub mod Grammar
 pub mod Drafting
+pub mod Said

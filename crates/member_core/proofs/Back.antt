@@ -7,7 +7,7 @@ use Rattle.std.proofs.lemmas.Grind.{merely}
 use Rattle.message_defs.specs.Updates.{Update as Asked, Remove, Add, Renew}
 use Rattle.group_defs.specs.Process.{Setting, Process}
 use Rattle.rp_base.specs.Views.{update as update_of}
-use Rattle.ending_rules.specs.Perceiving.{asking}
+use Rattle.member_taking.specs.Perceiving.{asking}
 use Rattle.member_state.specs.declared.left.LeftView.{LeftView}
 use Rattle.member_state.specs.declared.marks.Before.{Before}
 use Rattle.member_state.specs.declared.state.ProcessState.{ProcessState}

@@ -5,7 +5,7 @@ use Rattle.std.proofs.lemmas.List.{append-nil}
 use Rattle.pool_laws.proofs.Tests.{some-same}
 use Rattle.message_defs.specs.Statements.{Claim}
 use Rattle.group_defs.specs.Events.{Note, Liar}
-use Rattle.sent_claims.proofs.Walks.{drop-past}
+use Rattle.member_sending.proofs.Walks.{drop-past}
 use Rattle.member_core.specs.Outcomes.{liars_from}
 
 -- the pair at this place comes first

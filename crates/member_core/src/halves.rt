@@ -10,12 +10,11 @@ ghost use Rattle.member_sending.specs.Sends.{IsEmpty};
 ghost use Rattle.member_core.specs.Outcomes.{HasBegun, HasEnded, HasTaken};
 
 use crate::notes::tell;
-use member_sending::{send_answers, send_bundle};
+use member_sending::{Frames, send_answers, send_bundle};
 use member_settling::settle;
 use member_signing::sign_all;
 use member_state::{Before, ProcessState};
 use member_taking::{Input, Judge, take_in};
-use reliable_mcast::Frames;
 use rp_base::{NoMemory, Scheme, Signer, Tally};
 use std::alloc::Global;
 use stmt_codec::{EventVerdict, Outcome};

@@ -12,8 +12,7 @@ mod telling;
 
 pub use absorbing::AbsorbFault;
 pub use member::Core;
-pub use member_state::{Account, Delivered};
+pub use member_state::{Account, Delivered, PhaseWord};
 pub use stmt_codec::{
     Entry, Event, EventFault, EventVerdict, Note, Outcome, OwnClaim, Payload, Sending,
 };
-pub use view_phases::PhaseWord;

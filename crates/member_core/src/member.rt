@@ -2,8 +2,8 @@ ghost use Rattle.std.specs.Prelude.{◌≡◌, length, is_none, true};
 ghost use Rattle.member_state.specs.States.{IsReal};
 
 use crate::attempts::Rooms;
+use member_sending::Frames;
 use member_state::ProcessState;
-use reliable_mcast::Frames;
 use rp_base::{GroupId, Roster};
 use std::alloc::Global;
 use std::mem;

@@ -2,3 +2,4 @@ pub mod Parcels
 pub mod Messages
 pub mod Own
 pub mod Places
+pub mod Walks

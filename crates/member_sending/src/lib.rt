@@ -8,3 +8,4 @@ mod sends;
 
 pub use answers::send_answers;
 pub use bundle::send_bundle;
+pub use reliable_mcast::Frames;

@@ -14,10 +14,9 @@ use Rattle.own_place.specs.Owns.{Tells}
 use Rattle.own_place.specs.Signed.{Signed}
 use Rattle.claim_index.specs.Keys.{slot_key, same_slot_key}
 use Rattle.std.specs.List.{list_any}
-use Rattle.ending_rules.specs.Perceiving.{has_update}
 use Rattle.claim_lists.specs.Pairs.{Pairing}
 use Rattle.view_phases.specs.Phases.{IsIn}
-use Rattle.reliable_mcast.specs.Archives.{Keeps}
+use Rattle.member_state.specs.Parts.{Keeps, has_update}
 use Rattle.accounts.specs.Views.{account}
 use Rattle.member_laws.proofs.Lawful.{signing_is_lawful}
 use Rattle.member_state.specs.States.{IsStateOf, signed_here}

@@ -14,8 +14,8 @@ use Rattle.own_place.specs.Owns.{Tells}
 use Rattle.ending_rules.specs.Perceiving.{TellsPerceived}
 use Rattle.view_phases.specs.Phases.{IsIn}
 use Rattle.accounts.specs.Views.{account}
-use Rattle.member_laws.specs.Lawful.{IsLawful}
-use Rattle.member_laws.proofs.Lawful.{start_is_lawful}
+use Rattle.own_moves.specs.Lawful.{IsLawful}
+use Rattle.own_moves.proofs.Lawful.{start_is_lawful}
 use Rattle.member_state.specs.Bounds.{AreFew, IsBounded}
 use Rattle.member_state.specs.States.{IsStateOf}
 use Rattle.member_state.specs.declared.state.ProcessState.{ProcessState}

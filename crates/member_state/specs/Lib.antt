@@ -2,3 +2,4 @@ pub mod Bounds
 pub mod States
 pub mod Events
 pub mod Marks
+pub mod Parts

@@ -11,7 +11,7 @@ use Rattle.own_place.specs.Owns.{Tells}
 use Rattle.ending_rules.specs.Perceiving.{TellsPerceived}
 use Rattle.view_phases.specs.Phases.{IsIn}
 use Rattle.reliable_mcast.specs.Archives.{Keeps}
-use Rattle.member_laws.specs.Lawful.{IsLawful}
+use Rattle.own_moves.specs.Lawful.{IsLawful}
 use Rattle.accounts.specs.Views.{account}
 use Rattle.member_state.specs.Bounds.{IsBounded}
 use Rattle.member_state.specs.declared.state.ProcessState.{ProcessState}

@@ -10,3 +10,4 @@ pub use accounts::{Account, Delivered};
 pub use left::LeftView;
 pub use marks::Before;
 pub use state::ProcessState;
+pub use view_phases::PhaseWord;

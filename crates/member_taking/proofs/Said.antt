@@ -1,5 +1,5 @@
--- What the bytes of a frame say, and how many claims it has.
-use Rattle.std.proofs.Common.{◌≡◌, ℕ, suc, ◌*◌, ◌≤◌, Bool, List, [], ◌∷◌, ◌++◌, Result, Ok, Err, refl, sym, ap, ◌∙◌, arith, length, length-append}
+-- How many claims a frame has, and what range its numbers are in.
+use Rattle.std.proofs.Common.{◌≡◌, ℕ, suc, ◌*◌, ◌≤◌, Bool, List, [], ◌∷◌, ◌++◌, Ok, sym, ap, ◌∙◌, arith, length, length-append}
 use Rattle.std.specs.Prelude.{not, nat_le, nat_lt}
 use Rattle.std.specs.List.{AllByRecursion}
 use Rattle.std.proofs.lemmas.Bool.{leb-true}
@@ -10,11 +10,8 @@ use Rattle.message_defs.specs.declared.FrameFault.{FrameFault}
 use Rattle.message_defs.specs.declared.FrameFault.TheVariants.{Range}
 use Rattle.message_defs.specs.Reading.{statement_in}
 use Rattle.message_defs.specs.Statements.{Statement, Claim}
-use Rattle.message_defs.specs.Frames.{Group, IsGroup, FrameView, Bundle, Proof, Want, IsFrame, frame_of}
-use Rattle.message_defs.specs.Claims.{claims_on, claims_of_group, claims_of_groups, claims_of, Claims, Wants, Faulty, said, said_by, frame_said}
-use Rattle.frame_codec.specs.declared.groups.FrameView as code
-use Rattle.frame_codec.specs.declared.groups.FrameView.TheVariants as codes
-use Rattle.frame_codec.specs.Views.{groups_left, frame_view}
+use Rattle.message_defs.specs.Frames.{Group, IsGroup, FrameView, Bundle, Proof, Want, IsFrame}
+use Rattle.message_defs.specs.Claims.{claims_on, claims_of_group, claims_of_groups, claims_of}
 use Rattle.pool_laws.proofs.Tests.{not-false}
 
 -- of a group as many as it has signatures
@@ -62,38 +59,6 @@ length-of (Want x k) cs ok e =
     let none : [] ≡ cs = cc in
     let zero = ap length none in
     omega (arith, zero)
-
--- ---- what the bytes say
-
--- bytes that are no frame are faulty
-pub said-fault : (bytes : List ℕ) (fault : FrameFault) → frame_of bytes ≡ Err fault → frame_said bytes ≡ Faulty fault
-unfolding frame_said
-said-fault bytes fault e = ap said_by e
-
--- and so is a frame whose claims are
-pub said-claims-fault : (bytes : List ℕ) (f : FrameView) (fault : FrameFault) → frame_of bytes ≡ Ok f → claims_of f ≡ Err fault
-    → frame_said bytes ≡ Faulty fault
-unfolding frame_said
-said-claims-fault bytes f fault e claims = ap said_by e ∙ go f (claims_of f) claims
-  where
-    go : (f : FrameView) (r : Result (List Claim) FrameFault) → r ≡ Err fault → said f r ≡ Faulty fault
-    go (Bundle gs) r e = ap (said (Bundle gs)) e
-    go (Proof gs) r e = ap (said (Proof gs)) e
-    go (Want x k) r e = ap (said (Want x k)) e
-
--- a Want says its view and its place
-pub said-want : (bytes : List ℕ) (x k : ℕ) (cs : List Claim) → frame_of bytes ≡ Ok (Want x k) → claims_of (Want x k) ≡ Ok cs
-    → frame_said bytes ≡ Wants x k
-unfolding frame_said
-said-want bytes x k cs e claims = ap said_by e ∙ ap (said (Want x k)) claims
-
--- another frame says its claims
-pub said-claims : (bytes : List ℕ) (f : code.FrameView) (cs : List Claim) → ((x k : ℕ) → f ≡ codes.Want x k → ⊥)
-    → frame_of bytes ≡ Ok (frame_view f) → claims_of (frame_view f) ≡ Ok cs → frame_said bytes ≡ Claims cs
-unfolding frame_said
-said-claims bytes (codes.Bundle gs) cs not' e claims = ap said_by e ∙ ap (said (Bundle (groups_left gs))) claims
-said-claims bytes (codes.Proof gs) cs not' e claims = ap said_by e ∙ ap (said (Proof (groups_left gs))) claims
-said-claims bytes (codes.Want x k) cs not' e claims = absurd (not' x k refl)
 
 -- a Want that is read is in range
 pub want-range : (x k : ℕ) (cs : List Claim) → claims_of (Want x k) ≡ Ok cs → (x ≤ last_number) × (k ≤ most_places)

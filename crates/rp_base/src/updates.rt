@@ -50,13 +50,12 @@ pub enum UpdateFault {
 
 impl Update {
     ghost use Rattle.std.specs.Prelude.{◌≡◌};
-    ghost use Rattle.byte_defs.specs.Orders.{numbers_below};
-    ghost use Rattle.message_defs.specs.Updates.{update_numbers};
+    ghost use Rattle.message_defs.specs.Updates.{update_below};
     ghost use Rattle.rp_base.specs.Views.{update};
 
     /// Whether it stands before the other in the order of updates.
     pub fn is_before(self, other: Update) -> bool
-        ensures { result ≡ numbers_below (update_numbers (update self)) (update_numbers (update other)) }
+        ensures { result ≡ update_below (update self) (update other) }
     {
         self < other
     }
@@ -64,13 +63,12 @@ impl Update {
 
 impl Value {
     ghost use Rattle.std.specs.Prelude.{◌≡◌};
-    ghost use Rattle.byte_defs.specs.Orders.{numbers_below};
-    ghost use Rattle.message_defs.specs.Updates.{value_numbers};
+    ghost use Rattle.message_defs.specs.Updates.{value_below};
     ghost use Rattle.rp_base.specs.Views.{value};
 
     /// Whether it stands before the other in the order of values.
     pub fn is_before(self, other: Value) -> bool
-        ensures { result ≡ numbers_below (value_numbers (value self)) (value_numbers (value other)) }
+        ensures { result ≡ value_below (value self) (value other) }
     {
         self < other
     }

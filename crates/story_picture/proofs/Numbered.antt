@@ -4,7 +4,7 @@ use Rattle.std.specs.List.{flat_map, enumerate_from}
 use Rattle.std.proofs.lemmas.List.{append-nil, length-map, map-append, map_more}
 use Rattle.std.proofs.lemmas.List.Folds.{flat_map-map}
 use Rattle.std.proofs.lemmas.Grind.{flat_map-append}
-use Rattle.report_lines.proofs.Pieces.{behind}
+use Rattle.story_trace.proofs.Pieces.{behind}
 use Rattle.trace_defs.specs.Happenings as plain
 use Rattle.picture_defs.specs.Pictures as pictures
 use Rattle.picture_defs.specs.Pictures.{each_row, rows_in, rows_of}

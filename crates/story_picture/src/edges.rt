@@ -10,7 +10,7 @@ ghost use Rattle.picture_labels.specs.Views.{point};
 use happenings::Stopped;
 use picture_labels::{Point, below, push_text};
 use rp_base::NoMemory;
-use story_words::{Word, push_pieces};
+use story_trace::{Word, push_pieces};
 
 /// The colours, on white and on dark.
 const STYLE: &[u8] = b"<style>

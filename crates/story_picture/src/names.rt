@@ -14,7 +14,7 @@ use picture_labels::{
 };
 use rp_base::{NoMemory, Pid};
 use schedule_file::Listed;
-use story_words::{Word, process_word, push_pieces};
+use story_trace::{Word, process_word, push_pieces};
 
 // Whether it is corrupt.
 fn push_role(out: &mut Vec<u8>, corrupt: bool) -> Result<(), NoMemory>

@@ -10,4 +10,5 @@ mod refusals;
 mod steps;
 mod trace;
 
+pub use story_words::{Word, process_word, push_pieces};
 pub use trace::push_trace;

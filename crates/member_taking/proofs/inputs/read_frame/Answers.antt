@@ -3,7 +3,8 @@ use Rattle.group_defs.specs.Events.{Hand}
 use Rattle.message_defs.specs.Claims.{claims_of}
 use Rattle.frame_codec.specs.Views.{frame_view}
 use Rattle.stmt_codec.specs.Left.{claims_left}
-use Rattle.member_taking.proofs.Said.{length-of, said-fault, said-claims-fault, said-want, said-claims, want-range}
+use Rattle.frame_codec.proofs.Said.{said-fault, said-claims-fault, said-want, said-claims}
+use Rattle.member_taking.proofs.Said.{length-of, want-range}
 use Rattle.member_taking.proofs.inputs.read_frame.Goals as goal
 
 pub returns-in-Err-clause-faulty : goal.returns-in-Err-clause-faulty

@@ -3,7 +3,7 @@ use Rattle.group_defs.specs.Events.{Hand}
 use Rattle.group_defs.specs.Family.{claims_in}
 use Rattle.frame_codec.specs.Views.{frame_view}
 use Rattle.stmt_codec.specs.Left.{claims_left}
-use Rattle.member_taking.proofs.Said.{said-fault, said-claims-fault, said-claims}
+use Rattle.frame_codec.proofs.Said.{said-fault, said-claims-fault, said-claims}
 use Rattle.replay_questions.proofs.Wants.{want_none}
 use Rattle.replay_questions.proofs.frames.claims_in.Goals as goal
 

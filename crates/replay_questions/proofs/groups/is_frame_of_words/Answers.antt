@@ -2,7 +2,7 @@ use Rattle.std.proofs.Common.{Ok, sym, ap, subst, ◌∙◌}
 use Rattle.std.specs.List.{AllByRecursion}
 use Rattle.message_defs.specs.Claims.{in_bundle, in_proof}
 use Rattle.frame_codec.specs.Views.{frame_view, groups_left}
-use Rattle.member_taking.proofs.Said.{said-fault}
+use Rattle.frame_codec.proofs.Said.{said-fault}
 use Rattle.replay_questions.specs.Words.{IsWord}
 use Rattle.replay_questions.proofs.Wants.{claims_said, want_none}
 use Rattle.replay_questions.proofs.ToldWords.{bundle_claims, proof_claims}

@@ -2,7 +2,7 @@ use Rattle.std.proofs.Common.{ℕ, List, ◌++◌, map}
 use Rattle.schedule_file.specs.Views.{listed}
 use Rattle.picture_defs.specs.Labels.{label}
 use Rattle.picture_defs.specs.Pictures as plain
-use Rattle.report_lines.proofs.Pieces.{behind}
+use Rattle.story_trace.proofs.Pieces.{behind}
 use Rattle.story_picture.specs.Views.{row}
 use Rattle.story_picture.proofs.picture.push_foreground.Goals as goal
 

@@ -4,7 +4,7 @@ use Rattle.std.proofs.lemmas.List.{length-map}
 use Rattle.schedule_file.specs.Views.{listed}
 use Rattle.happenings.specs.Told.{stopped}
 use Rattle.picture_defs.specs.Pictures as plain
-use Rattle.report_lines.proofs.Pieces.{behind}
+use Rattle.story_trace.proofs.Pieces.{behind}
 use Rattle.story_picture.specs.Views.{row}
 use Rattle.story_picture.proofs.picture.push_rows.Goals as goal
 
