@@ -1,3 +1,4 @@
 pub mod Places
 pub mod Hosts
 pub mod Turns
+pub mod Nodes

@@ -5,9 +5,11 @@
 mod host;
 mod hosts;
 mod making;
+mod running;
 
 pub use host::Host;
 pub use hosted_core::Hosted;
 pub use hosts::Hosts;
 pub use node_keys::{Kit, LinkKeys};
+pub use running::Running;
 pub use sig_scheme::AnySigner;

@@ -1,3 +1,4 @@
 pub mod Joined
 pub mod Left
 pub mod Going
+pub mod Went

@@ -3,3 +3,4 @@ pub mod Outside
 pub mod Stops
 pub mod Goes
 pub mod Seen
+pub mod Went
