@@ -5,7 +5,7 @@ use Rattle.std.proofs.lemmas.List.{take_at, drop-drop}
 use Rattle.byte_defs.specs.Fields.{four_bytes, number_at}
 use Rattle.byte_defs.proofs.Fields.{long_again, ok_is}
 use Rattle.journal_defs.specs.Entries.{Entry, IsEntry, Reading, entry_of, entry_bytes}
-use Rattle.journal_defs.specs.Journals.{open_gate, behind_gate, IsClosedAt, HasEntryAt, IsBrokenAt}
+use Rattle.journal_defs.specs.Journals.{open_gate, behind_gate, record_bytes, IsClosedAt, HasEntryAt, IsBrokenAt}
 use Rattle.journal_defs.proofs.Entering.{entry_is_read, entry_len}
 use Rattle.journal_disk.specs.Disks.{BeginsAt}
 use Rattle.journal_rp.specs.Gates.{HasLengthAt}
@@ -26,6 +26,12 @@ same_length n k r s n_fits k_fits e =
     (λ (l : List ℕ). number_at tt w32 l) e ∙ long_again tt k s k_fits in
     let pair : (n, r) ≡ (k, s) = ok_is (n, r) (k, s) both in
     (ap (λ (x : ℕ × List ℕ). x.0) pair, ap (λ (x : ℕ × List ℕ). x.1) pair)
+
+-- a record has the gate, the length and the entry's bytes
+pub record_long : (e : Entry) (bytes : List ℕ) (n : ℕ) → bytes ≡ entry_bytes e → length bytes ≡ n → 5 + n ≡ length (record_bytes e)
+unfolding behind_gate
+record_long e bytes n is long =
+    omega (arith, ap length is, long, length-append (four_bytes (length (entry_bytes e))) (entry_bytes e))
 
 module _ (file : List ℕ) (gate : ℕ) where
   pub closed_at : (b : ℕ) → b ≢ open_gate → BeginsAt file gate (b ∷ []) → IsClosedAt file gate

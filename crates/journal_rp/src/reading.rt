@@ -1,5 +1,5 @@
 ghost use Rattle.std.specs.Prelude.{◌≡◌, ◌+◌, ◌≤◌, ◌<◌, ◌^◌, ℕ, List, length, IfOk, OnErr, IfSome, IfNone};
-ghost use Rattle.journal_defs.specs.Journals.{IsClosedAt, HasEntryAt, IsBrokenAt};
+ghost use Rattle.journal_defs.specs.Journals.{IsClosedAt, HasEntryAt, IsBrokenAt, record_bytes};
 ghost use Rattle.journal_disk.specs.Disks.{BeginsAt, HasLength, OnlyReads};
 ghost use Rattle.journal_entries.specs.Kept.{kept};
 ghost use Rattle.journal_rp.specs.Stages.{gate_of, len_of, version_of};
@@ -46,6 +46,7 @@ fn entry_behind<D: Disk>(
     requires length { IfSome (D.seen disk.old) (λ file. HasLengthAt file gate len) }
     requires room { gate + 6 + len < 2 ^ 64 }
     ensures found { IfOk result (λ e. IfSome (D.seen disk.old) (λ file. HasEntryAt file gate (kept e) (gate + (5 + len)))) }
+    ensures long { IfOk result (λ e. 5 + len ≡ length (record_bytes (kept e))) }
     ensures broken { IfEntry result (λ place. (place ≡ gate) × IfSome (D.seen disk.old) (λ file. IsBrokenAt file place)) }
     ensures disk { OnlyReads D.seen D.may_leave D.moment D.left_since disk.old disk.new }
     ensures cause { HasCauses of_read (D.faults disk.old) (D.faults disk.new) result }
@@ -101,6 +102,10 @@ impl Journal<Reading> {
         ensures none { IfOk result (λ o. IfNone o (self.new ≡ self.old)) }
         ensures err { OnErr result (self.new ≡ self.old) }
         ensures as_left { HasLength (D.seen disk.new) (len_of self.new) }
+        ensures as_long { len_of self.new ≡ len_of self.old }
+
+        // The next gate stands after the entry's record, whether or not the disk tells what it holds.
+        ensures next { IfOk result (λ o. IfSome o (λ e. gate_of self.new ≡ gate_of self.old + length (record_bytes (kept e)))) }
         ensures kind { version_of self.new ≡ version_of self.old }
         ensures disk { OnlyReads D.seen D.may_leave D.moment D.left_since disk.old disk.new }
         ensures cause { HasCauses of_read (D.faults disk.old) (D.faults disk.new) result }
