@@ -1,5 +1,5 @@
 -- A journal on a disk that tells what it holds.
-use Rattle.std.specs.Prelude.{◌≡◌, ◌⊎◌, ℕ, ◌≤◌, List, [], ◌∷◌, ◌++◌, length, drop, Option, Some, IfSome}
+use Rattle.std.specs.Prelude.{◌≡◌, ◌⊎◌, ℕ, ◌≤◌, List, [], ◌∷◌, ◌++◌, length, drop, Option, Some, None, IfSome}
 use Rattle.std.specs.List.{AllByRecursion}
 use Rattle.rp_base.specs.Disks.{Only, SameImages}
 use Rattle.journal_defs.specs.Entries.{Entry, IsEntry}
@@ -42,6 +42,11 @@ pub record EndsClosed (seen : Option (List ℕ)) (head : List ℕ) (fs : List En
 -- where the disk tells, it has so many bytes
 abbrev pub HasLength : Option (List ℕ) → ℕ → Type 0
 HasLength seen len = IfSome seen (λ file. len ≡ length file)
+
+-- a disk that told nothing of its bytes tells nothing of them still
+abbrev pub StaysUntold : Option (List ℕ) → Option (List ℕ) → Type 0
+StaysUntold None new = new ≡ None
+StaysUntold (Some old) new = Unit {0}
 
 -- these bytes stand from this place on
 abbrev pub BeginsAt : List ℕ → ℕ → List ℕ → Type 0

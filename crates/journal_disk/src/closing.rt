@@ -5,7 +5,7 @@ ghost use Rattle.rp_base.specs.Disks.{NoNewImage};
 ghost use Rattle.journal_defs.specs.Entries.{Entry, IsEntry};
 ghost use Rattle.journal_defs.specs.Journals.{up_to_gate};
 ghost use Rattle.journal_defs.specs.Crashes.{IsWithOrWithout, AllOpening, Stands};
-ghost use Rattle.journal_disk.specs.Disks.{HasRest, EndsAt, EndsClosed, HasLength, LeavesOnly, LeavesStaged};
+ghost use Rattle.journal_disk.specs.Disks.{HasRest, EndsAt, EndsClosed, HasLength, LeavesOnly, LeavesStaged, StaysUntold};
 
 use crate::pieces::byte_at;
 use rp_base::{Disk, Failed};
@@ -34,6 +34,7 @@ pub fn close_gate<D: Disk>(disk: &mut D, gate: u64) -> Result<(), Failed>
     ensures stands { (head : List ℕ) (es fs : List Entry) → Stands head es (D.may_leave disk.old) → EndsAt (D.seen disk.old) head fs gate
         → Stands head es (D.may_leave disk.new) }
     ensures length { (len : ℕ) → HasLength (D.seen disk.old) len → OnOk result (HasLength (D.seen disk.new) len) }
+    ensures untold { OnOk result (StaysUntold (D.seen disk.old) (D.seen disk.new)) }
     ensures cause { HasCause (D.faults disk.old) (D.faults disk.new) result }
 {
     let byte = byte_at(disk, gate)?;
@@ -68,6 +69,7 @@ fn shut_gate<D: Disk>(disk: &mut D, gate: u64) -> Result<(), Failed>
         → gate ≡ length (up_to_gate head es)
         → AllOpening head es e (D.may_leave disk.new) }
     ensures length { (len : ℕ) → HasLength (D.seen disk.old) len → OnOk result (HasLength (D.seen disk.new) len) }
+    ensures untold { OnOk result (StaysUntold (D.seen disk.old) (D.seen disk.new)) }
     ensures cause { HasCause (D.faults disk.old) (D.faults disk.new) result }
 {
     disk.write_at(gate, &[CLOSED])?;

@@ -2,7 +2,7 @@ ghost use Rattle.std.specs.Prelude.{◌≡◌, max, ◌+◌, ◌^◌, ◌<◌, �
 ghost use Rattle.rp_base.specs.Causes.{HasCause};
 ghost use Rattle.journal_defs.specs.Entries.{Entry, IsEntry};
 ghost use Rattle.journal_defs.specs.Crashes.{IsImageOf, IsWithOrWithout, AllAtRest, AllOpening, Stands, staged};
-ghost use Rattle.journal_disk.specs.Disks.{HasRest, HasStaged, HasLength, LeavesOnly, StagesThenOpens};
+ghost use Rattle.journal_disk.specs.Disks.{HasRest, HasStaged, HasLength, LeavesOnly, StagesThenOpens, StaysUntold};
 
 use rp_base::{Disk, Failed};
 
@@ -36,6 +36,7 @@ pub fn append<D: Disk>(disk: &mut D, gate: u64, bytes: &[u8]) -> Result<(), Fail
         → Stands head es (D.may_leave disk.new) }
     ensures length { (len : ℕ) → HasLength (D.seen disk.old) len
         → OnOk result (HasLength (D.seen disk.new) (max len (gate + 1 + length bytes.now))) }
+    ensures untold { OnOk result (StaysUntold (D.seen disk.old) (D.seen disk.new)) }
     ensures cause { HasCause (D.faults disk.old) (D.faults disk.new) result }
 {
     stage(disk, gate, bytes)?;
@@ -58,6 +59,7 @@ pub fn stage<D: Disk>(disk: &mut D, gate: u64, bytes: &[u8]) -> Result<(), Faile
     ensures length { (len : ℕ) → HasLength (D.seen disk.old) len
         → OnOk result (HasLength (D.seen disk.new) (max len (gate + 1 + length bytes.now))) }
     ensures within { OnOk result (IfSome (D.seen disk.new) (λ file. gate ≤ length file)) }
+    ensures untold { OnOk result (StaysUntold (D.seen disk.old) (D.seen disk.new)) }
     ensures cause { HasCause (D.faults disk.old) (D.faults disk.new) result }
 {
     disk.write_at(gate + 1, bytes)?;
@@ -77,6 +79,7 @@ pub fn open_gate<D: Disk>(disk: &mut D, gate: u64) -> Result<(), Failed>
     ensures opening { (head : List ℕ) (es : List Entry) (e : Entry) → HasStaged (D.seen disk.old) (D.may_leave disk.old) head es e gate
         → AllOpening head es e (D.may_leave disk.new) }
     ensures length { (len : ℕ) → gate + 1 ≤ len → HasLength (D.seen disk.old) len → OnOk result (HasLength (D.seen disk.new) len) }
+    ensures untold { OnOk result (StaysUntold (D.seen disk.old) (D.seen disk.new)) }
     ensures cause { HasCause (D.faults disk.old) (D.faults disk.new) result }
 {
     disk.write_at(gate, &[OPEN])?;

@@ -1,9 +1,9 @@
-ghost use Rattle.std.specs.Prelude.{◌≡◌, ◌≢◌, [], ℕ, List, IfOk, IfSome};
+ghost use Rattle.std.specs.Prelude.{◌≡◌, ◌≢◌, [], ℕ, List, IfOk, IfSome, OnOk};
 ghost use Rattle.std.specs.Option.{IsSomeAnd};
 ghost use Rattle.journal_defs.specs.Journals.{header_bytes, StandsBefore};
 ghost use Rattle.journal_defs.specs.declared.Version.{Version as Kind};
 ghost use Rattle.journal_defs.specs.declared.Version.TheVariants.{Two};
-ghost use Rattle.journal_disk.specs.Disks.{HasRest, HasLength, OnlyReads};
+ghost use Rattle.journal_disk.specs.Disks.{HasRest, HasLength, OnlyReads, StaysUntold};
 ghost use Rattle.journal_rp.specs.Headers.{header as header_of, IsJournal};
 ghost use Rattle.journal_rp.specs.Stages.{gate_of, len_of, version_of as version_in};
 ghost use Rattle.journal_rp.specs.Answers.{HasCauses, of_start, of_none, IfNotAJournal};
@@ -28,6 +28,7 @@ fn begun<D: Disk>(disk: &mut D, header: &Header) -> Result<Journal<Reading>, Jou
     ensures kind { IfOk result (λ j. version_in j ≡ Two) }
     ensures gate { IfOk result (λ j. gate_of j ≡ 60) }
     ensures length { IfOk result (λ j. HasLength (D.seen disk.new) (len_of j)) }
+    ensures untold { OnOk result (StaysUntold (D.seen disk.old) (D.seen disk.new)) }
     ensures cause { HasCauses of_none (D.faults disk.old) (D.faults disk.new) result }
 {
     let bytes = fresh_with(header);
@@ -92,6 +93,7 @@ impl Journal<Reading> {
             (IfSome (D.seen disk.old) (λ file. (file ≢ []) × ((v : Kind) → ¬ IsJournal v (header_of header.now) file))) }
         ensures gate { IfOk result (λ j. gate_of j ≡ 60) }
         ensures length { IfOk result (λ j. HasLength (D.seen disk.new) (len_of j)) }
+        ensures untold { OnOk result (StaysUntold (D.seen disk.old) (D.seen disk.new)) }
 
         // A disk that is not empty is only read: a crash at any moment leaves what it might have left before.
         ensures only_read { IsSomeAnd (D.seen disk.old) (λ file. file ≢ [])

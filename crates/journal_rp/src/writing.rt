@@ -2,7 +2,7 @@ ghost use Rattle.std.specs.Prelude.{◌≡◌, ◌↔◌, max, ◌+◌, ◌-◌,
 ghost use Rattle.journal_defs.specs.Entries.{Entry, IsEntry, entry_bytes};
 ghost use Rattle.journal_defs.specs.Journals.{IsClosedAt};
 ghost use Rattle.journal_defs.specs.Crashes.{IsWithOrWithout, Stands, staged};
-ghost use Rattle.journal_disk.specs.Disks.{HasRest, HasLength, EndsAt, EndsClosed, LeavesOnly, LeavesStaged, StagesThenOpens};
+ghost use Rattle.journal_disk.specs.Disks.{HasRest, HasLength, EndsAt, EndsClosed, LeavesOnly, LeavesStaged, StagesThenOpens, StaysUntold};
 ghost use Rattle.journal_rp.specs.Stages.{gate_of, len_of, version_of};
 ghost use Rattle.journal_rp.specs.Turns.{outcome_of, process_of, staged_of};
 ghost use Rattle.journal_rp.specs.Answers.{HasCauses, of_none, of_append, IfFull, IsFull};
@@ -46,6 +46,7 @@ impl Journal<Reading> {
             → Stands head es (D.may_leave disk.new) }
         ensures place { IfOk result (λ j. (gate_of j ≡ gate_of self) × (version_of j ≡ version_of self)) }
         ensures length { IfOk result (λ j. HasLength (D.seen disk.new) (len_of j)) }
+        ensures untold { OnOk result (StaysUntold (D.seen disk.old) (D.seen disk.new)) }
         ensures cause { HasCauses of_none (D.faults disk.old) (D.faults disk.new) result }
     {
         close_gate(disk, self.gate)?;
@@ -107,8 +108,10 @@ impl Journal<Writing> {
         ensures full { IfFull result (λ whole entry. (whole ≡ gate_of self + 1) × (entry ≡ length (staged_of turn) - 5)
             × (2 ^ 30 < gate_of self + 1 + length (staged_of turn)) × (disk.new ≡ disk.old)) }
         ensures room { 2 ^ 30 < gate_of self + 1 + length (staged_of turn) → IsFull result }
+        ensures place { IfOk result (λ x. gate_of x.0 ≡ gate_of self + length (staged_of turn)) }
         ensures kind { IfOk result (λ x. version_of x.0 ≡ version_of self) }
         ensures length { IfOk result (λ x. HasLength (D.seen disk.new) (len_of x.0)) }
+        ensures untold { OnOk result (StaysUntold (D.seen disk.old) (D.seen disk.new)) }
         ensures cause { HasCauses of_append (D.faults disk.old) (D.faults disk.new) result }
     {
         let more = turn.bytes.len() as u64;

@@ -52,63 +52,64 @@ asks-so : (c : Cast) (n : Node) (ls : List Leaving) (l : Leaving) → call_of c 
 unfolding call_of
 asks-so c n ls l = refl
 
-lines-more : (n : Node) (t u more late : List ℕ) → letting (with_lines (with_lines n t u) more late) []
-    ≡ letting (with_lines n (t ++ more) (u ++ late)) []
-lines-more n t u more late = λ i. record n {
+lines-more : (n : Node) (t u more late : List ℕ) (others : List Leaving)
+    → letting (with_lines (with_lines n t u) more late) others ≡ letting (with_lines n (t ++ more) (u ++ late)) others
+lines-more n t u more late others = λ i. record n {
   stopped = None;
   opening = [];
-  leaving = [];
+  leaving = others;
   text = append_assoc n.text t more i;
   late = append_assoc n.late u late i;
 }
 
-calls-so : (c : Cast) (snap : Snapper) (n : Node) (ls : List Leaving) (answers : List Answer) → AllZip Fits ls answers
-    → calls c snap (letting n ls) answers ≡ asked c ls answers
+calls-so : (c : Cast) (snap : Snapper) (n : Node) (ls others : List Leaving) (answers : List Answer) → AllZip Fits ls answers
+    → calls c snap (letting n (ls ++ others)) answers ≡ asked c ls answers
 unfolding calls
-calls-so c snap n [] [] each = refl
-calls-so c snap n [] (a ∷ more) each = absurd each
-calls-so c snap n (l ∷ ls) [] each = absurd each
-calls-so c snap n (l ∷ ls) (a ∷ more) each =
-    ap (λ (call : Call). (call, a) ∷ calls c snap (answered c snap (letting n (l ∷ ls)) a) more) (asks-so c n ls l)
+calls-so c snap n [] others [] each = refl
+calls-so c snap n [] others (a ∷ more) each = absurd each
+calls-so c snap n (l ∷ ls) others [] each = absurd each
+calls-so c snap n (l ∷ ls) others (a ∷ more) each =
+    ap (λ (call : Call). (call, a) ∷ calls c snap (answered c snap (letting n (l ∷ ls ++ others)) a) more) (asks-so c n (ls ++ others) l)
     ∙ ap (λ (cs : List (Call × Answer)). (leaving_call c l, a) ∷ cs)
-    (ap (λ (m : Node). calls c snap m more) (answered-so c snap n ls l a each.0)
-    ∙ calls-so c snap (with_lines n (told_by (l, a)) (failed_by (l, a))) ls more each.1)
+    (ap (λ (m : Node). calls c snap m more) (answered-so c snap n (ls ++ others) l a each.0)
+    ∙ calls-so c snap (with_lines n (told_by (l, a)) (failed_by (l, a))) ls others more each.1)
 
-run-so : (c : Cast) (snap : Snapper) (n : Node) (ls : List Leaving) (answers : List Answer) → AllZip Fits ls answers
-    → run c snap (letting n ls) answers ≡ letting (with_lines n (flat_map told_by (zip ls answers)) (flat_map failed_by (zip ls answers))) []
+run-so : (c : Cast) (snap : Snapper) (n : Node) (ls others : List Leaving) (answers : List Answer) → AllZip Fits ls answers
+    → run c snap (letting n (ls ++ others)) answers
+    ≡ letting (with_lines n (flat_map told_by (zip ls answers)) (flat_map failed_by (zip ls answers))) others
 unfolding run
-run-so c snap n [] [] each = λ i. record n {
+run-so c snap n [] others [] each = λ i. record n {
   stopped = None;
   opening = [];
-  leaving = [];
+  leaving = others;
   text = sym (append-nil n.text) i;
   late = sym (append-nil n.late) i;
 }
-run-so c snap n [] (a ∷ more) each = absurd each
-run-so c snap n (l ∷ ls) [] each = absurd each
-run-so c snap n (l ∷ ls) (a ∷ more) each =
-    ap (λ (m : Node). run c snap m more) (answered-so c snap n ls l a each.0)
-    ∙ run-so c snap (with_lines n (told_by (l, a)) (failed_by (l, a))) ls more each.1
-    ∙ lines-more n (told_by (l, a)) (failed_by (l, a)) (flat_map told_by (zip ls more)) (flat_map failed_by (zip ls more))
+run-so c snap n [] others (a ∷ more) each = absurd each
+run-so c snap n (l ∷ ls) others [] each = absurd each
+run-so c snap n (l ∷ ls) others (a ∷ more) each =
+    ap (λ (m : Node). run c snap m more) (answered-so c snap n (ls ++ others) l a each.0)
+    ∙ run-so c snap (with_lines n (told_by (l, a)) (failed_by (l, a))) ls others more each.1
+    ∙ lines-more n (told_by (l, a)) (failed_by (l, a)) (flat_map told_by (zip ls more)) (flat_map failed_by (zip ls more)) others
 
 pub each_lets_out : EachLetsOut
-each_lets_out c snap n ls answers is each =
-    let same : n ≡ letting n ls = λ i. record n { stopped = is.runs i; opening = is.ready i; leaving = is.leaving i } in
+each_lets_out c snap n first others answers is each =
+    let same : n ≡ letting n (first ++ others) = λ i. record n { stopped = is.runs i; opening = is.ready i; leaving = is.leaving i } in
     record {
-      calls_are = ap (λ (m : Node). calls c snap m answers) same ∙ calls-so c snap n ls answers each;
-      run_is = ap (λ (m : Node). run c snap m answers) same ∙ run-so c snap n ls answers each ∙ back;
+      calls_are = ap (λ (m : Node). calls c snap m answers) same ∙ calls-so c snap n first others answers each;
+      run_is = ap (λ (m : Node). run c snap m answers) same ∙ run-so c snap n first others answers each ∙ back;
     }
   where
-    back : letting (with_lines n (flat_map told_by (zip ls answers)) (flat_map failed_by (zip ls answers))) []
+    back : letting (with_lines n (flat_map told_by (zip first answers)) (flat_map failed_by (zip first answers))) others
         ≡ record n {
-          leaving = [];
-          text = n.text ++ flat_map told_by (zip ls answers);
-          late = n.late ++ flat_map failed_by (zip ls answers);
+          leaving = others;
+          text = n.text ++ flat_map told_by (zip first answers);
+          late = n.late ++ flat_map failed_by (zip first answers);
         }
     back = λ i. record n {
       stopped = sym is.runs i;
       opening = sym is.ready i;
-      leaving = [];
-      text = n.text ++ flat_map told_by (zip ls answers);
-      late = n.late ++ flat_map failed_by (zip ls answers);
+      leaving = others;
+      text = n.text ++ flat_map told_by (zip first answers);
+      late = n.late ++ flat_map failed_by (zip first answers);
     }

@@ -74,15 +74,16 @@ pub record IsLettingOut (n : Node) (ls : List Leaving) : Type 0 where
   pub ready : n.opening ≡ []
   pub leaving : n.leaving ≡ ls
 
--- With these answers, one for each, it has let all of it out: it made just these calls, and it is as it was but for the lines that wait.
-pub record LetsOut (c : Cast) (snap : Snapper) (n : Node) (ls : List Leaving) (answers : List Answer) : Type 0 where
-  pub calls_are : calls c snap n answers ≡ asked c ls answers
+-- With these answers, one for each, it has let the first of it out, and the others are left: it made just these calls, and it is as it was
+-- but for the lines that wait.
+pub record LetsFirstOut (c : Cast) (snap : Snapper) (n : Node) (first others : List Leaving) (answers : List Answer) : Type 0 where
+  pub calls_are : calls c snap n answers ≡ asked c first answers
   pub run_is : run c snap n answers ≡ record n {
-    leaving = [];
-    text = n.text ++ flat_map told_by (zip ls answers);
-    late = n.late ++ flat_map failed_by (zip ls answers);
+    leaving = others;
+    text = n.text ++ flat_map told_by (zip first answers);
+    late = n.late ++ flat_map failed_by (zip first answers);
   }
 
 abbrev pub EachLetsOut : Type 0
-EachLetsOut = (c : Cast) (snap : Snapper) (n : Node) (ls : List Leaving) (answers : List Answer) → IsLettingOut n ls → AllZip Fits ls answers
-    → LetsOut c snap n ls answers
+EachLetsOut = (c : Cast) (snap : Snapper) (n : Node) (first others : List Leaving) (answers : List Answer)
+    → IsLettingOut n (first ++ others) → AllZip Fits first answers → LetsFirstOut c snap n first others answers

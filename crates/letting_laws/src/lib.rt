@@ -3,8 +3,8 @@
 
 ghost use Rattle.letting_laws.specs.Letting.{EachLetsOut, LetOutInARow};
 
-/// A node that is given an answer for each thing that its turn lets out makes just these calls, in this order, and is as it was but for
-/// the lines that wait.
+/// A node that is given an answer for each of the first things that its turn lets out makes just these calls, in this order. It is then as
+/// it was but for the lines that wait, and the others are left.
 pub fn each_lets_out()
     ensures { EachLetsOut }
 {}

@@ -6,7 +6,7 @@ use Rattle.node_traces.specs.Outside.{LinkAnswered, SinkAnswered, SourceAnswered
 use Rattle.node_traces.specs.Goes.{Goes, PartsGoOn, NothingGoes, OneAnswerGoes}
 use Rattle.node_traces.proofs.Joined.{each_goes_on, done_in_a_row}
 
-pub parts_go_on : PartsGoOn
+unfoldable pub parts_go_on : PartsGoOn
 parts_go_on c snap most n m k x y z first more =
     let whole = each_goes_on c snap n first.answers more.answers in
     let ran : m ≡ run c snap n first.answers = first.becomes in

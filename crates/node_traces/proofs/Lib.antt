@@ -2,3 +2,4 @@ pub mod Joined
 pub mod Left
 pub mod Going
 pub mod Went
+pub mod Quiet

@@ -16,9 +16,10 @@ pub record Went {D : Type 0} (seen : D → Option (List ℕ)) (moment : D → �
   pub tells : IsSome (seen old) → IsSome (seen new)
   pub leaves : IsSome (seen old) → LeavesOnly moment left_since old new (LeftBy c snap f n goes.answers [])
 
--- node n went on to one that has stopped so
+-- Node n went on to one that has stopped so, as `Went` says but for one thing: a disk of which a call failed need not tell any more.
 pub record WentToStop {D : Type 0} (seen : D → Option (List ℕ)) (moment : D → ℕ) (left_since : D → ℕ → List ℕ → Type 0) (c : Cast)
     (snap : Snapper) (most : ℕ) (f : Found) (n : Node) (x : Outside) (old : D) (why : Stop) (y : Outside) (new : D) : Type 0 where
   pub last : Node
   pub stops : last.stopped ≡ Some why
-  pub went : Went seen moment left_since c snap most f n x old last y new
+  pub goes : Goes c snap most n x last y
+  pub leaves : IsSome (seen old) → LeavesOnly moment left_since old new (LeftBy c snap f n goes.answers [])

@@ -1,1 +1,2 @@
+mod InRange
 pub mod Sealed

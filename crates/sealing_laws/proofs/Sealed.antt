@@ -1,7 +1,8 @@
 -- Each letter can be sealed.
 use Rattle.std.proofs.Common.{◌≡◌, inl, inr, ℕ, ◌≤◌, List, [], ◌∷◌, ◌++◌, length, map, refl, sym, subst}
 use Rattle.std.specs.Prelude.{◌≢◌, flat_map, All, IsTrue}
-use Rattle.std.proofs.lemmas.List.Elements.{All-from_recursion}
+use Rattle.std.proofs.lemmas.Grind.{flat_map-append}
+use Rattle.std.proofs.lemmas.List.Elements.{All-append, All-from_recursion}
 use Rattle.byte_defs.specs.Members.{has}
 use Rattle.message_defs.specs.Limits.{most_frame_bytes}
 use Rattle.message_defs.specs.Spelling.{IsClaim}
@@ -10,7 +11,8 @@ use Rattle.group_defs.specs.Process.{Setting, Process, keyed, start}
 use Rattle.group_defs.specs.Sending.{Sending, frames_of}
 use Rattle.group_defs.specs.Events.{Turn, Outcome, after, outcome, run}
 use Rattle.pool_laws.proofs.Members.{Mem, All-mem, append-mem, map-mem, mem-All}
-use Rattle.node_defs.specs.Casts.{hosted_by, letters_of, setting_of}
+use Rattle.group_defs.specs.Family.{claims_in, handed_to}
+use Rattle.node_defs.specs.Casts.{Cast, cast_of, handed, hosted_by, letters_of, live, setting_of, turns_from}
 use Rattle.node_keys.proofs.InKits.{shared}
 use Rattle.letter_laws.specs.Letters.{AreInRange, IsOther}
 use Rattle.letter_laws.proofs.Addressees.{sends_to_others}
@@ -18,7 +20,8 @@ use Rattle.letter_laws.proofs.Claims.{frames_are_short}
 use Rattle.letter_laws.proofs.Keeping.{kept_is_in_range}
 use Rattle.node_turns.specs.Letters.{IsSealable, letters_in}
 use Rattle.node_turns.proofs.Turned.{letters-are}
-use Rattle.sealing_laws.specs.Sealing.{LettersCanBeSealed}
+use Rattle.sealing_laws.specs.Sealing.{CanBeSealed, LettersCanBeSealed, TurnsCanBeSealed}
+use Rattle.sealing_laws.proofs.InRange.{handed-in-range, kept-in-range}
 
 abbrev Each : {A : Type 0} → (A → Type 0) → List A → Type 0
 Each {A} P xs = (x : A) → Mem x xs → P x
@@ -64,3 +67,15 @@ letters_can_be_sealed kit me limit ts t r is hosted other handed said came =
     subst (λ (ls : List (ℕ × List ℕ)). All (IsSealable kit me) ls) (letters-are (outcome s p t) r came)
     (mem-All (IsSealable kit me) (letters_of (outcome s p t))
     (all-sealable kit me (outcome s p t) is hosted (sends_to_others s me limit ts t listed other) (frames_are_short s p t range)))
+
+pub turns_can_be_sealed : TurnsCanBeSealed
+turns_can_be_sealed kit version me p es e r is hosted same other =
+    let c : Cast = cast_of kit version in
+    let s : Setting = setting_of kit in
+    let ts : List Turn = turns_from s (start s me c.batch_limit) es in
+    let t : Turn = live c p e in
+    let range = subst (All IsClaim) (sym (flat_map-append (λ (u : Turn). claims_in u.event) ts (t ∷ [])))
+    (All-append (handed_to ts) (handed_to (t ∷ [])) (kept-in-range s (start s me c.batch_limit) es)
+    (All-append (claims_in (handed e)) [] (handed-in-range e) (All-from_recursion [] tt))) in
+    subst (λ (q : Process). CanBeSealed kit me q t r) (sym same)
+    (letters_can_be_sealed kit me c.batch_limit ts t r is hosted other range)

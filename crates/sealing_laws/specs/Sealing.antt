@@ -1,5 +1,5 @@
 -- That each letter of a turn can be sealed.
-use Rattle.std.specs.Prelude.{ℕ, List, [], ◌∷◌, ◌++◌, All, IsTrue}
+use Rattle.std.specs.Prelude.{◌≡◌, ℕ, List, [], ◌∷◌, ◌++◌, All, IsTrue}
 use Rattle.byte_defs.specs.Members.{has}
 use Rattle.message_defs.specs.Spelling.{IsClaim}
 use Rattle.kit_defs.specs.Kits.{Kit, IsKit}
@@ -8,7 +8,9 @@ use Rattle.group_defs.specs.Family.{handed_to}
 use Rattle.group_defs.specs.Events.{Turn, after, outcome, run}
 use Rattle.stmt_codec.specs.declared.events.Outcome.{Outcome}
 use Rattle.member_state.specs.Events.{IsOutcome}
-use Rattle.node_defs.specs.Casts.{hosted_by, setting_of}
+use Rattle.journal_defs.specs.declared.Version.{Version}
+use Rattle.journal_defs.specs.Entries.{Event, Entry}
+use Rattle.node_defs.specs.Casts.{cast_of, from_start, handed, hosted_by, live, setting_of, taken_up}
 use Rattle.letter_laws.specs.Letters.{IsFromOther}
 use Rattle.node_turns.specs.Letters.{IsSealable, letters_in}
 
@@ -22,3 +24,10 @@ abbrev pub LettersCanBeSealed : Type 0
 LettersCanBeSealed = (kit : Kit) (me limit : ℕ) (ts : List Turn) (t : Turn) (r : Outcome) → IsKit kit → IsTrue (has (hosted_by kit) me)
     → IsFromOther me t.event → All IsClaim (handed_to (ts ++ t ∷ []))
     → CanBeSealed kit me (run (setting_of kit) (start (setting_of kit) me limit) ts) t r
+
+-- A hosted process of a node, after any entries of its journal: each letter of a live turn can be sealed. (What frames say is in range, so
+-- that nothing is asked of the entries.)
+abbrev pub TurnsCanBeSealed : Type 0
+TurnsCanBeSealed = (kit : Kit) (version : Version) (me : ℕ) (p : Process) (es : List Entry) (e : Event) (r : Outcome) → IsKit kit
+    → IsTrue (has (hosted_by kit) me) → p ≡ taken_up (setting_of kit) ((from_start (cast_of kit version)).from me) es
+    → IsFromOther me (handed e) → CanBeSealed kit me p (live (cast_of kit version) p e) r
