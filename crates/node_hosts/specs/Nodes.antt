@@ -16,11 +16,11 @@ abbrev pub cast_in : Running → Cast
 cast_in r = cast_of r.kit.now (version_of r.journal)
 
 -- The node runs, its opening is over, nothing waits to go out or to be written, and these tasks are left.
-pub record IsAt (n : Node) (tasks : List Task) : Type 0 where
+pub record IsAt (n : Node) (ts : List Task) : Type 0 where
   pub runs : n.stopped ≡ None
   pub opened : n.opening ≡ []
   pub leaving : n.leaving ≡ []
-  pub tasks : n.tasks ≡ tasks
+  pub tasks : n.tasks ≡ ts
   pub text : n.text ≡ []
   pub late : n.late ≡ []
 
