@@ -2,7 +2,7 @@
 use Rattle.std.proofs.Common.{◌≡◌, ℕ, ◌==◌, Bool, true, false, List, [], ◌∷◌, ◌++◌, length, Result, Ok, Err, refl, sym, subst}
 use Rattle.std.specs.Prelude.{All, flat_map, nat_lt, not, if◌then◌else◌}
 use Rattle.std.specs.List.{AllByRecursion}
-use Rattle.std.specs.Int.{w8}
+use Rattle.std.specs.Int.{w8, w16}
 use Rattle.std.proofs.lemmas.List.Elements.{All-append, All-from_recursion}
 use Rattle.byte_defs.specs.Fields.{number_at}
 use Rattle.byte_defs.proofs.Fields.{bind_ok, refuse_ok, ok_is}
@@ -50,9 +50,11 @@ as-proof r f short e = let gs = bind_ok r (λ gs. Ok (Proof gs)) f e in subst Ar
 
 want-short : (f : FrameView) (bytes : List ℕ) → want_at bytes ≡ Ok f → AreShort f
 unfolding want_at
-want-short (Bundle gs) bytes e = absurd cc
-want-short (Proof gs) bytes e = absurd cc
-want-short (Want x k) bytes e = tt
+want-short f bytes e =
+    let view = bind_ok (number_at faults.Short w16 bytes) _ f e in
+    let place = bind_ok (number_at faults.Short w16 view.0.1) _ f view.2 in
+    let whole = refuse_ok (not (length place.0.1 == 0)) faults.Trailing _ f place.2 in
+    subst AreShort (ok_is (Want view.0.0 place.0.0) f whole.1) tt
 
 by-kind : (kind : ℕ) (bytes : List ℕ) (f : FrameView) → (if kind == 1 then groups_as Bundle (all_groups bytes) else
     (if kind == 2 then groups_as Proof (all_groups bytes) else (if kind == 3 then want_at bytes else Err faults.Kind))) ≡ Ok f → AreShort f
@@ -80,9 +82,9 @@ said-in-range : (f : FrameView) (r : Result (List Claim) FrameFault) (cs : List 
     → said f r ≡ claims.Claims cs → AllByRecursion IsClaim cs
 unfolding claims_of
 said-in-range (Bundle gs) (Ok ds) cs short e is =
-    subst (λ (xs : List Claim). AllByRecursion IsClaim xs) cc (groups_fit in_bundle gs ds short e)
+    let same : ds ≡ cs = cc in subst (λ (xs : List Claim). AllByRecursion IsClaim xs) same (groups_fit in_bundle gs ds short e)
 said-in-range (Proof gs) (Ok ds) cs short e is =
-    subst (λ (xs : List Claim). AllByRecursion IsClaim xs) cc (groups_fit in_proof gs ds short e)
+    let same : ds ≡ cs = cc in subst (λ (xs : List Claim). AllByRecursion IsClaim xs) same (groups_fit in_proof gs ds short e)
 said-in-range (Want x k) (Ok ds) cs short e is = absurd cc
 said-in-range (Bundle gs) (Err fault) cs short e is = absurd cc
 said-in-range (Proof gs) (Err fault) cs short e is = absurd cc
@@ -111,12 +113,12 @@ event-in-range Renew = tt
 event-in-range Tick = tt
 
 pub handed-in-range : (e : Event) → All IsClaim (claims_in (handed e))
-handed-in-range e = All-from_recursion (claims_in (handed e)) (event-in-range e)
+handed-in-range e = All-from_recursion IsClaim (claims_in (handed e)) (event-in-range e)
 
 -- whatever the entries, what the process was handed is in range
 pub kept-in-range : (s : Setting) (p : Process) (es : List Entry) → All IsClaim (handed_to (turns_from s p es))
 unfolding turns_from
-kept-in-range s p [] = All-from_recursion [] tt
+kept-in-range s p [] = All-from_recursion IsClaim [] tt
 kept-in-range s p (e ∷ es) =
-    All-append (claims_in (handed e.event)) (handed_to (turns_from s (after s p (kept_turn p e)) es)) (handed-in-range e.event)
+    All-append IsClaim (claims_in (handed e.event)) (handed_to (turns_from s (after s p (kept_turn p e)) es)) (handed-in-range e.event)
     (kept-in-range s (after s p (kept_turn p e)) es)

@@ -75,7 +75,7 @@ turns_can_be_sealed kit version me p es e r is hosted same other =
     let ts : List Turn = turns_from s (start s me c.batch_limit) es in
     let t : Turn = live c p e in
     let range = subst (All IsClaim) (sym (flat_map-append (λ (u : Turn). claims_in u.event) ts (t ∷ [])))
-    (All-append (handed_to ts) (handed_to (t ∷ [])) (kept-in-range s (start s me c.batch_limit) es)
-    (All-append (claims_in (handed e)) [] (handed-in-range e) (All-from_recursion [] tt))) in
+    (All-append IsClaim (handed_to ts) (handed_to (t ∷ [])) (kept-in-range s (start s me c.batch_limit) es)
+    (All-append IsClaim (claims_in (handed e)) [] (handed-in-range e) (All-from_recursion IsClaim [] tt))) in
     subst (λ (q : Process). CanBeSealed kit me q t r) (sym same)
     (letters_can_be_sealed kit me c.batch_limit ts t r is hosted other range)
