@@ -16,5 +16,5 @@ pub struct Running<'a> {
 
     /// The journal of all of them.
     pub journal: Journal<Writing>,
-    pub ghost valid: { IsKit kit.now },
+    pub ghost valid: { ∥ IsKit kit.now ∥₁ },
 }
