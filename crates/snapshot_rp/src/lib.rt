@@ -1,0 +1,18 @@
+//! The image of a process, from which it begins again: read from the bytes of a snapshot, and written (docs/FORMATS.md,
+//! «Snapshots»).
+#![tactic(auto)]
+
+mod claim;
+mod cursor;
+mod entries;
+mod fault;
+mod image;
+mod parts;
+mod reading;
+mod rising;
+
+pub use claim::KeptClaim;
+pub use fault::SnapshotFault;
+pub use image::{Image, LeftView};
+pub use reading::read_snapshot;
+pub use snapshot_defs::Version;
