@@ -48,8 +48,10 @@ pub(crate) fn entries<T: Entry>(
 {
     let mut all = Vec::new(reading.alloc);
     for position in 0..count {
-        let entry = T::read(reading, cursor, position)?;
-        all.push(entry)?;
+        match T::read(reading, cursor, position) {
+            Ok(entry) => all.push(entry)?,
+            Err(fault) => return Err(fault),
+        }
     }
     Ok(all)
 }

@@ -54,6 +54,7 @@ fn left_views(reading: Reading, cursor: &mut Cursor<'_>) -> Result<Vec<LeftView>
     entries(reading, cursor, usize::from(count))
 }
 
+#[tactic(auto, using(crate::proofs::Pairs::rises_plain))]
 fn perceived_pairs(
     reading: Reading,
     cursor: &mut Cursor<'_>,

@@ -4,4 +4,4 @@ use Rattle.snapshot_rp.proofs.rising.rises_from.Given as goal
 
 -- the last one and those that are left rise where all do
 abbrev pub invariant-rest : goal.invariant-rest
-invariant-rest g l = rises g.T.Keyed.key (l.last ∷ drop l.next-index l.rest) ≡ rises g.T.Keyed.key (l.fn.first.now ∷ l.rest)
+invariant-rest g l = rises g.T.Keyed.key (l.last ∷ drop l.next-index l.rest) ≡ rises g.T.Keyed.key (l.fn.first ∷ l.rest)
