@@ -54,7 +54,6 @@ fn left_views(reading: Reading, cursor: &mut Cursor<'_>) -> Result<Vec<LeftView>
     entries(reading, cursor, usize::from(count))
 }
 
-#[tactic(auto, using(crate::proofs::Pairs::rises_plain))]
 fn perceived_pairs(
     reading: Reading,
     cursor: &mut Cursor<'_>,
@@ -63,10 +62,11 @@ fn perceived_pairs(
 {
     let fault = cursor.rest.len();
     let pairs = list(reading, cursor)?;
-    if !rises(pairs.as_slice()) {
-        return Err(ReadError::Fault(fault));
+    if rises(pairs.as_slice()) {
+        Ok(pairs)
+    } else {
+        Err(ReadError::Fault(fault))
     }
-    Ok(pairs)
 }
 
 fn conflicts(
@@ -78,10 +78,11 @@ fn conflicts(
     let fault = cursor.rest.len();
     let count = cursor.byte_to(PROCESSES)?;
     let pairs = entries(reading, cursor, usize::from(count))?;
-    if !rises(pairs.as_slice()) {
-        return Err(ReadError::Fault(fault));
+    if rises(pairs.as_slice()) {
+        Ok(pairs)
+    } else {
+        Err(ReadError::Fault(fault))
     }
-    Ok(pairs)
 }
 
 // The own number, the views that were left, the perceived pairs and the accepted payloads.
