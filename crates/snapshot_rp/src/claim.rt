@@ -1,13 +1,17 @@
+ghost use Rattle.std.specs.Prelude.{◌≡◌, ◌++◌, OnOk};
 ghost use Rattle.byte_defs.specs.Reads.{Makes};
+ghost use Rattle.image_defs.specs.Spelling.{claim_bytes};
 ghost use Rattle.snapshot_defs.specs.Reading.{claim_at};
 ghost use Rattle.snapshot_rp.specs.Faults.{left_of};
 
 use crate::cursor::Cursor;
 use crate::fault::ReadError;
+use crate::pushing::push_text;
 use frame_codec::SIGNATURE_BYTES;
-use rp_base::Pid;
+use rp_base::{NoMemory, Pid};
 use std::alloc::Global;
 use std::marker::Model;
+use stmt_codec::{Claim, STATEMENT_BYTES, read_statement, spell_into};
 
 /// A claim that an image keeps. Contracts see it as the claim: only bytes that are a statement are kept as one.
 #[derive(Drop)]
@@ -48,8 +52,52 @@ pub(crate) fn read_claim(alloc: Global, cursor: &mut Cursor<'_>) -> Result<KeptC
     })
 }
 
+/// Signer, statement and signature, the last two behind their lengths.
+pub(crate) fn push_claim(out: &mut Vec<u8>, claim: &KeptClaim) -> Result<(), NoMemory>
+    ensures { OnOk result (out.new.items ≡ out.old.items ++ claim_bytes claim.now) }
+{
+    out.push(claim.signer.get())?;
+    push_text(out, claim.statement.as_slice())?;
+    push_text(out, claim.signature.as_slice())
+}
+
 impl KeptClaim {
-    ghost use Rattle.std.specs.Prelude.{◌≡◌};
+    ghost use Rattle.std.specs.Prelude.{◌≡◌, IfOk};
+    ghost use Rattle.message_defs.specs.Spelling.{IsClaim};
+    ghost use Rattle.stmt_codec.specs.Views.{claim as claim_of};
+
+    /// Keeps the claim.
+    ///
+    /// # Errors
+    /// [`NoMemory`] where room for its bytes is refused.
+    pub fn new(alloc: Global, claim: &Claim<'_>) -> Result<KeptClaim, NoMemory>
+        requires { IsClaim (claim_of claim.now) }
+        ensures { IfOk result (λ kept. kept ≡ claim_of claim.now) }
+    {
+        let mut statement = [0; STATEMENT_BYTES];
+        let len = spell_into(&claim.statement, &mut statement);
+        let statement = statement[..len].to_vec(alloc)?;
+        let signature = claim.signature.to_vec(alloc)?;
+        Ok(KeptClaim {
+            signer: claim.signer,
+            statement,
+            signature,
+        })
+    }
+
+    /// The claim, lent.
+    pub fn claim(&self) -> Claim<'_>
+        ensures { claim_of result ≡ self.now }
+    {
+        let Ok(statement) = read_statement(self.statement.as_slice()) else {
+            unreachable!();
+        };
+        Claim {
+            signer: self.signer,
+            statement,
+            signature: self.signature.as_slice(),
+        }
+    }
 
     /// Who signed.
     pub fn signer(&self) -> Pid

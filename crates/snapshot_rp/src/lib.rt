@@ -8,11 +8,14 @@ mod entries;
 mod fault;
 mod image;
 mod parts;
+mod pushing;
 mod reading;
 mod rising;
+mod writing;
 
 pub use claim::KeptClaim;
 pub use fault::SnapshotFault;
 pub use image::{Image, LeftView};
 pub use reading::read_snapshot;
 pub use snapshot_defs::Version;
+pub use writing::write_snapshot;

@@ -5,12 +5,13 @@ ghost use Rattle.snapshot_defs.specs.Steps.{text_to};
 ghost use Rattle.snapshot_defs.specs.Reading as plain;
 ghost use Rattle.snapshot_rp.specs.Faults.{left_of};
 
-use crate::claim::{KeptClaim, read_claim};
+use crate::claim::{KeptClaim, push_claim, read_claim};
 use crate::cursor::Cursor;
-use crate::entries::{Entry, Reading, list};
+use crate::entries::{Entry, Reading, list, push_list};
 use crate::fault::ReadError;
 use crate::image::LeftView;
-use rp_base::Update;
+use crate::pushing::{push_short, push_text, push_update, push_value};
+use rp_base::{NoMemory, Update};
 use snapshot_defs::Version;
 use std::alloc::Global;
 use stmt_codec::{Delivered, LAST_NUMBER, Payload};
@@ -22,12 +23,18 @@ const PAYLOAD_BYTES: u16 = 1024;
 impl Entry for KeptClaim {
     ghost use Rattle.message_defs.specs.Statements.{Claim};
     ghost use Rattle.snapshot_defs.specs.Reading.{claim_at};
+    ghost use Rattle.image_defs.specs.Spelling.{claim_bytes};
+    ghost use Rattle.message_defs.specs.Spelling.{IsClaim};
 
     ghost Plain = { Claim };
 
     ghost plain = { λ c. c };
 
     ghost step = { λ v k bytes. claim_at bytes };
+
+    ghost spell = { claim_bytes };
+
+    ghost Fits = { λ c. IsClaim c };
 
     fn read(
         reading: Reading,
@@ -36,17 +43,27 @@ impl Entry for KeptClaim {
     ) -> Result<KeptClaim, ReadError> {
         read_claim(reading.alloc, cursor)
     }
+
+    fn append_to(&self, out: &mut Vec<u8>) -> Result<(), NoMemory> {
+        push_claim(out, self)
+    }
 }
 
 impl Entry for (KeptClaim, KeptClaim) {
     ghost use Rattle.message_defs.specs.Statements.{Claim};
     ghost use Rattle.snapshot_defs.specs.Reading.{conflict_at};
+    ghost use Rattle.image_defs.specs.Spelling.{conflict_bytes};
+    ghost use Rattle.snapshot_defs.specs.Ranges.{IsConflict};
 
     ghost Plain = { Claim × Claim };
 
     ghost plain = { λ e. e };
 
     ghost step = { λ v k bytes. conflict_at bytes };
+
+    ghost spell = { conflict_bytes };
+
+    ghost Fits = { IsConflict };
 
     #[tactic(auto, unfolding(snapshot_defs::specs::Reading::conflict_at))]
     fn read(
@@ -58,18 +75,29 @@ impl Entry for (KeptClaim, KeptClaim) {
         let other = read_claim(reading.alloc, cursor)?;
         Ok((heard, other))
     }
+
+    fn append_to(&self, out: &mut Vec<u8>) -> Result<(), NoMemory> {
+        push_claim(out, &self.0)?;
+        push_claim(out, &self.1)
+    }
 }
 
 impl Entry for LeftView {
     ghost use Rattle.image_defs.specs.Images as images;
     ghost use Rattle.snapshot_defs.specs.Reading.{left_at};
     ghost use Rattle.snapshot_rp.specs.Views.{left_view};
+    ghost use Rattle.image_defs.specs.Spelling.{left_bytes};
+    ghost use Rattle.snapshot_defs.specs.Ranges.{IsLeftView};
 
     ghost Plain = { images.LeftView };
 
     ghost plain = { left_view };
 
     ghost step = { λ v k bytes. left_at bytes };
+
+    ghost spell = { left_bytes };
+
+    ghost Fits = { IsLeftView };
 
     #[tactic(auto, unfolding(snapshot_defs::specs::Reading::left_at))]
     fn read(
@@ -86,6 +114,12 @@ impl Entry for LeftView {
             commit,
         })
     }
+
+    fn append_to(&self, out: &mut Vec<u8>) -> Result<(), NoMemory> {
+        out.push(self.rank)?;
+        push_value(out, self.value)?;
+        push_list(out, self.commit.as_slice())
+    }
 }
 
 impl Entry for (u16, Update) {
@@ -93,12 +127,18 @@ impl Entry for (u16, Update) {
     ghost use Rattle.message_defs.specs.Updates as updates;
     ghost use Rattle.snapshot_defs.specs.Reading.{perceived_at};
     ghost use Rattle.snapshot_rp.specs.Views.{perceived};
+    ghost use Rattle.image_defs.specs.Spelling.{perceived_bytes};
+    ghost use Rattle.snapshot_defs.specs.Ranges.{IsPerceived};
 
     ghost Plain = { ℕ × updates.Update };
 
     ghost plain = { perceived };
 
     ghost step = { λ v k bytes. perceived_at bytes };
+
+    ghost spell = { perceived_bytes };
+
+    ghost Fits = { IsPerceived };
 
     #[tactic(auto, unfolding(snapshot_defs::specs::Reading::perceived_at))]
     fn read(
@@ -110,18 +150,29 @@ impl Entry for (u16, Update) {
         let update = cursor.update()?;
         Ok((view, update))
     }
+
+    fn append_to(&self, out: &mut Vec<u8>) -> Result<(), NoMemory> {
+        push_short(out, self.0)?;
+        push_update(out, self.1)
+    }
 }
 
 impl Entry for Payload {
     ghost use Rattle.std.specs.Prelude.{ℕ, List};
     ghost use Rattle.message_defs.specs.Limits.{most_payload_bytes};
     ghost use Rattle.snapshot_defs.specs.Steps.{text_to};
+    ghost use Rattle.byte_defs.specs.Fields.{text};
+    ghost use Rattle.snapshot_defs.specs.Ranges.{IsPayload};
 
     ghost Plain = { List ℕ };
 
     ghost plain = { λ p. p };
 
     ghost step = { λ v k bytes. text_to most_payload_bytes bytes };
+
+    ghost spell = { text };
+
+    ghost Fits = { IsPayload };
 
     fn read(
         reading: Reading,
@@ -130,18 +181,29 @@ impl Entry for Payload {
     ) -> Result<Payload, ReadError> {
         payload(reading.alloc, cursor)
     }
+
+    fn append_to(&self, out: &mut Vec<u8>) -> Result<(), NoMemory> {
+        push_text(out, self.bytes())
+    }
 }
 
 impl Entry for Delivered {
     ghost use Rattle.group_defs.specs.Process as processes;
     ghost use Rattle.snapshot_defs.specs.Reading.{delivered_at};
     ghost use Rattle.snapshot_rp.specs.Views.{delivered};
+    ghost use Rattle.image_defs.specs.Spelling.{delivered_bytes};
+    ghost use Rattle.snapshot_defs.specs.declared.Version.TheVariants.{Two};
+    ghost use Rattle.snapshot_defs.specs.Ranges.{IsDeliveredAt};
 
     ghost Plain = { processes.Delivered };
 
     ghost plain = { delivered };
 
     ghost step = { λ v k bytes. delivered_at v k bytes };
+
+    ghost spell = { delivered_bytes };
+
+    ghost Fits = { IsDeliveredAt Two 0 };
 
     #[tactic(auto, unfolding(snapshot_defs::specs::Reading::delivered_at, snapshot_defs::specs::Reading::message_at))]
     fn read(
@@ -160,6 +222,13 @@ impl Entry for Delivered {
             payload,
         })
     }
+
+    fn append_to(&self, out: &mut Vec<u8>) -> Result<(), NoMemory> {
+        push_short(out, self.place)?;
+        out.push(self.sender.get())?;
+        push_short(out, self.number)?;
+        push_text(out, self.payload.bytes())
+    }
 }
 
 impl Entry for Vec<Delivered> {
@@ -167,12 +236,19 @@ impl Entry for Vec<Delivered> {
     ghost use Rattle.group_defs.specs.Process as processes;
     ghost use Rattle.snapshot_defs.specs.Reading.{view_at};
     ghost use Rattle.snapshot_rp.specs.Views.{delivered};
+    ghost use Rattle.image_defs.specs.Spelling.{list_bytes, delivered_bytes};
+    ghost use Rattle.snapshot_defs.specs.declared.Version.TheVariants.{Two};
+    ghost use Rattle.snapshot_defs.specs.Ranges.{IsListOf, IsDeliveredAt};
 
     ghost Plain = { List processes.Delivered };
 
     ghost plain = { λ ds. map delivered ds.items };
 
     ghost step = { λ v k bytes. view_at v bytes };
+
+    ghost spell = { list_bytes delivered_bytes };
+
+    ghost Fits = { IsListOf (IsDeliveredAt Two) };
 
     #[tactic(auto, unfolding(snapshot_defs::specs::Reading::view_at))]
     fn read(
@@ -181,6 +257,10 @@ impl Entry for Vec<Delivered> {
         _position: usize,
     ) -> Result<Vec<Delivered>, ReadError> {
         list(reading, cursor)
+    }
+
+    fn append_to(&self, out: &mut Vec<u8>) -> Result<(), NoMemory> {
+        push_list(out, self.as_slice())
     }
 }
 
