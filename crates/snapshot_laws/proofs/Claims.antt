@@ -36,6 +36,15 @@ front_fits bytes front rest parts fits = subst (λ (l : List ℕ). IsBytes l)
 pub process_is : IsField process_at one_byte (λ p. p ≤ 63)
 process_is = byte_to_is 63
 
+-- bytes that are read as a statement are its spelling
+pub read_statement_is : (bytes : List ℕ) (st : Statement) → IsBytes bytes → statement_of bytes ≡ Ok st
+    → (bytes ≡ spelling st) × (length bytes ≤ 1032)
+unfolding statement_of
+read_statement_is bytes st fits e =
+    let s = statement_takes (λ kind. true) bytes st e in
+    let same : bytes ≡ spelling st = s.1 fits in
+    (same, subst (λ (l : List ℕ). length l ≤ 1032) (sym same) (statements_are_short st s.0))
+
 abbrev statement_text : Statement → List ℕ
 statement_text st = text (spelling st)
 

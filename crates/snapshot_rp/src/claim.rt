@@ -1,7 +1,11 @@
-ghost use Rattle.std.specs.Prelude.{◌≡◌, ◌++◌, OnOk};
+ghost use Rattle.std.specs.Prelude.{◌≡◌, ◌<◌, ◌≤◌, ◌^◌, ◌++◌, ◌∷◌, length, IsOk, OnOk};
+ghost use Rattle.byte_defs.specs.Fields.{text};
 ghost use Rattle.byte_defs.specs.Reads.{Makes};
 ghost use Rattle.image_defs.specs.Spelling.{claim_bytes};
+ghost use Rattle.message_defs.specs.Limits.{most_signature_bytes};
+ghost use Rattle.message_defs.specs.Reading.{statement_of};
 ghost use Rattle.snapshot_defs.specs.Reading.{claim_at};
+ghost use Rattle.snapshot_rp.specs.Claims.{kept};
 ghost use Rattle.snapshot_rp.specs.Faults.{left_of};
 
 use crate::cursor::Cursor;
@@ -52,13 +56,45 @@ pub(crate) fn read_claim(alloc: Global, cursor: &mut Cursor<'_>) -> Result<KeptC
     })
 }
 
+// The signer, and both behind their lengths.
+fn push_parts(
+    out: &mut Vec<u8>,
+    signer: Pid,
+    statement: &[u8],
+    signature: &[u8],
+) -> Result<(), NoMemory>
+    requires said { length statement.now < 2 ^ 16 }
+    requires signed { length signature.now < 2 ^ 16 }
+    ensures { OnOk result (out.new.items ≡ out.old.items ++ signer ∷ (text statement.now ++ text signature.now)) }
+{
+    out.push(signer.get())?;
+    push_text(out, statement)?;
+    push_text(out, signature)
+}
+
+fn push_kept(
+    out: &mut Vec<u8>,
+    signer: Pid,
+    statement: &[u8],
+    signature: &[u8],
+) -> Result<(), NoMemory>
+    requires said { IsOk (statement_of statement.now) }
+    requires signed { length signature.now ≤ most_signature_bytes }
+    ensures { OnOk result (out.new.items ≡ out.old.items ++ claim_bytes (kept signer statement.now signature.now)) }
+{
+    push_parts(out, signer, statement, signature)
+}
+
 /// Signer, statement and signature, the last two behind their lengths.
 pub(crate) fn push_claim(out: &mut Vec<u8>, claim: &KeptClaim) -> Result<(), NoMemory>
     ensures { OnOk result (out.new.items ≡ out.old.items ++ claim_bytes claim.now) }
 {
-    out.push(claim.signer.get())?;
-    push_text(out, claim.statement.as_slice())?;
-    push_text(out, claim.signature.as_slice())
+    push_kept(
+        out,
+        claim.signer,
+        claim.statement.as_slice(),
+        claim.signature.as_slice(),
+    )
 }
 
 impl KeptClaim {

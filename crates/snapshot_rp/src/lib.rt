@@ -1,5 +1,5 @@
 //! The image of a process, from which it begins again: read from the bytes of a snapshot, and written (docs/FORMATS.md,
-//! «Snapshots»).
+//! «Images»).
 #![tactic(auto)]
 
 mod claim;

@@ -1,4 +1,4 @@
-//! An image as the bytes of a snapshot have it (docs/FORMATS.md, «Snapshots»).
+//! An image as the bytes of a snapshot have it (docs/FORMATS.md, «Images»).
 ghost use Rattle.std.specs.Prelude.{◌≡◌, ◌+◌, Ok, IfOk, length, map};
 ghost use Rattle.byte_defs.specs.Reads.{Gives, Makes};
 ghost use Rattle.image_defs.specs.Images as images;
