@@ -114,7 +114,9 @@ text_to_is most lt = record {
       let q = bytes_takes (length a.0.1) a.0.0 a.0.1 x.0 x.1 p.0.rest_fits a.2 in
       subst (λ (k : ℕ). Takes bytes (two_bytes k ++ x.0) x.1 × (k ≤ most)) (sym q.1)
       (Takes-then bytes (two_bytes a.0.0) a.0.1 x.0 x.1 p.0 q.0, p.1);
-  again = λ t rest le. rw
-      (append_assoc (two_bytes (length t)) t rest, (short_to_is most lt).again (length t) (t ++ rest) le,
-      bytes_again (length (t ++ rest)) t rest) refl;
+  again = λ t rest le. rw (
+    append_assoc (two_bytes (length t)) t rest,
+    (short_to_is most lt).again (length t) (t ++ rest) le,
+    bytes_again (length (t ++ rest)) t rest,
+  ) refl;
 }

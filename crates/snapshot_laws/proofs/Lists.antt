@@ -33,9 +33,11 @@ module _ {A : Type 0} (entry : ℕ → List ℕ → Step A) {spell : A → List 
       → times_at entry k (length xs) (flat_map spell xs ++ rest) ≡ Ok (xs, rest)
   unfolding times_at
   times_again k [] rest each = refl
-  times_again k (x ∷ xs) rest each = rw
-      (append_assoc (spell x) (flat_map spell xs) rest, (f k).again x (flat_map spell xs ++ rest) each.0,
-      times_again (k + 1) xs rest each.1) refl
+  times_again k (x ∷ xs) rest each = rw (
+    append_assoc (spell x) (flat_map spell xs) rest,
+    (f k).again x (flat_map spell xs ++ rest) each.0,
+    times_again (k + 1) xs rest each.1,
+  ) refl
 
   -- so many of them
   pub times_is : (k n : ℕ) → IsField (times_at entry k n) (flat_map spell) (λ xs. (length xs ≡ n) × EachFrom Is k xs)
@@ -60,9 +62,11 @@ module _ {A : Type 0} (entry : ℕ → List ℕ → Step A) {spell : A → List 
           let q = times_takes 0 a.0.0 a.0.1 x p.0.rest_fits a.2 in
           subst (λ (n : ℕ). Takes bytes (write n ++ flat_map spell x.0) x.1 × (Has n × EachFrom Is 0 x.0)) (sym q.1)
           (Takes-then bytes (write a.0.0) a.0.1 (flat_map spell x.0) x.1 p.0 q.0, (p.1, q.2));
-      again = λ xs rest is. rw
-          (append_assoc (write (length xs)) (flat_map spell xs) rest, g.again (length xs) (flat_map spell xs ++ rest) is.0,
-          times_again 0 xs rest is.1) refl;
+      again = λ xs rest is. rw (
+        append_assoc (write (length xs)) (flat_map spell xs) rest,
+        g.again (length xs) (flat_map spell xs ++ rest) is.0,
+        times_again 0 xs rest is.1,
+      ) refl;
     }
 
   pub list_is : IsField (list_at entry) (list_bytes spell) (IsListOf Is)

@@ -1,5 +1,5 @@
 -- Images of the code, as plain data.
-use Rattle.std.specs.Prelude.{ℕ, List, map, Option}
+use Rattle.std.specs.Prelude.{ℕ, map}
 use Rattle.message_defs.specs.Updates as updates
 use Rattle.group_defs.specs.Process as plain
 use Rattle.image_defs.specs.Images as images

@@ -265,10 +265,7 @@ impl Entry for Vec<Delivered> {
 }
 
 /// A list of claims.
-pub(crate) fn claims(
-    reading: Reading,
-    cursor: &mut Cursor<'_>,
-) -> Result<Vec<KeptClaim>, ReadError>
+pub(crate) fn claims(reading: Reading, cursor: &mut Cursor<'_>) -> Result<Vec<KeptClaim>, ReadError>
     ensures { Makes left_of (λ cs. (cs.items, cursor.new.rest.now)) result (plain.claims_at cursor.old.rest.now) }
 {
     list(reading, cursor)

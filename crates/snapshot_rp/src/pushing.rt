@@ -52,7 +52,10 @@ pub(crate) fn push_value(out: &mut Vec<u8>, value: Value) -> Result<(), NoMemory
 }
 
 /// 00, or 01 and a rank and a value.
-pub(crate) fn push_decision(out: &mut Vec<u8>, decision: Option<(u8, Value)>) -> Result<(), NoMemory>
+pub(crate) fn push_decision(
+    out: &mut Vec<u8>,
+    decision: Option<(u8, Value)>,
+) -> Result<(), NoMemory>
     ensures { OnOk result (out.new.items ≡ out.old.items ++ ready_bytes (report decision)) }
 {
     let Some((rank, value)) = decision else {

@@ -5,6 +5,7 @@ ghost use Rattle.image_defs.specs.Images as images;
 ghost use Rattle.snapshot_defs.specs.Reading as plain;
 ghost use Rattle.snapshot_defs.specs.Spelling.{spelled};
 ghost use Rattle.snapshot_defs.specs.Ranges.{IsImage};
+ghost use Rattle.snapshot_defs.specs.declared.Version.TheVariants.{Two};
 ghost use Rattle.stmt_codec.specs.Views.{report};
 ghost use Rattle.snapshot_rp.specs.Faults.{fault_of, left_of};
 ghost use Rattle.snapshot_rp.specs.Parts.{told, claimed, settled};
@@ -210,13 +211,12 @@ fn read_placed(alloc: Global, version: Version, bytes: &[u8]) -> Result<Image, S
 /// [`SnapshotFault::Image`] exactly where they spell none: at the first field that the bytes end in or that is out of its range, at the
 /// beginning of the perceived pairs or the conflicts where these don't rise, or behind the image where bytes are left.
 /// [`SnapshotFault::NoMemory`] where room is refused.
-pub fn read_snapshot(
-    alloc: Global,
-    version: Version,
-    bytes: &[u8],
-) -> Result<Image, SnapshotFault>
+pub fn read_snapshot(alloc: Global, version: Version, bytes: &[u8]) -> Result<Image, SnapshotFault>
     // What is read is in its ranges, and spelled so.
     ensures found { IfOk result (λ i. IsImage version (image i) × (bytes.now ≡ spelled version (image i))) }
+
+    // It can be written, which is in version 2.
+    ensures writable { IfOk result (λ i. IsImage Two (image i)) }
 
     // What is in its ranges and spelled so is read.
     ensures only { (i : images.Image) → IsImage version i → bytes.now ≡ spelled version i → Makes fault_of image result (Ok i) }
