@@ -48,7 +48,7 @@ fn an_image_of_either_version_is_read_and_written(rt: HostRuntime) -> Result<(),
         let mut out = Vec::new(rt.alloc());
         out.push(255)?;
         assert!(rt; write_snapshot(&image, &mut out).is_ok());
-        assert!(rt; out[0] == 255 && out[1..] == SECOND);
+        assert!(rt; out[0] == 255 && &out[1..] == SECOND.as_slice());
     }
     Ok(())
 }
@@ -102,6 +102,6 @@ fn a_claim_is_kept_and_lent(rt: HostRuntime) -> Result<(), Fail> {
 #[test]
 fn faults_are_told(rt: HostRuntime) -> Result<(), Fail> {
     let told = format!(in rt.alloc(); "{}, {}", SnapshotFault::Image(7), SnapshotFault::NoMemory)?;
-    assert!(rt; told == "no image: the fault stands at byte 7, out of memory");
+    assert!(rt; told.as_str() == "no image: the fault stands at byte 7, out of memory");
     Ok(())
 }
