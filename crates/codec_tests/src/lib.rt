@@ -6,6 +6,8 @@ mod claims;
 #[cfg(test)]
 mod frames;
 #[cfg(test)]
+mod images;
+#[cfg(test)]
 mod journals;
 #[cfg(test)]
 mod nodes;

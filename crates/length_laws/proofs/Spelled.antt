@@ -6,7 +6,7 @@ use Rattle.byte_defs.specs.Fields.{two_bytes}
 use Rattle.message_defs.specs.Updates.{Update, Remove, Add, Renew, Value, update_numbers}
 use Rattle.message_defs.specs.Statements.{Batch, Init, Echo, Order, Place, Keep, Notify, End, Last, Suggest, Ack, Ready}
 use Rattle.message_defs.specs.Spelling.{IsBatch, message_bytes, batch_bytes, value_bytes, ready_bytes}
-use Rattle.evidence_laws.specs.Lengths.{StatementsAreShort}
+use Rattle.length_laws.specs.Lengths.{StatementsAreShort}
 
 messages-length : (b : Batch) → length (flat_map message_bytes b) ≡ 3 * length b
 messages-length [] = refl

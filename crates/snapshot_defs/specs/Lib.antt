@@ -1,0 +1,5 @@
+pub mod Steps
+pub mod Reading
+pub mod Spelling
+pub mod Ranges
+pub mod Laws

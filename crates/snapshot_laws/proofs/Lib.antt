@@ -1,0 +1,5 @@
+pub mod Fields
+pub mod Lists
+pub mod Claims
+pub mod Messages
+pub mod Images

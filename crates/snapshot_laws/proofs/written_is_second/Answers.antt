@@ -1,0 +1,5 @@
+use Rattle.snapshot_laws.proofs.Images.{written_is_second}
+use Rattle.snapshot_laws.proofs.written_is_second.Goals as goal
+
+pub returns : goal.returns
+returns c = written_is_second

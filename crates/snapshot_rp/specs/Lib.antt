@@ -1,0 +1,4 @@
+pub mod Claims
+pub mod Views
+pub mod Faults
+pub mod Parts

@@ -1,0 +1,67 @@
+//! Fields of an image, appended one after another.
+ghost use Rattle.std.specs.Prelude.{◌≡◌, ◌<◌, ◌^◌, ◌++◌, ◌∷◌, length, OnOk};
+ghost use Rattle.byte_defs.specs.Fields.{two_bytes, text};
+ghost use Rattle.message_defs.specs.Updates.{update_numbers};
+ghost use Rattle.message_defs.specs.Spelling.{value_bytes, ready_bytes};
+ghost use Rattle.rp_base.specs.Views.{update as update_of, value as value_of};
+ghost use Rattle.stmt_codec.specs.Views.{report};
+
+use rp_base::{NoMemory, Update, Value};
+
+/// A number of two bytes.
+pub(crate) fn push_short(out: &mut Vec<u8>, n: u16) -> Result<(), NoMemory>
+    ensures { OnOk result (out.new.items ≡ out.old.items ++ two_bytes n) }
+{
+    out.extend_from_slice(&n.to_be_bytes())?;
+    Ok(())
+}
+
+/// Two bytes of length, and the bytes.
+pub(crate) fn push_text(out: &mut Vec<u8>, bytes: &[u8]) -> Result<(), NoMemory>
+    requires { length bytes.now < 2 ^ 16 }
+    ensures { OnOk result (out.new.items ≡ out.old.items ++ text bytes.now) }
+{
+    out.extend_from_slice(&(bytes.len() as u16).to_be_bytes())?;
+    out.extend_from_slice(bytes)?;
+    Ok(())
+}
+
+fn update_bytes(update: Update) -> [u8; 2]
+    ensures { result ≡ update_numbers (update_of update) }
+{
+    match update {
+        Update::Remove(p) => [1, p.get()],
+        Update::Add(p) => [2, p.get()],
+        Update::Renew => [3, 0],
+    }
+}
+
+pub(crate) fn push_update(out: &mut Vec<u8>, update: Update) -> Result<(), NoMemory>
+    ensures { OnOk result (out.new.items ≡ out.old.items ++ update_numbers (update_of update)) }
+{
+    out.extend_from_slice(&update_bytes(update))?;
+    Ok(())
+}
+
+/// An update and a cut.
+pub(crate) fn push_value(out: &mut Vec<u8>, value: Value) -> Result<(), NoMemory>
+    ensures { OnOk result (out.new.items ≡ out.old.items ++ value_bytes (value_of value)) }
+{
+    push_update(out, value.update)?;
+    push_short(out, value.cut)
+}
+
+/// 00, or 01 and a rank and a value.
+pub(crate) fn push_decision(
+    out: &mut Vec<u8>,
+    decision: Option<(u8, Value)>,
+) -> Result<(), NoMemory>
+    ensures { OnOk result (out.new.items ≡ out.old.items ++ ready_bytes (report decision)) }
+{
+    let Some((rank, value)) = decision else {
+        out.push(0)?;
+        return Ok(());
+    };
+    out.extend_from_slice(&[1, rank])?;
+    push_value(out, value)
+}
