@@ -3,6 +3,7 @@
 
 ghost use Rattle.chain_laws.specs.Chains.{ChainIsInstalled, ChainIsOfAll, ChainsDoNotFork, GenesisIsInstalled, GenesisIsOfAll};
 ghost use Rattle.chain_laws.specs.Commits.{CommitShows};
+ghost use Rattle.chain_laws.specs.Told.{AnswerTellsViews};
 
 /// A chain may begin with the genesis.
 pub fn genesis_is_of_all()
@@ -32,4 +33,9 @@ pub fn chains_do_not_fork()
 /// The commit certificate of a view that a process left shows the view that it installed next.
 pub fn commit_shows()
     ensures { CommitShows }
+{}
+
+/// The answer to bytes that begin with a kit is the lines of the views of a chain, and at most one line more; these views are the group's.
+pub fn answer_tells_views()
+    ensures { AnswerTellsViews }
 {}

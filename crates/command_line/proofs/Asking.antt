@@ -10,7 +10,7 @@ use Rattle.text_defs.proofs.Bytes.{bytes_found, bytes_spelled}
 use Rattle.text_defs.proofs.Choosing.{if_some, map_some, some_is, then_some}
 use Rattle.text_defs.proofs.Numbers.{number_within_found, number_within_spelled}
 use Rattle.text_defs.proofs.Tests.{word_is, and_true}
-use Rattle.command_line.specs.Commands.{Asks, Command, Replay, Gen, Keygen, IsOrder, KitOrder, plan_word}
+use Rattle.command_line.specs.Commands.{Asks, Command, Replay, Chain, Gen, Keygen, IsOrder, KitOrder, plan_word}
 use Rattle.command_line.specs.Laws.{CommandIsSpelled}
 use Rattle.command_line.specs.Reading.{command_of, order_of, plan_of}
 use Rattle.command_line.proofs.Plans.{plan_found, plan_spelled}
@@ -50,10 +50,20 @@ order_spelled order fits =
 -- ---- commands
 
 command_found : (words : List (List ℕ)) (c : Command) → command_of words ≡ Some c → Asks words c
-command_found (word ∷ []) c e =
-    let tested = if_some (same_bytes word (codes "replay")) (Some (Replay false)) c e in
-    subst (Asks (word ∷ [])) (some_is (Replay false) c tested.1)
-    (record { fits = tt; spelled = λ i. word_is word (codes "replay") tested.0 i ∷ [] })
+command_found (word ∷ []) c e = of_replay (same_bytes word (codes "replay")) refl e
+  where
+    of_chain : (if same_bytes word (codes "chain") then Some Chain else None) ≡ Some c → Asks (word ∷ []) c
+    of_chain e =
+        let tested = if_some (same_bytes word (codes "chain")) (Some Chain) c e in
+        subst (Asks (word ∷ [])) (some_is Chain c tested.1)
+        (record { fits = tt; spelled = λ i. word_is word (codes "chain") tested.0 i ∷ [] })
+
+    of_replay : (is_replay : Bool) → same_bytes word (codes "replay") ≡ is_replay
+        → (if is_replay then Some (Replay false) else (if same_bytes word (codes "chain") then Some Chain else None)) ≡ Some c
+        → Asks (word ∷ []) c
+    of_replay true is e = subst (Asks (word ∷ [])) (some_is (Replay false) c e)
+        (record { fits = tt; spelled = λ i. word_is word (codes "replay") is i ∷ [] })
+    of_replay false is e = of_chain e
 command_found (word ∷ further ∷ []) c e = of_gen (same_bytes word (codes "gen")) refl e
   where
     of_short : (if same_bytes word (codes "replay") && same_bytes further (codes "short") then Some (Replay true) else None) ≡ Some c
@@ -85,6 +95,7 @@ command_found _ c e = absurd cc
 command_spelled : (c : Command) (words : List (List ℕ)) → Asks words c → command_of words ≡ Some c
 command_spelled (Replay false) words asks = ap command_of asks.spelled
 command_spelled (Replay true) words asks = ap command_of asks.spelled
+command_spelled Chain words asks = ap command_of asks.spelled
 command_spelled (Gen number) words asks =
     let fits : number < 2 ^ 32 = asks.fits in
     ap command_of asks.spelled ∙ ap (option_map Gen) (number_within_spelled 0 (2 ^ 32 - 1) number (omega arith) (omega arith) (omega arith))

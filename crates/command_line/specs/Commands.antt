@@ -1,6 +1,7 @@
 -- The commands of the program, and the words that ask for them.
 --   replay                    the schedule that is read gives its report
 --   replay short              and its short report
+--   chain                     the kit and the proofs that are read give the views that they show
 --   gen NUMBER                the schedule that the number makes, which is below 2^32
 --   keygen N R KEYS SEED      a new kit: N members, 1 to 16, of R processes, N to 64; KEYS is plain:T, lms:H:W with the
 --                             typecodes of height, 5 to 7, and one-time parameter set, 1 to 4, or hss:L:H:W with L levels of such
@@ -26,6 +27,8 @@ pub record KitOrder : Type 0 where
 pub data Command : Type 0 where
   -- the long report or the short one
   Replay : (short : Bool) → Command
+  -- the views that proofs show behind a kit
+  Chain : Command
   Gen : (number : ℕ) → Command
   Keygen : (order : KitOrder) → Command
 
@@ -45,6 +48,7 @@ plan_word (Hss levels code kind) = codes "hss:" ++ (decimal levels ++ (codes ":"
 abbrev pub command_words : Command → List (List ℕ)
 command_words (Replay false) = codes "replay" ∷ []
 command_words (Replay true) = codes "replay" ∷ codes "short" ∷ []
+command_words Chain = codes "chain" ∷ []
 command_words (Gen number) = codes "gen" ∷ decimal number ∷ []
 command_words (Keygen order) = codes "keygen" ∷ decimal order.members ∷ decimal order.roster ∷ plan_word order.keys
     ∷ encode_lower order.seed ∷ []
@@ -64,6 +68,7 @@ pub record IsOrder (order : KitOrder) : Type 0 where
 -- a Gen has a number of 32 bits, and a Keygen an order that can be carried out
 abbrev pub IsCommand : Command → Type 0
 IsCommand (Replay short) = Unit {0}
+IsCommand Chain = Unit {0}
 IsCommand (Gen number) = number < 2 ^ 32
 IsCommand (Keygen order) = IsOrder order
 

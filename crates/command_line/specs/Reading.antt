@@ -9,7 +9,7 @@ use Rattle.signature_defs.specs.Secrets.{levels_are_built}
 use Rattle.kit_defs.specs.declared.KeyPlan.{KeyPlan}
 use Rattle.kit_defs.specs.declared.KeyPlan.TheVariants.{Plain, Lms, Hss}
 use Rattle.text_defs.specs.Words.{number_within, bytes_of}
-use Rattle.command_line.specs.Commands.{KitOrder, Command, Replay, Gen, Keygen}
+use Rattle.command_line.specs.Commands.{KitOrder, Command, Replay, Chain, Gen, Keygen}
 
 -- what stands behind this front
 abbrev pub behind : List ℕ → List ℕ → Option (List ℕ)
@@ -53,7 +53,9 @@ order_of members roster keys seed =
 
 -- the command that the words ask for
 abbrev pub command_of : List (List ℕ) → Option Command
-command_of (word ∷ []) = if same_bytes word (codes "replay") then Some (Replay false) else None
+command_of (word ∷ []) =
+    if same_bytes word (codes "replay") then Some (Replay false) else
+    (if same_bytes word (codes "chain") then Some Chain else None)
 command_of (word ∷ further ∷ []) =
     if same_bytes word (codes "gen") then option_map Gen (number_within 0 (2 ^ 32 - 1) further) else
     (if same_bytes word (codes "replay") && same_bytes further (codes "short") then Some (Replay true) else None)

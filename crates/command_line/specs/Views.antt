@@ -1,7 +1,7 @@
 -- Commands of the code, as plain data.
 use Rattle.command_line.specs.Commands as plain
 use Rattle.command_line.specs.declared.commands.Command.{Command}
-use Rattle.command_line.specs.declared.commands.Command.TheVariants.{Replay, Gen, Keygen}
+use Rattle.command_line.specs.declared.commands.Command.TheVariants.{Replay, Chain, Gen, Keygen}
 use Rattle.command_line.specs.declared.orders.KitOrder.{KitOrder}
 
 abbrev pub order : KitOrder → plain.KitOrder
@@ -9,5 +9,6 @@ order o = record { members = o.members; roster = o.roster; keys = o.keys; seed =
 
 abbrev pub command : Command → plain.Command
 command (Replay short) = plain.Replay short
+command Chain = plain.Chain
 command (Gen number) = plain.Gen number
 command (Keygen o) = plain.Keygen (order o)

@@ -13,6 +13,9 @@ pub enum Command {
     /// Read a schedule, and write its report: all that it tells, or the short one.
     Replay { short: bool },
 
+    /// Read a kit and proofs, and write each view that they show.
+    Chain,
+
     /// Write the schedule that this number makes.
     Gen(u32),
 
@@ -25,6 +28,8 @@ fn of_one_word(word: &[u8]) -> Option<Command>
 {
     if word == b"replay".as_slice() {
         Some(Command::Replay { short: false })
+    } else if word == b"chain".as_slice() {
+        Some(Command::Chain)
     } else {
         None
     }
@@ -76,7 +81,8 @@ fn of_words(words: &[String]) -> Option<Command>
 }
 
 /// The command that the words ask for; None exactly where they ask for none. The words are those behind the program's
-/// name: `replay`, `replay short`, `gen NUMBER` with a number of 32 bits, or `keygen N R KEYS SEED` with the ranges of [`KitOrder`].
+/// name: `replay`, `replay short`, `chain`, `gen NUMBER` with a number of 32 bits, or `keygen N R KEYS SEED` with the ranges of
+/// [`KitOrder`].
 pub fn read_command(words: &[String]) -> Option<Command>
     // The words are those of the command that is read, and it is in its ranges.
     ensures found { IfSome result (λ c. Asks (map string_bytes words.now) (views.command c)) }

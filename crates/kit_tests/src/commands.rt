@@ -33,6 +33,7 @@ fn the_words_of_a_command_ask_for_it(rt: HostRuntime) -> Result<(), Fail> {
             "{line}"
         );
     }
+    assert_eq!(rt; read(rt.alloc(), "chain")?, Some(Command::Chain));
     for (line, number) in [("gen 0", 0), ("gen 1", 1), ("gen 4294967295", u32::MAX)] {
         assert_eq!(rt;
             read(rt.alloc(), line)?,
@@ -99,6 +100,9 @@ fn other_words_ask_for_nothing(rt: HostRuntime) -> Result<(), Fail> {
         "replay long",
         "short replay",
         "replay short short",
+        "chains",
+        "chain short",
+        "chain 0 1 2 3",
         "gen short",
         "gen",
         "gen 01",

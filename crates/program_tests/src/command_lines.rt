@@ -83,6 +83,7 @@ fn rampart_ends_on_each_command(rt: HostRuntime) -> Result<(), Fail> {
     for (words, written, status) in [
         ([b"replay".as_slice()].as_slice(), REPORT, 0),
         (&[b"replay", b"short"], SHORT_REPORT, 0),
+        (&[b"chain"], b"stop 7 line 1\n", 7),
         (&keygen, KIT, 0),
         (&[], b"stop 2 words\n", 2),
         (&[b"replay", b"\xff"], b"stop 2 words\n", 2),

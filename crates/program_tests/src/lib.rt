@@ -2,6 +2,8 @@
 #![tactic(auto)]
 
 #[cfg(test)]
+mod chain_calls;
+#[cfg(test)]
 mod command_lines;
 #[cfg(test)]
 mod interop_calls;

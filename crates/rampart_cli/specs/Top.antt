@@ -4,8 +4,8 @@
 -- tell: theirs is `None`. Of a stream that does not tell, `Consumes`, `IsAtEnd`, `Appends`, `AppendsPrefix` and `Keeps` hold whatever the
 -- bytes. So where the source does not tell, `Replayed` and `Refused` say that there is an input that runs, or one that has no run, and not
 -- that it is the one that was read; and where the sink does not tell, `Reported`, `ReportedInPart` and `Stopped` say nothing of what was
--- written. The contract is proved for every type of stream, so also for one that tells and is otherwise as the system's
--- (docs/TESTED.md, «What is trusted»). What is said by words, statuses and counts of faults holds of every stream.
+-- written. So it is with the relations of `chain_words`. The contract is proved for every type of stream, so also for one that tells and is
+-- otherwise as the system's (docs/TESTED.md, «What is trusted»). What is said by words, statuses and counts of faults holds of every stream.
 use Rattle.std.specs.Prelude.{◌≡◌, ℕ, Bool, ◌≤◌, List, ◌∷◌, ◌++◌, length, map, Option, IfSome, Ok, Err, codes, String, string_bytes}
 use Rattle.std.specs.Io.KnownBytes.{Appends, Consumes, IsAtEnd}
 use Rattle.std.specs.declared.alloc.Global.{Global}

@@ -4,6 +4,7 @@ use Rattle.std.specs.Io.KnownBytes.{Appends}
 use Rattle.replay_defs.specs.Reports.{report_of}
 use Rattle.command_line.specs.Commands.{KitOrder, Replay, Gen, Keygen}
 use Rattle.rp_base.specs.Streams.{AppendsPrefix}
+use Rattle.chain_laws.proofs.Told.{answer_tells_views}
 use Rattle.rampart_cli.specs.Top.{Reported, ReportedInPart, kit_of_order, schedule_of_number}
 use Rattle.rampart_cli.proofs.Orders.{same_order, same_number, same_short, no_command}
 use Rattle.rampart_cli.proofs.top.rampart.Goals as goal
@@ -80,3 +81,6 @@ returns-in-None-clause-refuses g c = λ short asks told calm. absurd (no_command
 
 pub returns-in-None-clause-only_replayed : goal.returns-in-None-clause-only_replayed
 returns-in-None-clause-only_replayed g c = λ short asks. absurd (no_command _ (c.in-None.ensures.only (Replay short) asks))
+
+pub returns-in-Some-Chain-clause-views : goal.returns-in-Some-Chain-clause-views
+returns-in-Some-Chain-clause-views g c = λ asks read taken. answer_tells_views read

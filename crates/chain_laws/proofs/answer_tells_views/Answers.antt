@@ -1,0 +1,5 @@
+use Rattle.chain_laws.proofs.Told.{answer_tells_views}
+use Rattle.chain_laws.proofs.answer_tells_views.Goals as goal
+
+pub returns : goal.returns
+returns c = answer_tells_views
