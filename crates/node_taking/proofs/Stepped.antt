@@ -1,0 +1,42 @@
+-- What becomes of an event at its host.
+use Rattle.std.proofs.Common.{◌≡◌, ℕ, List, Bool, true≢false, Option, None, sym, ap, ◌∙◌}
+use Rattle.std.specs.Prelude.{IsTrue}
+use Rattle.byte_defs.specs.Members.{has}
+use Rattle.kit_defs.specs.Kits.{Kit}
+use Rattle.group_defs.specs.Process.{Process}
+use Rattle.journal_entries.specs.Views.{event as plain_event}
+use Rattle.stmt_codec.specs.declared.events.Event.{Event}
+use Rattle.sig_scheme.specs.declared.any_signer.AnySigner.{AnySigner}
+use Rattle.sig_scheme.specs.Signers.{used, total, signature}
+use Rattle.hosted_core.specs.declared.taking.Taken.{Taken}
+use Rattle.hosted_core.specs.Cores.{IsCore, event as event_of, signer_of, turn_of}
+use Rattle.hosted_core.specs.Hosts.{core_of}
+use Rattle.hosted_core.specs.Turns.{TakesTurn, hosted_in}
+use Rattle.node_defs.specs.Casts.{Cast, cast_of}
+use Rattle.node_hosts.specs.declared.host.Host.{Host}
+use Rattle.node_hosts.specs.declared.hosts.Hosts.{Hosts}
+use Rattle.node_hosts.specs.Hosts.{AreHosts, numbers_of}
+use Rattle.node_hosts.specs.Places.{IsHost, IsPlace}
+use Rattle.node_hosts.specs.Turns.{TakesLive}
+use Rattle.node_hosts.proofs.Turning.{takes-live}
+use Rattle.node_taking.specs.Turns.{HasHosts}
+
+-- what `take_out` says
+abbrev Lends : Hosts → ℕ → Option Host → Type 0
+Lends hosts p o = (c : Cast) (kit : Kit) (now : ℕ → Process) → AreHosts c kit now None hosts → IsPlace c kit p (now p) o
+
+-- a hosted process has its host
+pub not-missing : (kit : Kit) (hosts : Hosts) (p : ℕ) → HasHosts kit hosts → IsTrue (has (numbers_of hosts) p) → Lends hosts p None → ⊥
+not-missing kit hosts p some hosted lends =
+    let c : Cast = cast_of kit some.version in
+    true≢false (sym hosted ∙ ap (λ ps. has ps p) some.are.numbers ∙ lends c kit some.now some.are)
+
+-- what `Hosted::take` says of this host
+pub taken-so : (c : Cast) (kit : Kit) (p : ℕ) (now : ℕ → Process) (h : Host) (e : Event) (t : Taken AnySigner)
+    (rule : List ℕ → List ℕ → List ℕ → Bool) → IsHost c kit p (now p) h → c.setting.valid ≡ rule
+    → (IsCore used c.setting (now p) (core_of h.process) → c.setting.valid ≡ rule
+    → TakesTurn used c.setting (now p) (turn_of used total signature (core_of h.process) (event_of e)) (plain_event e) t)
+    → total (signer_of (core_of (hosted_in t))) ≡ total (signer_of (core_of h.process))
+    → signature (signer_of (core_of (hosted_in t))) ≡ signature (signer_of (core_of h.process)) → TakesLive c p (now p) (plain_event e) t
+taken-so c kit p now h e t rule is same takes sum signs =
+    takes-live c p (now p) h.process e t is.process (takes is.process.core same) sum signs

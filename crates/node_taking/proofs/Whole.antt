@@ -1,0 +1,135 @@
+-- One event, from the node at it to the node at its other tasks, or to its stop.
+use Rattle.std.proofs.Common.{◌≡◌, ℕ, List, [], ◌∷◌, Option, None, Some, refl, sym, subst, ◌∙◌}
+use Rattle.group_defs.specs.Events.{EventFault, refusal}
+use Rattle.journal_defs.specs.Entries.{Event}
+use Rattle.journal_rp.specs.declared.journal.Journal.{Journal}
+use Rattle.journal_rp.specs.declared.journal.Writing.{Writing}
+use Rattle.member_core.proofs.Spelled.{verdict-is}
+use Rattle.node_defs.specs.Casts.{Cast, from_start, handed, live, outcome_of}
+use Rattle.node_defs.specs.Lines.{Stop, NoMemory, refused_line}
+use Rattle.node_defs.specs.Lives.{Found, IsSound}
+use Rattle.node_defs.specs.Nodes.{Node, Task, Take, Say, Done, Snapper, leaving_of}
+use Rattle.node_laws.proofs.Soundness.{stays_sound}
+use Rattle.node_traces.specs.Outside.{LinkSeen, SinkSeen, SinkWrote, SourceSeen}
+use Rattle.node_traces.specs.Goes.{Outside, Goes}
+use Rattle.node_traces.specs.Went.{Went}
+use Rattle.node_traces.proofs.Going.{parts_go_on}
+use Rattle.node_traces.proofs.Went.{went_on}
+use Rattle.node_hosts.specs.declared.running.Running.{Running}
+use Rattle.node_hosts.specs.Hosts.{AreHosts}
+use Rattle.node_hosts.specs.Nodes.{IsJournalOf, IsNode, cast_in}
+use Rattle.node_taking.specs.Taking.{outside, GoesOnTo, StopsSo}
+use Rattle.node_taking.specs.Keeping.{at, grown, letting, Keeps}
+use Rattle.node_taking.specs.Telling.{Tells}
+use Rattle.node_taking.proofs.Machine.{answers, at-so, refused-so, steps-does}
+use Rattle.node_taking.proofs.Still.{still, stops-after, stops-still, Rests}
+use Rattle.node_taking.proofs.Ends.{Ends, forgets, says-on}
+use Rattle.node_taking.proofs.Told.{tells-on}
+
+-- a sound node stays so
+sound-on : (c : Cast) (snap : Snapper) (most : ℕ) (n m : Node) (x y : Outside) → Goes c snap most n x m y
+    → IsSound c (from_start c).from n → IsSound c (from_start c).from m
+sound-on c snap most n m x y goes sound = subst (λ (k : Node). IsSound c (from_start c).from k) (sym goes.becomes)
+    (stays_sound c snap (from_start c).from n goes.answers (λ p. refl) sound)
+
+-- what the running node is now, of the same cast
+is-now : (r r' : Running) (seen : Option (List ℕ)) (may_leave : List ℕ → Type 0) (m : Node) (ts : List Task) → cast_in r' ≡ cast_in r
+    → AreHosts (cast_in r) r'.kit.now m.now None r'.hosts → IsJournalOf (cast_in r) m r'.journal seen may_leave
+    → IsSound (cast_in r) (from_start (cast_in r)).from (at m ts) → IsNode seen may_leave r' (at m ts) ts
+is-now r r' seen may_leave m ts same hosts journal sound = record {
+  at = record { runs = refl; opened = refl; leaving = refl; tasks = refl; text = refl; late = refl };
+  hosts = subst (λ (c : Cast). AreHosts c r'.kit.now m.now None r'.hosts) (sym same) hosts;
+  journal = let so = subst (λ (c : Cast). IsJournalOf c m r'.journal seen may_leave) (sym same) journal in
+      record { gate = so.gate; length = so.length; rest = so.rest };
+  sound = subst (λ (c : Cast). IsSound c (from_start c).from (at m ts)) (sym same) sound;
+}
+
+module _ {D : Type 0} (seen : D → Option (List ℕ)) (may_leave : D → List ℕ → Type 0) (moment : D → ℕ)
+    (left_since : D → ℕ → List ℕ → Type 0) (only_now : (d : D) (image : List ℕ) → left_since d (moment d) image → may_leave d image)
+    (snap : Snapper) (most : ℕ) (f : Found) where
+  -- a stop with what was kept
+  ends-still : (c : Cast) (m : Node) (x y : Outside) (d : D) (why : Stop) → m.opening ≡ [] → Rests (seen d) (may_leave d) c m
+      → Ends c snap most m x why y m.kept → StopsSo seen may_leave moment left_since c snap most f m x d why y d
+  ends-still c m x y d why opened rests ends =
+      stops-still seen may_leave moment left_since only_now c snap most f m ends.last x y d why opened rests ends.goes ends.stops ends.keeps
+
+  module _ (r : Running) (n : Node) (p : ℕ) (e : Event) (ts : List Task) where
+    abbrev c : Cast
+    c = cast_in r
+
+    -- memory ran out for the event
+    pub step-forgets : (d : D) (x : Outside) → IsNode (seen d) (may_leave d) r n (Take p e ∷ ts)
+        → StopsSo seen may_leave moment left_since c snap most f n x d NoMemory x d
+    step-forgets d x is =
+        subst (λ (m : Node). StopsSo seen may_leave moment left_since c snap most f m x d NoMemory x d) (sym (at-so n (Take p e ∷ ts) is.at))
+        (ends-still c (at n (Take p e ∷ ts)) x x d NoMemory refl is.journal.rest (forgets c snap most (at n (Take p e ∷ ts)) x refl))
+
+    -- ---- it was refused
+
+    module _ (fault : EventFault) (l : LinkSeen) (s t : SinkSeen) (o : SourceSeen) (d : D)
+        (is : IsNode (seen d) (may_leave d) r n (Take p e ∷ ts)) (refused : refusal c.setting (n.now p) (handed e) ≡ Some fault) where
+      refused-first : Goes c snap most (at n (Take p e ∷ ts)) (outside l s o) (at n (Say (refused_line p fault) ∷ ts)) (outside l s o)
+      refused-first = answers c snap most (at n (Take p e ∷ ts)) (at n (Say (refused_line p fault) ∷ ts)) Done (outside l s o) (outside l s o)
+          (refused-so c snap n p e ts fault (verdict-is c.setting (n.now p) (live c (n.now p) e) ∙ refused))
+          (steps-does c most n p e ts (outside l s o))
+
+      pub refused-on : (r' : Running) → cast_in r' ≡ c → AreHosts c r'.kit.now n.now None r'.hosts
+          → IsJournalOf c n r'.journal (seen d) (may_leave d) → SinkWrote s t (refused_line p fault)
+          → GoesOnTo seen may_leave moment left_since c snap most f n (outside l s o) d ts (outside l t o) d r'
+      refused-on r' same hosts journal wrote =
+          let whole = parts_go_on c snap most (at n (Take p e ∷ ts)) (at n (Say (refused_line p fault) ∷ ts)) (at n ts) (outside l s o)
+          (outside l s o) (outside l t o) refused-first (says-on c snap most n (refused_line p fault) ts l s t o wrote) in
+          let went = subst (λ (m : Node). Went seen moment left_since c snap most f m (outside l s o) d (at n ts) (outside l t o) d)
+          (sym (at-so n (Take p e ∷ ts) is.at))
+          (still seen may_leave moment left_since only_now c snap most f (at n (Take p e ∷ ts)) (at n ts) (outside l s o) (outside l t o) d
+          refl is.journal.rest whole) in
+          record {
+            node = at n ts;
+            went = went;
+            is = is-now r r' (seen d) (may_leave d) n ts same hosts journal
+                (sound-on c snap most n (at n ts) (outside l s o) (outside l t o) went.goes is.sound);
+            cast = same;
+            lines = refl;
+            script = refl;
+          }
+
+      pub refused-stops : (why : Stop) → Ends c snap most (at n (Say (refused_line p fault) ∷ ts)) (outside l s o) why (outside l t o) n.kept
+          → StopsSo seen may_leave moment left_since c snap most f n (outside l s o) d why (outside l t o) d
+      refused-stops why ends =
+          let m : Node = at n (Say (refused_line p fault) ∷ ts) in
+          subst (λ (k : Node). StopsSo seen may_leave moment left_since c snap most f k (outside l s o) d why (outside l t o) d)
+          (sym (at-so n (Take p e ∷ ts) is.at))
+          (stops-after seen may_leave moment left_since only_now c snap most f (at n (Take p e ∷ ts)) m (outside l s o) (outside l s o) (outside l t o) d d d why
+          (still seen may_leave moment left_since only_now c snap most f (at n (Take p e ∷ ts)) m (outside l s o) (outside l s o) d refl
+          is.journal.rest refused-first)
+          (ends-still c m (outside l s o) (outside l t o) d why refl is.journal.rest ends))
+
+    -- ---- it was taken
+
+    module _ (k l : LinkSeen) (s t : SinkSeen) (o : SourceSeen) (old new : D) (is : IsNode (seen old) (may_leave old) r n (Take p e ∷ ts)) where
+      pub taken-on : (r' : Running) → cast_in r' ≡ c → AreHosts c r'.kit.now (grown c n p e).now None r'.hosts
+          → Keeps seen may_leave moment left_since c snap most f n p e ts (outside k s o) old new r'.journal
+          → Tells c (leaving_of p (outcome_of c (n.now p) e)) k l (SinkWrote s t)
+          → GoesOnTo seen may_leave moment left_since c snap most f n (outside k s o) old ts (outside l t o) new r'
+      taken-on r' same hosts keeps tells =
+          let went = went_on seen moment left_since c snap most f n (letting c n p e ts) (at (grown c n p e) ts) (outside k s o) (outside k s o)
+          (outside l t o) old new new keeps.went
+          (still seen may_leave moment left_since only_now c snap most f (letting c n p e ts) (at (grown c n p e) ts) (outside k s o)
+          (outside l t o) new refl keeps.journal.rest (tells-on c snap most n p e ts k l s t o tells)) in
+          record {
+            node = at (grown c n p e) ts;
+            went = went;
+            is = is-now r r' (seen new) (may_leave new) (grown c n p e) ts same hosts keeps.journal
+                (sound-on c snap most n (at (grown c n p e) ts) (outside k s o) (outside l t o) went.goes is.sound);
+            cast = same;
+            lines = refl;
+            script = refl;
+          }
+
+      pub taken-stops : (journal : Journal Writing) (why : Stop)
+          → Keeps seen may_leave moment left_since c snap most f n p e ts (outside k s o) old new journal
+          → Ends c snap most (letting c n p e ts) (outside k s o) why (outside l t o) (grown c n p e).kept
+          → StopsSo seen may_leave moment left_since c snap most f n (outside k s o) old why (outside l t o) new
+      taken-stops journal why keeps ends =
+          stops-after seen may_leave moment left_since only_now c snap most f n (letting c n p e ts) (outside k s o) (outside k s o) (outside l t o) old new new why keeps.went
+          (ends-still c (letting c n p e ts) (outside k s o) (outside l t o) new why refl keeps.journal.rest ends)

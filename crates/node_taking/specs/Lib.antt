@@ -1,0 +1,4 @@
+pub mod Taking
+pub mod Turns
+pub mod Keeping
+pub mod Telling

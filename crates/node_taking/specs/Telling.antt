@@ -1,0 +1,29 @@
+-- What was let out and written, by what a call of the code answered.
+use Rattle.std.specs.Prelude.{◌≡◌, ℕ, List, [], Result, Ok, Err}
+use Rattle.node_defs.specs.Casts.{Cast}
+use Rattle.node_defs.specs.Nodes.{Leaving}
+use Rattle.node_traces.specs.Outside.{LinkSeen, SinkSeen, SinkWrote, SinkFailed}
+use Rattle.letting_laws.specs.Letting.{HasBegun}
+use Rattle.node_turns.specs.Letters.{LetsTurnOut}
+use Rattle.node_text.specs.declared.stops.Stop.{Stop}
+use Rattle.node_text.specs.declared.stops.Stop.TheVariants.{NoMemory, WriteFailed}
+
+-- the text was written; or the output failed, which took a front of it; or there was no memory for it
+abbrev pub Says : {T : Type 0} → Result T Stop → List ℕ → SinkSeen → SinkSeen → Type 0
+Says (Ok x) text old new = SinkWrote old new text
+Says (Err WriteFailed) text old new = SinkFailed old new text
+Says (Err NoMemory) text old new = old ≡ new
+Says (Err _) text old new = ⊥
+
+-- a turn was let out, with this text; and the text was written, or the output failed, which took a front of it
+pub record Tells (c : Cast) (ls : List Leaving) (k l : LinkSeen) (Wrote : List ℕ → Type 0) : Type 0 where
+  pub text : List ℕ
+  pub out : LetsTurnOut c ls k l [] text
+  pub wrote : Wrote text
+
+-- all of it was let out and told; or the output failed; or memory ran out, after the first of it
+abbrev pub TellsTurn : {T : Type 0} → Result T Stop → Cast → List Leaving → LinkSeen → LinkSeen → SinkSeen → SinkSeen → Type 0
+TellsTurn (Ok x) c ls k l old new = Tells c ls k l (SinkWrote old new)
+TellsTurn (Err WriteFailed) c ls k l old new = Tells c ls k l (SinkFailed old new)
+TellsTurn (Err NoMemory) c ls k l old new = HasBegun c ls k l × (old ≡ new)
+TellsTurn (Err _) c ls k l old new = ⊥

@@ -1,0 +1,90 @@
+//! One event, from the script to what goes out of it.
+ghost use Rattle.std.specs.Prelude.{◌≤◌, ◌∷◌, ℕ, List, length, IfOk, IfErr, IsTrue};
+ghost use Rattle.byte_defs.specs.Members.{has};
+ghost use Rattle.journal_entries.specs.Views.{event as event_of};
+ghost use Rattle.node_defs.specs.Casts.{handed};
+ghost use Rattle.node_defs.specs.Lives.{Found};
+ghost use Rattle.node_defs.specs.Nodes.{Node, Snapper, Task, Take};
+ghost use Rattle.node_traces.specs.Outside.{SourceSeen};
+ghost use Rattle.node_traces.specs.Seen.{link_seen, sink_seen};
+ghost use Rattle.node_hosts.specs.Hosts.{numbers_of};
+ghost use Rattle.node_hosts.specs.Nodes.{IsNode, cast_in};
+ghost use Rattle.node_text.specs.Views.{stop as stop_of};
+ghost use Rattle.letter_laws.specs.Letters.{IsFromOther};
+ghost use Rattle.node_taking.specs.Taking.{outside, HasNode, HasDiskCause, GoesOnTo, StopsSo};
+
+use crate::keeping::keep;
+use crate::stepping::{Away, Fate, step};
+use crate::telling::{say_refused, tell};
+use node_hosts::{Host, Running};
+use node_text::{Event, Stop};
+use rp_base::{Disk, Link, Pid, Sink};
+use std::alloc::Global;
+
+/// One event of a hosted process. It is refused, which a line tells; or its turn is appended to the journal, and then what it sends goes
+/// out, each frame sealed in the room, and what it tells is written in one write. The room has at least 61,054 bytes (`SEALED_BYTES`).
+///
+/// # Errors
+/// The node ends: `NoMemory`, `DiskFailed`, `Full` exactly where the journal would pass 2^30 bytes, `WriteFailed`.
+pub fn take<'a, D: Disk, L: Link, K: Sink>(
+    alloc: Global,
+    running: Running<'a>,
+    me: Pid,
+    event: &Event<'_>,
+    disk: &mut D,
+    link: &mut L,
+    output: &mut K,
+    room: &mut [u8],
+) -> Result<Running<'a>, Stop>
+    requires node { HasNode (D.seen disk.old) (D.may_leave disk.old) running }
+    requires hosted { IsTrue (has (numbers_of running.hosts) me) }
+    requires other { IsFromOther me (handed (event_of event.now)) }
+    requires room { 61054 ≤ length room.old }
+
+    // What it tells is written, and the node goes on with its other tasks.
+    ensures goes_on { (snap : Snapper) (most : ℕ) (f : Found) (source : SourceSeen) (n : Node) (ts : List Task)
+        → IsNode (D.seen disk.old) (D.may_leave disk.old) running.entry n (Take me (event_of event.now) ∷ ts)
+        → IfOk result (GoesOnTo D.seen D.may_leave D.moment D.left_since (cast_in running.entry) snap most f n
+        (outside (link_seen L.sent L.coming L.faults link.old) (sink_seen K.written K.faults output.old) source) disk.old ts
+        (outside (link_seen L.sent L.coming L.faults link.new) (sink_seen K.written K.faults output.new) source) disk.new) }
+
+    // Or it stops, after some calls and their answers.
+    ensures stops { (snap : Snapper) (most : ℕ) (f : Found) (source : SourceSeen) (n : Node) (ts : List Task)
+        → IsNode (D.seen disk.old) (D.may_leave disk.old) running.entry n (Take me (event_of event.now) ∷ ts)
+        → IfErr result (λ why. StopsSo D.seen D.may_leave D.moment D.left_since (cast_in running.entry) snap most f n
+        (outside (link_seen L.sent L.coming L.faults link.old) (sink_seen K.written K.faults output.old) source) disk.old (stop_of why)
+        (outside (link_seen L.sent L.coming L.faults link.new) (sink_seen K.written K.faults output.new) source) disk.new) }
+    ensures cause { HasDiskCause (D.faults disk.old) (D.faults disk.new) result }
+{
+    let Running {
+        kit,
+        hosts,
+        journal,
+    } = running;
+    let mut hosts = hosts;
+    match step(alloc, kit, &mut hosts, me, event)? {
+        Fate::Refused(fault) => {
+            say_refused(alloc, me, fault, output)?;
+            Ok(Running {
+                kit,
+                hosts,
+                journal,
+            })
+        }
+        Fate::Taken(away) => {
+            let (journal, away) = keep(journal, away, disk)?;
+            tell(alloc, kit, me, &away, disk, link, output, room)?;
+            let Away { turn, keys, port } = away;
+            hosts.put_back(Host {
+                process: turn.into_process(),
+                keys,
+                port,
+            });
+            Ok(Running {
+                kit,
+                hosts,
+                journal,
+            })
+        }
+    }
+}

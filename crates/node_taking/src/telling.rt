@@ -1,0 +1,93 @@
+//! What goes out of a turn, and the lines of it.
+ghost use Rattle.std.specs.Prelude.{◌≡◌, ◌≤◌, length, All, IfSome};
+ghost use Rattle.group_defs.specs.Events.{Outcome};
+ghost use Rattle.journal_defs.specs.declared.Version.{Version};
+ghost use Rattle.journal_rp.specs.Turns.{outcome_of, staged_of};
+ghost use Rattle.auth_link.specs.Keys.{known};
+ghost use Rattle.node_defs.specs.Casts.{cast_of, known_of};
+ghost use Rattle.node_defs.specs.Lines.{refused_line};
+ghost use Rattle.node_defs.specs.Nodes.{leaving_of};
+ghost use Rattle.node_traces.specs.Seen.{link_seen, sink_seen};
+ghost use Rattle.hosted_core.specs.Cores.{IsOutcome, fault as fault_of};
+ghost use Rattle.node_turns.specs.Kept.{IsLast};
+ghost use Rattle.node_turns.specs.Letters.{IsSealable, letters_in};
+ghost use Rattle.node_taking.specs.Telling.{Says, TellsTurn};
+
+use crate::stepping::Away;
+use journal_rp::Synced;
+use node_hosts::Kit;
+use node_text::{EventFault, Stop, push_refused};
+use node_turns::{Speaker, let_out};
+use rp_base::{Disk, Failed, Link, Pid, Sink, write_all};
+use std::alloc::Global;
+
+/// Writes the text.
+///
+/// # Errors
+/// `WriteFailed`; a front of the text was written then.
+pub(crate) fn say<K: Sink>(output: &mut K, text: &[u8]) -> Result<(), Stop>
+    ensures { Says result text.now (sink_seen K.written K.faults output.old) (sink_seen K.written K.faults output.new) }
+{
+    match write_all(output, text) {
+        Ok(()) => Ok(()),
+        Err(Failed) => Err(Stop::WriteFailed),
+    }
+}
+
+/// Writes that an event of this process was refused, and why.
+///
+/// # Errors
+/// `NoMemory` for the line, and `WriteFailed`.
+pub(crate) fn say_refused<K: Sink>(
+    alloc: Global,
+    me: Pid,
+    fault: EventFault,
+    output: &mut K,
+) -> Result<(), Stop>
+    ensures { Says result (refused_line me (fault_of fault)) (sink_seen K.written K.faults output.old)
+        (sink_seen K.written K.faults output.new) }
+{
+    let mut line = Vec::new(alloc);
+    push_refused(&mut line, me, fault)?;
+    say(output, line.as_slice())
+}
+
+/// Lets out what a turn sends and tells, once its entry is in the journal for good, and writes its lines in one write.
+///
+/// # Errors
+/// `NoMemory` for a line, where the first of it went out, and `WriteFailed`.
+pub(crate) fn tell<D: Disk, L: Link, K: Sink>(
+    alloc: Global,
+    kit: &Kit,
+    me: Pid,
+    away: &Away<Synced>,
+    disk: &D,
+    link: &mut L,
+    output: &mut K,
+    room: &mut [u8],
+) -> Result<(), Stop>
+    requires keys { known away.now.keys ≡ known_of kit.now me }
+    requires kept { IfSome (D.seen disk.now) (λ file. IsLast (D.seen disk.now) (D.may_leave disk.now) (staged_of away.now.turn)) }
+    requires sealable { All (IsSealable kit.now me) (letters_in (outcome_of away.now.turn).sends.items) }
+    requires room { 61054 ≤ length room.old }
+    ensures { (version : Version) (o : Outcome) → IsOutcome o (outcome_of away.now.turn)
+        → TellsTurn result (cast_of kit.now version) (leaving_of me o) (link_seen L.sent L.coming L.faults link.old)
+        (link_seen L.sent L.coming L.faults link.new) (sink_seen K.written K.faults output.old) (sink_seen K.written K.faults output.new) }
+{
+    let speaker = Speaker {
+        me,
+        kit,
+        keys: &away.keys,
+    };
+    let mut text = Vec::new(alloc);
+    let out = let_out(alloc, &away.turn, &speaker, disk, link, room, &mut text);
+
+    // A speaker is not let go, but taken apart.
+    let Speaker {
+        me: _me,
+        kit: _kit,
+        keys: _keys,
+    } = speaker;
+    out?;
+    say(output, text.as_slice())
+}
