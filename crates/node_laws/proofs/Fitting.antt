@@ -77,7 +77,7 @@ module _ (c : Cast) (valid : SignsValidly c) where
 
 -- ---- one more entry
 
-fits-snoc : (c : Cast) (from : ℕ → Process) (before es : List Entry) (e : Entry) → FitsBehind c from before es → FitsAt c from (before ++ es) e
+pub fits-snoc : (c : Cast) (from : ℕ → Process) (before es : List Entry) (e : Entry) → FitsBehind c from before es → FitsAt c from (before ++ es) e
     → FitsBehind c from before (es ++ e ∷ [])
 fits-snoc c from before [] e f at = (subst (λ b. FitsAt c from b e) (append-nil before) at, tt)
 fits-snoc c from before (x ∷ es) e f at = (

@@ -1,0 +1,142 @@
+-- A node whose journal was read and then finished.
+use Rattle.std.proofs.Common.{◌≡◌, ℕ, Bool, true, false, List, [], ◌∷◌, Option, None, Some, refl, sym, ap, subst, ◌∙◌}
+use Rattle.std.specs.Prelude.{if◌then◌else◌, IfSome, IsSome}
+use Rattle.kit_defs.specs.Kits.{Kit}
+use Rattle.journal_defs.specs.declared.Version.{Version}
+use Rattle.journal_defs.specs.Entries.{Entry}
+use Rattle.journal_defs.specs.Journals.{IsClosedAt, StandsBefore}
+use Rattle.journal_defs.proofs.Gates.{closed_gate_ends}
+use Rattle.journal_disk.specs.Disks.{EndsAt, HasLength, HasRest, StaysUntold}
+use Rattle.journal_rp.specs.Stages.{gate_of, len_of, version_of}
+use Rattle.node_defs.specs.Lines.{BadJournal}
+use Rattle.node_defs.specs.Casts.{Cast, cast_of, from_start}
+use Rattle.node_defs.specs.Nodes.{Node, Finish, Snapper, at_first, opens, reads, reads_one, takes_up}
+use Rattle.node_laws.proofs.Openings.{opens_sound}
+use Rattle.node_traces.specs.Goes.{Outside, Goes}
+use Rattle.opening_laws.specs.Opening.{left_to_open}
+use Rattle.opening_laws.proofs.EntriesRead.{each_reads_on}
+use Rattle.node_hosts.specs.declared.hosts.Hosts.{Hosts}
+use Rattle.node_hosts.specs.declared.running.Running.{Running}
+use Rattle.node_hosts.specs.Nodes.{cast_in}
+use Rattle.node_opening.specs.declared.counts.Counts.{Counts}
+use Rattle.node_opening.specs.Holding.{HoldsAs}
+use Rattle.node_opening.specs.Opened.{HasOpened}
+use Rattle.node_opening.specs.Reading.{HasReadAll, node_after}
+use Rattle.node_opening.proofs.Presented.{finished}
+
+-- ---- a node that only reads
+
+-- nothing waits, and no line is read
+record StaysIdle (n m : Node) : Type 0 where
+  lines : m.lines ≡ n.lines
+  script : m.script ≡ n.script
+  leaving : m.leaving ≡ n.leaving
+  tasks : m.tasks ≡ n.tasks
+  text : m.text ≡ n.text
+  late : m.late ≡ n.late
+
+reads-idle : (c : Cast) (n : Node) (es : List Entry) → StaysIdle n (reads c n es)
+unfolding reads
+reads-idle c n [] = record { lines = refl; script = refl; leaving = refl; tasks = refl; text = refl; late = refl }
+reads-idle c n (e ∷ es) = by (takes_up c n e) (reads-idle c (reads_one c n e) es)
+  where
+    by : (b : Bool) → StaysIdle (reads_one c n e) (reads c (reads_one c n e) es)
+        → StaysIdle n (if b then reads c (reads_one c n e) es else record n { stopped = Some (BadJournal n.gate) })
+    by true is = record { lines = is.lines; script = is.script; leaving = is.leaving; tasks = is.tasks; text = is.text; late = is.late }
+    by false is = record { lines = refl; script = refl; leaving = refl; tasks = refl; text = refl; late = refl }
+
+-- ---- its journal
+
+-- where the gate after the entries is closed, they end there
+pub ends-at : (seen : Option (List ℕ)) (head : List ℕ) (es : List Entry) (gate : ℕ) → IsSome seen
+    → IfSome seen (λ file. StandsBefore head file es gate) → IfSome seen (λ file. IsClosedAt file gate) → EndsAt seen head es gate
+ends-at None head es gate some stands closed = absurd cc
+ends-at (Some file) head es gate some stands closed = record {
+  file = file;
+  told = refl;
+  reads = closed_gate_ends head file es gate stands closed;
+  place = stands.where_it_is;
+}
+
+always : {P : Type 0} (o : Option (List ℕ)) → P → IfSome o (λ file. P)
+always None p = tt
+always (Some file) p = p
+
+module _ (seen new : Option (List ℕ)) (may_leave : List ℕ → Type 0) (gate : ℕ)
+    (ok : (head : List ℕ) (fs : List Entry) → EndsAt seen head fs gate → HasRest new may_leave head fs gate) where
+  rests-at : (head : List ℕ) (es : List Entry) → StaysUntold seen new → IfSome seen (λ file. StandsBefore head file es gate)
+      → IfSome seen (λ file. IsClosedAt file gate) → IfSome new (λ file. HasRest new may_leave head es gate)
+  rests-at head es untold stands closed = go seen refl untold
+    where
+      go : (o : Option (List ℕ)) → seen ≡ o → StaysUntold o new → IfSome new (λ file. HasRest new may_leave head es gate)
+      go None is none = subst (λ (p : Option (List ℕ)). IfSome p (λ file. HasRest new may_leave head es gate)) (sym none) tt
+      go (Some file) is none =
+          let some = subst (λ (p : Option (List ℕ)). IsSome p) (sym is) refl in
+          always new (ok head es (ends-at seen head es gate some stands closed))
+
+  tells-at : (head : List ℕ) (es : List Entry) → IfSome seen (λ file. StandsBefore head file es gate)
+      → IfSome seen (λ file. IsClosedAt file gate) → IsSome seen → IsSome new
+  tells-at head es stands closed some =
+      let has = ok head es (ends-at seen head es gate some stands closed) in
+      subst (λ (o : Option (List ℕ)). IsSome o) (sym has.told) refl
+
+-- ---- the node
+
+-- its journal was read, its ports are bound, and its processes were told of
+pub record IsReady (kit : Kit) (v : Version) (snap : Snapper) (most lines : ℕ) (held seen : Option (List ℕ)) (x y : Outside) (gate : ℕ)
+    (hosts : Hosts) (counts : Counts) : Type 0 where
+  pub all : HasReadAll (cast_of kit v) kit lines seen gate hosts counts
+  pub holds : HoldsAs kit v all.entries held
+  pub goes : Goes (cast_of kit v) snap most (opens (cast_of kit v) (from_start (cast_of kit v)) lines all.entries) x
+      (left_to_open (opens (cast_of kit v) (from_start (cast_of kit v)) lines all.entries) (Finish ∷ [])) y
+
+module _ (r : Running) (snap : Snapper) (most lines : ℕ) (held seen new : Option (List ℕ)) (may_leave : List ℕ → Type 0) (x y : Outside)
+    (counts : Counts) (untold : StaysUntold seen new) (length : HasLength new (len_of r.journal)) (told : IsSome held → IsSome seen) where
+  opened-at : ((head : List ℕ) (fs : List Entry) → EndsAt seen head fs (gate_of r.journal) → HasRest new may_leave head fs (gate_of r.journal))
+      → IsReady r.kit.now (version_of r.journal) snap most lines held seen x y (gate_of r.journal) r.hosts counts
+      → HasOpened r snap most lines held x y new may_leave
+  opened-at ok ready =
+      let c = cast_in r in
+      let es = ready.all.entries in
+      let read = ready.all.read in
+      let n = node_after c lines es in
+      let idle = reads-idle c (at_first (from_start c) lines) es in
+      let kept : n.kept ≡ es = (each_reads_on c (at_first (from_start c) lines) es read.runs).kept in
+      let sound = (opens_sound c (from_start c) lines es read.fits).sound in
+      record {
+        entries = es;
+        node = left_to_open (opens c (from_start c) lines es) [];
+        holds = ready.holds;
+        goes = finished c snap most (opens c (from_start c) lines es) x y read.runs ready.goes;
+        is = record {
+          at = record {
+            runs = read.runs;
+            opened = refl;
+            leaving = idle.leaving;
+            tasks = idle.tasks;
+            text = idle.text;
+            late = idle.late;
+          };
+          hosts = read.hosts_are;
+          journal = record {
+            gate = read.gate_is;
+            length = length;
+            rest = subst (λ k. IfSome new (λ file. HasRest new may_leave c.header n.kept k)) (sym read.gate_is)
+                (subst (λ (ks : List Entry). IfSome new (λ file. HasRest new may_leave c.header ks (gate_of r.journal))) (sym kept)
+                (rests-at seen new may_leave (gate_of r.journal) ok c.header es untold read.stands ready.all.closed));
+          };
+          sound = record { processes = sound.processes; out = sound.out; finished = λ some. refl };
+        };
+        read = idle.lines;
+        script = idle.script;
+        tells = λ some. tells-at seen new may_leave (gate_of r.journal) ok c.header es read.stands ready.all.closed (told some);
+      }
+
+  -- the journal that is written stands where it stood as it was read
+  pub opened : (v : Version) (gate : ℕ) → version_of r.journal ≡ v → gate_of r.journal ≡ gate
+      → ((head : List ℕ) (fs : List Entry) → EndsAt seen head fs gate → HasRest new may_leave head fs gate)
+      → IsReady r.kit.now v snap most lines held seen x y gate r.hosts counts → HasOpened r snap most lines held x y new may_leave
+  opened v gate kind place ok ready = opened-at
+      (subst (λ k. (head : List ℕ) (fs : List Entry) → EndsAt seen head fs k → HasRest new may_leave head fs k) (sym place) ok)
+      (subst (λ (w : Version). IsReady r.kit.now w snap most lines held seen x y (gate_of r.journal) r.hosts counts) (sym kind)
+      (subst (λ k. IsReady r.kit.now v snap most lines held seen x y k r.hosts counts) (sym place) ready))

@@ -1,0 +1,10 @@
+pub mod Begun
+pub mod Each
+pub mod Finished
+pub mod Held
+pub mod Lines
+pub mod Moments
+pub mod Presented
+pub mod Stopped
+pub mod Taken
+pub mod Whole

@@ -1,0 +1,93 @@
+-- What a crash leaves of the journal as a node opens, at any moment.
+use Rattle.std.proofs.Common.{◌≡◌, ◌≢◌, ⊎_elim, inl, inr, ℕ, ◌+◌, List, [], ◌∷◌, ◌++◌, length, get_or, Option, None, Some, refl, sym, ap, subst, arith, length-append, ◌∙◌}
+use Rattle.std.specs.Prelude.{IfSome, IsSome}
+use Rattle.std.specs.Option.{IsSomeAnd}
+use Rattle.kit_defs.specs.Kits.{Kit}
+use Rattle.journal_defs.specs.declared.Version.{Version}
+use Rattle.journal_defs.specs.declared.Version.TheVariants.{One, Two}
+use Rattle.journal_defs.specs.Entries.{Entry}
+use Rattle.journal_defs.specs.Journals.{Header, header_bytes, up_to_gate}
+use Rattle.journal_defs.specs.Crashes.{Stands}
+use Rattle.journal_disk.specs.Disks.{EndsAt, LeavesOnly, LeavesStaged, OnlyReads}
+use Rattle.journal_disk.proofs.Moments.{weaker}
+use Rattle.journal_disk.proofs.OnceRead.{reads_before}
+use Rattle.journal_disk.proofs.Shutting.{fewer_stand, found_images}
+use Rattle.node_defs.specs.Casts.{cast_of}
+use Rattle.node_opening.specs.Holding.{header_in}
+
+-- one file begins with the header of one kind alone
+one-kind : (h : Header) (v w : Version) (es fs : List Entry) (xs ys : List ℕ)
+    → up_to_gate (header_bytes v h) es ++ xs ≡ up_to_gate (header_bytes w h) fs ++ ys → v ≡ w
+one-kind h One One es fs xs ys e = refl
+one-kind h One Two es fs xs ys e = let differ : 49 ≡ 50 = ap (λ (l : List ℕ). get_or l 3 0) e in absurd (omega (arith, differ))
+one-kind h Two One es fs xs ys e = let differ : 50 ≡ 49 = ap (λ (l : List ℕ). get_or l 3 0) e in absurd (omega (arith, differ))
+one-kind h Two Two es fs xs ys e = refl
+
+-- an image that a run may find begins with the header and the entries
+record HasFront (head : List ℕ) (es : List Entry) (image : List ℕ) : Type 0 where
+  gate : ℕ
+  behind : List ℕ
+  parts : image ≡ up_to_gate head es ++ gate ∷ behind
+
+front-of : (head : List ℕ) (es : List Entry) (images : List ℕ → Type 0) → Stands head es images → (image : List ℕ) → images image
+    → HasFront head es image
+front-of head es images stands image now = ⊎_elim
+    (λ rest. record { gate = 0; behind = (rest image now).behind; parts = (rest image now).parts })
+    (λ staged. record { gate = (staged.2 image now).1.gate; behind = _; parts = (staged.2 image now).1.parts })
+    stands.all
+
+module _ {D : Type 0} (seen : D → Option (List ℕ)) (may_leave : D → List ℕ → Type 0) (moment : D → ℕ) (left_since : D → ℕ → List ℕ → Type 0)
+    (kit : Kit) (v : Version) (es : List Entry) (old : D) (image : IfSome (seen old) (may_leave old)) (some : IsSome (seen old))
+    (stands : Stands (cast_of kit v).header es (may_leave old)) where
+  front-there : (file : List ℕ) → seen old ≡ Some file → HasFront (cast_of kit v).header es file
+  front-there file told = front-of (cast_of kit v).header es (may_leave old) stands file
+      (subst (λ (o : Option (List ℕ)). IfSome o (may_leave old)) told image)
+
+  not-empty : IsSomeAnd (seen old) (λ file. file ≢ [])
+  not-empty = go (seen old) refl some
+    where
+      go : (o : Option (List ℕ)) → seen old ≡ o → IsSome o → IsSomeAnd o (λ file. file ≢ [])
+      go None told is = absurd cc
+      go (Some file) told is =
+          let front = front-there file told in
+          λ e. absurd (omega (arith, ap length front.parts, ap length e, length-append (up_to_gate (cast_of kit v).header es) (front.gate ∷ front.behind)))
+
+  -- as long as the disk is only read
+  pub read-moments : (new : D)
+      → (IsSomeAnd (seen old) (λ file. file ≢ []) → OnlyReads seen may_leave moment left_since old new)
+      → LeavesOnly moment left_since old new (LeavesStaged (cast_of kit v).header es (may_leave old))
+  read-moments new only = weaker moment left_since old new (may_leave old) (LeavesStaged (cast_of kit v).header es (may_leave old))
+      (found_images (cast_of kit v).header es (may_leave old) stands) (only not-empty).moments
+
+  pub read-stands : (new : D)
+      → (IsSomeAnd (seen old) (λ file. file ≢ []) → OnlyReads seen may_leave moment left_since old new)
+      → Stands (cast_of kit v).header es (may_leave new)
+  read-stands new only = fewer_stand (cast_of kit v).header es (may_leave old) (may_leave new) (λ c now. ((only not-empty).images c).0 now) stands
+
+  -- and as its journal is finished
+  module _ (mid new : D) (only : IsSomeAnd (seen old) (λ file. file ≢ []) → OnlyReads seen may_leave moment left_since old mid) (w : Version)
+      (gate : ℕ) (fs : List Entry) (ending : IsSome (seen mid) → EndsAt (seen mid) (cast_of kit w).header fs gate) where
+    ends-here : EndsAt (seen mid) (cast_of kit v).header fs gate
+    ends-here =
+        let reads = (only not-empty).reads in
+        let ends = ending (subst (λ (o : Option (List ℕ)). IsSome o) (sym reads) some) in
+        let front = front-there ends.file (sym reads ∙ ends.told) in
+        let same : w ≡ v = one-kind (header_in kit) w v fs es (ends.reads.gate ∷ ends.reads.unread) (front.gate ∷ front.behind)
+        (sym ends.reads.parts ∙ front.parts) in
+        subst (λ (u : Version). EndsAt (seen mid) (cast_of kit u).header fs gate) same ends
+
+    pub finish-stands : ((head : List ℕ) (gs hs : List Entry) → Stands head gs (may_leave mid) → EndsAt (seen mid) head hs gate
+        → Stands head gs (may_leave new)) → Stands (cast_of kit v).header es (may_leave new)
+    finish-stands then = then (cast_of kit v).header es fs (read-stands mid only) ends-here
+
+    pub finish-moments : ((head : List ℕ) (gs hs : List Entry) → Stands head gs (may_leave mid) → EndsAt (seen mid) head hs gate
+        → LeavesOnly moment left_since mid new (LeavesStaged head gs (may_leave mid)))
+        → LeavesOnly moment left_since old new (LeavesStaged (cast_of kit v).header es (may_leave old))
+    finish-moments any =
+        let head = (cast_of kit v).header in
+        let read = only not-empty in
+        reads_before seen may_leave moment left_since old mid new (LeavesStaged head es (may_leave old)) read
+        (found_images head es (may_leave old) stands)
+        (weaker moment left_since mid new (LeavesStaged head es (may_leave mid)) (LeavesStaged head es (may_leave old))
+        (λ c left. ⊎_elim (λ without. inl without) (λ with. inr (with.0, λ d now. with.1 d ((read.images d).1 now), with.2)) left)
+        (any head es fs (read-stands mid only) ends-here))

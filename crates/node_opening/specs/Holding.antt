@@ -1,0 +1,43 @@
+-- What a disk holds of the journal of a kit's processes.
+use Rattle.std.specs.Prelude.{◌≡◌, ◌≢◌, ◌⊎◌, List, [], ℕ, length, Option, Some, None, IfSome, IsSome}
+use Rattle.std.specs.Option.{IsSomeAnd}
+use Rattle.kit_defs.specs.Kits.{Kit, kit_digest}
+use Rattle.journal_defs.specs.declared.Version.{Version}
+use Rattle.journal_defs.specs.declared.Version.TheVariants.{Two}
+use Rattle.journal_defs.specs.Entries.{Entry}
+use Rattle.journal_defs.specs.Journals.{Header, ReadsAs, StandsBefore}
+use Rattle.journal_defs.specs.Crashes.{IsAtRest}
+use Rattle.journal_disk.specs.Disks.{StaysUntold}
+use Rattle.journal_rp.specs.Headers.{IsJournal}
+use Rattle.node_defs.specs.Casts.{cast_of, hosted_by}
+
+-- what stands in the header of their journal, after its magic
+abbrev pub header_in : Kit → Header
+header_in kit = record { group = kit.group; hosted = hosted_by kit; digest = kit_digest kit }
+
+-- the file is empty: it gets a journal of the second kind, without entries
+pub record IsNew (version : Version) (es : List Entry) (file : List ℕ) : Type 0 where
+  pub empty : file ≡ []
+  pub none : es ≡ []
+  pub kind : version ≡ Two
+
+-- Where the disk tells what it holds: it is empty, or it is a journal of this kind with these entries.
+abbrev pub HoldsAs : Kit → Version → List Entry → Option (List ℕ) → Type 0
+HoldsAs kit version es None = Unit {0}
+HoldsAs kit version es (Some file) = IsNew version es file ⊎ ReadsAs (cast_of kit version).header file es
+
+-- A journal of this kind was started on a disk that held this. Where the disk tells, no entry stands before the gate at this place, and what
+-- it is read as from then on is what it held.
+pub record IsBegun (kit : Kit) (version : Version) (held seen : Option (List ℕ)) (gate : ℕ) : Type 0 where
+  pub stands : IfSome seen (λ file. StandsBefore (cast_of kit version).header file [] gate)
+  pub holds : (es : List Entry) → IfSome seen (λ file. ReadsAs (cast_of kit version).header file es) → HoldsAs kit version es held
+  pub fresh : IsSomeAnd held (λ file. file ≡ []) → IfSome seen (IsAtRest (cast_of kit version).header [])
+  pub same : IsSomeAnd held (λ file. file ≢ []) → seen ≡ held
+  pub tells : IsSome held → IsSome seen
+  pub untold : StaysUntold held seen
+  pub place : gate ≡ length (cast_of kit version).header
+
+-- the file is not empty, and begins with no header of the kit
+pub record IsOther (kit : Kit) (file : List ℕ) : Type 0 where
+  pub some : file ≢ []
+  pub neither : (version : Version) → ¬ IsJournal version (header_in kit) file

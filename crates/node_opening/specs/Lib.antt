@@ -1,0 +1,5 @@
+pub mod Causes
+pub mod Counts
+pub mod Holding
+pub mod Opened
+pub mod Reading

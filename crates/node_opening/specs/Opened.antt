@@ -1,0 +1,40 @@
+-- A node that has opened, or has not.
+use Rattle.std.specs.Prelude.{◌≡◌, ℕ, List, [], Option, IsSome}
+use Rattle.kit_defs.specs.Kits.{Kit}
+use Rattle.journal_defs.specs.declared.Version.{Version}
+use Rattle.journal_defs.specs.Entries.{Entry}
+use Rattle.journal_rp.specs.Stages.{version_of}
+use Rattle.node_defs.specs.Lines.{Stop}
+use Rattle.node_defs.specs.Casts.{cast_of, from_start}
+use Rattle.node_defs.specs.Nodes.{Node, Snapper, opens}
+use Rattle.node_traces.specs.Outside.{LinkSeen, SinkSeen, SourceSeen}
+use Rattle.node_traces.specs.Goes.{Outside, Goes}
+use Rattle.opening_laws.specs.Opening.{StopsBy}
+use Rattle.node_hosts.specs.declared.running.Running.{Running}
+use Rattle.node_hosts.specs.Nodes.{IsNode, cast_in}
+use Rattle.node_opening.specs.Holding.{HoldsAs}
+use Rattle.node_opening.specs.Reading.{Unread}
+
+abbrev pub outside : LinkSeen → SinkSeen → SourceSeen → Outside
+outside link sink source = record { link = link; sink = sink; source = source }
+
+-- The node opens on a journal with these entries, which the disk held, and all that is to be done before its first line was done: x is link,
+-- output and input before it, and y after it. `seen` and `may_leave` are of the disk after it.
+pub record HasOpened (r : Running) (snap : Snapper) (most lines : ℕ) (held : Option (List ℕ)) (x y : Outside) (seen : Option (List ℕ))
+    (may_leave : List ℕ → Type 0) : Type 0 where
+  pub entries : List Entry
+  pub node : Node
+  pub holds : HoldsAs r.kit.now (version_of r.journal) entries held
+  pub goes : Goes (cast_in r) snap most (opens (cast_in r) (from_start (cast_in r)) lines entries) x node y
+  pub is : IsNode seen may_leave r node []
+  pub read : node.lines ≡ lines
+  pub script : node.script ≡ 0
+  pub tells : IsSome held → IsSome seen
+
+-- Why a node has not opened, on a disk that held this: its journal was not read, and nothing was bound or written; or it was read as these
+-- entries, and what was to be done before the first line stopped.
+pub data Unopened (kit : Kit) (snap : Snapper) (most lines : ℕ) (held : Option (List ℕ)) (x y : Outside) : Stop → Type 0 where
+  reading : (why : Stop) → Unread kit lines held why → y ≡ x → Unopened kit snap most lines held x y why
+  opening : (why : Stop) (version : Version) (es : List Entry) → HoldsAs kit version es held
+      → StopsBy (cast_of kit version) snap most (opens (cast_of kit version) (from_start (cast_of kit version)) lines es) x why y
+      → Unopened kit snap most lines held x y why

@@ -1,0 +1,16 @@
+//! How a node opens: it takes up the entries of its journal, binds the ports of the processes that it hosts, tells of each of them, and then
+//! goes on with its journal (docs/FORMATS.md, «Nodes»).
+#![tactic(auto)]
+
+mod binding;
+mod counts;
+mod greeting;
+mod opening;
+mod presenting;
+mod reading;
+mod starting;
+mod stopping;
+
+pub use node_hosts::{Kit, Running};
+pub use node_text::Stop;
+pub use opening::open;

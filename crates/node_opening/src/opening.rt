@@ -1,0 +1,77 @@
+//! A node that opens.
+ghost use Rattle.std.specs.Prelude.{◌≡◌, ◌≢◌, [], ℕ, List, IfErr, IfOk, IsSome};
+ghost use Rattle.kit_defs.specs.Kits.{IsKit};
+ghost use Rattle.journal_defs.specs.declared.Version.{Version};
+ghost use Rattle.journal_defs.specs.Entries.{Entry};
+ghost use Rattle.journal_defs.specs.Crashes.{Stands};
+ghost use Rattle.journal_disk.specs.Disks.{LeavesOnly, LeavesStaged};
+ghost use Rattle.node_defs.specs.Casts.{cast_of};
+ghost use Rattle.node_defs.specs.Nodes.{Snapper};
+ghost use Rattle.node_traces.specs.Outside.{SourceSeen};
+ghost use Rattle.node_traces.specs.Seen.{link_seen, sink_seen};
+ghost use Rattle.node_text.specs.Views.{stop as stop_of};
+ghost use Rattle.node_opening.specs.Causes.{HasDiskCause};
+ghost use Rattle.node_opening.specs.Opened.{HasOpened, Unopened, outside};
+
+use crate::greeting::host_lines;
+use crate::presenting::present;
+use crate::reading::read_journal;
+use crate::stopping::stop_at;
+use node_hosts::{Kit, Running};
+use node_text::Stop;
+use rp_base::{Disk, Link, Sink};
+use std::alloc::Global;
+
+/// Opens the node of a kit on its journal; an empty disk gets a new one, of the second kind. Each entry is taken up by its process, the ports
+/// of the hosted processes are bound, a line of each is written, all in one write, and the journal then takes in turns. There is no service:
+/// it says nothing as it begins.
+///
+/// # Errors
+/// `BadJournal` with place 0 where the disk is not empty and begins with no header of the kit, and else with the place at which the journal
+/// has what is no entry of this node; `DiskFailed`, `BindFailed`, `WriteFailed` where a call failed; and `NoMemory`. Until the journal is
+/// read, nothing is bound and nothing written, and a disk that is not empty is only read.
+pub fn open<'a, D: Disk, L: Link, K: Sink>(
+    alloc: Global,
+    kit: &'a Kit,
+    disk: &mut D,
+    link: &mut L,
+    output: &mut K,
+) -> Result<Running<'a>, Stop>
+    requires { IsKit kit.now }
+
+    // At Ok it is a node of the definitions, opened on the entries that the disk held.
+    ensures opens { (snap : Snapper) (most lines : ℕ) (source : SourceSeen) → IfOk result (λ r. HasOpened r snap most lines (D.seen disk.old)
+        (outside (link_seen L.sent L.coming L.faults link.old) (sink_seen K.written K.faults output.old) source)
+        (outside (link_seen L.sent L.coming L.faults link.new) (sink_seen K.written K.faults output.new) source)
+        (D.seen disk.new) (D.may_leave disk.new)) }
+    ensures kit { IfOk result (λ r. r.kit.now ≡ kit.now) }
+
+    // At Err that is why.
+    ensures stops { (snap : Snapper) (most lines : ℕ) (source : SourceSeen)
+        → IfErr result (λ why. Unopened kit.now snap most lines (D.seen disk.old)
+        (outside (link_seen L.sent L.coming L.faults link.old) (sink_seen K.written K.faults output.old) source)
+        (outside (link_seen L.sent L.coming L.faults link.new) (sink_seen K.written K.faults output.new) source) (stop_of why)) }
+
+    // A crash at any moment leaves a well formed journal with the entries that the run found, or with the staged one too.
+    ensures moments { (version : Version) (es : List Entry) → IsSome (D.seen disk.old)
+        → Stands (cast_of kit.now version).header es (D.may_leave disk.old)
+        → LeavesOnly D.moment D.left_since disk.old disk.new (LeavesStaged (cast_of kit.now version).header es (D.may_leave disk.old)) }
+
+    // And what the next run may find.
+    ensures stands { (version : Version) (es : List Entry) → IsSome (D.seen disk.old)
+        → Stands (cast_of kit.now version).header es (D.may_leave disk.old)
+        → Stands (cast_of kit.now version).header es (D.may_leave disk.new) }
+    ensures cause { HasDiskCause (D.faults disk.old) (D.faults disk.new) result }
+{
+    let readers = read_journal(alloc, kit, disk)?;
+    let greeting = host_lines(alloc, &readers.hosts, &readers.counts)?;
+    present(&readers.hosts, greeting.as_slice(), link, output)?;
+    match readers.journal.finish(disk) {
+        Ok(journal) => Ok(Running {
+            kit,
+            hosts: readers.hosts,
+            journal,
+        }),
+        Err(fault) => Err(stop_at(fault)),
+    }
+}

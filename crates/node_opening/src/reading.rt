@@ -1,0 +1,167 @@
+//! How a journal is read: each entry is taken up by its process.
+ghost use Rattle.std.specs.Prelude.{◌≡◌, ◌≢◌, ◌+◌, ◌<◌, ◌^◌, ◌==◌, [], ℕ, List, None, if◌then◌else◌, IfErr, IfOk, IsSome, IsTrue, OnOk};
+ghost use Rattle.std.specs.Option.{IsSomeAnd};
+ghost use Rattle.kit_defs.specs.Kits.{IsKit};
+ghost use Rattle.journal_defs.specs.declared.Version.{Version};
+ghost use Rattle.journal_defs.specs.Entries.{Entry as PlainEntry};
+ghost use Rattle.journal_disk.specs.Disks.{HasLength, OnlyReads, StaysUntold};
+ghost use Rattle.journal_entries.specs.Kept.{kept};
+ghost use Rattle.journal_rp.specs.Stages.{gate_of, len_of, version_of};
+ghost use Rattle.node_defs.specs.Casts.{cast_of};
+ghost use Rattle.node_defs.specs.Nodes.{Node, reads_one, takes_up};
+ghost use Rattle.node_hosts.specs.Hosts.{AreHosts};
+ghost use Rattle.node_text.specs.Views.{stop as stop_of};
+ghost use Rattle.node_opening.specs.Causes.{HasDiskCause};
+ghost use Rattle.node_opening.specs.Counts.{count_in};
+ghost use Rattle.node_opening.specs.Reading.{BreaksOff, HasRead, HasReadAll, HasReadJournal, HasReadOn, RefusesEntry, Unread};
+
+use crate::counts::Counts;
+use crate::starting::begin;
+use crate::stopping::stop_at;
+use hosted_core::{AbsorbFault, Entry, Event};
+use journal_rp::{EntryBytes, Journal, Reading};
+use node_hosts::{Hosts, Kit};
+use node_text::Stop;
+use rp_base::Disk;
+use std::alloc::Global;
+
+/// The hosted processes, which have taken up their journal, and how many entries each had. The journal stands at its closed gate.
+#[derive(Drop)]
+pub(crate) struct Readers {
+    pub(crate) journal: Journal<Reading>,
+    pub(crate) hosts: Hosts,
+    pub(crate) counts: Counts,
+}
+
+// The entry that stands at this place, taken up by its process and counted.
+fn take_up(
+    kit: &Kit,
+    place: u64,
+    bytes: &EntryBytes,
+    hosts: &mut Hosts,
+    counts: &mut Counts,
+) -> Result<(), Stop>
+    requires room { (p : ℕ) → count_in counts.old p + 1 < 2 ^ 64 }
+    ensures takes { (version : Version) (n : Node) → let c = cast_of kit.now version in AreHosts c kit.now n.now None hosts.old
+        → OnOk result (IsTrue (takes_up c n (kept bytes.now)) × AreHosts c kit.now (reads_one c n (kept bytes.now)).now None hosts.new) }
+    ensures counted { OnOk result ((p : ℕ) → count_in counts.new p ≡ count_in counts.old p + (if (kept bytes.now).process == p then 1 else 0)) }
+    ensures refuses { (version : Version) (n : Node) → let c = cast_of kit.now version in AreHosts c kit.now n.now None hosts.old
+        → IfErr result (λ why. RefusesEntry c n (kept bytes.now) place (stop_of why)) }
+    ensures no_disk { (count : ℕ) → HasDiskCause count count result }
+{
+    let Entry {
+        process,
+        event,
+        spent,
+        signatures,
+    } = bytes.entry();
+
+    // The type is named, since the checker is not told of it here otherwise.
+    let event: Event<'_> = event;
+    let entry = Entry {
+        process,
+        event,
+        spent,
+        signatures,
+    };
+    match hosts.absorb(&kit.scheme(), &entry) {
+        Ok(()) => {
+            counts.count(process);
+            Ok(())
+        }
+        Err(AbsorbFault::Differs) => Err(Stop::BadJournal(place)),
+        Err(AbsorbFault::NoMemory) => Err(Stop::NoMemory),
+    }
+}
+
+// The next entry, taken up. False where there is none: the gate is closed.
+fn take_next<D: Disk>(
+    alloc: Global,
+    kit: &Kit,
+    disk: &mut D,
+    journal: &mut Journal<Reading>,
+    hosts: &mut Hosts,
+    counts: &mut Counts,
+) -> Result<bool, Stop>
+    requires as_left { HasLength (D.seen disk.old) (len_of journal.old) }
+    requires few { (p : ℕ) → count_in counts.old p < gate_of journal.old }
+    ensures reads { (version : Version) (lines : ℕ) (es : List PlainEntry) → let c = cast_of kit.now version in
+        HasRead c kit.now lines (D.seen disk.old) es (gate_of journal.old) hosts.old counts.old
+        → IfOk result (HasReadOn c kit.now lines (D.seen disk.old) es (gate_of journal.new) hosts.new counts.new) }
+    ensures breaks { (version : Version) (lines : ℕ) (es : List PlainEntry) → let c = cast_of kit.now version in
+        HasRead c kit.now lines (D.seen disk.old) es (gate_of journal.old) hosts.old counts.old
+        → IfErr result (λ why. BreaksOff c lines (D.seen disk.old) (stop_of why)) }
+    ensures few { OnOk result ((p : ℕ) → count_in counts.new p < gate_of journal.new) }
+    ensures goes_on { IfOk result (λ more. IsTrue more → gate_of journal.old < gate_of journal.new) }
+    ensures as_left { HasLength (D.seen disk.new) (len_of journal.new) }
+    ensures as_long { len_of journal.new ≡ len_of journal.old }
+    ensures kind { version_of journal.new ≡ version_of journal.old }
+    ensures disk { OnlyReads D.seen D.may_leave D.moment D.left_since disk.old disk.new }
+    ensures cause { HasDiskCause (D.faults disk.old) (D.faults disk.new) result }
+{
+    let place = journal.place();
+    match journal.read(alloc, disk) {
+        Ok(Some(bytes)) => {
+            take_up(kit, place, &bytes, hosts, counts)?;
+            Ok(true)
+        }
+        Ok(None) => Ok(false),
+        Err(fault) => Err(stop_at(fault)),
+    }
+}
+
+// All entries up to the closed gate, taken up.
+fn take_all<D: Disk>(
+    alloc: Global,
+    kit: &Kit,
+    disk: &mut D,
+    journal: &mut Journal<Reading>,
+    hosts: &mut Hosts,
+    counts: &mut Counts,
+) -> Result<(), Stop>
+    requires as_left { HasLength (D.seen disk.old) (len_of journal.old) }
+    requires few { (p : ℕ) → count_in counts.old p < gate_of journal.old }
+    ensures reads { (version : Version) (lines : ℕ) → let c = cast_of kit.now version in
+        HasRead c kit.now lines (D.seen disk.old) [] (gate_of journal.old) hosts.old counts.old
+        → OnOk result (HasReadAll c kit.now lines (D.seen disk.old) (gate_of journal.new) hosts.new counts.new) }
+    ensures breaks { (version : Version) (lines : ℕ) → let c = cast_of kit.now version in
+        HasRead c kit.now lines (D.seen disk.old) [] (gate_of journal.old) hosts.old counts.old
+        → IfErr result (λ why. BreaksOff c lines (D.seen disk.old) (stop_of why)) }
+    ensures as_left { HasLength (D.seen disk.new) (len_of journal.new) }
+    ensures kind { version_of journal.new ≡ version_of journal.old }
+    ensures disk { OnlyReads D.seen D.may_leave D.moment D.left_since disk.old disk.new }
+    ensures cause { HasDiskCause (D.faults disk.old) (D.faults disk.new) result }
+{
+    'entries: while take_next(alloc, kit, disk, journal, hosts, counts)? {}
+    Ok(())
+}
+
+/// The hosted processes of a kit, as the entries of their journal make them. An empty disk gets a new journal.
+pub(crate) fn read_journal<D: Disk>(
+    alloc: Global,
+    kit: &Kit,
+    disk: &mut D,
+) -> Result<Readers, Stop>
+    requires { IsKit kit.now }
+    ensures reads { (lines : ℕ) → IfOk result (λ r. HasReadJournal kit.now (version_of r.journal) lines (D.seen disk.old) (D.seen disk.new)
+        (gate_of r.journal) r.hosts r.counts) }
+    ensures length { IfOk result (λ r. HasLength (D.seen disk.new) (len_of r.journal)) }
+    ensures tells { OnOk result (IsSome (D.seen disk.old) → IsSome (D.seen disk.new)) }
+    ensures untold { OnOk result (StaysUntold (D.seen disk.old) (D.seen disk.new)) }
+    ensures unread { (lines : ℕ) → IfErr result (λ why. Unread kit.now lines (D.seen disk.old) (stop_of why)) }
+
+    // A disk that is not empty is only read.
+    ensures only_read { IsSomeAnd (D.seen disk.old) (λ file. file ≢ [])
+        → OnlyReads D.seen D.may_leave D.moment D.left_since disk.old disk.new }
+    ensures cause { HasDiskCause (D.faults disk.old) (D.faults disk.new) result }
+{
+    let mut journal = begin(kit, disk)?;
+    let mut hosts = Hosts::new(alloc, kit, journal.batch())?;
+    let mut counts = Counts::new();
+    take_all(alloc, kit, disk, &mut journal, &mut hosts, &mut counts)?;
+    Ok(Readers {
+        journal,
+        hosts,
+        counts,
+    })
+}
