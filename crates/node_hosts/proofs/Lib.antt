@@ -3,3 +3,4 @@ mod Standing
 pub mod Turning
 pub mod Written
 mod Absorbing
+pub mod Cores

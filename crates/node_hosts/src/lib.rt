@@ -8,7 +8,7 @@ mod making;
 mod running;
 
 pub use host::Host;
-pub use hosted_core::Hosted;
+pub use hosted_core::{AbsorbFault, Entry, Event, EventFault, Hosted, Taken};
 pub use hosts::Hosts;
 pub use node_keys::{Kit, LinkKeys};
 pub use running::Running;

@@ -16,12 +16,7 @@ use rp_base::{NoMemory, Pid};
 use std::alloc::Global;
 
 // The line of a process, if it is hosted.
-fn push_one(
-    hosts: &Hosts,
-    counts: &Counts,
-    p: Pid,
-    text: &mut Vec<u8>,
-) -> Result<(), NoMemory>
+fn push_one(hosts: &Hosts, counts: &Counts, p: Pid, text: &mut Vec<u8>) -> Result<(), NoMemory>
     ensures { (c : Cast) (kit : Kit) (now : ℕ → Process) → AreHosts c kit now None hosts.now → IsTrue (has c.hosted p)
         → OnOk result (text.new.items ≡ text.old.items ++ host_line (now p) (count_in counts.now p)) }
 {
@@ -35,11 +30,7 @@ fn push_one(
 ///
 /// # Errors
 /// [`NoMemory`].
-pub(crate) fn host_lines(
-    alloc: Global,
-    hosts: &Hosts,
-    counts: &Counts,
-) -> Result<Vec<u8>, NoMemory>
+pub(crate) fn host_lines(alloc: Global, hosts: &Hosts, counts: &Counts) -> Result<Vec<u8>, NoMemory>
     ensures { (c : Cast) (kit : Kit) (now : ℕ → Process) → AreHosts c kit now None hosts.now
         → IfOk result (λ text. text.items ≡ flat_map (λ p. host_line (now p) (count_in counts.now p)) c.hosted) }
 {

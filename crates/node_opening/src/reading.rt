@@ -18,9 +18,8 @@ ghost use Rattle.node_opening.specs.Reading.{BreaksOff, HasRead, HasReadAll, Has
 use crate::counts::Counts;
 use crate::starting::begin;
 use crate::stopping::stop_at;
-use hosted_core::{AbsorbFault, Entry, Event};
 use journal_rp::{EntryBytes, Journal, Reading};
-use node_hosts::{Hosts, Kit};
+use node_hosts::{AbsorbFault, Entry, Event, Hosts, Kit};
 use node_text::Stop;
 use rp_base::Disk;
 use std::alloc::Global;
@@ -137,11 +136,7 @@ fn take_all<D: Disk>(
 }
 
 /// The hosted processes of a kit, as the entries of their journal make them. An empty disk gets a new journal.
-pub(crate) fn read_journal<D: Disk>(
-    alloc: Global,
-    kit: &Kit,
-    disk: &mut D,
-) -> Result<Readers, Stop>
+pub(crate) fn read_journal<D: Disk>(alloc: Global, kit: &Kit, disk: &mut D) -> Result<Readers, Stop>
     requires { IsKit kit.now }
     ensures reads { (lines : ℕ) → IfOk result (λ r. HasReadJournal kit.now (version_of r.journal) lines (D.seen disk.old) (D.seen disk.new)
         (gate_of r.journal) r.hosts r.counts) }

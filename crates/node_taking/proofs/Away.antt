@@ -20,9 +20,9 @@ use Rattle.journal_rp.specs.Turns.{outcome_of, process_of, staged_of}
 use Rattle.auth_link.specs.Keys.{known}
 use Rattle.sig_scheme.specs.declared.any_signer.AnySigner.{AnySigner}
 use Rattle.sig_scheme.specs.Signers.{used}
-use Rattle.hosted_core.specs.declared.hosted.Hosted.{Hosted}
-use Rattle.hosted_core.specs.Cores.{IsCore}
-use Rattle.hosted_core.specs.Hosts.{IsReal}
+use Rattle.node_hosts.specs.Cores.{Hosted}
+use Rattle.node_hosts.specs.Cores.{IsCore}
+use Rattle.node_hosts.specs.Cores.{IsReal}
 use Rattle.letter_laws.specs.Letters.{IsFromOther}
 use Rattle.node_defs.specs.Casts.{Cast, entries_of, entry_for, handed, live}
 use Rattle.node_defs.specs.Nodes.{Node, Task, with_turn}

@@ -15,7 +15,7 @@ use Rattle.journal_rp.specs.declared.fault.JournalFault.{JournalFault}
 use Rattle.journal_rp.specs.declared.fault.JournalFault.TheVariants as faults
 use Rattle.journal_rp.specs.Stages.{gate_of, len_of}
 use Rattle.journal_rp.specs.Answers.{HasCauses, IfFull, IsFull, of_append}
-use Rattle.member_core.proofs.Spelled.{verdict-is}
+use Rattle.node_hosts.proofs.Cores.{verdict-is}
 use Rattle.node_defs.specs.Casts.{Cast, entry_for, live, outcome_of}
 use Rattle.node_defs.specs.Lines as lines
 use Rattle.node_defs.specs.Lines.{DiskFailed}

@@ -8,10 +8,10 @@ use Rattle.journal_entries.specs.Views.{event as plain_event}
 use Rattle.stmt_codec.specs.declared.events.Event.{Event}
 use Rattle.sig_scheme.specs.declared.any_signer.AnySigner.{AnySigner}
 use Rattle.sig_scheme.specs.Signers.{used, total, signature}
-use Rattle.hosted_core.specs.declared.taking.Taken.{Taken}
-use Rattle.hosted_core.specs.Cores.{IsCore, event as event_of, signer_of, turn_of}
-use Rattle.hosted_core.specs.Hosts.{core_of}
-use Rattle.hosted_core.specs.Turns.{TakesTurn, hosted_in}
+use Rattle.node_hosts.specs.Cores.{Taken}
+use Rattle.node_hosts.specs.Cores.{IsCore, event as event_of, signer_of, turn_of}
+use Rattle.node_hosts.specs.Cores.{core_of}
+use Rattle.node_hosts.specs.Cores.{TakesTurn, hosted_in}
 use Rattle.node_defs.specs.Casts.{Cast, cast_of}
 use Rattle.node_hosts.specs.declared.host.Host.{Host}
 use Rattle.node_hosts.specs.declared.hosts.Hosts.{Hosts}

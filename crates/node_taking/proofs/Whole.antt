@@ -4,7 +4,7 @@ use Rattle.group_defs.specs.Events.{EventFault, refusal}
 use Rattle.journal_defs.specs.Entries.{Event}
 use Rattle.journal_rp.specs.declared.journal.Journal.{Journal}
 use Rattle.journal_rp.specs.declared.journal.Writing.{Writing}
-use Rattle.member_core.proofs.Spelled.{verdict-is}
+use Rattle.node_hosts.proofs.Cores.{verdict-is}
 use Rattle.node_defs.specs.Casts.{Cast, from_start, handed, live, outcome_of}
 use Rattle.node_defs.specs.Lines.{Stop, NoMemory, refused_line}
 use Rattle.node_defs.specs.Lives.{Found, IsSound}

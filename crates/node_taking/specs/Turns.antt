@@ -11,8 +11,8 @@ use Rattle.node_defs.specs.Casts.{Cast, cast_of, entry_for, handed, known_of}
 use Rattle.node_hosts.specs.declared.hosts.Hosts.{Hosts}
 use Rattle.node_hosts.specs.Hosts.{AreHosts}
 use Rattle.node_hosts.specs.Turns.{TakesLive}
-use Rattle.hosted_core.specs.Cores.{fault as fault_of}
-use Rattle.hosted_core.specs.declared.taking.Taken.TheVariants.{Turn}
+use Rattle.node_hosts.specs.Cores.{fault as fault_of}
+use Rattle.node_hosts.specs.Cores.{Turn}
 use Rattle.node_taking.specs.declared.stepping.Away.{Away}
 use Rattle.node_taking.specs.declared.stepping.Fate.{Fate}
 use Rattle.node_taking.specs.declared.stepping.Fate.TheVariants as fates

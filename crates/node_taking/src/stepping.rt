@@ -8,9 +8,8 @@ ghost use Rattle.node_defs.specs.Casts.{cast_of};
 ghost use Rattle.node_hosts.specs.Hosts.{AreHosts, numbers_of};
 ghost use Rattle.node_taking.specs.Turns.{HasHosts, StepsTo};
 
-use hosted_core::{Event, EventFault, Hosted, Taken};
 use journal_rp::{Turn, Unsynced};
-use node_hosts::{AnySigner, Host, Hosts, Kit, LinkKeys};
+use node_hosts::{AnySigner, Event, EventFault, Host, Hosted, Hosts, Kit, LinkKeys, Taken};
 use rp_base::{NoMemory, Pid};
 use std::alloc::Global;
 

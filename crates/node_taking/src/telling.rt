@@ -8,7 +8,7 @@ ghost use Rattle.node_defs.specs.Casts.{cast_of, known_of};
 ghost use Rattle.node_defs.specs.Lines.{refused_line};
 ghost use Rattle.node_defs.specs.Nodes.{leaving_of};
 ghost use Rattle.node_traces.specs.Seen.{link_seen, sink_seen};
-ghost use Rattle.hosted_core.specs.Cores.{IsOutcome, fault as fault_of};
+ghost use Rattle.node_hosts.specs.Cores.{IsOutcome, fault as fault_of};
 ghost use Rattle.node_turns.specs.Kept.{IsLast};
 ghost use Rattle.node_turns.specs.Letters.{IsSealable, letters_in};
 ghost use Rattle.node_taking.specs.Telling.{Says, TellsTurn};

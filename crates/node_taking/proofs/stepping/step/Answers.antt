@@ -1,6 +1,6 @@
 use Rattle.std.proofs.Common.{refl, sym, ap, subst}
 use Rattle.signature_defs.specs.Schemes.{is_valid}
-use Rattle.hosted_core.specs.declared.taking.Taken.{Taken}
+use Rattle.node_hosts.specs.Cores.{Taken}
 use Rattle.sig_scheme.specs.declared.any_signer.AnySigner.{AnySigner}
 use Rattle.journal_entries.specs.Views.{event as event_of}
 use Rattle.node_defs.specs.Casts.{cast_of}

@@ -5,9 +5,9 @@ use Rattle.journal_rp.specs.Stages.{version_of}
 use Rattle.auth_link.specs.Keys.{known}
 use Rattle.sig_scheme.specs.declared.any_signer.AnySigner.{AnySigner}
 use Rattle.sig_scheme.specs.Signers.{used}
-use Rattle.hosted_core.specs.declared.hosted.Hosted.{Hosted}
-use Rattle.hosted_core.specs.Cores.{IsOutcome, fault as fault_of}
-use Rattle.hosted_core.specs.Hosts.{IsReal}
+use Rattle.node_hosts.specs.Cores.{Hosted}
+use Rattle.node_hosts.specs.Cores.{IsOutcome, fault as fault_of}
+use Rattle.node_hosts.specs.Cores.{IsReal}
 use Rattle.node_defs.specs.Casts.{cast_of, outcome_of}
 use Rattle.node_defs.specs.Lines.{refused_line}
 use Rattle.node_defs.specs.Lives.{fresh}

@@ -1,0 +1,2 @@
+-- What an event comes to is what refuses it, or nothing does: a law of the crate below, passed on.
+pub use Rattle.hosted_core.proofs.Cores.{verdict-is}
