@@ -19,7 +19,7 @@ use Rattle.std.proofs.Common.{inl, inr}
 use Rattle.audit_defs.specs.Evidence.{convicted_by, pair_frame}
 use Rattle.audit_defs.specs.Laws.{EvidenceConvicts}
 use Rattle.conviction_laws.proofs.Convicted.{convicted_is_convicts}
-use Rattle.length_laws.proofs.Spelled.{statements_are_short}
+pub use Rattle.length_laws.proofs.Spelled.{statements_are_short}
 
 abbrev group : Claim → Group
 group c = group_of (signed_of c)

@@ -13,7 +13,7 @@ use Rattle.message_defs.specs.Packing.{Signed, signed_of, add, fits, group_of, p
 use Rattle.group_defs.specs.Sending.{Parcel, Bundle, Proof, Want, frames_of}
 use Rattle.pool_laws.proofs.Members.{Mem, map-mem}
 use Rattle.pool_laws.proofs.Tests.{and-second}
-use Rattle.length_laws.proofs.Spelled.{statements_are_short}
+use Rattle.evidence_laws.proofs.Evidence.{statements_are_short}
 
 -- of a statement that may be said, and a signature in range
 abbrev IsSmall : Signed → Type 0

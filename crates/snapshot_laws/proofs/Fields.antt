@@ -1,12 +1,12 @@
 -- What a step takes is spelled so and in its ranges, and what is in its ranges it takes of its spelling: of the steps that reading is made
 -- of, from those of their parts.
-use Rattle.std.proofs.Common.{◌≡◌, ℕ, ◌<◌, ◌≤◌, Bool, true, ltb, not, List, [], ◌∷◌, ◌++◌, length, Ok, refl, sym, ap, subst, ◌∙◌, append_assoc, arith}
+use Rattle.std.proofs.Common.{◌≡◌, ℕ, ◌<◌, ◌≤◌, Bool, ltb, not, List, [], ◌∷◌, ◌++◌, length, Ok, refl, sym, subst, append_assoc, arith}
 use Rattle.std.specs.Prelude.{IsTrue}
 use Rattle.std.specs.Int.{w8, w16, w32}
 use Rattle.std.proofs.lemmas.Bool.{ltb-false, le-ltb}
-use Rattle.byte_defs.specs.Fields.{◌>>=◌, refuse_if, two_bytes, four_bytes, text}
+use Rattle.byte_defs.specs.Fields.{two_bytes, four_bytes, text}
 use Rattle.byte_defs.proofs.Fields.{IsBytes, Takes, Takes-then, bind_ok, refuse_ok, ok_is, byte_takes, byte_again, short_takes, short_again, long_takes, long_again, bytes_takes, bytes_again, not_false}
-use Rattle.snapshot_defs.specs.Steps.{Step, ◌&◌, made, tested, wide_at, number_to, field_at, text_to}
+use Rattle.snapshot_defs.specs.Steps.{Step, ◌&◌, made, tested, wide_at, number_to, text_to}
 
 pub record IsField {A : Type 0} (step : List ℕ → Step A) (spell : A → List ℕ) (Is : A → Type 0) : Type 0 where
   pub takes : (bytes : List ℕ) (x : A × List ℕ) → IsBytes bytes → step bytes ≡ Ok x → Takes bytes (spell x.0) x.1 × Is x.0

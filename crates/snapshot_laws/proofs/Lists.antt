@@ -1,8 +1,7 @@
 -- Lists: each entry is taken by its position.
-use Rattle.std.proofs.Common.{◌≡◌, ℕ, zero, suc, ◌+◌, ◌<◌, List, [], ◌∷◌, ◌++◌, length, Ok, refl, sym, ap, subst, ◌∙◌, append_assoc, arith}
+use Rattle.std.proofs.Common.{◌≡◌, ℕ, zero, suc, ◌+◌, List, [], ◌∷◌, ◌++◌, length, Ok, refl, sym, ap, subst, append_assoc}
 use Rattle.std.specs.List.{flat_map}
 use Rattle.std.specs.Int.{w32}
-use Rattle.byte_defs.specs.Fields.{◌>>=◌, four_bytes}
 use Rattle.byte_defs.proofs.Fields.{IsBytes, Takes, Takes-then, bind_ok, ok_is}
 use Rattle.snapshot_defs.specs.Steps.{Step, times_at, counted_at, wide_at, list_at}
 use Rattle.snapshot_defs.specs.Ranges.{EachFrom, IsListOf}

@@ -1,10 +1,10 @@
 -- Delivered messages, the decision, and whether the process has halted.
-use Rattle.std.proofs.Common.{◌≡◌, ℕ, zero, suc, ◌<◌, ◌≤◌, Bool, true, false, ltb, eqb, List, [], ◌∷◌, ◌++◌, length, Option, Some, None, Ok, refl, sym, ap, subst, ◌∙◌, arith}
+use Rattle.std.proofs.Common.{◌≡◌, ℕ, zero, suc, ◌≤◌, Bool, true, false, ltb, eqb, List, [], ◌∷◌, ◌++◌, length, Option, Some, None, Ok, refl, ap, subst, ◌∙◌, arith}
 use Rattle.std.specs.Prelude.{if◌then◌else◌}
 use Rattle.std.specs.Int.{w8, w16}
-use Rattle.std.proofs.lemmas.Bool.{ltb-false, le-ltb, eqb-true}
-use Rattle.byte_defs.specs.Fields.{◌>>=◌, two_bytes, text}
-use Rattle.byte_defs.proofs.Fields.{IsBytes, Takes, Takes-then, bind_ok, refuse_ok, ok_is}
+use Rattle.std.proofs.lemmas.Bool.{ltb-false, le-ltb}
+use Rattle.byte_defs.specs.Fields.{◌>>=◌}
+use Rattle.byte_defs.proofs.Fields.{IsBytes, Takes, bind_ok, refuse_ok, ok_is}
 use Rattle.message_defs.specs.Updates.{Value}
 use Rattle.message_defs.specs.Statements.{Message}
 use Rattle.message_defs.specs.Spelling.{IsMessage, message_bytes, ready_bytes}
@@ -15,10 +15,11 @@ use Rattle.snapshot_defs.specs.declared.Version.TheVariants.{One, Two}
 use Rattle.snapshot_defs.specs.Steps.{Step, ◌&◌, made, number_to, text_to}
 use Rattle.snapshot_defs.specs.Reading.{process_at, ranked_at, place_at, message_at, delivered_at, view_at, decision_at, halted_at}
 use Rattle.snapshot_defs.specs.Spelling.{place_bytes, message_of_bytes}
-use Rattle.snapshot_defs.specs.Ranges.{IsListOf, IsPlaceAt, IsPayload, IsDeliveredAt, IsDecision}
-use Rattle.snapshot_laws.proofs.Fields.{IsField, and_is, made_is, ranged_is, byte_to_is, short_to_is, text_to_is, one_byte}
+use Rattle.snapshot_defs.specs.Ranges.{IsListOf, IsPlaceAt, IsDeliveredAt, IsDecision}
+use Rattle.snapshot_laws.proofs.Fields.{IsField, and_is, made_is, ranged_is, byte_to_is, short_to_is, text_to_is}
 use Rattle.snapshot_laws.proofs.Lists.{list_is}
-use Rattle.snapshot_laws.proofs.Claims.{process_is, ranked_is, ranked_bytes}
+use Rattle.snapshot_laws.proofs.Claims.{process_is}
+use Rattle.snapshot_laws.proofs.Values.{ranked_is, ranked_bytes}
 
 -- ---- delivered messages
 

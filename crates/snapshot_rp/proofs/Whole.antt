@@ -9,7 +9,8 @@ use Rattle.snapshot_defs.specs.declared.Version.TheVariants.{One, Two}
 use Rattle.snapshot_defs.specs.Reading.{image_in}
 use Rattle.snapshot_defs.specs.Spelling.{spelled}
 use Rattle.snapshot_defs.specs.Ranges.{IsImage}
-use Rattle.snapshot_laws.proofs.Images.{read_is_spelled, spelled_is_read, old_is_written}
+use Rattle.snapshot_laws.proofs.Images.{read_is_spelled, spelled_is_read}
+use Rattle.snapshot_laws.proofs.Versions.{old_is_written}
 use Rattle.snapshot_rp.specs.declared.fault.SnapshotFault.{SnapshotFault}
 use Rattle.snapshot_rp.specs.declared.fault.SnapshotFault.TheVariants as faults
 use Rattle.snapshot_rp.specs.declared.image.Image.{Image}

@@ -64,7 +64,7 @@ fn image_text(alloc: Global, image: &Image) -> Result<Vec<u8>, NoMemory>
 ///
 /// # Errors
 /// [`NoMemory`] where room for the bytes is refused; nothing is appended then.
-#[tactic(auto, using(snapshot_laws::proofs::Images::written_is_second))]
+#[tactic(auto, using(snapshot_laws::proofs::Versions::written_is_second))]
 pub fn write_snapshot(image: &Image, out: &mut Vec<u8>) -> Result<(), NoMemory>
     requires { IsImage Two (image_of image.now) }
     ensures written { OnOk result (out.new.items ≡ out.old.items ++ image_bytes (image_of image.now)) }
