@@ -1,9 +1,8 @@
 -- A worked image, and where the first fault stands in bytes that are near its spelling; by another program.
 use Rattle.std.specs.Prelude.{◌≡◌, ℕ, ◌+◌, ◌%◌, true, List, [], ◌∷◌, map, Option, Some, None, Result, Ok, Err}
 use Rattle.message_defs.specs.Updates.{Remove, Add, Renew, Value}
-use Rattle.message_defs.specs.Statements.{Message, Init, Order, End, Ready, Claim}
-use Rattle.group_defs.specs.Process.{Delivered}
-use Rattle.image_defs.specs.Images.{LeftView, Image}
+use Rattle.message_defs.specs.Statements.{Message, Init, Order, End, Ready}
+use Rattle.image_defs.specs.Images.{Image}
 use Rattle.snapshot_defs.specs.declared.Version.{Version}
 use Rattle.snapshot_defs.specs.declared.Version.TheVariants.{One, Two}
 use Rattle.snapshot_defs.specs.Reading.{image_in}
