@@ -1,6 +1,5 @@
 -- Which stop a fault of the journal is, and whose fault it is.
-use Rattle.std.proofs.Common.{◌≡◌, ℕ, ◌≤◌, Bool, Err, refl, sym, subst}
-use Rattle.rp_base.specs.Causes.{Rose}
+use Rattle.std.proofs.Common.{◌≡◌, ℕ, Bool, Err, refl, sym, subst}
 use Rattle.journal_rp.specs.declared.fault.JournalFault.{JournalFault}
 use Rattle.journal_rp.specs.declared.fault.JournalFault.TheVariants.{DiskFault, NotAJournal, Entry, Other, Full, NoMemory}
 use Rattle.journal_rp.specs.Answers.{HasCauses, of_none}

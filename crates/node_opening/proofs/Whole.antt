@@ -7,7 +7,7 @@ use Rattle.std.proofs.lemmas.List.{drop_at}
 use Rattle.kit_defs.specs.Kits.{Kit}
 use Rattle.journal_defs.specs.declared.Version.{Version}
 use Rattle.journal_defs.specs.Entries.{Entry}
-use Rattle.journal_defs.specs.Journals.{ReadsAs, StandsBefore, behind_gate, closed_gate, open_gate, record_bytes, up_to_gate}
+use Rattle.journal_defs.specs.Journals.{ReadsAs, StandsBefore, behind_gate, closed_gate, open_gate, record_bytes}
 use Rattle.journal_defs.specs.Crashes.{IsAtRest}
 use Rattle.journal_defs.proofs.Crashing.{not_open}
 use Rattle.journal_defs.proofs.Gates.{closed_gate_ends}

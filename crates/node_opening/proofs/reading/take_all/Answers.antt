@@ -1,4 +1,4 @@
-use Rattle.std.proofs.Common.{◌≡◌, List, Option, sym, subst, ◌∙◌, ℕ}
+use Rattle.std.proofs.Common.{List, Option, sym, subst, ◌∙◌, ℕ}
 use Rattle.std.proofs.lemmas.Result.{err_from_is_err_and}
 use Rattle.journal_disk.proofs.OnceRead.{reads_then}
 use Rattle.journal_rp.specs.Stages.{gate_of}

@@ -1,4 +1,4 @@
-use Rattle.std.proofs.Common.{◌+◌, ◌<◌, ◌^◌, Option, refl, sym, arith}
+use Rattle.std.proofs.Common.{Option, arith}
 use Rattle.std.proofs.lemmas.Result.{err_from_is_err_and}
 use Rattle.journal_entries.specs.declared.entry_bytes.EntryBytes.{EntryBytes}
 use Rattle.journal_entries.specs.Kept.{kept}
