@@ -198,7 +198,7 @@ module _ (s : Setting) (claims : List Claim) where
       let other = of-signer s claims q pair.1 (pair-within q pair e).1 in
       subst (λ p. Mem p (keyed s)) other.1 (has-key s pair.1 other.2)
 
-module _ (s : Setting) (claims : List Claim) (t : Table) (saw : Saw s claims t) where
+module _ (s : Setting) (claims own : List Claim) (t : Table) (saw : Saw s claims own t) where
   each-has-key : (c : Claim) → Mem c t.seconds → Mem c.signer (keyed s)
   each-has-key c m =
       let at = mem-find (λ (d : Claim). d.signer == c.signer) t.seconds c m (eq-eqb c.signer c.signer refl) in

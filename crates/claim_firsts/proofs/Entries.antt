@@ -11,16 +11,13 @@ use Rattle.conviction_defs.specs.Convictions.{is_conflict}
 use Rattle.indexmap.specs.IndexMap.{IndexMap, insert_entry}
 use Rattle.indexmap.proofs.CallerLemmas.{insert_entry-new}
 use Rattle.claim_index.specs.declared.key.Key.{Key}
-use Rattle.claim_index.specs.Keys.{key_of, same_key}
+use Rattle.claim_index.specs.Keys.{same_key}
 use Rattle.claim_index.proofs.Keyed.{same_key-of}
-use Rattle.claim_firsts.specs.declared.lent.Lent.{Lent}
+use Rattle.claim_firsts.specs.declared.kept.Kept.{Kept}
+use Rattle.claim_firsts.specs.Tables.{key}
 use Rattle.claim_firsts.specs.Seen.{is_beside}
-use Rattle.claim_firsts.specs.Entries.{claim_at, lent_claim, IsEntry}
+use Rattle.claim_firsts.specs.Entries.{claim_at, kept_claim, IsEntry}
 use Rattle.claim_firsts.proofs.Convicting.{put_signers}
-
--- the key of the claim's signer and slot
-abbrev pub key : Claim → Key
-key c = key_of c.signer (slot_of c.statement)
 
 none-from-map : {A B : Type 0} (f : A → B) (o : Option A) → option_map f o ≡ None → o ≡ None
 none-from-map f None e = refl
@@ -28,30 +25,30 @@ none-from-map f (Some a) e = absurd cc
 
 module _ (c : Claim) where
   -- one entry
-  test-is : (e : Key × Lent) → IsEntry e → same_key (key c) e.0 ≡ is_beside c (claim_at e)
+  test-is : (e : Key × Kept) → IsEntry e → same_key (key c) e.0 ≡ is_beside c (claim_at e)
   test-is e entry = ap (same_key (key c)) entry.keyed
       ∙ same_key-of c.signer (claim_at e).signer (slot_of c.statement) (slot_of (claim_at e).statement)
 
   -- all of them
-  pub looked-up : (es : List (Key × Lent)) → AllByRecursion IsEntry es
-      → option_map lent_claim (lookup (same_key (key c)) es) ≡ find (is_beside c) (map claim_at es)
+  pub looked-up : (es : List (Key × Kept)) → AllByRecursion IsEntry es
+      → option_map kept_claim (lookup (same_key (key c)) es) ≡ find (is_beside c) (map claim_at es)
   looked-up [] entries = refl
   looked-up (e ∷ es) entries =
       head (same_key (key c) e.0) (looked-up es entries.1)
       ∙ ap (λ (b : Bool). if b then Some (claim_at e) else find (is_beside c) (map claim_at es)) (test-is e entries.0)
     where
-      head : (b : Bool) → option_map lent_claim (lookup (same_key (key c)) es) ≡ find (is_beside c) (map claim_at es)
-          → option_map lent_claim (cond b (Some e.1) (lookup (same_key (key c)) es))
+      head : (b : Bool) → option_map kept_claim (lookup (same_key (key c)) es) ≡ find (is_beside c) (map claim_at es)
+          → option_map kept_claim (cond b (Some e.1) (lookup (same_key (key c)) es))
           ≡ (if b then Some (claim_at e) else find (is_beside c) (map claim_at es))
       head true rest = refl
       head false rest = rest
 
   -- a new entry goes last
-  pub put-last : {S : Type 0} (m : IndexMap Key Lent S) (x : Lent) → AllByRecursion IsEntry m.entries
+  pub put-last : {S : Type 0} (m : IndexMap Key Kept S) (x : Kept) → AllByRecursion IsEntry m.entries
       → option_map (is_conflict c) (find (is_beside c) (map claim_at m.entries)) ≡ None
       → insert_entry same_key m.entries (key c) x ≡ m.entries ++ (key c, x) ∷ []
   put-last m x entries none = insert_entry-new same_key m (key c) x
-      (none-from-map lent_claim (lookup (same_key (key c)) m.entries)
+      (none-from-map kept_claim (lookup (same_key (key c)) m.entries)
       (looked-up m.entries entries ∙ none-from-map (is_conflict c) (find (is_beside c) (map claim_at m.entries)) none))
 
 pub all-push : {A : Type 0} (P : A → Type 0) (xs : List A) (x : A) → AllByRecursion P xs → P x → AllByRecursion P (xs ++ x ∷ [])
@@ -59,39 +56,39 @@ all-push P [] x all new = (new, tt)
 all-push P (y ∷ ys) x all new = (all.0, all-push P ys x all.1 new)
 
 -- a search among the second claims is one among those that are kept
-pub any-second : (q : ℕ) (xs : List Lent)
-    → list_any (λ (x : Lent). (lent_claim x).signer == q) xs ≡ is_some (find (λ (c : Claim). c.signer == q) (map lent_claim xs))
+pub any-second : (q : ℕ) (xs : List Kept)
+    → list_any (λ (x : Kept). (kept_claim x).signer == q) xs ≡ is_some (find (λ (c : Claim). c.signer == q) (map kept_claim xs))
 any-second q [] = refl
-any-second q (x ∷ xs) = go ((lent_claim x).signer == q) (any-second q xs)
+any-second q (x ∷ xs) = go ((kept_claim x).signer == q) (any-second q xs)
   where
-    go : (b : Bool) → list_any (λ (x : Lent). (lent_claim x).signer == q) xs ≡ is_some (find (λ (c : Claim). c.signer == q) (map lent_claim xs))
-        → (b || list_any (λ (x : Lent). (lent_claim x).signer == q) xs)
-        ≡ is_some (if b then Some (lent_claim x) else find (λ (c : Claim). c.signer == q) (map lent_claim xs))
+    go : (b : Bool) → list_any (λ (x : Kept). (kept_claim x).signer == q) xs ≡ is_some (find (λ (c : Claim). c.signer == q) (map kept_claim xs))
+        → (b || list_any (λ (x : Kept). (kept_claim x).signer == q) xs)
+        ≡ is_some (if b then Some (kept_claim x) else find (λ (c : Claim). c.signer == q) (map kept_claim xs))
     go true rest = refl
     go false rest = rest
 
 -- the signers of the second claims are those of what is kept
-pub same-signers : (xs : List Lent) (found : List ℕ)
-    → fold (λ found x. put_once (lent_claim x).signer found) found xs ≡ put_signers found (map lent_claim xs)
+pub same-signers : (xs : List Kept) (found : List ℕ)
+    → fold (λ found x. put_once (kept_claim x).signer found) found xs ≡ put_signers found (map kept_claim xs)
 same-signers [] found = refl
-same-signers (x ∷ xs) found = same-signers xs (put_once (lent_claim x).signer found)
+same-signers (x ∷ xs) found = same-signers xs (put_once (kept_claim x).signer found)
 
 -- a search among the second claims, by signer
-pub find-second : (q : ℕ) (xs : List Lent) → option_map lent_claim (find (λ (x : Lent). (lent_claim x).signer == q) xs)
-    ≡ find (λ (c : Claim). c.signer == q) (map lent_claim xs)
+pub find-second : (q : ℕ) (xs : List Kept) → option_map kept_claim (find (λ (x : Kept). (kept_claim x).signer == q) xs)
+    ≡ find (λ (c : Claim). c.signer == q) (map kept_claim xs)
 find-second q [] = refl
-find-second q (x ∷ xs) = go ((lent_claim x).signer == q) (find-second q xs)
+find-second q (x ∷ xs) = go ((kept_claim x).signer == q) (find-second q xs)
   where
-    go : (b : Bool) → option_map lent_claim (find (λ (x : Lent). (lent_claim x).signer == q) xs)
-        ≡ find (λ (c : Claim). c.signer == q) (map lent_claim xs)
-        → option_map lent_claim (if b then Some x else find (λ (x : Lent). (lent_claim x).signer == q) xs)
-        ≡ (if b then Some (lent_claim x) else find (λ (c : Claim). c.signer == q) (map lent_claim xs))
+    go : (b : Bool) → option_map kept_claim (find (λ (x : Kept). (kept_claim x).signer == q) xs)
+        ≡ find (λ (c : Claim). c.signer == q) (map kept_claim xs)
+        → option_map kept_claim (if b then Some x else find (λ (x : Kept). (kept_claim x).signer == q) xs)
+        ≡ (if b then Some (kept_claim x) else find (λ (c : Claim). c.signer == q) (map kept_claim xs))
     go true rest = refl
     go false rest = rest
 
 -- one claim more among the first ones
-module _ {S : Type 0} (c : Claim) (es : List (Key × Lent)) (m : IndexMap Key Lent S) (k : Key) (x : Lent) (now : List (Key × Lent))
-    (same : m.entries ≡ es) (keyed : k ≡ key c) (is : lent_claim x ≡ c) (put : now ≡ insert_entry same_key m.entries k x)
+module _ {S : Type 0} (c : Claim) (es : List (Key × Kept)) (m : IndexMap Key Kept S) (k : Key) (x : Kept) (now : List (Key × Kept))
+    (same : m.entries ≡ es) (keyed : k ≡ key c) (is : kept_claim x ≡ c) (put : now ≡ insert_entry same_key m.entries k x)
     (entries : AllByRecursion IsEntry es) (none : option_map (is_conflict c) (find (is_beside c) (map claim_at es)) ≡ None) where
   at-end : now ≡ es ++ (key c, x) ∷ []
   at-end =

@@ -1,6 +1,8 @@
+pub mod Answering
 pub mod Convicting
 pub mod Entries
 pub mod Finding
+pub mod Own
 pub mod Pairing
 pub mod Results
 pub mod Seeing

@@ -1,6 +1,7 @@
 -- A table that saw some claims, and then one more.
 use Rattle.std.proofs.Common.{◌≡◌, ℕ, List, [], ◌∷◌, ◌++◌, Option, Some, None, Bool, true, false, refl, sym, ap, ◌∙◌, subst}
 use Rattle.std.specs.Prelude.{if◌then◌else◌, ◌==◌, ◌&&◌, cond, filter, find, option_map, is_some}
+use Rattle.std.specs.List.{list_any}
 use Rattle.std.specs.Option.{option_or}
 use Rattle.std.proofs.lemmas.Bool.{eqb-true, eq-eqb}
 use Rattle.std.proofs.lemmas.List.{append-nil}
@@ -11,17 +12,18 @@ use Rattle.group_defs.specs.Process.{Setting}
 use Rattle.group_defs.specs.Hearing.{is_valid}
 use Rattle.conviction_defs.specs.Convictions as defs
 use Rattle.conviction_defs.specs.Convictions.{is_conflict, is_on_slot, claims_by, firsts_behind, pair_behind}
-use Rattle.claim_firsts.specs.Tables.{Table}
+use Rattle.claim_index.specs.Keys.{same_key}
+use Rattle.claim_firsts.specs.Tables.{Table, key}
 use Rattle.claim_firsts.specs.Seen.{Saw, is_beside, second_of}
 use Rattle.claim_firsts.specs.Seeing.{contradicted, has_second, seeing, seeing_by, with_second}
 use Rattle.claim_firsts.proofs.Finding.{any-found, any-not-found, first-is, firsts-more, with-one}
 use Rattle.claim_firsts.proofs.Pairing.{second-in, second-then, second-more}
 
-pub saw-nothing : (s : Setting) → Saw s [] (record { firsts = []; seconds = [] })
+pub saw-nothing : (s : Setting) → Saw s [] [] (record { firsts = []; seconds = []; answered = [] })
 unfolding firsts_behind pair_behind
-saw-nothing s = record { firsts = refl; seconds = λ q. refl }
+saw-nothing s = record { firsts = refl; seconds = λ q. refl; answered = λ c. refl }
 
-module _ (s : Setting) (claims : List Claim) (t : Table) (saw : Saw s claims t) (c : Claim) (valid : is_valid s c ≡ true) where
+module _ (s : Setting) (claims own : List Claim) (t : Table) (saw : Saw s claims own t) (c : Claim) (valid : is_valid s c ≡ true) where
   -- beside the claim
   pub found : find (is_beside c) t.firsts ≡ find (is_on_slot c) (claims_by s claims c.signer)
   found = ap (find (is_beside c)) saw.firsts ∙ first-is s claims c
@@ -122,10 +124,48 @@ module _ (s : Setting) (claims : List Claim) (t : Table) (saw : Saw s claims t) 
       ∙ ap (λ b. if b then defs.firsts s claims else defs.firsts s claims ++ c ∷ [])
       (sym (any-found (is_beside c) (defs.firsts s claims) b (first-is s claims c ∙ some)))
 
-  pub saw-more : Saw s (claims ++ c ∷ []) (seeing t c)
+  -- ---- the own words
+
+  accused-answers : (b : Bool) → (if b then t else with_second t c).answered ≡ t.answered
+  accused-answers true = refl
+  accused-answers false = refl
+
+  same-answers : (o : Option Bool) → (seeing_by t c o).answered ≡ t.answered
+  same-answers None = refl
+  same-answers (Some true) = accused-answers (has_second t c.signer)
+  same-answers (Some false) = refl
+
+  pub saw-more : Saw s (claims ++ c ∷ []) own (seeing t c)
   saw-more = record {
     firsts = ap (λ o. (seeing_by t c o).firsts) told
         ∙ firsts-by (find (is_on_slot c) (claims_by s claims c.signer)) refl
         ∙ sym firsts-after;
     seconds = λ q. second-after q (c.signer == q) refl;
+    answered = λ d. ap (list_any (same_key (key d))) (same-answers (contradicted t c)) ∙ saw.answered d;
+  }
+
+-- a claim that is not valid is nothing to the table
+module _ (s : Setting) (claims own : List Claim) (t : Table) (saw : Saw s claims own t) (c : Claim) (invalid : is_valid s c ≡ false) where
+  no-valid : filter (is_valid s) (claims ++ c ∷ []) ≡ filter (is_valid s) claims
+  no-valid =
+      filter-append (is_valid s) claims (c ∷ [])
+      ∙ ap (λ v. filter (is_valid s) claims ++ cond v (c ∷ []) []) invalid
+      ∙ append-nil (filter (is_valid s) claims)
+
+  no-claim-by : (q : ℕ) → claims_by s (claims ++ c ∷ []) q ≡ claims_by s claims q
+  no-claim-by q =
+      filter-append (λ (d : Claim). (d.signer == q) && is_valid s d) claims (c ∷ [])
+      ∙ ap (λ v. claims_by s claims q ++ cond ((c.signer == q) && v) (c ∷ []) []) invalid
+      ∙ ap (λ v. claims_by s claims q ++ cond v (c ∷ []) []) (anded (c.signer == q))
+      ∙ append-nil (claims_by s claims q)
+    where
+      anded : (b : Bool) → (b && false) ≡ false
+      anded true = refl
+      anded false = refl
+
+  pub saw-passed : Saw s (claims ++ c ∷ []) own t
+  saw-passed = record {
+    firsts = saw.firsts ∙ ap (firsts_behind []) (sym no-valid);
+    seconds = λ q. saw.seconds q ∙ ap (λ cs. second-in (pair_behind [] cs)) (sym (no-claim-by q));
+    answered = saw.answered;
   }

@@ -43,7 +43,7 @@ thinned {B} f p same (x ∷ xs) = go (f x) refl (p x) (same x) (thinned f p same
     go None e true is rest = absurd (let none : is_some (f x) ≡ false = ap is_some e in cc)
     go None e false is rest = rest ∙ ap (λ o. cons_option o (filter_map f xs)) (sym e)
 
-module _ (s : Setting) (claims : List Claim) (t : Table) (saw : Saw s claims t) where
+module _ (s : Setting) (claims own : List Claim) (t : Table) (saw : Saw s claims own t) where
   -- the first claim beside the second one of the pair
   beside-second : (q : ℕ) (pair : Claim × Claim) → pair_behind [] (claims_by s claims q) ≡ Some pair
       → find (is_on_slot pair.1) (claims_by s claims q) ≡ Some pair.0
@@ -67,7 +67,7 @@ module _ (s : Setting) (claims : List Claim) (t : Table) (saw : Saw s claims t) 
   with-second q pair e =
       let other = of-signer s claims q pair.1 (pair-within s claims q pair e).1 in
       ap (option_map (λ (b : Claim). told-of q (b, pair.1)))
-      (found s claims t saw pair.1 other.2
+      (found s claims own t saw pair.1 other.2
       ∙ ap (λ p. find (is_on_slot pair.1) (claims_by s claims p)) other.1
       ∙ beside-second q pair e)
 

@@ -1,5 +1,7 @@
 pub mod Tables
 pub mod Seen
 pub mod Seeing
+pub mod Own
 pub mod Entries
+pub mod Answered
 pub mod Told

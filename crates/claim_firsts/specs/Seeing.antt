@@ -1,7 +1,10 @@
 -- What one claim more makes of a table.
-use Rattle.std.specs.Prelude.{ℕ, ◌==◌, Bool, true, false, if◌then◌else◌, [], ◌∷◌, ◌++◌, find, Option, Some, None, option_map, is_some}
+use Rattle.std.specs.Prelude.{ℕ, ◌==◌, Bool, true, false, if◌then◌else◌, [], ◌∷◌, ◌++◌, find, take, Option, Some, None, option_map, is_some}
 use Rattle.message_defs.specs.Statements.{Claim}
 use Rattle.conviction_defs.specs.Convictions.{is_conflict}
+use Rattle.indexmap.specs.IndexSet.{insert_key}
+use Rattle.claim_index.specs.declared.key.Key.{Key}
+use Rattle.claim_index.specs.Keys.{same_key}
 use Rattle.claim_firsts.specs.Tables.{Table}
 use Rattle.claim_firsts.specs.Seen.{is_beside}
 
@@ -15,11 +18,11 @@ has_second t q = is_some (find (λ c. c.signer == q) t.seconds)
 
 -- with the claim as a first one
 abbrev pub with_first : Table → Claim → Table
-with_first t c = record { firsts = t.firsts ++ c ∷ []; seconds = t.seconds }
+with_first t c = record { firsts = t.firsts ++ c ∷ []; seconds = t.seconds; answered = t.answered }
 
 -- with the claim as a second one
 abbrev pub with_second : Table → Claim → Table
-with_second t c = record { firsts = t.firsts; seconds = t.seconds ++ c ∷ [] }
+with_second t c = record { firsts = t.firsts; seconds = t.seconds ++ c ∷ []; answered = t.answered }
 
 -- with the claim as its signer's second one, where it has none
 abbrev pub accusing : Table → Claim → Table
@@ -34,3 +37,11 @@ seeing_by t c (Some false) = t
 -- after the claim was seen
 abbrev pub seeing : Table → Claim → Table
 seeing t c = seeing_by t c (contradicted t c)
+
+-- with the slot under this key as answered
+abbrev pub answering : Table → Key → Table
+answering t k = record { firsts = t.firsts; seconds = t.seconds; answered = insert_key same_key t.answered k }
+
+-- with the first so many answered slots
+abbrev pub forgetting : Table → ℕ → Table
+forgetting t n = record { firsts = t.firsts; seconds = t.seconds; answered = take n t.answered }

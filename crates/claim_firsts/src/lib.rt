@@ -4,7 +4,9 @@
 
 mod conviction;
 mod firsts;
-mod lent;
+mod kept;
+mod word;
 
 pub use conviction::Conviction;
 pub use firsts::Firsts;
+pub use stmt_codec::OwnClaim;

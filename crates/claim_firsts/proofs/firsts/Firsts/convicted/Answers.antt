@@ -6,6 +6,6 @@ use Rattle.claim_firsts.proofs.Entries.{same-signers}
 use Rattle.claim_firsts.proofs.firsts.Firsts.convicted.Goals as goal
 
 pub returns : goal.returns
-returns c = λ s claims rising saw.
+returns c = λ s claims own rising saw.
     c.all_signers.ensures ∙ ap signers_of c.deref.ensures.value ∙ same-signers c.self.inside.seconds.items []
-    ∙ ap (λ (t : Table). put_signers [] t.seconds) c.self.view_is ∙ all-convicted s claims c.args.self.now saw rising
+    ∙ ap (λ (t : Table). put_signers [] t.seconds) c.self.view_is ∙ all-convicted s claims own c.args.self.now saw rising

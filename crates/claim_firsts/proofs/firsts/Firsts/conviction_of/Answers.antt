@@ -7,8 +7,9 @@ use Rattle.claim_index.specs.declared.key.Key.{Key}
 use Rattle.claim_index.specs.Keys.{same_key}
 use Rattle.claim_firsts.specs.Tables.{Table}
 use Rattle.claim_firsts.specs.Told.{conviction_by, conviction_with}
-use Rattle.claim_firsts.specs.Entries.{lent_claim, table_of}
-use Rattle.claim_firsts.proofs.Entries.{key, find-second, looked-up}
+use Rattle.claim_firsts.specs.Entries.{kept_claim, table_of}
+use Rattle.claim_firsts.specs.Tables.{key}
+use Rattle.claim_firsts.proofs.Entries.{find-second, looked-up}
 use Rattle.claim_firsts.proofs.firsts.Firsts.conviction_of.Goals as goal
 
 abbrev told : ℕ → Claim → Claim → Conviction
@@ -16,37 +17,35 @@ told q second first = record { process = q; first = first; second = second }
 
 pub returns-in-Some-find_under : goal.returns-in-Some-find_under
 returns-in-Some-find_under c =
-    let one : c.new-key.result ≡ key (lent_claim c.in-Some.second.now) = c.new-key.ensures ∙
-    (λ i. record { signer = c.in-Some.second.now.claim.signer; slot = c.slot_key_of.ensures i }) in
-    let t : Table = table_of c.self.inside.firsts.entries c.self.inside.seconds.items in
-    (λ i. Some (told c.args.q (c.claim_again-in-Some-find_under.ensures i) (c.claim_again.ensures i)))
-    ∙ ap (option_map (told c.args.q (lent_claim c.in-Some.second.now)))
-    (ap (option_map lent_claim) c.in-Some-find_under.ensures
-    ∙ ap (λ (k : Key). option_map lent_claim (lookup (same_key k) c.self.inside.firsts.entries)) one
-    ∙ looked-up (lent_claim c.in-Some.second.now) c.self.inside.firsts.entries c.self.invariant.firsts)
+    let one : c.key_of.result ≡ key (kept_claim c.in-Some.second.now) = c.key_of.ensures ∙ ap key c.claim-second.ensures in
+    let t : Table = table_of c.self.inside.firsts.entries c.self.inside.seconds.items c.self.inside.answered.keys in
+    (λ i. Some (told c.args.q (c.claim-second.ensures i) (c.claim.ensures i)))
+    ∙ ap (option_map (told c.args.q (kept_claim c.in-Some.second.now)))
+    (ap (option_map kept_claim) c.in-Some-find_under.ensures
+    ∙ ap (λ (k : Key). option_map kept_claim (lookup (same_key k) c.self.inside.firsts.entries)) one
+    ∙ looked-up (kept_claim c.in-Some.second.now) c.self.inside.firsts.entries c.self.invariant.firsts)
     ∙ ap (option_and_then (conviction_with t c.args.q))
-    (ap (option_map lent_claim) (c.in-Some.ensures ∙ ap (find (λ x. (lent_claim x).signer == c.args.q)) c.deref.ensures.value)
+    (ap (option_map kept_claim) (c.in-Some.ensures ∙ ap (find (λ x. (kept_claim x).signer == c.args.q)) c.deref.ensures.value)
     ∙ find-second c.args.q c.self.inside.seconds.items)
     ∙ ap (λ (t : Table). conviction_by t c.args.q) c.self.view_is
 
 pub returns-in-None-find_under : goal.returns-in-None-find_under
 returns-in-None-find_under c =
-    let one : c.new-key.result ≡ key (lent_claim c.in-Some.second.now) = c.new-key.ensures ∙
-    (λ i. record { signer = c.in-Some.second.now.claim.signer; slot = c.slot_key_of.ensures i }) in
-    let t : Table = table_of c.self.inside.firsts.entries c.self.inside.seconds.items in
-    ap (option_map (told c.args.q (lent_claim c.in-Some.second.now)))
-    (ap (option_map lent_claim) c.in-None-find_under.ensures
-    ∙ ap (λ (k : Key). option_map lent_claim (lookup (same_key k) c.self.inside.firsts.entries)) one
-    ∙ looked-up (lent_claim c.in-Some.second.now) c.self.inside.firsts.entries c.self.invariant.firsts)
+    let one : c.key_of.result ≡ key (kept_claim c.in-Some.second.now) = c.key_of.ensures ∙ ap key c.claim-second.ensures in
+    let t : Table = table_of c.self.inside.firsts.entries c.self.inside.seconds.items c.self.inside.answered.keys in
+    ap (option_map (told c.args.q (kept_claim c.in-Some.second.now)))
+    (ap (option_map kept_claim) c.in-None-find_under.ensures
+    ∙ ap (λ (k : Key). option_map kept_claim (lookup (same_key k) c.self.inside.firsts.entries)) one
+    ∙ looked-up (kept_claim c.in-Some.second.now) c.self.inside.firsts.entries c.self.invariant.firsts)
     ∙ ap (option_and_then (conviction_with t c.args.q))
-    (ap (option_map lent_claim) (c.in-Some.ensures ∙ ap (find (λ x. (lent_claim x).signer == c.args.q)) c.deref.ensures.value)
+    (ap (option_map kept_claim) (c.in-Some.ensures ∙ ap (find (λ x. (kept_claim x).signer == c.args.q)) c.deref.ensures.value)
     ∙ find-second c.args.q c.self.inside.seconds.items)
     ∙ ap (λ (t : Table). conviction_by t c.args.q) c.self.view_is
 
 pub returns-in-None : goal.returns-in-None
 returns-in-None c =
-    let t : Table = table_of c.self.inside.firsts.entries c.self.inside.seconds.items in
+    let t : Table = table_of c.self.inside.firsts.entries c.self.inside.seconds.items c.self.inside.answered.keys in
     ap (option_and_then (conviction_with t c.args.q))
-    (ap (option_map lent_claim) (c.in-None.ensures ∙ ap (find (λ x. (lent_claim x).signer == c.args.q)) c.deref.ensures.value)
+    (ap (option_map kept_claim) (c.in-None.ensures ∙ ap (find (λ x. (kept_claim x).signer == c.args.q)) c.deref.ensures.value)
     ∙ find-second c.args.q c.self.inside.seconds.items)
     ∙ ap (λ (t : Table). conviction_by t c.args.q) c.self.view_is

@@ -1,4 +1,4 @@
-use Rattle.std.proofs.Common.{◌≡◌, List, [], ◌∷◌, ◌++◌, sym, subst}
+use Rattle.std.proofs.Common.{◌≡◌, List, [], ◌∷◌, ◌++◌, sym, ap, ◌∙◌, subst}
 use Rattle.std.specs.Prelude.{IsTrue}
 use Rattle.message_defs.specs.Statements as plain
 use Rattle.group_defs.specs.Process.{Setting}
@@ -12,8 +12,9 @@ use Rattle.claim_firsts.proofs.firsts.Firsts.see.Goals as goal
 
 pub returns-clause-seen : goal.returns-clause-seen
 returns-clause-seen c =
-    on-ok (c.take.new.self ≡ seeing c.args.self.now (claim c.args.claim.now))
-    ((s : Setting) (claims : List plain.Claim) → Saw s claims c.args.self.now → IsTrue (is_valid s (claim c.args.claim.now))
-    → Saw s (claims ++ claim c.args.claim.now ∷ []) c.take.new.self) c.take.result
-    (λ e s claims saw valid. subst (Saw s (claims ++ claim c.args.claim.now ∷ [])) (sym e)
-    (saw-more s claims c.args.self.now saw (claim c.args.claim.now) valid)) c.take.ensures.seen
+    on-ok (c.take.new.self ≡ seeing c.args.self.now (claim c.claim_again.result))
+    ((s : Setting) (claims own : List plain.Claim) → Saw s claims own c.args.self.now → IsTrue (is_valid s (claim c.args.claim.now))
+    → Saw s (claims ++ claim c.args.claim.now ∷ []) own c.take.new.self) c.take.result
+    (λ e s claims own saw valid. subst (Saw s (claims ++ claim c.args.claim.now ∷ []) own)
+    (sym (e ∙ ap (seeing c.args.self.now) c.claim_again.ensures))
+    (saw-more s claims own c.args.self.now saw (claim c.args.claim.now) valid)) c.take.ensures.seen

@@ -1,14 +1,21 @@
-//! Claims as a table keeps them: lent by what was handed over.
+//! Claims as a table keeps them: lent by what was handed over, or with bytes of their own.
 ghost use Rattle.std.specs.Prelude.{◌≡◌};
 ghost use Rattle.stmt_codec.specs.Views.{stmt, claim as claim_of};
 ghost use Rattle.conviction_defs.specs.Convictions as defs;
+ghost use Rattle.claim_firsts.specs.Entries.{kept_claim};
 
+use crate::word::Word;
+use rp_base::Pid;
 use stmt_codec::{Claim, Statement, conflicts};
 
 /// A claim of the table.
-#[derive(Clone, Copy)]
-pub struct Lent<'a> {
-    pub claim: Claim<'a>,
+#[derive(Drop)]
+pub enum Kept<'a> {
+    /// It is lent by what was handed over.
+    Lent(Claim<'a>),
+
+    /// A process signed it itself.
+    Own(Word),
 }
 
 // The statement, once more. Written out, since what lends bytes is not copied from a reference (docs/CONTRIBUTING.md).
@@ -56,6 +63,28 @@ pub fn claim_again<'a>(claim: &Claim<'a>) -> Claim<'a>
         signer: claim.signer,
         statement: statement_again(&claim.statement),
         signature: claim.signature,
+    }
+}
+
+impl<'a> Kept<'a> {
+    /// The claim, lent.
+    pub fn claim(&self) -> Claim<'_>
+        ensures { claim_of result ≡ kept_claim self.now }
+    {
+        match self {
+            Kept::Lent(claim) => claim_again(claim),
+            Kept::Own(word) => word.claim(),
+        }
+    }
+
+    /// Who signed it.
+    pub fn signer(&self) -> Pid
+        ensures { result ≡ (kept_claim self.now).signer }
+    {
+        match self {
+            Kept::Lent(claim) => claim.signer,
+            Kept::Own(word) => word.own.signer,
+        }
     }
 }
 

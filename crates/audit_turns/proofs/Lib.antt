@@ -1,0 +1,5 @@
+pub mod Absorbing
+pub mod Beginning
+pub mod Spots
+pub mod Walking
+pub mod Written
