@@ -3,4 +3,5 @@
 
 mod hearing;
 
+pub use claim_pool::is_signed;
 pub use hearing::{Judge, hear_all};

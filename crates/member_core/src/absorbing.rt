@@ -17,7 +17,7 @@ ghost use Rattle.member_core.specs.Entries.{Agrees, Absorbs};
 use crate::attempts::attempt;
 use crate::journalled::Journalled;
 use crate::member::{Core, Keyless};
-use claim_pool::is_signed;
+use claim_hearing::is_signed;
 use member_taking::Judge;
 use rp_base::{NoMemory, Scheme, Tally};
 use stmt_codec::{Claim, Entry, EntrySignatures, Outcome, OwnClaim, read_statement};

@@ -25,8 +25,8 @@ use Rattle.pool_laws.proofs.Members.{All-mem, mem-All}
 use Rattle.pool_laws.proofs.Tests.{and-first, none-is}
 use Rattle.claim_index.specs.Kept.{empty_pool}
 use Rattle.own_place.specs.Owns.{Tells}
-use Rattle.ending_rules.specs.Perceiving.{has_update}
-use Rattle.sent_claims.specs.Certificates.{all_signed}
+use Rattle.member_state.specs.Parts.{has_update}
+use Rattle.member_state.specs.Parts.{all_signed}
 use Rattle.view_phases.specs.Phases.{IsIn}
 use Rattle.accounts.specs.Views.{account}
 use Rattle.member_laws.specs.Telling.{Begins}

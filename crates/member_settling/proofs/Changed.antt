@@ -8,7 +8,7 @@ use Rattle.group_defs.specs.Settle.{decide, decided_by, Observing, OpenView, Clo
 use Rattle.pool_laws.proofs.Tests.{option_or-is}
 use Rattle.own_place.specs.declared.own.Own.{Own}
 use Rattle.own_place.specs.Owns.{Tells}
-use Rattle.reliable_mcast.specs.Archives.{Archived, Keeps}
+use Rattle.member_state.specs.Parts.{Archived, Keeps}
 use Rattle.view_phases.specs.declared.phases.Phase.{Phase}
 use Rattle.view_phases.specs.declared.phases.Phase.TheVariants as phases
 use Rattle.view_phases.specs.Phases.{IsIn, decided, decision_of}

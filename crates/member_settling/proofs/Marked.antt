@@ -9,7 +9,7 @@ use Rattle.group_defs.specs.Accounts.{Account}
 use Rattle.pool_laws.proofs.Places.{length-snoc}
 use Rattle.claim_index.specs.Kept.{Holding}
 use Rattle.own_place.specs.declared.own.Own.{Own}
-use Rattle.reliable_mcast.specs.Archives.{Archived}
+use Rattle.member_state.specs.Parts.{Archived}
 use Rattle.view_phases.specs.declared.phases.Phase.{Phase}
 use Rattle.accounts.specs.declared.account.Account as code
 use Rattle.accounts.specs.Views.{account}

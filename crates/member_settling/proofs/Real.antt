@@ -10,7 +10,7 @@ use Rattle.group_defs.specs.Process.{Setting, Process, Left, Pool, delivered_fro
 use Rattle.group_defs.specs.Certified.{value_at}
 use Rattle.group_defs.specs.Accounts.{Account}
 use Rattle.pool_laws.proofs.Members.{Mem, All-mem, map-mem, mem-All}
-use Rattle.sent_claims.specs.Certificates.{IsRanged, all_signed}
+use Rattle.member_state.specs.Parts.{IsRanged, all_signed}
 use Rattle.accounts.specs.Views.{account}
 use Rattle.member_state.specs.declared.state.ProcessState.{ProcessState}
 use Rattle.member_state.specs.States.{IsStateOf}

@@ -4,7 +4,7 @@ ghost use Rattle.group_defs.specs.Process.{Setting, Process};
 ghost use Rattle.group_defs.specs.Certified.{readied};
 ghost use Rattle.group_defs.specs.Settle as defs;
 ghost use Rattle.claim_pool.specs.Certificates.{content_of};
-ghost use Rattle.ending_rules.specs.Due.{HasKeys};
+ghost use Rattle.member_state.specs.Parts.{HasKeys};
 ghost use Rattle.view_phases.specs.Phases.{decides, IsIn};
 ghost use Rattle.member_state.specs.Marks.{Stays};
 ghost use Rattle.member_state.specs.States.{IsStateOf};

@@ -14,13 +14,12 @@ ghost use Rattle.member_settling.specs.Steps.{ComesNext, Delivers};
 
 use claim_pool::Pool;
 use member_state::{Before, Delivered, ProcessState};
-use multicast_rules::deliverable;
 use own_moves::deliver_batch;
 use pool_questions::certified_payload;
 use rp_base::{NoMemory, Pid};
 use std::alloc::Global;
 use stmt_codec::{Batch, Note, Payload};
-use view_phases::Phase;
+use view_phases::{Phase, deliverable};
 
 // How many places may be delivered in the view: the cut where it is decided, else one more than the greatest kept place.
 fn limit_of(phase: &Phase, pool: &Pool) -> u16

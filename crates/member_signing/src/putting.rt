@@ -18,11 +18,10 @@ ghost use Rattle.member_state.specs.States.{IsStateOf, IsReal};
 ghost use Rattle.member_signing.specs.Signed.{IsUndecided, IsOwed, IsReadable};
 
 use claim_lists::ClaimList;
-use claim_pool::{Own, Pool};
 use member_state::{Before, ProcessState};
 use rp_base::NoMemory;
 use stmt_codec::{Claim, OwnClaim, Statement, read_statement, spelled_len};
-use view_phases::Phase;
+use view_phases::{Own, Phase, Pool};
 use view_table::View;
 
 // The claim that stands in these bytes.

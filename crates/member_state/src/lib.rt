@@ -7,7 +7,9 @@ mod marks;
 mod state;
 
 pub use accounts::{Account, Delivered};
+pub use ending_rules::Perceived;
 pub use left::LeftView;
 pub use marks::Before;
+pub use reliable_mcast::Displaced;
 pub use state::ProcessState;
 pub use view_phases::PhaseWord;

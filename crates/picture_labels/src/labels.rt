@@ -2,7 +2,7 @@
 ghost use Rattle.std.specs.Prelude.{◌≡◌, ◌++◌, codes, map, IfOk, OnOk};
 ghost use Rattle.std.specs.List.{list_any};
 ghost use Rattle.replay_defs.specs.Reports.{refusal_word as refusal_word_of};
-ghost use Rattle.ending_rules.specs.Perceiving.{fault as fault_of};
+ghost use Rattle.happenings.specs.Events.{fault as fault_of};
 ghost use Rattle.schedule_file.specs.Views.{listed};
 ghost use Rattle.member_state.specs.Events.{note as note_of};
 ghost use Rattle.happenings.specs.Told.{handed as handed_of, seen as seen_of, happening as happening_of};
@@ -16,11 +16,10 @@ use crate::layout::place;
 use crate::short::{push_all_short, push_short};
 use crate::spans::{push_notes, push_one_span};
 use happenings::{Handed, Happening, Seen};
-use report_lines::refusal_word;
 use rp_base::{NoMemory, Pid};
 use schedule_file::Listed;
 use stmt_codec::{EventFault, EventVerdict, Note};
-use story_words::{Word, process_word, push_pieces};
+use story_words::{Word, process_word, push_pieces, refusal_word};
 
 // Beside a mark.
 fn beside(at: Point) -> Result<Point, NoMemory>

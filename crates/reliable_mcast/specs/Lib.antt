@@ -1,3 +1,4 @@
 pub mod Packed
 pub mod Archives
 pub mod Answers
+pub mod Certificates

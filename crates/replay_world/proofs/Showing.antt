@@ -5,7 +5,7 @@ use Rattle.std.specs.Prelude.{filter, find, fold, slice_get, slice_set}
 use Rattle.std.specs.List.{AllByRecursion, list_all, flat_map}
 use Rattle.std.proofs.lemmas.Bool.{eq-eqb}
 use Rattle.byte_defs.specs.Members.{has}
-use Rattle.ending_rules.specs.Perceiving.{fault as fault_of}
+use Rattle.happenings.specs.Events.{fault as fault_of}
 use Rattle.group_defs.specs.Process.{Setting, Process, start}
 use Rattle.group_defs.specs.Events as group
 use Rattle.group_defs.specs.Events.{Turn, after, run, outcome}

@@ -12,7 +12,7 @@ use Rattle.stmt_codec.specs.declared.events.EventVerdict.{EventVerdict}
 use Rattle.stmt_codec.specs.declared.events.EventVerdict.TheVariants as verdicts
 use Rattle.stmt_codec.specs.declared.events.Outcome.{Outcome}
 use Rattle.happenings.specs.Events.{event, IsOutcome}
-use Rattle.ending_rules.specs.Perceiving.{fault as fault_of}
+use Rattle.happenings.specs.Events.{fault as fault_of}
 use Rattle.replay_cast.specs.Players.{ArePlayers}
 use Rattle.replay_cast.specs.declared.player.Player.{Player}
 use Rattle.replay_world.specs.declared.world.Refused.{Refused}

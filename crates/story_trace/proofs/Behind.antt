@@ -4,7 +4,7 @@ use Rattle.std.specs.List.{flat_map, enumerate_from, zip}
 use Rattle.std.proofs.lemmas.List.{append-nil, take_more, take_all, get_or-map, length-map, length-take-le}
 use Rattle.std.proofs.lemmas.Slice.Zip.{get_or-zip, length-zip}
 use Rattle.std.proofs.lemmas.Grind.{flat_map-append}
-use Rattle.report_lines.proofs.Pieces.{behind}
+use Rattle.story_words.proofs.Pieces.{behind}
 
 -- one element, as a list
 pub single : {X : Type 0} (f : X → List ℕ) (x : X) (before new : List ℕ) → new ≡ before ++ f x → new ≡ before ++ flat_map f (x ∷ [])

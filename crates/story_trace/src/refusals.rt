@@ -6,16 +6,15 @@ ghost use Rattle.replay_defs.specs.Reports.{refusal_word as plain_refusal_word};
 ghost use Rattle.trace_defs.specs.Happenings.{handed_words};
 ghost use Rattle.happenings.specs.Told.{handed as handed_view};
 ghost use Rattle.view_table.specs.Views as table;
-ghost use Rattle.ending_rules.specs.Perceiving as asked;
+ghost use Rattle.happenings.specs.Events as asked;
 ghost use Rattle.trace_defs.specs.Outcomes as plain;
 
 use crate::handed::push_handed;
 use happenings::Handed;
 use message_defs::FrameFault;
-use report_lines::refusal_word;
 use rp_base::{NoMemory, Pid, UpdateFault};
 use stmt_codec::EventFault;
-use story_words::{Word, begin_said, end_line, push_more};
+use story_words::{Word, begin_said, end_line, push_more, refusal_word};
 
 fn frame_reason(fault: FrameFault) -> &'static [u8]
     ensures { result.now ≡ plain.frame_reason fault }

@@ -13,6 +13,7 @@ pub use lines::{
     said_with_members, said_with_payload, said_with_processes, said_with_update,
 };
 pub use payloads::{push_payload, push_quoted};
+pub use report_lines::refusal_word;
 pub use words::{
     Word, end_line, process_word, push_line, push_more, push_next, push_pieces, push_word,
 };

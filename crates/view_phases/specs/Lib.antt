@@ -1,3 +1,4 @@
 pub mod Phases
 pub mod Settled
 pub mod Marks
+pub mod Delivering

@@ -6,7 +6,7 @@ mod deciding;
 mod phases;
 mod settling;
 
-pub use multicast_rules::{Own, Pool, counts_of};
+pub use multicast_rules::{Own, Pool, counts_of, deliverable};
 pub use phases::{
     ClosingView, DecidedView, Decision, HaltedView, Observing, OpenView, Phase, PhaseMark,
     PhaseWord,

@@ -6,7 +6,7 @@ use Rattle.group_defs.specs.Process.{Pool, delivered_from}
 use Rattle.group_defs.specs.Certified.{certificate}
 use Rattle.rp_base.specs.Views.{value}
 use Rattle.own_place.specs.declared.own.Own.{Own}
-use Rattle.sent_claims.specs.Certificates.{all_signed}
+use Rattle.member_state.specs.Parts.{all_signed}
 use Rattle.accounts.specs.Views.{account}
 use Rattle.member_laws.specs.Telling.{Begins}
 use Rattle.view_phases.specs.Phases.{decision_of}

@@ -3,7 +3,7 @@ use Rattle.std.proofs.Math.Logic.{∥∥₁_elim}
 use Rattle.std.proofs.Props.{props}
 use Rattle.stmt_codec.specs.Left.{claims_left}
 use Rattle.rule_laws.specs.Heard.{IsPool}
-use Rattle.claim_pool.specs.Settings.{as_setting}
+use Rattle.claim_hearing.specs.Settings.{as_setting}
 use Rattle.member_taking.proofs.States.{hears, newly-heard}
 use Rattle.member_taking.proofs.taking_in.hear.Goals as goal
 

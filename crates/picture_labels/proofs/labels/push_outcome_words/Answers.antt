@@ -5,7 +5,7 @@ use Rattle.stmt_codec.specs.declared.own.OwnClaim.{OwnClaim}
 use Rattle.stmt_codec.specs.declared.events.Note.{Note}
 use Rattle.stmt_codec.specs.Views.{signed}
 use Rattle.picture_defs.specs.Labels.{note_span, short_of}
-use Rattle.report_lines.proofs.Pieces.{behind}
+use Rattle.story_words.proofs.Pieces.{behind}
 use Rattle.picture_labels.proofs.labels.push_outcome_words.Goals as goal
 
 pub returns : goal.returns

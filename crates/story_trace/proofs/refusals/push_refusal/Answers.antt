@@ -2,7 +2,7 @@ use Rattle.std.proofs.Common.{◌∷◌, ◌++◌, [], List, ℕ, codes}
 use Rattle.std.specs.Fmt.{decimal}
 use Rattle.text_defs.specs.Words.{line_text}
 use Rattle.replay_defs.specs.Reports.{refusal_word}
-use Rattle.ending_rules.specs.Perceiving.{fault}
+use Rattle.happenings.specs.Events.{fault}
 use Rattle.trace_defs.specs.Happenings.{handed_words}
 use Rattle.trace_defs.specs.Outcomes.{refusal_reason, refusal_line}
 use Rattle.happenings.specs.Told.{handed}
