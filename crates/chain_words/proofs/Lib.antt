@@ -1,4 +1,3 @@
-pub mod Fronts
 pub mod Parts
 pub mod Steps
 pub mod Taken

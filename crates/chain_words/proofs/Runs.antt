@@ -5,7 +5,6 @@ use Rattle.std.proofs.KnownBytes.{Appends-nil, Consumes-trans}
 use Rattle.std.proofs.lemmas.List.{append-nil}
 use Rattle.kit_defs.specs.Kits.{Kit}
 use Rattle.kit_defs.specs.KitReading as kits
-use Rattle.kit_defs.specs.KitReading.{nothing}
 use Rattle.input_defs.specs.Fronts.{Front, front_of}
 use Rattle.kit_reading.specs.Fronts.{Begins, HasFault}
 use Rattle.group_defs.specs.Views.{View}
@@ -13,7 +12,7 @@ use Rattle.rp_base.specs.Streams.{AppendsPrefix}
 use Rattle.chain_text_defs.specs.Chains.{Answer, behind, chain_from, chain_of, done, kit_words, setting_of, stopped, view_line}
 use Rattle.chain_words.specs.Places.{Ends, Place, ReadsMore, Settles, Shows, answer_at, place}
 use Rattle.chain_words.specs.Running.{Answered, Faulty, SomeShown, ShownInPart, Stands}
-use Rattle.chain_words.proofs.Fronts.{front_more}
+use Rattle.front_laws.proofs.Fronts.{fronts_go_on}
 
 -- the same lines before it
 behind_both : (a b : List ℕ) (x : Answer) → behind a (behind b x) ≡ behind (a ++ b) x
@@ -41,7 +40,7 @@ begun before now kit go left b = record {
   read = b.read.0;
   taken = b.read.1;
   is = λ rest.
-      let more = front_more b.bytes rest [] 1 nothing (record { kit = kit; line = go + 1; rest = left }) b.is in
+      let more = fronts_go_on b.bytes rest (record { kit = kit; line = go + 1; rest = left }) b.is in
       ap (λ (t : List ℕ). chain_of (t ++ rest)) (sym b.read.2) ∙ opened (b.bytes ++ rest) ∙ ap answer_by more;
 }
 

@@ -5,12 +5,9 @@ use Rattle.byte_defs.specs.Equality.{same_bytes}
 use Rattle.byte_defs.specs.Fields.{◌>>=◌}
 use Rattle.text_defs.specs.Words.{line_feed}
 use Rattle.kit_defs.specs.Kits.{Kit}
-use Rattle.kit_defs.specs.KitReading.{Draft, KitFault, finish, take_line}
+use Rattle.kit_defs.specs.KitReading.{Draft, KitFault, finish, nothing, take_line}
 use Rattle.input_defs.specs.Fronts.{Front, ends_at, front_at, go}
-
--- with more bytes behind it
-abbrev with_more : List ℕ → Front → Front
-with_more more f = record f { rest = f.rest ++ more }
+use Rattle.front_laws.specs.Fronts.{with_more, FrontsGoOn}
 
 ok_is : (x y : Front) → (let r : Result Front KitFault = Ok x in r) ≡ Ok y → x ≡ y
 ok_is x y e = cc
@@ -25,8 +22,8 @@ ended_more n d rest more f e = of (finish n d) e
         ap (λ (g : Front). let r : Result Front KitFault = Ok (with_more more g) in r) same
     of (Err fault) e = absurd cc
 
--- the same kit is at the front
-pub front_more : (bytes more line : List ℕ) (n : ℕ) (d : Draft) (f : Front) → front_at line n d bytes ≡ Ok f
+-- whatever stands before
+front_more : (bytes more line : List ℕ) (n : ℕ) (d : Draft) (f : Front) → front_at line n d bytes ≡ Ok f
     → front_at line n d (bytes ++ more) ≡ Ok (with_more more f)
 unfolding front_at
 front_more [] more line n d f e = absurd cc
@@ -52,3 +49,6 @@ front_more (c ∷ bytes) more line n d f e = of (λ l m t h. front_more bytes mo
         else front_at (line ++ c ∷ []) n d (bytes ++ more)) ≡ Ok (with_more more f)
     of again true e = at_feed again (same_bytes line go) e
     of again false e = again (line ++ c ∷ []) n d e
+
+pub fronts_go_on : FrontsGoOn
+fronts_go_on bytes more f e = front_more bytes more [] 1 nothing f e

@@ -1,0 +1,3 @@
+pub mod Kits
+pub mod Sources
+pub mod Reads
