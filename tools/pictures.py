@@ -215,7 +215,7 @@ AREAS = {
     "what is heard": (
         20, 777, 2, "view_table claim_index claim_lists own_place slot_quorums placed_batches pool_values claim_pool pool_questions member_laws claim_hearing"
     ),
-    "laws and rows": (20, 1013, 2, "pool_laws rule_laws safety_laws event_laws group_rows schedule_laws schedule_rows"),
+    "laws and rows": (20, 1013, 2, "pool_laws rule_laws safety_laws event_laws group_rows front_laws length_laws schedule_laws schedule_rows"),
     "definitions": (20, 1195, 6, "byte_defs signature_defs message_defs text_defs group_defs kit_defs replay_defs input_defs"),
     "a run shown": (348, 20, 2, "picture_defs story_words story_telling story_trace picture_labels story_picture story_cli story"),
     "beside other implementations": (
@@ -236,13 +236,13 @@ AREAS = {
     "links and journals": (676, 777, 2, "link_defs auth_link journal_defs journal_disk journal_entries journal_rp"),
     "a store": (1040, 20, 2, "store_defs store_laws store_rows store_records kv_service vote_client state_transfer"),
     "chains of views, and guards": (1040, 190, 2, "chain_defs chain_text_defs chain_laws chain_rows chain_check chain_words guard_defs guard_laws guard_rows"),
-    "convictions and audits": (1040, 384, 2, "conviction_defs conviction_laws conviction audit_defs audit_laws evidence_laws findings_laws claim_firsts journal_steps findings_json audit_rows"),
-    "nodes": (1040, 604, 2, "image_defs image_laws node_defs node_laws node_text node_keys node_hosts node_traces opening_laws letting_laws letter_laws node_turns sealing_laws node_rows"),
+    "convictions and audits": (1040, 384, 2, "conviction_defs conviction_laws conviction audit_defs audit_laws evidence_laws findings_laws claim_firsts audit_claims audit_turns journal_steps findings_json audit_rows"),
+    "nodes": (1040, 631, 2, "image_defs image_laws snapshot_defs snapshot_laws snapshot_rows snapshot_rp node_defs node_laws node_text node_keys node_hosts node_traces opening_laws script_laws letting_laws letter_laws node_input node_opening node_turns sealing_laws node_taking node_rows"),
 }
 
 # The lines from each area to those that it uses, without those that others imply.
 LINES = {
-    ("the program", "a replay"): [(172, 85), (172, 121)],
+    ("the program", "chains of views, and guards"): [(200, 20), (200, 13), (1022, 13), (1022, 230), (1040, 230)],
     ("a replay", "a member"): [(172, 321), (172, 405)],
     ("a replay", "schedules and stories"): [(250, 321), (250, 394), (430, 394), (430, 413)],
     ("a member", "the rules"): [(172, 606), (172, 622)],
@@ -266,11 +266,11 @@ LINES = {
     ("the outside", "definitions"): [(500, 1132), (500, 1195)],
     ("a store", "what is heard"): [(1040, 120), (1032, 120), (1032, 940), (324, 940)],
     ("convictions and audits", "kits and words"): [(1040, 440), (980, 440)],
-    ("nodes", "a replay"): [(1040, 608), (662, 608), (662, 706), (330, 706), (330, 290), (324, 290)],
+    ("nodes", "a replay"): [(1040, 645), (1026, 645), (1026, 608), (662, 608), (662, 706), (330, 706), (330, 290), (324, 290)],
     ("a store", "signatures"): [(1040, 100), (1004, 100), (1004, 690), (980, 690)],
     ("a store", "signatures"): [(1040, 100), (1004, 100), (1004, 690), (980, 690)],
-    ("nodes", "convictions and audits"): [(1192, 604), (1192, 584)],
-    ("chains of views, and guards", "nodes"): [(1344, 260), (1354, 260), (1354, 660), (1344, 660)],
+    ("nodes", "convictions and audits"): [(1192, 631), (1192, 611)],
+    ("chains of views, and guards", "nodes"): [(1344, 260), (1354, 260), (1354, 690), (1344, 690)],
     ("convictions and audits", "a member"): [(1040, 404), (1012, 404), (1012, 590), (658, 590), (658, 710), (334, 710), (334, 560), (324, 560)],
 }
 
