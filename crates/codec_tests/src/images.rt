@@ -41,8 +41,10 @@ fn an_image_of_either_version_is_read_and_written(rt: HostRuntime) -> Result<(),
         (Version::One, FIRST.as_slice()),
         (Version::Two, SECOND.as_slice()),
     ] {
-        let read = read_snapshot(rt.alloc(), version, bytes);
-        let image = read.ok().expect(&rt, "an image");
+        let Ok(image) = read_snapshot(rt.alloc(), version, bytes) else {
+            assert!(rt; false, "no image");
+            return Ok(());
+        };
         assert!(rt; has_its_lists(&image));
         assert!(rt; image.me.get() == 3 && image.halted);
         let mut out = Vec::new(rt.alloc());
@@ -56,7 +58,11 @@ fn an_image_of_either_version_is_read_and_written(rt: HostRuntime) -> Result<(),
 // Where the fault stands with this byte in place of another.
 fn fault_with(rt: &HostRuntime, at: usize, byte: u8) -> Option<SnapshotFault> {
     let mut bytes = SECOND;
-    bytes[at] = byte;
+    for (place, it) in bytes.iter_mut().enumerate() {
+        if place == at {
+            *it = byte;
+        }
+    }
     read_snapshot(rt.alloc(), Version::Two, &bytes).err()
 }
 
