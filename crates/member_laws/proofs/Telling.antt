@@ -14,8 +14,7 @@ use Rattle.group_defs.specs.Process.{Delivered, Left, delivered_from, places_in}
 use Rattle.group_defs.specs.Certified.{claim_on, named, messages, ordered, rank_said, readied, higher, certificate}
 use Rattle.group_defs.specs.Hearing.{Verdict, Old, Early, Stranger, OutOfWindow, Known, Unsigned, Conflict, Heard, verdict, with_verdict}
 use Rattle.rule_laws.specs.Placing.{counts_in}
-use Rattle.stmt_codec.specs.Views.{report}
-use Rattle.claim_index.specs.Keys.{slot_key, same_slot_key}
+use Rattle.own_place.specs.Words.{report, slot_key, same_slot_key}
 use Rattle.own_place.specs.declared.own.Own.{Own}
 use Rattle.own_place.specs.Owns.{Tells}
 use Rattle.own_place.specs.Signed.{has_slot}

@@ -5,6 +5,8 @@
 ghost use Rattle.member_laws.specs.Telling.{HearingTells, DeliveredIsCounted, DeliveringTells, InstallingTells};
 ghost use Rattle.member_laws.specs.Lawful.{StartIsLawful, HearingIsLawful, SigningIsLawful, AcceptingIsLawful, InstallingIsLawful, DueIsInRange};
 
+pub use own_place::{Own, SignedSlots};
+
 /// A process that starts in a view is lawful.
 pub fn start_is_lawful()
     ensures { StartIsLawful }

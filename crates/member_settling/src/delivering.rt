@@ -15,7 +15,7 @@ ghost use Rattle.member_settling.specs.Steps.{ComesNext, Delivers};
 use claim_pool::Pool;
 use member_state::{Before, Delivered, ProcessState};
 use own_moves::deliver_batch;
-use pool_questions::certified_payload;
+use rank_rules::certified_payload;
 use rp_base::{NoMemory, Pid};
 use std::alloc::Global;
 use stmt_codec::{Batch, Note, Payload};

@@ -10,11 +10,10 @@ ghost use Rattle.member_state.specs.States.{ArePairs, IsStateOf, StartsWith, kep
 
 use crate::left::LeftView;
 use accounts::Account;
-use claim_lists::{ClaimList, Conflicts};
 use ending_rules::Perceived;
 use own_moves::no_counts;
 use own_place::SignedSlots;
-use reliable_mcast::Archive;
+use reliable_mcast::{Archive, ClaimList, Conflicts};
 use rp_base::{NoMemory, Pid, PidSet, Roster};
 use std::alloc::Global;
 use std::mem;

@@ -18,3 +18,4 @@ pub use keeps::keep_due;
 pub use orders::order_due;
 pub use places::place_due;
 pub use pool_questions::{Certificate, Commit, Own, Pool};
+pub use stmt_codec::Statement;

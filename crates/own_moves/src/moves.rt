@@ -5,7 +5,7 @@ ghost use Rattle.rule_laws.specs.Placing.{counts_in};
 ghost use Rattle.member_laws.specs.Telling.{Begins, OnePlaceMore};
 
 use arrayvec::ArrayVec;
-use own_place::{Own, SignedSlots};
+use member_laws::{Own, SignedSlots};
 use std::alloc::Global;
 use std::mem;
 use stmt_codec::Batch;

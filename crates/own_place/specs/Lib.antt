@@ -3,3 +3,4 @@ pub mod Rows
 pub mod Owns
 pub mod Noting
 pub mod Marks
+pub mod Words

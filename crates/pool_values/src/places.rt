@@ -6,7 +6,7 @@ ghost use Rattle.message_defs.specs.Updates as updates;
 ghost use Rattle.message_defs.specs.Statements as plain;
 ghost use Rattle.group_defs.specs.Process.{Pool};
 ghost use Rattle.group_defs.specs.Certified as defs;
-ghost use Rattle.rule_laws.specs.Placing.{counts_in};
+ghost use Rattle.placed_batches.specs.Counting.{counts_in};
 ghost use Rattle.rp_base.specs.Views.{update as update_of};
 ghost use Rattle.stmt_codec.specs.Views.{stmt, claim as claim_of};
 ghost use Rattle.claim_index.specs.Kept.{claim_bytes, empty_pool, with_heard};

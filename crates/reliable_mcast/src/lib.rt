@@ -8,4 +8,5 @@ mod sheet;
 
 pub use archive::{Archive, Displaced};
 pub use frames::Frames;
+pub use sent_claims::{ClaimList, Conflicts};
 pub use sheet::FrameKind;

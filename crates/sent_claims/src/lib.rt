@@ -9,6 +9,6 @@ mod order;
 
 pub use beside::{put_base, put_orders, put_suggests};
 pub use certificates::{put_certificate, put_places};
-pub use claim_lists::ClaimList;
+pub use claim_lists::{ClaimList, Conflicts};
 pub use list::{Lent, SentClaims};
 pub use pool_questions::{Commit, Pool};

@@ -10,9 +10,8 @@ ghost use Rattle.group_defs.specs.Settle.{phase_of, decided_at, decided_by, deci
 ghost use Rattle.view_phases.specs.Phases.{decision_of, decides, decided, IsDecided, IsClosing};
 
 use crate::phases::{ClosingView, DecidedView, Decision, Observing, OpenView};
-use multicast_rules::{Certificate, Commit};
+use multicast_rules::{Certificate, Commit, Statement};
 use rp_base::PidSet;
-use stmt_codec::Statement;
 use view_table::{View, is_possible};
 
 // What the certified Ready decides: its rank and value, where the value's update is possible.

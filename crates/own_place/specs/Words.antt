@@ -1,0 +1,3 @@
+-- The words in which an own place is told: those of the crates below, passed on.
+pub use Rattle.stmt_codec.specs.Views.{report}
+pub use Rattle.claim_index.specs.Keys.{slot_key, same_slot_key}
