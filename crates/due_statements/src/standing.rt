@@ -11,9 +11,7 @@ ghost use Rattle.due_statements.specs.Standings.{Stands, IsSeated, kind_of};
 
 use crate::kind::Kind;
 use multicast_rules::{Own, Pool, echo_due, init_due, keep_due, order_due, place_due};
-use rank_rules::{
-    Perceived, end_due, last_due, next_ack, next_suggest, notify_due, ready_due,
-};
+use rank_rules::{Perceived, end_due, last_due, next_ack, next_suggest, notify_due, ready_due};
 use stmt_codec::{Payload, Slot, Statement};
 
 /// What the rules look at: what a process has heard, its own place in its view, what was asked for, and what it accepted.
