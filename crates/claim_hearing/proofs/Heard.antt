@@ -12,8 +12,8 @@ use Rattle.rule_laws.specs.Heard.{IsPool}
 use Rattle.pool_laws.proofs.Members.{All-mem, each-snoc, find-is, mem-All}
 use Rattle.group_defs.specs.Laws.{IsOfView}
 use Rattle.safety_laws.proofs.OfTheView.{verdict-of-view}
-use Rattle.own_place.specs.declared.own.Own.{Own}
-use Rattle.own_place.specs.Owns.{HasDelivered}
+use Rattle.claim_pool.specs.Kept.{Own}
+use Rattle.claim_pool.specs.Kept.{HasDelivered}
 use Rattle.claim_pool.specs.Settings.{as_setting}
 use Rattle.claim_pool.specs.Verdicts.{after, verdict as verdict_of}
 use Rattle.claim_pool.specs.declared.verdict.Verdict as code

@@ -7,9 +7,9 @@ ghost use Rattle.group_defs.specs.Certified.{number_of_members, claim_on};
 ghost use Rattle.group_defs.specs.Hearing as defs;
 ghost use Rattle.stmt_codec.specs.Views.{stmt, claim as claim_of};
 ghost use Rattle.stmt_codec.specs.Left.{claims_left};
-ghost use Rattle.claim_index.specs.Kept.{claim_bytes};
+ghost use Rattle.claim_pool.specs.Kept.{claim_bytes};
 ghost use Rattle.rule_laws.specs.Heard.{IsPool};
-ghost use Rattle.own_place.specs.Owns.{HasDelivered};
+ghost use Rattle.claim_pool.specs.Kept.{HasDelivered};
 ghost use Rattle.claim_hearing.specs.Hearing.{Shares, IsHeard};
 
 use claim_lists::Conflicts;

@@ -1,3 +1,4 @@
 pub mod Judged
 pub mod Few
 pub mod Packed
+pub mod Members

@@ -2,3 +2,4 @@ pub mod Settings
 pub mod Verdicts
 pub mod Certificates
 pub mod Updates
+pub mod Kept

@@ -4,8 +4,7 @@ use Rattle.group_defs.specs.Process as defs
 use Rattle.group_defs.specs.Process.{Setting, Process}
 use Rattle.group_defs.specs.Certified.{number_of_members}
 use Rattle.rule_laws.specs.Heard.{IsPool}
-use Rattle.own_place.specs.Owns.{Tells}
-use Rattle.rank_rules.specs.Perceived.{TellsPerceived}
+use Rattle.rank_rules.specs.Perceived.{Tells, TellsPerceived}
 use Rattle.due_statements.specs.declared.standing.Standing.{Standing}
 use Rattle.due_statements.specs.declared.kind.Kind.{Kind}
 use Rattle.due_statements.specs.declared.kind.Kind.TheVariants as kinds

@@ -10,8 +10,7 @@ use Rattle.group_defs.specs.Due.{is_perceived}
 use Rattle.group_defs.specs.Events as defs
 use Rattle.rp_base.specs.Pids.{put_once}
 use Rattle.view_table.specs.Views.{fault as update_fault}
-use Rattle.stmt_codec.specs.declared.events.EventFault.{EventFault}
-use Rattle.stmt_codec.specs.declared.events.EventFault.TheVariants.{HaltedNow, BadFrame, Outsider, TooLong, Backlog, NoKey, NoNext}
+use Rattle.pool_questions.specs.Faults.{EventFault, HaltedNow, BadFrame, Outsider, TooLong, Backlog, NoKey, NoNext}
 use Rattle.rule_laws.specs.Perceived.{update_at}
 use Rattle.own_place.specs.declared.own.Own.{Own}
 use Rattle.own_place.specs.Signed.{has_slot}

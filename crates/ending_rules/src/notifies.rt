@@ -16,9 +16,8 @@ ghost use Rattle.rule_laws.specs.Perceived.{most_updates};
 ghost use Rattle.ending_rules.specs.Perceiving.{asking, asking_fault, fault as fault_of, has_update, is_notify_open, TellsPerceived};
 
 use crate::updates::{MOST_UPDATES, update_at};
-use pool_questions::{Own, Pool};
+use pool_questions::{EventFault, Own, Pool, Slot};
 use rp_base::{PidSet, Update};
-use stmt_codec::{EventFault, Slot};
 use view_table::{View, has_key, is_possible, next};
 
 /// The updates that were asked for at a process in its current view, each once.

@@ -6,8 +6,7 @@ ghost use Rattle.member_state.specs.Events.{note};
 ghost use Rattle.member_state.specs.States.{IsStateOf};
 ghost use Rattle.member_core.specs.Outcomes.{halts, liars_from};
 
-use claim_lists::Conflicts;
-use member_state::ProcessState;
+use member_state::{Conflicts, ProcessState};
 use rp_base::NoMemory;
 use stmt_codec::Note;
 

@@ -13,8 +13,7 @@ ghost use Rattle.member_settling.specs.Told.{ArePut, ArePutLast, HasMore, HasMor
 ghost use Rattle.member_settling.specs.Steps.{ComesNext, Delivers};
 
 use claim_pool::Pool;
-use member_state::{Before, Delivered, ProcessState};
-use own_moves::deliver_batch;
+use member_state::{Before, Delivered, ProcessState, deliver_batch};
 use rank_rules::certified_payload;
 use rp_base::{NoMemory, Pid};
 use std::alloc::Global;

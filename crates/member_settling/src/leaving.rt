@@ -26,10 +26,10 @@ ghost use Rattle.member_settling.specs.Steps.{in_phase, IsLeaving, CanLeave, Lea
 ghost use Rattle.member_settling.specs.Begun.{IsLast, HasShortLast};
 
 use arrayvec::ArrayVec;
-use claim_lists::ClaimList;
 use claim_pool::{Own, Pool};
-use member_state::{Account, Before, Delivered, Displaced, LeftView, Perceived, ProcessState};
-use own_moves::begin_view;
+use member_state::{
+    Account, Before, ClaimList, Delivered, Displaced, LeftView, Perceived, ProcessState, begin_view,
+};
 use rp_base::{NoMemory, Pid, Update};
 use std::alloc::Global;
 use std::mem;

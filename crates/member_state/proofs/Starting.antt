@@ -9,7 +9,7 @@ use Rattle.group_defs.specs.Views.{View, IsView, is_member}
 use Rattle.message_defs.specs.Spelling.{IsViewNumber}
 use Rattle.group_defs.specs.Process.{Setting, Process, Left, start}
 use Rattle.group_defs.specs.Accounts.{account_of}
-use Rattle.claim_index.specs.Kept.{empty_pool}
+use Rattle.own_place.specs.Words.{empty_pool}
 use Rattle.own_place.specs.Owns.{Tells}
 use Rattle.ending_rules.specs.Perceiving.{TellsPerceived}
 use Rattle.view_phases.specs.Phases.{IsIn}

@@ -10,6 +10,7 @@ pub use accounts::{Account, Delivered};
 pub use ending_rules::Perceived;
 pub use left::LeftView;
 pub use marks::Before;
-pub use reliable_mcast::Displaced;
+pub use own_moves::{begin_view, deliver_batch};
+pub use reliable_mcast::{ClaimList, Conflicts, Displaced};
 pub use state::ProcessState;
 pub use view_phases::PhaseWord;

@@ -2,7 +2,7 @@ ghost use Rattle.std.specs.Prelude.{◌≡◌, ◌≤◌, ℕ, IfOk, None, slice
 ghost use Rattle.std.specs.Option.{option_map};
 ghost use Rattle.group_defs.specs.Process.{Setting, Process, start};
 ghost use Rattle.group_defs.specs.Accounts.{account_of};
-ghost use Rattle.claim_index.specs.Kept.{empty_pool};
+ghost use Rattle.own_place.specs.Words.{empty_pool};
 ghost use Rattle.own_place.specs.Owns.{Tells};
 ghost use Rattle.accounts.specs.Views.{account};
 ghost use Rattle.stmt_codec.specs.Views.{claim as claim_of};

@@ -16,8 +16,7 @@ use Rattle.group_defs.specs.Hearing.{hear, hear_all}
 use Rattle.group_defs.specs.Events.{EventFault, HaltedNow, Outsider, NoKey, refusal, perceives, perceived_numbers, take_in, no_next}
 use Rattle.pool_laws.proofs.Members.{All-mem, mem-All}
 use Rattle.pool_laws.proofs.Sorting.{mem-put}
-use Rattle.claim_index.specs.Kept.{Holding}
-use Rattle.claim_lists.specs.Pairs.{Pairing}
+use Rattle.claim_hearing.specs.Kept.{Holding, Pairing}
 use Rattle.claim_hearing.specs.Hearing.{IsHeard}
 use Rattle.ending_rules.specs.Perceiving.{asking, has_update, TellsPerceived}
 use Rattle.ending_rules.specs.declared.notifies.Perceived.{Perceived}

@@ -4,3 +4,4 @@ pub mod Certified
 pub mod Ordering
 pub mod Following
 pub mod Placing
+pub mod Slots

@@ -13,8 +13,7 @@ ghost use Rattle.own_place.specs.Signed.{has_slot};
 ghost use Rattle.own_place.specs.Noting as noting;
 
 use crate::own::Own;
-use claim_index::View;
-use rp_base::Value;
+use claim_index::{Value, View};
 use stmt_codec::{Batch, Statement};
 
 // Whether the statement is an End.

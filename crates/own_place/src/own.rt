@@ -3,7 +3,7 @@ ghost use Rattle.own_place.specs.Marks.{IsMarkOf, IsSamePlace};
 
 use crate::signed::SignedSlots;
 use arrayvec::ArrayVec;
-use rp_base::{Pid, PidSet, Value};
+use claim_index::{Pid, PidSet, Value};
 use std::mem;
 
 /// The process's own place in its view. Whose place it is, the record `Tells` of the specs says.

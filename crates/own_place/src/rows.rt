@@ -4,7 +4,7 @@ ghost use Rattle.message_defs.specs.Statements as plain;
 ghost use Rattle.stmt_codec.specs.Views.{stmt};
 ghost use Rattle.own_place.specs.Rows as rows;
 
-use rp_base::Pid;
+use claim_index::Pid;
 use stmt_codec::Statement;
 
 /// The slots of one kind of a view that differ in one number: those of the Inits, of the Places, of the Keeps, or of the Echoes of one

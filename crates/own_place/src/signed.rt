@@ -10,9 +10,8 @@ ghost use Rattle.own_place.specs.Signed.{has_slot};
 ghost use Rattle.own_place.specs.Rows.{slot_in};
 
 use crate::rows::{ROWS, Row, row_of, view_of};
-use claim_index::{KeyHasher, SlotKey, slot_key_at, slot_key_of};
+use claim_index::{KeyHasher, NoMemory, Pid, SlotKey, slot_key_at, slot_key_of};
 use indexmap::IndexSet;
-use rp_base::{NoMemory, Pid};
 use std::alloc::Global;
 use std::hash::BuildHasherDefault;
 use std::marker::Model;

@@ -7,7 +7,7 @@ use Rattle.message_defs.specs.Updates.{Update, Remove}
 use Rattle.message_defs.specs.Statements.{Claim}
 use Rattle.group_defs.specs.Process.{Pool}
 use Rattle.group_defs.specs.Certified.{is_notified, notified_updates, update_said, removed_rank, number_of_members}
-use Rattle.pool_laws.proofs.Members.{Mem, mem-some, none-in, filter-mem}
+use Rattle.claim_pool.proofs.Members.{Mem, mem-some, none-in, filter-mem}
 use Rattle.rule_laws.proofs.Notifying.{notified-heard}
 use Rattle.claim_pool.specs.Updates.{UpdateSet, has_update, AreNotified}
 

@@ -11,3 +11,4 @@ pub use certified::{certified_ack, certified_batch, certified_payload, certified
 pub use claim_pool::{CertKind, Certificate, Commit, Keep, Message, Own, Place, Pool};
 pub use notices::{has_notified, removed_rank};
 pub use said::{end_of, last_of, ordered_batch, suggestion};
+pub use stmt_codec::{EventFault, Slot};

@@ -7,7 +7,7 @@ ghost use Rattle.message_defs.specs.Spelling.{IsStatement};
 ghost use Rattle.message_defs.specs.Packing.{signed_of};
 ghost use Rattle.group_defs.specs.Certified.{certificate, value_at};
 ghost use Rattle.rp_base.specs.Views.{value};
-ghost use Rattle.claim_index.specs.Kept.{Holding};
+ghost use Rattle.sent_claims.specs.Kept.{Holding};
 ghost use Rattle.stmt_codec.specs.Views.{stmt, claim as claim_of};
 ghost use Rattle.sent_claims.specs.Lists.{extended};
 ghost use Rattle.sent_claims.specs.Certificates.{all_signed, IsRanged};
@@ -49,7 +49,7 @@ impl Drop for Archive {
 
 impl Model for Archive {
     ghost use Rattle.std.specs.Option.{option_map};
-    ghost use Rattle.claim_index.specs.Kept.{Holding};
+    ghost use Rattle.sent_claims.specs.Kept.{Holding};
     ghost use Rattle.reliable_mcast.specs.Archives.{Archived, AreKept};
 
     ghost Value = { Archived };
@@ -73,7 +73,7 @@ impl Model for Displaced {
     ghost use Rattle.std.specs.Prelude.{◌≡◌, Option, Some};
     ghost use Rattle.std.specs.Option.{option_map};
     ghost use Rattle.group_defs.specs.Process.{Pool};
-    ghost use Rattle.claim_index.specs.Kept.{Holding};
+    ghost use Rattle.sent_claims.specs.Kept.{Holding};
     ghost use Rattle.sent_claims.specs.Certificates.{IsRanged};
 
     ghost Value = { Option Pool };

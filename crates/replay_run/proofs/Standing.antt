@@ -6,7 +6,7 @@ use Rattle.group_defs.specs.Process.{Setting, Process}
 use Rattle.group_defs.specs.Settle.{phase_of}
 use Rattle.group_defs.specs.Accounts.{account_of}
 use Rattle.accounts.specs.Views.{account}
-use Rattle.view_phases.specs.Phases.{word}
+use Rattle.report_lines.specs.Phases.{word}
 use Rattle.sig_scheme.specs.Signers.{used}
 use Rattle.sig_scheme.specs.declared.any_signer.AnySigner.{AnySigner}
 use Rattle.replay_questions.specs.Cast.{Core, IsCore, liars_of, halted_at}

@@ -9,3 +9,6 @@ phase_name OpenView = codes "open"
 phase_name ClosingView = codes "closing"
 phase_name DecidedView = codes "decided"
 phase_name HaltedView = codes "halted"
+
+-- the phase that a word of the code is, passed on
+pub use Rattle.view_phases.specs.Phases.{word}

@@ -2,3 +2,4 @@ pub mod Lists
 pub mod Certificates
 pub mod Beside
 pub mod Entries
+pub mod Kept

@@ -12,7 +12,7 @@ use Rattle.group_defs.specs.Process.{Setting, Process}
 use Rattle.group_defs.specs.Certified.{claim_on, own_on, is_ended}
 use Rattle.group_defs.specs.Signing.{Signer, own_claim, signs}
 use Rattle.group_defs.specs.Settle.{Phase, Observing, OpenView, ClosingView, DecidedView, HaltedView, phase_of}
-use Rattle.pool_laws.proofs.Slots.{is-same_slot}
+use Rattle.multicast_rules.proofs.Slots.{is-same_slot}
 
 -- the process of an open view is a member that has neither ended nor decided it
 open-tests : (a b c d : Bool) → unwrap_or

@@ -5,7 +5,7 @@ use Rattle.group_defs.specs.Process.{Setting, Process}
 use Rattle.group_defs.specs.Hearing.{hear_all}
 use Rattle.stmt_codec.specs.Left.{claims_left}
 use Rattle.rule_laws.specs.Heard.{IsPool}
-use Rattle.own_place.specs.Owns.{HasDelivered}
+use Rattle.claim_pool.specs.Kept.{HasDelivered}
 use Rattle.claim_hearing.specs.Hearing.{Shares, IsHeard}
 use Rattle.claim_hearing.proofs.hearing.hear_all.Given as goal
 

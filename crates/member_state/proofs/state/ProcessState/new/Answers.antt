@@ -2,7 +2,7 @@ use Rattle.std.proofs.Common.{◌≡◌, ◌∙◌, ℕ, refl, sym, ap, subst}
 use Rattle.message_defs.specs.Spelling.{IsViewNumber}
 use Rattle.group_defs.specs.Views.{View, IsView}
 use Rattle.group_defs.specs.Process.{start}
-use Rattle.claim_index.specs.Kept.{empty_pool}
+use Rattle.own_place.specs.Words.{empty_pool}
 use Rattle.own_place.specs.Owns.{Tells}
 use Rattle.member_state.proofs.Starting.{starts}
 use Rattle.member_state.proofs.state.ProcessState.new.Goals as goal

@@ -8,7 +8,7 @@ use Rattle.group_defs.specs.Certified.{certificate, certificate_on, value_at}
 use Rattle.rp_base.specs.declared.updates.Value.{Value}
 use Rattle.rp_base.specs.Views.{value}
 use Rattle.pool_laws.proofs.Tests.{some-same}
-use Rattle.claim_index.specs.Kept.{Holding}
+use Rattle.sent_claims.specs.Kept.{Holding}
 use Rattle.sent_claims.specs.Lists.{extended}
 use Rattle.sent_claims.specs.Certificates.{all_signed, IsRanged}
 use Rattle.reliable_mcast.specs.Archives.{Archived}
