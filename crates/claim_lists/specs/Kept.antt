@@ -1,0 +1,2 @@
+-- What keeps a list of claims: in the words of the crate below, passed on.
+pub use Rattle.claim_index.specs.Kept.{Holding}
