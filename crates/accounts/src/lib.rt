@@ -3,8 +3,10 @@
 #![tactic(auto)]
 
 mod account;
+mod copies;
 mod mark;
 
 pub use account::Account;
+pub use copies::copy_account;
 pub use mark::AccountMark;
 pub use stmt_codec::{Delivered, Payload};

@@ -1,4 +1,5 @@
 pub mod Texts
 pub mod Keys
 pub mod Hosted
+pub mod Copying
 mod Readers

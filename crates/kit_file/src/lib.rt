@@ -4,9 +4,11 @@
 mod kit;
 mod parts;
 mod public_keys;
+mod roster;
 mod writing;
 
 pub use kit::Kit;
 pub use parts::{Host, Parts};
 pub use public_keys::public_key_of;
+pub use roster::roster_of;
 pub use writing::write_kit;

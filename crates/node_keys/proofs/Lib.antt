@@ -1,3 +1,2 @@
 pub mod Sharing
 pub mod InKits
-pub mod Copying

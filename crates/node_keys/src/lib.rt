@@ -5,13 +5,11 @@
 mod hosting;
 mod link;
 mod port;
-mod roster;
 mod signer;
 
 pub use auth_link::LinkKeys;
 pub use hosting::hosts_nobody;
-pub use kit_file::Kit;
+pub use kit_file::{Kit, roster_of};
 pub use link::link_keys;
 pub use port::port_of;
-pub use roster::roster_of;
 pub use signer::signer_of;

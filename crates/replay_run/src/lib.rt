@@ -2,7 +2,6 @@
 #![tactic(auto)]
 
 mod answers;
-mod copies;
 mod fault;
 mod pieces;
 mod replaying;

@@ -8,8 +8,7 @@ ghost use Rattle.replay_defs.specs.Worlds as plain;
 ghost use Rattle.replay_questions.specs.Cast.{Plays, ArePlayers, process_of};
 ghost use Rattle.report_lines.specs.Standings.{StandsAs};
 
-use crate::copies::copy_account;
-use accounts::Account;
+use accounts::{Account, copy_account};
 use replay_questions::Player;
 use report_lines::Standing;
 use rp_base::{NoMemory, PidSet};

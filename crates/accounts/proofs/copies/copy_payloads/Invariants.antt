@@ -1,5 +1,5 @@
 use Rattle.std.proofs.Common.{◌≡◌, take}
-use Rattle.replay_run.proofs.copies.copy_payloads.Given as goal
+use Rattle.accounts.proofs.copies.copy_payloads.Given as goal
 
 abbrev pub invariant-loop-payload : goal.invariant-loop-payload
 invariant-loop-payload l = l.copies.items ≡ take l.payload-index l.payloads

@@ -1,6 +1,6 @@
 use Rattle.std.proofs.Common.{◌≡◌, map, take}
 use Rattle.accounts.specs.Views.{delivery}
-use Rattle.replay_run.proofs.copies.copy_sequences.Given as goal
+use Rattle.accounts.proofs.copies.copy_sequences.Given as goal
 
 abbrev pub invariant-loop-delivered : goal.invariant-loop-delivered
 invariant-loop-delivered l = map (λ ds. map delivery ds.items) l.copies.items

@@ -1,9 +1,9 @@
 use Rattle.std.proofs.Common.{sym, ap, ◌∙◌}
 use Rattle.std.specs.Option.{option_copied}
 use Rattle.rp_base.specs.PidsLeft.{pids_left}
-use Rattle.node_keys.proofs.Copying.{Next, next, none_found, then_found}
-use Rattle.node_keys.proofs.roster.roster_of.Goals as goal
-use Rattle.node_keys.proofs.roster.roster_of.Goals.{In-Some}
+use Rattle.kit_file.proofs.Copying.{Next, next, none_found, then_found}
+use Rattle.kit_file.proofs.roster.roster_of.Goals as goal
+use Rattle.kit_file.proofs.roster.roster_of.Goals.{In-Some}
 
 at_next : (c : In-Some) → Next c.roster-listed.result.now c.loop-process.roster c.in-Some.process (pids_left c.next.new.self)
 at_next c = next c.roster-listed.result.now c.loop-process.roster c.in-Some.process (pids_left c.next.new.self)

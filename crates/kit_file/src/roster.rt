@@ -1,7 +1,7 @@
 //! The public keys of a group.
 ghost use Rattle.std.specs.Prelude.{◌≡◌, IfOk};
 
-use kit_file::Kit;
+use crate::kit::Kit;
 use rp_base::{NoMemory, Roster};
 use std::alloc::Global;
 

@@ -1,5 +1,5 @@
 use Rattle.std.proofs.Common.{◌≡◌, take}
-use Rattle.replay_run.proofs.copies.copy_views.Given as goal
+use Rattle.accounts.proofs.copies.copy_views.Given as goal
 
 abbrev pub invariant-loop-view : goal.invariant-loop-view
 invariant-loop-view l = l.copies.items ≡ take l.view-index l.views

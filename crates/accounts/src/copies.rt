@@ -2,9 +2,10 @@
 ghost use Rattle.std.specs.Prelude.{◌≡◌, map, IfOk};
 ghost use Rattle.accounts.specs.Views.{account, delivery};
 
-use accounts::{Account, Delivered, Payload};
+use crate::account::Account;
 use rp_base::NoMemory;
 use std::alloc::Global;
+use stmt_codec::{Delivered, Payload};
 use view_table::View;
 
 fn copy_payload(alloc: Global, payload: &Payload) -> Result<Payload, NoMemory>
@@ -67,7 +68,7 @@ fn copy_views(alloc: Global, views: &[View]) -> Result<Vec<View>, NoMemory>
 }
 
 /// A copy of what a process tells of itself.
-pub(crate) fn copy_account(alloc: Global, told: &Account) -> Result<Account, NoMemory>
+pub fn copy_account(alloc: Global, told: &Account) -> Result<Account, NoMemory>
     ensures { IfOk result (λ copy. account copy ≡ account told.now) }
 {
     Ok(Account {
