@@ -2,6 +2,7 @@ pub mod Begun
 pub mod Each
 pub mod Finished
 pub mod Held
+pub mod Laws
 pub mod Lines
 pub mod Moments
 pub mod Presented

@@ -11,6 +11,9 @@ mod reading;
 mod starting;
 mod stopping;
 
-pub use node_hosts::{Kit, Running};
-pub use node_text::Stop;
+pub use node_hosts::{
+    AnySigner, Event, EventFault, Host, Hosted, Hosts, Kit, LinkKeys, Running, Taken,
+};
+pub use node_text::{LinkFault, Stop, push_drop, push_fault, push_recv, push_refused};
 pub use opening::open;
+pub use stopping::stop_at;

@@ -7,7 +7,7 @@ use journal_rp::JournalFault;
 use node_text::Stop;
 
 /// How a node stops where a call of its journal failed so.
-pub(crate) fn stop_at(fault: JournalFault) -> Stop
+pub fn stop_at(fault: JournalFault) -> Stop
     ensures { stop_of result ≡ stop_of_fault fault }
 {
     match fault {

@@ -5,9 +5,9 @@ use Rattle.node_defs.specs.Nodes.{Leaving}
 use Rattle.node_traces.specs.Outside.{LinkSeen, SinkSeen}
 use Rattle.letting_laws.specs.Letting.{edge, HasBegun}
 use Rattle.letting_laws.proofs.Joined.{begun-with}
-use Rattle.node_turns.specs.Letters.{LetsTurnOut}
-use Rattle.node_text.specs.declared.stops.Stop.{Stop as Why}
-use Rattle.node_text.specs.declared.stops.Stop.TheVariants as whys
+use Rattle.sealing_laws.specs.Letters.{LetsTurnOut}
+use Rattle.node_opening.specs.Stops.{Stop as Why}
+use Rattle.node_opening.specs.Stops as whys
 use Rattle.node_taking.specs.Taking.{HasDiskCause}
 use Rattle.node_taking.specs.Telling.{Says, TellsTurn}
 

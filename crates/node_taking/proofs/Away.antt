@@ -6,7 +6,7 @@ use Rattle.std.proofs.Math.Logic.{∥∥₁_elim}
 use Rattle.std.proofs.Props.{props}
 use Rattle.std.proofs.lemmas.Grind.{merely}
 use Rattle.byte_defs.specs.Members.{has}
-use Rattle.message_defs.specs.Spelling.{IsClaim}
+use Rattle.sealing_laws.specs.Letters.{IsClaim, IsFromOther, IsLast, IsSealable, letters_in}
 use Rattle.kit_defs.specs.Kits.{IsKit, Kit}
 use Rattle.group_defs.specs.Process.{Process}
 use Rattle.group_defs.specs.Events.{after}
@@ -18,22 +18,9 @@ use Rattle.journal_rp.specs.declared.turn.Unsynced.{Unsynced}
 use Rattle.journal_rp.specs.Stages.{version_of}
 use Rattle.journal_rp.specs.Turns.{outcome_of, process_of, staged_of}
 use Rattle.auth_link.specs.Keys.{known}
-use Rattle.sig_scheme.specs.declared.any_signer.AnySigner.{AnySigner}
-use Rattle.sig_scheme.specs.Signers.{used}
-use Rattle.node_hosts.specs.Cores.{Hosted}
-use Rattle.node_hosts.specs.Cores.{IsCore}
-use Rattle.node_hosts.specs.Cores.{IsReal}
-use Rattle.letter_laws.specs.Letters.{IsFromOther}
+use Rattle.node_opening.specs.Hosts.{AnySigner, used, Hosted, IsCore, IsReal, Running, Host, Hosts, AreHosts, numbers_of, IsHost, IsHosted, IsJournalOf, IsNode, cast_in}
 use Rattle.node_defs.specs.Casts.{Cast, entries_of, entry_for, handed, live}
 use Rattle.node_defs.specs.Nodes.{Node, Task, with_turn}
-use Rattle.node_hosts.specs.declared.running.Running.{Running}
-use Rattle.node_hosts.specs.declared.host.Host.{Host}
-use Rattle.node_hosts.specs.declared.hosts.Hosts.{Hosts}
-use Rattle.node_hosts.specs.Hosts.{AreHosts, numbers_of}
-use Rattle.node_hosts.specs.Places.{IsHost, IsHosted}
-use Rattle.node_hosts.specs.Nodes.{IsJournalOf, IsNode, cast_in}
-use Rattle.node_turns.specs.Kept.{IsLast}
-use Rattle.node_turns.specs.Letters.{IsSealable, letters_in}
 use Rattle.sealing_laws.proofs.Sealed.{turns_can_be_sealed}
 use Rattle.node_taking.specs.declared.stepping.Away.{Away}
 use Rattle.node_taking.specs.Turns.{IsAway, IsTurnOf}

@@ -8,9 +8,8 @@ use Rattle.node_traces.specs.Outside.{LinkSeen, SinkSeen, SinkWrote, SourceSeen}
 use Rattle.node_traces.specs.Goes.{Outside, Goes}
 use Rattle.node_traces.proofs.Going.{parts_go_on}
 use Rattle.node_traces.proofs.Quiet.{no-memory, runs-out}
-use Rattle.node_text.specs.Views.{stop as stop_of}
-use Rattle.node_text.specs.declared.stops.Stop.{Stop as Why}
-use Rattle.node_text.specs.declared.stops.Stop.TheVariants as whys
+use Rattle.node_opening.specs.Stops.{stop as stop_of, Stop as Why}
+use Rattle.node_opening.specs.Stops as whys
 use Rattle.node_taking.specs.Taking.{outside}
 use Rattle.node_taking.specs.Keeping.{at}
 use Rattle.node_taking.specs.Telling.{Says}

@@ -15,7 +15,7 @@ use Rattle.journal_rp.specs.declared.fault.JournalFault.{JournalFault}
 use Rattle.journal_rp.specs.declared.fault.JournalFault.TheVariants as faults
 use Rattle.journal_rp.specs.Stages.{gate_of, len_of}
 use Rattle.journal_rp.specs.Answers.{HasCauses, IfFull, IsFull, of_append}
-use Rattle.node_hosts.proofs.Cores.{verdict-is}
+use Rattle.node_opening.proofs.Laws.{verdict-is}
 use Rattle.node_defs.specs.Casts.{Cast, entry_for, live, outcome_of}
 use Rattle.node_defs.specs.Lines as lines
 use Rattle.node_defs.specs.Lines.{DiskFailed}
@@ -26,12 +26,11 @@ use Rattle.node_traces.specs.Stops.{LeftBy}
 use Rattle.node_traces.specs.Goes.{Outside}
 use Rattle.node_traces.specs.Went.{Went}
 use Rattle.node_traces.proofs.Went.{went_on}
-use Rattle.node_hosts.specs.Nodes.{IsAt, IsJournalOf}
-use Rattle.node_text.specs.Views.{stop as stop_of}
-use Rattle.node_text.specs.declared.stops.Stop.{Stop}
+use Rattle.node_opening.specs.Hosts.{IsAt, IsJournalOf}
+use Rattle.node_opening.specs.Causes.{stop_of_fault}
 use Rattle.node_taking.specs.Taking.{StopsSo}
 use Rattle.node_taking.specs.Turns.{IsTurnOf}
-use Rattle.node_taking.specs.Keeping.{at, grown, letting, Keeps, stop_for}
+use Rattle.node_taking.specs.Keeping.{at, grown, letting, Keeps}
 use Rattle.node_taking.proofs.Machine.{answers, append-failed, appended-so, appends-does, at-so, full-so, steps-does, taken-so}
 use Rattle.node_taking.proofs.Still.{if-told, left-at-first, still, stops-after, stops-still, told}
 
@@ -181,7 +180,7 @@ module _ {D : Type 0} (seen : D → Option (List ℕ)) (may_leave : D → List �
   stopped-by : (fault : JournalFault) (before now : ℕ) → HasCauses of_append before now (let r : Result (Unit {0}) JournalFault = Err fault in r)
       → IfFull (let r : Result (Unit {0}) JournalFault = Err fault in r) (λ whole size. (whole ≡ gate_of journal + 1) × (size ≡ length bytes - 5) × over × (new ≡ old))
       → (over → IsFull (let r : Result (Unit {0}) JournalFault = Err fault in r)) → AnyMoment → StandsStill
-      → StopsSo seen may_leave moment left_since c snap most f (at n (Take p e ∷ ts)) x old (stop_of (stop_for fault)) x new
+      → StopsSo seen may_leave moment left_since c snap most f (at n (Take p e ∷ ts)) x old (stop_of_fault fault) x new
   stopped-by faults.DiskFault before now cause full room any stands = disk-failed room any stands
   stopped-by (faults.Full whole size) before now cause full room any stands = full-stops whole size full.0 full.1 full.2 full.3
   stopped-by faults.NotAJournal before now cause full room any stands = absurd cc
@@ -189,12 +188,12 @@ module _ {D : Type 0} (seen : D → Option (List ℕ)) (may_leave : D → List �
   stopped-by (faults.Other place) before now cause full room any stands = absurd cc
   stopped-by faults.NoMemory before now cause full room any stands = absurd cc
 
-  pub stopped : (fault : JournalFault) (before now : ℕ) (why : Stop)
+  pub stopped : (fault : JournalFault) (before now : ℕ) (why : lines.Stop)
       → HasCauses of_append before now (let r : Result (Unit {0}) JournalFault = Err fault in r)
       → IfFull (let r : Result (Unit {0}) JournalFault = Err fault in r) (λ whole size. (whole ≡ gate_of journal + 1) × (size ≡ length bytes - 5) × over × (new ≡ old))
-      → (over → IsFull (let r : Result (Unit {0}) JournalFault = Err fault in r)) → AnyMoment → StandsStill → why ≡ stop_for fault
-      → StopsSo seen may_leave moment left_since c snap most f n x old (stop_of why) x new
+      → (over → IsFull (let r : Result (Unit {0}) JournalFault = Err fault in r)) → AnyMoment → StandsStill → why ≡ stop_of_fault fault
+      → StopsSo seen may_leave moment left_since c snap most f n x old why x new
   stopped fault before now why cause full room any stands why-is =
-      subst (λ (m : Node). StopsSo seen may_leave moment left_since c snap most f m x old (stop_of why) x new) (sym (at-so n (Take p e ∷ ts) is))
-      (subst (λ (w : Stop). StopsSo seen may_leave moment left_since c snap most f (at n (Take p e ∷ ts)) x old (stop_of w) x new) (sym why-is)
+      subst (λ (m : Node). StopsSo seen may_leave moment left_since c snap most f m x old why x new) (sym (at-so n (Take p e ∷ ts) is))
+      (subst (λ (w : lines.Stop). StopsSo seen may_leave moment left_since c snap most f (at n (Take p e ∷ ts)) x old w x new) (sym why-is)
       (stopped-by fault before now cause full room any stands))

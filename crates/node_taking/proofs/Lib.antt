@@ -1,10 +1,10 @@
-mod Machine
-mod Lines
+pub mod Machine
+pub mod Lines
 pub mod Still
-mod Kept
-mod Ends
-mod Told
-mod Answered
-mod Stepped
-mod Away
-mod Whole
+pub mod Kept
+pub mod Ends
+pub mod Told
+pub mod Answered
+pub mod Stepped
+pub mod Away
+pub mod Whole

@@ -9,7 +9,7 @@ use Rattle.node_defs.specs.Lines.{DiskFailed, Full, refused_line}
 use Rattle.node_defs.specs.Nodes.{Node, Task, Take, Append, Say, Answer, Done, Failed, Change, Snapper, after_step, after_task, answered, call_of, changed, ends, goes, is_full}
 use Rattle.node_traces.specs.Goes.{Outside, Goes, Does}
 use Rattle.node_traces.proofs.Going.{one_answer_goes}
-use Rattle.node_hosts.specs.Nodes.{IsAt}
+use Rattle.node_opening.specs.Hosts.{IsAt}
 use Rattle.node_taking.specs.Keeping.{at, letting}
 
 pub at-so : (n : Node) (ts : List Task) → IsAt n ts → n ≡ at n ts

@@ -4,21 +4,10 @@ use Rattle.std.specs.Prelude.{IsTrue}
 use Rattle.byte_defs.specs.Members.{has}
 use Rattle.kit_defs.specs.Kits.{Kit}
 use Rattle.group_defs.specs.Process.{Process}
-use Rattle.journal_entries.specs.Views.{event as plain_event}
-use Rattle.stmt_codec.specs.declared.events.Event.{Event}
-use Rattle.sig_scheme.specs.declared.any_signer.AnySigner.{AnySigner}
-use Rattle.sig_scheme.specs.Signers.{used, total, signature}
-use Rattle.node_hosts.specs.Cores.{Taken}
-use Rattle.node_hosts.specs.Cores.{IsCore, event as event_of, signer_of, turn_of}
-use Rattle.node_hosts.specs.Cores.{core_of}
-use Rattle.node_hosts.specs.Cores.{TakesTurn, hosted_in}
+use Rattle.node_opening.specs.Events.{event as plain_event, Event}
+use Rattle.node_opening.specs.Hosts.{AnySigner, used, total, signature, Taken, IsCore, event as event_of, signer_of, turn_of, core_of, TakesTurn, hosted_in, Host, Hosts, AreHosts, numbers_of, IsHost, IsPlace, TakesLive}
 use Rattle.node_defs.specs.Casts.{Cast, cast_of}
-use Rattle.node_hosts.specs.declared.host.Host.{Host}
-use Rattle.node_hosts.specs.declared.hosts.Hosts.{Hosts}
-use Rattle.node_hosts.specs.Hosts.{AreHosts, numbers_of}
-use Rattle.node_hosts.specs.Places.{IsHost, IsPlace}
-use Rattle.node_hosts.specs.Turns.{TakesLive}
-use Rattle.node_hosts.proofs.Turning.{takes-live}
+use Rattle.node_opening.proofs.Laws.{takes-live}
 use Rattle.node_taking.specs.Turns.{HasHosts}
 
 -- what `take_out` says

@@ -4,20 +4,17 @@ use Rattle.group_defs.specs.Events.{EventFault, refusal}
 use Rattle.journal_defs.specs.Entries.{Event}
 use Rattle.journal_rp.specs.declared.journal.Journal.{Journal}
 use Rattle.journal_rp.specs.declared.journal.Writing.{Writing}
-use Rattle.node_hosts.proofs.Cores.{verdict-is}
+use Rattle.node_opening.proofs.Laws.{verdict-is, stays_sound}
 use Rattle.node_defs.specs.Casts.{Cast, from_start, handed, live, outcome_of}
 use Rattle.node_defs.specs.Lines.{Stop, NoMemory, refused_line}
 use Rattle.node_defs.specs.Lives.{Found, IsSound}
 use Rattle.node_defs.specs.Nodes.{Node, Task, Take, Say, Done, Snapper, leaving_of}
-use Rattle.node_laws.proofs.Soundness.{stays_sound}
 use Rattle.node_traces.specs.Outside.{LinkSeen, SinkSeen, SinkWrote, SourceSeen}
 use Rattle.node_traces.specs.Goes.{Outside, Goes}
 use Rattle.node_traces.specs.Went.{Went}
 use Rattle.node_traces.proofs.Going.{parts_go_on}
 use Rattle.node_traces.proofs.Went.{went_on}
-use Rattle.node_hosts.specs.declared.running.Running.{Running}
-use Rattle.node_hosts.specs.Hosts.{AreHosts}
-use Rattle.node_hosts.specs.Nodes.{IsJournalOf, IsNode, cast_in}
+use Rattle.node_opening.specs.Hosts.{Running, AreHosts, IsJournalOf, IsNode, cast_in}
 use Rattle.node_taking.specs.Taking.{outside, GoesOnTo, StopsSo}
 use Rattle.node_taking.specs.Keeping.{at, grown, letting, Keeps}
 use Rattle.node_taking.specs.Telling.{Tells}
@@ -27,13 +24,13 @@ use Rattle.node_taking.proofs.Ends.{Ends, forgets, says-on}
 use Rattle.node_taking.proofs.Told.{tells-on}
 
 -- a sound node stays so
-sound-on : (c : Cast) (snap : Snapper) (most : ℕ) (n m : Node) (x y : Outside) → Goes c snap most n x m y
+pub sound-on : (c : Cast) (snap : Snapper) (most : ℕ) (n m : Node) (x y : Outside) → Goes c snap most n x m y
     → IsSound c (from_start c).from n → IsSound c (from_start c).from m
 sound-on c snap most n m x y goes sound = subst (λ (k : Node). IsSound c (from_start c).from k) (sym goes.becomes)
     (stays_sound c snap (from_start c).from n goes.answers (λ p. refl) sound)
 
 -- what the running node is now, of the same cast
-is-now : (r r' : Running) (seen : Option (List ℕ)) (may_leave : List ℕ → Type 0) (m : Node) (ts : List Task) → cast_in r' ≡ cast_in r
+pub is-now : (r r' : Running) (seen : Option (List ℕ)) (may_leave : List ℕ → Type 0) (m : Node) (ts : List Task) → cast_in r' ≡ cast_in r
     → AreHosts (cast_in r) r'.kit.now m.now None r'.hosts → IsJournalOf (cast_in r) m r'.journal seen may_leave
     → IsSound (cast_in r) (from_start (cast_in r)).from (at m ts) → IsNode seen may_leave r' (at m ts) ts
 is-now r r' seen may_leave m ts same hosts journal sound = record {
@@ -48,7 +45,7 @@ module _ {D : Type 0} (seen : D → Option (List ℕ)) (may_leave : D → List �
     (left_since : D → ℕ → List ℕ → Type 0) (only_now : (d : D) (image : List ℕ) → left_since d (moment d) image → may_leave d image)
     (snap : Snapper) (most : ℕ) (f : Found) where
   -- a stop with what was kept
-  ends-still : (c : Cast) (m : Node) (x y : Outside) (d : D) (why : Stop) → m.opening ≡ [] → Rests (seen d) (may_leave d) c m
+  pub ends-still : (c : Cast) (m : Node) (x y : Outside) (d : D) (why : Stop) → m.opening ≡ [] → Rests (seen d) (may_leave d) c m
       → Ends c snap most m x why y m.kept → StopsSo seen may_leave moment left_since c snap most f m x d why y d
   ends-still c m x y d why opened rests ends =
       stops-still seen may_leave moment left_since only_now c snap most f m ends.last x y d why opened rests ends.goes ends.stops ends.keeps

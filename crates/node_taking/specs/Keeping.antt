@@ -4,8 +4,6 @@ use Rattle.journal_defs.specs.Entries.{Event}
 use Rattle.journal_defs.specs.Journals.{record_bytes}
 use Rattle.journal_rp.specs.declared.journal.Journal.{Journal}
 use Rattle.journal_rp.specs.declared.journal.Writing.{Writing}
-use Rattle.journal_rp.specs.declared.fault.JournalFault.{JournalFault}
-use Rattle.journal_rp.specs.declared.fault.JournalFault.TheVariants as faults
 use Rattle.journal_rp.specs.declared.turn.Synced.{Synced}
 use Rattle.journal_rp.specs.declared.turn.Unsynced.{Unsynced}
 use Rattle.journal_rp.specs.Turns as turns
@@ -14,9 +12,7 @@ use Rattle.node_defs.specs.Lives.{Found}
 use Rattle.node_defs.specs.Nodes.{Node, Task, Flush, Snapper, asks, leaving_of, new_entry, with_turn}
 use Rattle.node_traces.specs.Goes.{Outside}
 use Rattle.node_traces.specs.Went.{Went}
-use Rattle.node_hosts.specs.Nodes.{IsJournalOf}
-use Rattle.node_text.specs.declared.stops.Stop.{Stop}
-use Rattle.node_text.specs.declared.stops.Stop.TheVariants as stops
+use Rattle.node_opening.specs.Hosts.{IsJournalOf}
 use Rattle.node_taking.specs.declared.stepping.Away.{Away}
 
 -- the node, open and running, with nothing that waits, at these tasks
@@ -51,12 +47,3 @@ pub record IsSameTurn (was : Away Unsynced) (now : Away Synced) : Type 0 where
   pub process : turns.process_of now.turn ≡ turns.process_of was.turn
   pub keys : now.keys ≡ was.keys
   pub port : now.port ≡ was.port
-
--- the stop of a journal's fault
-abbrev pub stop_for : JournalFault → Stop
-stop_for faults.DiskFault = stops.DiskFailed
-stop_for faults.NotAJournal = stops.BadJournal 0
-stop_for (faults.Entry place) = stops.BadJournal place
-stop_for (faults.Other place) = stops.BadJournal place
-stop_for (faults.Full whole entry) = stops.Full whole entry
-stop_for faults.NoMemory = stops.NoMemory

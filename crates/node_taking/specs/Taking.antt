@@ -1,22 +1,15 @@
 -- What becomes of a running node in a part of its run, with its journal's disk before and after.
-use Rattle.std.specs.Prelude.{◌≡◌, ℕ, ◌≤◌, List, Option, Result, Err, IfSome}
-use Rattle.rp_base.specs.Causes.{Rose}
+use Rattle.std.specs.Prelude.{◌≡◌, ℕ, List, Option, IfSome}
 use Rattle.journal_defs.specs.Crashes.{Stands}
 use Rattle.node_defs.specs.Casts.{Cast}
 use Rattle.node_defs.specs.Lines.{Stop}
 use Rattle.node_defs.specs.Lives.{Found}
 use Rattle.node_defs.specs.Nodes.{Node, Task, Snapper}
-use Rattle.node_traces.specs.Outside.{LinkSeen, SinkSeen, SourceSeen}
 use Rattle.node_traces.specs.Goes.{Outside}
 use Rattle.node_traces.specs.Went.{Went, WentToStop}
-use Rattle.node_hosts.specs.declared.running.Running.{Running}
-use Rattle.node_hosts.specs.Nodes.{IsNode, cast_in}
-use Rattle.node_text.specs.declared.stops.Stop.{Stop as Why}
-use Rattle.node_text.specs.declared.stops.Stop.TheVariants.{DiskFailed}
-
--- link, output and input as they are seen at one moment
-abbrev pub outside : LinkSeen → SinkSeen → SourceSeen → Outside
-outside link sink source = record { link = link; sink = sink; source = source }
+use Rattle.node_opening.specs.Hosts.{Running, IsNode, cast_in}
+pub use Rattle.node_opening.specs.Causes.{HasDiskCause}
+pub use Rattle.node_opening.specs.Opened.{outside}
 
 -- some node of the definitions, at some tasks, is this running one
 pub record HasNode (seen : Option (List ℕ)) (may_leave : List ℕ → Type 0) (r : Running) : Type 0 where
@@ -42,8 +35,3 @@ pub record StopsSo {D : Type 0} (seen : D → Option (List ℕ)) (may_leave : D 
     (y : Outside) (new : D) : Type 0 where
   pub stop : WentToStop seen moment left_since c snap most f n x old why y new
   pub stands : IfSome (seen old) (λ file. Stands c.header stop.last.kept (may_leave new))
-
--- The stop of the disk comes only where the disk's count of faults rose, and else the count stands still.
-abbrev pub HasDiskCause : {T : Type 0} → ℕ → ℕ → Result T Why → Type 0
-HasDiskCause before now (Err DiskFailed) = (before ≤ now) × Rose before now
-HasDiskCause before now _ = now ≡ before

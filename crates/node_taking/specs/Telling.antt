@@ -4,9 +4,8 @@ use Rattle.node_defs.specs.Casts.{Cast}
 use Rattle.node_defs.specs.Nodes.{Leaving}
 use Rattle.node_traces.specs.Outside.{LinkSeen, SinkSeen, SinkWrote, SinkFailed}
 use Rattle.letting_laws.specs.Letting.{HasBegun}
-use Rattle.node_turns.specs.Letters.{LetsTurnOut}
-use Rattle.node_text.specs.declared.stops.Stop.{Stop}
-use Rattle.node_text.specs.declared.stops.Stop.TheVariants.{NoMemory, WriteFailed}
+use Rattle.sealing_laws.specs.Letters.{LetsTurnOut}
+use Rattle.node_opening.specs.Stops.{Stop, NoMemory, WriteFailed}
 
 -- the text was written; or the output failed, which took a front of it; or there was no memory for it
 abbrev pub Says : {T : Type 0} → Result T Stop → List ℕ → SinkSeen → SinkSeen → Type 0

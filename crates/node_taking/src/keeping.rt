@@ -8,32 +8,16 @@ ghost use Rattle.node_defs.specs.Casts.{Cast};
 ghost use Rattle.node_defs.specs.Lives.{Found};
 ghost use Rattle.node_defs.specs.Nodes.{Node, Snapper, Task, Take};
 ghost use Rattle.node_traces.specs.Goes.{Outside};
-ghost use Rattle.node_hosts.specs.Nodes.{IsAt, IsJournalOf};
-ghost use Rattle.node_text.specs.Views.{stop as stop_of};
+ghost use Rattle.node_opening.specs.Hosts.{IsAt, IsJournalOf};
+ghost use Rattle.node_opening.specs.Stops.{stop as stop_of};
 ghost use Rattle.node_taking.specs.Taking.{HasDiskCause, StopsSo};
 ghost use Rattle.node_taking.specs.Turns.{IsTurnOf};
-ghost use Rattle.node_taking.specs.Keeping.{IsSameTurn, Keeps, stop_for as why_for};
+ghost use Rattle.node_taking.specs.Keeping.{IsSameTurn, Keeps};
 
 use crate::stepping::Away;
-use journal_rp::{Journal, JournalFault, Synced, Unsynced, Writing};
-use node_text::Stop;
+use journal_rp::{Journal, Synced, Unsynced, Writing};
+use node_opening::{Stop, stop_at};
 use rp_base::Disk;
-
-// The stop of a journal's fault. (That a journal has no room is told with its bytes and those of the entry.)
-fn stop_for(fault: JournalFault) -> Stop
-    ensures { result ≡ why_for fault }
-{
-    match fault {
-        JournalFault::DiskFault => Stop::DiskFailed,
-        JournalFault::NotAJournal => Stop::BadJournal(0),
-        JournalFault::Entry(place) | JournalFault::Other(place) => Stop::BadJournal(place),
-        JournalFault::Full { length, entry } => Stop::Full {
-            whole: length,
-            entry,
-        },
-        JournalFault::NoMemory => Stop::NoMemory,
-    }
-}
 
 /// Appends the entry of a turn to the journal. With it the turn is in the journal for good.
 ///
@@ -60,6 +44,6 @@ pub(crate) fn keep<D: Disk>(
     let Away { turn, keys, port } = away;
     match journal.append(disk, turn) {
         Ok((journal, turn)) => Ok((journal, Away { turn, keys, port })),
-        Err(fault) => Err(stop_for(fault)),
+        Err(fault) => Err(stop_at(fault)),
     }
 }

@@ -6,7 +6,10 @@ mod stepping;
 mod taking;
 mod telling;
 
-pub use node_hosts::{Kit, Running};
-pub use node_text::{Event, Stop};
-pub use node_turns::SEALED_BYTES;
+pub use node_opening::{
+    Event, Host, Hosts, Kit, LinkFault, LinkKeys, Running, Stop, open, push_drop, push_fault,
+    push_recv,
+};
+pub use sealing_laws::SEALED_BYTES;
 pub use taking::take;
+pub use telling::say;

@@ -3,13 +3,13 @@ ghost use Rattle.std.specs.Prelude.{ℕ, IfOk, IsTrue, None};
 ghost use Rattle.byte_defs.specs.Members.{has};
 ghost use Rattle.journal_defs.specs.declared.Version.{Version};
 ghost use Rattle.group_defs.specs.Process.{Process};
-ghost use Rattle.journal_entries.specs.Views.{event as event_of};
+ghost use Rattle.node_opening.specs.Events.{event as event_of};
 ghost use Rattle.node_defs.specs.Casts.{cast_of};
-ghost use Rattle.node_hosts.specs.Hosts.{AreHosts, numbers_of};
+ghost use Rattle.node_opening.specs.Hosts.{AreHosts, numbers_of};
 ghost use Rattle.node_taking.specs.Turns.{HasHosts, StepsTo};
 
 use journal_rp::{Turn, Unsynced};
-use node_hosts::{AnySigner, Event, EventFault, Host, Hosted, Hosts, Kit, LinkKeys, Taken};
+use node_opening::{AnySigner, Event, EventFault, Host, Hosted, Hosts, Kit, LinkKeys, Taken};
 use rp_base::{NoMemory, Pid};
 use std::alloc::Global;
 

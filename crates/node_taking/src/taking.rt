@@ -1,23 +1,21 @@
 //! One event, from the script to what goes out of it.
 ghost use Rattle.std.specs.Prelude.{◌≤◌, ◌∷◌, ℕ, List, length, IfOk, IfErr, IsTrue};
 ghost use Rattle.byte_defs.specs.Members.{has};
-ghost use Rattle.journal_entries.specs.Views.{event as event_of};
+ghost use Rattle.node_opening.specs.Events.{event as event_of};
 ghost use Rattle.node_defs.specs.Casts.{handed};
 ghost use Rattle.node_defs.specs.Lives.{Found};
 ghost use Rattle.node_defs.specs.Nodes.{Node, Snapper, Task, Take};
 ghost use Rattle.node_traces.specs.Outside.{SourceSeen};
 ghost use Rattle.node_traces.specs.Seen.{link_seen, sink_seen};
-ghost use Rattle.node_hosts.specs.Hosts.{numbers_of};
-ghost use Rattle.node_hosts.specs.Nodes.{IsNode, cast_in};
-ghost use Rattle.node_text.specs.Views.{stop as stop_of};
-ghost use Rattle.letter_laws.specs.Letters.{IsFromOther};
+ghost use Rattle.node_opening.specs.Hosts.{numbers_of, IsNode, cast_in};
+ghost use Rattle.node_opening.specs.Stops.{stop as stop_of};
+ghost use Rattle.sealing_laws.specs.Letters.{IsFromOther};
 ghost use Rattle.node_taking.specs.Taking.{outside, HasNode, HasDiskCause, GoesOnTo, StopsSo};
 
 use crate::keeping::keep;
 use crate::stepping::{Away, Fate, step};
 use crate::telling::{say_refused, tell};
-use node_hosts::{Host, Running};
-use node_text::{Event, Stop};
+use node_opening::{Event, Host, Running, Stop};
 use rp_base::{Disk, Link, Pid, Sink};
 use std::alloc::Global;
 

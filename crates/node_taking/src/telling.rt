@@ -8,24 +8,22 @@ ghost use Rattle.node_defs.specs.Casts.{cast_of, known_of};
 ghost use Rattle.node_defs.specs.Lines.{refused_line};
 ghost use Rattle.node_defs.specs.Nodes.{leaving_of};
 ghost use Rattle.node_traces.specs.Seen.{link_seen, sink_seen};
-ghost use Rattle.node_hosts.specs.Cores.{IsOutcome, fault as fault_of};
-ghost use Rattle.node_turns.specs.Kept.{IsLast};
-ghost use Rattle.node_turns.specs.Letters.{IsSealable, letters_in};
+ghost use Rattle.node_opening.specs.Hosts.{IsOutcome, fault as fault_of};
+ghost use Rattle.sealing_laws.specs.Letters.{IsLast, IsSealable, letters_in};
 ghost use Rattle.node_taking.specs.Telling.{Says, TellsTurn};
 
 use crate::stepping::Away;
 use journal_rp::Synced;
-use node_hosts::Kit;
-use node_text::{EventFault, Stop, push_refused};
-use node_turns::{Speaker, let_out};
+use node_opening::{EventFault, Kit, Stop, push_refused};
 use rp_base::{Disk, Failed, Link, Pid, Sink, write_all};
+use sealing_laws::{Speaker, let_out};
 use std::alloc::Global;
 
 /// Writes the text.
 ///
 /// # Errors
 /// `WriteFailed`; a front of the text was written then.
-pub(crate) fn say<K: Sink>(output: &mut K, text: &[u8]) -> Result<(), Stop>
+pub fn say<K: Sink>(output: &mut K, text: &[u8]) -> Result<(), Stop>
     ensures { Says result text.now (sink_seen K.written K.faults output.old) (sink_seen K.written K.faults output.new) }
 {
     match write_all(output, text) {

@@ -1,7 +1,9 @@
-//! The letters of a turn can be sealed: what `node_turns::let_out` requires of them, by the laws of what a process sends.
+//! The letters of a turn can be sealed: what `let_out` requires of them, by the laws of what a process sends.
 #![tactic(auto)]
 
 ghost use Rattle.sealing_laws.specs.Sealing.{LettersCanBeSealed, TurnsCanBeSealed};
+
+pub use node_turns::{SEALED_BYTES, Speaker, Synced, let_out};
 
 /// A hosted process shares a key with whom each letter of a turn goes to, and no frame is too long.
 pub fn letters_can_be_sealed()

@@ -1,4 +1,7 @@
 use Rattle.journal_rp.specs.Turns.{staged_of}
+use Rattle.journal_rp.specs.Answers.{of_append}
+use Rattle.node_opening.specs.Stops.{stop as stop_of}
+use Rattle.node_opening.proofs.Stopped.{by-fault}
 use Rattle.node_taking.proofs.Kept.{kept, stopped}
 use Rattle.node_taking.proofs.keeping.keep.Goals as goal
 
@@ -12,5 +15,9 @@ pub returns-in-Err-clause-stops : goal.returns-in-Err-clause-stops
 returns-in-Err-clause-stops g c = λ k snap most f n p e ts x is of turn.
     stopped g.D.Disk.seen g.D.Disk.may_leave g.D.Disk.moment g.D.Disk.left_since (λ d image left. g.D.Disk.only_now d image left) k snap most f
     n p e ts x c.args.disk.now c.append.new.disk c.args.journal (staged_of c.args.away.turn) is of turn c.in-Err.fault
-    (g.D.Disk.faults c.args.disk.now) (g.D.Disk.faults c.append.new.disk) c.stop_for.result c.in-Err.ensures.cause c.in-Err.ensures.full
-    c.in-Err.ensures.room c.in-Err.ensures.any_moment c.in-Err.ensures.stands c.stop_for.ensures
+    (g.D.Disk.faults c.args.disk.now) (g.D.Disk.faults c.append.new.disk) (stop_of c.stop_at.result) c.in-Err.ensures.cause c.in-Err.ensures.full
+    c.in-Err.ensures.room c.in-Err.ensures.any_moment c.in-Err.ensures.stands c.stop_at.ensures
+
+pub returns-in-Err-clause-cause : goal.returns-in-Err-clause-cause
+returns-in-Err-clause-cause g c = by-fault _ of_append (g.D.Disk.faults c.args.disk.now) (g.D.Disk.faults c.append.new.disk) c.in-Err.fault
+    (stop_of c.stop_at.result) c.in-Err.ensures.cause c.stop_at.ensures

@@ -1,10 +1,7 @@
 use Rattle.std.proofs.Common.{refl, sym, ap, subst}
-use Rattle.signature_defs.specs.Schemes.{is_valid}
-use Rattle.node_hosts.specs.Cores.{Taken}
-use Rattle.sig_scheme.specs.declared.any_signer.AnySigner.{AnySigner}
-use Rattle.journal_entries.specs.Views.{event as event_of}
+use Rattle.node_opening.specs.Hosts.{is_valid, Taken, AnySigner, TakesLive}
+use Rattle.node_opening.specs.Events.{event as event_of}
 use Rattle.node_defs.specs.Casts.{cast_of}
-use Rattle.node_hosts.specs.Turns.{TakesLive}
 use Rattle.node_taking.proofs.Stepped.{not-missing, taken-so}
 use Rattle.node_taking.proofs.stepping.step.Goals as goal
 

@@ -1,21 +1,16 @@
 use Rattle.std.proofs.Common.{[], ◌∷◌, None, refl, sym, ap, subst, ◌∙◌}
 use Rattle.std.proofs.lemmas.Result.{err_from_is_err_and}
-use Rattle.journal_entries.specs.Views.{event as event_of}
+use Rattle.node_opening.specs.Events.{event as event_of}
 use Rattle.journal_rp.specs.Stages.{version_of}
 use Rattle.auth_link.specs.Keys.{known}
-use Rattle.sig_scheme.specs.declared.any_signer.AnySigner.{AnySigner}
-use Rattle.sig_scheme.specs.Signers.{used}
-use Rattle.node_hosts.specs.Cores.{Hosted}
-use Rattle.node_hosts.specs.Cores.{IsOutcome, fault as fault_of}
-use Rattle.node_hosts.specs.Cores.{IsReal}
+use Rattle.node_opening.specs.Hosts.{AnySigner, used, Hosted, IsOutcome, fault as fault_of, IsReal, cast_in}
 use Rattle.node_defs.specs.Casts.{cast_of, outcome_of}
 use Rattle.node_defs.specs.Lines.{refused_line}
 use Rattle.node_defs.specs.Lives.{fresh}
 use Rattle.node_defs.specs.Nodes.{Node, Snapper, Take, leaving_of}
 use Rattle.node_traces.specs.Outside.{SourceSeen}
 use Rattle.node_traces.specs.Seen.{link_seen, sink_seen}
-use Rattle.node_hosts.specs.Nodes.{cast_in}
-use Rattle.node_text.specs.Views.{stop as stop_of}
+use Rattle.node_opening.specs.Stops.{stop as stop_of}
 use Rattle.node_taking.specs.declared.stepping.Fate.{Fate}
 use Rattle.node_taking.specs.Taking.{outside}
 use Rattle.node_taking.specs.Turns.{StepsTo}

@@ -1,0 +1,3 @@
+-- Why a node ends, in the words of the crates below, passed on.
+pub use Rattle.node_opening.specs.Stops.{stop, Stop, Ended, NoMemory, ReadFailed, WriteFailed, DiskFailed, BindFailed, BadKit, BadLine, BadSnap, BadJournal, Full}
+pub use Rattle.node_opening.specs.Causes.{StopsByDisk}
