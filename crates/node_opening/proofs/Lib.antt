@@ -7,5 +7,5 @@ pub mod Lines
 pub mod Moments
 pub mod Presented
 pub mod Stopped
-pub mod Taken
+pub mod TakenUp
 pub mod Whole

@@ -6,7 +6,7 @@ use Rattle.node_defs.specs.Casts.{cast_of}
 use Rattle.node_text.specs.Views.{stop}
 use Rattle.node_opening.specs.Causes.{StopsByDisk}
 use Rattle.node_opening.specs.Reading.{BreaksOff, HasRead, HasReadAll}
-use Rattle.node_opening.proofs.Taken.{read-ended, read-more}
+use Rattle.node_opening.proofs.TakenUp.{read-ended, read-more}
 use Rattle.node_opening.proofs.reading.take_all.Goals as goal
 
 pub entries-preserved : goal.entries-preserved

@@ -7,7 +7,7 @@ use Rattle.node_defs.specs.Casts.{cast_of}
 use Rattle.node_text.specs.Views.{stop}
 use Rattle.node_opening.specs.Reading.{node_after}
 use Rattle.node_opening.proofs.Stopped.{by-no-disk}
-use Rattle.node_opening.proofs.Taken.{breaks-by, read-failed, read-on}
+use Rattle.node_opening.proofs.TakenUp.{breaks-by, read-failed, read-on}
 use Rattle.node_opening.proofs.reading.take_next.Goals as goal
 
 pub take_up-requires : goal.take_up-requires

@@ -9,7 +9,7 @@ use Rattle.node_defs.specs.Casts.{Cast, cast_of}
 use Rattle.node_defs.specs.Nodes.{reads_one, takes_up}
 use Rattle.node_hosts.specs.Hosts.{AreHosts}
 use Rattle.node_opening.specs.Reading.{RefusesEntry, forgets}
-use Rattle.node_opening.proofs.Taken.{not-taken}
+use Rattle.node_opening.proofs.TakenUp.{not-taken}
 use Rattle.node_opening.proofs.reading.take_up.Goals as goal
 
 pub returns-in-Ok-clause-takes : goal.returns-in-Ok-clause-takes
