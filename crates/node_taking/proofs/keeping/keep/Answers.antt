@@ -19,5 +19,5 @@ returns-in-Err-clause-stops g c = λ k snap most f n p e ts x is of turn.
     c.in-Err.ensures.room c.in-Err.ensures.any_moment c.in-Err.ensures.stands c.stop_at.ensures
 
 pub returns-in-Err-clause-cause : goal.returns-in-Err-clause-cause
-returns-in-Err-clause-cause g c = by-fault _ of_append (g.D.Disk.faults c.args.disk.now) (g.D.Disk.faults c.append.new.disk) c.in-Err.fault
+returns-in-Err-clause-cause g c = by-fault (Unit {0}) of_append (g.D.Disk.faults c.args.disk.now) (g.D.Disk.faults c.append.new.disk) c.in-Err.fault
     (stop_of c.stop_at.result) c.in-Err.ensures.cause c.stop_at.ensures
