@@ -1,0 +1,6 @@
+pub mod Events
+pub mod Hosts
+pub mod Opened
+pub mod Receiving
+pub mod Stops
+pub mod Taking

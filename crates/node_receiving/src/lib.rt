@@ -1,0 +1,13 @@
+//! One line of a node's script that receives: datagram by datagram, each of which is opened and taken, or dropped (docs/FORMATS.md, «Nodes»).
+#![tactic(auto)]
+
+mod fetching;
+mod hosting;
+mod receiving;
+mod rooms;
+mod taking;
+mod telling;
+
+pub use node_taking::{Event, Hosts, Kit, Running, Stop, open, say, take};
+pub use receiving::receive;
+pub use rooms::Rooms;
