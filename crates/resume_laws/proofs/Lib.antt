@@ -1,0 +1,13 @@
+pub mod Readings
+pub mod Alike
+pub mod Answered
+pub mod Begun
+pub mod Refusing
+pub mod Resuming
+pub mod Places
+pub mod Snapping
+pub mod Frames
+pub mod Taking
+pub mod Said
+pub mod Traces
+pub mod GivenBack

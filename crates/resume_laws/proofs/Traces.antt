@@ -1,0 +1,57 @@
+-- What a node that begins by a snapshot did to the outside, and what a stop of it leaves.
+use Rattle.std.proofs.Common.{◌≡◌, ℕ, ◌+◌, List, [], ◌++◌, Bool, true, false, refl, sym, ap, ◌∙◌, subst, append_assoc}
+use Rattle.journal_defs.specs.Entries.{Entry}
+use Rattle.journal_defs.specs.Crashes.{IsImageOf}
+use Rattle.node_defs.specs.Casts.{Cast, from_start}
+use Rattle.node_defs.specs.Nodes.{Node, Answer, Call, run}
+use Rattle.node_defs.specs.Lives.{Found, with_or_without, leaves}
+use Rattle.std.specs.Option.{option_to_list}
+use Rattle.node_defs.specs.Snapshots.{Snapshot, snap_line, from_snapshot}
+use Rattle.node_traces.specs.Outside.{LinkAnswered, SinkAnswered, SourceAnswered}
+use Rattle.node_traces.specs.Goes.{Outside, Goes}
+use Rattle.node_traces.specs.Stops.{LeftBy}
+use Rattle.resume_laws.specs.Resuming.{IsResumed, after_these, begun, GoesAlike}
+use Rattle.resume_laws.specs.Traces.{DidTheSame, ResumesTraceAlike}
+use Rattle.resume_laws.proofs.Resuming.{resumes_as_node}
+
+module _ (c : Cast) (s : Snapshot) (es : List Entry) (node resumed : Node)
+    (alike : (answers : List Answer) → GoesAlike c s es node resumed answers) where
+  did-same : (most : ℕ) (x y : Outside) (m : Node) → Goes c (snap_line c (from_snapshot c s)) most resumed x m y
+      → DidTheSame c es most node x m y
+  did-same most x y m g =
+      let both = alike g.answers in
+      record {
+        other = run c (snap_line c (from_start c)) node g.answers;
+        goes = record {
+          answers = g.answers;
+          becomes = refl;
+          link = subst (λ (cs : List (Call × Answer)). LinkAnswered x.link cs y.link) both.calls_are g.link;
+          sink = subst (λ (cs : List (Call × Answer)). SinkAnswered x.sink cs y.sink) both.calls_are g.sink;
+          source = subst (λ (cs : List (Call × Answer)). SourceAnswered most x.source cs y.source) both.calls_are g.source;
+        };
+        is_resumed = subst (IsResumed c es (run c (snap_line c (from_start c)) node g.answers)) (sym g.becomes) both.is_resumed;
+      }
+
+  -- with the one more, or without it
+  read-after : (f : Found) (b : Bool) → with_or_without (after_these es f) b ≡ es ++ with_or_without f b
+  read-after f true = append_assoc es f.sure (option_to_list f.more)
+  read-after f false = refl
+
+  left-same : (f : Found) (answers : List Answer) (image : List ℕ) → LeftBy c (snap_line c (from_snapshot c s)) f resumed answers es image
+      → LeftBy c (snap_line c (from_start c)) (after_these es f) node answers [] image
+  left-same f answers image l = record {
+    front = l.front;
+    fronts = l.fronts;
+    with_more = l.with_more;
+    reads = subst (IsImageOf c.header image) (
+        sym (read-after (leaves c f (run c (snap_line c (from_snapshot c s)) resumed l.front)) l.with_more)
+        ∙ ap (λ g. with_or_without g l.with_more) (sym ((alike l.front).leaves_are f))
+        ) l.reads;
+  }
+
+pub resumes_trace_alike : ResumesTraceAlike
+resumes_trace_alike c s lines es fs breaks view fits is =
+    let alike = λ (answers : List Answer). resumes_as_node c s lines es fs breaks answers view fits is in
+    let node = begun c (from_start c) lines (es ++ fs) breaks in
+    let resumed = begun c (from_snapshot c s) (lines + 1) fs breaks in
+    record { did = did-same c s es node resumed alike; left = left-same c s es node resumed alike }

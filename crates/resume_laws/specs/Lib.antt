@@ -1,0 +1,5 @@
+pub mod Refusing
+pub mod Resuming
+pub mod Snapping
+pub mod Said
+pub mod Traces

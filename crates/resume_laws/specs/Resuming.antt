@@ -1,0 +1,70 @@
+-- A node that begins by a snapshot, beside one that reads the whole journal.
+use Rattle.std.specs.Prelude.{◌≡◌, ℕ, ◌+◌, List, ◌++◌, length, option_map, Option, Some, None, IsTrue}
+use Rattle.byte_defs.specs.Members.{has}
+use Rattle.group_defs.specs.Views.{IsView}
+use Rattle.journal_defs.specs.Entries.{Entry}
+use Rattle.journal_defs.specs.Journals.{up_to_gate}
+use Rattle.image_defs.specs.Images.{image_of}
+use Rattle.node_defs.specs.Lines.{Stop, BadLine}
+use Rattle.node_defs.specs.Casts.{Cast, Beginning, from_start, entries_of, taken_up}
+use Rattle.node_defs.specs.Nodes.{Node, Call, Answer, opens, opens_broken, run, calls}
+use Rattle.node_defs.specs.Lives.{Found, leaves, FitsFrom}
+use Rattle.node_defs.specs.Snapshots.{Snapshot, snap_line, from_snapshot}
+
+-- The snapshot is one that `snap` writes where the journal holds these entries: its place is that of the gate after them, of each hosted
+-- process it has the image of what its entries make of it, and how many they are.
+pub record IsSnapshotAfter (c : Cast) (es : List Entry) (s : Snapshot) : Type 0 where
+  pub place : s.place ≡ length (up_to_gate c.header es)
+  pub entries : (p : ℕ) → IsTrue (has c.hosted p) → s.entries p ≡ length (entries_of p es)
+  pub images : (p : ℕ) → IsTrue (has c.hosted p) → s.images p ≡ image_of (taken_up c.setting ((from_start c).from p) (entries_of p es))
+
+-- ---- one node beside another
+
+-- a refused line is one further on, since the line of the snapshot was read before it
+abbrev pub one_line_on : Stop → Stop
+one_line_on (BadLine n) = BadLine (n + 1)
+one_line_on why = why
+
+-- The one is the other, but that it has read one more line of the input, and did not read the first entries of the journal.
+pub record IsResumed (c : Cast) (es : List Entry) (node resumed : Node) : Type 0 where
+  pub processes : (p : ℕ) → IsTrue (has c.hosted p) → resumed.now p ≡ node.now p
+  pub kept : node.kept ≡ es ++ resumed.kept
+  pub rest : resumed ≡ record node {
+    now = resumed.now;
+    kept = resumed.kept;
+    lines = node.lines + 1;
+    stopped = option_map one_line_on node.stopped;
+  }
+
+-- what is found, with these entries before it
+abbrev pub after_these : List Entry → Found → Found
+after_these es f = record { sure = es ++ f.sure; more = f.more }
+
+-- ---- the law
+
+-- how a run begins on a journal that reads as these entries, and then breaks at this place, or does not
+abbrev pub begun : Cast → Beginning → ℕ → List Entry → Option ℕ → Node
+begun c b lines es None = opens c b lines es
+begun c b lines es (Some place) = opens_broken c b lines es place
+
+-- a node that began so, after these answers, and the calls that it made; it writes its own lines of `snap`
+abbrev pub run_of : Cast → Beginning → Node → List Answer → Node
+run_of c b n answers = run c (snap_line c b) n answers
+
+abbrev pub calls_of : Cast → Beginning → Node → List Answer → List (Call × Answer)
+calls_of c b n answers = calls c (snap_line c b) n answers
+
+-- With the same answers both make the same calls, those that write the lines of `snap` among them; at their end the one is the other, and a
+-- stop leaves the same.
+pub record GoesAlike (c : Cast) (s : Snapshot) (es : List Entry) (node resumed : Node) (answers : List Answer) : Type 0 where
+  pub calls_are : calls_of c (from_snapshot c s) resumed answers ≡ calls_of c (from_start c) node answers
+  pub is_resumed : IsResumed c es (run_of c (from_start c) node answers) (run_of c (from_snapshot c s) resumed answers)
+  pub leaves_are : (f : Found) → leaves c (after_these es f) (run_of c (from_start c) node answers)
+      ≡ after_these es (leaves c f (run_of c (from_snapshot c s) resumed answers))
+
+-- A node that begins by a snapshot of these entries, which fit, and goes on after them, is the node that reads the journal from its start:
+-- whatever comes after them there, and whatever the outside answers.
+abbrev pub ResumesAsNode : Type 0
+ResumesAsNode = (c : Cast) (s : Snapshot) (lines : ℕ) (es fs : List Entry) (breaks : Option ℕ) (answers : List Answer)
+    → IsView c.setting.genesis → FitsFrom c (from_start c).from es → IsSnapshotAfter c es s
+    → GoesAlike c s es (begun c (from_start c) lines (es ++ fs) breaks) (begun c (from_snapshot c s) (lines + 1) fs breaks) answers

@@ -1,0 +1,30 @@
+-- What a node that begins by a snapshot did to the outside, and what a stop of it leaves.
+use Rattle.std.specs.Prelude.{ℕ, ◌+◌, List, [], ◌++◌, Option}
+use Rattle.group_defs.specs.Views.{IsView}
+use Rattle.journal_defs.specs.Entries.{Entry}
+use Rattle.node_defs.specs.Casts.{Cast, from_start}
+use Rattle.node_defs.specs.Nodes.{Node, Answer}
+use Rattle.node_defs.specs.Lives.{Found, FitsFrom}
+use Rattle.node_defs.specs.Snapshots.{Snapshot, snap_line, from_snapshot}
+use Rattle.node_traces.specs.Goes.{Outside, Goes}
+use Rattle.node_traces.specs.Stops.{LeftBy}
+use Rattle.resume_laws.specs.Resuming.{IsSnapshotAfter, IsResumed, after_these, begun}
+
+-- some node that the other becomes, which did to the outside the same
+pub record DidTheSame (c : Cast) (es : List Entry) (most : ℕ) (node : Node) (x : Outside) (resumed : Node) (y : Outside) : Type 0 where
+  pub other : Node
+  pub goes : Goes c (snap_line c (from_start c)) most node x other y
+  pub is_resumed : IsResumed c es other resumed
+
+-- Whatever it did to link, output and input, the node that reads the whole journal may do, and it is then that node. And what a stop leaves
+-- of it reads, with the entries before it, as what a stop leaves of the other.
+pub record TracesAlike (c : Cast) (s : Snapshot) (es : List Entry) (node resumed : Node) : Type 0 where
+  pub did : (most : ℕ) (x y : Outside) (m : Node) → Goes c (snap_line c (from_snapshot c s)) most resumed x m y
+      → DidTheSame c es most node x m y
+  pub left : (f : Found) (answers : List Answer) (image : List ℕ) → LeftBy c (snap_line c (from_snapshot c s)) f resumed answers es image
+      → LeftBy c (snap_line c (from_start c)) (after_these es f) node answers [] image
+
+abbrev pub ResumesTraceAlike : Type 0
+ResumesTraceAlike = (c : Cast) (s : Snapshot) (lines : ℕ) (es fs : List Entry) (breaks : Option ℕ) → IsView c.setting.genesis
+    → FitsFrom c (from_start c).from es → IsSnapshotAfter c es s
+    → TracesAlike c s es (begun c (from_start c) lines (es ++ fs) breaks) (begun c (from_snapshot c s) (lines + 1) fs breaks)
