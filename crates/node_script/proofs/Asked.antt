@@ -1,0 +1,40 @@
+-- What a line asks of a process.
+use Rattle.std.proofs.Common.{◌≡◌, ◌⊎◌, inl, ℕ, List, [], ◌∷◌, Result, Ok, Err, ap, subst, sym, ◌∙◌}
+use Rattle.std.specs.Prelude.{IfErr}
+use Rattle.journal_defs.specs.Entries.{Event}
+use Rattle.node_defs.specs.Casts as casts
+use Rattle.node_defs.specs.Nodes.{Take, Get, Word, tasks_of_line}
+use Rattle.node_defs.specs.Scripts as plain
+use Rattle.node_text.specs.declared.handed.Handed.{Handed}
+use Rattle.node_text.specs.declared.handed.Handed.TheVariants as events
+use Rattle.node_text.specs.declared.script.Said.{Said}
+use Rattle.node_text.specs.declared.script.Said.TheVariants.{Hand, Receive, Other}
+use Rattle.node_text.specs.Views.{handed as handed_of, said as said_of}
+use Rattle.node_receiving.specs.Hosts.{IsFromOther}
+
+-- none is a frame
+from-other : (me : ℕ) (event : Handed) → IsFromOther me (casts.handed (handed_of event))
+from-other me (events.Submit payload) = tt
+from-other me (events.Suspect q) = tt
+from-other me (events.Join q) = tt
+from-other me events.Renew = tt
+from-other me events.Tick = tt
+
+pub other-so : (me : ℕ) (event : Handed) (e : Event) → e ≡ handed_of event → IsFromOther me (casts.handed e)
+other-so me event e is = subst (λ (d : Event). IsFromOther me (casts.handed d)) (sym is) (from-other me event)
+
+pub hands : (me : ℕ) (line : List ℕ) (said : Said) (event : Handed) (e : Event) → said ≡ Hand event → e ≡ handed_of event
+    → tasks_of_line line (plain.Of me (said_of said)) ≡ Take me e ∷ []
+hands me line said event e is same = ap (λ (s : Said). tasks_of_line line (plain.Of me (said_of s))) is ∙ ap (λ (d : Event). Take me d ∷ []) (sym same)
+
+pub receives : (me most : ℕ) (line : List ℕ) (said : Said) → said ≡ Receive most
+    → tasks_of_line line (plain.Of me (said_of said)) ≡ Get me most 0 ∷ []
+receives me most line said is = ap (λ (s : Said). tasks_of_line line (plain.Of me (said_of s))) is
+
+pub asks-service : (me : ℕ) (line : List ℕ) (said : Said) → said ≡ Other → tasks_of_line line (plain.Of me (said_of said)) ≡ Word me line ∷ []
+asks-service me line said is = ap (λ (s : Said). tasks_of_line line (plain.Of me (said_of s))) is
+
+-- where it stops, it stops so or otherwise
+pub stops-or : {A E : Type 0} (r : Result A E) (P Q : E → Type 0) → IfErr r P → IfErr r (λ why. P why ⊎ Q why)
+stops-or (Ok a) P Q is = tt
+stops-or (Err why) P Q is = inl is

@@ -1,0 +1,6 @@
+mod Answered
+mod Joined
+mod Carried
+mod Ending
+mod NoDisk
+mod Asked

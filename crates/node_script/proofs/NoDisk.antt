@@ -1,0 +1,29 @@
+-- Stops that the disk is not to blame for.
+use Rattle.std.proofs.Common.{◌≡◌, inl, inr, ℕ, List, refl}
+use Rattle.node_defs.specs.Lines.{Stop, DiskFailed}
+use Rattle.node_traces.specs.Outside.{SourceSeen}
+use Rattle.node_input.specs.Reads.{AsksNone, EndsAfter, TakesBad, TakesNone}
+use Rattle.node_receiving.specs.Stops.{stop as stop_of, Stop as Why, StopsByDisk}
+use Rattle.node_script.specs.Ends.{HasStopCause}
+
+no-disk : (count : ℕ) (why : Stop) → (why ≡ DiskFailed → ⊥) → StopsByDisk count count why
+no-disk count DiskFailed not = absurd (not refl)
+no-disk count _ not = refl
+
+none-by-disk : (number : ℕ) (k o : SourceSeen) (why : Stop) → TakesNone number k o why → why ≡ DiskFailed → ⊥
+none-by-disk number k o DiskFailed none is = none
+none-by-disk number k o _ none is = absurd cc
+
+bad-by-disk : (P : List ℕ → Type 0) (number : ℕ) (k o : SourceSeen) (why : Stop) → TakesBad P number k o why → why ≡ DiskFailed → ⊥
+bad-by-disk P number k o why bad is = let told = bad.told in cc
+
+-- a line that asks for nothing
+pub asked-cause : (hosted : List ℕ) (number count : ℕ) (k o : SourceSeen) (why : Why) → AsksNone hosted number k o (stop_of why)
+    → HasStopCause count count why
+asked-cause hosted number count k o why (inl none) = no-disk count (stop_of why) (none-by-disk number k o (stop_of why) none)
+asked-cause hosted number count k o why (inr bad) = no-disk count (stop_of why) (bad-by-disk _ number k o (stop_of why) bad)
+
+-- a line too many
+pub ended-cause : (number count : ℕ) (k o : SourceSeen) (why : Why) → EndsAfter number k o (stop_of why) → HasStopCause count count why
+ended-cause number count k o why (inl none) = no-disk count (stop_of why) (none-by-disk number k o (stop_of why) none)
+ended-cause number count k o why (inr bad) = no-disk count (stop_of why) (bad-by-disk _ number k o (stop_of why) bad)

@@ -1,0 +1,11 @@
+//! The script of a node: each line is read and carried out, one after the other, until the node ends (docs/FORMATS.md, «Nodes»).
+#![tactic(auto)]
+
+mod carrying;
+mod reading;
+mod running;
+
+pub use carrying::carry_out;
+pub use node_input::{Line, Lines, Said, Source, Stop};
+pub use node_receiving::{Rooms, Running};
+pub use running::run_script;
