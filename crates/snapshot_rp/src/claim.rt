@@ -123,8 +123,10 @@ impl KeptClaim {
 
     /// The claim, lent.
     pub fn claim(&self) -> Claim<'_>
-        ensures { claim_of result ≡ self.now }
+        ensures value { claim_of result ≡ self.now }
+        ensures range { IsClaim (claim_of result) }
     {
+        let _number = self.signer.get();
         let Ok(statement) = read_statement(self.statement.as_slice()) else {
             unreachable!();
         };

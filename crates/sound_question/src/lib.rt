@@ -10,4 +10,5 @@ mod places;
 mod soundness;
 
 pub use accounts::Account;
+pub use places::is_by_place;
 pub use soundness::sound;

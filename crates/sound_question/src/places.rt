@@ -40,6 +40,13 @@ fn stands_by_place(delivered: &[Delivered]) -> bool
     true
 }
 
+/// Whether what was delivered in a view stands by place: at each place from the first on 1 to 16 messages, one place after the other.
+pub fn is_by_place(delivered: &[Delivered]) -> bool
+    ensures { result ≡ plain.stands_by_place (map delivery delivered.now) }
+{
+    stands_by_place(delivered)
+}
+
 // Whether two deliveries are of one message at one place, whatever their payloads.
 fn is_same_slot(d: &Delivered, e: &Delivered) -> bool
     ensures { result ≡ words.same_slot (delivery d.now) (delivery e.now) }

@@ -1,0 +1,7 @@
+use Rattle.std.proofs.Common.{map, ◌∙◌}
+use Rattle.accounts.specs.Views.{delivery}
+use Rattle.sound_question.proofs.Steps.{steps-stands}
+use Rattle.sound_question.proofs.places.is_by_place.Goals as goal
+
+pub returns : goal.returns
+returns c = c.stands_by_place.ensures ∙ steps-stands (map delivery c.args.delivered.now)
