@@ -236,7 +236,7 @@ AREAS = {
     "links and journals": (676, 777, 2, "link_defs auth_link journal_defs journal_disk journal_entries journal_rp"),
     "a store": (1040, 20, 2, "store_defs store_laws store_rows store_records kv_service vote_client state_transfer"),
     "chains of views, and guards": (1040, 190, 2, "chain_defs chain_text_defs chain_laws chain_rows chain_check chain_words guard_defs guard_laws guard_rows"),
-    "convictions and audits": (1040, 384, 2, "conviction_defs conviction_laws conviction audit_defs audit_laws evidence_laws findings_laws claim_firsts audit_claims audit_turns journal_steps findings_json audit_rows"),
+    "convictions and audits": (1040, 384, 2, "conviction_defs conviction_laws conviction audit_defs audit_laws evidence_laws findings_laws claim_firsts audit_claims audit_turns journal_steps audit_sources audit_cast audit_walk findings_json audit_core audit_rows"),
     "nodes": (1040, 631, 2, "image_defs image_laws snapshot_defs snapshot_laws snapshot_rows snapshot_rp kept_images node_defs node_laws node_text node_keys node_hosts node_traces opening_laws resume_laws script_laws letting_laws letter_laws node_input node_opening node_turns sealing_laws node_taking node_receiving node_script node_rows"),
 }
 
@@ -265,13 +265,11 @@ LINES = {
     ("signatures", "the outside"): [(676, 690), (664, 690), (664, 1070), (652, 1070)],
     ("the outside", "definitions"): [(500, 1132), (500, 1195)],
     ("a store", "what is heard"): [(1040, 120), (1032, 120), (1032, 940), (324, 940)],
-    ("convictions and audits", "kits and words"): [(1040, 440), (980, 440)],
-    ("nodes", "a replay"): [(1040, 645), (1026, 645), (1026, 608), (662, 608), (662, 706), (330, 706), (330, 290), (324, 290)],
     ("a store", "signatures"): [(1040, 100), (1004, 100), (1004, 690), (980, 690)],
     ("a store", "signatures"): [(1040, 100), (1004, 100), (1004, 690), (980, 690)],
     ("nodes", "convictions and audits"): [(1192, 631), (1192, 611)],
     ("chains of views, and guards", "nodes"): [(1344, 260), (1354, 260), (1354, 690), (1344, 690)],
-    ("convictions and audits", "a member"): [(1040, 404), (1012, 404), (1012, 590), (658, 590), (658, 710), (334, 710), (334, 560), (324, 560)],
+    ("convictions and audits", "a replay"): [(1040, 404), (1012, 404), (1012, 608), (662, 608), (662, 706), (330, 706), (330, 290), (324, 290)],
 }
 
 

@@ -210,7 +210,7 @@ goes-holds s listed k k' (Takes j place entry) h e = go (taking s j entry k.play
         let same : record { players = t.players; claims = k.claims ++ t.claims } ≡ k' = cc in
         subst (Holds s listed) same (took-holds s listed k t h (takes s j entry k.players t is))
 
-through-holds : (s : Setting) (listed : List ℕ) (steps : List Step) (k k' : Known) → Holds s listed k → goes_through s k steps ≡ Ok k'
+pub through-holds : (s : Setting) (listed : List ℕ) (steps : List Step) (k k' : Known) → Holds s listed k → goes_through s k steps ≡ Ok k'
     → Holds s listed k'
 unfolding goes_through
 through-holds s listed [] k k' h e = let same : k ≡ k' = cc in subst (Holds s listed) same h
@@ -309,7 +309,7 @@ run-none : (s : Setting) (p : Process) → run s p [] ≡ p
 unfolding run
 run-none s p = refl
 
-start-holds : (s : Setting) (listed : List ℕ) (cs : List Player) → Begins s listed cs → Holds s listed (record { players = cs; claims = [] })
+pub start-holds : (s : Setting) (listed : List ℕ) (cs : List Player) → Begins s listed cs → Holds s listed (record { players = cs; claims = [] })
 start-holds s listed cs b = record {
   numbers_are = b.numbers_are;
   runs = λ c m. b.starts c m ∙ sym (ap (run s (start s c.me c.batch_limit)) (b.no_turns c m) ∙ run-none s (start s c.me c.batch_limit));

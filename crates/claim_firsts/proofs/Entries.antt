@@ -16,7 +16,7 @@ use Rattle.claim_index.proofs.Keyed.{same_key-of}
 use Rattle.claim_firsts.specs.declared.kept.Kept.{Kept}
 use Rattle.claim_firsts.specs.Tables.{key}
 use Rattle.claim_firsts.specs.Seen.{is_beside}
-use Rattle.claim_firsts.specs.Entries.{claim_at, kept_claim, IsEntry}
+use Rattle.claim_firsts.specs.Entries.{claim_at, kept_claim, IsEntry, IsKept}
 use Rattle.claim_firsts.proofs.Convicting.{put_signers}
 
 none-from-map : {A B : Type 0} (f : A → B) (o : Option A) → option_map f o ≡ None → o ≡ None
@@ -105,3 +105,26 @@ module _ {S : Type 0} (c : Claim) (es : List (Key × Kept)) (m : IndexMap Key Ke
 
   pub added-claims : map claim_at now ≡ map claim_at es ++ c ∷ []
   added-claims = ap (map claim_at) at-end ∙ map-append claim_at es ((key c, x) ∷ []) ∙ ap (λ c. map claim_at es ++ c ∷ []) is
+
+-- ---- what is kept is in its ranges
+
+the-same : {A : Type 0} (x y : A) → Some x ≡ Some y → x ≡ y
+the-same x y e = cc
+
+pub second-kept : (q : ℕ) (xs : List Kept) (x : Kept) → AllByRecursion IsKept xs → Some x ≡ find (λ (x : Kept). (kept_claim x).signer == q) xs
+    → IsKept x
+second-kept q [] x all e = absurd cc
+second-kept q (y ∷ ys) x all e = go ((kept_claim y).signer == q) (second-kept q ys x all.1) e
+  where
+    go : (b : Bool) → (Some x ≡ find (λ (x : Kept). (kept_claim x).signer == q) ys → IsKept x)
+        → Some x ≡ (if b then Some y else find (λ (x : Kept). (kept_claim x).signer == q) ys) → IsKept x
+    go true rest e = subst IsKept (sym (the-same x y e)) all.0
+    go false rest e = rest e
+
+pub first-kept : (test : Key → Bool) (es : List (Key × Kept)) (x : Kept) → AllByRecursion IsEntry es → Some x ≡ lookup test es → IsKept x
+first-kept test [] x all e = absurd cc
+first-kept test (y ∷ ys) x all e = go (test y.0) (first-kept test ys x all.1) e
+  where
+    go : (b : Bool) → (Some x ≡ lookup test ys → IsKept x) → Some x ≡ cond b (Some y.1) (lookup test ys) → IsKept x
+    go true rest e = subst IsKept (sym (the-same x y.1 e)) all.0.range
+    go false rest e = rest e

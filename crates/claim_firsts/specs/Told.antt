@@ -1,7 +1,8 @@
 -- The convictions that a table tells.
 use Rattle.std.specs.Prelude.{ℕ, ◌==◌, find, Option, option_map, option_and_then}
 use Rattle.message_defs.specs.Statements.{Claim}
-use Rattle.stmt_codec.specs.Views.{claim}
+use Rattle.message_defs.specs.Spelling.{IsStatement}
+use Rattle.stmt_codec.specs.Views.{claim, stmt}
 use Rattle.conviction_defs.specs.Convictions as plain
 use Rattle.claim_firsts.specs.declared.conviction.Conviction.{Conviction}
 use Rattle.claim_firsts.specs.Tables.{Table}
@@ -10,6 +11,10 @@ use Rattle.claim_firsts.specs.Seen.{is_beside}
 -- a conviction, as plain data
 abbrev pub conviction : Conviction → plain.Conviction
 conviction c = record { process = c.process; first = claim c.first; second = claim c.second }
+
+-- both statements are in their ranges, so that they have a spelling
+abbrev pub AreSpelled : Conviction → Type 0
+AreSpelled c = IsStatement (stmt c.first.statement) × IsStatement (stmt c.second.statement)
 
 -- of the process, with this second claim and the first one beside it
 abbrev pub conviction_with : Table → ℕ → Claim → Option plain.Conviction

@@ -1,6 +1,6 @@
 //! The table of first claims.
-ghost use Rattle.std.specs.Prelude.{◌≡◌, ◌∷◌, ◌++◌, ◌↔◌, [], None, List, IsTrue, IfOk, OnOk, OnErr, ◌==◌, find, filter_map, length, map};
-ghost use Rattle.std.specs.List.{list_all, list_any};
+ghost use Rattle.std.specs.Prelude.{◌≡◌, ◌∷◌, ◌++◌, ◌↔◌, [], None, List, IsTrue, IfOk, IfSome, OnOk, OnErr, ◌==◌, find, filter_map, length, map};
+ghost use Rattle.std.specs.List.{AllByRecursion, list_all, list_any};
 ghost use Rattle.std.specs.Option.{option_copied, option_map};
 ghost use Rattle.std.specs.Map.{lookup};
 ghost use Rattle.message_defs.specs.Spelling.{IsStatement};
@@ -17,7 +17,7 @@ ghost use Rattle.claim_firsts.specs.Seen.{IsAnswered, Saw};
 ghost use Rattle.claim_firsts.specs.Seeing.{accusing, answering, contradicted, forgetting, has_second, seeing, with_first, with_second};
 ghost use Rattle.claim_firsts.specs.Answered.{is_answered, is_listed};
 ghost use Rattle.claim_firsts.specs.Entries.{kept_claim, signers_of};
-ghost use Rattle.claim_firsts.specs.Told.{conviction, conviction_by};
+ghost use Rattle.claim_firsts.specs.Told.{AreSpelled, conviction, conviction_by};
 
 use crate::conviction::Conviction;
 use crate::kept::{Kept, claim_again, is_conflict};
@@ -309,7 +309,8 @@ impl<'a> Firsts<'a> {
 
     // The conviction of the process, where two of its claims conflict.
     fn conviction_of(&self, q: Pid) -> Option<Conviction<'_>>
-        ensures { option_map conviction result ≡ conviction_by self.now q }
+        ensures told { option_map conviction result ≡ conviction_by self.now q }
+        ensures range { IfSome result AreSpelled }
     {
         match second_of(&self.seconds, q) {
             Some(second) => {
@@ -329,7 +330,8 @@ impl<'a> Firsts<'a> {
 
     // The convictions of these processes, in their order.
     fn convictions_of(&self, alloc: Global, of: PidSet) -> Result<Vec<Conviction<'_>>, NoMemory>
-        ensures { IfOk result (λ all. map conviction all.items ≡ filter_map (conviction_by self.now) of) }
+        ensures told { IfOk result (λ all. map conviction all.items ≡ filter_map (conviction_by self.now) of) }
+        ensures range { IfOk result (λ all. AllByRecursion AreSpelled all.items) }
     {
         let mut all = Vec::new(alloc);
         for q in of.iter() {
@@ -347,8 +349,9 @@ impl<'a> Firsts<'a> {
     /// with one before it, and the earliest one of that kind and slot, both with their signatures. The roster is one that rises, as every
     /// `Roster` does.
     pub fn convictions(&self, alloc: Global) -> Result<Vec<Conviction<'_>>, NoMemory>
-        ensures { IfOk result (λ all. (s : Setting) (claims own : List plain.Claim) → IsRising s.roster → Saw s claims own self.now
+        ensures told { IfOk result (λ all. (s : Setting) (claims own : List plain.Claim) → IsRising s.roster → Saw s claims own self.now
             → map conviction all.items ≡ defs.convictions s claims) }
+        ensures range { IfOk result (λ all. AllByRecursion AreSpelled all.items) }
     {
         self.convictions_of(alloc, self.convicted())
     }

@@ -10,10 +10,10 @@ use Rattle.claim_firsts.proofs.Results.{if-ok}
 use Rattle.claim_firsts.proofs.Told.{all-told}
 use Rattle.claim_firsts.proofs.firsts.Firsts.convictions.Goals as goal
 
-pub returns : goal.returns
-returns c =
+pub returns-clause-told : goal.returns-clause-told
+returns-clause-told c =
     if-ok (λ all. map conviction all.items ≡ filter_map (conviction_by c.args.self.now) c.convicted.result)
     (λ all. (s : Setting) (claims own : List plain.Claim) → IsRising s.roster → Saw s claims own c.args.self.now
     → map conviction all.items ≡ convictions s claims) c.convictions_of.result
     (λ all e s claims own rising saw. e ∙ ap (filter_map (conviction_by c.args.self.now)) (c.convicted.ensures s claims own rising saw)
-    ∙ all-told s claims own c.args.self.now saw) c.convictions_of.ensures
+    ∙ all-told s claims own c.args.self.now saw) c.convictions_of.ensures.told

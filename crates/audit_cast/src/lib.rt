@@ -1,0 +1,8 @@
+//! The processes that an audit takes as correct, as they start: each in the journal that hosts it.
+#![tactic(auto)]
+
+mod casting;
+
+pub use audit_sources::{AuditFault, Kit, Payload, Source, read_sources};
+pub use audit_turns::Walk;
+pub use casting::cast;

@@ -1,0 +1,6 @@
+mod Answered
+mod Ending
+mod Players
+mod Rising
+mod Sparing
+mod Told

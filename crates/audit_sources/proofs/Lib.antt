@@ -1,0 +1,3 @@
+mod Left
+mod Counting
+pub mod Telling
