@@ -6,3 +6,4 @@ pub mod Lent
 pub mod Said
 pub mod Answered
 pub mod Loop
+pub mod Still

@@ -14,16 +14,18 @@ use Rattle.script_laws.proofs.Reading.{reads_in_order}
 use Rattle.script_laws.proofs.Service.{asks_the_outside}
 use Rattle.node_input.specs.Reads.{Asks, AsksNone, EndsAfter, TakesBad, TakesNone, most_line_bytes}
 use Rattle.node_receiving.specs.Taking.{StopsSo, outside}
-use Rattle.node_taking.proofs.Still.{Rests, still, stops-still}
+use Rattle.node_receiving.proofs.Still.{Rests, still, stops-still}
 
 module _ {D : Type 0} (seen : D → Option (List ℕ)) (may_leave : D → List ℕ → Type 0) (moment : D → ℕ)
-    (left_since : D → ℕ → List ℕ → Type 0) (only_now : (d : D) (image : List ℕ) → left_since d (moment d) image → may_leave d image) (c : Cast)
+    (left_since : D → ℕ → List ℕ → Type 0) (only_now : (d : D) (image : List ℕ) → left_since d (moment d) image
+    → may_leave d image) (c : Cast)
     (snap : Snapper) (f : Found) where
   -- it stops with what it has kept
   stops-so : (most : ℕ) (n : Node) (x y : Outside) (d : D) (why : Stop) → n.opening ≡ [] → Rests (seen d) (may_leave d) c n
       → StopsWith c snap most n x why y → StopsSo seen may_leave moment left_since c snap most f n x d why y d
   stops-so most n x y d why opened rests stops =
-      stops-still seen may_leave moment left_since only_now c snap most f n stops.last x y d why opened rests stops.goes stops.stops stops.kept
+      stops-still seen may_leave moment left_since only_now c snap most f n stops.last x y d why opened rests stops.goes stops.stops
+      stops.kept
 
   -- a line for the service, which it has not
   pub no-service : (most : ℕ) (n : Node) (x : Outside) (d : D) (p : ℕ) (line : List ℕ) (ts : List Task) → HasToDo n (Word p line ∷ ts)
@@ -31,7 +33,8 @@ module _ {D : Type 0} (seen : D → Option (List ℕ)) (may_leave : D → List �
   no-service most n x d p line ts todo rests =
       stops-so most n x x d (BadLine n.lines) todo.opened rests ((asks_the_outside c snap most n x).refused p line ts todo)
 
-  module _ (n : Node) (l : LinkSeen) (s : SinkSeen) (k : SourceSeen) (d : D) (todo : HasToDo n []) (rests : Rests (seen d) (may_leave d) c n) where
+  module _ (n : Node) (l : LinkSeen) (s : SinkSeen) (k : SourceSeen) (d : D) (todo : HasToDo n []) (rests : Rests (seen d)
+      (may_leave d) c n) where
     reads : EachReads c snap most_line_bytes n (outside l s k)
     reads = reads_in_order c snap most_line_bytes n (outside l s k) todo
 
@@ -76,9 +79,12 @@ module _ {D : Type 0} (seen : D → Option (List ℕ)) (may_leave : D → List �
     ends-after number o why many is (inr bad) = takes-bad (λ line. Unit {0}) number o why (λ line none. inl many) is bad
 
     -- a line was taken that asks for this
-    pub asks-on : (hosted : List ℕ) (o : SourceSeen) (said : Line) → hosted ≡ c.hosted → n.script ≢ most_lines → (asked : Asks hosted k o said)
-        → Went seen moment left_since c snap most_line_bytes f n (outside l s k) d (with_line n (tasks_of_line asked.line said)) (outside l s o) d
+    pub asks-on : (hosted : List ℕ) (o : SourceSeen) (said : Line) → hosted ≡ c.hosted → n.script ≢ most_lines
+        → (asked : Asks hosted k o said)
+        → Went seen moment left_since c snap most_line_bytes f n (outside l s k) d (with_line n (tasks_of_line asked.line said))
+        (outside l s o) d
     asks-on hosted o said same few asked =
-        still seen may_leave moment left_since only_now c snap most_line_bytes f n (with_line n (tasks_of_line asked.line said)) (outside l s k)
+        still seen may_leave moment left_since only_now c snap most_line_bytes f n (with_line n (tasks_of_line asked.line said))
+        (outside l s k)
         (outside l s o) d todo.opened rests
         (reads.took asked.line said o asked.took few (ap (λ h. line_said h asked.line) (sym same) ∙ asked.says))

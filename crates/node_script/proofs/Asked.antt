@@ -25,13 +25,15 @@ other-so me event e is = subst (λ (d : Event). IsFromOther me (casts.handed d))
 
 pub hands : (me : ℕ) (line : List ℕ) (said : Said) (event : Handed) (e : Event) → said ≡ Hand event → e ≡ handed_of event
     → tasks_of_line line (plain.Of me (said_of said)) ≡ Take me e ∷ []
-hands me line said event e is same = ap (λ (s : Said). tasks_of_line line (plain.Of me (said_of s))) is ∙ ap (λ (d : Event). Take me d ∷ []) (sym same)
+hands me line said event e is same = ap (λ (s : Said). tasks_of_line line (plain.Of me (said_of s))) is
+    ∙ ap (λ (d : Event). Take me d ∷ []) (sym same)
 
 pub receives : (me most : ℕ) (line : List ℕ) (said : Said) → said ≡ Receive most
     → tasks_of_line line (plain.Of me (said_of said)) ≡ Get me most 0 ∷ []
 receives me most line said is = ap (λ (s : Said). tasks_of_line line (plain.Of me (said_of s))) is
 
-pub asks-service : (me : ℕ) (line : List ℕ) (said : Said) → said ≡ Other → tasks_of_line line (plain.Of me (said_of said)) ≡ Word me line ∷ []
+pub asks-service : (me : ℕ) (line : List ℕ) (said : Said) → said ≡ Other → tasks_of_line line (plain.Of me
+    (said_of said)) ≡ Word me line ∷ []
 asks-service me line said is = ap (λ (s : Said). tasks_of_line line (plain.Of me (said_of s))) is
 
 -- where it stops, it stops so or otherwise

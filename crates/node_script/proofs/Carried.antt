@@ -5,7 +5,7 @@ use Rattle.node_defs.specs.Casts.{Cast}
 use Rattle.node_defs.specs.Lines.{Stop, BadLine}
 use Rattle.node_defs.specs.Lives.{Found}
 use Rattle.node_defs.specs.Nodes.{Node, Task, Word, Mark, Snapper, tasks_of_line}
-use Rattle.node_defs.specs.Scripts.{Line, Snap, most_lines}
+use Rattle.node_defs.specs.Scripts.{Line, most_lines}
 use Rattle.node_traces.specs.Outside.{LinkSeen, SinkSeen, SourceSeen}
 use Rattle.node_traces.specs.Goes.{Outside}
 use Rattle.node_traces.specs.Went.{Went}
@@ -16,7 +16,7 @@ use Rattle.node_input.specs.Sources.{SeenAs}
 use Rattle.node_receiving.specs.Stops.{stop as stop_of, Stop as Why}
 use Rattle.node_receiving.specs.Hosts.{Running, IsAt, IsNode, cast_in, numbers_of}
 use Rattle.node_receiving.specs.Taking.{GoesOnTo, StopsSo, outside}
-use Rattle.node_taking.proofs.Still.{if-told, rest-stands, still, told}
+use Rattle.node_receiving.proofs.Still.{if-told, rest-stands, still, told}
 use Rattle.node_script.specs.Ends.{IsUnbuilt, ReadsOn, ScriptEnds, StopsUnbuilt}
 use Rattle.node_script.proofs.Joined.{carried-on, stops-later}
 use Rattle.node_script.proofs.Answered.{asks-on, no-service}
@@ -46,7 +46,8 @@ module _ {D : Type 0} (seen : D → Option (List ℕ)) (may_leave : D → List �
       → StopsSo seen may_leave moment left_since c snap most f n x d (BadLine number) x d
   refuses-other most n x d p line ts number is same =
       subst (λ (w : ℕ). StopsSo seen may_leave moment left_since c snap most f n x d (BadLine w) x d) same
-      (no-service seen may_leave moment left_since only_now c snap f most n x d p line ts (to-do n (Word p line ∷ ts) is.at) is.journal.rest)
+      (no-service seen may_leave moment left_since only_now c snap f most n x d p line ts (to-do n
+      (Word p line ∷ ts) is.at) is.journal.rest)
 
   -- ---- a line that asks for a snapshot
 
@@ -54,7 +55,8 @@ module _ {D : Type 0} (seen : D → Option (List ℕ)) (may_leave : D → List �
       → StopsUnbuilt seen may_leave moment left_since c snap most f n x d (BadLine n.lines) x d
   at-snap most n x d is = record {
     node = n;
-    went = still seen may_leave moment left_since only_now c snap most f n n x x d is.at.opened is.journal.rest (nothing_goes c snap most n x);
+    went = still seen may_leave moment left_since only_now c snap most f n n x x d is.at.opened is.journal.rest
+        (nothing_goes c snap most n x);
     asked = is.at;
     told = refl;
     stands = if-told (seen d) (λ some. rest-stands (seen d) (may_leave d) c.header n.kept n.gate (told (seen d) is.journal.rest some));
@@ -67,7 +69,8 @@ module _ {D : Type 0} (seen : D → Option (List ℕ)) (may_leave : D → List �
       let mark = subst (λ (s : Line). IsNode (seen old) (may_leave old) r n (tasks_of_line line s)) so.asked is in
       let here = subst (λ (w : Stop). StopsUnbuilt seen may_leave moment left_since c snap most f n x old w x old)
       (ap BadLine same ∙ sym so.told) (at-snap most n x old mark) in
-      let outer = subst (λ (z : Outside). StopsUnbuilt seen may_leave moment left_since c snap most f n x old why z old) (sym so.outside) here in
+      let outer = subst (λ (z : Outside). StopsUnbuilt seen may_leave moment left_since c snap most f n x old why z old)
+      (sym so.outside) here in
       subst (λ (d : D). StopsUnbuilt seen may_leave moment left_since c snap most f n x old why y d) (sym so.disk) outer
 
   ends-so : (most : ℕ) (n : Node) (x y : Outside) (old new : D) (line : List ℕ) (said : Line) (number : ℕ) (why : Stop)
@@ -93,10 +96,12 @@ module _ {D : Type 0} (seen : D → Option (List ℕ)) (may_leave : D → List �
     at-is = with-line-is (seen old) (may_leave old) r n (tasks_of_line asked.line said) is
 
     reads-it : Went seen moment left_since c snap most_line_bytes f n (outside l s k) old then-at (outside l s way.source) old
-    reads-it = asks-on seen may_leave moment left_since only_now c snap f n l s k old (to-do n [] is.at) is.journal.rest hosted way.source said
+    reads-it = asks-on seen may_leave moment left_since only_now c snap f n l s k old (to-do n [] is.at) is.journal.rest hosted way.source
+        said
         (same ∙ is.hosts.numbers) few asked
 
-    pub line-on : (r' : Running) → ((o : SourceSeen) (w : Node) (line : List ℕ) → IsNode (seen old) (may_leave old) r w (tasks_of_line line said)
+    pub line-on : (r' : Running) → ((o : SourceSeen) (w : Node) (line : List ℕ) → IsNode (seen old) (may_leave old) r w
+        (tasks_of_line line said)
         → w.lines ≡ number
         → GoesOnTo seen may_leave moment left_since c snap most_line_bytes f w (outside l s o) old [] (outside m t o) new r')
         → SeenAs (λ o. ReadsOn seen may_leave moment left_since c snap most_line_bytes f n (outside l s k) old 1 (outside m t o) new r')
@@ -119,7 +124,8 @@ module _ {D : Type 0} (seen : D → Option (List ℕ)) (may_leave : D → List �
       seen = way.seen;
       holds = stops-later seen may_leave moment left_since only_now snap most_line_bytes f c n (outside l s k) (outside l s way.source)
           (outside m t way.source) old old new then-at why reads-it
-          (ends-so most_line_bytes then-at (outside l s way.source) (outside m t way.source) old new asked.line said number why at-is (sym next)
+          (ends-so most_line_bytes then-at (outside l s way.source) (outside m t way.source) old new asked.line said number why at-is
+          (sym next)
           (carries way.source then-at asked.line at-is (sym next)));
     }
 
@@ -127,16 +133,19 @@ module _ {D : Type 0} (seen : D → Option (List ℕ)) (may_leave : D → List �
     pub line-result : (result : Result Running Why) → ((o : SourceSeen) (w : Node) (line : List ℕ)
         → IsNode (seen old) (may_leave old) r w (tasks_of_line line said) → w.lines ≡ number
         → IfOk result (GoesOnTo seen may_leave moment left_since c snap most_line_bytes f w (outside l s o) old [] (outside m t o) new))
-        → IfOk result (λ r'. SeenAs (λ o. ReadsOn seen may_leave moment left_since c snap most_line_bytes f n (outside l s k) old 1 (outside m t o)
+        → IfOk result (λ r'. SeenAs (λ o. ReadsOn seen may_leave moment left_since c snap most_line_bytes f n (outside l s k) old 1
+        (outside m t o)
         new r') ahead left faults)
     line-result (Ok r') carries = line-on r' carries
     line-result (Err why) carries = tt
 
     pub line-stopped : (result : Result Running Why) → ((o : SourceSeen) (w : Node) (line : List ℕ)
         → IsNode (seen old) (may_leave old) r w (tasks_of_line line said) → w.lines ≡ number
-        → IfErr result (λ why. StopsSo seen may_leave moment left_since c snap most_line_bytes f w (outside l s o) old (stop_of why) (outside m t o) new
+        → IfErr result (λ why. StopsSo seen may_leave moment left_since c snap most_line_bytes f w (outside l s o) old (stop_of why)
+        (outside m t o) new
         ⊎ IsUnbuilt said number (outside l s o) old (stop_of why) (outside m t o) new))
-        → IfErr result (λ why. (all : List ℕ) × SeenAs (λ o. ScriptEnds seen may_leave moment left_since c snap most_line_bytes f n (outside l s k) old
+        → IfErr result (λ why. (all : List ℕ) × SeenAs (λ o. ScriptEnds seen may_leave moment left_since c snap most_line_bytes f n
+        (outside l s k) old
         (stop_of why) (outside m t o) new) all left faults)
     line-stopped (Ok r') carries = tt
     line-stopped (Err why) carries = (ahead, line-stops (stop_of why) carries)

@@ -1,5 +1,5 @@
 -- How a script goes on line by line, and how it ends.
-use Rattle.std.proofs.Common.{◌≡◌, inl, inr, ℕ, ◌+◌, ◌<◌, List, [], Option, None, refl, sym, subst, ◌∙◌, arith}
+use Rattle.std.proofs.Common.{◌≡◌, inl, ℕ, ◌+◌, ◌<◌, List, [], Option, None, refl, subst, ◌∙◌, arith}
 use Rattle.std.specs.Prelude.{◌≢◌}
 use Rattle.node_defs.specs.Casts.{Cast}
 use Rattle.node_defs.specs.Lines.{Stop, NoMemory}
@@ -47,7 +47,8 @@ module _ {D : Type 0} (seen : D → Option (List ℕ)) (may_leave : D → List �
     (snap : Snapper) (f : Found) (ahead : List ℕ) (left : Option (List ℕ)) (faults : ℕ) where
   -- the running node is a node of the definitions still
   pub has-node : (c : Cast) (n : Node) (x : Outside) (l : LinkSeen) (s : SinkSeen) (old new : D) (count : ℕ) (r : Running)
-      → SeenAs (λ o. ReadsOn seen may_leave moment left_since c snap most_line_bytes f n x old count (outside l s o) new r) ahead left faults
+      → SeenAs (λ o. ReadsOn seen may_leave moment left_since c snap most_line_bytes f n x old count
+      (outside l s o) new r) ahead left faults
       → HasNode (seen new) (may_leave new) r
   has-node c n x l s old new count r on = record { node = on.holds.node; tasks = []; is = on.holds.is }
 
@@ -56,7 +57,8 @@ module _ {D : Type 0} (seen : D → Option (List ℕ)) (may_leave : D → List �
   module _ (r : Running) (n : Node) (l : LinkSeen) (s : SinkSeen) (k : SourceSeen) (d : D) (is : IsNode (seen d) (may_leave d) r n []) where
     -- The script ends so, and the input was seen so then.
     abbrev EndsHere : Stop → SourceSeen → Type 0
-    EndsHere why o = ScriptEnds seen may_leave moment left_since (cast_in r) snap most_line_bytes f n (outside l s k) d why (outside l s o) d
+    EndsHere why o = ScriptEnds seen may_leave moment left_since (cast_in r) snap most_line_bytes f n (outside l s k) d why
+        (outside l s o) d
 
     pub forgets-here : IsSeen k ahead left faults → (all : List ℕ) × SeenAs (EndsHere NoMemory) all left faults
     forgets-here here = (
@@ -73,7 +75,8 @@ module _ {D : Type 0} (seen : D → Option (List ℕ)) (may_leave : D → List �
     asked-none hosted number why same next way = record {
       source = way.source;
       seen = way.seen;
-      holds = inl (asks-none seen may_leave moment left_since only_now (cast_in r) snap f n l s k d (to-do n [] is.at) is.journal.rest hosted
+      holds = inl (asks-none seen may_leave moment left_since only_now (cast_in r) snap f n l s k d
+          (to-do n [] is.at) is.journal.rest hosted
           number way.source why (same ∙ is.hosts.numbers) next way.holds);
     }
 
@@ -82,37 +85,44 @@ module _ {D : Type 0} (seen : D → Option (List ℕ)) (may_leave : D → List �
     ended-after number why many next way = record {
       source = way.source;
       seen = way.seen;
-      holds = inl (ends-after seen may_leave moment left_since only_now (cast_in r) snap f n l s k d (to-do n [] is.at) is.journal.rest number
+      holds = inl (ends-after seen may_leave moment left_since only_now (cast_in r) snap f n l s k d
+          (to-do n [] is.at) is.journal.rest number
           way.source why many next way.holds);
     }
 
   -- ---- after other lines
 
-  module _ (c : Cast) (n : Node) (x : Outside) (l m : LinkSeen) (s t : SinkSeen) (k : SourceSeen) (old mid new : D) (count : ℕ) (r : Running)
+  module _ (c : Cast) (n : Node) (x : Outside) (l m : LinkSeen) (s t : SinkSeen) (k : SourceSeen) (old mid new : D) (count : ℕ)
+      (r : Running)
       (first : ReadsOn seen may_leave moment left_since c snap most_line_bytes f n x old count (outside l s k) mid r) where
     pub then-more : (r' : Running) (more : ℕ)
         → SeenAs (λ o. ReadsOn seen may_leave moment left_since (cast_in r) snap most_line_bytes f first.node (outside l s k) mid more
         (outside m t o) new r') ahead left faults
-        → SeenAs (λ o. ReadsOn seen may_leave moment left_since c snap most_line_bytes f n x old (count + more) (outside m t o) new r') ahead left
+        → SeenAs (λ o. ReadsOn seen may_leave moment left_since c snap most_line_bytes f n x old (count + more)
+        (outside m t o) new r') ahead left
         faults
     then-more r' more next = record {
       source = next.source;
       seen = next.seen;
-      holds = reads-more seen may_leave moment left_since only_now snap most_line_bytes f c n x (outside l s k) (outside m t next.source) old mid
+      holds = reads-more seen may_leave moment left_since only_now snap most_line_bytes f c n x (outside l s k)
+          (outside m t next.source) old mid
           new r r' count more first next.holds;
     }
 
     pub then-stops : (why : Stop)
         → SeenAs (λ o. ScriptEnds seen may_leave moment left_since (cast_in r) snap most_line_bytes f first.node (outside l s k) mid why
         (outside m t o) new) ahead left faults
-        → SeenAs (λ o. ScriptEnds seen may_leave moment left_since c snap most_line_bytes f n x old why (outside m t o) new) ahead left faults
+        → SeenAs (λ o. ScriptEnds seen may_leave moment left_since c snap most_line_bytes f n x old why
+        (outside m t o) new) ahead left faults
     then-stops why next =
-        let end = subst (λ (h : Cast). ScriptEnds seen may_leave moment left_since h snap most_line_bytes f first.node (outside l s k) mid why
+        let end = subst (λ (h : Cast). ScriptEnds seen may_leave moment left_since h snap most_line_bytes f first.node
+        (outside l s k) mid why
         (outside m t next.source) new) first.cast next.holds in
         record {
           source = next.source;
           seen = next.seen;
-          holds = stops-later seen may_leave moment left_since only_now snap most_line_bytes f c n x (outside l s k) (outside m t next.source) old
+          holds = stops-later seen may_leave moment left_since only_now snap most_line_bytes f c n x (outside l s k)
+              (outside m t next.source) old
               mid new first.node why first.went end;
         }
 

@@ -9,9 +9,9 @@ use Rattle.node_traces.specs.Went.{Went}
 use Rattle.node_traces.proofs.Going.{nothing_goes}
 use Rattle.node_traces.proofs.Went.{went_on}
 use Rattle.node_receiving.specs.Hosts.{Running, IsNode, cast_in}
-use Rattle.node_receiving.specs.Taking.{GoesOnTo, StopsSo}
-use Rattle.node_taking.proofs.Still.{if-told, still, stops-after, told}
-use Rattle.node_script.specs.Ends.{ReadsOn, ScriptEnds, StopsUnbuilt}
+use Rattle.node_receiving.specs.Taking.{GoesOnTo}
+use Rattle.node_receiving.proofs.Still.{if-told, still, stops-after, told}
+use Rattle.node_script.specs.Ends.{ReadsOn, ScriptEnds}
 
 module _ {D : Type 0} (seen : D → Option (List ℕ)) (may_leave : D → List ℕ → Type 0) (moment : D → ℕ)
     (left_since : D → ℕ → List ℕ → Type 0) (only_now : (d : D) (image : List ℕ) → left_since d (moment d) image → may_leave d image)

@@ -12,8 +12,8 @@ use Rattle.node_receiving.specs.Stops.{Stop as Why}
 use Rattle.node_receiving.specs.Hosts.{Running, IsAt, IsNode, cast_in}
 use Rattle.node_receiving.specs.Taking.{HasDiskCause, StopsSo}
 
--- Node n went on to one that has read so many lines more, each of them the script's, and has nothing to do. The running node `r` is that one
--- now. It is of the same cast.
+-- Node n went on to one that has read so many lines more, each of them the script's, and has nothing to do. The running node `r` is that
+-- one now. It is of the same cast.
 pub record ReadsOn {D : Type 0} (seen : D → Option (List ℕ)) (may_leave : D → List ℕ → Type 0) (moment : D → ℕ)
     (left_since : D → ℕ → List ℕ → Type 0) (c : Cast) (snap : Snapper) (most : ℕ) (f : Found) (n : Node) (x : Outside) (old : D)
     (count : ℕ) (y : Outside) (new : D) (r : Running) : Type 0 where
@@ -34,8 +34,8 @@ pub record IsUnbuilt {D : Type 0} (said : Line) (number : ℕ) (x : Outside) (ol
 -- Node n went on to one that is asked for a snapshot and has nothing else to do. No node makes one yet: it stops there as at a line that is
 -- none. What it leaves on a disk that told what it holds is what a run may find, with the entries that it has kept.
 pub record StopsUnbuilt {D : Type 0} (seen : D → Option (List ℕ)) (may_leave : D → List ℕ → Type 0) (moment : D → ℕ)
-    (left_since : D → ℕ → List ℕ → Type 0) (c : Cast) (snap : Snapper) (most : ℕ) (f : Found) (n : Node) (x : Outside) (old : D) (why : Stop)
-    (y : Outside) (new : D) : Type 0 where
+    (left_since : D → ℕ → List ℕ → Type 0) (c : Cast) (snap : Snapper) (most : ℕ) (f : Found) (n : Node) (x : Outside) (old : D)
+    (why : Stop) (y : Outside) (new : D) : Type 0 where
   pub node : Node
   pub went : Went seen moment left_since c snap most f n x old node y new
   pub asked : IsAt node (Mark ∷ [])
@@ -43,8 +43,8 @@ pub record StopsUnbuilt {D : Type 0} (seen : D → Option (List ℕ)) (may_leave
   pub stands : IfSome (seen old) (λ file. Stands c.header node.kept (may_leave new))
 
 -- node n went on to one that has stopped so, or to one that is asked for a snapshot, at which it stops so
-abbrev pub ScriptEnds : {D : Type 0} → (D → Option (List ℕ)) → (D → List ℕ → Type 0) → (D → ℕ) → (D → ℕ → List ℕ → Type 0) → Cast → Snapper → ℕ
-    → Found → Node → Outside → D → Stop → Outside → D → Type 0
+abbrev pub ScriptEnds : {D : Type 0} → (D → Option (List ℕ)) → (D → List ℕ → Type 0) → (D → ℕ) → (D → ℕ → List ℕ → Type 0) → Cast
+    → Snapper → ℕ → Found → Node → Outside → D → Stop → Outside → D → Type 0
 ScriptEnds seen may_leave moment left_since c snap most f n x old why y new =
     StopsSo seen may_leave moment left_since c snap most f n x old why y new
     ⊎ StopsUnbuilt seen may_leave moment left_since c snap most f n x old why y new

@@ -34,12 +34,14 @@ fn ask<'a, D: Disk, L: Link, K: Sink>(
     requires hosted { IsTrue (has (numbers_of running.hosts) me) }
     requires range { IsRange (said_of said) }
     ensures goes_on { (snap : Snapper) (most : ℕ) (f : Found) (source : SourceSeen) (n : Node) (line : List ℕ)
-        → IsNode (D.seen disk.old) (D.may_leave disk.old) running.entry n (tasks_of_line line (plain.Of me (said_of said))) → n.lines ≡ number
+        → IsNode (D.seen disk.old) (D.may_leave disk.old) running.entry n (tasks_of_line line (plain.Of me (said_of said)))
+        → n.lines ≡ number
         → IfOk result (GoesOnTo D.seen D.may_leave D.moment D.left_since (cast_in running.entry) snap most f n
         (outside (link_seen L.sent L.coming L.faults link.old) (sink_seen K.written K.faults output.old) source) disk.old []
         (outside (link_seen L.sent L.coming L.faults link.new) (sink_seen K.written K.faults output.new) source) disk.new) }
     ensures stops { (snap : Snapper) (most : ℕ) (f : Found) (source : SourceSeen) (n : Node) (line : List ℕ)
-        → IsNode (D.seen disk.old) (D.may_leave disk.old) running.entry n (tasks_of_line line (plain.Of me (said_of said))) → n.lines ≡ number
+        → IsNode (D.seen disk.old) (D.may_leave disk.old) running.entry n (tasks_of_line line (plain.Of me (said_of said)))
+        → n.lines ≡ number
         → IfErr result (λ why. StopsSo D.seen D.may_leave D.moment D.left_since (cast_in running.entry) snap most f n
         (outside (link_seen L.sent L.coming L.faults link.old) (sink_seen K.written K.faults output.old) source) disk.old (stop_of why)
         (outside (link_seen L.sent L.coming L.faults link.new) (sink_seen K.written K.faults output.new) source) disk.new) }

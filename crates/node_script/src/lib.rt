@@ -7,5 +7,5 @@ mod running;
 
 pub use carrying::carry_out;
 pub use node_input::{Line, Lines, Said, Source, Stop};
-pub use node_receiving::{Rooms, Running};
+pub use node_receiving::{Rooms, Running, open};
 pub use running::run_script;

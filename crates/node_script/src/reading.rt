@@ -21,11 +21,12 @@ use std::alloc::Global;
 /// How many lines a script has at most.
 pub(crate) const MOST_LINES: u32 = 1_000_000;
 
-/// Reads the next line of the script and carries it out. So many lines of the script, fewer than 1,000,000, came before it, and the line `go`
-/// has the number that is given.
+/// Reads the next line of the script and carries it out. So many lines of the script, fewer than 1,000,000, came before it, and the
+/// line `go` has the number that is given.
 ///
 /// # Errors
-/// The node ends: `Ended` at the input's end; `BadLine` at what is no line of the script; `ReadFailed`; `NoMemory`; and as `carry_out` says.
+/// The node ends: `Ended` at the input's end; `BadLine` at what is no line of the script; `ReadFailed`; `NoMemory`; and as
+/// `carry_out` says.
 pub(crate) fn next_line<'a, S: Source, D: Disk, L: Link, K: Sink>(
     alloc: Global,
     running: Running<'a>,
@@ -40,17 +41,20 @@ pub(crate) fn next_line<'a, S: Source, D: Disk, L: Link, K: Sink>(
 ) -> Result<Running<'a>, Stop>
     requires node { HasNode (D.seen disk.old) (D.may_leave disk.old) running }
     requires few { count < 1000000 }
-    ensures goes_on { (snap : Snapper) (f : Found) (k : SourceSeen) (n : Node) → IsSeen k lines.old.ahead (S.left input.old) (S.faults input.old)
+    ensures goes_on { (snap : Snapper) (f : Found) (k : SourceSeen) (n : Node)
+        → IsSeen k lines.old.ahead (S.left input.old) (S.faults input.old)
         → IsNode (D.seen disk.old) (D.may_leave disk.old) running.entry n [] → n.lines ≡ go + count → n.script ≡ count
         → IfOk result (λ r. SeenAs (λ l. ReadsOn D.seen D.may_leave D.moment D.left_since (cast_in running.entry) snap most_line_bytes f n
         (outside (link_seen L.sent L.coming L.faults link.old) (sink_seen K.written K.faults output.old) k) disk.old 1
         (outside (link_seen L.sent L.coming L.faults link.new) (sink_seen K.written K.faults output.new) l) disk.new r)
         lines.new.ahead (S.left input.new) (S.faults input.new)) }
-    ensures stops { (snap : Snapper) (f : Found) (k : SourceSeen) (n : Node) → IsSeen k lines.old.ahead (S.left input.old) (S.faults input.old)
+    ensures stops { (snap : Snapper) (f : Found) (k : SourceSeen) (n : Node)
+        → IsSeen k lines.old.ahead (S.left input.old) (S.faults input.old)
         → IsNode (D.seen disk.old) (D.may_leave disk.old) running.entry n [] → n.lines ≡ go + count → n.script ≡ count
-        → IfErr result (λ why. (ahead : List ℕ) × SeenAs (λ l. ScriptEnds D.seen D.may_leave D.moment D.left_since (cast_in running.entry) snap
-        most_line_bytes f n (outside (link_seen L.sent L.coming L.faults link.old) (sink_seen K.written K.faults output.old) k) disk.old
-        (stop_of why) (outside (link_seen L.sent L.coming L.faults link.new) (sink_seen K.written K.faults output.new) l) disk.new)
+        → IfErr result (λ why. (ahead : List ℕ) × SeenAs (λ l. ScriptEnds D.seen D.may_leave D.moment D.left_since (cast_in running.entry)
+        snap most_line_bytes f n
+        (outside (link_seen L.sent L.coming L.faults link.old) (sink_seen K.written K.faults output.old) k) disk.old (stop_of why)
+        (outside (link_seen L.sent L.coming L.faults link.new) (sink_seen K.written K.faults output.new) l) disk.new)
         ahead (S.left input.new) (S.faults input.new)) }
     ensures cause { HasDiskCause (D.faults disk.old) (D.faults disk.new) result }
 {

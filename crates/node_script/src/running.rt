@@ -31,17 +31,20 @@ fn each_line<'a, S: Source, D: Disk, L: Link, K: Sink>(
     rooms: &mut Rooms,
 ) -> Result<Running<'a>, Stop>
     requires node { HasNode (D.seen disk.old) (D.may_leave disk.old) running }
-    ensures goes_on { (snap : Snapper) (f : Found) (k : SourceSeen) (n : Node) → IsSeen k lines.old.ahead (S.left input.old) (S.faults input.old)
+    ensures goes_on { (snap : Snapper) (f : Found) (k : SourceSeen) (n : Node)
+        → IsSeen k lines.old.ahead (S.left input.old) (S.faults input.old)
         → IsNode (D.seen disk.old) (D.may_leave disk.old) running.entry n [] → n.lines ≡ go → n.script ≡ 0
         → IfOk result (λ r. SeenAs (λ l. ReadsOn D.seen D.may_leave D.moment D.left_since (cast_in running.entry) snap most_line_bytes f n
         (outside (link_seen L.sent L.coming L.faults link.old) (sink_seen K.written K.faults output.old) k) disk.old most_lines
         (outside (link_seen L.sent L.coming L.faults link.new) (sink_seen K.written K.faults output.new) l) disk.new r)
         lines.new.ahead (S.left input.new) (S.faults input.new)) }
-    ensures stops { (snap : Snapper) (f : Found) (k : SourceSeen) (n : Node) → IsSeen k lines.old.ahead (S.left input.old) (S.faults input.old)
+    ensures stops { (snap : Snapper) (f : Found) (k : SourceSeen) (n : Node)
+        → IsSeen k lines.old.ahead (S.left input.old) (S.faults input.old)
         → IsNode (D.seen disk.old) (D.may_leave disk.old) running.entry n [] → n.lines ≡ go → n.script ≡ 0
-        → IfErr result (λ why. (ahead : List ℕ) × SeenAs (λ l. ScriptEnds D.seen D.may_leave D.moment D.left_since (cast_in running.entry) snap
-        most_line_bytes f n (outside (link_seen L.sent L.coming L.faults link.old) (sink_seen K.written K.faults output.old) k) disk.old
-        (stop_of why) (outside (link_seen L.sent L.coming L.faults link.new) (sink_seen K.written K.faults output.new) l) disk.new)
+        → IfErr result (λ why. (ahead : List ℕ) × SeenAs (λ l. ScriptEnds D.seen D.may_leave D.moment D.left_since (cast_in running.entry)
+        snap most_line_bytes f n
+        (outside (link_seen L.sent L.coming L.faults link.old) (sink_seen K.written K.faults output.old) k) disk.old (stop_of why)
+        (outside (link_seen L.sent L.coming L.faults link.new) (sink_seen K.written K.faults output.new) l) disk.new)
         ahead (S.left input.new) (S.faults input.new)) }
     ensures cause { HasDiskCause (D.faults disk.old) (D.faults disk.new) result }
 {
@@ -70,9 +73,11 @@ fn run_within<'a, S: Source, D: Disk, L: Link, K: Sink>(
     rooms: &mut Rooms,
 ) -> Stop
     requires node { HasNode (D.seen disk.old) (D.may_leave disk.old) running }
-    ensures ends { (snap : Snapper) (f : Found) (k : SourceSeen) (n : Node) → IsSeen k lines.old.ahead (S.left input.old) (S.faults input.old)
+    ensures ends { (snap : Snapper) (f : Found) (k : SourceSeen) (n : Node)
+        → IsSeen k lines.old.ahead (S.left input.old) (S.faults input.old)
         → IsNode (D.seen disk.old) (D.may_leave disk.old) running.entry n [] → n.lines ≡ go → n.script ≡ 0
-        → (ahead : List ℕ) × SeenAs (λ l. ScriptEnds D.seen D.may_leave D.moment D.left_since (cast_in running.entry) snap most_line_bytes f n
+        → (ahead : List ℕ) × SeenAs (λ l. ScriptEnds D.seen D.may_leave D.moment D.left_since (cast_in running.entry)
+        snap most_line_bytes f n
         (outside (link_seen L.sent L.coming L.faults link.old) (sink_seen K.written K.faults output.old) k) disk.old (stop_of result)
         (outside (link_seen L.sent L.coming L.faults link.new) (sink_seen K.written K.faults output.new) l) disk.new)
         ahead (S.left input.new) (S.faults input.new) }
@@ -99,11 +104,13 @@ pub fn run_script<'a, S: Source, D: Disk, L: Link, K: Sink>(
 ) -> Stop
     requires node { HasNode (D.seen disk.old) (D.may_leave disk.old) running }
 
-    // The node of the definitions goes on, line by line, to this stop, or to a line that asks for a snapshot, at which it stops so. Its calls
-    // did this to input, link, output and disk.
-    ensures ends { (snap : Snapper) (f : Found) (k : SourceSeen) (n : Node) → IsSeen k lines.old.ahead (S.left input.old) (S.faults input.old)
+    // The node of the definitions goes on, line by line, to this stop, or to a line that asks for a snapshot, at which it stops so. Its
+    // calls did this to input, link, output and disk.
+    ensures ends { (snap : Snapper) (f : Found) (k : SourceSeen) (n : Node)
+        → IsSeen k lines.old.ahead (S.left input.old) (S.faults input.old)
         → IsNode (D.seen disk.old) (D.may_leave disk.old) running.entry n [] → n.lines ≡ go → n.script ≡ 0
-        → (ahead : List ℕ) × SeenAs (λ l. ScriptEnds D.seen D.may_leave D.moment D.left_since (cast_in running.entry) snap most_line_bytes f n
+        → (ahead : List ℕ) × SeenAs (λ l. ScriptEnds D.seen D.may_leave D.moment D.left_since (cast_in running.entry)
+        snap most_line_bytes f n
         (outside (link_seen L.sent L.coming L.faults link.old) (sink_seen K.written K.faults output.old) k) disk.old (stop_of result)
         (outside (link_seen L.sent L.coming L.faults link.new) (sink_seen K.written K.faults output.new) l) disk.new)
         ahead (S.left input.new) (S.faults input.new) }

@@ -1,4 +1,4 @@
-use Rattle.std.proofs.Common.{[], ◌∷◌, List, subst}
+use Rattle.std.proofs.Common.{[], List, subst}
 use Rattle.node_defs.specs.Nodes.{Task}
 use Rattle.node_traces.specs.Seen.{link_seen, sink_seen}
 use Rattle.node_receiving.specs.Hosts.{IsNode}
@@ -36,7 +36,8 @@ returns-in-Receive-clause-stops g c = λ snap most f source n line is number.
 
 pub returns-clause-stops : goal.returns-clause-stops
 returns-clause-stops g c = λ snap most f source n line is number.
-    refuses-other g.D.Disk.seen g.D.Disk.may_leave g.D.Disk.moment g.D.Disk.left_since (λ d image left. g.D.Disk.only_now d image left) snap f
+    refuses-other g.D.Disk.seen g.D.Disk.may_leave g.D.Disk.moment g.D.Disk.left_since (λ d image left. g.D.Disk.only_now d image left)
+    snap f
     c.args.running most n
     (outside (link_seen g.L.Link.sent g.L.Link.coming g.L.Link.faults c.args.link.now)
     (sink_seen g.K.Sink.written g.K.Sink.faults c.args.output.now) source) c.args.disk.now c.args.me line [] c.args.number

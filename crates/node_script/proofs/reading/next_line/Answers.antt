@@ -15,7 +15,8 @@ returns-in_err-number-clause-stops g c = λ snap f k n seen is lines script.
     rw (p.1, p.2) (forgets-here g.D.Disk.seen g.D.Disk.may_leave g.D.Disk.moment g.D.Disk.left_since
     (λ d image left. g.D.Disk.only_now d image left) snap f c.args.lines.now.ahead (g.S.Source.left c.args.input.now)
     (g.S.Source.faults c.args.input.now) c.args.running n
-    (link_seen g.L.Link.sent g.L.Link.coming g.L.Link.faults c.args.link.now) (sink_seen g.K.Sink.written g.K.Sink.faults c.args.output.now) k
+    (link_seen g.L.Link.sent g.L.Link.coming g.L.Link.faults c.args.link.now) (sink_seen g.K.Sink.written g.K.Sink.faults
+    c.args.output.now) k
     c.args.disk.now is seen)
 
 pub returns-in_err-said-clause-stops : goal.returns-in_err-said-clause-stops
@@ -24,7 +25,8 @@ returns-in_err-said-clause-stops g c = λ snap f k n seen is lines script.
     let none = c.in_err-said.ensures.none k seen in
     rw (p.1, p.2) (
       none.0,
-      asked-none g.D.Disk.seen g.D.Disk.may_leave g.D.Disk.moment g.D.Disk.left_since (λ d image left. g.D.Disk.only_now d image left) snap f none.0
+      asked-none g.D.Disk.seen g.D.Disk.may_leave g.D.Disk.moment g.D.Disk.left_since (λ d image left. g.D.Disk.only_now d image left)
+          snap f none.0
           (g.S.Source.left c.read_next.new.input) (g.S.Source.faults c.read_next.new.input) c.args.running n
           (link_seen g.L.Link.sent g.L.Link.coming g.L.Link.faults c.args.link.now)
           (sink_seen g.K.Sink.written g.K.Sink.faults c.args.output.now) k c.args.disk.now is c.numbers.result c.in_ok-number.number
@@ -35,7 +37,8 @@ pub returns-in_err-said-clause-cause : goal.returns-in_err-said-clause-cause
 returns-in_err-said-clause-cause g c =
     let p = err_from_is_err_and c.from_residual-in_err-said.result c.from_residual-in_err-said.ensures.1 in
     let none = c.in_err-said.ensures.none (untold (g.S.Source.faults c.args.input.now)) (untold-is _ _ _) in
-    rw (p.1, p.2) (asked-cause c.numbers.result c.in_ok-number.number (g.D.Disk.faults c.args.disk.now) _ none.1.source c.in_err-said.field-0.0
+    rw (p.1, p.2) (asked-cause c.numbers.result c.in_ok-number.number (g.D.Disk.faults c.args.disk.now) _ none.1.source
+    c.in_err-said.field-0.0
     none.1.holds)
 
 pub returns-clause-goes_on : goal.returns-clause-goes_on
@@ -51,7 +54,8 @@ returns-clause-goes_on g c = λ snap f k n seen is lines script.
 
 pub returns-clause-stops : goal.returns-clause-stops
 returns-clause-stops g c = λ snap f k n seen is lines script.
-    line-stopped g.D.Disk.seen g.D.Disk.may_leave g.D.Disk.moment g.D.Disk.left_since (λ d image left. g.D.Disk.only_now d image left) snap f
+    line-stopped g.D.Disk.seen g.D.Disk.may_leave g.D.Disk.moment g.D.Disk.left_since (λ d image left. g.D.Disk.only_now d image left)
+    snap f
     c.args.running n
     (link_seen g.L.Link.sent g.L.Link.coming g.L.Link.faults c.args.link.now)
     (link_seen g.L.Link.sent g.L.Link.coming g.L.Link.faults c.carry_out.new.link)

@@ -19,7 +19,8 @@ lines-init g c = record {
   read = λ snap f k n seen is lines script. record {
     source = k;
     seen = seen;
-    holds = none-read g.D.Disk.seen g.D.Disk.may_leave g.D.Disk.moment g.D.Disk.left_since (λ d image left. g.D.Disk.only_now d image left) snap
+    holds = none-read g.D.Disk.seen g.D.Disk.may_leave g.D.Disk.moment g.D.Disk.left_since
+        (λ d image left. g.D.Disk.only_now d image left) snap
         most_line_bytes f c.args.running n
         (outside (link_seen g.L.Link.sent g.L.Link.coming g.L.Link.faults c.args.link.now)
         (sink_seen g.K.Sink.written g.K.Sink.faults c.args.output.now) k) c.args.disk.now is;
@@ -39,12 +40,14 @@ lines-preserved g c =
           (sink_seen g.K.Sink.written g.K.Sink.faults c.lines.output) (untold faults))
           (link_seen g.L.Link.sent g.L.Link.coming g.L.Link.faults c.next_line.new.link)
           (sink_seen g.K.Sink.written g.K.Sink.faults c.next_line.new.output) c.lines.disk c.next_line.new.disk 1 c.in-Ok.next
-          (c.in-Ok.ensures.goes_on nobody fresh (untold faults) (at-line here (c.args.go + c.lines.count) c.lines.count) (untold-is _ _ faults)
+          (c.in-Ok.ensures.goes_on nobody fresh (untold faults) (at-line here (c.args.go + c.lines.count) c.lines.count)
+          (untold-is _ _ faults)
           (at-line-is (g.D.Disk.seen c.lines.disk) (g.D.Disk.may_leave c.lines.disk) c.lines.running here c.lines.invariant.node.tasks
           (c.args.go + c.lines.count) c.lines.count c.lines.invariant.node.is) refl refl);
       read = λ snap f k n seen is lines script.
           let so = c.lines.invariant.read snap f k n seen is lines script in
-          then-more g.D.Disk.seen g.D.Disk.may_leave g.D.Disk.moment g.D.Disk.left_since (λ d image left. g.D.Disk.only_now d image left) snap f
+          then-more g.D.Disk.seen g.D.Disk.may_leave g.D.Disk.moment g.D.Disk.left_since (λ d image left. g.D.Disk.only_now d image left)
+          snap f
           c.next_line.new.lines.ahead (g.S.Source.left c.next_line.new.input) (g.S.Source.faults c.next_line.new.input)
           (cast_in c.args.running) n (outside (link_seen g.L.Link.sent g.L.Link.coming g.L.Link.faults c.args.link.now)
           (sink_seen g.K.Sink.written g.K.Sink.faults c.args.output.now) k)
@@ -64,7 +67,8 @@ returns-in-Err-clause-stops g c = λ snap f k n seen is lines script.
     let stops = c.in-Err.ensures.stops snap f so.source so.holds.node so.seen so.holds.is (omega (arith, so.holds.lines, lines))
     (omega (arith, so.holds.script, script)) in (
       stops.0,
-      then-stops g.D.Disk.seen g.D.Disk.may_leave g.D.Disk.moment g.D.Disk.left_since (λ d image left. g.D.Disk.only_now d image left) snap f stops.0
+      then-stops g.D.Disk.seen g.D.Disk.may_leave g.D.Disk.moment g.D.Disk.left_since (λ d image left. g.D.Disk.only_now d image left)
+          snap f stops.0
           (g.S.Source.left c.next_line.new.input) (g.S.Source.faults c.next_line.new.input)
           (cast_in c.args.running) n (outside (link_seen g.L.Link.sent g.L.Link.coming g.L.Link.faults c.args.link.now)
           (sink_seen g.K.Sink.written g.K.Sink.faults c.args.output.now) k)
@@ -79,11 +83,13 @@ pub returns-clause-goes_on : goal.returns-clause-goes_on
 unfolding most_lines
 returns-clause-goes_on g c = λ snap f k n seen is lines script.
     let all : c.lines.count ≡ most_lines = omega (arith, c.lines.auto.count-end, c.lines-test.false) in
-    subst (λ (m : ℕ). SeenAs (λ o. ReadsOn g.D.Disk.seen g.D.Disk.may_leave g.D.Disk.moment g.D.Disk.left_since (cast_in c.args.running) snap
+    subst (λ (m : ℕ). SeenAs (λ o. ReadsOn g.D.Disk.seen g.D.Disk.may_leave g.D.Disk.moment g.D.Disk.left_since
+    (cast_in c.args.running) snap
     most_line_bytes f n
     (outside (link_seen g.L.Link.sent g.L.Link.coming g.L.Link.faults c.args.link.now)
     (sink_seen g.K.Sink.written g.K.Sink.faults c.args.output.now) k) c.args.disk.now m
-    (outside (link_seen g.L.Link.sent g.L.Link.coming g.L.Link.faults c.lines.link) (sink_seen g.K.Sink.written g.K.Sink.faults c.lines.output) o)
+    (outside (link_seen g.L.Link.sent g.L.Link.coming g.L.Link.faults c.lines.link) (sink_seen g.K.Sink.written g.K.Sink.faults
+    c.lines.output) o)
     c.lines.disk c.lines.running) c.lines.lines.ahead (g.S.Source.left c.lines.input) (g.S.Source.faults c.lines.input)) all
     (c.lines.invariant.read snap f k n seen is lines script)
 

@@ -1,4 +1,4 @@
-use Rattle.std.proofs.Common.{◌≡◌, [], ℕ}
+use Rattle.std.proofs.Common.{◌≡◌, []}
 use Rattle.node_defs.specs.Lives.{Found}
 use Rattle.node_defs.specs.Nodes.{Node, Snapper}
 use Rattle.node_traces.specs.Outside.{SourceSeen}
@@ -17,8 +17,10 @@ invariant-lines g l = record {
   read : (snap : Snapper) (f : Found) (k : SourceSeen) (n : Node)
       → IsSeen k l.fn.lines.ahead (g.S.Source.left l.fn.input) (g.S.Source.faults l.fn.input)
       → IsNode (g.D.Disk.seen l.fn.disk) (g.D.Disk.may_leave l.fn.disk) l.fn.running n [] → n.lines ≡ l.fn.go → n.script ≡ 0
-      → SeenAs (λ o. ReadsOn g.D.Disk.seen g.D.Disk.may_leave g.D.Disk.moment g.D.Disk.left_since (cast_in l.fn.running) snap most_line_bytes f n
-      (outside (link_seen g.L.Link.sent g.L.Link.coming g.L.Link.faults l.fn.link) (sink_seen g.K.Sink.written g.K.Sink.faults l.fn.output) k)
+      → SeenAs (λ o. ReadsOn g.D.Disk.seen g.D.Disk.may_leave g.D.Disk.moment g.D.Disk.left_since
+      (cast_in l.fn.running) snap most_line_bytes f n
+      (outside (link_seen g.L.Link.sent g.L.Link.coming g.L.Link.faults l.fn.link) (sink_seen g.K.Sink.written g.K.Sink.faults
+      l.fn.output) k)
       l.fn.disk l.count
       (outside (link_seen g.L.Link.sent g.L.Link.coming g.L.Link.faults l.link) (sink_seen g.K.Sink.written g.K.Sink.faults l.output) o)
       l.disk l.running) l.lines.ahead (g.S.Source.left l.input) (g.S.Source.faults l.input);

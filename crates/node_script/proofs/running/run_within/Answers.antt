@@ -11,7 +11,8 @@ pub returns-in-Ok-clause-ends : goal.returns-in-Ok-clause-ends
 returns-in-Ok-clause-ends g c = λ snap f k n seen is lines script.
     let so = c.in-Ok.ensures.goes_on snap f k n seen is lines script in (
       _,
-      ends-at-last g.D.Disk.seen g.D.Disk.may_leave g.D.Disk.moment g.D.Disk.left_since (λ d image left. g.D.Disk.only_now d image left) snap f _ _ _
+      ends-at-last g.D.Disk.seen g.D.Disk.may_leave g.D.Disk.moment g.D.Disk.left_since (λ d image left. g.D.Disk.only_now d image left)
+          snap f _ _ _
           (cast_in c.args.running) n _
           (link_seen g.L.Link.sent g.L.Link.coming g.L.Link.faults c.each_line.new.link)
           (sink_seen g.K.Sink.written g.K.Sink.faults c.each_line.new.output) c.args.disk.now c.each_line.new.disk c.in-Ok._node c.args.go
