@@ -6,7 +6,7 @@ ghost use Rattle.group_defs.specs.Accounts.{account_of};
 ghost use Rattle.rp_base.specs.Rosters.{IsRising};
 ghost use Rattle.accounts.specs.Views.{account};
 ghost use Rattle.audit_defs.specs.Players as plain;
-ghost use Rattle.audit_turns.specs.Players.{IsPlayer};
+ghost use Rattle.audit_walk.specs.Turns.{IsPlayer};
 ghost use Rattle.audit_core.specs.Found.{grounds_of};
 
 use accounts::{Account, copy_account};

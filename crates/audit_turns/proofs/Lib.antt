@@ -3,3 +3,4 @@ pub mod Beginning
 pub mod Spots
 pub mod Walking
 pub mod Written
+pub mod Cores
