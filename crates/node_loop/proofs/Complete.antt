@@ -1,0 +1,199 @@
+-- What a run in order may stop for.
+use Rattle.std.proofs.Common.{◌≡◌, ◌≢◌, ◌⊎◌, inl, inr, ℕ, ◌+◌, ◌≤◌, Bool, true, false, List, [], ◌∷◌, Option, Some, None, Result, Ok, Err, refl, sym, ap, subst, arith, ◌∙◌}
+use Rattle.std.specs.Prelude.{IfSome, if◌then◌else◌}
+use Rattle.kit_defs.specs.Kits.{Kit}
+use Rattle.input_defs.specs.Fronts.{Front}
+use Rattle.journal_defs.specs.declared.Version.{Version}
+use Rattle.journal_defs.specs.Entries.{Entry}
+use Rattle.node_defs.specs.Scripts.{most_lines}
+use Rattle.node_defs.specs.Casts.{Cast, cast_of, from_start, hosted_by}
+use Rattle.node_defs.specs.Lines.{Stop, Ended, NoMemory, ReadFailed, WriteFailed, DiskFailed, BindFailed, BadKit, BadLine, BadSnap, BadJournal, Full, status_of}
+use Rattle.node_defs.specs.Lives.{Found}
+use Rattle.node_defs.specs.Nodes.{Node, Mark, Snapper, at_first, reads, reads_one, takes_up}
+use Rattle.node_laws.proofs.Openings.{opens_sound}
+use Rattle.node_traces.specs.Outside.{LinkSeen, SinkSeen, SourceSeen}
+use Rattle.node_traces.specs.Goes.{Outside, Goes}
+use Rattle.node_input.specs.Kits.{BeginsWith, HasKit, HasNoKit, node_front}
+use Rattle.node_script.specs.Sources.{most_line_bytes}
+use Rattle.node_script.specs.Words.{HoldsAs}
+use Rattle.node_script.specs.Words.{Unopened, reading, opening, outside}
+use Rattle.node_script.specs.Words.{Unread, no_memory, no_disk, no_header, no_entry}
+use Rattle.stop_laws.specs.Scripts.{CarriesOut, IsScript}
+use Rattle.stop_laws.specs.Stops.{CanStop, CanHaveStopped}
+use Rattle.stop_laws.proofs.Carried.{script_is_carried_out}
+use Rattle.stop_laws.proofs.Stopping.{stops_only_so}
+use Rattle.node_loop.specs.Ended.{EndsWith}
+use Rattle.node_loop.specs.Inputs.{IsInOrder, IsJournalOf}
+use Rattle.node_loop.specs.Runs.{HasRun, HasStopped, no_kit, not_opened, no_snapshot, opened_on, ran}
+use Rattle.node_loop.proofs.InOrder.{fits-there, no-place, not-other}
+
+-- a stop for no fault of kit, script, snapshot or journal
+abbrev pub IsNoFault : Stop → Type 0
+IsNoFault (BadKit fault) = ⊥
+IsNoFault (BadLine line) = ⊥
+IsNoFault (BadSnap line) = ⊥
+IsNoFault (BadJournal place) = ⊥
+IsNoFault _ = Unit {0}
+
+no-fault : (why : Stop) → CanStop why → ((number : ℕ) → why ≢ BadLine number) → IsNoFault why
+no-fault (BadKit fault) can other = can
+no-fault (BadLine line) can other = absurd (other line refl)
+no-fault (BadSnap line) can other = can
+no-fault (BadJournal place) can other = can
+no-fault _ can other = tt
+
+-- ---- the input after the kit
+
+-- the script of this kit is left, and the file is its node's
+record InOrder (kit : Kit) (left : Option (List ℕ)) (file : List ℕ) : Type 0 where
+  rest : List ℕ
+  told : left ≡ Some rest
+  script : IsScript most_line_bytes (hosted_by kit) most_lines rest
+  journal : (file ≡ []) ⊎ IsJournalOf kit file
+
+after-kit : (bytes file : List ℕ) (kit : Kit) (go : ℕ) (left : Option (List ℕ)) → IsInOrder bytes file → BeginsWith (Some bytes) kit go left
+    → InOrder kit left file
+after-kit bytes file kit go None order begins = absurd begins
+after-kit bytes file kit go (Some rest) order begins =
+    let read : Front = record { kit = kit; line = go + 1; rest = rest } in
+    let both : Ok order.front ≡ Ok read = sym order.begins ∙ begins in
+    let same : order.front ≡ read = cc in
+    record {
+      rest = rest;
+      told = refl;
+      script = subst (λ (f : Front). IsScript most_line_bytes (hosted_by f.kit) most_lines f.rest) same order.script;
+      journal = subst (λ (f : Front). (file ≡ []) ⊎ IsJournalOf f.kit file) same order.journal;
+    }
+
+-- ---- a node that opened
+
+reads-script : (c : Cast) (n : Node) (es : List Entry) → (reads c n es).script ≡ n.script
+unfolding reads
+reads-script c n [] = refl
+reads-script c n (e ∷ es) = by (takes_up c n e) (reads-script c (reads_one c n e) es)
+  where
+    by : (b : Bool) → (reads c (reads_one c n e) es).script ≡ n.script
+        → (if b then reads c (reads_one c n e) es else record n { stopped = Some (BadJournal n.gate) }).script ≡ n.script
+    by true is = is
+    by false _ = refl
+
+-- it carries out its script, and stops as a node that ran may
+record Ends (last : Node) : Type 0 where
+  carries : CarriesOut last
+  can : CanHaveStopped last.stopped
+
+module _ (kit : Kit) (snap : Snapper) (go : ℕ) (file : List ℕ) (x : Outside) (order : InOrder kit x.source.left file) where
+  ends : (v : Version) (es : List Entry) (last : Node) (y : Outside) → HoldsAs kit v es (Some file)
+      → Goes (cast_of kit v) snap most_line_bytes (opened_on kit v go es) x last y → Ends last
+  ends v es last y holds goes =
+      let c = cast_of kit v in
+      let n : Node = opened_on kit v go es in
+      let opened = opens_sound c (from_start c) go es (fits-there kit file v es order.journal holds) in
+      let few : n.script + most_lines ≤ most_lines = omega (arith, reads-script c (at_first (from_start c) go) es) in
+      record {
+        carries = script_is_carried_out c snap most_line_bytes n last x y most_lines order.rest goes opened.goes_on opened.tasks few order.told
+            order.script;
+        can = stops_only_so c snap most_line_bytes n last x y goes opened.goes_on;
+      }
+
+  stops-fine : (last : Node) (why : Stop) → last.stopped ≡ Some why → Ends last → IsNoFault why
+  stops-fine last why is end = no-fault why (subst CanHaveStopped is end.can) (λ number e. absurd (end.carries.no_line number
+      (is ∙ ap (λ (w : Stop). Some w) e)))
+
+  unread-fine : (why : Stop) → Unread kit go (Some file) why → IsNoFault why
+  unread-fine _ no_memory = tt
+  unread-fine _ no_disk = tt
+  unread-fine _ (no_header other) = absurd (not-other kit file order.journal other)
+  unread-fine _ (no_entry v es place breaks) = absurd (no-place kit go file v es place order.journal breaks)
+
+  unopened-fine : (why : Stop) (y : Outside) → Unopened kit snap most_line_bytes go (Some file) x y why → IsNoFault why
+  unopened-fine _ y (reading why unread same) = unread-fine why unread
+  unopened-fine _ y (opening why v es holds stops) = stops-fine stops.last why stops.stops (ends v es stops.last y holds stops.goes)
+
+-- ---- a run
+
+no-kit-fine : (left : Option (List ℕ)) (steady faults : ℕ) (bytes file : List ℕ) (why : Stop) → left ≡ Some bytes → IsInOrder bytes file
+    → HasNoKit (record { left = left; faults = steady }) faults why → IsNoFault why
+no-kit-fine left steady faults bytes file (BadKit fault) is order none =
+    let refused : node_front bytes ≡ Err fault = subst (λ (o : Option (List ℕ)). IfSome o (λ b. node_front b ≡ Err fault)) is none.0 in
+    let both : Ok order.front ≡ Err fault = sym order.begins ∙ refused in
+    absurd cc
+no-kit-fine left steady faults bytes file (BadLine line) is order none = none
+no-kit-fine left steady faults bytes file (BadSnap line) is order none = none
+no-kit-fine left steady faults bytes file (BadJournal place) is order none = none
+no-kit-fine left steady faults bytes file _ is order none = tt
+
+module _ {D : Type 0} (seen : D → Option (List ℕ)) (may_leave : D → List ℕ → Type 0) (moment : D → ℕ)
+    (left_since : D → ℕ → List ℕ → Type 0) (snap : Snapper) (f : Found) (k : SourceSeen) (link : LinkSeen) (sink : SinkSeen) (old : D)
+    (left : Option (List ℕ)) (faults : ℕ) (link_now : LinkSeen) (sink_now : SinkSeen) (new : D) (bytes file : List ℕ)
+    (tells : k.left ≡ Some bytes) (holds : seen old ≡ Some file) (order : IsInOrder bytes file) where
+  kit-there : (kit : Kit) (go : ℕ) (l : SourceSeen) → HasKit k kit go l → InOrder kit l.left file
+  kit-there kit go l has =
+      after-kit bytes file kit go l.left order (subst (λ (o : Option (List ℕ)). BeginsWith o kit go l.left) tells has.begins)
+
+  run-ends : (kit : Kit) (go : ℕ) (l m : SourceSeen) (last : Node) → HasKit k kit go l
+      → HasRun seen may_leave moment left_since kit snap f go (outside link sink l) old last (outside link_now sink_now m) new → Ends last
+  run-ends kit go l m last has run = ends kit snap go file (outside link sink l) (kit-there kit go l has) run.version run.entries last
+      (outside link_now sink_now m) (subst (HoldsAs kit run.version run.entries) holds run.holds) run.goes
+
+  pub in-order : (why : Stop) → HasStopped seen may_leave moment left_since snap f k link sink old left faults link_now sink_now new why
+      → IsNoFault why
+  in-order _ (no_kit why none links sinks disks) = no-kit-fine k.left k.faults faults bytes file why tells order none
+  in-order _ (not_opened why ahead read) =
+      let l = read.source in
+      let x = outside link sink l in
+      let y = outside link_now sink_now l in
+      unopened-fine read.kit snap read.go file x (kit-there read.kit read.go l read.has) why y
+      (subst (λ (o : Option (List ℕ)). Unopened read.kit snap most_line_bytes read.go o x y why) holds read.holds.1.unopened)
+  in-order _ (ran why ahead can read) =
+      let end = run-ends read.kit read.go read.source read.holds.source read.holds.holds.0 read.has read.holds.holds.2 in
+      no-fault why can (λ number e. absurd (end.carries.no_line number (read.holds.holds.1 ∙ ap (λ (w : Stop). Some w) e)))
+  in-order _ (no_snapshot number ahead read) =
+      let end = run-ends read.kit read.go read.source read.holds.source read.holds.holds.0 read.has read.holds.holds.3 in
+      absurd (end.carries.no_mark [] read.holds.holds.1.tasks)
+
+-- ---- the status
+
+-- a stop that is no fault, and for which nothing failed
+abbrev pub IsFine : ℕ → Type 0
+IsFine status = (status ≡ 0) ⊎ (status ≡ 1) ⊎ (status ≡ 6) ⊎ (status ≡ 9)
+
+fine-stop : (why : Stop) → IsNoFault why → why ≢ ReadFailed → why ≢ WriteFailed → why ≢ DiskFailed → IsFine (status_of why)
+fine-stop Ended is read write disk = inl refl
+fine-stop NoMemory is read write disk = inr (inl refl)
+fine-stop ReadFailed is read write disk = absurd (read refl)
+fine-stop WriteFailed is read write disk = absurd (write refl)
+fine-stop DiskFailed is read write disk = absurd (disk refl)
+fine-stop BindFailed is read write disk = inr (inr (inl refl))
+fine-stop (BadKit fault) is read write disk = absurd is
+fine-stop (BadLine line) is read write disk = absurd is
+fine-stop (BadSnap line) is read write disk = absurd is
+fine-stop (BadJournal place) is read write disk = absurd is
+fine-stop (Full whole entry) is read write disk = inr (inr (inr refl))
+
+pub fine-status : (why : Stop) (status : ℕ) (old new : SinkSeen) → EndsWith why status old new → IsNoFault why → why ≢ ReadFailed → why ≢ WriteFailed
+    → why ≢ DiskFailed → IsFine status
+fine-status why status old new (inl said) is read write disk = subst IsFine (sym said.0) (fine-stop why is read write disk)
+fine-status why status old new (inr forgot) is read write disk = inr (inl forgot.0)
+
+-- ---- every status
+
+abbrev pub IsStatus : ℕ → Type 0
+IsStatus status = (status ≡ 0) ⊎ (status ≡ 1) ⊎ (status ≡ 3) ⊎ (status ≡ 4) ⊎ (status ≡ 5) ⊎ (status ≡ 6) ⊎ (status ≡ 7) ⊎ (status ≡ 8) ⊎ (status ≡ 9)
+
+each-stop : (why : Stop) → IsStatus (status_of why)
+each-stop Ended = inl refl
+each-stop NoMemory = inr (inl refl)
+each-stop ReadFailed = inr (inr (inl refl))
+each-stop WriteFailed = inr (inr (inr (inl refl)))
+each-stop DiskFailed = inr (inr (inr (inr (inl refl))))
+each-stop BindFailed = inr (inr (inr (inr (inr (inl refl)))))
+each-stop (BadKit fault) = inr (inr (inr (inr (inr (inr (inl refl))))))
+each-stop (BadLine line) = inr (inr (inr (inr (inr (inr (inl refl))))))
+each-stop (BadSnap line) = inr (inr (inr (inr (inr (inr (inl refl))))))
+each-stop (BadJournal place) = inr (inr (inr (inr (inr (inr (inr (inl refl)))))))
+each-stop (Full whole entry) = inr (inr (inr (inr (inr (inr (inr (inr refl)))))))
+
+pub each-status : (why : Stop) (status : ℕ) (old new : SinkSeen) → EndsWith why status old new → IsStatus status
+each-status why status old new (inl said) = subst IsStatus (sym said.0) (each-stop why)
+each-status why status old new (inr forgot) = inr (inl forgot.0)

@@ -1,0 +1,7 @@
+mod Joined
+mod Last
+mod Causes
+mod Statuses
+mod InOrder
+mod Complete
+mod Ending

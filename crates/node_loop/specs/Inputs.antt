@@ -1,0 +1,32 @@
+-- An input and a journal with which a node runs to the input's end.
+use Rattle.std.specs.Prelude.{◌≡◌, ◌⊎◌, ℕ, List, [], Option, IsSomeAnd, Ok}
+use Rattle.kit_defs.specs.Kits.{Kit}
+use Rattle.input_defs.specs.Fronts.{Front}
+use Rattle.journal_defs.specs.declared.Version.{Version}
+use Rattle.journal_defs.specs.Entries.{Entry}
+use Rattle.journal_defs.specs.Journals.{ReadsAs}
+use Rattle.node_defs.specs.Scripts.{most_lines}
+use Rattle.node_defs.specs.Casts.{cast_of, from_start, hosted_by}
+use Rattle.node_defs.specs.Lives.{FitsFrom}
+use Rattle.node_input.specs.Kits.{node_front}
+use Rattle.node_script.specs.Sources.{most_line_bytes}
+use Rattle.stop_laws.specs.Scripts.{IsScript}
+
+-- a journal of this kit's node: each of its entries a hosted process may have written where it is
+pub record IsJournalOf (kit : Kit) (file : List ℕ) : Type 0 where
+  pub version : Version
+  pub entries : List Entry
+  pub reads : ReadsAs (cast_of kit version).header file entries
+  pub fits : FitsFrom (cast_of kit version) (from_start (cast_of kit version)).from entries
+
+-- The input is a kit that hosts a process and then a script of at most 1,000,000 lines in the node's own words; and the file is empty, or a
+-- journal of the kit's node.
+pub record IsInOrder (bytes file : List ℕ) : Type 0 where
+  pub front : Front
+  pub begins : node_front bytes ≡ Ok front
+  pub script : IsScript most_line_bytes (hosted_by front.kit) most_lines front.rest
+  pub journal : (file ≡ []) ⊎ IsJournalOf front.kit file
+
+-- the same, of an input and a disk that tell what they hold
+abbrev pub TellInOrder : Option (List ℕ) → Option (List ℕ) → Type 0
+TellInOrder left seen = IsSomeAnd left (λ bytes. IsSomeAnd seen (λ file. IsInOrder bytes file))

@@ -1,0 +1,93 @@
+-- The run of a node, from its kit to its stop, by what input, link, output and disk were before it and are after it.
+use Rattle.std.specs.Prelude.{◌≡◌, ◌⊎◌, ℕ, List, [], ◌∷◌, Option, Some, IsSome}
+use Rattle.kit_defs.specs.Kits.{Kit}
+use Rattle.journal_defs.specs.declared.Version.{Version}
+use Rattle.journal_defs.specs.Entries.{Entry}
+use Rattle.journal_defs.specs.Crashes.{Stands}
+use Rattle.journal_disk.specs.Disks.{HasRest, LeavesOnly, LeavesStaged}
+use Rattle.node_defs.specs.Casts.{Cast, cast_of, from_start}
+use Rattle.node_defs.specs.Lines.{Stop, BadLine}
+use Rattle.node_defs.specs.Lives.{Found}
+use Rattle.node_defs.specs.Nodes.{Node, Answer, Mark, Snapper, opens}
+use Rattle.node_traces.specs.Outside.{LinkSeen, SinkSeen, SourceSeen}
+use Rattle.node_traces.specs.Goes.{Outside, Goes}
+use Rattle.node_traces.specs.Stops.{LeftBy}
+use Rattle.node_script.specs.Words.{IsAt}
+use Rattle.node_input.specs.Kits.{HasKit, HasNoKit}
+use Rattle.node_script.specs.Sources.{most_line_bytes}
+use Rattle.node_script.specs.Sources.{IsSeen, SeenAs}
+use Rattle.node_script.specs.Words.{HoldsAs}
+use Rattle.node_script.specs.Words.{Unopened, outside}
+use Rattle.stop_laws.specs.Stops.{CanStop}
+
+-- the node of this kit, opened on a journal of this kind with these entries; the line `go` of the kit has this number
+abbrev pub opened_on : Kit → Version → ℕ → List Entry → Node
+opened_on kit version go es = opens (cast_of kit version) (from_start (cast_of kit version)) go es
+
+-- The image reads as what the run found, with the entry that every image had staged or without it; or as what a stop after some front of the
+-- answers leaves.
+abbrev pub MayBeLeft : Cast → Snapper → Found → Node → List Answer → (List ℕ → Type 0) → List ℕ → Type 0
+MayBeLeft c snap f n answers images image = LeavesStaged c.header f.sure images image ⊎ LeftBy c snap f n answers [] image
+
+-- Once the opening was over the journal was at rest, with the entries of some node of the run. From that moment on a crash leaves what a stop
+-- after some front of the answers leaves. So it is of a journal too that this run has made.
+pub record LeavesOnceOpened {D : Type 0} (seen : D → Option (List ℕ)) (may_leave : D → List ℕ → Type 0) (moment : D → ℕ)
+    (left_since : D → ℕ → List ℕ → Type 0) (c : Cast) (snap : Snapper) (f : Found) (n : Node) (answers : List Answer) (new : D) : Type 0 where
+  pub disk : D
+  pub begun : Node
+  pub rest : HasRest (seen disk) (may_leave disk) c.header begun.kept begun.gate
+  pub leaves : LeavesOnly moment left_since disk new (LeftBy c snap f n answers [])
+
+-- The node of this kit was opened on entries that the disk held, and after its opening it went on to node `last`: x is link, output and input
+-- before, and y is what they are then. What a crash leaves at any moment is what was found, or what a stop leaves; and what the next run
+-- finds is the entries that are kept, perhaps with one more that was staged. `f.sure` is what this run found.
+pub record HasRun {D : Type 0} (seen : D → Option (List ℕ)) (may_leave : D → List ℕ → Type 0) (moment : D → ℕ)
+    (left_since : D → ℕ → List ℕ → Type 0) (kit : Kit) (snap : Snapper) (f : Found) (go : ℕ) (x : Outside) (old : D) (last : Node)
+    (y : Outside) (new : D) : Type 0 where
+  pub version : Version
+  pub entries : List Entry
+  pub holds : HoldsAs kit version entries (seen old)
+  pub goes : Goes (cast_of kit version) snap most_line_bytes (opened_on kit version go entries) x last y
+  pub leaves : IsSome (seen old) → Stands (cast_of kit version).header f.sure (may_leave old)
+      → LeavesOnly moment left_since old new
+      (MayBeLeft (cast_of kit version) snap f (opened_on kit version go entries) goes.answers (may_leave old))
+  pub once_opened : IsSome (seen old) → LeavesOnceOpened seen may_leave moment left_since (cast_of kit version) snap f
+      (opened_on kit version go entries) goes.answers new
+  pub finds : IsSome (seen old) → Stands (cast_of kit version).header last.kept (may_leave new)
+
+-- The node has not opened, and this is why. Its journal is as it was found: at every moment a crash leaves what the run found, with the
+-- staged entry or without it, and the next run finds it again.
+pub record HasNotOpened {D : Type 0} (seen : D → Option (List ℕ)) (may_leave : D → List ℕ → Type 0) (moment : D → ℕ)
+    (left_since : D → ℕ → List ℕ → Type 0) (kit : Kit) (snap : Snapper) (f : Found) (go : ℕ) (x : Outside) (old : D) (why : Stop)
+    (y : Outside) (new : D) : Type 0 where
+  pub unopened : Unopened kit snap most_line_bytes go (seen old) x y why
+  pub leaves : (version : Version) → IsSome (seen old) → Stands (cast_of kit version).header f.sure (may_leave old)
+      → LeavesOnly moment left_since old new (LeavesStaged (cast_of kit version).header f.sure (may_leave old))
+  pub finds : (version : Version) → IsSome (seen old) → Stands (cast_of kit version).header f.sure (may_leave old)
+      → Stands (cast_of kit version).header f.sure (may_leave new)
+
+-- a kit was read up to its line `go`, and of it, of the number of that line and of the input after it this holds
+pub record HasRead (k : SourceSeen) (P : Kit → ℕ → SourceSeen → Type 0) : Type 0 where
+  pub kit : Kit
+  pub go : ℕ
+  pub source : SourceSeen
+  pub has : HasKit k kit go source
+  pub holds : P kit go source
+
+-- The run of a node has ended so. There was no kit, and nothing else was touched; or the node of the kit has not opened; or it ran, and stopped;
+-- or it ran up to a line that asks for a snapshot, which is not made yet, and ended there as at a line that is none.
+pub data HasStopped {D : Type 0} (seen : D → Option (List ℕ)) (may_leave : D → List ℕ → Type 0) (moment : D → ℕ)
+    (left_since : D → ℕ → List ℕ → Type 0) (snap : Snapper) (f : Found) (k : SourceSeen) (link : LinkSeen) (sink : SinkSeen) (old : D)
+    (left : Option (List ℕ)) (faults : ℕ) (link_now : LinkSeen) (sink_now : SinkSeen) (new : D) : Stop → Type 0 where
+  no_kit : (why : Stop) → HasNoKit k faults why → link_now ≡ link → sink_now ≡ sink → new ≡ old
+      → HasStopped seen may_leave moment left_since snap f k link sink old left faults link_now sink_now new why
+  not_opened : (why : Stop) (ahead : List ℕ) → HasRead k (λ kit go l. IsSeen l ahead left faults
+      × HasNotOpened seen may_leave moment left_since kit snap f go (outside link sink l) old why (outside link_now sink_now l) new)
+      → HasStopped seen may_leave moment left_since snap f k link sink old left faults link_now sink_now new why
+  ran : (why : Stop) (ahead : List ℕ) → CanStop why → HasRead k (λ kit go l. SeenAs (λ m. (last : Node) × (last.stopped ≡ Some why)
+      × HasRun seen may_leave moment left_since kit snap f go (outside link sink l) old last (outside link_now sink_now m) new) ahead left faults)
+      → HasStopped seen may_leave moment left_since snap f k link sink old left faults link_now sink_now new why
+  no_snapshot : (number : ℕ) (ahead : List ℕ) → HasRead k (λ kit go l. SeenAs (λ m. (last : Node) × IsAt last (Mark ∷ [])
+      × (last.lines ≡ number)
+      × HasRun seen may_leave moment left_since kit snap f go (outside link sink l) old last (outside link_now sink_now m) new) ahead left faults)
+      → HasStopped seen may_leave moment left_since snap f k link sink old left faults link_now sink_now new (BadLine number)

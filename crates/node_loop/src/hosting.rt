@@ -1,0 +1,125 @@
+//! A node from its kit to its stop.
+ghost use Rattle.std.specs.Prelude.{◌≡◌, ◌≢◌, ◌⊎◌, [], ℕ, codes};
+ghost use Rattle.kit_defs.specs.Kits.{IsKit};
+ghost use Rattle.rp_base.specs.Causes.{Rose};
+ghost use Rattle.node_defs.specs.Lives.{Found};
+ghost use Rattle.node_defs.specs.Nodes.{Snapper};
+ghost use Rattle.node_traces.specs.Outside.{SourceSeen};
+ghost use Rattle.node_traces.specs.Seen.{link_seen, sink_seen, source_seen};
+ghost use Rattle.node_script.specs.Words.{stop as stop_of};
+ghost use Rattle.node_input.specs.Kits.{HasKit};
+ghost use Rattle.node_script.specs.Sources.{IsSeen};
+ghost use Rattle.node_script.specs.Words.{StopsByDisk};
+ghost use Rattle.node_loop.specs.Ended.{HasEnded, SaysLast};
+ghost use Rattle.node_loop.specs.Inputs.{TellInOrder};
+ghost use Rattle.node_loop.specs.Runs.{HasStopped};
+
+use crate::last_lines::tell;
+use node_input::{Front, Kit, Lines, read_kit};
+use node_script::{Stop, open, run_script};
+use rp_base::{Disk, Link, Sink, Source};
+use std::alloc::Global;
+
+// Opens the node of the kit, whose line `go` has this number, and carries out its script.
+#[tactic(none)]
+fn run_node<S: Source, K: Sink, D: Disk, L: Link>(
+    alloc: Global,
+    kit: &Kit,
+    go: usize,
+    lines: &mut Lines,
+    input: &mut S,
+    output: &mut K,
+    disk: &mut D,
+    link: &mut L,
+) -> Stop
+    requires { IsKit kit.now }
+    ensures stops { (snap : Snapper) (f : Found) (k l : SourceSeen) → HasKit k kit.now go l
+        → IsSeen l lines.old.ahead (S.left input.old) (S.faults input.old)
+        → HasStopped D.seen D.may_leave D.moment D.left_since snap f k
+        (link_seen L.sent L.coming L.faults link.old) (sink_seen K.written K.faults output.old) disk.old (S.left input.new) (S.faults input.new)
+        (link_seen L.sent L.coming L.faults link.new) (sink_seen K.written K.faults output.new) disk.new (stop_of result) }
+    ensures cause { StopsByDisk (D.faults disk.old) (D.faults disk.new) (stop_of result) }
+{
+    match open(alloc, kit, disk, link, output) {
+        Ok(running) => run_script(alloc, running, go, lines, input, disk, link, output),
+        Err(why) => why,
+    }
+}
+
+// Reads the kit, opens its node and carries out the script.
+#[tactic(none)]
+fn run<S: Source, K: Sink, D: Disk, L: Link>(
+    alloc: Global,
+    input: &mut S,
+    output: &mut K,
+    disk: &mut D,
+    link: &mut L,
+) -> Stop
+    ensures stops { (snap : Snapper) (f : Found)
+        → HasStopped D.seen D.may_leave D.moment D.left_since snap f (source_seen S.left S.faults input.old)
+        (link_seen L.sent L.coming L.faults link.old) (sink_seen K.written K.faults output.old) disk.old (S.left input.new) (S.faults input.new)
+        (link_seen L.sent L.coming L.faults link.new) (sink_seen K.written K.faults output.new) disk.new (stop_of result) }
+    ensures cause { StopsByDisk (D.faults disk.old) (D.faults disk.new) (stop_of result) }
+{
+    let mut lines = Lines::new(alloc);
+    match read_kit(alloc, &mut lines, input) {
+        Ok(Front { kit, go }) => run_node(alloc, &kit, go, &mut lines, input, output, disk, link),
+        Err(stop) => stop,
+    }
+}
+
+/// A node: reads a kit up to the line `go`, opens the journal of the processes that it hosts, or begins one on an empty disk, and then carries
+/// out the lines of the script to the input's end. It answers the status that the program ends with.
+///
+/// | Status | Written last | Comes |
+/// |---|---|---|
+/// | 0 | the lines of the script's last turn, or those of the hosts | the input was read to its end |
+/// | 1 | what was written before | no memory is left |
+/// | 3 | `stop 3 read` | only where a read failed |
+/// | 4 | a front of some lines | only where a write failed |
+/// | 5 | `stop 5 disk` | only where a call of the disk failed |
+/// | 6 | `stop 6 link` | only where a bind failed |
+/// | 7 | `stop 7 ..` with the number of a line, counted from 1 | the line has this fault, or is none of the script; `snap` is none yet |
+/// | 8 | `stop 8 journal 0 PLACE` | the journal is another node's, or what it has at this place is no entry of this one |
+/// | 9 | `stop 9 full LENGTH ENTRY` | the journal has no room for an entry |
+///
+/// A line that says why it stops is written or not, as the output takes it or fails; the status is the same.
+#[tactic(none)]
+pub fn host<S: Source, K: Sink, D: Disk, L: Link>(
+    alloc: Global,
+    input: &mut S,
+    output: &mut K,
+    disk: &mut D,
+    link: &mut L,
+) -> u8
+    // Whatever the status: what was done is a run of the node of the definitions, up to a stop with this status, and then the stop's line.
+    ensures ended { (snap : Snapper) (f : Found)
+        → HasEnded D.seen D.may_leave D.moment D.left_since snap f (source_seen S.left S.faults input.old)
+        (link_seen L.sent L.coming L.faults link.old) (sink_seen K.written K.faults output.old) disk.old (S.left input.new) (S.faults input.new)
+        (link_seen L.sent L.coming L.faults link.new) (sink_seen K.written K.faults output.new) disk.new result }
+
+    // 0: nothing failed but sends and receives, each of which has its line.
+    ensures steady { result ≡ 0 → K.faults output.new ≡ K.faults output.old }
+
+    // 3, 4, 5, 6: only where the source, the sink, the disk or a bind failed; at 6 nothing was sent, and nothing written but the last line.
+    // But for 1, each read and each call of the disk that fails ends the run with its own status.
+    ensures read { result ≡ 3 → Rose (S.faults input.old) (S.faults input.new) }
+    ensures written { result ≡ 4 → Rose (K.faults output.old) (K.faults output.new) }
+    ensures kept { result ≡ 5 → Rose (D.faults disk.old) (D.faults disk.new) }
+    ensures bound { result ≡ 6 → Rose (L.faults link.old) (L.faults link.new) }
+    ensures untold { result ≡ 6 → (L.sent link.new ≡ L.sent link.old)
+        × SaysLast (codes "stop 6 link\n") (sink_seen K.written K.faults output.old) (sink_seen K.written K.faults output.new) }
+    ensures no_read { result ≢ 1 → result ≢ 3 → S.faults input.new ≡ S.faults input.old }
+    ensures no_disk { result ≢ 1 → result ≢ 5 → D.faults disk.new ≡ D.faults disk.old }
+
+    // An input and a journal in order give 0, where memory and room are left and nothing failed; a send or receive that fails changes no
+    // status.
+    ensures completes { TellInOrder (S.left input.old) (D.seen disk.old)
+        → ¬ Rose (S.faults input.old) (S.faults input.new) → ¬ Rose (K.faults output.old) (K.faults output.new)
+        → ¬ Rose (D.faults disk.old) (D.faults disk.new) → (result ≡ 0) ⊎ (result ≡ 1) ⊎ (result ≡ 6) ⊎ (result ≡ 9) }
+    ensures only { (result ≡ 0) ⊎ (result ≡ 1) ⊎ (result ≡ 3) ⊎ (result ≡ 4) ⊎ (result ≡ 5) ⊎ (result ≡ 6) ⊎ (result ≡ 7) ⊎ (result ≡ 8)
+        ⊎ (result ≡ 9) }
+{
+    let stop = run(alloc, input, output, disk, link);
+    tell(alloc, output, stop)
+}

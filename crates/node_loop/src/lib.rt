@@ -1,0 +1,7 @@
+//! A node: a kit is read, its journal is opened, and its script is carried out, up to the stop that ends it (docs/FORMATS.md, «Nodes»).
+#![tactic(auto)]
+
+mod hosting;
+mod last_lines;
+
+pub use hosting::host;

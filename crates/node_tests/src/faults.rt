@@ -1,0 +1,126 @@
+//! Kits, lines and journals that are none.
+use crate::data::{HOSTS, SCRIPT, TREES};
+use crate::runs::{answered, disk_of, joined};
+use node_loop::host;
+use rp_base::{MemSink, MemSource, NoDisk, NoLink, NoMemory};
+use rp_devices::MemLink;
+use std::alloc::Global;
+use std::test::Fail;
+
+/// The answer to this input, which has no kit of a node: neither disk nor link is asked.
+fn without_kit(alloc: Global, input: &[u8]) -> Result<(u8, MemSink), NoMemory> {
+    let mut source = MemSource::new(input.to_vec(alloc)?, Vec::new(alloc));
+    let mut sink = MemSink::new(alloc, Vec::new(alloc));
+    let status = host(
+        alloc,
+        &mut source,
+        &mut sink,
+        &mut NoDisk::new(),
+        &mut NoLink::new(),
+    );
+    Ok((status, sink))
+}
+
+/// The key of process 0 with another last digit.
+const OTHER_KEY: &[u8] =
+    b"key 0 0000000500000004810e5b050b40914a3ceaa445223af68f5da715e941ff8904086b62654840ce0d3bc959584817765217da2e660dcb4d40\n";
+
+#[test]
+fn a_kit_that_is_none_is_told_by_its_line(rt: HostRuntime) -> Result<(), Fail> {
+    let alloc = rt.alloc();
+    let [first, scheme, group, key, other, ..] = TREES;
+    let rest = joined(alloc, &TREES[5..])?;
+    let public = joined(
+        alloc,
+        &[
+            first, scheme, group, key, other, TREES[5], TREES[6], TREES[7], b"go\n",
+        ],
+    )?;
+    for (input, told) in [
+        (
+            joined(alloc, &[first, scheme, group, OTHER_KEY, other, &rest])?,
+            b"stop 7 keymismatch 9\n".as_slice(),
+        ),
+        (
+            joined(alloc, &[first, scheme, key, other, &rest])?,
+            b"stop 7 missing 3\n",
+        ),
+        (
+            joined(alloc, &[first, scheme, group, key, key, other, &rest])?,
+            b"stop 7 repeated 5\n",
+        ),
+        (public, b"stop 7 missing 9\n"),
+        (first.to_vec(alloc)?, b"stop 7 line 2\n"),
+        (Vec::new(alloc), b"stop 7 line 1\n"),
+    ] {
+        let (status, sink) = without_kit(alloc, &input)?;
+        assert_eq!(rt; sink.bytes(), told);
+        assert_eq!(rt; status, 7);
+    }
+    Ok(())
+}
+
+/// What stands before them is carried out.
+#[test]
+fn a_line_that_is_none_ends_the_node(rt: HostRuntime) -> Result<(), Fail> {
+    let alloc = rt.alloc();
+    for line in [
+        b"x\n".as_slice(),
+        b"2 tick\n",
+        b"0 recv 0\n",
+        b"0 recv 1001\n",
+        b"0 tick",
+        b"0 expel 1\n",
+        b"0 submit 6g\n",
+        b"\n",
+    ] {
+        let mut disk = disk_of(alloc, b"")?;
+        let mut link = MemLink::new(alloc, Vec::new(alloc));
+        let script = joined(alloc, &[b"0 recv 1\n", line])?;
+        let (status, sink) = answered(alloc, &script, &mut disk, &mut link)?;
+        assert_eq!(rt;
+            sink.bytes(),
+            joined(alloc, &[HOSTS, b"recv 0 0\nstop 7 line 15\n"])?.as_slice()
+        );
+        assert_eq!(rt; status, 7);
+    }
+    Ok(())
+}
+
+/// A snapshot is not made yet: its line ends the node as one that is none.
+#[test]
+fn no_snapshot_is_made_yet(rt: HostRuntime) -> Result<(), Fail> {
+    let alloc = rt.alloc();
+    let mut disk = disk_of(alloc, b"")?;
+    let mut link = MemLink::new(alloc, Vec::new(alloc));
+    let (status, sink) = answered(alloc, b"snap\n", &mut disk, &mut link)?;
+    assert_eq!(rt;
+        sink.bytes(),
+        joined(alloc, &[HOSTS, b"stop 7 line 14\n"])?.as_slice()
+    );
+    assert_eq!(rt; status, 7);
+    Ok(())
+}
+
+/// A file that is none, and a journal in which the byte at a place was changed.
+#[test]
+fn a_journal_that_is_another_is_told_by_its_place(rt: HostRuntime) -> Result<(), Fail> {
+    let alloc = rt.alloc();
+    let mut whole = disk_of(alloc, b"")?;
+    let mut link = MemLink::new(alloc, Vec::new(alloc));
+    let _ = answered(alloc, SCRIPT, &mut whole, &mut link)?;
+    for (at, told) in [
+        (30, b"stop 8 journal 0 0\n".as_slice()),
+        (100, b"stop 8 journal 0 60\n"),
+    ] {
+        let mut bytes = Vec::new(alloc);
+        for (place, byte) in whole.bytes().iter().enumerate() {
+            bytes.push(if place == at { byte ^ 0x55 } else { *byte })?;
+        }
+        let mut disk = disk_of(alloc, &bytes)?;
+        let (status, sink) = answered(alloc, b"", &mut disk, &mut link)?;
+        assert_eq!(rt; sink.bytes(), told);
+        assert_eq!(rt; status, 8);
+    }
+    Ok(())
+}

@@ -1,0 +1,116 @@
+//! Runs in which nothing stops the node before its input ends.
+use crate::data::{AGAIN, DATAGRAMS, DELIVERED, HOSTS, KIT, SCRIPT};
+use node_loop::host;
+use rp_base::{Link, MemSink, MemSource, NoMemory};
+use rp_devices::{MemDisk, MemLink};
+use std::alloc::Global;
+use std::test::Fail;
+
+/// A disk with these bytes, of which no call fails.
+pub fn disk_of(alloc: Global, bytes: &[u8]) -> Result<MemDisk, NoMemory> {
+    MemDisk::new(alloc, bytes.to_vec(alloc)?, Vec::new(alloc))
+}
+
+/// The status and what was written, of the kit and then these lines.
+pub fn answered(
+    alloc: Global,
+    script: &[u8],
+    disk: &mut MemDisk,
+    link: &mut MemLink,
+) -> Result<(u8, MemSink), NoMemory> {
+    let mut input = KIT.to_vec(alloc)?;
+    input.extend_from_slice(script)?;
+    let mut source = MemSource::new(input, Vec::new(alloc));
+    let mut sink = MemSink::new(alloc, Vec::new(alloc));
+    let status = host(alloc, &mut source, &mut sink, disk, link);
+    Ok((status, sink))
+}
+
+/// These texts one after the other.
+pub fn joined(alloc: Global, texts: &[&[u8]]) -> Result<Vec<u8>, NoMemory> {
+    let mut all = Vec::new(alloc);
+    for text in texts {
+        all.extend_from_slice(text)?;
+    }
+    Ok(all)
+}
+
+#[test]
+fn what_one_submits_both_deliver_and_know_again(rt: HostRuntime) -> Result<(), Fail> {
+    let alloc = rt.alloc();
+    let mut disk = disk_of(alloc, b"")?;
+    let mut link = MemLink::new(alloc, Vec::new(alloc));
+    let (status, sink) = answered(alloc, SCRIPT, &mut disk, &mut link)?;
+    assert_eq!(rt; status, 0);
+    assert_eq!(rt;
+        sink.bytes(),
+        joined(alloc, &[HOSTS, DELIVERED])?.as_slice()
+    );
+    assert_eq!(rt; link.sent().len(), 5);
+
+    let mut again = disk_of(alloc, disk.bytes())?;
+    let (status, sink) = answered(alloc, b"", &mut again, &mut link)?;
+    assert_eq!(rt; status, 0);
+    assert_eq!(rt; sink.bytes(), AGAIN[6]);
+    Ok(())
+}
+
+/// Each has its line; the empty frame is opened, and the process refuses it.
+#[test]
+fn datagrams_that_are_none_are_dropped(rt: HostRuntime) -> Result<(), Fail> {
+    let alloc = rt.alloc();
+    let mut disk = disk_of(alloc, b"")?;
+    let mut link = MemLink::new(alloc, Vec::new(alloc));
+    for datagram in DATAGRAMS {
+        assert!(rt; link.send(47001, datagram).is_ok());
+    }
+    let (status, sink) = answered(alloc, b"1 recv 20\n", &mut disk, &mut link)?;
+    let told = joined(
+        alloc,
+        &[
+            HOSTS,
+            b"drop 1 short\ndrop 1 magic\ndrop 1 badtag\nrefused 1 short\ndrop 1 unknownpeer\ndrop 1 notforme\ndrop 1 othergroup\n",
+            b"drop 1 unknownpeer\nrecv 1 8\n",
+        ],
+    )?;
+    assert_eq!(rt; sink.bytes(), told.as_slice());
+    assert_eq!(rt; status, 0);
+    Ok(())
+}
+
+/// `recv 2` takes two of them, and the third waits.
+#[test]
+fn no_more_come_than_were_asked_for(rt: HostRuntime) -> Result<(), Fail> {
+    let alloc = rt.alloc();
+    let mut disk = disk_of(alloc, b"")?;
+    let mut link = MemLink::new(alloc, Vec::new(alloc));
+    for _ in 0..3 {
+        assert!(rt; link.send(47001, b"").is_ok());
+    }
+    let (status, sink) = answered(alloc, b"1 recv 2\n1 recv 2\n", &mut disk, &mut link)?;
+    let told = joined(
+        alloc,
+        &[
+            HOSTS,
+            b"drop 1 short\ndrop 1 short\nrecv 1 2\ndrop 1 short\nrecv 1 1\n",
+        ],
+    )?;
+    assert_eq!(rt; sink.bytes(), told.as_slice());
+    assert_eq!(rt; status, 0);
+    Ok(())
+}
+
+#[test]
+fn what_an_event_is_refused_for_is_told(rt: HostRuntime) -> Result<(), Fail> {
+    let alloc = rt.alloc();
+    let mut disk = disk_of(alloc, b"")?;
+    let mut link = MemLink::new(alloc, Vec::new(alloc));
+    let script = b"0 tick\n0 renew\n0 join 3\n0 submit -\n";
+    let (status, sink) = answered(alloc, script, &mut disk, &mut link)?;
+    assert_eq!(rt;
+        sink.bytes(),
+        joined(alloc, &[HOSTS, b"refused 0 nokey\n"])?.as_slice()
+    );
+    assert_eq!(rt; status, 0);
+    Ok(())
+}

@@ -1,0 +1,4 @@
+pub mod Stops
+pub mod Binds
+pub mod Scripts
+pub mod Journals
