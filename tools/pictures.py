@@ -204,7 +204,7 @@ def reduced(crates):
 
 # The areas of the crates: where each is drawn, how many crates stand side by side, and its crates, none above one that it uses.
 AREAS = {
-    "the program": (20, 20, 2, "rampart_cli rampart"),
+    "the program": (20, 20, 2, "rampart_cli rampart page"),
     "a replay": (
         20, 121, 2,
         "said_index replay_cast group_questions sound_question trace_defs told_defs told_laws happenings replay_world replay_questions"
@@ -243,6 +243,7 @@ AREAS = {
 # The lines from each area to those that it uses, without those that others imply.
 LINES = {
     ("the program", "chains of views, and guards"): [(200, 20), (200, 13), (1022, 13), (1022, 230), (1040, 230)],
+    ("the program", "a run shown"): [(324, 60), (348, 60)],
     ("a replay", "a member"): [(172, 321), (172, 405)],
     ("a replay", "schedules and stories"): [(250, 321), (250, 394), (430, 394), (430, 413)],
     ("a member", "the rules"): [(172, 606), (172, 622)],

@@ -1,0 +1,74 @@
+-- What was read of an input in memory is all of it, and what was written is what the sink holds.
+use Rattle.std.proofs.Common.{◌≡◌, ℕ, Bool, Option, Some, None, List, [], ◌++◌, length, Err, sym, ap, subst, ◌∙◌, inl, inr, arith}
+use Rattle.std.proofs.lemmas.List.{append-nil, take_all}
+use Rattle.std.specs.Io.KnownBytes.{Consumes, IsAtEnd}
+use Rattle.rp_base.specs.Streams.{Says}
+use Rattle.replay_defs.specs.Reading.{schedule_of}
+use Rattle.story_defs.specs.Stories.{story_of}
+use Rattle.story_cli.specs.Top.{NoStory, NoSchedule}
+use Rattle.rampart_cli.specs.Top.{Reported, Stopped}
+use Rattle.page.specs.Answers.{HasNoReport, IsNoSchedule, IsNoStory, IsReport, Line}
+
+-- an input that tells what it holds, and was read to its end, is what was read
+whole : (told : List ℕ) (now : Option (List ℕ)) (input : List ℕ) → Consumes (Some told) now input → IsAtEnd now → input ≡ told
+whole told None input taken ended = absurd taken
+whole told (Some rest) input taken ended = sym (taken ∙ ap (λ (t : List ℕ). input ++ t) ended ∙ append-nil input)
+
+-- what was said to a sink that held nothing is the line, or a prefix of it
+said : (line bytes : List ℕ) (before now : ℕ) → Says line (Some []) (Some bytes) before now → Line line bytes
+said line bytes before now (inl all) = (length line, omega arith, all.0 ∙ sym (take_all (length line) line (omega arith)))
+said line bytes before now (inr part) = part.0
+
+-- a source that had the input left, and a sink that held nothing
+moved : (P : List ℕ → List ℕ → Type 0) (left input sink : List ℕ) → left ≡ input → sink ≡ [] → P left sink → P input []
+moved P left input sink is empty p = subst (λ (i : List ℕ). P i []) is (subst (λ (s : List ℕ). P left s) empty p)
+
+no_story_in : (input bytes : List ℕ) (now : Option (List ℕ)) (faults faults_now : ℕ)
+    → NoStory (Some input) now (Some []) (Some bytes) faults faults_now → IsNoStory input bytes
+no_story_in input bytes now faults faults_now n = record {
+  fault = n.fault;
+  none = subst (λ (i : List ℕ). story_of i ≡ Err n.fault) (whole input now n.input n.taken n.ended) n.none;
+  told = said _ bytes faults faults_now n.line;
+}
+
+pub no_story : (input bytes left sink : List ℕ) (now : Option (List ℕ)) (faults faults_now : ℕ) → left ≡ input → sink ≡ []
+    → NoStory (Some left) now (Some sink) (Some bytes) faults faults_now → IsNoStory input bytes
+no_story input bytes left sink now faults faults_now is empty n = no_story_in input bytes now faults faults_now
+    (moved (λ (i s : List ℕ). NoStory (Some i) now (Some s) (Some bytes) faults faults_now) left input sink is empty n)
+
+no_schedule_in : (input bytes : List ℕ) (now : Option (List ℕ)) (faults faults_now : ℕ)
+    → NoSchedule (Some input) now (Some []) (Some bytes) faults faults_now → IsNoSchedule input bytes
+no_schedule_in input bytes now faults faults_now n = record {
+  fault = n.fault;
+  none = subst (λ (i : List ℕ). schedule_of i ≡ Err n.fault) (whole input now n.input n.taken n.ended) n.none;
+  told = said _ bytes faults faults_now n.line;
+}
+
+pub no_schedule : (input bytes left sink : List ℕ) (now : Option (List ℕ)) (faults faults_now : ℕ) → left ≡ input → sink ≡ []
+    → NoSchedule (Some left) now (Some sink) (Some bytes) faults faults_now → IsNoSchedule input bytes
+no_schedule input bytes left sink now faults faults_now is empty n = no_schedule_in input bytes now faults faults_now
+    (moved (λ (i s : List ℕ). NoSchedule (Some i) now (Some s) (Some bytes) faults faults_now) left input sink is empty n)
+
+report_in : (short : Bool) (input bytes : List ℕ) (now : Option (List ℕ))
+    → Reported short (Some input) now (Some []) (Some bytes) → IsReport short input bytes
+report_in short input bytes now r =
+    subst (λ (i : List ℕ). IsReport short i bytes) (whole input now r.replayed.input r.replayed.taken r.replayed.ended)
+    (record { run = r.replayed.run; report = r.written; headline = r.headline })
+
+pub report : (short : Bool) (input bytes left sink : List ℕ) (now : Option (List ℕ)) → left ≡ input → sink ≡ []
+    → Reported short (Some left) now (Some sink) (Some bytes) → IsReport short input bytes
+report short input bytes left sink now is empty r = report_in short input bytes now
+    (moved (λ (i s : List ℕ). Reported short (Some i) now (Some s) (Some bytes)) left input sink is empty r)
+
+no_report_in : (input bytes : List ℕ) (now : Option (List ℕ)) (faults faults_now : ℕ)
+    → Stopped (Some input) now (Some []) (Some bytes) faults faults_now → HasNoReport input bytes
+no_report_in input bytes now faults faults_now s = record {
+  fault = s.refused.none.fault;
+  none = s.refused.told;
+  told = said _ bytes faults faults_now s.line;
+}
+
+pub no_report : (input bytes left sink : List ℕ) (now : Option (List ℕ)) (faults faults_now : ℕ) → left ≡ input → sink ≡ []
+    → Stopped (Some left) now (Some sink) (Some bytes) faults faults_now → HasNoReport input bytes
+no_report input bytes left sink now faults faults_now is empty s = no_report_in input bytes now faults faults_now
+    (moved (λ (i t : List ℕ). Stopped (Some i) now (Some t) (Some bytes) faults faults_now) left input sink is empty s)

@@ -1,0 +1,72 @@
+ghost use Rattle.std.specs.Prelude.{◌≡◌, ◌≢◌, ◌⊎◌, [], Bool};
+ghost use Rattle.rp_base.specs.Mem.{sink_bytes};
+ghost use Rattle.command_line.specs.Commands.{Replay};
+ghost use Rattle.story_cli.specs.declared.commands.Command.{Command};
+ghost use Rattle.story_cli.specs.Top as story;
+ghost use Rattle.story_cli.specs.Top.{MakesOf};
+ghost use Rattle.rampart_cli.specs.Top as rampart;
+ghost use Rattle.page.specs.Answers.{HasNoReport, IsNoSchedule, IsNoStory, IsReport};
+
+use rampart_cli::rampart;
+use rp_base::{MemSink, MemSource, NoDisk, NoLink};
+use std::alloc::Global;
+use story_cli::story;
+
+/// The status that a program ended with, and what it wrote.
+#[derive(Drop)]
+pub struct Ran {
+    pub status: u8,
+    pub told: MemSink,
+}
+
+// What a program wrote that ended with this status.
+fn told_at(status: u8, output: MemSink, errors: MemSink) -> MemSink
+    ensures made { status ≡ 0 → result ≡ output }
+    ensures told { status ≢ 0 → result ≡ errors }
+{
+    if status == 0 { output } else { errors }
+}
+
+/// What `story` does at these words and this input.
+pub fn run_story(alloc: Global, words: &[String], input: Vec<u8>) -> Ran
+    ensures made { (c : Command) → story.Asks words.now c → result.status ≡ 0 → MakesOf c input.items (sink_bytes result.told) }
+    ensures silent { result.status ≡ 1 → sink_bytes result.told ≡ [] }
+    ensures words { result.status ≡ 2 → ¬ story.AskAny words.now }
+    ensures story { result.status ≡ 5 → IsNoStory input.items (sink_bytes result.told) }
+    ensures assembles { result.status ≡ 5 → story.Asks words.now Command.Assemble }
+    ensures schedule { result.status ≡ 7 → IsNoSchedule input.items (sink_bytes result.told) }
+    ensures reads { result.status ≡ 7 → story.AskOfSchedule words.now }
+    ensures only { (result.status ≡ 0) ⊎ (result.status ≡ 1) ⊎ (result.status ≡ 2) ⊎ (result.status ≡ 3) ⊎ (result.status ≡ 4)
+        ⊎ (result.status ≡ 5) ⊎ (result.status ≡ 7) }
+{
+    let mut input = MemSource::new(input, Vec::new(alloc));
+    let mut output = MemSink::new(alloc, Vec::new(alloc));
+    let mut errors = MemSink::new(alloc, Vec::new(alloc));
+    let status = story(alloc, words, &mut input, &mut output, &mut errors);
+    let told = told_at(status, output, errors);
+    Ran { status, told }
+}
+
+/// What `rampart` does at words that ask for a report, and this input.
+pub fn run_replay(alloc: Global, words: &[String], input: Vec<u8>) -> Ran
+    ensures made { (short : Bool) → rampart.Asks words.now (Replay short) → result.status ≡ 0
+        → IsReport short input.items (sink_bytes result.told) }
+    ensures silent { (short : Bool) → rampart.Asks words.now (Replay short) → result.status ≡ 1
+        → sink_bytes result.told ≡ [] }
+    ensures none { (short : Bool) → rampart.Asks words.now (Replay short) → result.status ≡ 7
+        → HasNoReport input.items (sink_bytes result.told) }
+    ensures only { (short : Bool) → rampart.Asks words.now (Replay short) → (result.status ≡ 0) ⊎ (result.status ≡ 1)
+        ⊎ (result.status ≡ 3) ⊎ (result.status ≡ 4) ⊎ (result.status ≡ 7) }
+{
+    let mut input = MemSource::new(input, Vec::new(alloc));
+    let mut told = MemSink::new(alloc, Vec::new(alloc));
+    let status = rampart(
+        alloc,
+        words,
+        &mut input,
+        &mut told,
+        &mut NoDisk::new(),
+        &mut NoLink::new(),
+    );
+    Ran { status, told }
+}
