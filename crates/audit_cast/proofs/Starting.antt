@@ -10,9 +10,9 @@ use Rattle.audit_defs.specs.Players.{is_missing, is_repeated, player, player_by,
 use Rattle.audit_defs.specs.Audits.{AuditFault, Missing, Repeated, cast_of}
 use Rattle.audit_sources.specs.declared.hosts.HostedBy.{HostedBy}
 use Rattle.audit_sources.specs.Hosts.{hosted_by, is_host}
-use Rattle.audit_turns.specs.declared.walk.Walk.{Walk}
-use Rattle.audit_turns.specs.Players.{begun}
-use Rattle.audit_turns.specs.Walks.{IsWalk}
+use Rattle.audit_walk.specs.Turns.{Walk}
+use Rattle.audit_walk.specs.Turns.{begun}
+use Rattle.audit_walk.specs.Turns.{IsWalk}
 use Rattle.audit_cast.specs.Casts.{with_any}
 
 -- these were added, and those of the processes that are left come after them

@@ -3,8 +3,8 @@ use Rattle.std.specs.Prelude.{◌≡◌, List, [], Option, Some, None, Result, O
 use Rattle.group_defs.specs.Process.{Setting}
 use Rattle.audit_defs.specs.Players as audit
 use Rattle.audit_defs.specs.Audits.{AuditFault, Known}
-use Rattle.audit_turns.specs.declared.walk.Walk.{Walk}
-use Rattle.audit_turns.specs.Walks.{IsWalk, with_player}
+use Rattle.audit_walk.specs.Turns.{Walk}
+use Rattle.audit_walk.specs.Turns.{IsWalk, with_player}
 
 -- with one process more, where there is one
 abbrev pub with_any : Known → Option audit.Player → Known

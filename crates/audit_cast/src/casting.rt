@@ -6,12 +6,12 @@ ghost use Rattle.audit_defs.specs.Players.{player_by, players_of, setting_of};
 ghost use Rattle.audit_defs.specs.Audits.{Known, cast_of};
 ghost use Rattle.journal_steps.specs.Views.{source as source_of};
 ghost use Rattle.audit_sources.specs.Faults.{Tells};
-ghost use Rattle.audit_turns.specs.Players.{IsPlayer, begun};
-ghost use Rattle.audit_turns.specs.Walks.{IsWalk};
+ghost use Rattle.audit_walk.specs.Turns.{IsPlayer, begun};
+ghost use Rattle.audit_walk.specs.Turns.{IsWalk};
 ghost use Rattle.audit_cast.specs.Casts.{Starts, with_any};
 
 use audit_sources::{AuditFault, HostedBy, Kit, Source, first_missing, first_repeated, host_of};
-use audit_turns::{Player, Walk};
+use audit_walk::{Player, Walk};
 use kit_file::roster_of;
 use rp_base::{NoMemory, Pid, PidSet};
 use std::alloc::Global;

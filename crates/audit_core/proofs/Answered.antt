@@ -18,7 +18,7 @@ use Rattle.audit_laws.proofs.OfListed.{Holds, of-listed}
 use Rattle.audit_laws.proofs.OwnWords.{number-of, of-number, one-process, own-name}
 use Rattle.audit_laws.proofs.Spared.{honest_by_firsts}
 use Rattle.claim_firsts.specs.Seen.{IsAnswered}
-use Rattle.audit_walk.specs.Turns.{all_signed}
+use Rattle.audit_cast.specs.Turns.{all_signed}
 use Rattle.audit_core.specs.Ends.{audited_by}
 
 -- one of these processes signed it

@@ -7,7 +7,7 @@ use Rattle.audit_defs.specs.Sources.{Source, steps_of}
 use Rattle.audit_defs.specs.Players.{Player, setting_of}
 use Rattle.audit_defs.specs.Audits.{Audited, AuditFault, Known, audited, audited_in, cast_of, goes_through, sources_of}
 use Rattle.audit_laws.proofs.OfListed.{Holds, cast-begins, start-holds, through-holds}
-use Rattle.audit_walk.specs.Turns.{Walk}
+use Rattle.audit_cast.specs.Turns.{Walk}
 use Rattle.audit_core.specs.Ends.{Ended, audited_by}
 
 module _ (s : Setting) (sources : List Source) (listed : List ℕ) where

@@ -4,8 +4,8 @@ use Rattle.std.specs.List.{AllZip}
 use Rattle.std.proofs.lemmas.List.{append-nil, append_assoc, drop_all}
 use Rattle.group_defs.specs.Process.{Setting}
 use Rattle.audit_defs.specs.Players as plain
-use Rattle.audit_walk.specs.Turns.{Player}
-use Rattle.audit_walk.specs.Turns.{IsPlayer}
+use Rattle.audit_cast.specs.Turns.{Player}
+use Rattle.audit_cast.specs.Turns.{IsPlayer}
 
 module _ (s : Setting) where
   -- the process of the audit at the same place

@@ -5,8 +5,8 @@ use Rattle.group_defs.specs.Process.{Setting}
 use Rattle.audit_defs.specs.Sources.{Source, steps_of}
 use Rattle.audit_defs.specs.Players.{Player, family_of}
 use Rattle.audit_defs.specs.Audits.{Audited, Known, cast_of, goes_through}
-use Rattle.audit_walk.specs.Turns.{Walk}
-use Rattle.audit_walk.specs.Turns.{IsWalk}
+use Rattle.audit_cast.specs.Turns.{Walk}
+use Rattle.audit_cast.specs.Turns.{IsWalk}
 
 -- The listed processes started, all steps of these journals were taken, and this is known then.
 pub record Ended (s : Setting) (sources : List Source) (listed : List ℕ) (w : Walk) : Type 0 where

@@ -16,8 +16,7 @@ ghost use Rattle.audit_core.specs.Found.{IsFound, evidence, evidence_of, shown, 
 use crate::convicted::own_convictions;
 use crate::findings::Findings;
 use crate::listed::{accounts_of, all_grounds};
-use audit_cast::{Kit, Walk};
-use audit_walk::Firsts;
+use audit_cast::{Firsts, Kit, Walk};
 use findings_json::Conviction;
 use group_questions::{agree, bounded};
 use rp_base::{NoMemory, PidSet};

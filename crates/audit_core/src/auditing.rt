@@ -11,8 +11,9 @@ ghost use Rattle.audit_core.specs.Found.{IsFound, listed_in};
 
 use crate::answers::findings_of;
 use crate::findings::Findings;
-use audit_cast::{AuditFault, Kit, Payload, Source, cast, read_sources};
-use audit_walk::{Judge, Walk, walk_journals};
+use audit_cast::{
+    AuditFault, Judge, Kit, Payload, Source, Walk, cast, read_sources, walk_journals,
+};
 use rp_base::{NoMemory, PidSet};
 use std::alloc::Global;
 

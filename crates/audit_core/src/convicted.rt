@@ -7,7 +7,7 @@ ghost use Rattle.stmt_codec.specs.Views.{claim as claim_of, signed, stmt};
 ghost use Rattle.claim_firsts.specs.Told.{AreSpelled, conviction as conviction_in};
 ghost use Rattle.audit_core.specs.Found.{shown, shown_of};
 
-use audit_walk::Conviction as Lent;
+use audit_cast::Conviction as Lent;
 use findings_json::Conviction;
 use rp_base::NoMemory;
 use std::alloc::Global;

@@ -6,11 +6,11 @@ ghost use Rattle.group_defs.specs.Accounts.{account_of};
 ghost use Rattle.rp_base.specs.Rosters.{IsRising};
 ghost use Rattle.accounts.specs.Views.{account};
 ghost use Rattle.audit_defs.specs.Players as plain;
-ghost use Rattle.audit_walk.specs.Turns.{IsPlayer};
+ghost use Rattle.audit_cast.specs.Turns.{IsPlayer};
 ghost use Rattle.audit_core.specs.Found.{grounds_of};
 
 use accounts::{Account, copy_account};
-use audit_walk::Player;
+use audit_cast::Player;
 use rp_base::{NoMemory, Pid, PidSet};
 use std::alloc::Global;
 

@@ -3,7 +3,7 @@ use Rattle.std.specs.Prelude.{OnOk}
 use Rattle.audit_defs.specs.Players as audit
 use Rattle.audit_defs.specs.Players.{setting_of}
 use Rattle.journal_steps.specs.Views.{source}
-use Rattle.audit_turns.specs.Walks.{IsWalk}
+use Rattle.audit_walk.specs.Turns.{IsWalk}
 use Rattle.audit_cast.specs.Casts.{with_any}
 use Rattle.audit_cast.proofs.Starting.{player-is}
 use Rattle.audit_cast.proofs.casting.add_player.Goals as goal

@@ -2,9 +2,9 @@ use Rattle.std.proofs.Common.{refl, sym}
 use Rattle.kit_defs.specs.Kits.{Kit}
 use Rattle.claim_firsts.proofs.Results.{if-ok}
 use Rattle.group_defs.specs.Process.{Setting}
-use Rattle.audit_turns.specs.Cores.{Shares}
+use Rattle.audit_walk.specs.Turns.{Shares}
 use Rattle.audit_defs.specs.Players.{setting_of}
-use Rattle.audit_turns.specs.Players.{IsPlayer, begun}
+use Rattle.audit_walk.specs.Turns.{IsPlayer, begun}
 use Rattle.audit_cast.proofs.casting.player_of.Goals as goal
 
 pub returns : goal.returns

@@ -3,8 +3,8 @@ use Rattle.std.specs.List.{AllZip}
 use Rattle.rp_base.specs.Rosters.{IsRising}
 use Rattle.audit_defs.specs.Players.{setting_of}
 use Rattle.audit_defs.specs.Audits.{Known}
-use Rattle.audit_walk.specs.Turns.{Player}
-use Rattle.audit_walk.specs.Turns.{IsPlayer}
+use Rattle.audit_cast.specs.Turns.{Player}
+use Rattle.audit_cast.specs.Turns.{IsPlayer}
 use Rattle.audit_core.specs.Found.{Found, IsFound, grounds_by, grounds_of, listed_in}
 use Rattle.audit_core.specs.Ends.{audited_by}
 use Rattle.audit_core.proofs.Told.{grounds-are, listed-are}

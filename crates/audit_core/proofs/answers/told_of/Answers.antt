@@ -12,8 +12,8 @@ use Rattle.audit_defs.specs.Audits.{Known}
 use Rattle.accounts.specs.Views.{account}
 use Rattle.claim_firsts.specs.Seen.{Saw}
 use Rattle.audit_laws.proofs.OfListed.{of-listed}
-use Rattle.audit_walk.specs.Turns.{Player}
-use Rattle.audit_walk.specs.Turns.{IsPlayer}
+use Rattle.audit_cast.specs.Turns.{Player}
+use Rattle.audit_cast.specs.Turns.{IsPlayer}
 use Rattle.audit_core.specs.Ends.{audited_by}
 use Rattle.audit_core.proofs.Answered.{honest-is}
 use Rattle.audit_core.proofs.Ending.{ended, holds-at, of-sources}

@@ -4,7 +4,7 @@ use Rattle.group_defs.specs.Process.{Setting}
 use Rattle.group_defs.specs.Accounts.{account_of}
 use Rattle.accounts.specs.Views.{account}
 use Rattle.audit_defs.specs.Players as plain
-use Rattle.audit_walk.specs.Turns.{IsPlayer}
+use Rattle.audit_cast.specs.Turns.{IsPlayer}
 use Rattle.audit_core.proofs.listed.accounts_of.Given as goal
 
 abbrev pub invariant-loop-player : goal.invariant-loop-player

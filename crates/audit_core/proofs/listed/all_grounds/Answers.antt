@@ -1,6 +1,6 @@
 use Rattle.std.proofs.Common.{◌≡◌, ◌++◌, ◌∷◌, [], ℕ, List, sym, ap, ◌∙◌}
 use Rattle.rp_base.specs.Signer.{count_used}
-use Rattle.audit_walk.proofs.Cores.{me-so}
+use Rattle.audit_cast.proofs.Cores.{me-so}
 use Rattle.audit_core.specs.Found.{grounds_of}
 use Rattle.audit_core.proofs.Players.{all-told, at-place, next-told}
 use Rattle.audit_core.proofs.listed.all_grounds.Goals as goal

@@ -3,7 +3,7 @@ use Rattle.std.specs.List.{AllZip}
 use Rattle.group_defs.specs.Process.{Setting}
 use Rattle.rp_base.specs.Rosters.{IsRising}
 use Rattle.audit_defs.specs.Players as plain
-use Rattle.audit_walk.specs.Turns.{IsPlayer}
+use Rattle.audit_cast.specs.Turns.{IsPlayer}
 use Rattle.audit_core.specs.Found.{grounds_of}
 use Rattle.audit_core.proofs.listed.all_grounds.Given as goal
 
