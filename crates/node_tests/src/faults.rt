@@ -7,9 +7,13 @@ use rp_devices::MemLink;
 use std::alloc::Global;
 use std::test::Fail;
 
-/// The answer to this input, which has no kit of a node: neither disk nor link is asked.
-fn without_kit(alloc: Global, input: &[u8]) -> Result<(u8, MemSink), NoMemory> {
-    let mut source = MemSource::new(input.to_vec(alloc)?, Vec::new(alloc));
+/// Whether a node whose input is these lines ends with status 7 and says this. It has no kit of a node: neither disk nor link is asked.
+fn is_told(alloc: Global, parts: &[&[&[u8]]], told: &[u8]) -> Result<bool, NoMemory> {
+    let mut input = Vec::new(alloc);
+    for lines in parts {
+        input.extend_from_slice(&joined(alloc, lines)?)?;
+    }
+    let mut source = MemSource::new(input, Vec::new(alloc));
     let mut sink = MemSink::new(alloc, Vec::new(alloc));
     let status = host(
         alloc,
@@ -18,7 +22,7 @@ fn without_kit(alloc: Global, input: &[u8]) -> Result<(u8, MemSink), NoMemory> {
         &mut NoDisk::new(),
         &mut NoLink::new(),
     );
-    Ok((status, sink))
+    Ok(status == 7 && sink.bytes() == told)
 }
 
 /// The key of process 0 with another last digit.
@@ -28,39 +32,23 @@ const OTHER_KEY: &[u8] =
 #[test]
 fn a_kit_that_is_none_is_told_by_its_line(rt: HostRuntime) -> Result<(), Fail> {
     let alloc = rt.alloc();
-    let [first, scheme, group, key, other, ..] = TREES;
-    let rest = joined(alloc, &TREES[5..])?;
-    let public = joined(
-        alloc,
-        &[
-            first, scheme, group, key, other, TREES[5], TREES[6], TREES[7], b"go\n",
-        ],
-    )?;
-    for (input, told) in [
-        (
-            joined(alloc, &[first, scheme, group, OTHER_KEY, other, &rest])?,
-            b"stop 7 keymismatch 9\n".as_slice(),
-        ),
-        (
-            joined(alloc, &[first, scheme, key, other, &rest])?,
-            b"stop 7 missing 3\n",
-        ),
-        (
-            joined(alloc, &[first, scheme, group, key, key, other, &rest])?,
-            b"stop 7 repeated 5\n",
-        ),
-        (public, b"stop 7 missing 9\n"),
-        (first.to_vec(alloc)?, b"stop 7 line 2\n"),
-        (Vec::new(alloc), b"stop 7 line 1\n"),
-    ] {
-        let (status, sink) = without_kit(alloc, &input)?;
-        assert_eq!(rt; sink.bytes(), told);
-        assert_eq!(rt; status, 7);
-    }
+    let other_key: [&[&[u8]]; 3] = [&TREES[..3], &[OTHER_KEY], &TREES[4..]];
+    assert!(rt; is_told(alloc, &other_key, b"stop 7 keymismatch 9\n")?);
+    assert!(rt; is_told(alloc, &[&TREES[..2], &TREES[3..]], b"stop 7 missing 3\n")?);
+    assert!(rt; is_told(alloc, &[&TREES[..4], &TREES[3..]], b"stop 7 repeated 5\n")?);
     Ok(())
 }
 
-/// What stands before them is carried out.
+#[test]
+fn an_input_without_a_hosted_process_is_no_kit(rt: HostRuntime) -> Result<(), Fail> {
+    let alloc = rt.alloc();
+    assert!(rt; is_told(alloc, &[&TREES[..8], &TREES[12..]], b"stop 7 missing 9\n")?);
+    assert!(rt; is_told(alloc, &[&TREES[..1]], b"stop 7 line 2\n")?);
+    assert!(rt; is_told(alloc, &[], b"stop 7 line 1\n")?);
+    Ok(())
+}
+
+/// What comes before them is carried out.
 #[test]
 fn a_line_that_is_none_ends_the_node(rt: HostRuntime) -> Result<(), Fail> {
     let alloc = rt.alloc();
