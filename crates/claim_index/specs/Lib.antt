@@ -1,3 +1,4 @@
 pub mod Hashes
 pub mod Keys
 pub mod Kept
+pub mod Statements

@@ -11,7 +11,7 @@ use Rattle.pool_laws.proofs.Counting.{length-filter-few}
 use Rattle.pool_laws.proofs.Heard.{certified_on-is}
 use Rattle.pool_laws.proofs.Sorting.{length-sorted}
 use Rattle.pool_laws.proofs.Tests.{then-some}
-use Rattle.claim_index.specs.Kept.{by_number}
+use Rattle.own_place.specs.Claims.{by_number}
 
 pub few-backers : (h : Pool) (st : Statement) → IsView h.view → length (backers h st) ≤ 16
 few-backers h st is = let few = length-filter-few (says h st) h.view.members in omega (arith, few, is.few)

@@ -7,7 +7,7 @@ use Rattle.group_defs.specs.Views.{quorum}
 use Rattle.group_defs.specs.Process.{Pool}
 use Rattle.group_defs.specs.Certified.{claim_on, backers, certified_on, certificate, certificate_on, number_of_members}
 use Rattle.pool_laws.proofs.Heard.{certified_on-is}
-use Rattle.claim_index.specs.Kept.{by_number}
+use Rattle.own_place.specs.Claims.{by_number}
 
 -- the claims that these processes have on the slot
 abbrev pub claims_of : Pool → Slot → List ℕ → List Claim

@@ -4,7 +4,7 @@ use Rattle.message_defs.specs.Statements.{Claim, slot_of, view_of}
 use Rattle.group_defs.specs.Process.{Setting, Pool, Process}
 use Rattle.group_defs.specs.Certified.{heard_on, says}
 use Rattle.group_defs.specs.Hearing as defs
-use Rattle.claim_index.specs.Kept.{with_heard}
+use Rattle.own_place.specs.Claims.{with_heard}
 use Rattle.claim_pool.specs.declared.verdict.Verdict.{Verdict}
 use Rattle.claim_pool.specs.declared.verdict.Verdict.TheVariants.{Old, Early, Stranger, OutOfWindow, Known, Unsigned, Conflict, Heard}
 

@@ -11,8 +11,7 @@ ghost use Rattle.own_place.specs.Owns.{HasDelivered};
 ghost use Rattle.claim_pool.specs.Verdicts.{verdict, early_tests};
 
 use crate::verdict::Verdict;
-use claim_index::View;
-use own_place::Own;
+use own_place::{Own, View};
 use rp_base::Pid;
 use stmt_codec::{Batch, Claim, Statement};
 

@@ -14,7 +14,8 @@ ghost use Rattle.byte_defs.specs.Orders.{sorted};
 ghost use Rattle.rp_base.specs.Views.{update as update_of};
 ghost use Rattle.group_defs.specs.Views.{quorum};
 ghost use Rattle.claim_pool.specs.Certificates.{content_of, signers_of};
-ghost use Rattle.claim_index.specs.Kept.{by_number, claim_bytes, empty_pool, is_kind_heard, with_heard};
+ghost use Rattle.own_place.specs.Claims.{by_number, claim_bytes, is_kind_heard, with_heard};
+ghost use Rattle.own_place.specs.Words.{empty_pool};
 ghost use Rattle.pool_values.specs.Updates.{has_update};
 ghost use Rattle.pool_values.specs.Ends.{IsInitsEnd};
 ghost use Rattle.claim_pool.specs.Settings.{as_setting};
@@ -25,8 +26,7 @@ use crate::certificate::{CertKind, Certificate};
 use crate::hearing::turned_away;
 use crate::signed::is_signed;
 use crate::verdict::Verdict;
-use claim_index::{ClaimIndex, View};
-use own_place::Own;
+use own_place::{ClaimIndex, Own, View};
 use pool_values::{Places, Quorums, UpdateSet};
 use rp_base::{GroupId, NoMemory, Pid, Roster, Scheme, Update};
 use std::alloc::Global;
@@ -49,7 +49,7 @@ impl Drop for Pool {
 }
 
 impl Model for Pool {
-    ghost use Rattle.claim_index.specs.Kept.{Holding};
+    ghost use Rattle.own_place.specs.Claims.{Holding};
 
     ghost Value = { Holding };
 

@@ -18,7 +18,7 @@ use crate::attempts::attempt;
 use crate::journalled::Journalled;
 use crate::member::{Core, Keyless};
 use claim_hearing::is_signed;
-use member_taking::Judge;
+use member_sending::Judge;
 use rp_base::{NoMemory, Scheme, Tally};
 use stmt_codec::{Claim, Entry, EntrySignatures, Outcome, OwnClaim, read_statement};
 

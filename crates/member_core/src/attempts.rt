@@ -2,7 +2,7 @@
 ghost use Rattle.std.specs.Prelude.{◌≡◌, ◌-◌, ◌≤◌, [], length, true, IfOk, OnOk, OnErr, None};
 ghost use Rattle.group_defs.specs.Process.{Setting, Process, all_kinds};
 ghost use Rattle.claim_hearing.specs.Hearing.{Shares};
-ghost use Rattle.member_taking.specs.Perceiving.{fault as fault_of};
+ghost use Rattle.member_sending.specs.Taking.{fault as fault_of};
 ghost use Rattle.member_state.specs.Events.{event as event_of, IsOutcome};
 ghost use Rattle.member_state.specs.States.{IsReal, IsStateOf};
 ghost use Rattle.member_state.specs.Marks.{MayAsk, Stays, Since};
@@ -10,9 +10,8 @@ ghost use Rattle.member_sending.specs.Sends.{IsEmpty};
 ghost use Rattle.member_core.specs.Outcomes.{refusing, is_asked, HasTaken};
 
 use crate::halves::take;
-use member_sending::Frames;
+use member_sending::{Frames, Judge, admit};
 use member_state::{Before, ProcessState};
-use member_taking::{Judge, admit};
 use rp_base::{NoMemory, Scheme, Signer, Tally};
 use std::alloc::Global;
 use stmt_codec::{Event, EventFault, EventVerdict, Outcome};

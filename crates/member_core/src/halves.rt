@@ -5,16 +5,15 @@ ghost use Rattle.group_defs.specs.Events as defs;
 ghost use Rattle.claim_hearing.specs.Hearing.{Shares};
 ghost use Rattle.member_state.specs.States.{IsReal, IsStateOf};
 ghost use Rattle.member_state.specs.Marks.{MayAsk, Stays, Since};
-ghost use Rattle.member_taking.specs.Inputs.{handed, asks, InRange};
+ghost use Rattle.member_sending.specs.Taking.{handed, asks, InRange};
 ghost use Rattle.member_sending.specs.Sends.{IsEmpty};
 ghost use Rattle.member_core.specs.Outcomes.{HasBegun, HasEnded, HasTaken};
 
 use crate::notes::tell;
-use member_sending::{Frames, send_answers, send_bundle};
+use member_sending::{Frames, Input, Judge, send_answers, send_bundle, take_in};
 use member_settling::settle;
 use member_signing::sign_all;
 use member_state::{Before, ProcessState};
-use member_taking::{Input, Judge, take_in};
 use rp_base::{NoMemory, Scheme, Signer, Tally};
 use std::alloc::Global;
 use stmt_codec::{EventVerdict, Outcome};

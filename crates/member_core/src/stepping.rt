@@ -11,7 +11,7 @@ ghost use Rattle.member_core.specs.Entries.{NamesProcesses};
 
 use crate::attempts::attempt;
 use crate::member::{Core, Keyless};
-use member_taking::Judge;
+use member_sending::Judge;
 use rp_base::{NoMemory, Retract, Scheme, Signer, Tally};
 use stmt_codec::{Event, Outcome};
 

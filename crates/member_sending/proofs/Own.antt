@@ -18,10 +18,8 @@ use Rattle.accounts.specs.Views.{delivery}
 use Rattle.pool_laws.proofs.Members.{All-mem, filter-mem}
 use Rattle.sent_claims.specs.Certificates.{IsRanged}
 use Rattle.sent_claims.proofs.Listed.{mem-all}
-use Rattle.member_state.specs.declared.state.ProcessState.{ProcessState}
-use Rattle.member_state.specs.States.{IsStateOf, IsReal, signed_here}
-use Rattle.member_state.specs.Events.{frames_to}
-use Rattle.member_state.proofs.Ranges.{claims-once}
+use Rattle.member_taking.specs.States.{ProcessState, IsStateOf, IsReal, signed_here, frames_to}
+use Rattle.member_taking.proofs.States.{claims-once}
 use Rattle.member_sending.specs.Began.{Began, HasDone}
 
 by-recursion : {A : Type 0} (P : A → Type 0) (xs : List A) → All P xs → AllByRecursion P xs

@@ -3,8 +3,7 @@ use Rattle.std.specs.Prelude.{◌≡◌, ℕ, ◌-◌, length, map, drop, Some, 
 use Rattle.group_defs.specs.Process.{Process, places_in}
 use Rattle.group_defs.specs.Sending.{newly_signed}
 use Rattle.accounts.specs.Views.{delivery}
-use Rattle.member_state.specs.States.{signed_here}
-use Rattle.member_state.specs.declared.state.ProcessState.{ProcessState}
+use Rattle.member_taking.specs.States.{signed_here, ProcessState}
 
 -- the event began with `began`, nothing was delivered since, the view is the same, and what was signed since is the last so many claims of
 -- the view

@@ -1,2 +1,3 @@
 pub mod Began
 pub mod Sends
+pub mod Taking

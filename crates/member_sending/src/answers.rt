@@ -3,14 +3,12 @@ ghost use Rattle.std.specs.List.{flat_map};
 ghost use Rattle.message_defs.specs.Claims.{Wants};
 ghost use Rattle.group_defs.specs.Process.{Setting, Process};
 ghost use Rattle.group_defs.specs.Events.{Hand, Tick, answers};
-ghost use Rattle.member_state.specs.States.{IsStateOf, IsReal};
-ghost use Rattle.member_state.specs.Events.{frame_to, frames_to};
+ghost use Rattle.member_taking.specs.States.{IsStateOf, IsReal, frame_to, frames_to};
 ghost use Rattle.member_taking.specs.Inputs.{handed, InRange};
 ghost use Rattle.member_sending.specs.Sends.{IsEmpty};
 
 use crate::sends::{hand_over, is_nobody, others};
-use member_state::ProcessState;
-use member_taking::Input;
+use member_taking::{Input, ProcessState};
 use reliable_mcast::Frames;
 use rp_base::{NoMemory, Pid, PidSet};
 use stmt_codec::Sending;

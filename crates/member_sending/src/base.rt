@@ -9,7 +9,7 @@ ghost use Rattle.accounts.specs.Views.{delivery};
 ghost use Rattle.sent_claims.specs.Beside.{chosen};
 ghost use Rattle.member_sending.specs.Began.{HasDone};
 
-use member_state::{Delivered, ProcessState};
+use member_taking::{Delivered, ProcessState};
 use rp_base::{NoMemory, Pid};
 use stmt_codec::Statement;
 

@@ -3,14 +3,13 @@ ghost use Rattle.std.specs.Bool.{OnTrue};
 ghost use Rattle.std.specs.List.{flat_map};
 ghost use Rattle.group_defs.specs.Process.{Setting, Process};
 ghost use Rattle.group_defs.specs.Sending.{Bundle, bundle, others, unless_empty};
-ghost use Rattle.member_state.specs.States.{IsStateOf, IsReal};
-ghost use Rattle.member_state.specs.Events.{frame_to, frames_to};
+ghost use Rattle.member_taking.specs.States.{IsStateOf, IsReal, frame_to, frames_to};
 ghost use Rattle.member_sending.specs.Began.{Began};
 ghost use Rattle.member_sending.specs.Sends.{IsEmpty};
 
 use crate::base::base_places;
 use crate::sends::{hand_over, is_nobody, others};
-use member_state::ProcessState;
+use member_taking::ProcessState;
 use reliable_mcast::Frames;
 use rp_base::NoMemory;
 use stmt_codec::Sending;

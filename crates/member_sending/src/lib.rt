@@ -8,4 +8,5 @@ mod sends;
 
 pub use answers::send_answers;
 pub use bundle::send_bundle;
+pub use member_taking::{Input, Judge, admit, take_in};
 pub use reliable_mcast::Frames;

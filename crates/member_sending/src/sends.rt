@@ -2,7 +2,7 @@
 ghost use Rattle.std.specs.Prelude.{◌≡◌, ◌≢◌, ◌++◌, ◌==◌, [], true, false, not, map, filter, IsOk, OnOk};
 ghost use Rattle.byte_defs.specs.Orders.{sorted};
 ghost use Rattle.claim_index.specs.Kept.{by_number};
-ghost use Rattle.member_state.specs.Events.{frame_to};
+ghost use Rattle.member_taking.specs.States.{frame_to};
 ghost use Rattle.member_sending.specs.Sends.{each_to, IsEmpty};
 
 use reliable_mcast::Frames;

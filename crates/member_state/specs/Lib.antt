@@ -3,3 +3,5 @@ pub mod States
 pub mod Events
 pub mod Marks
 pub mod Parts
+pub mod Phases
+pub mod Perceiving

@@ -7,10 +7,10 @@ mod marks;
 mod state;
 
 pub use accounts::{Account, Delivered};
-pub use ending_rules::Perceived;
+pub use ending_rules::{Perceived, perceive};
 pub use left::LeftView;
 pub use marks::Before;
 pub use own_moves::{begin_view, deliver_batch};
 pub use reliable_mcast::{ClaimList, Conflicts, Displaced};
 pub use state::ProcessState;
-pub use view_phases::PhaseWord;
+pub use view_phases::{PhaseWord, counts_of};

@@ -8,9 +8,7 @@ use Rattle.group_defs.specs.Process.{Setting, Process, places_in}
 use Rattle.group_defs.specs.Views.{is_member}
 use Rattle.group_defs.specs.Certified.{is_ended}
 use Rattle.group_defs.specs.Settle as defs
-use Rattle.view_phases.specs.declared.phases.Phase.{Phase}
-use Rattle.view_phases.specs.declared.phases.Phase.TheVariants.{Observing, OpenView, ClosingView, DecidedView, HaltedView}
-use Rattle.view_phases.specs.Phases.{IsIn}
+use Rattle.member_state.specs.Phases.{Phase, Observing, OpenView, ClosingView, DecidedView, HaltedView, IsIn}
 use Rattle.member_state.specs.declared.state.ProcessState.{ProcessState}
 use Rattle.member_state.specs.States.{IsStateOf, halted_at}
 

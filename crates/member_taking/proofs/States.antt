@@ -18,11 +18,10 @@ use Rattle.pool_laws.proofs.Members.{All-mem, mem-All}
 use Rattle.pool_laws.proofs.Sorting.{mem-put}
 use Rattle.claim_hearing.specs.Kept.{Holding, Pairing}
 use Rattle.claim_hearing.specs.Hearing.{IsHeard}
-use Rattle.ending_rules.specs.Perceiving.{asking, has_update, TellsPerceived}
-use Rattle.ending_rules.specs.declared.notifies.Perceived.{Perceived}
-use Rattle.view_phases.specs.declared.phases.Phase.{Phase}
-use Rattle.view_phases.specs.declared.phases.Phase.TheVariants.{Observing, OpenView, ClosingView, DecidedView, HaltedView}
-use Rattle.view_phases.specs.Phases.{IsIn}
+use Rattle.member_state.specs.Perceiving.{asking, TellsPerceived}
+use Rattle.member_state.specs.Parts.{has_update}
+use Rattle.member_state.specs.Perceiving.{Perceived}
+use Rattle.member_state.specs.Phases.{Phase, Observing, OpenView, ClosingView, DecidedView, HaltedView, IsIn}
 use Rattle.member_laws.specs.Lawful.{IsLawful}
 use Rattle.member_laws.proofs.Lawful.{hearing_is_lawful}
 use Rattle.accounts.specs.Views.{account as account_as}
@@ -30,6 +29,7 @@ use Rattle.accounts.specs.declared.account.Account as code
 use Rattle.member_state.specs.declared.state.ProcessState.{ProcessState}
 use Rattle.member_state.specs.States.{IsStateOf, ArePairs}
 use Rattle.member_taking.proofs.Heard.{with_hearing, hear-changes, hear-value, hear-pairs, all-keep, all-change, all-length, AreOfOne, IsOnce}
+pub use Rattle.member_state.proofs.Ranges.{claims-once}
 
 -- ---- hearing
 

@@ -1,2 +1,3 @@
 -- What a process perceives and asks for: in the words of the crate below, passed on.
-pub use Rattle.ending_rules.specs.Perceiving.{fault, asking}
+pub use Rattle.member_state.specs.Parts.{fault}
+pub use Rattle.member_state.specs.Perceiving.{asking}

@@ -8,5 +8,6 @@ mod taking_in;
 
 pub use claim_hearing::Judge;
 pub use inputs::Input;
+pub use member_state::{Delivered, ProcessState};
 pub use refusals::admit;
 pub use taking_in::take_in;

@@ -7,17 +7,16 @@ ghost use Rattle.group_defs.specs.Process.{Setting, Process, earlier, delivered_
 ghost use Rattle.message_defs.specs.Claims.{frame_said};
 ghost use Rattle.group_defs.specs.Events.{Submit, Hand, refusal};
 ghost use Rattle.rp_base.specs.Views.{update as update_of};
-ghost use Rattle.ending_rules.specs.Perceiving.{asking, fault as fault_of};
+ghost use Rattle.member_state.specs.Perceiving.{asking};
+ghost use Rattle.member_state.specs.Parts.{fault as fault_of};
 ghost use Rattle.member_state.specs.States.{IsStateOf, IsReal};
 ghost use Rattle.member_state.specs.Events.{event as event_of};
 ghost use Rattle.member_taking.specs.Inputs.{handed, InRange};
 
 use crate::inputs::{Input, read_frame};
-use ending_rules::perceive;
-use member_state::ProcessState;
+use member_state::{ProcessState, counts_of, perceive};
 use rp_base::{Pid, Update};
 use stmt_codec::{Event, EventFault, PAYLOAD_BYTES};
-use view_phases::counts_of;
 
 /// The most accepted payloads that are not delivered yet.
 const MOST_WAITING: usize = 256;

@@ -9,7 +9,7 @@ ghost use Rattle.group_defs.specs.Events as defs;
 ghost use Rattle.group_defs.specs.Events.{Submit, refusal, perceives, perceived_numbers};
 ghost use Rattle.rp_base.specs.Views.{update as update_of};
 ghost use Rattle.stmt_codec.specs.Left.{claims_left};
-ghost use Rattle.ending_rules.specs.Perceiving.{asking};
+ghost use Rattle.member_state.specs.Perceiving.{asking};
 ghost use Rattle.claim_hearing.specs.Hearing.{Shares};
 ghost use Rattle.accounts.specs.Views.{account as account_of, perceived as perceived_of};
 ghost use Rattle.member_state.specs.States.{IsStateOf, IsReal};
@@ -19,8 +19,7 @@ ghost use Rattle.member_taking.specs.Inputs.{handed, asks, InRange, most_claims}
 use crate::inputs::Input;
 use accounts::Account;
 use claim_hearing::{Judge, hear_all};
-use ending_rules::perceive;
-use member_state::{Before, ProcessState};
+use member_state::{Before, ProcessState, perceive};
 use rp_base::{NoMemory, Scheme, Update};
 use stmt_codec::{Claims, Payload};
 

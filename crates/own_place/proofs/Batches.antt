@@ -7,7 +7,7 @@ use Rattle.message_defs.specs.Statements.{Message, Batch}
 use Rattle.message_defs.specs.Spelling.{IsMessage}
 use Rattle.group_defs.specs.Views.{View, IsView, is_member, rank_of}
 use Rattle.group_defs.specs.Due.{follows}
-use Rattle.stmt_codec.specs.Batches.{message_of}
+use Rattle.claim_index.specs.Statements.{message_of}
 use Rattle.rule_laws.specs.Placing.{FollowsSoFar, counts_in}
 use Rattle.rule_laws.proofs.Ordering.{follows_begins, follows_on}
 use Rattle.rule_laws.proofs.Ranks.{rank-at}

@@ -4,7 +4,7 @@ use Rattle.std.specs.List.{list_any}
 use Rattle.byte_defs.specs.Members.{has}
 use Rattle.message_defs.specs.Statements.{slot_of}
 use Rattle.group_defs.specs.Process.{Setting, Pool, Process}
-use Rattle.stmt_codec.specs.Views.{report}
+use Rattle.claim_index.specs.Statements.{report}
 use Rattle.claim_index.specs.Keys.{slot_key, same_slot_key}
 use Rattle.own_place.specs.declared.own.Own.{Own}
 use Rattle.own_place.specs.Owns.{HasDelivered, HasSigned, Tells}

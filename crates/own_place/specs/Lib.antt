@@ -4,3 +4,4 @@ pub mod Owns
 pub mod Noting
 pub mod Marks
 pub mod Words
+pub mod Claims

@@ -6,7 +6,7 @@ use Rattle.message_defs.specs.Statements.{Message, Batch, Statement, Order, End,
 use Rattle.group_defs.specs.Views.{View, is_member}
 use Rattle.group_defs.specs.Certified.{rank_said, readied, higher}
 use Rattle.group_defs.specs.Due.{follows}
-use Rattle.stmt_codec.specs.Views.{report}
+use Rattle.claim_index.specs.Statements.{report}
 use Rattle.rule_laws.specs.Placing.{counts_in}
 use Rattle.claim_index.specs.Keys.{slot_key}
 use Rattle.own_place.specs.declared.own.Own.{Own}

@@ -5,7 +5,7 @@ use Rattle.message_defs.specs.Statements.{Statement, slot_of, view_of}
 use Rattle.group_defs.specs.Views.{rank_of}
 use Rattle.group_defs.specs.Process.{Setting, Pool, Process, keyed, delivered_from, places_in, earlier}
 use Rattle.group_defs.specs.Certified.{named, messages, is_signed, is_ended, own_orders, own_rank, own_ready}
-use Rattle.stmt_codec.specs.Views.{report}
+use Rattle.claim_index.specs.Statements.{report}
 use Rattle.own_place.specs.declared.own.Own.{Own}
 use Rattle.own_place.specs.Signed.{has_slot}
 

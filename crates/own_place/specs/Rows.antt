@@ -3,7 +3,7 @@ use Rattle.std.specs.Prelude.{◌≡◌, ℕ, ◌+◌, ◌<◌, ◌≤◌, Bool,
 use Rattle.std.specs.List.{list_any}
 use Rattle.message_defs.specs.Statements as plain
 use Rattle.message_defs.specs.Statements.{Statement, Slot, InitAt, EchoAt, PlaceAt, KeepAt}
-use Rattle.stmt_codec.specs.Views.{message}
+use Rattle.claim_index.specs.Statements.{message}
 use Rattle.claim_index.specs.declared.key.SlotKey.{SlotKey}
 use Rattle.claim_index.specs.Keys.{slot_key, same_slot_key}
 use Rattle.own_place.specs.declared.rows.Row.{Row}

@@ -6,5 +6,6 @@ mod own;
 mod rows;
 mod signed;
 
+pub use claim_index::{ClaimIndex, View};
 pub use own::{Own, OwnMark};
 pub use signed::SignedSlots;

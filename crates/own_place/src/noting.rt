@@ -7,14 +7,13 @@ ghost use Rattle.group_defs.specs.Process.{Setting, Pool, Process};
 ghost use Rattle.group_defs.specs.Certified as certified;
 ghost use Rattle.group_defs.specs.Due.{may_sign};
 ghost use Rattle.group_defs.specs.Signing.{Signer, signs};
-ghost use Rattle.stmt_codec.specs.Views.{stmt, report};
+ghost use Rattle.claim_index.specs.Statements.{stmt, report};
 ghost use Rattle.own_place.specs.Owns.{Tells};
 ghost use Rattle.own_place.specs.Signed.{has_slot};
 ghost use Rattle.own_place.specs.Noting as noting;
 
 use crate::own::Own;
-use claim_index::{Value, View};
-use stmt_codec::{Batch, Statement};
+use claim_index::{Batch, Statement, Value, View};
 
 // Whether the statement is an End.
 fn is_end(statement: &Statement<'_>) -> bool

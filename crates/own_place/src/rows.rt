@@ -1,11 +1,10 @@
 //! The rows of slots of a view.
 ghost use Rattle.std.specs.Prelude.{◌≡◌, ◌<◌};
 ghost use Rattle.message_defs.specs.Statements as plain;
-ghost use Rattle.stmt_codec.specs.Views.{stmt};
+ghost use Rattle.claim_index.specs.Statements.{stmt};
 ghost use Rattle.own_place.specs.Rows as rows;
 
-use claim_index::Pid;
-use stmt_codec::Statement;
+use claim_index::{Pid, Statement};
 
 /// The slots of one kind of a view that differ in one number: those of the Inits, of the Places, of the Keeps, or of the Echoes of one
 /// sender's messages.

@@ -3,20 +3,19 @@ ghost use Rattle.std.specs.List.{list_any};
 ghost use Rattle.byte_defs.specs.Choices.{is_some_and};
 ghost use Rattle.message_defs.specs.Limits.{most_places};
 ghost use Rattle.message_defs.specs.Statements.{InitAt, EchoAt, PlaceAt, KeepAt, slot_of};
-ghost use Rattle.stmt_codec.specs.Views.{stmt, message, slot as slot_at};
+ghost use Rattle.claim_index.specs.Statements.{stmt, message, slot as slot_at};
 ghost use Rattle.claim_index.specs.Keys.{slot_key, same_slot_key};
 ghost use Rattle.pool_laws.specs.Least.{IsLeastBelow};
 ghost use Rattle.own_place.specs.Signed.{has_slot};
 ghost use Rattle.own_place.specs.Rows.{slot_in};
 
 use crate::rows::{ROWS, Row, row_of, view_of};
-use claim_index::{KeyHasher, NoMemory, Pid, SlotKey, slot_key_at, slot_key_of};
+use claim_index::{KeyHasher, NoMemory, Pid, Slot, SlotKey, Statement, slot_key_at, slot_key_of};
 use indexmap::IndexSet;
 use std::alloc::Global;
 use std::hash::BuildHasherDefault;
 use std::marker::Model;
 use std::mem;
-use stmt_codec::{Slot, Statement};
 
 /// How many numbers, and how many places, a view has.
 const MOST_PLACES: u16 = 1_024;

@@ -12,7 +12,7 @@ use Rattle.group_defs.specs.Certified.{claim_on, heard_on}
 use Rattle.pool_laws.proofs.Grown.{heard_on-new}
 use Rattle.pool_laws.proofs.Slots.{same_slot-is}
 use Rattle.pool_laws.proofs.Tests.{and-first, and-second, some-same}
-use Rattle.claim_index.specs.Kept.{empty_pool, with_heard}
+use Rattle.slot_quorums.specs.Claims.{empty_pool, with_heard}
 use Rattle.pool_values.specs.Ends.{IsInitsEnd, AreInitsEnds, init_said}
 use Rattle.pool_values.proofs.Notified.{on-grown}
 

@@ -5,7 +5,7 @@ use Rattle.std.specs.List.{list_any}
 use Rattle.std.proofs.lemmas.Bool.{eq-eqb, ne_eqb}
 use Rattle.message_defs.specs.Updates.{Update, Remove, Add, Renew}
 use Rattle.rp_base.specs.Pids.{put_once}
-use Rattle.claim_index.proofs.Sets.{has-put_once}
+use Rattle.slot_quorums.proofs.Claims.{has-put_once}
 use Rattle.pool_values.specs.declared.updates.UpdateSet.{UpdateSet}
 use Rattle.pool_values.specs.Updates.{has_update}
 

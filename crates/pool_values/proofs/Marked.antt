@@ -6,7 +6,7 @@ use Rattle.message_defs.specs.Statements.{Batch, Claim, slot_of}
 use Rattle.group_defs.specs.Views.{View}
 use Rattle.group_defs.specs.Process.{Pool}
 use Rattle.group_defs.specs.Certified.{claim_on, place_at, placed_from, placed, number_of_members}
-use Rattle.claim_index.specs.Kept.{empty_pool, with_heard}
+use Rattle.slot_quorums.specs.Claims.{empty_pool, with_heard}
 use Rattle.placed_batches.specs.Rows.{Prefix}
 use Rattle.pool_values.specs.declared.updates.UpdateSet.{UpdateSet}
 use Rattle.pool_values.specs.declared.places.Reached.{Reached}

@@ -15,7 +15,7 @@ use Rattle.pool_laws.proofs.Counting.{length-filter-le}
 use Rattle.pool_laws.proofs.Grown.{heard_on-stays}
 use Rattle.pool_laws.proofs.Slots.{same_slot-is, same_statement-is, is-same_statement}
 use Rattle.pool_laws.proofs.Tests.{and-first, and-second, some-and, some-same}
-use Rattle.claim_index.specs.Kept.{with_heard}
+use Rattle.slot_quorums.specs.Claims.{with_heard}
 use Rattle.pool_values.specs.declared.updates.UpdateSet.{UpdateSet}
 use Rattle.pool_values.specs.Updates.{has_update, AreNotified, notified_said}
 

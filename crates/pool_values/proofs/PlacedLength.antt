@@ -13,7 +13,7 @@ use Rattle.pool_laws.proofs.Places.{Compared, ahead, level, behind, compared, ge
 use Rattle.pool_laws.proofs.Tests.{then-some, some-same}
 use Rattle.pool_laws.proofs.Fixed as fixed
 use Rattle.pool_laws.proofs.Fixed.{fixed_length-grown}
-use Rattle.claim_index.specs.Kept.{empty_pool, with_heard}
+use Rattle.slot_quorums.specs.Claims.{empty_pool, with_heard}
 use Rattle.placed_batches.specs.Rows.{Prefix}
 use Rattle.pool_values.specs.declared.updates.UpdateSet.{UpdateSet}
 use Rattle.pool_values.specs.Updates.{has_update}

@@ -9,17 +9,16 @@ ghost use Rattle.group_defs.specs.Certified as defs;
 ghost use Rattle.placed_batches.specs.Counting.{counts_in};
 ghost use Rattle.rp_base.specs.Views.{update as update_of};
 ghost use Rattle.stmt_codec.specs.Views.{stmt, claim as claim_of};
-ghost use Rattle.claim_index.specs.Kept.{claim_bytes, empty_pool, with_heard};
+ghost use Rattle.slot_quorums.specs.Claims.{claim_bytes, empty_pool, with_heard};
 ghost use Rattle.pool_values.specs.Updates.{has_update, AreNotified, notified_said};
 ghost use Rattle.pool_values.specs.Places.{ArePlaced, is_place_of, placed_in, after_one};
 ghost use Rattle.pool_values.specs.Ends.{IsInitsEnd};
 
 use crate::ends::{PROCESSES, note_init};
 use crate::updates::UpdateSet;
-use claim_index::{View, faulty};
 use placed_batches::PlacedBatches;
 use rp_base::{NoMemory, Pid, Update};
-use slot_quorums::Quorums;
+use slot_quorums::{Quorums, View, faulty};
 use std::alloc::Global;
 use std::marker::Model;
 use std::mem;
@@ -85,7 +84,7 @@ fn nothing() -> Reached
 }
 
 impl Model for Places {
-    ghost use Rattle.claim_index.specs.Kept.{Holding};
+    ghost use Rattle.slot_quorums.specs.Claims.{Holding};
     ghost use Rattle.pool_values.specs.Places.{AreMarkedCounted};
 
     ghost Value = { Holding };

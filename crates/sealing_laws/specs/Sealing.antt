@@ -7,7 +7,7 @@ use Rattle.group_defs.specs.Process.{Setting, Process, start}
 use Rattle.group_defs.specs.Family.{handed_to}
 use Rattle.group_defs.specs.Events.{Turn, after, outcome, run}
 use Rattle.stmt_codec.specs.declared.events.Outcome.{Outcome}
-use Rattle.member_state.specs.Events.{IsOutcome}
+use Rattle.node_turns.specs.Outcomes.{IsOutcome}
 use Rattle.journal_defs.specs.declared.Version.{Version}
 use Rattle.journal_defs.specs.Entries.{Event, Entry}
 use Rattle.node_defs.specs.Casts.{cast_of, from_start, handed, hosted_by, live, setting_of, taken_up}

@@ -4,3 +4,4 @@ pub mod Hearing
 pub mod Asking
 pub mod Counted
 pub mod Marks
+pub mod Claims

@@ -1,6 +1,6 @@
 use Rattle.std.proofs.Common.{◌-◌, ◌∙◌, length, ap, sym}
 use Rattle.group_defs.specs.Events.{Turn, signing}
-use Rattle.member_taking.specs.Inputs.{handed}
+use Rattle.member_sending.specs.Taking.{handed}
 use Rattle.member_core.proofs.Joined.{taken-so}
 use Rattle.member_core.proofs.halves.take.Goals as goal
 

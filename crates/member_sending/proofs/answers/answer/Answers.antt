@@ -5,7 +5,7 @@ use Rattle.std.proofs.lemmas.Result.{on_ok_weaker}
 use Rattle.rp_base.specs.Pids.{put_once}
 use Rattle.group_defs.specs.Sending as sending
 use Rattle.group_defs.specs.Sending.{Proof, frames_of}
-use Rattle.member_state.specs.Events.{frame_to, frames_to}
+use Rattle.member_taking.specs.States.{frame_to, frames_to}
 use Rattle.member_sending.specs.Sends.{each_to}
 use Rattle.member_sending.proofs.Parcels.{proof-to, proof-none}
 use Rattle.member_sending.proofs.Own.{real-ranged, wanted}

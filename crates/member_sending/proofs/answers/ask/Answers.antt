@@ -5,7 +5,7 @@ use Rattle.std.proofs.lemmas.Result.{on_ok_weaker}
 use Rattle.group_defs.specs.Views as views
 use Rattle.group_defs.specs.Process.{Pool, places_in}
 use Rattle.group_defs.specs.Sending.{Want, frames_of, others, sends_to}
-use Rattle.member_state.specs.Events.{frame_to, frames_to}
+use Rattle.member_taking.specs.States.{frame_to, frames_to}
 use Rattle.member_sending.specs.Sends.{each_to}
 use Rattle.member_sending.proofs.Parcels.{want-to, sends-none}
 use Rattle.member_sending.proofs.Own.{others-are}

@@ -1,7 +1,7 @@
 use Rattle.std.proofs.Common.{◌≡◌, ◌++◌, [], map, sym, ap, subst}
 use Rattle.std.specs.Prelude.{IsOk, OnOk, flat_map}
 use Rattle.group_defs.specs.Events as defs
-use Rattle.member_state.specs.Events.{frame_to, frames_to}
+use Rattle.member_taking.specs.States.{frame_to, frames_to}
 use Rattle.member_taking.specs.Inputs.{handed}
 use Rattle.member_sending.proofs.answers.send_answers.Goals as goal
 

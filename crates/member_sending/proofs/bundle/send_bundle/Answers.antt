@@ -7,7 +7,7 @@ use Rattle.message_defs.specs.Statements.{Claim}
 use Rattle.group_defs.specs.Process.{Pool}
 use Rattle.group_defs.specs.Sending.{Bundle, bundle, frames_of, others, unless_empty, with_what_goes_beside}
 use Rattle.sent_claims.specs.Beside.{chosen}
-use Rattle.member_state.specs.Events.{frame_to, frames_to}
+use Rattle.member_taking.specs.States.{frame_to, frames_to}
 use Rattle.member_sending.specs.Sends.{each_to}
 use Rattle.member_sending.proofs.Parcels.{bundle-to, bundle-none}
 use Rattle.member_sending.proofs.Own.{real-ranged, real-said, has-done, others-are, bundle-is, bundle-silent}

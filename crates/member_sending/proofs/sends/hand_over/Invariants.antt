@@ -1,5 +1,5 @@
 use Rattle.std.proofs.Common.{◌≡◌, ◌++◌, [], map, length}
-use Rattle.member_state.specs.Events.{frame_to}
+use Rattle.member_taking.specs.States.{frame_to}
 use Rattle.member_sending.specs.Sends.{each_to}
 use Rattle.member_sending.proofs.sends.hand_over.Given as goal
 

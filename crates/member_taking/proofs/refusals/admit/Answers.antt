@@ -1,5 +1,5 @@
 use Rattle.group_defs.specs.Events.{refusal}
-use Rattle.ending_rules.specs.Perceiving.{fault as fault_of}
+use Rattle.member_state.specs.Parts.{fault as fault_of}
 use Rattle.member_state.specs.Events.{event as event_of}
 use Rattle.member_taking.proofs.Running.{running, admits, refuses}
 use Rattle.member_taking.proofs.refusals.admit.Goals as goal

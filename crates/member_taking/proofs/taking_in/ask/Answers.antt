@@ -6,7 +6,7 @@ use Rattle.byte_defs.specs.Orders.{put}
 use Rattle.group_defs.specs.Process.{Pool}
 use Rattle.group_defs.specs.Events.{perceived_numbers}
 use Rattle.rp_base.specs.Views.{update as update_of}
-use Rattle.ending_rules.specs.Perceiving.{fault as fault_of}
+use Rattle.member_state.specs.Parts.{fault as fault_of}
 use Rattle.accounts.specs.Views.{account as account_of}
 use Rattle.member_taking.proofs.States.{may-ask, perceives-now}
 use Rattle.member_taking.proofs.taking_in.ask.Goals as goal

@@ -1,7 +1,7 @@
 use Rattle.std.proofs.Common.{◌≡◌, ◌∙◌, false, length, sym, ap}
 use Rattle.std.specs.Prelude.{◌&&◌}
 use Rattle.group_defs.specs.Certified.{is_certified, placed}
-use Rattle.claim_index.specs.Kept.{with_heard}
+use Rattle.slot_quorums.specs.Claims.{with_heard}
 use Rattle.placed_batches.specs.Rows.{Prefix}
 use Rattle.pool_values.specs.Places.{is_place_of, placed_in}
 use Rattle.pool_values.proofs.PlacedLength.{same-placed}

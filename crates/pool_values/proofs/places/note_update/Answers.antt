@@ -2,7 +2,7 @@ use Rattle.std.proofs.Common.{◌≡◌, ◌∙◌, Some, None, sym, ap, subst}
 use Rattle.std.specs.Option.{option_map}
 use Rattle.group_defs.specs.Process.{Pool}
 use Rattle.rp_base.specs.Views.{update}
-use Rattle.claim_index.specs.Kept.{with_heard}
+use Rattle.slot_quorums.specs.Claims.{with_heard}
 use Rattle.pool_values.specs.Updates.{AreNotified, notified_said}
 use Rattle.pool_values.proofs.Notified.{none-more, this-more}
 use Rattle.pool_values.proofs.places.note_update.Goals as goal

@@ -3,7 +3,7 @@ use Rattle.group_defs.specs.Views.{quorum}
 use Rattle.group_defs.specs.Process as defs
 use Rattle.group_defs.specs.Certified as certified
 use Rattle.stmt_codec.specs.Views.{stmt, slot}
-use Rattle.claim_index.specs.Kept.{Holding}
+use Rattle.own_place.specs.Claims.{Holding}
 use Rattle.claim_pool.proofs.Few.{enough-backers}
 use Rattle.claim_pool.proofs.pool.Pool.certificate.Goals as goal
 

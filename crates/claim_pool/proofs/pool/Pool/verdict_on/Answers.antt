@@ -4,7 +4,7 @@ use Rattle.byte_defs.specs.Choices.{first_that_holds}
 use Rattle.group_defs.specs.Process as defs
 use Rattle.group_defs.specs.Hearing as hearing
 use Rattle.stmt_codec.specs.Views.{claim}
-use Rattle.claim_index.specs.Kept.{Holding}
+use Rattle.own_place.specs.Claims.{Holding}
 use Rattle.claim_pool.specs.Settings.{as_setting}
 use Rattle.claim_pool.specs.Verdicts.{late_tests}
 use Rattle.claim_pool.proofs.Judged.{stays}

@@ -1,4 +1,4 @@
-use Rattle.stmt_codec.specs.Views.{stmt}
+use Rattle.claim_index.specs.Statements.{stmt}
 use Rattle.own_place.proofs.Telling.{tells-now}
 use Rattle.own_place.proofs.own.Own.note_signed.Goals as goal
 

@@ -1,6 +1,6 @@
 use Rattle.std.proofs.Common.{◌∙◌, ap}
 use Rattle.message_defs.specs.Statements.{slot_of}
-use Rattle.stmt_codec.specs.Views.{stmt}
+use Rattle.claim_index.specs.Statements.{stmt}
 use Rattle.own_place.specs.Signed.{Signed}
 use Rattle.own_place.proofs.Noted.{noted-last}
 use Rattle.own_place.proofs.signed.SignedSlots.note.Goals as goal
