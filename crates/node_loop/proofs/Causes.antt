@@ -70,7 +70,7 @@ pub record Counted (why : Stop) (faults now : ℕ) (sink sink_now : SinkSeen) (l
   pub written : why ≡ WriteFailed → Rose sink.faults sink_now.faults
   pub no_write : why ≢ WriteFailed → sink_now.faults ≡ sink.faults
   pub bound : why ≡ BindFailed → Rose link.faults link_now.faults
-  -- no host was told of, and nothing was sent
+  -- no host has its line, and nothing was sent
   pub untold : why ≡ BindFailed → (link_now.sent ≡ link.sent) × (sink_now ≡ sink)
 
 rose-by : (why this : Stop) (before now : ℕ) → ByCount (Some why) this before now → why ≡ this → Rose before now
