@@ -15,10 +15,9 @@ use Rattle.script_laws.proofs.Stopping.{faults_stop}
 use Rattle.stop_laws.specs.Binds.{IsSilent}
 use Rattle.stop_laws.proofs.Binding.{binds_first}
 use Rattle.stop_laws.proofs.Rested.{ends-so}
-use Rattle.node_input.specs.Kits.{HasNoKit}
+use Rattle.node_script.specs.Inputs.{HasNoKit}
 use Rattle.node_script.specs.Sources.{most_line_bytes}
-use Rattle.node_script.specs.Words.{Unopened, reading, opening, outside}
-use Rattle.node_script.specs.Words.{Unread, no_memory, no_disk, no_header, no_entry}
+use Rattle.node_script.specs.Words.{Unopened, reading, opening, outside, Unread, no_memory, no_disk, no_header, no_entry}
 use Rattle.node_loop.specs.Runs.{HasRun, HasStopped, no_kit, not_opened, no_snapshot, opened_on, ran}
 
 -- ---- of a node that opens

@@ -3,7 +3,8 @@ use Rattle.std.specs.Prelude.{ℕ, ◌≤◌, List, [], length, map, flat_map, O
 use Rattle.kit_defs.specs.Kits.{Kit}
 use Rattle.stmt_codec.specs.declared.events.Sending.{Sending}
 use Rattle.stmt_codec.specs.declared.events.Note.{Note}
-use Rattle.member_state.specs.Events.{frame_to, note}
+use Rattle.node_text.specs.Outcomes.{frame_to}
+use Rattle.node_text.specs.Told.{note}
 use Rattle.node_defs.specs.Casts.{Cast, pair_of}
 use Rattle.node_defs.specs.Nodes.{Leaving, Sends, Tells, Answer, Done, Failed}
 use Rattle.node_traces.specs.Outside.{LinkSeen}

@@ -3,7 +3,7 @@ ghost use Rattle.std.specs.Prelude.{◌≡◌, ◌≤◌, length, All, IfSome, O
 ghost use Rattle.group_defs.specs.Events.{Outcome};
 ghost use Rattle.journal_defs.specs.declared.Version.{Version};
 ghost use Rattle.journal_rp.specs.Turns.{outcome_of, staged_of};
-ghost use Rattle.member_state.specs.Events.{IsOutcome};
+ghost use Rattle.node_text.specs.Outcomes.{IsOutcome};
 ghost use Rattle.node_defs.specs.Casts.{cast_of};
 ghost use Rattle.node_defs.specs.Nodes.{leaving_of};
 ghost use Rattle.node_turns.specs.Kept.{IsLast};
