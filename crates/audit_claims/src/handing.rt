@@ -32,7 +32,7 @@ fn claims_in<'a>(bytes: &'a [u8]) -> Option<Claims<'a>>
     }
 }
 
-// Both tables see the claim, where it is valid.
+// Both tables see the claim, where it is valid. What the table of all claims knows is not verified again, and changes nothing there.
 fn see_valid<'a, V: Scheme>(
     judge: &Judge<'_, V>,
     claim: &Claim<'a>,
@@ -45,6 +45,9 @@ fn see_valid<'a, V: Scheme>(
         → Saw s claims own all.old → Saw s before [] handed.old
         → OnOk result (Saw s (claims ++ claim_of claim.now ∷ []) own all.new × Saw s (before ++ claim_of claim.now ∷ []) [] handed.new) }
 {
+    if all.knows(claim) {
+        return handed.see(claim);
+    }
     if !is_signed(judge.scheme, judge.roster, judge.group, claim) {
         return Ok(());
     }
@@ -73,7 +76,7 @@ fn see_all<'a, V: Scheme>(
 }
 
 /// The bytes were handed over as a frame to a process: the claims in them that are valid are seen in the table of all claims, and in that
-/// of the claims that were handed to the process. Each signature is verified once. Bytes that are no frame of claims hand over nothing.
+/// of the claims that were handed to the process. A signature is not verified where the table of all claims knows it. Bytes that are no frame of claims hand over nothing.
 ///
 /// # Errors
 /// [`NoMemory`]; then a part of the claims was seen, in one table or in both.

@@ -3,9 +3,11 @@
 #![tactic(auto)]
 
 mod handing;
+mod known;
 mod signing;
 
 pub use claim_firsts::{Conviction, Firsts};
 pub use claim_hearing::Judge;
 pub use handing::see_frame;
+pub use known::Known;
 pub use signing::see_signed;

@@ -16,7 +16,7 @@ ghost use Rattle.audit_defs.specs.Players as audit;
 ghost use Rattle.audit_defs.specs.Players.{claims_of, event_of, is_written, turn_of, with_turn};
 ghost use Rattle.audit_turns.specs.Players.{IsPlayer, begun, is_taken, number_of};
 
-use audit_claims::{Firsts, Judge, see_frame, see_signed};
+use audit_claims::{Firsts, Judge, Known, see_frame, see_signed};
 use member_core::{AbsorbFault, Account, Core, Entry, Event};
 use rp_base::{Count, GroupId, NoMemory, Pid, PidSet, Roster, Scheme};
 use std::alloc::Global;
@@ -129,7 +129,13 @@ impl<'a> Player<'a> {
         let Ok(()) = self.hand_over(judge, &entry.event, all) else {
             return Err(AbsorbFault::NoMemory);
         };
-        let outcome = match self.core.absorb(judge.scheme, entry) {
+        let known = Known {
+            firsts: all,
+            scheme: judge.scheme,
+            roster: judge.roster,
+            group: judge.group,
+        };
+        let outcome = match self.core.absorb(&known, entry) {
             Ok(outcome) => outcome,
             Err(fault) => return Err(fault),
         };

@@ -98,7 +98,7 @@ forgotten t k n is = ap (λ ks. forgetting-to t ks) (ap (λ n. take n (insert_ke
 -- ---- all slots that are answered
 
 -- the first claims are among the claims
-first-mem : (before cs : List Claim) (z : Claim) → Mem z (firsts_behind before cs) → Mem z (before ++ cs)
+pub first-mem : (before cs : List Claim) (z : Claim) → Mem z (firsts_behind before cs) → Mem z (before ++ cs)
 unfolding firsts_behind
 first-mem before [] z m = subst (Mem z) (sym (append-nil before)) m
 first-mem before (x ∷ cs) z m =

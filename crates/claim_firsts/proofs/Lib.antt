@@ -2,6 +2,7 @@ pub mod Answering
 pub mod Convicting
 pub mod Entries
 pub mod Finding
+pub mod First
 pub mod Own
 pub mod Pairing
 pub mod Results

@@ -17,10 +17,11 @@ ghost use Rattle.claim_firsts.specs.Seen.{IsAnswered, Saw};
 ghost use Rattle.claim_firsts.specs.Seeing.{accusing, answering, contradicted, forgetting, has_second, seeing, with_first, with_second};
 ghost use Rattle.claim_firsts.specs.Answered.{is_answered, is_listed};
 ghost use Rattle.claim_firsts.specs.Entries.{kept_claim, signers_of};
+ghost use Rattle.claim_firsts.specs.First.{is_first};
 ghost use Rattle.claim_firsts.specs.Told.{AreSpelled, conviction, conviction_by};
 
 use crate::conviction::Conviction;
-use crate::kept::{Kept, claim_again, is_conflict};
+use crate::kept::{Kept, claim_again, is_conflict, is_same};
 use crate::word::Word;
 use claim_index::{Key, KeyHasher, slot_key_of};
 use indexmap::{IndexMap, IndexSet};
@@ -233,6 +234,21 @@ impl<'a> Firsts<'a> {
         ensures same { OnErr result (self.new ≡ self.old) }
     {
         self.take(Kept::Lent(claim_again(claim)))
+    }
+
+    /// Whether this claim, with this signature, is the first of its signer on its slot. Then it is valid, and was seen: its signature need
+    /// not be verified, and to see it once more changes nothing.
+    pub fn knows(&self, claim: &Claim<'_>) -> bool
+        ensures first { result ≡ is_first self.now (claim_of claim.now) }
+        ensures valid { (s : Setting) (claims own : List plain.Claim) → Saw s claims own self.now → IsTrue result
+            → IsTrue (is_valid s (claim_of claim.now)) }
+        ensures again { (s : Setting) (claims own : List plain.Claim) → Saw s claims own self.now → IsTrue result
+            → Saw s (claims ++ claim_of claim.now ∷ []) own self.now }
+    {
+        match find_under(&self.firsts, &key_of(claim)) {
+            Some(first) => is_same(&first.claim(), claim),
+            None => false,
+        }
     }
 
     // How many slots are answered.

@@ -1,8 +1,10 @@
 //! Claims as a table keeps them: lent by what was handed over, or with bytes of their own.
 ghost use Rattle.std.specs.Prelude.{◌≡◌};
+ghost use Rattle.byte_defs.specs.Equality.{same_bytes};
 ghost use Rattle.stmt_codec.specs.Views.{stmt, claim as claim_of};
 ghost use Rattle.conviction_defs.specs.Convictions as defs;
 ghost use Rattle.claim_firsts.specs.Entries.{kept_claim};
+ghost use Rattle.claim_firsts.specs.First.{is_again};
 
 use crate::word::Word;
 use rp_base::Pid;
@@ -93,4 +95,18 @@ pub fn is_conflict(claim: &Claim<'_>, other: &Claim<'_>) -> bool
     ensures { result ≡ defs.is_conflict (claim_of other.now) (claim_of claim.now) }
 {
     conflicts(&claim.statement, &other.statement)
+}
+
+// Whether they are the same bytes. Both at one lifetime, the only form of the comparison that the borrow checker covers.
+fn are_same<'b>(a: &'b [u8], b: &'b [u8]) -> bool
+    ensures { result ≡ same_bytes a.now b.now }
+{
+    a == b
+}
+
+/// Whether the claim does not conflict with the other, and has its signature.
+pub fn is_same(claim: &Claim<'_>, other: &Claim<'_>) -> bool
+    ensures { result ≡ is_again (claim_of other.now) (claim_of claim.now) }
+{
+    !is_conflict(claim, other) && are_same(claim.signature, other.signature)
 }
