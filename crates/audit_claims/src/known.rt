@@ -1,5 +1,5 @@
 //! Signatures that were verified before.
-ghost use Rattle.std.specs.Prelude.{◌≡◌, ◌∷◌, ◌++◌, ◌&&◌, ⊥, codes, ℕ, List, IfNone, IfSome, Some, option_map};
+ghost use Rattle.std.specs.Prelude.{◌≡◌, ◌∷◌, ◌++◌, ◌&&◌, ⊥, codes, drop, ℕ, List, IfNone, IfSome, Some, option_map};
 ghost use Rattle.byte_defs.specs.Choices.{is_some_and};
 ghost use Rattle.byte_defs.specs.Equality.{same_bytes};
 ghost use Rattle.message_defs.specs.Spelling.{IsStatement, spelling};
@@ -31,6 +31,7 @@ pub struct Known<'f, 'a, V> {
 // What comes after the head of a body in this group; None where the bytes have another head.
 fn said_after<'b>(group: &GroupId, body: &'b [u8]) -> Option<&'b [u8]>
     ensures some { IfSome result (λ said. body.now ≡ codes "RPB1" ++ group.now ++ said.now) }
+    ensures after { IfSome result (λ said. drop 20 body.now ≡ said.now) }
     ensures none { IfNone result ((said : List ℕ) → body.now ≡ codes "RPB1" ++ group.now ++ said → ⊥) }
 {
     body.strip_prefix(b"RPB1")?
