@@ -22,7 +22,7 @@ pub record Adds (s : Setting) (sources : List Source) (left listed : List ℕ) (
   pub walk : IsWalk s (record { players = players; claims = [] }) [] w
 
 module _ (s : Setting) (sources : List Source) where
-  -- the process, by what is told of the journal that hosts it
+  -- the process, by what is said of the journal that hosts it
   by-host : (p : ℕ) (o : Option (ℕ × Source)) → option_map (player s p) o ≡ option_map (λ by. begun s p by.batch_limit by.journal) (option_map hosted_by o)
   by-host p None = refl
   by-host p (Some host) = refl

@@ -1,4 +1,4 @@
--- Where all that was handed over of the listed processes is their own word, none of them is told as convicted.
+-- Where all that was handed over of the listed processes is their own word, none of them is reported as convicted.
 use Rattle.std.proofs.Common.{◌≡◌, ℕ, List, map, true, ap, subst}
 use Rattle.std.specs.Prelude.{All, Contains, Ok}
 use Rattle.std.specs.List.Sorted.{IsStrictlyIncreasing}

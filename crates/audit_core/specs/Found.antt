@@ -1,4 +1,4 @@
--- What an audit found, as it is told.
+-- What an audit found, as it is reported.
 use Rattle.std.specs.Prelude.{◌≡◌, ℕ, ◌==◌, List, [], map, find, Some, None}
 use Rattle.message_defs.specs.Packing.{Signed, signed_of}
 use Rattle.group_defs.specs.Process.{Setting}
@@ -27,7 +27,7 @@ evidence c = record { first = signed c.first; second = signed c.second }
 abbrev pub evidence_of : defs.Conviction → Evidence
 evidence_of c = record { first = signed_of c.first; second = signed_of c.second }
 
--- as it is told, and its claims
+-- as it is reported, and its claims
 pub record Shown : Type 0 where
   pub told : plain.Told
   pub evidence : Evidence
@@ -40,7 +40,7 @@ shown_of c = record { told = told_of c; evidence = evidence_of c }
 
 -- ---- all of it
 
--- what is told; the claims of the convictions that are told; and of each listed process, whom the claims convict that were handed to it
+-- what is reported; the claims of the convictions among it; and of each listed process, whom the claims convict that were handed to it
 pub record Found : Type 0 where
   pub told : plain.Findings
   pub evidence : List Evidence
@@ -61,7 +61,7 @@ grounds_by p grounds = elim (find (λ g. g.0 == p) grounds) [ None ↦ [] | Some
 abbrev pub grounds_of : Setting → Player → ℕ × List ℕ
 grounds_of s c = (c.me, convicted s (handed_to c.turns))
 
--- this is what is told of the audit
+-- this is what is reported of the audit
 pub record IsFound (a : Audited) (f : Found) : Type 0 where
   pub told : f.told ≡ findings_of a
   pub evidence : f.evidence ≡ map evidence_of (convictions a.family.setting a.claims)

@@ -1,4 +1,4 @@
-//! What is told at the end of an audit.
+//! What is reported at the end of an audit.
 ghost use Rattle.std.specs.Prelude.{◌≡◌, ℕ, List, IfOk, Ok, map};
 ghost use Rattle.message_defs.specs.Statements.{Claim};
 ghost use Rattle.group_defs.specs.Process.{Setting};
@@ -34,7 +34,7 @@ fn convictions_of(alloc: Global, claims: &Firsts<'_>) -> Result<Vec<Conviction>,
     }
 }
 
-// What is told of the walk when it has ended.
+// What is reported of the walk when it has ended.
 fn told_of(
     alloc: Global,
     kit: &Kit,
@@ -63,7 +63,7 @@ fn told_of(
     })
 }
 
-/// What is told of the walk when it has ended.
+/// What is reported of the walk when it has ended.
 pub(crate) fn findings_of(
     alloc: Global,
     kit: &Kit,

@@ -1,4 +1,4 @@
-//! What is told of each listed process.
+//! What is reported of each listed process.
 ghost use Rattle.std.specs.Prelude.{◌≡◌, List, IfOk, map};
 ghost use Rattle.std.specs.List.{AllZip};
 ghost use Rattle.group_defs.specs.Process.{Setting};

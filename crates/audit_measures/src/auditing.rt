@@ -129,7 +129,12 @@ fn time_absorbing(
     Ok(ended - begun)
 }
 
-fn tell_times(rt: &(impl Print + CpuClock), made: &Made, auditing: f64, absorbing: f64) -> Result<()> {
+fn tell_times(
+    rt: &(impl Print + CpuClock),
+    made: &Made,
+    auditing: f64,
+    absorbing: f64,
+) -> Result<()> {
     let blocks = made.signed.blocks;
     let Ok(count) = u32::try_from(blocks) else {
         return Err(anyhow!("too many blocks"));

@@ -7,9 +7,9 @@ use frame_codec::split_frame;
 use kit_file::roster_of;
 use member_core::{Core, Event, Outcome, Sending};
 use rp_base::{Pid, PidSet, PlainScheme, PlainSigner};
-use stmt_codec::claims_of;
 use std::alloc::Global;
 use std::collections::VecDeque;
+use stmt_codec::claims_of;
 use view_table::View;
 
 /// How many statements a key signs.

@@ -7,6 +7,7 @@ use std::alloc::Global;
 
 /// The gates.
 const CLOSED: u8 = 0;
+
 const OPEN: u8 = 1;
 
 /// The header of a journal that hosts this process alone.

@@ -39,7 +39,8 @@ module _ (s : Setting) (at j : ℕ) (e : Entry) (old : List Player) (p q : Playe
   pub takes-at : ((c : audit.Player) (claims own : List Claim) → IsPlayer s c p → Saw s claims own before
       → OnOk r (IsTrue (is_taken s j e c) × IsPlayer s (with_turn s c (turn_of c.now e)) q
       × Saw s (claims ++ claims_of s c.now (turn_of c.now e)) (own ++ (outcome s c.now (turn_of c.now e)).signed) after))
-      → ((c : audit.Player) → IsPlayer s c p → IsTrue (c.me == e.process) → IsTrue (is_taken s j e c) → IsOkUnless r NoMemory)
+      → ((c : audit.Player) (claims own : List Claim) → IsPlayer s c p → Saw s claims own before → IsTrue (c.me == e.process)
+      → IsTrue (is_taken s j e c) → IsOkUnless r NoMemory)
       → TakesAt s at j e old (slice_set old at q) before after r
   takes-at taken only = record {
     taken = λ c x claims own get is saw. on-ok
@@ -49,7 +50,7 @@ module _ (s : Setting) (at j : ℕ) (e : Entry) (old : List Player) (p q : Playe
         × ((y : Player) × (slice_set old at q ≡ slice_set old at y) × IsPlayer s (with_turn s c (turn_of c.now e)) y)
         × Saw s (claims ++ claims_of s c.now (turn_of c.now e)) (own ++ (outcome s c.now (turn_of c.now e)).signed) after) r
         (λ t. (t.0, (q, refl, t.1), t.2)) (taken c claims own (subst (IsPlayer s c) (sym (same-player x get)) is) saw);
-    only = λ c x get is named yes'. only c (subst (IsPlayer s c) (sym (same-player x get)) is) named yes';
+    only = λ c x claims own get is saw named yes'. only c claims own (subst (IsPlayer s c) (sym (same-player x get)) is) saw named yes';
   }
 
 -- ---- all of them
@@ -114,7 +115,7 @@ module _ (s : Setting) (j : ℕ) (e : Entry) (k : Known) (own : List Claim) (old
 
         go : (b : Bool) → is_taken s j e spot.process ≡ b → taking s j e k.players ≡ None
         go false no' = spot.refused no'
-        go true yes' = absurd (differs r e' (takes.only spot.process spot.player spot.at spot.is spot.named yes'))
+        go true yes' = absurd (differs r e' (takes.only spot.process spot.player k.claims own spot.at spot.is walk.claims spot.named yes'))
 
   -- it is none of theirs
   pub passed-over : None ≡ position_from (λ q. number_of q == e.process) 0 old.players.items → GoesOn s k own (taking s j e k.players) old

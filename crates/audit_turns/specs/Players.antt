@@ -18,7 +18,7 @@ number_of p = me_of p.core
 abbrev pub begun : Setting → ℕ → ℕ → ℕ → audit.Player
 begun s me limit journal = record { me = me; batch_limit = limit; journal = journal; now = start s me limit; turns = [] }
 
--- This is process c of the audit: its core is the process as it stands, with a key of the most signatures that there are; the journal is the
+-- This is process c of the audit: its core is the process as it is now, with a key of the most signatures that there are; the journal is the
 -- one that hosts it; and what was handed to it was seen.
 pub record IsPlayer (s : Setting) (c : audit.Player) (p : Player) : Type 0 where
   pub core : IsCore count_used s c.now p.core

@@ -42,8 +42,8 @@ pub record TakesAt (s : Setting) (at j : ℕ) (e : Entry) (old new : List Player
       → OnOk r (IsTrue (is_taken s j e c)
       × ((q : Player) × (new ≡ slice_set old at q) × IsPlayer s (with_turn s c (turn_of c.now e)) q)
       × Saw s (claims ++ claims_of s c.now (turn_of c.now e)) (own ++ (outcome s c.now (turn_of c.now e)).signed) after)
-  pub only : (c : audit.Player) (p : Player) → slice_get old at ≡ Some p → IsPlayer s c p → IsTrue (c.me == e.process)
-      → IsTrue (is_taken s j e c) → IsOkUnless r NoMemory
+  pub only : (c : audit.Player) (p : Player) (claims own : List Claim) → slice_get old at ≡ Some p → IsPlayer s c p → Saw s claims own before
+      → IsTrue (c.me == e.process) → IsTrue (is_taken s j e c) → IsOkUnless r NoMemory
 
 -- with one process more
 abbrev pub with_player : Known → audit.Player → Known

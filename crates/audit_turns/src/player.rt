@@ -122,8 +122,8 @@ impl<'a> Player<'a> {
             × IsPlayer s (with_turn s c (turn_of c.now (entry_of entry.now))) self.new
             × Saw s (before ++ claims_of s c.now (turn_of c.now (entry_of entry.now)))
             (own ++ (outcome s c.now (turn_of c.now (entry_of entry.now))).signed) all.new) }
-        ensures only { (s : Setting) (c : audit.Player) → IsPlayer s c self.old
-            → Shares s (V.valid judge.now.scheme.now) judge.now.group.now judge.now.roster.now
+        ensures only { (s : Setting) (c : audit.Player) (before own : List plain.Claim) → IsPlayer s c self.old
+            → Shares s (V.valid judge.now.scheme.now) judge.now.group.now judge.now.roster.now → Saw s before own all.old
             → IsTrue (is_written s c.now (entry_of entry.now)) → IsOkUnless result AbsorbFault.NoMemory }
     {
         let Ok(()) = self.hand_over(judge, &entry.event, all) else {
@@ -172,9 +172,10 @@ impl<'a> Player<'a> {
             × IsPlayer s (with_turn s c (turn_of c.now (entry_of entry.now))) self.new
             × Saw s (before ++ claims_of s c.now (turn_of c.now (entry_of entry.now)))
             (own ++ (outcome s c.now (turn_of c.now (entry_of entry.now))).signed) all.new) }
-        ensures only { (s : Setting) (c : audit.Player) → IsPlayer s c self.old
-            → Shares s (V.valid judge.now.scheme.now) judge.now.group.now judge.now.roster.now → IsTrue (c.me == entry.now.process)
-            → IsTrue (is_taken s journal (entry_of entry.now) c) → IsOkUnless result AbsorbFault.NoMemory }
+        ensures only { (s : Setting) (c : audit.Player) (before own : List plain.Claim) → IsPlayer s c self.old
+            → Shares s (V.valid judge.now.scheme.now) judge.now.group.now judge.now.roster.now → Saw s before own all.old
+            → IsTrue (c.me == entry.now.process) → IsTrue (is_taken s journal (entry_of entry.now) c)
+            → IsOkUnless result AbsorbFault.NoMemory }
     {
         if !self.is_of(journal, entry.process) {
             return Err(AbsorbFault::Differs);

@@ -64,10 +64,10 @@ fn take_next<'a, V: Scheme>(
     }
 }
 
-/// Takes the entries of the journal, which has this index, from its first gate to its closed one. What is behind that is not read.
+/// Takes the entries of the journal, which has this index, from its first gate to its closed one. What comes after that is not read.
 ///
 /// # Errors
-/// [`AuditFault::Entry`] exactly at the first gate where the definitions refuse what stands there; and [`AuditFault::NoMemory`].
+/// [`AuditFault::Entry`] exactly at the first gate where the definitions refuse what is there; and [`AuditFault::NoMemory`].
 pub fn walk_journal<'a, V: Scheme>(
     walk: &mut Walk<'a>,
     judge: &Judge<'_, V>,

@@ -10,6 +10,18 @@ use Rattle.claim_firsts.proofs.Seeing.{saw-passed}
 use Rattle.audit_claims.proofs.Frames.{same-valid}
 use Rattle.audit_claims.proofs.handing.see_valid.Goals as goal
 
+-- it is known
+pub returns-then-knows : goal.returns-then-knows
+returns-then-knows g c = record {
+  seen = λ s claims own before shares saw mine.
+      let d = claim_of c.args.claim.now in
+      let valid = c.knows.ensures.valid s claims own saw c.if-knows.true in
+      on-ok ((s : Setting) (claims own : List Claim) → Saw s claims own c.args.handed.now → IsTrue (is_valid s d)
+      → Saw s (claims ++ d ∷ []) own c.see.new.self)
+      (Saw s (claims ++ d ∷ []) own c.args.all.now × Saw s (before ++ d ∷ []) [] c.see.new.self) c.see.result
+      (λ sees. (c.knows.ensures.again s claims own saw c.if-knows.true, sees s before [] mine valid)) c.see.ensures.seen;
+}
+
 pub returns-then-not-is_signed : goal.returns-then-not-is_signed
 returns-then-not-is_signed g c = record {
   seen = λ s claims own before shares saw mine.

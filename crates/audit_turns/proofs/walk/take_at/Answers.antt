@@ -7,4 +7,4 @@ returns g c = λ s shares.
     takes-at s c.args.at c.args.journal (entry_of c.args.entry.now) c.args.players.now.items c.index_mut-player.result.now c.take.new.self
     c.args.all.now c.take.new.all c.take.result c.requires c.index_mut-player.ensures.value
     (λ d claims own is saw. c.take.ensures.taken s d claims own is shares saw)
-    (λ d is named yes'. c.take.ensures.only s d is shares named yes')
+    (λ d claims own is saw named yes'. c.take.ensures.only s d claims own is shares saw named yes')

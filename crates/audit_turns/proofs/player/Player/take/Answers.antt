@@ -11,7 +11,7 @@ clash : {P : Type 0} → true ≡ false → P
 clash e = absurd cc
 
 pub returns-then-not-is_of-clause-only : goal.returns-then-not-is_of-clause-only
-returns-then-not-is_of-clause-only g c = λ s d is shares named taken.
+returns-then-not-is_of-clause-only g c = λ s d before own is shares saw named taken.
     let p = c.args.self.now in
     let e = c.args.entry.now in
     let here : (p.journal == c.args.journal) ≡ true = ap (λ n. n == c.args.journal) (sym is.journal)
