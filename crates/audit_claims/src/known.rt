@@ -4,6 +4,7 @@ ghost use Rattle.byte_defs.specs.Choices.{is_some_and};
 ghost use Rattle.byte_defs.specs.Equality.{same_bytes};
 ghost use Rattle.message_defs.specs.Spelling.{IsStatement, spelling};
 ghost use Rattle.stmt_codec.specs.Views.{claim as claim_of, stmt};
+ghost use Rattle.claim_firsts.specs.First.{is_first};
 ghost use Rattle.audit_claims.specs.Known.{claim_in as said_in, is_known, key_in, known_or_valid};
 
 use claim_firsts::Firsts;
@@ -72,6 +73,13 @@ fn is_key(roster: &Roster, process: Pid, key: &[u8]) -> bool
     }
 }
 
+// Whether the claim was seen, as the first one of its signer on its slot, and this is its signer's key.
+fn is_seen(firsts: &Firsts<'_>, roster: &Roster, key: &[u8], claim: &Claim<'_>) -> bool
+    ensures { result ≡ (is_some_and (key_in roster.now claim.now.signer) (same_bytes key.now) && is_first firsts.now (claim_of claim.now)) }
+{
+    is_key(roster, claim.signer, key) && firsts.knows(claim)
+}
+
 impl<'f, 'a, V> Known<'f, 'a, V> {
     /// Whether the body is that of a claim that was seen, as the first one of its signer on its slot, with this signature and under this
     /// key.
@@ -82,7 +90,7 @@ impl<'f, 'a, V> Known<'f, 'a, V> {
             return false;
         };
         match claim_in(said, sig) {
-            Some(claim) => is_key(self.roster, claim.signer, key) && self.firsts.knows(&claim),
+            Some(claim) => is_seen(self.firsts, self.roster, key, &claim),
             None => false,
         }
     }
