@@ -27,14 +27,11 @@ signature-is : (bytes signature : List ℕ) (c : Claim) → claim_in bytes signa
 signature-is [] signature c e = absurd cc
 signature-is (signer ∷ bytes) signature c e = within (nat_lt signer 64) e
   where
-    by : (r : Result Statement FrameFault) → (elim r [
-      | Ok st ↦ Some (let d : Claim = record { signer = signer; statement = st; signature = signature } in d)
-      | Err fault ↦ None
-    ]) ≡ Some c → c.signature ≡ signature
+    by : (r : Result Statement FrameFault) → claim_by signer signature r ≡ Some c → c.signature ≡ signature
     by (Ok st) is = ap (λ (d : Claim). d.signature) (sym (some-same (record { signer = signer; statement = st; signature = signature }) c is))
     by (Err fault) is = absurd cc
 
-    within : (b : Bool) → (if b then claim_by signer bytes signature else None) ≡ Some c → c.signature ≡ signature
+    within : (b : Bool) → (if b then claim_by signer signature (statement_of bytes) else None) ≡ Some c → c.signature ≡ signature
     within true is = by (statement_of bytes) is
     within false is = absurd cc
 

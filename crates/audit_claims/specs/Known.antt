@@ -1,24 +1,23 @@
 -- A rule of signatures beside claims that were seen: what is known of a signature before the rule is asked.
-use Rattle.std.specs.Prelude.{ℕ, ◌==◌, ◌&&◌, ◌||◌, nat_lt, if◌then◌else◌, Bool, List, [], ◌∷◌, drop, find, Option, Some, None, option_map, Ok, Err}
+use Rattle.std.specs.Prelude.{ℕ, ◌==◌, ◌&&◌, ◌||◌, nat_lt, if◌then◌else◌, Bool, List, [], ◌∷◌, drop, find, Option, Some, None, option_map, Result, Ok, Err}
 use Rattle.byte_defs.specs.Choices.{is_some_and}
 use Rattle.byte_defs.specs.Equality.{same_bytes}
-use Rattle.message_defs.specs.Statements.{Claim}
+use Rattle.message_defs.specs.Statements.{Claim, Statement}
+use Rattle.message_defs.specs.declared.FrameFault.{FrameFault}
 use Rattle.message_defs.specs.Spelling.{body}
 use Rattle.message_defs.specs.Reading.{statement_of}
 use Rattle.claim_firsts.specs.First.{is_first}
 use Rattle.claim_firsts.specs.Tables.{Table}
 
--- the claim of this signer with this signature, whose statement the bytes spell; none where they spell none
-abbrev pub claim_by : ℕ → List ℕ → List ℕ → Option Claim
-claim_by signer bytes signature = elim (statement_of bytes) [
-  | Ok st ↦ Some (record { signer = signer; statement = st; signature = signature })
-  | Err fault ↦ None
-]
+-- the claim of this signer with this signature and this statement, where one was read
+abbrev pub claim_by : ℕ → List ℕ → Result Statement FrameFault → Option Claim
+claim_by signer signature (Ok st) = Some (record { signer = signer; statement = st; signature = signature })
+claim_by signer signature (Err fault) = None
 
 -- a body, without its head of 20 bytes, is its signer, which is a process, and its statement
 abbrev pub claim_in : List ℕ → List ℕ → Option Claim
 claim_in [] signature = None
-claim_in (signer ∷ bytes) signature = if nat_lt signer 64 then claim_by signer bytes signature else None
+claim_in (signer ∷ bytes) signature = if nat_lt signer 64 then claim_by signer signature (statement_of bytes) else None
 
 -- the key of the process, in this roster
 abbrev pub key_in : List (ℕ × List ℕ) → ℕ → Option (List ℕ)

@@ -1,11 +1,12 @@
 //! Signatures that were verified before.
-ghost use Rattle.std.specs.Prelude.{◌≡◌, ◌∷◌, ◌++◌, ◌&&◌, ⊥, codes, drop, ℕ, List, IfNone, IfSome, Some, option_map};
+ghost use Rattle.std.specs.Prelude.{◌≡◌, ◌∷◌, ◌++◌, ◌&&◌, codes, drop, ℕ, List, IfNone, IfSome, option_map};
 ghost use Rattle.byte_defs.specs.Choices.{is_some_and};
 ghost use Rattle.byte_defs.specs.Equality.{same_bytes};
-ghost use Rattle.message_defs.specs.Spelling.{IsStatement, spelling};
+ghost use Rattle.message_defs.specs.Reading.{statement_of};
+ghost use Rattle.message_defs.specs.Spelling.{spelling};
 ghost use Rattle.stmt_codec.specs.Views.{claim as claim_of, stmt};
 ghost use Rattle.claim_firsts.specs.First.{is_first};
-ghost use Rattle.audit_claims.specs.Known.{claim_in as said_in, is_known, key_in, known_or_valid};
+ghost use Rattle.audit_claims.specs.Known.{claim_by as said_by, claim_in as said_in, is_known, key_in, known_or_valid};
 
 use claim_firsts::Firsts;
 use rp_base::{GroupId, Pid, Roster, Scheme};
@@ -39,21 +40,33 @@ fn said_after<'b>(group: &GroupId, body: &'b [u8]) -> Option<&'b [u8]>
         .strip_prefix(group.bytes().as_slice())
 }
 
+// The claim of this signer with this signature, whose statement the bytes spell; None where they spell none.
+fn claim_by<'b>(signer: Pid, bytes: &'b [u8], signature: &'b [u8]) -> Option<Claim<'b>>
+    ensures said { option_map claim_of result ≡ said_by signer signature.now (statement_of bytes.now) }
+    ensures spelled { IfSome result (λ c. (c.signer ≡ signer) × (bytes.now ≡ spelling (stmt c.statement))) }
+{
+    match read_statement(bytes) {
+        Ok(statement) => Some(Claim {
+            signer,
+            statement,
+            signature,
+        }),
+        Err(_) => None,
+    }
+}
+
 // The claim with this signature whose signer and statement the bytes are; None where they are none.
 fn claim_in<'b>(said: &'b [u8], signature: &'b [u8]) -> Option<Claim<'b>>
     ensures said { option_map claim_of result ≡ said_in said.now signature.now }
     ensures spelled { IfSome result (λ c. said.now ≡ c.signer ∷ spelling (stmt c.statement)) }
 {
-    let (signer, bytes) = said.split_first()?;
-    let signer = Pid::new(*signer)?;
-    let Ok(statement) = read_statement(bytes) else {
-        return None;
-    };
-    Some(Claim {
-        signer,
-        statement,
-        signature,
-    })
+    match said.split_first() {
+        Some((first, bytes)) => match Pid::new(*first) {
+            Some(signer) => claim_by(signer, bytes, signature),
+            None => None,
+        },
+        None => None,
+    }
 }
 
 // Both at one lifetime, the only form of the comparison that the borrow checker covers.
