@@ -6,8 +6,7 @@ use audit_core::{Kit, Payload};
 use journal_steps::Source;
 use kit_file::roster_of;
 use member_core::{Core, Entry};
-use rp_base::{Count, Pid};
-use sig_scheme::AnyScheme;
+use rp_base::{Count, Pid, Scheme};
 use std::alloc::Global;
 use view_table::View;
 
@@ -28,7 +27,7 @@ fn core_of(alloc: Global, kit: &Kit, me: Pid) -> Result<Core<Count>>
     }
 }
 
-fn absorb(core: &mut Core<Count>, scheme: &AnyScheme, entry: &Entry<'_>) -> Result<()> {
+fn absorb<V: Scheme>(core: &mut Core<Count>, scheme: &V, entry: &Entry<'_>) -> Result<()> {
     if entry.process != core.me() {
         return Err(anyhow!("another's entry"));
     }
