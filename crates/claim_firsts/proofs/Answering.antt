@@ -1,16 +1,15 @@
 -- Own words, and whether each slot of a process has one.
-use Rattle.std.proofs.Common.{◌≡◌, inl, inr, ℕ, List, [], ◌∷◌, ◌++◌, map, length, take, Option, Some, None, Bool, true, false, refl, sym, ap, ◌∙◌, subst}
+use Rattle.std.proofs.Common.{◌≡◌, ℕ, List, [], ◌∷◌, ◌++◌, map, length, take, Option, Some, None, Bool, true, false, refl, sym, ap, ◌∙◌, subst}
 use Rattle.std.specs.Prelude.{if◌then◌else◌, ◌==◌, ◌||◌, ◌&&◌, not, filter, find, Contains, IsTrue, ◌↔◌}
 use Rattle.std.specs.List.{list_any, list_all, AllByRecursion}
 use Rattle.std.specs.Map.{keys_of}
 use Rattle.std.proofs.lemmas.Bool.{eqb-true, eq-eqb}
-use Rattle.std.proofs.lemmas.List.{append-nil, append_assoc}
 use Rattle.message_defs.specs.Statements.{Claim, slot_of}
 use Rattle.group_defs.specs.Process.{Setting}
 use Rattle.group_defs.specs.Hearing.{is_valid}
-use Rattle.pool_laws.proofs.Members.{Mem, Contains-mem, mem-Contains, append-mem, mem-append, mem-behind, find-is, filter-mem, mem-filter, map-mem, mem-map, list_any-mem, mem-list_any, list_all-mem, each-list_all, mem-find}
+use Rattle.pool_laws.proofs.Members.{Mem, Contains-mem, mem-Contains, find-is, filter-mem, mem-filter, map-mem, mem-map, list_any-mem, mem-list_any, list_all-mem, each-list_all, mem-find}
 use Rattle.pool_laws.proofs.Tests.{and-first, and-second, both-true, implied, implies}
-use Rattle.conviction_defs.specs.Convictions.{Convicts, firsts_behind}
+use Rattle.conviction_defs.specs.Convictions.{Convicts}
 use Rattle.conviction_laws.proofs.Convicted.{by-convicts, convicts-by}
 use Rattle.indexmap.specs.IndexSet.{insert_key}
 use Rattle.claim_index.specs.declared.key.Key.{Key}
@@ -22,7 +21,7 @@ use Rattle.claim_firsts.specs.Seen.{Saw, IsAnswered, is_beside}
 use Rattle.claim_firsts.specs.Seeing.{answering, contradicted, forgetting, has_second, seeing, seeing_by, with_second}
 use Rattle.claim_firsts.specs.Answered.{is_answered, is_listed}
 use Rattle.claim_firsts.specs.Entries.{claim_at, kept_claim, IsEntry}
-use Rattle.claim_firsts.proofs.Finding.{beside-is, is-beside, find-firsts}
+use Rattle.claim_firsts.proofs.Finding.{beside-is, first-mem, is-beside, find-firsts}
 use Rattle.claim_firsts.proofs.Seeing.{saw-more}
 use Rattle.claim_firsts.proofs.Convicting.{has-second}
 
@@ -96,22 +95,6 @@ forgotten t k n is = ap (λ ks. forgetting-to t ks) (ap (λ n. take n (insert_ke
     go false = take-front t.answered (k ∷ [])
 
 -- ---- all slots that are answered
-
--- the first claims are among the claims
-pub first-mem : (before cs : List Claim) (z : Claim) → Mem z (firsts_behind before cs) → Mem z (before ++ cs)
-unfolding firsts_behind
-first-mem before [] z m = subst (Mem z) (sym (append-nil before)) m
-first-mem before (x ∷ cs) z m =
-    go (list_any (is_beside x) before) m (first-mem before cs z) (first-mem (before ++ x ∷ []) cs z)
-  where
-    go : (b : Bool) → Mem z (if b then firsts_behind before cs else firsts_behind (before ++ x ∷ []) cs)
-        → (Mem z (firsts_behind before cs) → Mem z (before ++ cs))
-        → (Mem z (firsts_behind (before ++ x ∷ []) cs) → Mem z ((before ++ x ∷ []) ++ cs)) → Mem z (before ++ x ∷ cs)
-    go true m one other = elim (append-mem before cs z (one m)) [
-      | inl here ↦ mem-append before (x ∷ cs) z here
-      | inr there ↦ mem-behind before (x ∷ cs) z (inr there)
-    ]
-    go false m one other = subst (Mem z) (append_assoc before (x ∷ []) cs) (other m)
 
 listed-is : (listed : List ℕ) (p : ℕ) → Contains listed p → is_listed listed p ≡ true
 listed-is listed p there = mem-list_any (λ q. q == p) listed p (Contains-mem listed p there) (eq-eqb p p refl)

@@ -17,7 +17,7 @@ use Rattle.claim_firsts.proofs.Finding.{any-found, any-not-found}
 
 -- ---- rising lists
 
--- each number is below those behind it
+-- each number is below those after it
 abbrev Rises : List ℕ → Type 0
 Rises [] = Unit {0}
 Rises (x ∷ xs) = ((y : ℕ) → Mem y xs → x < y) × Rises xs

@@ -1,5 +1,5 @@
 -- Searches in lists of claims, and the first claims of each signer and slot.
-use Rattle.std.proofs.Common.{◌≡◌, List, [], ◌∷◌, ◌++◌, Option, Some, None, Bool, true, false, refl, sym, ap, ◌∙◌}
+use Rattle.std.proofs.Common.{◌≡◌, inl, inr, List, [], ◌∷◌, ◌++◌, Option, Some, None, Bool, true, false, refl, sym, ap, ◌∙◌, subst}
 use Rattle.std.specs.Prelude.{if◌then◌else◌, ◌==◌, ◌&&◌, cond, filter, find}
 use Rattle.std.specs.List.{list_any}
 use Rattle.std.specs.Option.{option_or}
@@ -9,7 +9,7 @@ use Rattle.std.proofs.lemmas.Bool.{eqb-true, eq-eqb}
 use Rattle.message_defs.specs.Statements.{Claim, slot_of}
 use Rattle.group_defs.specs.Process.{Setting}
 use Rattle.group_defs.specs.Hearing.{is_valid}
-use Rattle.pool_laws.proofs.Members.{Mem, find-is, list_any-mem, mem-find, mem-list_any}
+use Rattle.pool_laws.proofs.Members.{Mem, append-mem, find-is, list_any-mem, mem-append, mem-behind, mem-find, mem-list_any}
 use Rattle.pool_laws.proofs.Slots.{is-same_slot, same_slot-is}
 use Rattle.pool_laws.proofs.Tests.{and-first, and-second, both-true, none-some}
 use Rattle.conviction_defs.specs.Convictions as defs
@@ -122,3 +122,19 @@ pub first-is : (s : Setting) (claims : List Claim) (c : Claim)
     → find (is_beside c) (defs.firsts s claims) ≡ find (is_on_slot c) (claims_by s claims c.signer)
 first-is s claims c = find-firsts c [] (filter (is_valid s) claims)
     ∙ find-thinned (is_valid s) (λ (b : Claim). b.signer == c.signer) (is_on_slot c) claims
+
+-- the first claims are among the claims
+pub first-mem : (before cs : List Claim) (z : Claim) → Mem z (firsts_behind before cs) → Mem z (before ++ cs)
+unfolding firsts_behind
+first-mem before [] z m = subst (Mem z) (sym (append-nil before)) m
+first-mem before (x ∷ cs) z m =
+    go (list_any (is_beside x) before) m (first-mem before cs z) (first-mem (before ++ x ∷ []) cs z)
+  where
+    go : (b : Bool) → Mem z (if b then firsts_behind before cs else firsts_behind (before ++ x ∷ []) cs)
+        → (Mem z (firsts_behind before cs) → Mem z (before ++ cs))
+        → (Mem z (firsts_behind (before ++ x ∷ []) cs) → Mem z ((before ++ x ∷ []) ++ cs)) → Mem z (before ++ x ∷ cs)
+    go true m one other = elim (append-mem before cs z (one m)) [
+      | inl here ↦ mem-append before (x ∷ cs) z here
+      | inr there ↦ mem-behind before (x ∷ cs) z (inr there)
+    ]
+    go false m one other = subst (Mem z) (append_assoc before (x ∷ []) cs) (other m)

@@ -14,8 +14,7 @@ use Rattle.claim_firsts.specs.Tables.{Table}
 use Rattle.claim_firsts.specs.Seen.{Saw, is_beside}
 use Rattle.claim_firsts.specs.Seeing.{seeing, seeing_by}
 use Rattle.claim_firsts.specs.First.{is_again, is_first}
-use Rattle.claim_firsts.proofs.Answering.{first-mem}
-use Rattle.claim_firsts.proofs.Finding.{beside-is}
+use Rattle.claim_firsts.proofs.Finding.{beside-is, first-mem}
 use Rattle.claim_firsts.proofs.Seeing.{saw-more}
 
 not-true : (b : Bool) → not b ≡ true → b ≡ false

@@ -1,4 +1,4 @@
--- The convictions that a table tells.
+-- The convictions that a table reports.
 use Rattle.std.specs.Prelude.{ℕ, ◌==◌, find, Option, option_map, option_and_then}
 use Rattle.message_defs.specs.Statements.{Claim}
 use Rattle.message_defs.specs.Spelling.{IsStatement}

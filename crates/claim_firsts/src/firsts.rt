@@ -172,7 +172,7 @@ impl<'a> Firsts<'a> {
         is_signer(&self.seconds, q)
     }
 
-    // Puts the claim behind the first ones.
+    // Puts the claim after the first ones.
     fn add_first(&mut self, kept: Kept<'a>) -> Result<(), NoMemory>
         requires range { IsStatement (kept_claim kept).statement }
         requires fresh { contradicted self.old (kept_claim kept) ≡ None }
@@ -187,7 +187,7 @@ impl<'a> Firsts<'a> {
         Ok(())
     }
 
-    // Puts the claim behind the second ones.
+    // Puts the claim after the second ones.
     fn add_second(&mut self, kept: Kept<'a>) -> Result<(), NoMemory>
         requires range { IsStatement (kept_claim kept).statement }
         ensures added { OnOk result (self.new ≡ with_second self.old (kept_claim kept.entry)) }
@@ -267,7 +267,7 @@ impl<'a> Firsts<'a> {
         Ok(())
     }
 
-    // Forgets which slots are answered behind the first so many.
+    // Forgets which slots are answered after the first so many.
     fn forget_answered(&mut self, count: usize)
         ensures { self.new ≡ forgetting self.old count }
     {
@@ -291,7 +291,7 @@ impl<'a> Firsts<'a> {
         }
     }
 
-    /// A process signed the claim itself, as its journal tells. It is to be valid. The claim is kept where it is the first one on its slot,
+    /// A process signed the claim itself, as its journal says. It is to be valid. The claim is kept where it is the first one on its slot,
     /// or convicts its signer; bytes that spell no statement are no claim. Without memory it is dropped, and the table is as before.
     pub fn see_own(&mut self, claim: OwnClaim) -> Result<(), NoMemory>
         ensures seen { OnOk result ((s : Setting) (claims own : List plain.Claim) (c : plain.Claim) → Saw s claims own self.old
@@ -306,7 +306,7 @@ impl<'a> Firsts<'a> {
     }
 
     /// No claim convicts one of these processes, and of each slot on which a valid claim of one of them was seen, the process's own word
-    /// was seen too. So it is told of the claims that were handed to these processes, and of those that they signed, whether all that was
+    /// was seen too. So it says of the claims that were handed to these processes, and of those that they signed, whether all that was
     /// handed over of them is their own word (docs/PROMISES.md, «Auditor»).
     pub fn is_answered(&self, listed: PidSet) -> bool
         ensures { (s : Setting) (claims own : List plain.Claim) → Saw s claims own self.now → IsTrue result ↔ IsAnswered s claims own listed }

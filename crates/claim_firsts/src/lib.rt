@@ -1,4 +1,4 @@
-//! The first valid claim of each signer and slot, from which it is told who is convicted and by which two claims (docs/PROTOCOL.md,
+//! The first valid claim of each signer and slot, which say who is convicted and by which two claims (docs/PROTOCOL.md,
 //! «Statements and slots»).
 #![tactic(auto)]
 
