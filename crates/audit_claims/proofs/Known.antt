@@ -74,10 +74,10 @@ module _ (s : Setting) (valid : List ℕ → List ℕ → List ℕ → Bool) (gr
 
 pub head-off : (first second bytes one two : List ℕ) → same_bytes (take (length first) bytes) first ≡ true → one ≡ drop (length first) bytes
     → same_bytes (take (length second) one) second ≡ true → two ≡ drop (length second) one → bytes ≡ first ++ second ++ two
-head-off first second bytes one two e is f then =
+head-off first second bytes one two e is f behind =
     let front : take (length first) bytes ≡ first = (bytes_eq-Decides (take (length first) bytes) first).0 e in
     let next : take (length second) one ≡ second = (bytes_eq-Decides (take (length second) one) second).0 f in
-    let rest : one ≡ second ++ two = sym (take-append-drop (length second) one) ∙ (λ i. next i ++ sym then i) in
+    let rest : one ≡ second ++ two = sym (take-append-drop (length second) one) ∙ (λ i. next i ++ sym behind i) in
     sym (take-append-drop (length first) bytes) ∙ (λ i. front i ++ (sym is ∙ rest) i)
 
 clash : {b : Bool} → b ≡ true → b ≡ false → ⊥
@@ -99,13 +99,13 @@ after-head group said bytes len is = ap (drop 20) is ∙ drop_at group said 16 l
 -- ---- what is known
 
 module _ (group : List ℕ) (roster : List (ℕ × List ℕ)) (t : Table) (key bytes signature : List ℕ) where
-  abbrev Known : Bool
-  Known = is_known group roster t key bytes signature
+  abbrev known : Bool
+  known = is_known group roster t key bytes signature
 
-  pub unknown-head : ((said : List ℕ) → bytes ≡ codes "RPB1" ++ group ++ said → ⊥) → false ≡ Known
-  unknown-head other = go Known refl
+  pub unknown-head : ((said : List ℕ) → bytes ≡ codes "RPB1" ++ group ++ said → ⊥) → false ≡ known
+  unknown-head other = go known refl
     where
-      go : (b : Bool) → Known ≡ b → false ≡ b
+      go : (b : Bool) → known ≡ b → false ≡ b
       go false e = refl
       go true e =
           let at = some-and (claim_in (drop 20 bytes) signature) (λ c. is_under group roster key bytes c && is_first t c) e in
@@ -114,13 +114,13 @@ module _ (group : List ℕ) (roster : List (ℕ × List ℕ)) (t : Table) (key b
           absurd (other (c.signer ∷ spelling c.statement) ((bytes_eq-Decides bytes (body group c.signer c.statement)).0
           (and-first (same_bytes bytes (body group c.signer c.statement)) (is_some_and (key_in roster c.signer) (same_bytes key)) under)))
 
-  pub unknown-claim : (said : List ℕ) → drop 20 bytes ≡ said → claim_in said signature ≡ None → false ≡ Known
+  pub unknown-claim : (said : List ℕ) → drop 20 bytes ≡ said → claim_in said signature ≡ None → false ≡ known
   unknown-claim said is none =
       sym (ap (λ o. is_some_and o (λ c. is_under group roster key bytes c && is_first t c)) (ap (λ b. claim_in b signature) is ∙ none))
 
   pub known-claim : (said : List ℕ) (c : Claim) → drop 20 bytes ≡ said → claim_in said signature ≡ Some c
       → bytes ≡ codes "RPB1" ++ group ++ said → said ≡ c.signer ∷ spelling c.statement
-      → (is_some_and (key_in roster c.signer) (same_bytes key) && is_first t c) ≡ Known
+      → (is_some_and (key_in roster c.signer) (same_bytes key) && is_first t c) ≡ known
   known-claim said c is some whole spelled =
       let bytes-are : bytes ≡ body group c.signer c.statement = whole ∙ ap (λ r. codes "RPB1" ++ group ++ r) spelled in
       let same : same_bytes bytes (body group c.signer c.statement) ≡ true = (bytes_eq-Decides bytes (body group c.signer c.statement)).1 bytes-are in

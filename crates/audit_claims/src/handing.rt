@@ -32,6 +32,26 @@ fn claims_in<'a>(bytes: &'a [u8]) -> Option<Claims<'a>>
     }
 }
 
+// Verifies the claim's signature; both tables see the claim, where it is valid.
+fn verify_and_see<'a, V: Scheme>(
+    judge: &Judge<'_, V>,
+    claim: &Claim<'a>,
+    all: &mut Firsts<'a>,
+    handed: &mut Firsts<'a>,
+) -> Result<(), NoMemory>
+    requires { IsStatement (stmt claim.now.statement) }
+    ensures seen { (s : Setting) (claims own before : List plain.Claim)
+        → Shares s (V.valid judge.now.scheme.now) judge.now.group.now judge.now.roster.now
+        → Saw s claims own all.old → Saw s before [] handed.old
+        → OnOk result (Saw s (claims ++ claim_of claim.now ∷ []) own all.new × Saw s (before ++ claim_of claim.now ∷ []) [] handed.new) }
+{
+    if !is_signed(judge.scheme, judge.roster, judge.group, claim) {
+        return Ok(());
+    }
+    all.see(claim)?;
+    handed.see(claim)
+}
+
 // Both tables see the claim, where it is valid. What the table of all claims knows is not verified again, and changes nothing there.
 fn see_valid<'a, V: Scheme>(
     judge: &Judge<'_, V>,
@@ -48,11 +68,7 @@ fn see_valid<'a, V: Scheme>(
     if all.knows(claim) {
         return handed.see(claim);
     }
-    if !is_signed(judge.scheme, judge.roster, judge.group, claim) {
-        return Ok(());
-    }
-    all.see(claim)?;
-    handed.see(claim)
+    verify_and_see(judge, claim, all, handed)
 }
 
 // Both tables see those of the claims that are valid.
