@@ -1,7 +1,8 @@
 -- What is known of a signature is what the rule says of it.
-use Rattle.std.proofs.Common.{◌≡◌, ℕ, ◌+◌, List, [], ◌∷◌, ◌++◌, length, take, drop, Option, Some, None, Bool, true, false, refl, sym, ap, ◌∙◌, subst}
+use Rattle.std.proofs.Common.{◌≡◌, ℕ, ◌<◌, List, [], ◌∷◌, ◌++◌, length, take, drop, Option, Some, None, Bool, true, false, refl, sym, ap, ◌∙◌, arith}
 use Rattle.std.specs.Prelude.{◌==◌, ◌&&◌, ◌||◌, nat_lt, if◌then◌else◌, codes, find, option_map, Result, Ok, Err}
-use Rattle.std.proofs.lemmas.List.{append_assoc, drop_at, take-append-drop, take_at}
+use Rattle.std.proofs.lemmas.Bool.{lt-ltb, ltb-true}
+use Rattle.std.proofs.lemmas.List.{drop_at, take-append-drop, take_at}
 use Rattle.std.proofs.lemmas.Slice.Eq.{bytes_eq-Decides}
 use Rattle.byte_defs.specs.Choices.{is_some_and}
 use Rattle.byte_defs.specs.Equality.{same_bytes}
@@ -95,6 +96,26 @@ no-second first second bytes one is e rest whole =
 -- what comes after a head of 20 bytes
 pub after-head : (group said bytes : List ℕ) → length group ≡ 16 → bytes ≡ codes "RPB1" ++ group ++ said → drop 20 bytes ≡ said
 after-head group said bytes len is = ap (drop 20) is ∙ drop_at group said 16 len
+
+-- ---- a signer and a statement
+
+pub none-said : (said signature : List ℕ) → length said ≡ 0 → None ≡ claim_in said signature
+none-said [] signature none = refl
+none-said (p ∷ bytes) signature none = absurd (omega (arith, none))
+
+pub no-process : (said bytes signature : List ℕ) (p : ℕ) → said ≡ p ∷ bytes → (p < 64 → ⊥) → None ≡ claim_in said signature
+no-process said bytes signature p parts high = go (nat_lt p 64) refl ∙ sym (ap (λ b. claim_in b signature) parts)
+  where
+    go : (b : Bool) → nat_lt p 64 ≡ b → None ≡ (if b then claim_by p signature (statement_of bytes) else None)
+    go false e = refl
+    go true e = absurd (high (ltb-true p 64 e))
+
+pub a-process : (said bytes signature : List ℕ) (p signer : ℕ) → said ≡ p ∷ bytes → signer ≡ p → p < 64
+    → claim_by signer signature (statement_of bytes) ≡ claim_in said signature
+a-process said bytes signature p signer parts is low =
+    ap (λ q. claim_by q signature (statement_of bytes)) is
+    ∙ sym (ap (λ b. if b then claim_by p signature (statement_of bytes) else None) (lt-ltb p 64 low))
+    ∙ sym (ap (λ b. claim_in b signature) parts)
 
 -- ---- what is known
 
