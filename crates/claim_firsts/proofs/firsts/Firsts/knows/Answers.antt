@@ -1,4 +1,4 @@
-use Rattle.std.proofs.Common.{◌≡◌, Bool, false, true, map, ap, ◌∙◌, sym}
+use Rattle.std.proofs.Common.{◌≡◌, false, true, ap, ◌∙◌, sym}
 use Rattle.std.specs.Prelude.{option_map}
 use Rattle.std.specs.Map.{lookup}
 use Rattle.byte_defs.specs.Choices.{is_some_and}
