@@ -1,3 +1,3 @@
 pub mod Frames
 pub mod OwnWords
-pub mod Known
+pub mod Asked

@@ -1,2 +1,2 @@
 pub mod Handed
-pub mod Known
+pub mod Asked

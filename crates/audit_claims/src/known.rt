@@ -6,7 +6,7 @@ ghost use Rattle.message_defs.specs.Reading.{statement_of};
 ghost use Rattle.message_defs.specs.Spelling.{spelling};
 ghost use Rattle.stmt_codec.specs.Views.{claim as claim_of, stmt};
 ghost use Rattle.claim_firsts.specs.First.{is_first};
-ghost use Rattle.audit_claims.specs.Known.{claim_by as said_by, claim_in as said_in, is_known, key_in, known_or_valid};
+ghost use Rattle.audit_claims.specs.Asked.{claim_by as said_by, claim_in as said_in, is_known, key_in, known_or_valid};
 
 use claim_firsts::Firsts;
 use rp_base::{GroupId, Pid, Roster, Scheme};

@@ -1,6 +1,6 @@
 use Rattle.std.proofs.Common.{sym, ◌∙◌}
 use Rattle.stmt_codec.specs.Views.{claim as claim_of}
-use Rattle.audit_claims.proofs.Known.{known-claim, unknown-claim, unknown-head}
+use Rattle.audit_claims.proofs.Asked.{known-claim, unknown-claim, unknown-head}
 use Rattle.audit_claims.proofs.known.Known.knows.Goals as goal
 
 pub returns-in_default : goal.returns-in_default

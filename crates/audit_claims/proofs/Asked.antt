@@ -18,7 +18,7 @@ use Rattle.claim_firsts.specs.Seen.{Saw}
 use Rattle.claim_firsts.specs.First.{is_first}
 use Rattle.claim_firsts.specs.Tables.{Table}
 use Rattle.claim_firsts.proofs.First.{first-valid}
-use Rattle.audit_claims.specs.Known.{claim_by, claim_in, is_known, is_under, key_in, known_or_valid}
+use Rattle.audit_claims.specs.Asked.{claim_by, claim_in, is_known, is_under, key_in, known_or_valid}
 use Rattle.audit_claims.proofs.Frames.{same-valid}
 
 -- ---- the rule answers the same
