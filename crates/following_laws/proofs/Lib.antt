@@ -1,0 +1,4 @@
+pub mod Growing
+-- pub mod Turns
+-- pub mod Replying
+-- pub mod Offering
