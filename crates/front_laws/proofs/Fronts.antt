@@ -22,7 +22,7 @@ ended_more n d rest more f e = of (finish n d) e
         ap (λ (g : Front). let r : Result Front KitFault = Ok (with_more more g) in r) same
     of (Err fault) e = absurd cc
 
--- whatever stands before
+-- whatever is before
 front_more : (bytes more line : List ℕ) (n : ℕ) (d : Draft) (f : Front) → front_at line n d bytes ≡ Ok f
     → front_at line n d (bytes ++ more) ≡ Ok (with_more more f)
 unfolding front_at

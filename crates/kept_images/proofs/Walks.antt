@@ -125,6 +125,6 @@ pub keys-differ : {A : Type 0} (f : A → ℕ) (xs : List A) (b : Bool) → b �
 keys-differ f xs b is =
     (λ ok. keys-apart f xs (others-differ (map f xs) (sym is ∙ ok)), λ all. is ∙ differ-others (map f xs) (apart-keys f xs all))
 
--- what rises is told by the walk from 0 on
+-- the walk from 0 on says what rises
 pub walk-rises : (xs : List ℕ) (b : Bool) → b ≡ rise_from 0 xs → IsTrue b ↔ IsStrictlyIncreasing xs
 walk-rises xs b is = (λ ok. rises 0 xs (sym is ∙ ok), λ up. is ∙ rising 0 xs up (λ x more e. omega arith))

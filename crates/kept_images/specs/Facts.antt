@@ -18,7 +18,7 @@ pub record AreConflicts (s : Setting) (pairs : List (Claim × Claim)) : Type 0 w
 abbrev pub AreOwn : Setting → ℕ → View → List Claim → Type 0
 AreOwn s me v cs = All (λ c. (c.signer ≡ me) × (view_of c.statement ≤ v.number) × IsTrue (is_valid s c)) cs
 
--- what was delivered in each view stands by place, and has no more places than a view
+-- what was delivered in each view is in the order of places, and has no more places than a view
 pub record StandByPlace (lists : List (List Delivered)) : Type 0 where
   pub by_place : All StandsByPlace lists
   pub few : All (λ ds. places_in ds ≤ most_places) lists

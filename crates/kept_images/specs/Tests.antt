@@ -68,7 +68,7 @@ is_left s v l =
     && (is_possible (keyed s) v l.value.update
     && (rise_from 0 (map (λ c. c.signer) l.commit) && list_all (commits s v l.rank l.value) l.commit)))
 
--- the view behind these, where each was left so
+-- the view after these, where each was left so
 abbrev pub leaves : Setting → View → List LeftView → Option View
 leaves s v [] = Some v
 leaves s v (l ∷ ls) = if is_left s v l then leaves s (next_view v l.value.update) ls else None

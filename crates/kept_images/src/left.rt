@@ -94,7 +94,7 @@ fn is_left<V: Scheme>(
         )
 }
 
-// The view behind these, where each was left so.
+// The view after these, where each was left so.
 fn leave<V: Scheme>(
     scheme: &V,
     roster: &Roster,
@@ -117,7 +117,7 @@ fn leave<V: Scheme>(
     Some(view)
 }
 
-/// The view behind those that were left, the first of which is the genesis view; None exactly where not each was left by the claims of a
+/// The view after those that were left, the first of which is the genesis view; None exactly where not each was left by the claims of a
 /// quorum of its members on a Ready whose update is possible.
 pub fn view_behind<V: Scheme>(
     scheme: &V,

@@ -43,8 +43,8 @@ fn each_is_placed(lists: &[Vec<Delivered>]) -> bool
     lists.iter().all(|delivered| is_placed(delivered))
 }
 
-/// Whether what was delivered in each view stands by place: at each place from the first on 1 to 16 messages, one place behind the other,
-/// and at most 1,024 of them.
+/// Whether what was delivered in each view is in the order of places: at each place from the first on 1 to 16 messages, one place after the
+/// other, and at most 1,024 of them.
 pub fn stand_by_place(lists: &[Vec<Delivered>]) -> bool
     ensures { IsTrue result ↔ StandByPlace (map (λ ds. map plain ds.items) lists.now) }
 {

@@ -1,4 +1,4 @@
--- What a turn lets out, answer by answer: its letters go over the link, and its notes are told.
+-- What a turn lets out, answer by answer: its letters go over the link, and each of its notes has a line.
 use Rattle.std.specs.Prelude.{◌≡◌, ℕ, List, [], ◌++◌, map, flat_map, zip, None}
 use Rattle.std.specs.List.{AllZip}
 use Rattle.node_defs.specs.Lines.{note_line, fault_line}
@@ -8,7 +8,7 @@ use Rattle.node_traces.specs.Outside.{LinkSeen, LinkAnswered}
 
 -- ---- answers
 
--- a letter was sent, or its send failed; a note was told, and the service said more after it
+-- a letter was sent, or its send failed; a note has its line, and the service said more after it
 abbrev pub Fits : Leaving → Answer → Type 0
 Fits (Sends p q frame) Done = Unit {0}
 Fits (Sends p q frame) Failed = Unit {0}
@@ -31,7 +31,7 @@ failed_by _ = []
 
 -- ---- what came of it
 
--- the link, the lines that wait, and those of failed sends, which are to stand after them
+-- the link, the lines that wait, and those of failed sends, which are to follow them
 pub record Edge : Type 0 where
   pub link : LinkSeen
   pub text : List ℕ
@@ -40,7 +40,7 @@ pub record Edge : Type 0 where
 abbrev pub edge : LinkSeen → List ℕ → List ℕ → Edge
 edge link text late = record { link = link; text = text; late = late }
 
--- All of this was let out, in this order: with some answers, one for each, the link did what they say, each note's line stands after the
+-- All of this was let out, in this order: with some answers, one for each, the link did what they say, each note's line follows the
 -- lines that waited, and the line of each failed send after those of the others.
 pub record LetOut (c : Cast) (ls : List Leaving) (before now : Edge) : Type 0 where
   pub answers : List Answer

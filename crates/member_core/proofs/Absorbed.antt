@@ -10,8 +10,7 @@ use Rattle.group_defs.specs.Events.{Event, Turn, Outcome, after, outcome, journa
 use Rattle.stmt_codec.specs.Views.{signed}
 use Rattle.stmt_codec.specs.declared.events.Outcome.{Outcome as Came}
 use Rattle.pool_laws.proofs.Members.{All-mem, mem-All, mem-behind, Mem}
-use Rattle.member_state.specs.declared.state.ProcessState.{ProcessState}
-use Rattle.member_state.specs.Events.{IsOutcome}
+use Rattle.member_signing.specs.States.{ProcessState, IsOutcome}
 use Rattle.member_core.specs.declared.member.Core.{Core}
 use Rattle.member_core.specs.declared.journalled.Journalled.{Journalled}
 use Rattle.member_core.specs.Outcomes.{HasTaken}

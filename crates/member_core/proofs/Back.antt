@@ -8,11 +8,7 @@ use Rattle.message_defs.specs.Updates.{Update as Asked, Remove, Add, Renew}
 use Rattle.group_defs.specs.Process.{Setting, Process}
 use Rattle.rp_base.specs.Views.{update as update_of}
 use Rattle.member_sending.specs.Taking.{asking}
-use Rattle.member_state.specs.declared.left.LeftView.{LeftView}
-use Rattle.member_state.specs.declared.marks.Before.{Before}
-use Rattle.member_state.specs.declared.state.ProcessState.{ProcessState}
-use Rattle.member_state.specs.States.{IsReal, IsStateOf}
-use Rattle.member_state.specs.Marks.{Stays, HasLeft, Since}
+use Rattle.member_signing.specs.States.{LeftView, Before, ProcessState, IsReal, IsStateOf, Stays, HasLeft, Since}
 use Rattle.member_sending.specs.Taking.{Input, Payload, Claims, Want, Update, Tick, handed, asks}
 use Rattle.member_core.specs.Outcomes.{is_asked}
 

@@ -16,7 +16,7 @@ use Rattle.stmt_codec.specs.Views.{signed}
 use Rattle.stmt_codec.specs.declared.events.Outcome.{Outcome as Came}
 use Rattle.stmt_codec.specs.declared.events.EventVerdict.TheVariants.{Taken}
 use Rattle.stmt_codec.specs.declared.own.OwnClaim.{OwnClaim}
-use Rattle.member_state.specs.declared.state.ProcessState.{ProcessState}
+use Rattle.member_signing.specs.States.{ProcessState}
 use Rattle.member_signing.specs.Signed.{IsSigned}
 use Rattle.pool_laws.proofs.Members.{Mem, All-mem, mem-All, mem-behind}
 use Rattle.event_laws.specs.Parts.{HasSigned}
@@ -26,8 +26,7 @@ use Rattle.event_laws.proofs.Settled.{settling_leaves}
 use Rattle.event_laws.specs.Slots.{FillsSlots, most_signed}
 use Rattle.event_laws.proofs.Slots.{slots_are_few}
 use Rattle.event_laws.proofs.Once.{signing_fills_slots}
-use Rattle.member_state.specs.States.{IsStateOf, signed_here}
-use Rattle.member_state.specs.Events.{refusal as verdict-of, frame_to, frames_to, note, IsOutcome}
+use Rattle.member_signing.specs.States.{IsStateOf, signed_here, refusal as verdict-of, frame_to, frames_to, note, IsOutcome}
 use Rattle.member_sending.specs.Began.{Began}
 use Rattle.member_core.specs.Outcomes.{HasBegun, HasEnded, HasTaken, halts, liars_from, refusing}
 

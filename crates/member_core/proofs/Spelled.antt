@@ -26,7 +26,7 @@ use Rattle.stmt_codec.specs.declared.events.Outcome.{Outcome}
 use Rattle.stmt_codec.specs.declared.events.EventVerdict.TheVariants.{Taken}
 use Rattle.journal_defs.specs.Entries.{IsEntry, IsEvent, AreSignatures}
 use Rattle.journal_entries.specs.Views.{event as plain_event, turn_entry, signatures_of}
-use Rattle.member_state.specs.Events.{event, refusal as verdict-of}
+use Rattle.member_signing.specs.States.{event, refusal as verdict-of}
 use Rattle.member_core.specs.declared.member.Keyless.{Keyless}
 use Rattle.member_core.specs.Cores.{Takes}
 use Rattle.member_core.specs.Entries.{NamesProcesses}

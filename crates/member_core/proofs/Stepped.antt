@@ -4,8 +4,7 @@ use Rattle.group_defs.specs.Process.{Setting, Process}
 use Rattle.group_defs.specs.Events.{Event}
 use Rattle.stmt_codec.specs.declared.events.Outcome.{Outcome as Came}
 use Rattle.member_core.specs.declared.member.Core.{Core}
-use Rattle.member_state.specs.declared.state.ProcessState.{ProcessState}
-use Rattle.member_state.specs.States.{IsStateOf}
+use Rattle.member_signing.specs.States.{ProcessState, IsStateOf}
 use Rattle.member_core.specs.Cores.{IsCore, Steps, Takes, me_of, turn_of}
 
 pub steps-so : {G : Type 0} (used total : G → ℕ) (signature : G → ℕ → List ℕ → List ℕ) (s : Setting) (p : Process) (old new : Core G)

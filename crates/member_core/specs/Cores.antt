@@ -5,8 +5,7 @@ use Rattle.group_defs.specs.Process.{Setting, Process, all_kinds}
 use Rattle.group_defs.specs.Events as defs
 use Rattle.event_laws.specs.Slots.{most_signed}
 use Rattle.stmt_codec.specs.declared.events.Outcome.{Outcome}
-use Rattle.member_state.specs.States.{IsStateOf}
-use Rattle.member_state.specs.Events.{IsOutcome}
+use Rattle.member_signing.specs.States.{IsStateOf, IsOutcome}
 use Rattle.member_core.specs.declared.member.Core.{Core}
 use Rattle.member_core.specs.declared.member.Keyless.{Keyless}
 

@@ -8,7 +8,7 @@ use Rattle.group_defs.specs.Events as defs
 use Rattle.stmt_codec.specs.declared.events.Event.{Event}
 use Rattle.stmt_codec.specs.declared.events.Event.TheVariants as events
 use Rattle.stmt_codec.specs.declared.events.Outcome.{Outcome}
-use Rattle.member_state.specs.Events.{IsOutcome}
+use Rattle.member_signing.specs.States.{IsOutcome}
 use Rattle.member_core.specs.declared.member.Core.{Core}
 use Rattle.member_core.specs.Cores.{IsCore}
 

@@ -12,9 +12,7 @@ use Rattle.event_laws.specs.Slots.{most_signed}
 use Rattle.stmt_codec.specs.Views.{signed}
 use Rattle.stmt_codec.specs.declared.events.Outcome.{Outcome}
 use Rattle.stmt_codec.specs.declared.events.EventVerdict.TheVariants.{Taken}
-use Rattle.member_state.specs.declared.state.ProcessState.{ProcessState}
-use Rattle.member_state.specs.States.{IsStateOf}
-use Rattle.member_state.specs.Events.{frame_to, frames_to, note, IsOutcome}
+use Rattle.member_signing.specs.States.{ProcessState, IsStateOf, frame_to, frames_to, note, IsOutcome}
 
 -- what an event answers that is refused: its fault alone
 abbrev pub refusing : defs.EventFault → defs.Outcome

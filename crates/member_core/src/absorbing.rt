@@ -10,7 +10,7 @@ ghost use Rattle.stmt_codec.specs.Views.{signed};
 ghost use Rattle.stmt_codec.specs.Kept.{signatures_left};
 ghost use Rattle.claim_hearing.specs.Hearing.{Shares};
 ghost use Rattle.group_defs.specs.Events as defs;
-ghost use Rattle.member_state.specs.Events.{event as event_of, IsOutcome};
+ghost use Rattle.member_signing.specs.States.{event as event_of, IsOutcome};
 ghost use Rattle.member_core.specs.Cores.{IsCore, IsKeyless, Takes, left_of, me_of, signer_of};
 ghost use Rattle.member_core.specs.Entries.{Agrees, Absorbs};
 

@@ -3,15 +3,13 @@ ghost use Rattle.std.specs.Prelude.{◌≡◌, ◌-◌, ◌≤◌, [], length, t
 ghost use Rattle.group_defs.specs.Process.{Setting, Process, all_kinds};
 ghost use Rattle.claim_hearing.specs.Hearing.{Shares};
 ghost use Rattle.member_sending.specs.Taking.{fault as fault_of};
-ghost use Rattle.member_state.specs.Events.{event as event_of, IsOutcome};
-ghost use Rattle.member_state.specs.States.{IsReal, IsStateOf};
-ghost use Rattle.member_state.specs.Marks.{MayAsk, Stays, Since};
+ghost use Rattle.member_signing.specs.States.{event as event_of, IsOutcome, IsReal, IsStateOf, MayAsk, Stays, Since};
 ghost use Rattle.member_sending.specs.Sends.{IsEmpty};
 ghost use Rattle.member_core.specs.Outcomes.{refusing, is_asked, HasTaken};
 
 use crate::halves::take;
 use member_sending::{Frames, Judge, admit};
-use member_state::{Before, ProcessState};
+use member_signing::{Before, ProcessState};
 use rp_base::{NoMemory, Scheme, Signer, Tally};
 use std::alloc::Global;
 use stmt_codec::{Event, EventFault, EventVerdict, Outcome};

@@ -1,9 +1,9 @@
 ghost use Rattle.std.specs.Prelude.{◌≡◌, length, is_none, true};
-ghost use Rattle.member_state.specs.States.{IsReal};
+ghost use Rattle.member_signing.specs.States.{IsReal};
 
 use crate::attempts::Rooms;
 use member_sending::Frames;
-use member_state::ProcessState;
+use member_signing::ProcessState;
 use rp_base::{GroupId, Roster};
 use std::alloc::Global;
 use std::mem;

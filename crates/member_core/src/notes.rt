@@ -2,11 +2,10 @@
 ghost use Rattle.std.specs.Prelude.{◌≡◌, ◌++◌, false, map, OnOk, IsOk};
 ghost use Rattle.group_defs.specs.Process.{Setting, Process};
 ghost use Rattle.group_defs.specs.Events as defs;
-ghost use Rattle.member_state.specs.Events.{note};
-ghost use Rattle.member_state.specs.States.{IsStateOf};
+ghost use Rattle.member_signing.specs.States.{note, IsStateOf};
 ghost use Rattle.member_core.specs.Outcomes.{halts, liars_from};
 
-use member_state::{Conflicts, ProcessState};
+use member_signing::{Conflicts, ProcessState};
 use rp_base::NoMemory;
 use stmt_codec::Note;
 

@@ -5,7 +5,7 @@ ghost use Rattle.event_laws.specs.Slots.{most_signed};
 ghost use Rattle.journal_defs.specs.Entries.{IsEntry};
 ghost use Rattle.journal_entries.specs.Views.{event as plain_event, turn_entry};
 ghost use Rattle.stmt_codec.specs.declared.events.EventVerdict.TheVariants.{Taken};
-ghost use Rattle.member_state.specs.Events.{event as event_of};
+ghost use Rattle.member_signing.specs.States.{event as event_of};
 ghost use Rattle.member_core.specs.Cores.{IsCore, IsKeyless, Steps, Takes, signer_of};
 ghost use Rattle.member_core.specs.Entries.{NamesProcesses};
 

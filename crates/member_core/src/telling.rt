@@ -5,14 +5,13 @@ ghost use Rattle.group_defs.specs.Process.{Setting, Process, start};
 ghost use Rattle.group_defs.specs.Accounts.{account_of};
 ghost use Rattle.group_defs.specs.Settle.{phase_of};
 ghost use Rattle.stmt_codec.specs.Views.{claim as claim_of};
-ghost use Rattle.member_state.specs.Parts.{account, word};
-ghost use Rattle.member_state.specs.States.{kept_of, liars_of, halted_at};
+ghost use Rattle.member_signing.specs.States.{account, word, kept_of, liars_of, halted_at};
 ghost use Rattle.member_core.specs.Cores.{IsCore, Shares, me_of, signer_of};
 
 use crate::attempts::Rooms;
 use crate::member::{Core, Keyless};
 use member_sending::Frames;
-use member_state::{Account, PhaseWord, ProcessState};
+use member_signing::{Account, PhaseWord, ProcessState};
 use rp_base::{GroupId, NoMemory, Pid, PidSet, Roster, Tally};
 use std::alloc::Global;
 use stmt_codec::Claim;

@@ -5,4 +5,5 @@ mod making;
 mod putting;
 mod signing;
 
+pub use member_state::{Account, Before, Conflicts, Delivered, PhaseWord, ProcessState};
 pub use signing::sign_all;

@@ -28,7 +28,7 @@ within_stays most bytes line rest more is =
     ap (option_and_then (if_short most)) (line_stays bytes line rest more here)
     ∙ ap (λ (t : Bool). if t then Some (line, rest ++ more) else None) short
 
--- it stands there with its line feed
+-- it is there with its line feed
 line_spelled : (bytes line rest : List ℕ) → line_at bytes ≡ Some (line, rest) → bytes ≡ line ++ 10 ∷ rest
 line_spelled [] line rest e = absurd cc
 line_spelled (c ∷ bytes) line rest e = elim (line_by_byte c bytes line rest e) [

@@ -17,7 +17,7 @@ TakesNone number k l NoMemory = k ≡ l
 TakesNone number k l (BadLine n) = (n ≡ number) × SourceBroke most_line_bytes k l
 TakesNone number k l _ = ⊥
 
--- a line was taken of which this holds, and its number is told
+-- a line was taken of which this holds, and its number is given
 pub record TakesBad (P : List ℕ → Type 0) (number : ℕ) (k l : SourceSeen) (why : Stop) : Type 0 where
   pub line : List ℕ
   pub took : SourceTook most_line_bytes k l line

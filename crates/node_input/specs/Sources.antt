@@ -3,7 +3,7 @@ use Rattle.std.specs.Prelude.{◌≡◌, ℕ, List, Option}
 use Rattle.std.specs.Io.KnownBytes.{Consumes}
 use Rattle.node_traces.specs.Outside.{SourceSeen}
 
--- The input is seen so: where it told what it had left, that which no line has taken is what was read ahead, and after it what the
+-- The input is seen so: where it reported what it had left, that which no line has taken is what was read ahead, and after it what the
 -- source has left now.
 pub record IsSeen (k : SourceSeen) (ahead : List ℕ) (left : Option (List ℕ)) (faults : ℕ) : Type 0 where
   pub bytes : Consumes k.left left ahead

@@ -15,10 +15,9 @@ use Rattle.script_laws.proofs.Stopping.{faults_stop}
 use Rattle.stop_laws.specs.Binds.{IsSilent}
 use Rattle.stop_laws.proofs.Binding.{binds_first}
 use Rattle.stop_laws.proofs.Rested.{ends-so}
-use Rattle.node_input.specs.Kits.{HasNoKit}
+use Rattle.node_script.specs.Inputs.{HasNoKit}
 use Rattle.node_script.specs.Sources.{most_line_bytes}
-use Rattle.node_script.specs.Words.{Unopened, reading, opening, outside}
-use Rattle.node_script.specs.Words.{Unread, no_memory, no_disk, no_header, no_entry}
+use Rattle.node_script.specs.Words.{Unopened, reading, opening, outside, Unread, no_memory, no_disk, no_header, no_entry}
 use Rattle.node_loop.specs.Runs.{HasRun, HasStopped, no_kit, not_opened, no_snapshot, opened_on, ran}
 
 -- ---- of a node that opens
@@ -70,7 +69,7 @@ pub record Counted (why : Stop) (faults now : ℕ) (sink sink_now : SinkSeen) (l
   pub written : why ≡ WriteFailed → Rose sink.faults sink_now.faults
   pub no_write : why ≢ WriteFailed → sink_now.faults ≡ sink.faults
   pub bound : why ≡ BindFailed → Rose link.faults link_now.faults
-  -- no host was told of, and nothing was sent
+  -- no host has its line, and nothing was sent
   pub untold : why ≡ BindFailed → (link_now.sent ≡ link.sent) × (sink_now ≡ sink)
 
 rose-by : (why this : Stop) (before now : ℕ) → ByCount (Some why) this before now → why ≡ this → Rose before now

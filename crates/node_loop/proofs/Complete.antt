@@ -13,11 +13,9 @@ use Rattle.node_defs.specs.Nodes.{Node, Mark, Snapper, at_first, reads, reads_on
 use Rattle.node_laws.proofs.Openings.{opens_sound}
 use Rattle.node_traces.specs.Outside.{LinkSeen, SinkSeen, SourceSeen}
 use Rattle.node_traces.specs.Goes.{Outside, Goes}
-use Rattle.node_input.specs.Kits.{BeginsWith, HasKit, HasNoKit, node_front}
+use Rattle.node_script.specs.Inputs.{BeginsWith, HasKit, HasNoKit, node_front}
 use Rattle.node_script.specs.Sources.{most_line_bytes}
-use Rattle.node_script.specs.Words.{HoldsAs}
-use Rattle.node_script.specs.Words.{Unopened, reading, opening, outside}
-use Rattle.node_script.specs.Words.{Unread, no_memory, no_disk, no_header, no_entry}
+use Rattle.node_script.specs.Words.{HoldsAs, Unopened, reading, opening, outside, Unread, no_memory, no_disk, no_header, no_entry}
 use Rattle.stop_laws.specs.Scripts.{CarriesOut, IsScript}
 use Rattle.stop_laws.specs.Stops.{CanStop, CanHaveStopped}
 use Rattle.stop_laws.proofs.Carried.{script_is_carried_out}

@@ -54,7 +54,7 @@ module _ (why : Stop) (status faults now : ℕ) (sink before new : SinkSeen) (li
   ends-fine disk disk_now by_disk fine no_read no_write no_disk = fine-status why status before new ends fine
       (λ e. absurd (no_read (counts.read e))) (λ e. absurd (no_write (wrote e))) (λ e. absurd (no_disk (rose-by-disk disk disk_now why by_disk e)))
 
--- what is in order is so of what is told
+-- what is in order is so of what is reported
 module _ {D : Type 0} (seen : D → Option (List ℕ)) (may_leave : D → List ℕ → Type 0) (moment : D → ℕ)
     (left_since : D → ℕ → List ℕ → Type 0) (snap : Snapper) (f : Found) (k : SourceSeen) (link : LinkSeen) (sink : SinkSeen) (old : D)
     (left : Option (List ℕ)) (faults : ℕ) (link_now : LinkSeen) (sink_now : SinkSeen) (new : D) (why : Stop)

@@ -23,7 +23,7 @@ one-kind h One Two xs ys e = let differ : 49 ≡ 50 = ap (λ (l : List ℕ). get
 one-kind h Two One xs ys e = let differ : 50 ≡ 49 = ap (λ (l : List ℕ). get_or l 3 0) e in absurd (omega (arith, differ))
 one-kind h Two Two xs ys e = refl
 
--- what stands after the header
+-- what follows the header
 after-head : (head file records : List ℕ) (rest : List ℕ) → file ≡ (head ++ records) ++ rest → file ≡ head ++ (records ++ rest)
 after-head head file records rest parts = parts ∙ append_assoc head records rest
 

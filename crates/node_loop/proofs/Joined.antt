@@ -18,9 +18,8 @@ use Rattle.node_traces.specs.Stops.{LeftBy}
 use Rattle.node_traces.proofs.Going.{parts_go_on}
 use Rattle.node_traces.proofs.Left.{parts_leave}
 use Rattle.node_script.specs.Words.{Running, cast_in}
-use Rattle.node_input.specs.Kits.{HasKit}
-use Rattle.node_script.specs.Sources.{most_line_bytes}
-use Rattle.node_script.specs.Sources.{IsSeen, SeenAs}
+use Rattle.node_script.specs.Inputs.{HasKit}
+use Rattle.node_script.specs.Sources.{most_line_bytes, IsSeen, SeenAs}
 use Rattle.node_script.specs.Words.{HasOpened, outside}
 use Rattle.node_script.specs.Ends.{ScriptEnds}
 use Rattle.stop_laws.specs.Stops.{CanHaveStopped, CanStop}

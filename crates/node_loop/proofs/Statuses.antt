@@ -3,7 +3,7 @@ use Rattle.std.proofs.Common.{◌≡◌, ◌≢◌, inl, inr, ℕ, List, [], ◌
 use Rattle.rp_base.specs.Causes.{Rose}
 use Rattle.node_defs.specs.Lines.{Stop, Ended, NoMemory, ReadFailed, WriteFailed, DiskFailed, BindFailed, BadKit, BadLine, BadSnap, BadJournal, Full, status_of, stop_line}
 use Rattle.node_traces.specs.Outside.{SinkSeen, SourceSeen}
-use Rattle.node_input.specs.Kits.{HasNoKit}
+use Rattle.node_script.specs.Inputs.{HasNoKit}
 use Rattle.node_script.specs.Words.{StopsByDisk}
 use Rattle.node_loop.specs.Ended.{EndsWith, SaysLast}
 

@@ -8,7 +8,7 @@ use Rattle.journal_defs.specs.Journals.{ReadsAs}
 use Rattle.node_defs.specs.Scripts.{most_lines}
 use Rattle.node_defs.specs.Casts.{cast_of, from_start, hosted_by}
 use Rattle.node_defs.specs.Lives.{FitsFrom}
-use Rattle.node_input.specs.Kits.{node_front}
+use Rattle.node_script.specs.Inputs.{node_front}
 use Rattle.node_script.specs.Sources.{most_line_bytes}
 use Rattle.stop_laws.specs.Scripts.{IsScript}
 

@@ -13,11 +13,9 @@ use Rattle.node_traces.specs.Outside.{LinkSeen, SinkSeen, SourceSeen}
 use Rattle.node_traces.specs.Goes.{Outside, Goes}
 use Rattle.node_traces.specs.Stops.{LeftBy}
 use Rattle.node_script.specs.Words.{IsAt}
-use Rattle.node_input.specs.Kits.{HasKit, HasNoKit}
-use Rattle.node_script.specs.Sources.{most_line_bytes}
-use Rattle.node_script.specs.Sources.{IsSeen, SeenAs}
-use Rattle.node_script.specs.Words.{HoldsAs}
-use Rattle.node_script.specs.Words.{Unopened, outside}
+use Rattle.node_script.specs.Inputs.{HasKit, HasNoKit}
+use Rattle.node_script.specs.Sources.{most_line_bytes, IsSeen, SeenAs}
+use Rattle.node_script.specs.Words.{HoldsAs, Unopened, outside}
 use Rattle.stop_laws.specs.Stops.{CanStop}
 
 -- the node of this kit, opened on a journal of this kind with these entries; the line `go` of the kit has this number

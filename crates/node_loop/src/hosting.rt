@@ -7,7 +7,7 @@ ghost use Rattle.node_defs.specs.Nodes.{Snapper};
 ghost use Rattle.node_traces.specs.Outside.{SourceSeen};
 ghost use Rattle.node_traces.specs.Seen.{link_seen, sink_seen, source_seen};
 ghost use Rattle.node_script.specs.Words.{stop as stop_of};
-ghost use Rattle.node_input.specs.Kits.{HasKit};
+ghost use Rattle.node_script.specs.Inputs.{HasKit};
 ghost use Rattle.node_script.specs.Sources.{IsSeen};
 ghost use Rattle.node_script.specs.Words.{StopsByDisk};
 ghost use Rattle.node_loop.specs.Ended.{HasEnded, SaysLast};
@@ -15,8 +15,7 @@ ghost use Rattle.node_loop.specs.Inputs.{TellInOrder};
 ghost use Rattle.node_loop.specs.Runs.{HasStopped};
 
 use crate::last_lines::tell;
-use node_input::{Front, Kit, Lines, read_kit};
-use node_script::{Stop, open, run_script};
+use node_script::{Front, Kit, Lines, Stop, open, read_kit, run_script};
 use rp_base::{Disk, Link, Sink, Source};
 use std::alloc::Global;
 

@@ -82,7 +82,7 @@ module _ (seen new : Option (List ℕ)) (may_leave : List ℕ → Type 0) (gate 
 
 -- ---- the node
 
--- its journal was read, its ports are bound, and its processes were told of
+-- its journal was read, its ports are bound, and the lines of its hosts are written
 pub record IsReady (kit : Kit) (v : Version) (snap : Snapper) (most lines : ℕ) (held seen : Option (List ℕ)) (x y : Outside) (gate : ℕ)
     (hosts : Hosts) (counts : Counts) : Type 0 where
   pub all : HasReadAll (cast_of kit v) kit lines seen gate hosts counts
@@ -132,7 +132,7 @@ module _ (r : Running) (snap : Snapper) (most lines : ℕ) (held seen new : Opti
         tells = λ some. tells-at seen new may_leave (gate_of r.journal) ok c.header es read.stands ready.all.closed (told some);
       }
 
-  -- the journal that is written stands where it stood as it was read
+  -- the journal that is written is where it was as it was read
   pub opened : (v : Version) (gate : ℕ) → version_of r.journal ≡ v → gate_of r.journal ≡ gate
       → ((head : List ℕ) (fs : List Entry) → EndsAt seen head fs gate → HasRest new may_leave head fs gate)
       → IsReady r.kit.now v snap most lines held seen x y gate r.hosts counts → HasOpened r snap most lines held x y new may_leave

@@ -29,6 +29,6 @@ by-disk T before now (Other place) cause = absurd cc
 by-disk T before now (Full length entry) cause = absurd cc
 by-disk T before now NoMemory cause = absurd cc
 
--- what does not stop by the disk has its cause, where the disk's count stands still
+-- what does not stop by the disk has its cause, where the disk's count stays
 pub by-no-disk : (before now : ℕ) (why : lines.Stop) → now ≡ before → ((count : ℕ) → StopsByDisk count count why) → StopsByDisk before now why
 by-no-disk before now why still never = subst (λ n. StopsByDisk before n why) (sym still) (never before)

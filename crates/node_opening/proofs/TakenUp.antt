@@ -80,7 +80,7 @@ module _ (c : Cast) (lines : ℕ) where
           stands = told_both seen (λ file stands here. entry_goes_on c.header file es gate e next stands here) read.stands there;
         }
 
-    -- what stands there is no entry
+    -- what is there is no entry
     pub broken-at : (place : ℕ) → place ≡ gate → IfSome seen (λ file. IsBrokenAt file place) → BreaksOff c lines seen (BadJournal place)
     broken-at place same broken = subst (λ n. IfSome seen (λ file. IsBrokenAt file n) → BreaksOff c lines seen (BadJournal n)) (sym same)
         (λ here. breaks es gate (told_both seen

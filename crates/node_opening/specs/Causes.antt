@@ -16,7 +16,7 @@ stop_of_fault (faults.Other place) = BadJournal place
 stop_of_fault (faults.Full length entry) = Full length entry
 stop_of_fault faults.NoMemory = NoMemory
 
--- a stop with a failed disk comes only where the disk's count of faults rose, and with each other stop the count stands still
+-- a stop with a failed disk comes only where the disk's count of faults rose, and with each other stop the count stays
 abbrev pub StopsByDisk : ℕ → ℕ → Stop → Type 0
 StopsByDisk before now DiskFailed = (before ≤ now) × Rose before now
 StopsByDisk before now _ = now ≡ before

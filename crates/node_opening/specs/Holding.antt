@@ -11,7 +11,7 @@ use Rattle.journal_disk.specs.Disks.{StaysUntold}
 use Rattle.journal_rp.specs.Headers.{IsJournal}
 use Rattle.node_defs.specs.Casts.{cast_of, hosted_by}
 
--- what stands in the header of their journal, after its magic
+-- what the header of their journal says after its magic
 abbrev pub header_in : Kit → Header
 header_in kit = record { group = kit.group; hosted = hosted_by kit; digest = kit_digest kit }
 
@@ -26,7 +26,7 @@ abbrev pub HoldsAs : Kit → Version → List Entry → Option (List ℕ) → Ty
 HoldsAs kit version es None = Unit {0}
 HoldsAs kit version es (Some file) = IsNew version es file ⊎ ReadsAs (cast_of kit version).header file es
 
--- A journal of this kind was started on a disk that held this. Where the disk tells, no entry stands before the gate at this place, and what
+-- A journal of this kind was started on a disk that held this. Where the disk reports, no entry is before the gate at this place, and what
 -- it is read as from then on is what it held.
 pub record IsBegun (kit : Kit) (version : Version) (held seen : Option (List ℕ)) (gate : ℕ) : Type 0 where
   pub stands : IfSome seen (λ file. StandsBefore (cast_of kit version).header file [] gate)

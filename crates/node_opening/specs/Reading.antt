@@ -19,8 +19,8 @@ use Rattle.node_opening.specs.Holding.{HoldsAs, IsOther}
 abbrev pub node_after : Cast → ℕ → List Entry → Node
 node_after c lines es = after_reading c (from_start c) lines es
 
--- These entries were read, up to the gate at this place: a hosted process may have written each of them where it stands, and the hosts are
--- what the entries make of them. Where the disk tells what it holds, the entries stand there before that gate.
+-- These entries were read, up to the gate at this place: a hosted process may have written each of them where it is, and the hosts are
+-- what the entries make of them. Where the disk reports what it holds, the entries are there before that gate.
 pub record HasRead (c : Cast) (kit : Kit) (lines : ℕ) (seen : Option (List ℕ)) (es : List Entry) (gate : ℕ) (hosts : Hosts) (counts : Counts)
     : Type 0 where
   pub runs : (node_after c lines es).stopped ≡ None
@@ -42,7 +42,7 @@ pub record HasReadAll (c : Cast) (kit : Kit) (lines : ℕ) (seen : Option (List 
   pub read : HasRead c kit lines seen entries gate hosts counts
   pub closed : IfSome seen (λ file. IsClosedAt file gate)
 
--- Why a node does not take up this entry, which stands at this place.
+-- Why a node does not take up this entry, which is at this place.
 pub data RefusesEntry (c : Cast) (n : Node) (e : Entry) (place : ℕ) : Stop → Type 0 where
   forgets : RefusesEntry c n e place NoMemory
   -- no hosted process may have written it
@@ -52,7 +52,7 @@ pub data RefusesEntry (c : Cast) (n : Node) (e : Entry) (place : ℕ) : Stop →
 pub data BreaksOff (c : Cast) (lines : ℕ) (seen : Option (List ℕ)) : Stop → Type 0 where
   lacks_memory : BreaksOff c lines seen NoMemory
   disk_failed : BreaksOff c lines seen DiskFailed
-  -- what stands at this place is no entry of the node
+  -- what is at this place is no entry of the node
   breaks : (es : List Entry) (place : ℕ) → IfSome seen (λ file. BreaksReading c (from_start c) lines [] file es place)
       → BreaksOff c lines seen (BadJournal place)
 

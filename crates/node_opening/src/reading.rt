@@ -24,7 +24,7 @@ use node_text::Stop;
 use rp_base::Disk;
 use std::alloc::Global;
 
-/// The hosted processes, which have taken up their journal, and how many entries each had. The journal stands at its closed gate.
+/// The hosted processes, which have taken up their journal, and how many entries each had. The journal is at its closed gate.
 #[derive(Drop)]
 pub(crate) struct Readers {
     pub(crate) journal: Journal<Reading>,
@@ -32,7 +32,7 @@ pub(crate) struct Readers {
     pub(crate) counts: Counts,
 }
 
-// The entry that stands at this place, taken up by its process and counted.
+// The entry at this place, taken up by its process and counted.
 fn take_up(
     kit: &Kit,
     place: u64,
@@ -55,7 +55,7 @@ fn take_up(
         signatures,
     } = bytes.entry();
 
-    // The type is named, since the checker is not told of it here otherwise.
+    // The type is named, since the checker does not find it here otherwise.
     let event: Event<'_> = event;
     let entry = Entry {
         process,

@@ -10,7 +10,7 @@ use Rattle.node_taking.specs.Hosts.{Running}
 use Rattle.node_receiving.specs.declared.receiving.Came.{Came}
 use Rattle.node_receiving.specs.declared.receiving.Came.TheVariants as came
 
--- how the link answers a receive, where what came stands at the front of the room
+-- how the link answers a receive, where what came lies at the front of the room
 abbrev pub answer_of : Result Got Failed → List ℕ → Answer
 answer_of (Ok gots.Nothing) room = nodes.Done
 answer_of (Ok (gots.Datagram n)) room = nodes.Came (take n room)

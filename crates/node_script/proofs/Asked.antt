@@ -5,11 +5,9 @@ use Rattle.journal_defs.specs.Entries.{Event}
 use Rattle.node_defs.specs.Casts as casts
 use Rattle.node_defs.specs.Nodes.{Take, Get, Word, tasks_of_line}
 use Rattle.node_defs.specs.Scripts as plain
-use Rattle.node_text.specs.declared.handed.Handed.{Handed}
-use Rattle.node_text.specs.declared.handed.Handed.TheVariants as events
-use Rattle.node_text.specs.declared.script.Said.{Said}
-use Rattle.node_text.specs.declared.script.Said.TheVariants.{Hand, Receive, Other}
-use Rattle.node_text.specs.Views.{handed as handed_of, said as said_of}
+use Rattle.node_input.specs.Texts.{Handed}
+use Rattle.node_input.specs.Events as events
+use Rattle.node_input.specs.Texts.{Said, Hand, Receive, Other, handed as handed_of, said as said_of}
 use Rattle.node_receiving.specs.Hosts.{IsFromOther}
 
 -- none is a frame

@@ -32,7 +32,7 @@ pub record IsUnbuilt {D : Type 0} (said : Line) (number : ℕ) (x : Outside) (ol
   pub disk : new ≡ old
 
 -- Node n went on to one that is asked for a snapshot and has nothing else to do. No node makes one yet: it stops there as at a line that is
--- none. What it leaves on a disk that told what it holds is what a run may find, with the entries that it has kept.
+-- none. What it leaves on a disk that reported what it holds is what a run may find, with the entries that it has kept.
 pub record StopsUnbuilt {D : Type 0} (seen : D → Option (List ℕ)) (may_leave : D → List ℕ → Type 0) (moment : D → ℕ)
     (left_since : D → ℕ → List ℕ → Type 0) (c : Cast) (snap : Snapper) (most : ℕ) (f : Found) (n : Node) (x : Outside) (old : D)
     (why : Stop) (y : Outside) (new : D) : Type 0 where

@@ -6,7 +6,7 @@ ghost use Rattle.node_defs.specs.Nodes.{Node, Snapper, Task, tasks_of_line};
 ghost use Rattle.node_defs.specs.Scripts as plain;
 ghost use Rattle.node_traces.specs.Outside.{SourceSeen};
 ghost use Rattle.node_traces.specs.Seen.{link_seen, sink_seen};
-ghost use Rattle.node_text.specs.Views.{line as line_of, said as said_of};
+ghost use Rattle.node_input.specs.Texts.{line as line_of, said as said_of};
 ghost use Rattle.node_receiving.specs.Stops.{stop as stop_of};
 ghost use Rattle.node_input.specs.Reads.{IsFor, IsRange};
 ghost use Rattle.node_receiving.specs.Hosts.{IsNode, cast_in, numbers_of};

@@ -6,6 +6,6 @@ mod reading;
 mod running;
 
 pub use carrying::carry_out;
-pub use node_input::{Line, Lines, Said, Source, Stop};
+pub use node_input::{Front, Kit, Line, Lines, Said, Source, Stop, read_kit};
 pub use node_receiving::{Rooms, Running, open};
 pub use running::run_script;

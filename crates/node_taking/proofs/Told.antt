@@ -69,7 +69,7 @@ module _ (c : Cast) (snap : Snapper) (most : ℕ) (n : Node) (p : ℕ) (e : Even
       lets-first c snap most (letting c n p e ts) (with_lines (at (grown c n p e) (Flush ∷ others)) text late) out [] lets.answers k l s o law lets.each
       lets.link ((λ i. with_lines (at (grown c n p e) (Flush ∷ others)) (lets.text i) (lets.late i)) ∙ sym law.run_is)
 
-  -- and is told
+  -- and is written
   pub tells-on : Told c out k l (SinkWrote s t) → Goes c snap most (letting c n p e ts) (outside k s o) (at (grown c n p e) ts) (outside l t o)
   tells-on told =
       let m : Node = with_lines (at (grown c n p e) (Flush ∷ others)) told.out.text told.out.late in

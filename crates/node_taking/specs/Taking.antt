@@ -28,7 +28,7 @@ pub record GoesOnTo {D : Type 0} (seen : D → Option (List ℕ)) (may_leave : D
   pub lines : node.lines ≡ n.lines
   pub script : node.script ≡ n.script
 
--- Node n went on to one that has stopped so; and what it leaves on a disk that told what it holds is what a run may find, with the entries
+-- Node n went on to one that has stopped so; and what it leaves on a disk that reported what it holds is what a run may find, with the entries
 -- that it has kept.
 pub record StopsSo {D : Type 0} (seen : D → Option (List ℕ)) (may_leave : D → List ℕ → Type 0) (moment : D → ℕ)
     (left_since : D → ℕ → List ℕ → Type 0) (c : Cast) (snap : Snapper) (most : ℕ) (f : Found) (n : Node) (x : Outside) (old : D) (why : Stop)

@@ -20,7 +20,7 @@ pub record Tells (c : Cast) (ls : List Leaving) (k l : LinkSeen) (Wrote : List �
   pub out : LetsTurnOut c ls k l [] text
   pub wrote : Wrote text
 
--- all of it was let out and told; or the output failed; or memory ran out, after the first of it
+-- all of it was let out and written; or the output failed; or memory ran out, after the first of it
 abbrev pub TellsTurn : {T : Type 0} → Result T Stop → Cast → List Leaving → LinkSeen → LinkSeen → SinkSeen → SinkSeen → Type 0
 TellsTurn (Ok x) c ls k l old new = Tells c ls k l (SinkWrote old new)
 TellsTurn (Err WriteFailed) c ls k l old new = Tells c ls k l (SinkFailed old new)

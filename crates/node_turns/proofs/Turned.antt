@@ -11,7 +11,8 @@ use Rattle.group_defs.specs.Events as defs
 use Rattle.stmt_codec.specs.declared.events.Outcome.{Outcome}
 use Rattle.stmt_codec.specs.declared.events.Sending.{Sending}
 use Rattle.stmt_codec.specs.declared.events.Note.{Note}
-use Rattle.member_state.specs.Events.{frame_to, frames_to, note, IsOutcome}
+use Rattle.node_text.specs.Outcomes.{frame_to, frames_to, IsOutcome}
+use Rattle.node_text.specs.Told.{note}
 use Rattle.node_defs.specs.Casts.{Cast, letters_of}
 use Rattle.node_defs.specs.Lines.{note_line}
 use Rattle.node_defs.specs.Nodes.{Leaving, Tells, Answer, Said, leaving_of}

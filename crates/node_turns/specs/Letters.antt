@@ -3,7 +3,8 @@ use Rattle.std.specs.Prelude.{ℕ, ◌≤◌, List, [], length, map, flat_map, O
 use Rattle.kit_defs.specs.Kits.{Kit}
 use Rattle.stmt_codec.specs.declared.events.Sending.{Sending}
 use Rattle.stmt_codec.specs.declared.events.Note.{Note}
-use Rattle.member_state.specs.Events.{frame_to, note}
+use Rattle.node_text.specs.Outcomes.{frame_to}
+use Rattle.node_text.specs.Told.{note}
 use Rattle.node_defs.specs.Casts.{Cast, pair_of}
 use Rattle.node_defs.specs.Nodes.{Leaving, Sends, Tells, Answer, Done, Failed}
 use Rattle.node_traces.specs.Outside.{LinkSeen}
@@ -41,7 +42,7 @@ answer_of (Err failed) = Failed
 abbrev pub link_seen : {L : Type 0} → (L → Option (List (ℕ × List ℕ))) → (L → Option (ℕ → List (List ℕ))) → (L → ℕ) → L → LinkSeen
 link_seen sent coming faults link = record { sent = sent link; coming = coming link; faults = faults link }
 
--- Of a whole turn: all of this was let out, with the notes' lines and after them those of failed sends; and these stand after the text that
+-- Of a whole turn: all of this was let out, with the notes' lines and after them those of failed sends; and these follow the text that
 -- there was.
 pub record LetsTurnOut (c : Cast) (ls : List Leaving) (before now : LinkSeen) (old new : List ℕ) : Type 0 where
   pub text : List ℕ

@@ -1,2 +1,2 @@
 -- What an event came to: in the words of the crate below, passed on.
-pub use Rattle.member_state.specs.Events.{IsOutcome}
+pub use Rattle.node_text.specs.Outcomes.{IsOutcome}

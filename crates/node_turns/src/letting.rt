@@ -3,7 +3,7 @@ ghost use Rattle.std.specs.Prelude.{◌≡◌, ◌≤◌, length, All, IfSome, O
 ghost use Rattle.group_defs.specs.Events.{Outcome};
 ghost use Rattle.journal_defs.specs.declared.Version.{Version};
 ghost use Rattle.journal_rp.specs.Turns.{outcome_of, staged_of};
-ghost use Rattle.member_state.specs.Events.{IsOutcome};
+ghost use Rattle.node_text.specs.Outcomes.{IsOutcome};
 ghost use Rattle.node_defs.specs.Casts.{cast_of};
 ghost use Rattle.node_defs.specs.Nodes.{leaving_of};
 ghost use Rattle.node_turns.specs.Kept.{IsLast};
@@ -18,7 +18,7 @@ use rp_base::{Disk, Link, NoMemory};
 use std::alloc::Global;
 
 /// Lets out what a turn sends and tells, once its entry is in the journal for good, which the disk is lent for: each frame is sealed in the
-/// room for each process that it goes to, by rising number, and sent to that one's port; then each note is a line behind the text, and last
+/// room for each process that it goes to, by rising number, and sent to that one's port; then each note is a line after the text, and last
 /// a line for each send that failed. The room has at least 61,054 bytes (`SEALED_BYTES`), so sealing takes no memory.
 ///
 /// # Errors
@@ -37,7 +37,7 @@ pub fn let_out<P: Drop, D: Disk, L: Link>(
     requires sealable { All (IsSealable speaker.now.kit.now speaker.now.me) (letters_in (outcome_of turn.now).sends.items) }
     requires room { 61054 ≤ length room.old }
 
-    // Just these calls, in this order, with answers that are told as the text says.
+    // Just these calls, in this order, with answers that are as the text says.
     ensures out { (version : Version) (o : Outcome) → IsOutcome o (outcome_of turn.now)
         → OnOk result (LetsTurnOut (cast_of speaker.now.kit.now version) (leaving_of speaker.now.me o)
         (link_seen L.sent L.coming L.faults link.old) (link_seen L.sent L.coming L.faults link.new) text.old.items text.new.items) }

@@ -1,7 +1,7 @@
 //! The notes of a turn.
 ghost use Rattle.std.specs.Prelude.{◌≡◌, ◌++◌, OnOk, OnErr};
 ghost use Rattle.std.specs.List.{flat_map};
-ghost use Rattle.member_state.specs.Events.{note as note_of};
+ghost use Rattle.node_text.specs.Told.{note as note_of};
 ghost use Rattle.node_defs.specs.Lines.{note_line};
 ghost use Rattle.node_text.specs.Words.{GoesOn};
 

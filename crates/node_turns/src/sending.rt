@@ -4,7 +4,7 @@ ghost use Rattle.journal_defs.specs.declared.Version.{Version};
 ghost use Rattle.node_defs.specs.Casts.{cast_of};
 ghost use Rattle.node_defs.specs.Nodes.{SendsTo};
 ghost use Rattle.node_traces.specs.Outside.{LinkStep};
-ghost use Rattle.member_state.specs.Events.{frame_to};
+ghost use Rattle.node_text.specs.Outcomes.{frame_to};
 ghost use Rattle.letting_laws.specs.Letting.{edge, LetOut, HasBegun};
 ghost use Rattle.node_turns.specs.Letters.{IsSealable, letters_in, letters_to, sends_of, answer_of, link_seen};
 

@@ -31,12 +31,12 @@ OneMoreCounts = (p : ℕ) (es : List Entry) (e : Entry) → length (entries_of p
 
 -- ---- a bad journal
 
--- What stands at this place is no entry of the node: the gate there is open, and either no whole entry and next gate stand after it, or an
+-- What is at this place is no entry of the node: the gate there is open, and either no whole entry and next gate follow it, or an
 -- entry that no hosted process may have written.
 abbrev pub IsBadAt : Cast → Node → List ℕ → ℕ → Type 0
 IsBadAt c n file place = IsBrokenAt file place ⊎ ((e : Entry) × (next : ℕ) × HasEntryAt file place e next × (takes_up c n e ≡ false))
 
--- The file has these entries before this place, after those with which the run begins; the node takes them up; and what stands at the place
+-- The file has these entries before this place, after those with which the run begins; the node takes them up; and what is at the place
 -- is no entry of this node.
 pub record BreaksReading (c : Cast) (b : Beginning) (lines : ℕ) (before : List Entry) (file : List ℕ) (es : List Entry) (place : ℕ)
     : Type 0 where

@@ -5,7 +5,7 @@ ghost use Rattle.trace_defs.specs.Phrases.{number_and_colon, quoted};
 ghost use Rattle.statements.specs.Batches.{message};
 ghost use Rattle.view_table.specs.Views.{as_view};
 ghost use Rattle.group_defs.specs.Events as group;
-ghost use Rattle.member_state.specs.Events.{note as note_of};
+ghost use Rattle.happenings.specs.Events.{note as note_of};
 ghost use Rattle.story_words.specs.Words.{spelled};
 ghost use Rattle.picture_defs.specs.Elements as elements;
 ghost use Rattle.picture_defs.specs.Labels as plain;

@@ -3,11 +3,11 @@ ghost use Rattle.message_defs.specs.Spelling.{IsStatement};
 ghost use Rattle.message_defs.specs.Statements as plain;
 ghost use Rattle.group_defs.specs.Process.{Pool};
 ghost use Rattle.group_defs.specs.Certified as defs;
-ghost use Rattle.stmt_codec.specs.Views.{stmt, claim as claim_of};
+ghost use Rattle.slot_quorums.specs.Statements.{stmt, claim as claim_of};
 ghost use Rattle.slot_quorums.specs.Claims.{with_heard};
 ghost use Rattle.pool_values.specs.Ends.{AreInitsEnds, init_said};
 
-use stmt_codec::{Claim, Statement};
+use slot_quorums::{Claim, Statement};
 
 /// How many processes there are.
 pub(crate) const PROCESSES: usize = 64;

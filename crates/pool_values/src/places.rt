@@ -8,7 +8,7 @@ ghost use Rattle.group_defs.specs.Process.{Pool};
 ghost use Rattle.group_defs.specs.Certified as defs;
 ghost use Rattle.placed_batches.specs.Counting.{counts_in};
 ghost use Rattle.rp_base.specs.Views.{update as update_of};
-ghost use Rattle.stmt_codec.specs.Views.{stmt, claim as claim_of};
+ghost use Rattle.slot_quorums.specs.Statements.{stmt, claim as claim_of};
 ghost use Rattle.slot_quorums.specs.Claims.{claim_bytes, empty_pool, with_heard};
 ghost use Rattle.pool_values.specs.Updates.{has_update, AreNotified, notified_said};
 ghost use Rattle.pool_values.specs.Places.{ArePlaced, is_place_of, placed_in, after_one};
@@ -18,11 +18,10 @@ use crate::ends::{PROCESSES, note_init};
 use crate::updates::UpdateSet;
 use placed_batches::PlacedBatches;
 use rp_base::{NoMemory, Pid, Update};
-use slot_quorums::{Quorums, View, faulty};
+use slot_quorums::{Batch, Claim, Quorums, Slot, Statement, View, faulty};
 use std::alloc::Global;
 use std::marker::Model;
 use std::mem;
-use stmt_codec::{Batch, Claim, Slot, Statement};
 
 /// How many places a view has.
 const MOST_PLACES: u16 = 1_024;

@@ -13,8 +13,7 @@ ghost use Rattle.ending_rules.specs.Due.{HasKeys, IsLeastDue};
 ghost use Rattle.rank_rules.specs.Open.{is_ack_open};
 
 use crate::ways::{first_deciding, is_first_way};
-use ending_rules::cut_justified;
-use pool_questions::{Own, Pool, suggestion};
+use ending_rules::{Own, Pool, cut_justified, suggestion};
 use rp_base::Value;
 use stmt_codec::Slot;
 

@@ -7,10 +7,10 @@ ghost use Rattle.group_defs.specs.Certified as certified;
 ghost use Rattle.group_defs.specs.Settle as defs;
 ghost use Rattle.pool_laws.specs.Least.{IsLeastBelow};
 ghost use Rattle.stmt_codec.specs.Views.{report};
-ghost use Rattle.pool_questions.specs.Certificates.{content_of};
+ghost use Rattle.ending_rules.specs.Questions.{content_of};
 ghost use Rattle.ending_rules.specs.Due.{HasKeys};
 
-use pool_questions::{Certificate, Commit, Own, Pool, certified_ready};
+use ending_rules::{Certificate, Commit, Own, Pool, certified_ready};
 use rp_base::Value;
 use stmt_codec::Slot;
 use view_table::is_possible;

@@ -9,7 +9,7 @@ ghost use Rattle.ending_rules.specs.Due.{IsLeastDue};
 ghost use Rattle.rank_rules.specs.Open.{is_last_open};
 
 use crate::ranks::removed_rank;
-use pool_questions::{Own, Pool};
+use ending_rules::{Own, Pool};
 use rp_base::Value;
 use stmt_codec::Slot;
 

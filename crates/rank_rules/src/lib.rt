@@ -12,8 +12,7 @@ mod ways;
 
 pub use acks::{ack_candidate, justified, next_ack};
 pub use decisions::{commit, decided};
-pub use ending_rules::{Perceived, end_due, notify_due};
+pub use ending_rules::{Perceived, certified_payload, end_due, notify_due};
 pub use lasts::last_due;
-pub use pool_questions::certified_payload;
 pub use readies::ready_due;
 pub use suggests::{choose, next_suggest, suggest_due};

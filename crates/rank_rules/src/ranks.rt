@@ -3,7 +3,7 @@ ghost use Rattle.std.specs.Prelude.{◌≡◌, take_while, length};
 ghost use Rattle.message_defs.specs.Updates.{Remove};
 ghost use Rattle.group_defs.specs.Certified as defs;
 
-use pool_questions::Pool;
+use ending_rules::Pool;
 use rp_base::{Pid, Update};
 
 // Whether more than f members notify that the process is removed.

@@ -9,7 +9,7 @@ ghost use Rattle.rp_base.specs.Views.{value as value_of};
 ghost use Rattle.ending_rules.specs.Due.{IsLeastDue};
 ghost use Rattle.rank_rules.specs.Open.{is_ready_open};
 
-use pool_questions::{Own, Pool, certified_ack};
+use ending_rules::{Own, Pool, certified_ack};
 use rp_base::Value;
 use stmt_codec::Slot;
 

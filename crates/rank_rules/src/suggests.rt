@@ -13,8 +13,7 @@ ghost use Rattle.ending_rules.specs.Due.{IsLeastDue};
 ghost use Rattle.rank_rules.specs.Open.{is_suggest_open};
 
 use crate::ways::{is_first_way, last_deciding};
-use ending_rules::free_value;
-use pool_questions::{Own, Pool, certified_ack, has_notified};
+use ending_rules::{Own, Pool, certified_ack, free_value, has_notified};
 use rp_base::Value;
 use stmt_codec::Slot;
 

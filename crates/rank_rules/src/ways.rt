@@ -13,8 +13,7 @@ ghost use Rattle.rule_laws.specs.Ending.{last_of as plain_last};
 ghost use Rattle.rule_laws.specs.Heard.{IsPool};
 ghost use Rattle.rule_laws.specs.Ranks.{acked};
 
-use ending_rules::is_quorum;
-use pool_questions::{Pool, certified_ack, last_of};
+use ending_rules::{Pool, certified_ack, is_quorum, last_of};
 use rp_base::{Pid, Value};
 
 // Whether the values are equal.

@@ -7,7 +7,7 @@ use Rattle.node_defs.specs.Nodes.{Node, Snapper}
 use Rattle.node_traces.specs.Outside.{AtEnd}
 use Rattle.node_traces.specs.Goes.{Outside, Goes}
 
--- It stopped for this, and the count of faults rose; or it did not, and the count stands still.
+-- It stopped for this, and the count of faults rose; or it did not, and the count stays.
 abbrev pub ByCount : Option Stop → Stop → ℕ → ℕ → Type 0
 ByCount stopped why before now = ((stopped ≡ Some why) × Rose before now) ⊎ ((stopped ≢ Some why) × (now ≡ before))
 

@@ -6,13 +6,12 @@ ghost use Rattle.message_defs.specs.Statements as plain;
 ghost use Rattle.group_defs.specs.Process.{Pool};
 ghost use Rattle.group_defs.specs.Certified as defs;
 ghost use Rattle.rp_base.specs.Pids.{put_once};
-ghost use Rattle.stmt_codec.specs.Views.{stmt, claim as claim_of};
+ghost use Rattle.claim_index.specs.Statements.{stmt, claim as claim_of};
 ghost use Rattle.claim_index.specs.Kept.{by_number, with_heard};
 ghost use Rattle.slot_quorums.specs.Cells.{joining, speaks_otherwise, others, IsOf, IsCell};
 
-use claim_index::ClaimIndex;
+use claim_index::{Claim, ClaimIndex, Statement};
 use rp_base::{Pid, PidSet};
-use stmt_codec::{Claim, Statement};
 
 /// What is heard on a slot: the place, in order of hearing, of a claim whose content no fewer members say than any other, the members
 /// who say it, and all who have a claim on the slot.

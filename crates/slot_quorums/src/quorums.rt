@@ -10,21 +10,23 @@ ghost use Rattle.message_defs.specs.Spelling.{IsStatement};
 ghost use Rattle.message_defs.specs.Statements as plain;
 ghost use Rattle.group_defs.specs.Views as views;
 ghost use Rattle.group_defs.specs.Certified as defs;
-ghost use Rattle.stmt_codec.specs.Views.{stmt, slot, claim, claim as claim_of};
+ghost use Rattle.claim_index.specs.Statements.{stmt, slot, claim, claim as claim_of};
 ghost use Rattle.claim_index.specs.Keys.{slot_key, same_slot_key};
 ghost use Rattle.claim_index.specs.Kept.{by_number, claim_bytes, empty_pool, with_heard};
 ghost use Rattle.slot_quorums.specs.Cells.{said_at, IsCell, IsCertifiedBy, IsOf, StandsAt};
 ghost use Rattle.slot_quorums.specs.Marks.{noted, placed, restored};
 
 use crate::cell::{Cell, cell_with};
-use claim_index::{ClaimIndex, KeyHasher, SlotKey, View, quorum, slot_key_at, slot_key_of};
+use claim_index::{
+    Claim, ClaimIndex, KeyHasher, STATEMENT_BYTES, Slot, SlotKey, Statement, View, quorum,
+    slot_key_at, slot_key_of, spell_into,
+};
 use indexmap::IndexMap;
 use rp_base::{NoMemory, Pid, PidSet};
 use std::alloc::Global;
 use std::hash::BuildHasherDefault;
 use std::marker::Model;
 use std::mem;
-use stmt_codec::{Claim, STATEMENT_BYTES, Slot, Statement, spell_into};
 
 // A cell for each slot, found by the slot's key.
 type Cells = IndexMap<SlotKey, Cell, BuildHasherDefault<KeyHasher>>;

@@ -10,7 +10,7 @@ abbrev pub fault_of : SnapshotFault → Option ℕ
 fault_of (faults.Image place) = Some place
 fault_of faults.NoMemory = None
 
--- how many bytes are left where the fault stands, where it is one of the bytes
+-- how many bytes are left where the fault is, where it is one of the bytes
 abbrev pub left_of : ReadError → Option ℕ
 left_of (reads.Fault left) = Some left
 left_of reads.NoMemory = None

@@ -39,7 +39,7 @@ impl Model for KeptClaim {
     ghost invariant = { λ c. IsOk (statement_of c.statement.items) × (length c.signature.items ≤ most_signature_bytes) };
 }
 
-/// Signer, statement and signature, the last two behind their lengths.
+/// Signer, statement and signature, the last two after their lengths.
 #[tactic(auto, unfolding(snapshot_defs::specs::Reading::claim_at))]
 pub(crate) fn read_claim(alloc: Global, cursor: &mut Cursor<'_>) -> Result<KeptClaim, ReadError>
     ensures { Makes left_of (λ c. (c, cursor.new.rest.now)) result (claim_at cursor.old.rest.now) }
@@ -56,7 +56,7 @@ pub(crate) fn read_claim(alloc: Global, cursor: &mut Cursor<'_>) -> Result<KeptC
     })
 }
 
-// The signer, and both behind their lengths.
+// The signer, and both after their lengths.
 fn push_parts(
     out: &mut Vec<u8>,
     signer: Pid,
@@ -85,7 +85,7 @@ fn push_kept(
     push_parts(out, signer, statement, signature)
 }
 
-/// Signer, statement and signature, the last two behind their lengths.
+/// Signer, statement and signature, the last two after their lengths.
 pub(crate) fn push_claim(out: &mut Vec<u8>, claim: &KeptClaim) -> Result<(), NoMemory>
     ensures { OnOk result (out.new.items ≡ out.old.items ++ claim_bytes claim.now) }
 {

@@ -1,4 +1,4 @@
-//! Fields of an image, one after another. A fault is told by how many bytes are left where it stands.
+//! Fields of an image, one after another. A fault says how many bytes are left where it is.
 ghost use Rattle.std.specs.Prelude.{◌≡◌, ◌≤◌, length, IfOk, IsOk};
 ghost use Rattle.std.specs.Int.{w8, w16, w32};
 ghost use Rattle.byte_defs.specs.Reads.{Gives};
@@ -131,7 +131,7 @@ impl<'a> Cursor<'a> {
         self.bytes(len as usize)
     }
 
-    /// The bytes of a statement, behind their length.
+    /// The bytes of a statement, after their length.
     #[tactic(auto, unfolding(snapshot_defs::specs::Reading::statement_at))]
     pub(crate) fn statement(&mut self) -> Result<&'a [u8], usize>
         ensures value { Gives (λ x. (statement_or_end (statement_of x.now), self.new.rest.now)) result (plain.statement_at self.old.rest.now) }

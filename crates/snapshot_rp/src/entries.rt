@@ -70,7 +70,7 @@ pub(crate) fn entries<T: Entry>(
     Ok(all)
 }
 
-/// A list: its length in four bytes, and its entries. Room is taken for entries that were read, whatever length is told.
+/// A list: its length in four bytes, and its entries. Room is taken for entries that were read, whatever length is claimed.
 pub(crate) fn list<T: Entry>(reading: Reading, cursor: &mut Cursor<'_>) -> Result<Vec<T>, ReadError>
     ensures { Makes left_of (λ xs. (map T.plain xs.items, cursor.new.rest.now)) result
         (list_at (T.step reading.version) cursor.old.rest.now) }

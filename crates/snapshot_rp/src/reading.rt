@@ -205,11 +205,11 @@ fn read_placed(alloc: Global, version: Version, bytes: &[u8]) -> Result<Image, S
     }
 }
 
-/// The image that the bytes spell in this version, all of them. Room is taken for what was read, and for no length that is told.
+/// The image that the bytes spell in this version, all of them. Room is taken for what was read, and for no length that is claimed.
 ///
 /// # Errors
 /// [`SnapshotFault::Image`] exactly where they spell none: at the first field that the bytes end in or that is out of its range, at the
-/// beginning of the perceived pairs or the conflicts where these don't rise, or behind the image where bytes are left.
+/// beginning of the perceived pairs or the conflicts where these don't rise, or after the image where bytes are left.
 /// [`SnapshotFault::NoMemory`] where room is refused.
 pub fn read_snapshot(alloc: Global, version: Version, bytes: &[u8]) -> Result<Image, SnapshotFault>
     // What is read is in its ranges, and spelled so.

@@ -15,13 +15,13 @@ use Rattle.node_laws.proofs.Openings.{opens_sound}
 use Rattle.opening_laws.specs.Reading.{after_reading, IsBadAt}
 use Rattle.stop_laws.specs.Journals.{JournalIsRead}
 
--- what stands at a place is no open gate and a closed one
+-- no place has both an open gate and a closed one
 open-closed : (file : List ℕ) (place : ℕ) (behind : List ℕ) → drop place file ≡ open_gate ∷ behind → IsClosedAt file place → ⊥
 open-closed file place behind opens closed =
     let same : closed.gate ∷ closed.behind ≡ open_gate ∷ behind = sym closed.parts ∙ opens in
     absurd (closed.closed cc)
 
--- ---- entries that stand before a place are the first of those that are read
+-- ---- entries before a place are the first of those that are read
 
 nested : (h r b f t : List ℕ) (o : ℕ) → (h ++ (r ++ (o ∷ (b ++ f)))) ++ t ≡ (h ++ r) ++ o ∷ (b ++ (f ++ t))
 nested h r b f t o = simp append_assoc

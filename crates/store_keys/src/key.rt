@@ -81,8 +81,8 @@ impl LeafKey {
         self.signer.sig_len()
     }
 
-    /// Signs a body with the leaf of this number, which no body was signed with and none can be signed with again. The signature stands in
-    /// front of `out`; the answer is its length.
+    /// Signs a body with the leaf of this number, which no body was signed with and none can be signed with again. The signature lies at
+    /// the front of `out`; the answer is its length.
     #[tactic(auto, using(crate::proofs::Skipped::most_kept, crate::proofs::Skipped::signature_kept, crate::proofs::Skipped::signs_kept))]
     pub fn sign(&mut self, leaf: u32, body: &[u8], out: &mut [u8]) -> usize
         requires unused { next self.old ≤ leaf }

@@ -13,7 +13,7 @@ short_process p few = length-decimal-le 2 p (omega arith) (omega (arith, few)) (
 pub short_count : (n : ℕ) → n < 256 → length (decimal n) ≤ 3
 short_count n few = length-decimal-le 3 n (omega arith) (omega (arith, few)) (omega (arith, few))
 
--- its pieces, one behind the other
+-- its pieces, one after the other
 pub line_written : (old name said head text line : List ℕ) (p : ℕ) → head ≡ old ++ head_of name p → text ≡ head ++ said
     → line ≡ text ++ line_feed ∷ [] → line ≡ old ++ line_text (name ∷ decimal p ∷ said ∷ [])
 line_written old name said head text line p first then last =
@@ -23,7 +23,7 @@ line_written old name said head text line p first then last =
     ∙ ap (λ t. old ++ (t ++ line_feed ∷ [])) (append_assoc name (space ∷ (decimal p ++ space ∷ [])) said
     ∙ ap (λ t. name ++ space ∷ t) (append_assoc (decimal p) (space ∷ []) said))
 
--- with a number behind them
+-- with a number after them
 pub count_written : (old name said head text spaced counted line : List ℕ) (p n : ℕ) → head ≡ old ++ head_of name p → text ≡ head ++ said
     → spaced ≡ text ++ space ∷ [] → counted ≡ spaced ++ decimal n → line ≡ counted ++ line_feed ∷ []
     → line ≡ old ++ line_text (name ∷ decimal p ∷ said ∷ decimal n ∷ [])

@@ -3,7 +3,7 @@ use Rattle.std.specs.Prelude.{ℕ, List, [], ◌∷◌, ◌++◌, Option, Some, 
 use Rattle.std.specs.Fmt.{decimal}
 use Rattle.text_defs.specs.Words.{space}
 
--- a name and a process, with a space behind each
+-- a name and a process, with a space after each
 abbrev pub head_of : List ℕ → ℕ → List ℕ
 head_of name me = name ++ space ∷ (decimal me ++ space ∷ [])
 

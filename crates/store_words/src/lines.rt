@@ -49,7 +49,7 @@ fn append_process(out: &mut Vec<u8>, p: Pid)
     append(out, Buffer::new().format(u64::from(p.get())).as_bytes());
 }
 
-// The name and the process, and a space behind each, for which there is room.
+// The name and the process, and a space after each, for which there is room.
 fn append_head(out: &mut Vec<u8>, name: &[u8], me: Pid)
     requires room { vec_len out.old + (length name.now + 4) ≤ vec_capacity out.old }
     ensures items { out.new.items ≡ out.old.items ++ head_of name.now me }

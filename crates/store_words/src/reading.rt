@@ -120,7 +120,7 @@ fn state_key_by(scheme: AnyScheme, roster: &Roster, mut words: Words<'_>) -> Opt
     Some(Word::StateKey { process, key })
 }
 
-// What the words behind the process say.
+// What the words after the process say.
 #[tactic(auto, unfolding(store_defs::specs::Words::word_by))]
 fn word_by(
     alloc: Global,

@@ -2,7 +2,7 @@ use Rattle.std.proofs.Common.{◌-◌, ◌∙◌, ap, sym, subst}
 use Rattle.std.specs.Prelude.{IfOk}
 use Rattle.group_defs.specs.Events as defs
 use Rattle.member_sending.specs.Taking.{fault}
-use Rattle.member_state.specs.Events.{event}
+use Rattle.member_signing.specs.States.{event}
 use Rattle.member_core.specs.Outcomes.{is_asked, HasTaken}
 use Rattle.member_core.proofs.Back.{asks-so, since-stays}
 use Rattle.member_core.proofs.Joined.{refused-so}

@@ -3,7 +3,7 @@ use Rattle.std.proofs.lemmas.List.{map-append}
 use Rattle.stmt_codec.specs.Views.{claim}
 use Rattle.stmt_codec.specs.declared.events.Note.{Note}
 use Rattle.stmt_codec.specs.declared.events.Note.TheVariants.{Liar}
-use Rattle.member_state.specs.Events.{note}
+use Rattle.member_signing.specs.States.{note}
 use Rattle.member_core.specs.Outcomes.{liars_from}
 use Rattle.member_core.proofs.Liars.{liar-told, none-told}
 use Rattle.member_core.proofs.notes.tell_liars.Goals as goal

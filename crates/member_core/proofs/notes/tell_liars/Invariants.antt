@@ -1,5 +1,5 @@
 use Rattle.std.proofs.Common.{◌≡◌, ◌++◌, map}
-use Rattle.member_state.specs.Events.{note}
+use Rattle.member_signing.specs.States.{note}
 use Rattle.member_core.specs.Outcomes.{liars_from}
 use Rattle.member_core.proofs.notes.tell_liars.Given as goal
 

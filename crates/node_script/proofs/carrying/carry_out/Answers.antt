@@ -1,7 +1,6 @@
 use Rattle.std.proofs.Common.{inr, refl, ap, subst}
 use Rattle.node_defs.specs.Nodes.{tasks_of_line}
-use Rattle.node_text.specs.declared.script.Line.{Line}
-use Rattle.node_text.specs.Views.{line as line_of}
+use Rattle.node_input.specs.Texts.{Line, line as line_of}
 use Rattle.node_input.specs.Reads.{IsFor}
 use Rattle.node_receiving.specs.Hosts.{IsNode, numbers_of}
 use Rattle.node_script.proofs.Asked.{stops-or}

@@ -2,7 +2,7 @@ use Rattle.std.proofs.Common.{arith}
 use Rattle.std.proofs.lemmas.Result.{err_from_is_err_and}
 use Rattle.node_traces.specs.Seen.{link_seen, sink_seen}
 use Rattle.node_input.specs.Reads.{most_line_bytes}
-use Rattle.node_text.specs.Views.{line as line_of}
+use Rattle.node_input.specs.Texts.{line as line_of}
 use Rattle.node_receiving.specs.Stops.{stop as stop_of}
 use Rattle.node_script.proofs.Carried.{line-result, line-stopped}
 use Rattle.node_script.proofs.NoDisk.{asked-cause}

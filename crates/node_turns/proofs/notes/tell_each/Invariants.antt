@@ -1,6 +1,6 @@
 use Rattle.std.proofs.Common.{◌≡◌, ◌++◌, take}
 use Rattle.std.specs.List.{flat_map}
-use Rattle.member_state.specs.Events.{note}
+use Rattle.node_text.specs.Told.{note}
 use Rattle.node_defs.specs.Lines.{note_line}
 use Rattle.node_turns.proofs.notes.tell_each.Given as goal
 

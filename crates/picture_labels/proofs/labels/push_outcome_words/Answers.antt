@@ -1,6 +1,6 @@
 use Rattle.std.proofs.Common.{List, ◌++◌, map, ap, ◌∙◌}
 use Rattle.std.specs.List.{flat_map}
-use Rattle.member_state.specs.Events.{note}
+use Rattle.happenings.specs.Events.{note}
 use Rattle.stmt_codec.specs.declared.own.OwnClaim.{OwnClaim}
 use Rattle.stmt_codec.specs.declared.events.Note.{Note}
 use Rattle.stmt_codec.specs.Views.{signed}

@@ -1,6 +1,6 @@
 use Rattle.std.proofs.Common.{◌≡◌, ◌++◌, map, take}
 use Rattle.std.specs.List.{flat_map}
-use Rattle.member_state.specs.Events.{note}
+use Rattle.happenings.specs.Events.{note}
 use Rattle.picture_defs.specs.Labels.{note_span}
 use Rattle.picture_labels.proofs.spans.push_notes.Given as goal
 

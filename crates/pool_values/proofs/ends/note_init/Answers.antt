@@ -1,6 +1,6 @@
 use Rattle.std.proofs.Common.{◌≡◌, ◌<◌, ◌+◌, sym, ap, ◌∙◌, subst}
 use Rattle.std.specs.Prelude.{max, slice_index, slice_set}
-use Rattle.stmt_codec.specs.Views.{claim}
+use Rattle.slot_quorums.specs.Statements.{claim}
 use Rattle.slot_quorums.specs.Claims.{with_heard}
 use Rattle.pool_values.specs.Ends.{AreInitsEnds}
 use Rattle.pool_values.proofs.Ended.{one-heard, none-more}

@@ -1,4 +1,4 @@
-use Rattle.pool_questions.specs.Certificates.{content_of}
+use Rattle.ending_rules.specs.Questions.{content_of}
 use Rattle.rank_rules.proofs.Deciding.{certified-readied}
 use Rattle.rank_rules.proofs.decisions.commit.Goals as goal
 

@@ -2,7 +2,7 @@ use Rattle.std.proofs.Common.{◌≡◌, ◌∙◌, [], ap, sym, subst}
 use Rattle.byte_defs.specs.Members.{has}
 use Rattle.group_defs.specs.Views.{IsView, is_member}
 use Rattle.message_defs.specs.Statements.{slot_of}
-use Rattle.stmt_codec.specs.Views.{stmt, claim}
+use Rattle.claim_index.specs.Statements.{stmt, claim}
 use Rattle.slot_quorums.specs.Cells.{joining, IsOf}
 use Rattle.slot_quorums.proofs.Hearing.{starts, goes_on, turns}
 use Rattle.slot_quorums.proofs.cell.cell_with.Goals as goal

@@ -2,7 +2,7 @@ use Rattle.std.proofs.Common.{◌≡◌, ◌∙◌, ◌<◌, ◌-◌, ℕ, List,
 use Rattle.std.specs.Prelude.{AllPairs, ◌≢◌, ◌&&◌}
 use Rattle.rp_base.specs.Pids.{put_once}
 use Rattle.group_defs.specs.Certified as defs
-use Rattle.stmt_codec.specs.Views.{stmt}
+use Rattle.claim_index.specs.Statements.{stmt}
 use Rattle.claim_index.proofs.Signers.{from, one-more}
 use Rattle.slot_quorums.specs.Cells.{speaks_otherwise}
 use Rattle.slot_quorums.proofs.cell.others_of.Goals as goal

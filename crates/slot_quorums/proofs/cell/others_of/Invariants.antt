@@ -2,7 +2,7 @@ use Rattle.std.proofs.Common.{◌≡◌, ◌≤◌, length, drop}
 use Rattle.std.specs.Prelude.{◌&&◌, filter}
 use Rattle.byte_defs.specs.Orders.{sorted}
 use Rattle.group_defs.specs.Certified as defs
-use Rattle.stmt_codec.specs.Views.{stmt}
+use Rattle.claim_index.specs.Statements.{stmt}
 use Rattle.claim_index.specs.Kept.{by_number}
 use Rattle.slot_quorums.specs.Cells.{speaks_otherwise}
 use Rattle.slot_quorums.proofs.cell.others_of.Given as goal

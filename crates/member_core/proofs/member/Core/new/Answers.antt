@@ -1,7 +1,7 @@
 use Rattle.std.proofs.Common.{false, refl, subst, sym}
 use Rattle.std.proofs.lemmas.Grind.{merely}
 use Rattle.group_defs.specs.Process.{Setting, Process, all_kinds, start}
-use Rattle.member_state.specs.States.{HasProcess, IsStateOf}
+use Rattle.member_signing.specs.States.{HasProcess, IsStateOf}
 use Rattle.member_core.specs.Cores.{IsCore}
 use Rattle.member_core.proofs.member.Core.new.Goals as goal
 

@@ -1,5 +1,5 @@
 use Rattle.std.proofs.Common.{◌∙◌, refl, sym, arith}
-use Rattle.member_state.specs.Events.{event}
+use Rattle.member_signing.specs.States.{event}
 use Rattle.member_core.specs.Cores.{IsCore, turn_of}
 use Rattle.member_core.proofs.Spelled.{few-signed, entry-so}
 use Rattle.member_core.proofs.Stepped.{steps-so}

@@ -2,8 +2,7 @@ use Rattle.std.proofs.Common.{◌∙◌, ap, sym, subst, arith, is_none}
 use Rattle.group_defs.specs.Events.{Turn, after, outcome, journalled}
 use Rattle.claim_hearing.specs.Hearing.{Shares}
 use Rattle.stmt_codec.specs.Kept.{signatures_left}
-use Rattle.member_state.specs.Events.{event}
-use Rattle.member_state.specs.States.{IsStateOf}
+use Rattle.member_signing.specs.States.{event, IsStateOf}
 use Rattle.member_core.specs.Outcomes.{HasTaken}
 use Rattle.member_core.specs.Journalled.{used_of}
 use Rattle.member_core.proofs.Absorbed.{handed-so, grown-so, in-range, refuted}

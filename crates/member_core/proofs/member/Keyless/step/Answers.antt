@@ -1,8 +1,7 @@
 use Rattle.std.proofs.Common.{◌-◌, ap, sym, subst, is_none}
 use Rattle.group_defs.specs.Events.{Turn, after}
 use Rattle.claim_hearing.specs.Hearing.{Shares}
-use Rattle.member_state.specs.Events.{event}
-use Rattle.member_state.specs.States.{IsStateOf}
+use Rattle.member_signing.specs.States.{event, IsStateOf}
 use Rattle.member_core.specs.Outcomes.{HasTaken}
 use Rattle.member_core.proofs.Back.{real-so}
 use Rattle.member_core.proofs.member.Keyless.step.Goals as goal

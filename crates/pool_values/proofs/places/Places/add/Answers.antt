@@ -3,7 +3,7 @@ use Rattle.message_defs.specs.Statements as plain
 use Rattle.group_defs.specs.Views.{View}
 use Rattle.group_defs.specs.Process.{Pool}
 use Rattle.group_defs.specs.Certified as defs
-use Rattle.stmt_codec.specs.Views.{stmt, claim}
+use Rattle.slot_quorums.specs.Statements.{stmt, claim}
 use Rattle.slot_quorums.specs.Claims.{Holding, with_heard}
 use Rattle.placed_batches.specs.Rows.{Prefix}
 use Rattle.pool_values.specs.Ends.{AreInitsEnds}

@@ -4,7 +4,7 @@ use Rattle.message_defs.specs.Statements as plain
 use Rattle.group_defs.specs.Views.{IsView}
 use Rattle.group_defs.specs.Process.{Pool}
 use Rattle.group_defs.specs.Certified as defs
-use Rattle.stmt_codec.specs.Views.{stmt, claim}
+use Rattle.claim_index.specs.Statements.{stmt, claim}
 use Rattle.claim_index.specs.Keys.{slot_key, same_slot_key}
 use Rattle.claim_index.specs.Kept.{Holding}
 use Rattle.slot_quorums.proofs.Hearing.{all_cells}

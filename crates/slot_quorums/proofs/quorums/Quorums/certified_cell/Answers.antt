@@ -2,7 +2,7 @@ use Rattle.std.proofs.Common.{◌∙◌, ◌≤◌, ◌<◌, Some, None, sym, su
 use Rattle.std.proofs.lemmas.Bool.{leb-true, leb-false}
 use Rattle.group_defs.specs.Views.{quorum}
 use Rattle.group_defs.specs.Certified as defs
-use Rattle.stmt_codec.specs.Views.{slot}
+use Rattle.claim_index.specs.Statements.{slot}
 use Rattle.claim_index.specs.Kept.{Holding}
 use Rattle.slot_quorums.specs.Cells.{IsCertifiedBy}
 use Rattle.slot_quorums.proofs.Asking.{enough, too_few}

@@ -4,7 +4,7 @@ use Rattle.std.specs.Option.{option_copied}
 use Rattle.byte_defs.specs.Choices.{is_some_and}
 use Rattle.message_defs.specs.Statements.{slot_of, same_statement}
 use Rattle.group_defs.specs.Certified as defs
-use Rattle.stmt_codec.specs.Views.{stmt}
+use Rattle.claim_index.specs.Statements.{stmt}
 use Rattle.claim_index.specs.Keys.{slot_key, same_slot_key}
 use Rattle.claim_index.specs.Kept.{Holding}
 use Rattle.slot_quorums.specs.Cells.{said_at}
