@@ -6,11 +6,11 @@ use Rattle.std.proofs.lemmas.Bool.{leb-true}
 use Rattle.std.proofs.lemmas.List.{append-nil, append_assoc, length-append, length-map, map-append}
 use Rattle.message_defs.specs.Updates.{Value}
 use Rattle.message_defs.specs.Statements.{Claim}
-use Rattle.group_defs.specs.Views.{View, is_member}
+use Rattle.group_defs.specs.Views.{View, is_member, next_view}
 use Rattle.group_defs.specs.Process.{Setting, Delivered, Left, Process, views_of}
 use Rattle.group_defs.specs.Settle.{install}
 use Rattle.group_defs.specs.Accounts.{Account, IsPrefixOf, account_of, delivered_in}
-use Rattle.pool_laws.proofs.Places.{Compared, ahead, behind, compared, get-some, index-beyond, index-is, length-snoc, prefix-map, prefix-more, prefix-self, prefix-trans, slice_get-front, slice_get-index, slice_get-last, take-one}
+use Rattle.pool_laws.proofs.Places.{Compared, ahead, behind, compared, get-some, index-beyond, index-is, length-snoc, level, prefix-more, prefix-self, prefix-trans, slice_get-front, slice_get-index, slice_get-last, take-one}
 use Rattle.pool_laws.proofs.Tests.{and-first}
 use Rattle.safety_laws.proofs.Induction.{Keeps}
 use Rattle.store_defs.specs.Stores.{Store, answer_to, store_after, store_bytes}
@@ -66,7 +66,7 @@ extends-in p r ds me left view delivered = record {
   here = (ds, sym delivered ∙ sym (current r.left r.delivered (length p.left) (ap length (sym left))));
 }
 
-longer : {A : Type 0} (xs ys : List A) → IsPrefixOf xs ys → length xs ≤ length ys
+pub longer : {A : Type 0} (xs ys : List A) → IsPrefixOf xs ys → length xs ≤ length ys
 longer xs ys front = let parts = length-append xs front.0 in let all = ap length front.1 in omega (arith, parts, all)
 
 module _ (p r : Process) (ok : Extends p r) where
@@ -83,7 +83,7 @@ module _ (p r : Process) (ok : Extends p r) where
   installs-next d = record {
     me = ok.me;
     left = prefix-more p.left r.left _ ok.left;
-    views = subst (IsPrefixOf (views_of p)) (ap (λ vs. vs ++ _ ∷ []) (sym (map-append (λ (l : Left). l.view) r.left _)))
+    views = subst (IsPrefixOf (views_of p)) (ap (λ vs. vs ++ next_view r.pool.view d.1.update ∷ []) (sym (map-append (λ (l : Left). l.view) r.left _)))
         (prefix-more (views_of p) (views_of r) _ ok.views);
     here = subst (IsPrefixOf p.delivered) (sym same) ok.here;
   }

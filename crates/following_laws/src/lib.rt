@@ -2,8 +2,9 @@
 #![tactic(auto)]
 
 ghost use Rattle.following_laws.specs.Laws.{OfferFollows, TurnOpensPlaces, TurnReplies};
+ghost use Rattle.following_laws.specs.Runs.{RunGives, RunReplies, RunsGiveOnce, RunsReplyOnce};
 
-// ---- replies
+// ---- a turn
 
 /// Each reply that a server writes during a turn is a reply of its process, as the turn leaves it.
 pub fn turn_replies()
@@ -15,9 +16,31 @@ pub fn turn_opens_places()
     ensures { TurnOpensPlaces }
 {}
 
-// ---- offers
+// ---- an offer
 
 /// After `ready` a server follows its process from the state that it took, and after every other answer as before.
 pub fn offer_follows()
     ensures { OfferFollows }
+{}
+
+// ---- a run
+
+/// Each reply that a server writes in a run is one that its process made.
+pub fn run_replies()
+    ensures { RunReplies }
+{}
+
+/// Each state that a server writes in a run is one that its process made.
+pub fn run_gives()
+    ensures { RunGives }
+{}
+
+/// Replies of a correct process with one leaf have one body, in whatever runs they are written.
+pub fn runs_reply_once()
+    ensures { RunsReplyOnce }
+{}
+
+/// So have states of a correct process for one view.
+pub fn runs_give_once()
+    ensures { RunsGiveOnce }
 {}
