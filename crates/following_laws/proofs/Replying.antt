@@ -9,6 +9,7 @@ use Rattle.group_defs.specs.Views.{View}
 use Rattle.group_defs.specs.Process.{Setting, Delivered, Process, places_in}
 use Rattle.group_defs.specs.Accounts.{Account, account_of, at_place, delivered_in}
 use Rattle.group_defs.specs.Events.{Note, Delivers, Installs, Liar, Spent, Halts, Turn, after, note_if, outcome}
+use Rattle.pool_laws.proofs.Places.{Compared, ahead, behind, compared, level}
 use Rattle.safety_laws.proofs.ViewsOf.{current-delivered}
 use Rattle.store_defs.specs.Stores.{Store, answer_bytes, answer_to, applied, store_after}
 use Rattle.store_defs.specs.Records.{Reply}
@@ -55,6 +56,14 @@ one-more j ds d = ap length (filter-append (λ (e : Delivered). e.place == j) ds
     last true = refl
     last false = refl
 
+later-than : (a j : ℕ) → a ≤ j → (a ≡ j → ⊥) → a < j
+later-than a j le other = go (compared a j)
+  where
+    go : Compared a j → a < j
+    go (ahead lt) = lt
+    go (level is) = absurd (other is)
+    go (behind gt) = absurd (omega (arith, le, gt))
+
 with-message : (last : Option (ℕ × ℕ)) (ds : List Delivered) (k : ℕ) (d : Delivered) → k ≤ d.place → Placed last ds k
     → Placed (Some (d.place, position_at last d.place)) (ds ++ d ∷ []) d.place
 with-message last ds k d le ok = record {
@@ -71,7 +80,8 @@ with-message last ds k d le ok = record {
         let sum : position_at last d.place + 1 ≡ length (at_place j ds) + 1 = omega (arith, was, same) in
         (λ i. if e i then position_at last d.place + 1 else 0) ∙ sum ∙ (λ i. length (at_place j ds) + (if sym e i then 1 else 0))
     at-it j false e from =
-        let none = ok.none j (let other = eqb-false d.place j e in omega (arith, other, from, le)) in
+        let lt = later-than d.place j from (eqb-false d.place j e) in
+        let none = ok.none j (omega (arith, lt, le)) in
         let sum : 0 ≡ length (at_place j ds) + 0 = omega (arith, none) in
         (λ i. if e i then position_at last d.place + 1 else 0) ∙ sum ∙ (λ i. length (at_place j ds) + (if sym e i then 1 else 0))
 
@@ -120,7 +130,7 @@ heard q x k before (d ∷ ds) more s ok rising =
       delivered = omega (arith, n);
       store = rest.store ∙ map-twice s.store d.payload (payloads_of ds);
       place = rest.place;
-      placed = subst (λ es. Placed _ es rest.place) (append_assoc before (d ∷ []) ds) rest.placed;
+      placed = subst (λ es. Placed (after_notes q (after_message s d) (map (Delivers x) ds)).last es rest.place) (append_assoc before (d ∷ []) ds) rest.placed;
       rising = rest.rising;
     }
 
@@ -269,8 +279,8 @@ after-more s (x ∷ xs) ys = after-more (applied s x).1 xs ys
 
 -- of a message among those that p delivers as it becomes `done`
 module _ (p done : Process) (on : GoesOn p done) (numbered : p.pool.view.number ≡ length p.left) (q : Place) (me : q.me ≡ p.me) (b : Beginning)
-    (s : Server) (ok : Follows p b s) (opens : OpensPlaces p s) (before behind : List Delivered) (d : Delivered)
-    (parts : on.more ≡ before ++ d ∷ behind) where
+    (s : Server) (ok : Follows p b s) (opens : OpensPlaces p s) (before later : List Delivered) (d : Delivered)
+    (parts : on.more ≡ before ++ d ∷ later) where
   abbrev x : ℕ
   x = p.pool.view.number
 
@@ -289,17 +299,17 @@ module _ (p done : Process) (on : GoesOn p done) (numbered : p.pool.view.number 
   at-most : x ≤ length p.left
   at-most = omega (arith, numbered)
 
-  hears : HasHeard s p.delivered before (d ∷ behind) heard-server
-  hears = heard q x (places_in p.delivered) p.delivered before (d ∷ behind) s (begin s.last p.delivered opens)
+  hears : HasHeard s p.delivered before (d ∷ later) heard-server
+  hears = heard q x (places_in p.delivered) p.delivered before (d ∷ later) s (begin s.last p.delivered opens)
       (subst (Rising (places_in p.delivered)) parts on.rising)
 
-  here-parts : delivered_in now x ≡ (p.delivered ++ before) ++ d ∷ behind
+  here-parts : delivered_in now x ≡ (p.delivered ++ before) ++ d ∷ later
   here-parts =
       ap (delivered_in now) (numbered ∙ sym (ap length on.left))
       ∙ current-delivered done
       ∙ on.delivered
       ∙ ap (λ ds. p.delivered ++ ds) parts
-      ∙ sym (append_assoc p.delivered before (d ∷ behind))
+      ∙ sym (append_assoc p.delivered before (d ∷ later))
 
   stored-so : (t : Store) → heard-server.store ≡ Some t
       → (holds was b x ≡ true) × (t ≡ store_after (store_after (store_at was b x) (payloads_of p.delivered)) (payloads_of before))
@@ -328,7 +338,7 @@ module _ (p done : Process) (on : GoesOn p done) (numbered : p.pool.view.number 
       let it = signed-is q heard-server x d w e in
       let store = stored-so it.0 it.1 in
       subst (Replies now b heard-server.delivered) it.2 (record {
-        stands = record { before = p.delivered ++ before; at = d; behind = behind; parts = here-parts };
+        stands = record { before = p.delivered ++ before; at = d; behind = later; parts = here-parts };
         holds = holds-is p done grown b x at-most ok.begun ∙ store.0;
         signer = me ∙ sym on.me;
         place = refl;

@@ -322,7 +322,7 @@ module _ (sv : Services) (c : Correct) (q : Place) (steps : List Step) (it : Ser
         ∙ (turn-keeps s (Extends m.process) (λ from. keeps s from m.process) m.process w.turn (as-it-is m.process)).me
 
     made-reply : MadeReply sv end leaf r
-    made-reply = subst (λ p. MadeReply sv p leaf r) (sym end-turned) (record {
+    made-reply = subst (λ (p : Process). MadeReply sv p leaf r) (sym end-turned) (record {
       beginning = ok.beginning;
       from = subst (λ n. Begins sv n ok.beginning) (sym same-me) (begins sv m.process.me ok.beginning ok.from);
       replies = still-replies turned (run s turned (turns_in w.behind ++ it.later)) (on-along s turned (turns_in w.behind ++ it.later))
@@ -417,7 +417,7 @@ module _ (sv : Services) (c : Correct) (q : Place) (steps : List Step) (it : Ser
       let on = on-along sv.family.setting p behind_it in
       let numbered = serving.numbered in
       let own = own-view sv q given_at serving r w.given in
-      subst (λ p. MadeState sv p r) (sym (end-is sv c q steps it zeroth w.before (Says Give ∷ w.behind) w.steps_are)) (record {
+      subst (λ (p : Process). MadeState sv p r) (sym (end-is sv c q steps it zeroth w.before (Says Give ∷ w.behind) w.steps_are)) (record {
         beginning = serving.beginning;
         from = subst (λ n. (serving.beginning ≡ genesis) ⊎ (TookIn sv n serving.beginning × (serving.beginning.view < r.view))) (sym on.me)
             (given-from sv q given_at serving r w.given);

@@ -172,19 +172,21 @@ not-refused setting p t =
     let r : Process = leave done in
     let on = delivered-on setting p t in
     let conflicts : List (Claim × Claim) = drop (length p.conflicts) r.conflicts in
+    let rest : List Note = map (λ (pair : Claim × Claim). Liar pair.1.signer) conflicts ++ note_if one.spent Spent
+    ++ note_if r.halted (Halts (places_in r.delivered) (option_map_or (λ d. d.1.cut) r.decision 0)) in
+    let tail : List Note = note_if (nat_lt (length p.left) (length r.left)) (Installs r.pool.view) ++ rest in
     record {
       done = done;
       on = on;
       later = leave-keeps setting [] (Extends done) (keeps setting [] done) done (as-it-is done);
       still = λ same. still-delivered done (same ∙ ap length (sym on.left));
-      rest = map (λ (pair : Claim × Claim). Liar pair.1.signer) conflicts ++ note_if one.spent Spent
-          ++ note_if r.halted (Halts (places_in r.delivered) (option_map_or (λ d. d.1.cut) r.decision 0));
+      rest = rest;
       quiet = quiet-rest conflicts one.spent r.halted (places_in r.delivered) (option_map_or (λ d. d.1.cut) r.decision 0);
       notes = five (map (Delivers p.pool.view.number) (drop (length p.delivered) done.delivered))
           (note_if (nat_lt (length p.left) (length r.left)) (Installs r.pool.view))
           (map (λ (pair : Claim × Claim). Liar pair.1.signer) conflicts) (note_if one.spent Spent)
           (note_if r.halted (Halts (places_in r.delivered) (option_map_or (λ d. d.1.cut) r.decision 0)))
-          ∙ ap (λ ds. map (Delivers p.pool.view.number) ds ++ _)
+          ∙ ap (λ ds. map (Delivers p.pool.view.number) ds ++ tail)
           (ap (drop (length p.delivered)) on.delivered ∙ drop_at p.delivered on.more (length p.delivered) refl);
     }
 

@@ -93,7 +93,7 @@ pub record ServedRun (sv : Services) (c : Correct) (q : Place) (steps : List Ste
   pub group : q.group ≡ sv.family.setting.group
   pub earlier : List Turn
   pub later : List Turn
-  pub turns : c.turns ≡ earlier ++ turns_in steps ++ later
+  pub turns : c.turns ≡ earlier ++ (turns_in steps ++ later)
   pub joinings : (front : List Step) → IsPrefixOf front steps
       → let m = reached sv.family.setting q (begin (run sv.family.setting (start sv.family.setting c.me c.batch_limit) earlier)) front in
       Contains (sv.joinings c.me) (record { view = m.process.pool.view; offered = m.offered })
