@@ -9,13 +9,18 @@ use Rattle.message_defs.specs.Statements.{Claim}
 use Rattle.group_defs.specs.Views.{View, is_member, next_view}
 use Rattle.group_defs.specs.Process.{Setting, Delivered, Left, Process, views_of}
 use Rattle.group_defs.specs.Settle.{install}
+use Rattle.group_defs.specs.Family.{handed_to}
+use Rattle.group_defs.specs.Events.{Turn, run}
 use Rattle.group_defs.specs.Accounts.{Account, IsPrefixOf, account_of, delivered_in}
-use Rattle.pool_laws.proofs.Places.{Compared, ahead, behind, compared, get-some, index-beyond, index-is, length-snoc, level, prefix-more, prefix-self, prefix-trans, slice_get-front, slice_get-index, slice_get-last, take-one}
-use Rattle.pool_laws.proofs.Tests.{and-first}
-use Rattle.safety_laws.proofs.Induction.{Keeps}
+use Rattle.pool_laws.proofs.Places.{Compared, ahead, behind, compared, get-some, index-beyond, index-is, length-snoc, level, prefix-more, prefix-self, prefix-trans, slice_get-front, slice_get-index, slice_get-last, slice_get-length, take-one}
+use Rattle.pool_laws.proofs.Tests.{and-first, and-second}
+use Rattle.safety_laws.proofs.Induction.{Keeps, run-keeps}
+use Rattle.safety_laws.proofs.ViewsOf.{length-views}
 use Rattle.store_defs.specs.Stores.{Store, answer_to, store_after, store_bytes}
 use Rattle.store_defs.specs.Records.{Reply, StateRecord}
 use Rattle.store_defs.specs.Holding.{Beginning, Gives, Replies, Stands, delivered_below, holds, payloads_of, stayed, store_at, store_over, was_member}
+use Rattle.store_laws.proofs.Holding.{stayed-in}
+use Rattle.following_laws.specs.Laws.{GivesStay, RepliesStay}
 
 -- ---- lists of lists
 
@@ -32,7 +37,8 @@ last-grows (zs ∷ xss) xs ys zero le = prefix-self zs
 last-grows (zs ∷ xss) xs ys (suc n) le = last-grows xss xs ys n (omega (arith, le))
 
 in-front : {A : Type 0} (xss yss : List (List A)) (n : ℕ) → n < length xss → in_place (xss ++ yss) n ≡ in_place xss n
-in-front xss yss n lt = index-is (xss ++ yss) n [] (in_place xss n) (slice_get-front xss yss n (in_place xss n) (slice_get-index xss n [] lt))
+in-front xss yss n lt = index-is (xss ++ yss) n [] (in_place xss n)
+    (slice_get-front xss yss n (in_place xss n) (slice_get-index xss n [] lt))
 
 -- ---- a process and itself later
 
@@ -83,12 +89,14 @@ module _ (p r : Process) (ok : Extends p r) where
   installs-next d = record {
     me = ok.me;
     left = prefix-more p.left r.left _ ok.left;
-    views = subst (IsPrefixOf (views_of p)) (ap (λ vs. vs ++ next_view r.pool.view d.1.update ∷ []) (sym (map-append (λ (l : Left). l.view) r.left _)))
+    views = subst (IsPrefixOf (views_of p))
+        (ap (λ vs. vs ++ next_view r.pool.view d.1.update ∷ []) (sym (map-append (λ (l : Left). l.view) r.left _)))
         (prefix-more (views_of p) (views_of r) _ ok.views);
     here = subst (IsPrefixOf p.delivered) (sym same) ok.here;
   }
     where
-      same : in_place (lists_of (install d r).left ++ [] ∷ []) (length p.left) ≡ in_place (lists_of r.left ++ r.delivered ∷ []) (length p.left)
+      same : in_place (lists_of (install d r).left ++ [] ∷ []) (length p.left)
+          ≡ in_place (lists_of r.left ++ r.delivered ∷ []) (length p.left)
       same =
           let le = longer p.left r.left ok.left in
           let long = length-lists r.left in
@@ -217,7 +225,8 @@ module _ (p r : Process) (on : Extends p r) where
           before = ok.stands.before;
           at = ok.stands.at;
           behind = ok.stands.behind ++ more.0;
-          parts = sym more.1 ∙ ap (λ ds. ds ++ more.0) ok.stands.parts ∙ append_assoc ok.stands.before (ok.stands.at ∷ ok.stands.behind) more.0;
+          parts = sym more.1 ∙ ap (λ ds. ds ++ more.0) ok.stands.parts
+              ∙ append_assoc ok.stands.before (ok.stands.at ∷ ok.stands.behind) more.0;
         };
         holds = holds-is b w.view le begun ∙ ok.holds;
         signer = ok.signer ∙ sym on.me;
@@ -229,11 +238,27 @@ module _ (p r : Process) (on : Extends p r) where
         leaf_is = ok.leaf_is ∙ ap (λ n. n + length ok.stands.before) (sym (below-is b w.view le));
       }
 
-  pub still-gives : (b : Beginning) (w : StateRecord) → w.view ≤ length p.left → Gives was b w → Gives later b w
-  still-gives b w le ok =
+  pub still-gives : (b : Beginning) (w : StateRecord) → Gives was b w → Gives later b w
+  still-gives b w ok =
       let begun = begun-by b w.view ok.holds in
+      let stays = and-second (nat_le b.view w.view) _ ok.holds in
+      let in_ = stayed-in was b.view (w.view - b.view + 1) w.view stays begun (omega (arith, begun)) in
+      let here = slice_get-length was.views w.view in_.view in_.at in
+      let long = length-views p in
+      let le : w.view ≤ length p.left = omega (arith, here, long) in
       record {
         holds = holds-is b w.view le begun ∙ ok.holds;
         signer = ok.signer ∙ sym on.me;
         state = ok.state ∙ ap store_bytes (sym (store-is b w.view le begun));
       }
+
+-- ---- along its events
+
+pub on-along : (setting : Setting) (p : Process) (ts : List Turn) → Extends p (run setting p ts)
+on-along setting p ts = run-keeps setting (Extends p) ts (keeps setting (handed_to ts) p) p (as-it-is p)
+
+pub replies_stay : RepliesStay
+replies_stay setting p ts b leaf r ok = still-replies p (run setting p ts) (on-along setting p ts) b leaf r ok
+
+pub gives_stay : GivesStay
+gives_stay setting p ts b r ok = still-gives p (run setting p ts) (on-along setting p ts) b r ok

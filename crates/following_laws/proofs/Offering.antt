@@ -11,7 +11,7 @@ use Rattle.byte_defs.proofs.Fields.{bind_ok, ok_is, refuse_ok}
 use Rattle.message_defs.specs.Limits.{last_process, most_signature_bytes}
 use Rattle.group_defs.specs.Views.{View, is_member}
 use Rattle.group_defs.specs.Process.{Process, views_of}
-use Rattle.group_defs.specs.Accounts.{Account, account_of}
+use Rattle.group_defs.specs.Accounts.{account_of, delivered_in}
 use Rattle.pool_laws.proofs.Places.{Compared, ahead, behind, compared, level, take-one}
 use Rattle.safety_laws.proofs.ViewsOf.{current-at}
 use Rattle.store_defs.specs.Stores.{Reading, Store, store_after, store_of, text_within}
@@ -36,7 +36,8 @@ record Spells (state : List ℕ) : Type 0 where
 state-spells : (bytes : List ℕ) (out : List ℕ × List ℕ) → state_at bytes ≡ Ok out → Spells out.0
 unfolding state_at
 state-spells bytes out e =
-    let n = bind_ok (number_at broken w32 bytes) (λ len. bytes_at broken len.0 len.1 >>= λ state. store_of state.0 >>= λ _. done state) out e in
+    let n = bind_ok (number_at broken w32 bytes)
+    (λ len. bytes_at broken len.0 len.1 >>= λ state. store_of state.0 >>= λ _. done state) out e in
     let b = bind_ok (bytes_at broken n.0.0 n.0.1) (λ state. store_of state.0 >>= λ _. done state) out n.2 in
     let s = bind_ok (store_of b.0.0) (λ _. done b.0) out b.2 in
     subst (λ (z : List ℕ × List ℕ). Spells z.0) (ok_is b.0 out s.2) (record { store = s.0; is = s.1 })
@@ -113,13 +114,13 @@ module _ (p : Process) (numbered : p.pool.view.number ≡ length p.left) (member
   unfolding store_over
   store-own =
       let none : p.pool.view.number - b.view ≡ zero = omega (arith, own) in
-      ap (store_over _ b.store b.view) none
+      ap (store_over (λ z. payloads_of (delivered_in (account_of p) z)) b.store b.view) none
 
 -- ---- an offer
 
 module _ (sv : Services) (p : Process) (q : Place) (b : Beginning) (s : Server) (offered : List Offered) (bytes : List ℕ)
     (numbered : p.pool.view.number ≡ length p.left) (me : q.me ≡ p.me) (group : q.group ≡ sv.family.setting.group) (ok : Follows p b s)
-    (collects : Collects sv.family.setting.valid q.group offered s) where
+    (collected : Collects sv.family.setting.valid q.group offered s) where
   abbrev valid : Valid
   valid = sv.family.setting.valid
 
@@ -145,7 +146,7 @@ module _ (sv : Services) (p : Process) (q : Place) (b : Beginning) (s : Server) 
     pub other : word ≢ Ready → Follows p b s'
 
   stays : (word : OfferWord) → (word ≡ Ready → ⊥) → Goes offered word s
-  stays word not-ready = record { collects = collects; ready = λ e. absurd (not-ready e); other = λ e. ok }
+  stays word not-ready = record { collects = collected; ready = λ e. absurd (not-ready e); other = λ e. ok }
 
   -- of a record that reaches the transfer
   module _ (r : StateRecord) (spells : Spells r.state) (none : s.store ≡ None) (member : is_member s.view q.me ≡ true)
@@ -158,7 +159,7 @@ module _ (sv : Services) (p : Process) (q : Place) (b : Beginning) (s : Server) 
 
     next-transfer : with_record s.transfer r (taken_by valid q s r) ≡ transfer_after valid q.group (new_transfer s.view) rs
     next-transfer =
-        ap (λ t. with_record t r (offer valid q.group (handed_key s r.signer) t r)) collects.transfer
+        ap (λ t. with_record t r (offer valid q.group (handed_key s r.signer) t r)) collected.transfer
         ∙ sym (transfer-more valid q.group offered (handed_key s r.signer, r) (new_transfer s.view))
 
     not-held : holds (account_of p) b p.pool.view.number ≡ false
@@ -179,16 +180,24 @@ module _ (sv : Services) (p : Process) (q : Place) (b : Beginning) (s : Server) 
     -- with a state more, and no more than that
     counts : (k : Taken) → taken_by valid q s r ≡ k → (with_record s.transfer r k).state ≡ None
         → Collects valid q.group rs (record s { transfer = with_record s.transfer r k })
-    counts k e still = record {
+    counts k e none' = record {
       transfer = ap (with_record s.transfer r) (sym e) ∙ next-transfer;
-      waiting = λ e. still;
+      waiting = λ empty. none';
     }
 
     goes-on : (k : Taken) → Follows p b (record s { transfer = with_record s.transfer r k })
     goes-on k = record { begun = ok.begun; view = ok.view; delivered = ok.delivered; store = ok.store; gives = ok.gives }
 
+    waits : (k : Taken) → taken_by valid q s r ≡ k → (with_record s.transfer r k).state ≡ None → (word_of_taken k ≡ Ready → ⊥)
+        → Goes rs (word_of_taken k) (record s { transfer = with_record s.transfer r k })
+    waits k e none' not-ready = record {
+      collects = counts k e none';
+      ready = λ word. absurd (not-ready word);
+      other = λ word. goes-on k;
+    }
+
     still : s.transfer.state ≡ None
-    still = collects.waiting none
+    still = collected.waiting none
 
     -- ---- ready
 
@@ -266,18 +275,20 @@ module _ (sv : Services) (p : Process) (q : Place) (b : Beginning) (s : Server) 
       ready = λ word. takes-over e;
       other = λ not-ready. absurd (not-ready refl);
     }
-    counted (taken.Counted n) e = record { collects = counts (taken.Counted n) e still; ready = λ word. absurd cc; other = λ word. goes-on (taken.Counted n) }
-    counted taken.OtherView e = record { collects = counts taken.OtherView e still; ready = λ word. absurd cc; other = λ word. goes-on taken.OtherView }
-    counted taken.Stranger e = record { collects = counts taken.Stranger e still; ready = λ word. absurd cc; other = λ word. goes-on taken.Stranger }
-    counted taken.Unsigned e = record { collects = counts taken.Unsigned e still; ready = λ word. absurd cc; other = λ word. goes-on taken.Unsigned }
-    counted taken.Known e = record { collects = counts taken.Known e still; ready = λ word. absurd cc; other = λ word. goes-on taken.Known }
+    counted (taken.Counted n) e = waits (taken.Counted n) e still (λ word. cc)
+    counted taken.OtherView e = waits taken.OtherView e still (λ word. cc)
+    counted taken.Stranger e = waits taken.Stranger e still (λ word. cc)
+    counted taken.Unsigned e = waits taken.Unsigned e still (λ word. cc)
+    counted taken.Known e = waits taken.Known e still (λ word. cc)
 
   goes : (o : Reading StateRecord) → state_record_of bytes ≡ o → (h : Bool) → is_some s.store ≡ h → (m : Bool) → is_member s.view q.me ≡ m
-      → Contains (sv.joinings p.me) (record { view = p.pool.view; offered = list_by o h m }) → Goes (list_by o h m) (word_by o h m) (server_by o h m)
+      → Contains (sv.joinings p.me) (record { view = p.pool.view; offered = list_by o h m })
+      → Goes (list_by o h m) (word_by o h m) (server_by o h m)
   goes (Err fault) e h has m is joining = stays Grammar (λ f. cc)
   goes (Ok r) e true has m is joining = stays Held (λ f. cc)
   goes (Ok r) e false has false is joining = stays OtherView (λ f. cc)
-  goes (Ok r) e false has true is joining = counted r (record-spells bytes r e) (none-is s.store has) is joining (taken_by valid q s r) refl
+  goes (Ok r) e false has true is joining =
+      counted r (record-spells bytes r e) (none-is s.store has) is joining (taken_by valid q s r) refl
 
 pub offer_follows : OfferFollows
 unfolding offer_word after_offer with_offer
@@ -287,7 +298,8 @@ offer_follows sv p q b s offered bytes numbered me group ok collects joining =
     record { collects = it.collects; ready = it.ready; other = it.other }
 
 -- an offer is no message
-pub last-kept : (valid : Valid) (q : Place) (here : List (List ℕ)) (s : Server) (bytes : List ℕ) → (after_offer valid q here s bytes).last ≡ s.last
+pub last-kept : (valid : Valid) (q : Place) (here : List (List ℕ)) (s : Server) (bytes : List ℕ)
+    → (after_offer valid q here s bytes).last ≡ s.last
 unfolding after_offer
 last-kept valid q here s bytes = go (state_record_of bytes)
   where
@@ -305,8 +317,9 @@ last-kept valid q here s bytes = go (state_record_of bytes)
     either r false s' e = e
 
     go : (o : Reading StateRecord) → let s' : Server = elim o [
-          | Err fault ↦ s
-          | Ok r ↦ if is_some s.store || not (is_member s.view q.me) then s else after_taken here s r (taken_by valid q s r)
-        ] in s'.last ≡ s.last
+      | Err fault ↦ s
+      | Ok r ↦ if is_some s.store || not (is_member s.view q.me) then s else after_taken here s r (taken_by valid q s r)
+    ] in s'.last ≡ s.last
     go (Err fault) = refl
-    go (Ok r) = either r (is_some s.store || not (is_member s.view q.me)) (after_taken here s r (taken_by valid q s r)) (by r (taken_by valid q s r))
+    go (Ok r) = either r (is_some s.store || not (is_member s.view q.me)) (after_taken here s r (taken_by valid q s r))
+        (by r (taken_by valid q s r))

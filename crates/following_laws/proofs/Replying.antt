@@ -23,12 +23,14 @@ use Rattle.following_laws.proofs.Turns.{GoesOn, Quiet, Rising, TurnSo, most-at-l
 -- ---- positions
 
 -- no message stands at a place that comes later
-none-at : (j n : ℕ) (ds : List Delivered) → fold (λ (most : ℕ) (d : Delivered). max most (d.place + 1)) n ds ≤ j → length (at_place j ds) ≡ 0
+none-at : (j n : ℕ) (ds : List Delivered) → fold (λ (most : ℕ) (d : Delivered). max most (d.place + 1)) n ds ≤ j
+    → length (at_place j ds) ≡ 0
 none-at j n [] le = refl
 none-at j n (d ∷ ds) le = go (d.place == j) refl (none-at j (max n (d.place + 1)) ds le)
   where
     go : (b : Bool) → (d.place == j) ≡ b → length (at_place j ds) ≡ 0 → length (if b then d ∷ at_place j ds else at_place j ds) ≡ 0
-    go true e rest = absurd (let most = most-at-least (max n (d.place + 1)) ds in let is = eqb-true d.place j e in omega (arith, most, is, le))
+    go true e rest = absurd
+        (let most = most-at-least (max n (d.place + 1)) ds in let is = eqb-true d.place j e in omega (arith, most, is, le))
     go false e rest = rest
 
 -- From place k on the next position at a place is how many messages stand there, and at the places after k there are none. k is the place
@@ -38,7 +40,8 @@ record Placed (last : Option (ℕ × ℕ)) (ds : List Delivered) (k : ℕ) : Typ
   pub here : (j : ℕ) → k ≤ j → position_at last j ≡ length (at_place j ds)
   pub none : (j : ℕ) → k < j → length (at_place j ds) ≡ 0
 
-begin : (last : Option (ℕ × ℕ)) (ds : List Delivered) → ((j : ℕ) → places_in ds ≤ j → position_at last j ≡ 0) → Placed last ds (places_in ds)
+begin : (last : Option (ℕ × ℕ)) (ds : List Delivered) → ((j : ℕ) → places_in ds ≤ j → position_at last j ≡ 0)
+    → Placed last ds (places_in ds)
 begin last ds opens = record {
   within = omega arith;
   here = λ j le. opens j le ∙ sym (none-at j 0 ds le);
@@ -48,7 +51,8 @@ begin last ds opens = record {
 opens-next : (last : Option (ℕ × ℕ)) (ds : List Delivered) (k : ℕ) → Placed last ds k → (j : ℕ) → places_in ds ≤ j → position_at last j ≡ 0
 opens-next last ds k ok j le = (let in_ = ok.within in ok.here j (omega (arith, in_, le))) ∙ none-at j 0 ds le
 
-one-more : (j : ℕ) (ds : List Delivered) (d : Delivered) → length (at_place j (ds ++ d ∷ [])) ≡ length (at_place j ds) + (if d.place == j then 1 else 0)
+one-more : (j : ℕ) (ds : List Delivered) (d : Delivered)
+    → length (at_place j (ds ++ d ∷ [])) ≡ length (at_place j ds) + (if d.place == j then 1 else 0)
 one-more j ds d = ap length (filter-append (λ (e : Delivered). e.place == j) ds (d ∷ []))
     ∙ length-append (at_place j ds) (at_place j (d ∷ [])) ∙ ap (λ n. length (at_place j ds) + n) (last (d.place == j))
   where
@@ -130,16 +134,17 @@ heard q x k before (d ∷ ds) more s ok rising =
       delivered = omega (arith, n);
       store = rest.store ∙ map-twice s.store d.payload (payloads_of ds);
       place = rest.place;
-      placed = subst (λ es. Placed (after_notes q (after_message s d) (map (Delivers x) ds)).last es rest.place) (append_assoc before (d ∷ []) ds) rest.placed;
+      placed = subst (λ es. Placed (after_notes q (after_message s d) (map (Delivers x) ds)).last es rest.place)
+          (append_assoc before (d ∷ []) ds) rest.placed;
       rising = rest.rising;
     }
 
-notes-more : (q : Place) (s : Server) (ns ms : List Note) → after_notes q s (ns ++ ms) ≡ after_notes q (after_notes q s ns) ms
+pub notes-more : (q : Place) (s : Server) (ns ms : List Note) → after_notes q s (ns ++ ms) ≡ after_notes q (after_notes q s ns) ms
 unfolding after_notes
 notes-more q s [] ms = refl
 notes-more q s (n ∷ ns) ms = notes-more q (after_note q s n) ns ms
 
-quiet-stays : (q : Place) (s : Server) (ns : List Note) → Quiet ns → after_notes q s ns ≡ s
+pub quiet-stays : (q : Place) (s : Server) (ns : List Note) → Quiet ns → after_notes q s ns ≡ s
 unfolding after_notes after_note
 quiet-stays q s [] ok = refl
 quiet-stays q s (Delivers x d ∷ ns) ok = absurd ok
@@ -220,7 +225,8 @@ record IsAmong (x : ℕ) (more : List Delivered) (front : List Note) (y : ℕ) (
   pub told : front ≡ map (Delivers x) before
   pub view : x ≡ y
 
-among : (x : ℕ) (more : List Delivered) (i : Bool) (v : View) (rest : List Note) → Quiet rest → (front back : List Note) (y : ℕ) (d : Delivered)
+among : (x : ℕ) (more : List Delivered) (i : Bool) (v : View) (rest : List Note) → Quiet rest
+    → (front back : List Note) (y : ℕ) (d : Delivered)
     → map (Delivers x) more ++ (note_if i (Installs v) ++ rest) ≡ front ++ Delivers y d ∷ back → IsAmong x more front y d
 among x [] true v rest quiet [] back y d e = absurd (no-message v y d (head-is _ _ _ _ e))
 among x [] true v rest quiet (n ∷ front) back y d e = absurd (quiet-front front back y d (subst Quiet (tail-is _ _ _ _ e) quiet))
@@ -261,7 +267,8 @@ signed-is q s x d w e = go s.store refl e
     go None is e = absurd cc
     go (Some t) is e = (t, is, by (made q s x d t) (nat_le q.replies.total s.delivered) e)
 
-word-is : (q : Place) (s : Server) (x : ℕ) (d : Delivered) (w : Reply) → told_of q s (Delivers x d) ≡ ToldReply (Signed w) → reply_to q s x d ≡ Signed w
+word-is : (q : Place) (s : Server) (x : ℕ) (d : Delivered) (w : Reply) → told_of q s (Delivers x d) ≡ ToldReply (Signed w)
+    → reply_to q s x d ≡ Signed w
 unfolding told_of
 word-is q s x d w e = same (reply_to q s x d) (Signed w) e
   where
@@ -278,8 +285,8 @@ after-more s [] ys = refl
 after-more s (x ∷ xs) ys = after-more (applied s x).1 xs ys
 
 -- of a message among those that p delivers as it becomes `done`
-module _ (p done : Process) (on : GoesOn p done) (numbered : p.pool.view.number ≡ length p.left) (q : Place) (me : q.me ≡ p.me) (b : Beginning)
-    (s : Server) (ok : Follows p b s) (opens : OpensPlaces p s) (before later : List Delivered) (d : Delivered)
+module _ (p done : Process) (on : GoesOn p done) (numbered : p.pool.view.number ≡ length p.left) (q : Place) (me : q.me ≡ p.me)
+    (b : Beginning) (s : Server) (ok : Follows p b s) (opens : OpensPlaces p s) (before later : List Delivered) (d : Delivered)
     (parts : on.more ≡ before ++ d ∷ later) where
   abbrev x : ℕ
   x = p.pool.view.number

@@ -8,6 +8,7 @@ use Rattle.group_defs.specs.Views.{View}
 use Rattle.group_defs.specs.Process.{Setting, Delivered, Process, start, views_of}
 use Rattle.group_defs.specs.Accounts.{Account, IsPrefixOf, account_of}
 use Rattle.group_defs.specs.Family.{Correct, end_of, ends, handed_to}
+use Rattle.group_defs.specs.Settle.{install}
 use Rattle.group_defs.specs.Events.{Note, Delivers, Installs, Turn, after, note_if, outcome, run}
 use Rattle.pool_laws.proofs.Members.{All-mem, Contains-mem, map-mem}
 use Rattle.pool_laws.proofs.Places.{length-snoc}
@@ -27,7 +28,7 @@ use Rattle.store_laws.proofs.Following.{begins_following, turn_follows}
 use Rattle.store_laws.proofs.Leaves.{one_reply_per_leaf, one_state_per_leaf}
 use Rattle.following_laws.specs.Laws.{Collects, FollowsOffers, Offered, OpensPlaces, TakesOver, with_offer}
 use Rattle.following_laws.specs.Runs.{Happens, Moment, RunGives, RunReplies, RunsGiveOnce, RunsReplyOnce, Says, ServedRun, Step, WritesReply, WritesState, after_step, begin, first, reached, turns_in, with_word}
-use Rattle.following_laws.proofs.Growing.{Extends, as-it-is, keeps, still-gives, still-replies}
+use Rattle.following_laws.proofs.Growing.{Extends, as-it-is, gives_stay, keeps, on-along, replies_stay}
 use Rattle.following_laws.proofs.Turns.{TurnSo, turn-so}
 use Rattle.following_laws.proofs.Replying.{notes-more, quiet-stays, turn_opens_places, turn_replies}
 use Rattle.following_laws.proofs.Offering.{last-kept, offer_follows}
@@ -46,7 +47,8 @@ numbered-keeps s from = record {
   signs = λ p signer st next none ok. ok;
   decides = λ p ok. ok;
   delivers = λ p ds member room e ok. ok;
-  installs = λ p d decided whole ok. (let longer = length-snoc p.left _ in omega (arith, longer, ok));
+  installs = λ p d decided whole ok.
+      (let longer : length (install d p).left ≡ suc (length p.left) = length-snoc p.left _ in omega (arith, longer, ok));
   halts = λ p d decided member ok. ok;
 }
 
@@ -85,7 +87,10 @@ module _ (setting : Setting) (q : Place) (m : Moment) (t : Turn) (valid : List �
   collects-by : (i : Bool) → Collects valid group (if i then [] else m.offered)
       (after_notes q told (note_if i (Installs r.pool.view) ++ so.rest))
   unfolding after_notes after_note transfer_after
-  collects-by true = subst (Collects valid group []) (sym (quiet-stays q _ so.rest so.quiet)) (record { transfer = refl; waiting = λ e. refl })
+  collects-by true = subst (Collects valid group []) (sym (quiet-stays q _ so.rest so.quiet)) (record {
+    transfer = refl;
+    waiting = λ e. refl;
+  })
   collects-by false =
       let waits = messages-wait q p.pool.view.number so.on.more m.server in
       subst (Collects valid group m.offered) (sym (quiet-stays q told so.rest so.quiet)) (record {
@@ -98,7 +103,8 @@ module _ (setting : Setting) (q : Place) (m : Moment) (t : Turn) (valid : List �
   collects-on =
       let i : Bool = nat_lt (length p.left) (length r.left) in
       subst (λ ns. Collects valid group (if i then [] else m.offered) (after_notes q m.server ns)) (sym so.notes)
-      (subst (Collects valid group (if i then [] else m.offered)) (sym (notes-more q m.server (map (Delivers p.pool.view.number) so.on.more) _))
+      (subst (Collects valid group (if i then [] else m.offered))
+      (sym (notes-more q m.server (map (Delivers p.pool.view.number) so.on.more) _))
       (collects-by i))
 
 -- ---- a moment of a run
@@ -138,10 +144,6 @@ turn-keeps : (setting : Setting) (P : Process → Type 0) → ((from : List Clai
 unfolding run
 turn-keeps setting P k p t ok = run-keeps setting P (t ∷ []) (k (handed_to (t ∷ []))) p ok
 
--- a process and itself after these events
-on-along : (setting : Setting) (p : Process) (ts : List Turn) → Extends p (run setting p ts)
-on-along setting p ts = run-keeps setting (Extends p) ts (keeps setting (handed_to ts) p) p (as-it-is p)
-
 is-ready : (w : OfferWord) → (w ≡ Ready) ⊎ (w ≢ Ready)
 is-ready Ready = inl refl
 is-ready Grammar = inr (λ e. cc)
@@ -158,6 +160,13 @@ module _ (sv : Services) (q : Place) (group : q.group ≡ sv.family.setting.grou
 
   abbrev IsJoining : Moment → Type 0
   IsJoining m = Contains (sv.joinings q.me) (record { view = m.process.pool.view; offered = m.offered })
+
+  -- where the step offers a state
+  abbrev JoinsBy : Moment → Step → Type 0
+  JoinsBy m (Happens t) = Unit {0}
+  JoinsBy m (Says Give) = Unit {0}
+  JoinsBy m (Says (State bytes)) = IsJoining (after_step setting q m (Says (State bytes)))
+  JoinsBy m (Says (StateKey p key)) = Unit {0}
 
   module _ (m : Moment) (ok : Serves sv q m) where
     with-event : (t : Turn) → Serves sv q (after_step setting q m (Happens t))
@@ -182,7 +191,8 @@ module _ (sv : Services) (q : Place) (group : q.group ≡ sv.family.setting.grou
 
       it : FollowsOffers sv m.process q ok.beginning m.server m.offered bytes
       it = offer_follows sv m.process q ok.beginning m.server m.offered bytes ok.numbered ok.me group ok.follows ok.collects
-          (subst (λ n. Contains (sv.joinings n) (record { view = m.process.pool.view; offered = with_offer q m.server bytes m.offered })) ok.me joining)
+          (subst (λ n. Contains (sv.joinings n) (record { view = m.process.pool.view; offered = with_offer q m.server bytes m.offered }))
+          ok.me joining)
 
       opens-still : OpensPlaces m.process offered_server
       opens-still k le =
@@ -212,7 +222,7 @@ module _ (sv : Services) (q : Place) (group : q.group ≡ sv.family.setting.grou
               offered-so over.beginning (inr (over.took, omega (arith, later, view))) over.follows
           by (inr e) = offered-so ok.beginning ok.from (it.other e)
 
-    with-step : (step : Step) → IsJoining (after_step setting q m step) → Serves sv q (after_step setting q m step)
+    with-step : (step : Step) → JoinsBy m step → Serves sv q (after_step setting q m step)
     unfolding after_step worded
     with-step (Happens t) joining = with-event t
     with-step (Says Give) joining = record {
@@ -241,13 +251,23 @@ module _ (sv : Services) (q : Place) (group : q.group ≡ sv.family.setting.grou
       collects = record { transfer = ok.collects.transfer; waiting = ok.collects.waiting };
     }
 
-  along : (steps : List Step) (m : Moment) → Serves sv q m
-      → ((front : List Step) → IsPrefixOf front steps → IsJoining (reached setting q m front)) → Serves sv q (reached setting q m steps)
+  abbrev AreJoinings : Moment → List Step → Type 0
+  AreJoinings m steps = (front : List Step) (bytes : List ℕ) → IsPrefixOf (front ++ Says (State bytes) ∷ []) steps
+      → IsJoining (reached setting q m (front ++ Says (State bytes) ∷ []))
+
+  first-joins : (m : Moment) (step : Step) (steps : List Step) → AreJoinings m (step ∷ steps) → JoinsBy m step
+  unfolding reached
+  first-joins m (Happens t) steps joinings = tt
+  first-joins m (Says Give) steps joinings = tt
+  first-joins m (Says (State bytes)) steps joinings = joinings [] bytes (steps, refl)
+  first-joins m (Says (StateKey p key)) steps joinings = tt
+
+  along : (steps : List Step) (m : Moment) → Serves sv q m → AreJoinings m steps → Serves sv q (reached setting q m steps)
   unfolding reached
   along [] m ok joinings = ok
   along (step ∷ steps) m ok joinings =
-      along steps (after_step setting q m step) (with-step m ok step (joinings (step ∷ []) (steps, refl)))
-      (λ front is. joinings (step ∷ front) (is.0, ap (λ l. step ∷ l) is.1))
+      along steps (after_step setting q m step) (with-step m ok step (first-joins m step steps joinings))
+      (λ front bytes is. joinings (step ∷ front) bytes (is.0, ap (λ l. step ∷ l) is.1))
 
   -- the process of a moment
   process-is : (steps : List Step) (m : Moment) → (reached setting q m steps).process ≡ run setting m.process (turns_in steps)
@@ -263,7 +283,8 @@ turns-append (Says word ∷ front) back = turns-append front back
 
 -- ---- a run of a correct process
 
-module _ (sv : Services) (c : Correct) (q : Place) (steps : List Step) (it : ServedRun sv c q steps) (zeroth : sv.family.setting.genesis.number ≡ 0) where
+module _ (sv : Services) (c : Correct) (q : Place) (steps : List Step) (it : ServedRun sv c q steps)
+    (zeroth : sv.family.setting.genesis.number ≡ 0) where
   abbrev s : Setting
   s = sv.family.setting
 
@@ -283,8 +304,9 @@ module _ (sv : Services) (c : Correct) (q : Place) (steps : List Step) (it : Ser
   serves-at front rest parts = along sv q it.group front (begin begun)
       (begins-so sv q begun (run-keeps s Numbered it.earlier (numbered-keeps s _) started zeroth)
       (it.me ∙ sym (on-along s started it.earlier).me))
-      (λ f is. subst (λ n. Contains (sv.joinings n) (record { view = (at f).process.pool.view; offered = (at f).offered })) (sym it.me)
-      (it.joinings f (is.0 ++ rest, sym (append_assoc f is.0 rest) ∙ ap (λ l. l ++ rest) is.1 ∙ sym parts)))
+      (λ f bytes is. let g : List Step = f ++ Says (State bytes) ∷ [] in
+      subst (λ n. Contains (sv.joinings n) (record { view = (at g).process.pool.view; offered = (at g).offered })) (sym it.me)
+      (it.joinings f bytes (is.0 ++ rest, sym (append_assoc g is.0 rest) ∙ ap (λ l. l ++ rest) is.1 ∙ sym parts)))
 
   -- the process at the end, from a moment on
   end-is : (front rest : List Step) → steps ≡ front ++ rest → end ≡ run s (at front).process (turns_in rest ++ it.later)
@@ -325,8 +347,7 @@ module _ (sv : Services) (c : Correct) (q : Place) (steps : List Step) (it : Ser
     made-reply = subst (λ (p : Process). MadeReply sv p leaf r) (sym end-turned) (record {
       beginning = ok.beginning;
       from = subst (λ n. Begins sv n ok.beginning) (sym same-me) (begins sv m.process.me ok.beginning ok.from);
-      replies = still-replies turned (run s turned (turns_in w.behind ++ it.later)) (on-along s turned (turns_in w.behind ++ it.later))
-          ok.beginning leaf r replies-then;
+      replies = replies_stay s turned (turns_in w.behind ++ it.later) ok.beginning leaf r replies-then;
     })
 
 pub run_replies : RunReplies
@@ -338,7 +359,8 @@ run_replies sv c q steps it leaf r zeroth w = made-reply sv c q steps it zeroth 
 abbrev given_record : Place → Server → Store → StateRecord
 given_record q s t = signed_state q (unsigned_state q.me s.view.number t)
 
-given-is : (q : Place) (s : Server) (r : StateRecord) → state_given q s ≡ Given r → (t : Store) × (s.gives ≡ Some t) × (given_record q s t ≡ r)
+given-is : (q : Place) (s : Server) (r : StateRecord) → state_given q s ≡ Given r
+    → (t : Store) × (s.gives ≡ Some t) × (given_record q s t ≡ r)
 unfolding state_given
 given-is q s r e = go s.gives refl e
   where
@@ -347,7 +369,8 @@ given-is q s r e = go s.gives refl e
     by w false e = cc
 
     go : (o : Option Store) → s.gives ≡ o
-        → (elim o [ None ↦ NoState | Some t ↦ if nat_le q.states.total s.view.number then NoStateLeaf else Given (given_record q s t) ]) ≡ Given r
+        → (elim o [ None ↦ NoState | Some t ↦ if nat_le q.states.total s.view.number then NoStateLeaf else Given (given_record q s t) ])
+        ≡ Given r
         → (t : Store) × (s.gives ≡ Some t) × (given_record q s t ≡ r)
     go None is e = absurd cc
     go (Some t) is e = (t, is, by (given_record q s t) (nat_le q.states.total s.view.number) e)
@@ -394,13 +417,17 @@ module _ (sv : Services) (q : Place) (m : Moment) (ok : Serves sv q m) (r : Stat
   given-from : (ok.beginning ≡ genesis) ⊎ (TookIn sv m.process.me ok.beginning × (ok.beginning.view < r.view))
   given-from = by ok.from
     where
-      by : HasFrom sv m.process.me ok.beginning → (ok.beginning ≡ genesis) ⊎ (TookIn sv m.process.me ok.beginning × (ok.beginning.view < r.view))
+      by : HasFrom sv m.process.me ok.beginning
+          → (ok.beginning ≡ genesis) ⊎ (TookIn sv m.process.me ok.beginning × (ok.beginning.view < r.view))
       by (inl is) = inl is
-      by (inr took) = inr (took.0, (let lt = earlier-where ok.beginning.view x took.1 (and-second (holds mine ok.beginning x) _ given-so.0) in
-          let is = own-view in omega (arith, lt, is)))
+      by (inr took) = inr (
+        took.0,
+        (let lt = earlier-where ok.beginning.view x took.1 (and-second (holds mine ok.beginning x) _ given-so.0) in
+            let is = own-view in omega (arith, lt, is)),
+      )
 
-module _ (sv : Services) (c : Correct) (q : Place) (steps : List Step) (it : ServedRun sv c q steps) (zeroth : sv.family.setting.genesis.number ≡ 0)
-    (r : StateRecord) (w : WritesState sv.family.setting q
+module _ (sv : Services) (c : Correct) (q : Place) (steps : List Step) (it : ServedRun sv c q steps)
+    (zeroth : sv.family.setting.genesis.number ≡ 0) (r : StateRecord) (w : WritesState sv.family.setting q
     (begin (run sv.family.setting (start sv.family.setting c.me c.batch_limit) it.earlier)) steps r) where
   abbrev given_at : Moment
   given_at = at sv c q steps it zeroth w.before
@@ -415,14 +442,11 @@ module _ (sv : Services) (c : Correct) (q : Place) (steps : List Step) (it : Ser
   made-state =
       let p : Process = given_at.process in
       let on = on-along sv.family.setting p behind_it in
-      let numbered = serving.numbered in
-      let own = own-view sv q given_at serving r w.given in
       subst (λ (p : Process). MadeState sv p r) (sym (end-is sv c q steps it zeroth w.before (Says Give ∷ w.behind) w.steps_are)) (record {
         beginning = serving.beginning;
         from = subst (λ n. (serving.beginning ≡ genesis) ⊎ (TookIn sv n serving.beginning × (serving.beginning.view < r.view))) (sym on.me)
             (given-from sv q given_at serving r w.given);
-        gives = still-gives p (run sv.family.setting p behind_it) on serving.beginning r (omega (arith, own, numbered))
-            (gives-then sv q given_at serving r w.given);
+        gives = gives_stay sv.family.setting p behind_it serving.beginning r (gives-then sv q given_at serving r w.given);
       })
 
 pub run_gives : RunGives

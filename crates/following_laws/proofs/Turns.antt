@@ -140,10 +140,12 @@ module _ (done : Process) where
   StillSo r = length r.left ≡ length done.left → r.delivered ≡ done.delivered
 
   installed : (d : ℕ × Value) → StillSo (install d done)
-  installed d same = absurd (let more = length-snoc done.left _ in omega (arith, same, more))
+  installed d same = absurd
+      (let more : length (install d done).left ≡ suc (length done.left) = length-snoc done.left _ in omega (arith, same, more))
 
   by : (d : ℕ × Value) (m whole : Bool)
-      → StillSo (if m then (if whole then install d done else record done { halted = nat_lt d.1.cut (places_in done.delivered) }) else install d done)
+      → StillSo (if m then
+      (if whole then install d done else record done { halted = nat_lt d.1.cut (places_in done.delivered) }) else install d done)
   by d true true = installed d
   by d true false = λ same. refl
   by d false whole = installed d
@@ -191,6 +193,7 @@ not-refused setting p t =
     }
 
 refused : (p : Process) → TurnSo p p []
+unfolding stays
 refused p = record {
   done = p;
   on = stays p;
@@ -206,9 +209,9 @@ unfolding after
 turn-so setting p t = go (refusal setting p t.event)
   where
     go : (o : Option EventFault) → let out : Outcome = elim o [
-          | None ↦ answered setting p t (signing setting p t)
-          | Some fault ↦ record { verdict = Some fault; heard = 0; signed = []; spent = false; sends = []; notes = [] }
-        ] in
+      | None ↦ answered setting p t (signing setting p t)
+      | Some fault ↦ record { verdict = Some fault; heard = 0; signed = []; spent = false; sends = []; notes = [] }
+    ] in
         TurnSo p (elim o [ None ↦ settle setting (signing setting p t).now | Some fault ↦ p ]) out.notes
     go None = not-refused setting p t
     go (Some fault) = refused p

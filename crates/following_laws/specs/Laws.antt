@@ -3,11 +3,11 @@ use Rattle.std.specs.Prelude.{◌≡◌, ◌≢◌, ◌⊎◌, ℕ, ◌+◌, ◌
 use Rattle.group_defs.specs.Views.{is_member}
 use Rattle.group_defs.specs.Process.{Setting, Delivered, Process, places_in}
 use Rattle.group_defs.specs.Accounts.{account_of}
-use Rattle.group_defs.specs.Events.{Note, Delivers, Turn, after, outcome}
+use Rattle.group_defs.specs.Events.{Note, Delivers, Turn, after, outcome, run}
 use Rattle.store_defs.specs.Records.{Reply, StateRecord, state_record_of}
 use Rattle.store_defs.specs.Votes.{Valid}
 use Rattle.store_defs.specs.Transfers.{new_transfer, transfer_after}
-use Rattle.store_defs.specs.Holding.{Beginning, Replies, payloads_of}
+use Rattle.store_defs.specs.Holding.{Beginning, Gives, Replies, payloads_of}
 use Rattle.store_defs.specs.Serving.{Place, Server, Ready, Signed, ToldReply, after_notes, after_offer, handed_key, offer_word, position_at, told_of}
 use Rattle.store_defs.specs.Laws.{Follows, Services, TookIn}
 
@@ -30,6 +30,16 @@ TurnReplies = (setting : Setting) (p : Process) (t : Turn) (q : Place) (b : Begi
 abbrev pub TurnOpensPlaces : Type 0
 TurnOpensPlaces = (setting : Setting) (p : Process) (t : Turn) (q : Place) (s : Server) → OpensPlaces p s
     → OpensPlaces (after setting p t) (after_notes q s (outcome setting p t).notes)
+
+-- what a process replies it still replies after more events, in whichever view it was
+abbrev pub RepliesStay : Type 0
+RepliesStay = (setting : Setting) (p : Process) (ts : List Turn) (b : Beginning) (leaf : ℕ) (r : Reply)
+    → Replies (account_of p) b leaf r → Replies (account_of (run setting p ts)) b leaf r
+
+-- and so with the states that it gives
+abbrev pub GivesStay : Type 0
+GivesStay = (setting : Setting) (p : Process) (ts : List Turn) (b : Beginning) (r : StateRecord)
+    → Gives (account_of p) b r → Gives (account_of (run setting p ts)) b r
 
 -- ---- offers
 

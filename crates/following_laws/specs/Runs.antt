@@ -86,24 +86,25 @@ pub record WritesState (setting : Setting) (q : Place) (m : Moment) (steps : Lis
 
 -- ---- runs of a correct process
 
--- Some of the turns of a correct process are a run that serves: it begins with the process as its earlier turns left it, and the records that
--- were offered up to any moment in its view are one of the process's joinings.
+-- Some of the turns of a correct process are a run that serves: it begins with the process as its earlier turns left it, and after each
+-- state that is offered the records of the view are one of the process's joinings.
 pub record ServedRun (sv : Services) (c : Correct) (q : Place) (steps : List Step) : Type 0 where
   pub me : q.me ≡ c.me
   pub group : q.group ≡ sv.family.setting.group
   pub earlier : List Turn
   pub later : List Turn
   pub turns : c.turns ≡ earlier ++ (turns_in steps ++ later)
-  pub joinings : (front : List Step) → IsPrefixOf front steps
-      → let m = reached sv.family.setting q (begin (run sv.family.setting (start sv.family.setting c.me c.batch_limit) earlier)) front in
+  pub joinings : (front : List Step) (bytes : List ℕ) → IsPrefixOf (front ++ Says (State bytes) ∷ []) steps
+      → let m = reached sv.family.setting q (begin (run sv.family.setting (start sv.family.setting c.me c.batch_limit) earlier))
+      (front ++ Says (State bytes) ∷ []) in
       Contains (sv.joinings c.me) (record { view = m.process.pool.view; offered = m.offered })
 
 -- where it begins
 abbrev pub first : {sv : Services} {c : Correct} {q : Place} {steps : List Step} → ServedRun sv c q steps → Moment
 first {sv} {c} it = begin (run sv.family.setting (start sv.family.setting c.me c.batch_limit) it.earlier)
 
--- Each reply that a server writes in a run is one that its process made, over its store, with the leaf of the message's place among all that
--- it delivered
+-- Each reply that a server writes in a run is one that its process made, over its store, with the leaf whose number is how many messages it
+-- delivered before
 abbrev pub RunReplies : Type 0
 RunReplies = (sv : Services) (c : Correct) (q : Place) (steps : List Step) (it : ServedRun sv c q steps) (leaf : ℕ) (r : Reply)
     → sv.family.setting.genesis.number ≡ 0 → WritesReply sv.family.setting q (first it) steps leaf r

@@ -1,7 +1,7 @@
 //! How a server of the store and its process go together: each is the contract of a function with an empty body.
 #![tactic(auto)]
 
-ghost use Rattle.following_laws.specs.Laws.{OfferFollows, TurnOpensPlaces, TurnReplies};
+ghost use Rattle.following_laws.specs.Laws.{GivesStay, OfferFollows, RepliesStay, TurnOpensPlaces, TurnReplies};
 ghost use Rattle.following_laws.specs.Runs.{RunGives, RunReplies, RunsGiveOnce, RunsReplyOnce};
 
 // ---- a turn
@@ -14,6 +14,18 @@ pub fn turn_replies()
 /// A turn keeps what that rests on: the places that come next open at position 0.
 pub fn turn_opens_places()
     ensures { TurnOpensPlaces }
+{}
+
+// ---- more events
+
+/// What a process replies it still replies after more events.
+pub fn replies_stay()
+    ensures { RepliesStay }
+{}
+
+/// What a process gives it still gives after more events.
+pub fn gives_stay()
+    ensures { GivesStay }
 {}
 
 // ---- an offer
