@@ -16,11 +16,11 @@ use Rattle.pool_laws.proofs.Tests.{and-first, and-second}
 use Rattle.safety_laws.proofs.GroupGrows.{run-append}
 use Rattle.safety_laws.proofs.Induction.{Keeps, run-keeps}
 use Rattle.safety_laws.proofs.Quorums.{in-ends}
-use Rattle.store_defs.specs.Stores.{Store, store_bytes}
+use Rattle.store_defs.specs.Stores.{Store, applied, store_bytes}
 use Rattle.store_defs.specs.Records.{Reply, StateRecord, reply_body, state_body}
 use Rattle.store_defs.specs.Transfers.{Transfer, new_transfer, transfer_after}
 use Rattle.store_defs.specs.Holding.{Beginning, Gives, Replies, genesis, holds, payloads_of, store_at}
-use Rattle.store_defs.specs.Serving.{Given, Grammar, Held, Known, NoState, NoStateLeaf, OfferWord, OtherView, Place, Ready, Server, StateWord, Stranger, TakenSoFar, Unsigned, after_message, after_note, after_notes, after_offer, held, offer_word, position_at, server_of, signed_state, state_given, unsigned_state}
+use Rattle.store_defs.specs.Serving.{Given, Grammar, Held, Known, NoState, NoStateLeaf, OfferWord, OtherView, Place, Ready, Server, StateWord, Stranger, TakenSoFar, Unsigned, after_message, after_note, after_notes, after_offer, after_view, held, offer_word, position_at, server_of, signed_state, state_given, unsigned_state}
 use Rattle.store_defs.specs.Words.{Word, Give, State, StateKey}
 use Rattle.store_defs.specs.Services.{worded}
 use Rattle.store_defs.specs.Laws.{Begins, Follows, MadeReply, MadeState, ServicePremises, Services, TookIn}
@@ -68,7 +68,11 @@ unfolding after_notes after_note
 messages-wait q x [] s = record { view = refl; transfer = refl; store = λ e. e }
 messages-wait q x (d ∷ ds) s =
     let rest = messages-wait q x ds (after_message s d) in
-    record { view = rest.view; transfer = rest.transfer; store = λ e. unmapped _ s.store (rest.store e) }
+    record {
+      view = rest.view;
+      transfer = rest.transfer;
+      store = λ e. unmapped (λ (t : Store). (applied t d.payload).1) s.store (rest.store e);
+    }
 
 module _ (setting : Setting) (q : Place) (m : Moment) (t : Turn) (valid : List ℕ → List ℕ → List ℕ → Bool) (group : List ℕ)
     (collects : Collects valid group m.offered m.server) where
@@ -87,7 +91,7 @@ module _ (setting : Setting) (q : Place) (m : Moment) (t : Turn) (valid : List �
   collects-by : (i : Bool) → Collects valid group (if i then [] else m.offered)
       (after_notes q told (note_if i (Installs r.pool.view) ++ so.rest))
   unfolding after_notes after_note transfer_after
-  collects-by true = subst (Collects valid group []) (sym (quiet-stays q _ so.rest so.quiet)) (record {
+  collects-by true = subst (Collects valid group []) (sym (quiet-stays q (after_view q told r.pool.view) so.rest so.quiet)) (record {
     transfer = refl;
     waiting = λ e. refl;
   })
