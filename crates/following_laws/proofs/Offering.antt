@@ -1,6 +1,6 @@
 -- A server follows its process through offers of states.
-use Rattle.std.proofs.Common.{◌≡◌, ◌≢◌, ◌⊎◌, inl, inr, ℕ, zero, suc, ◌+◌, ◌-◌, ◌<◌, ◌≤◌, List, [], ◌∷◌, ◌++◌, length, take, drop, Option, Some, None, Ok, Err, Bool, true, false, refl, sym, ap, ◌∙◌, subst, arith}
-use Rattle.std.specs.Prelude.{if◌then◌else◌, ◌&&◌, ◌||◌, ◌==◌, not, nat_lt, nat_le, is_some, Contains, Result}
+use Rattle.std.proofs.Common.{◌≡◌, ◌≢◌, ℕ, zero, suc, ◌+◌, ◌-◌, ◌<◌, List, [], ◌∷◌, ◌++◌, length, Option, Some, None, Ok, Err, Bool, true, false, refl, sym, ap, ◌∙◌, subst, arith}
+use Rattle.std.specs.Prelude.{if◌then◌else◌, ◌&&◌, ◌||◌, ◌==◌, not, nat_lt, is_some, Contains}
 use Rattle.std.specs.List.{list_any}
 use Rattle.std.specs.Option.{option_or, unwrap_or}
 use Rattle.std.specs.Int.{w32}
@@ -9,7 +9,7 @@ use Rattle.byte_defs.specs.Choices.{first_that_holds}
 use Rattle.byte_defs.specs.Fields.{◌>>=◌, refuse_if, number_at, bytes_at}
 use Rattle.byte_defs.proofs.Fields.{bind_ok, ok_is, refuse_ok}
 use Rattle.message_defs.specs.Limits.{last_process, most_signature_bytes}
-use Rattle.group_defs.specs.Views.{View, is_member}
+use Rattle.group_defs.specs.Views.{is_member}
 use Rattle.group_defs.specs.Process.{Process, views_of}
 use Rattle.group_defs.specs.Accounts.{account_of, delivered_in}
 use Rattle.pool_laws.proofs.Places.{Compared, ahead, behind, compared, level, take-one}
@@ -22,10 +22,10 @@ use Rattle.store_defs.specs.Transfers.{Transfer, new_transfer, offer, transfer_a
 use Rattle.store_defs.specs.Votes.{Valid}
 use Rattle.store_defs.specs.Holding.{Beginning, holds, payloads_of, stayed, store_at, store_over, was_member}
 use Rattle.store_defs.specs.Serving.{Grammar, Held, OfferWord, OtherView, Place, Ready, Server, after_offer, after_taken, handed_key, held, offer_word, store_from, taken_by, word_of_taken}
-use Rattle.store_defs.specs.Laws.{Follows, Joining, Services, TookIn, given_now, state_of, store_now}
+use Rattle.store_defs.specs.Laws.{Follows, Services, TookIn, given_now}
 use Rattle.store_laws.proofs.Staying.{broken, done}
 use Rattle.store_laws.proofs.Tests.{or-none}
-use Rattle.following_laws.specs.Laws.{Collects, FollowsOffers, OfferFollows, Offered, TakesOver, with_offer}
+use Rattle.following_laws.specs.Laws.{Collects, OfferFollows, Offered, TakesOver, with_offer}
 
 -- ---- the state of a record is a store's
 

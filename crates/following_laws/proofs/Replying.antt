@@ -1,7 +1,7 @@
 -- Each reply that is written during a turn is the process's.
-use Rattle.std.proofs.Common.{◌≡◌, ◌⊎◌, inl, inr, ℕ, zero, suc, ◌+◌, ◌-◌, ◌<◌, ◌≤◌, max, List, [], ◌∷◌, ◌++◌, map, length, Option, Some, None, Bool, true, false, refl, sym, ap, ◌∙◌, subst, arith}
-use Rattle.std.specs.Prelude.{if◌then◌else◌, fold, filter, nat_le, nat_lt, ◌==◌, option_map}
-use Rattle.std.proofs.lemmas.Bool.{eqb-true, eqb-false, eq-eqb, lt-ltb, le-ltb, ltb-false}
+use Rattle.std.proofs.Common.{◌≡◌, ℕ, ◌+◌, ◌<◌, ◌≤◌, max, List, [], ◌∷◌, ◌++◌, map, length, Option, Some, None, Bool, true, false, refl, sym, ap, ◌∙◌, subst, arith}
+use Rattle.std.specs.Prelude.{if◌then◌else◌, fold, nat_le, nat_lt, ◌==◌, option_map}
+use Rattle.std.proofs.lemmas.Bool.{eqb-true, eqb-false, ltb-false}
 use Rattle.std.proofs.lemmas.List.{append-nil, append_assoc, length-append, map-append}
 use Rattle.std.proofs.lemmas.List.Elements.{filter-append}
 use Rattle.std.proofs.lemmas.List.Sums.{fold-append}
@@ -14,11 +14,11 @@ use Rattle.safety_laws.proofs.ViewsOf.{current-delivered}
 use Rattle.store_defs.specs.Stores.{Store, answer_bytes, answer_to, applied, store_after}
 use Rattle.store_defs.specs.Records.{Reply}
 use Rattle.store_defs.specs.Holding.{Beginning, Replies, delivered_below, holds, payloads_of, store_at}
-use Rattle.store_defs.specs.Serving.{NoLeaf, NoStore, Place, ReplyWord, Server, Signed, Told, ToldReply, after_message, after_note, after_notes, held, position_at, reply_to, signed_reply, told_of, unsigned_reply}
-use Rattle.store_defs.specs.Laws.{Follows, store_now}
+use Rattle.store_defs.specs.Serving.{NoLeaf, NoStore, Place, ReplyWord, Server, Signed, ToldReply, after_message, after_note, after_notes, held, position_at, reply_to, signed_reply, told_of, unsigned_reply}
+use Rattle.store_defs.specs.Laws.{Follows}
 use Rattle.following_laws.specs.Laws.{OpensPlaces, TurnOpensPlaces, TurnReplies}
 use Rattle.following_laws.proofs.Growing.{Extends, below-is, extends-in, holds-is, longer, still-replies, store-is}
-use Rattle.following_laws.proofs.Turns.{GoesOn, Quiet, Rising, TurnSo, most-at-least, places-grow, turn-so}
+use Rattle.following_laws.proofs.Turns.{GoesOn, Quiet, Rising, TurnSo, most-at-least, turn-so}
 
 -- ---- positions
 

@@ -1,16 +1,16 @@
 -- Along a run a server follows its process, so what it signs is its process's.
-use Rattle.std.proofs.Common.{◌≡◌, ◌≢◌, ◌⊎◌, inl, inr, ℕ, zero, suc, ◌+◌, ◌<◌, ◌≤◌, List, [], ◌∷◌, ◌++◌, map, length, Option, Some, None, Bool, true, false, refl, sym, ap, ◌∙◌, subst, arith}
-use Rattle.std.specs.Prelude.{if◌then◌else◌, ◌&&◌, ◌||◌, ◌==◌, nat_le, nat_lt, option_map, Contains, All}
+use Rattle.std.proofs.Common.{◌≡◌, ◌≢◌, ◌⊎◌, inl, inr, ℕ, suc, ◌<◌, List, [], ◌∷◌, ◌++◌, map, length, Option, Some, None, Bool, true, false, refl, sym, ap, ◌∙◌, subst, arith}
+use Rattle.std.specs.Prelude.{if◌then◌else◌, ◌&&◌, ◌||◌, ◌==◌, nat_le, nat_lt, option_map, Contains}
 use Rattle.std.proofs.lemmas.Bool.{eqb-true, ltb-true}
 use Rattle.std.proofs.lemmas.List.{append_assoc}
 use Rattle.message_defs.specs.Statements.{Claim}
 use Rattle.group_defs.specs.Views.{View}
-use Rattle.group_defs.specs.Process.{Setting, Delivered, Process, start, views_of}
+use Rattle.group_defs.specs.Process.{Setting, Delivered, Process, start}
 use Rattle.group_defs.specs.Accounts.{Account, IsPrefixOf, account_of}
 use Rattle.group_defs.specs.Family.{Correct, end_of, ends, handed_to}
 use Rattle.group_defs.specs.Settle.{install}
-use Rattle.group_defs.specs.Events.{Note, Delivers, Installs, Turn, after, note_if, outcome, run}
-use Rattle.pool_laws.proofs.Members.{All-mem, Contains-mem, map-mem}
+use Rattle.group_defs.specs.Events.{Delivers, Installs, Turn, after, note_if, outcome, run}
+use Rattle.pool_laws.proofs.Members.{All-mem, Contains-mem}
 use Rattle.pool_laws.proofs.Places.{length-snoc}
 use Rattle.pool_laws.proofs.Tests.{and-first, and-second}
 use Rattle.safety_laws.proofs.GroupGrows.{run-append}
@@ -20,14 +20,14 @@ use Rattle.store_defs.specs.Stores.{Store, applied, store_bytes}
 use Rattle.store_defs.specs.Records.{Reply, StateRecord, reply_body, state_body}
 use Rattle.store_defs.specs.Transfers.{Transfer, new_transfer, transfer_after}
 use Rattle.store_defs.specs.Holding.{Beginning, Gives, Replies, genesis, holds, payloads_of, store_at}
-use Rattle.store_defs.specs.Serving.{Given, Grammar, Held, Known, NoState, NoStateLeaf, OfferWord, OtherView, Place, Ready, Server, StateWord, Stranger, TakenSoFar, Unsigned, after_message, after_note, after_notes, after_offer, after_view, held, offer_word, position_at, server_of, signed_state, state_given, unsigned_state}
-use Rattle.store_defs.specs.Words.{Word, Give, State, StateKey}
+use Rattle.store_defs.specs.Serving.{Given, Grammar, Held, Known, NoState, NoStateLeaf, OfferWord, OtherView, Place, Ready, Server, Stranger, TakenSoFar, Unsigned, after_message, after_note, after_notes, after_offer, after_view, held, offer_word, position_at, server_of, signed_state, state_given, unsigned_state}
+use Rattle.store_defs.specs.Words.{Give, State, StateKey}
 use Rattle.store_defs.specs.Services.{worded}
 use Rattle.store_defs.specs.Laws.{Begins, Follows, MadeReply, MadeState, ServicePremises, Services, TookIn}
 use Rattle.store_laws.proofs.Following.{begins_following, turn_follows}
 use Rattle.store_laws.proofs.Leaves.{one_reply_per_leaf, one_state_per_leaf}
-use Rattle.following_laws.specs.Laws.{Collects, FollowsOffers, Offered, OpensPlaces, TakesOver, with_offer}
-use Rattle.following_laws.specs.Runs.{Happens, Moment, RunGives, RunReplies, RunsGiveOnce, RunsReplyOnce, Says, ServedRun, Step, WritesReply, WritesState, after_step, begin, first, reached, turns_in, with_word}
+use Rattle.following_laws.specs.Laws.{Collects, FollowsOffers, OpensPlaces, with_offer}
+use Rattle.following_laws.specs.Runs.{Happens, Moment, RunGives, RunReplies, RunsGiveOnce, RunsReplyOnce, Says, ServedRun, Step, WritesReply, WritesState, after_step, begin, reached, turns_in}
 use Rattle.following_laws.proofs.Growing.{Extends, as-it-is, gives_stay, keeps, on-along, replies_stay}
 use Rattle.following_laws.proofs.Turns.{TurnSo, turn-so}
 use Rattle.following_laws.proofs.Replying.{notes-more, quiet-stays, turn_opens_places, turn_replies}

@@ -1,5 +1,5 @@
 -- What a turn delivers rises by place, and its notes name it in order.
-use Rattle.std.proofs.Common.{◌≡◌, ◌⊎◌, inl, inr, ℕ, zero, suc, ◌+◌, ◌-◌, ◌<◌, ◌≤◌, max, List, [], ◌∷◌, ◌++◌, map, length, drop, Option, Some, None, Bool, true, false, refl, sym, ap, ◌∙◌, subst, arith}
+use Rattle.std.proofs.Common.{◌≡◌, inl, inr, ℕ, zero, suc, ◌+◌, ◌-◌, ◌≤◌, max, List, [], ◌∷◌, ◌++◌, map, length, drop, Option, Some, None, Bool, true, false, refl, sym, ap, ◌∙◌, subst, arith}
 use Rattle.std.specs.Prelude.{if◌then◌else◌, fold, nat_lt, ◌==◌}
 use Rattle.std.specs.Option.{option_map_or}
 use Rattle.std.proofs.lemmas.Bool.{le-ltb}
@@ -7,11 +7,11 @@ use Rattle.std.proofs.lemmas.List.{append-nil, append_assoc, drop_at}
 use Rattle.std.proofs.lemmas.List.Sums.{fold-append}
 use Rattle.message_defs.specs.Updates.{Value}
 use Rattle.message_defs.specs.Statements.{Claim}
-use Rattle.group_defs.specs.Views.{View, is_member}
+use Rattle.group_defs.specs.Views.{is_member}
 use Rattle.group_defs.specs.Process.{Setting, Delivered, Process, places_in}
 use Rattle.group_defs.specs.Settle.{decide, deliver, deliver_more, deliverable, install, leave, leave_by, limit, settle}
 use Rattle.group_defs.specs.Signing.{Signing}
-use Rattle.group_defs.specs.Events.{EventFault, Note, Delivers, Installs, Liar, Spent, Halts, Turn, after, answered, note_if, notes, Outcome, outcome, refusal, signing, take_in}
+use Rattle.group_defs.specs.Events.{EventFault, Note, Delivers, Installs, Liar, Spent, Halts, Turn, after, answered, note_if, Outcome, outcome, refusal, signing, take_in}
 use Rattle.event_laws.proofs.Taken.{taking_in_leaves}
 use Rattle.event_laws.proofs.Signed.{signing_leaves}
 use Rattle.pool_laws.proofs.Places.{length-snoc}

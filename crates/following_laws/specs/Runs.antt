@@ -1,15 +1,15 @@
 -- A run of a server: the events of its process, each told to it, and the words that a script has for it.
-use Rattle.std.specs.Prelude.{◌≡◌, ℕ, ◌<◌, nat_lt, if◌then◌else◌, List, [], ◌∷◌, ◌++◌, length, All, Contains}
+use Rattle.std.specs.Prelude.{◌≡◌, ℕ, nat_lt, if◌then◌else◌, List, [], ◌∷◌, ◌++◌, length, Contains}
 use Rattle.group_defs.specs.Process.{Setting, Delivered, Process, start}
 use Rattle.group_defs.specs.Accounts.{IsPrefixOf}
-use Rattle.group_defs.specs.Family.{Correct, end_of, ends}
+use Rattle.group_defs.specs.Family.{Correct, end_of}
 use Rattle.group_defs.specs.Events.{Note, Delivers, Turn, after, outcome, run}
 use Rattle.store_defs.specs.Records.{Reply, StateRecord, reply_body, state_body}
 use Rattle.store_defs.specs.Holding.{payloads_of}
 use Rattle.store_defs.specs.Serving.{Given, Place, Server, Signed, ToldReply, after_notes, server_of, state_given, told_of}
 use Rattle.store_defs.specs.Words.{Word, Give, State, StateKey}
 use Rattle.store_defs.specs.Services.{worded}
-use Rattle.store_defs.specs.Laws.{Joining, MadeReply, MadeState, ServicePremises, Services}
+use Rattle.store_defs.specs.Laws.{MadeReply, MadeState, ServicePremises, Services}
 use Rattle.following_laws.specs.Laws.{Offered, with_offer}
 
 -- ---- what happens in a run
