@@ -1,6 +1,6 @@
 -- What is known of a signature is what the rule says of it.
-use Rattle.std.proofs.Common.{◌≡◌, ℕ, ◌<◌, List, [], ◌∷◌, ◌++◌, length, take, drop, Option, Some, None, Bool, true, false, refl, sym, ap, ◌∙◌, arith}
-use Rattle.std.specs.Prelude.{◌==◌, ◌&&◌, ◌||◌, nat_lt, if◌then◌else◌, codes, find, option_map, Result, Ok, Err}
+use Rattle.std.proofs.Common.{◌≡◌, ℕ, ◌+◌, ◌<◌, List, [], ◌∷◌, ◌++◌, length, take, drop, Option, Some, None, Bool, true, false, refl, sym, ap, ◌∙◌, arith, tt, Bor}
+use Rattle.std.specs.Prelude.{◌==◌, ◌&&◌, ◌||◌, nat_lt, if◌then◌else◌, codes, find, option_map, IfSome, MatchOption, Result, Ok, Err}
 use Rattle.std.proofs.lemmas.Bool.{lt-ltb, ltb-true}
 use Rattle.std.proofs.lemmas.List.{drop_at, take-append-drop, take_at}
 use Rattle.std.proofs.lemmas.Slice.Eq.{bytes_eq-Decides}
@@ -74,7 +74,7 @@ module _ (s : Setting) (valid : List ℕ → List ℕ → List ℕ → Bool) (gr
 -- ---- a body in parts
 
 pub head-off : (first second bytes one two : List ℕ) → same_bytes (take (length first) bytes) first ≡ true → one ≡ drop (length first) bytes
-    → same_bytes (take (length second) one) second ≡ true → two ≡ drop (length second) one → bytes ≡ first ++ second ++ two
+    → same_bytes (take (length second) one) second ≡ true → two ≡ drop (length second) one → bytes ≡ first ++ (second ++ two)
 head-off first second bytes one two e is f behind =
     let front : take (length first) bytes ≡ first = (bytes_eq-Decides (take (length first) bytes) first).0 e in
     let next : take (length second) one ≡ second = (bytes_eq-Decides (take (length second) one) second).0 f in
@@ -89,13 +89,27 @@ no-first first bytes e rest is =
     clash ((bytes_eq-Decides (take (length first) bytes) first).1 (ap (take (length first)) is ∙ take_at first rest (length first) refl)) e
 
 pub no-second : (first second bytes one : List ℕ) → one ≡ drop (length first) bytes → same_bytes (take (length second) one) second ≡ false
-    → (rest : List ℕ) → bytes ≡ first ++ second ++ rest → ⊥
+    → (rest : List ℕ) → bytes ≡ first ++ (second ++ rest) → ⊥
 no-second first second bytes one is e rest whole =
     no-first second one e rest (is ∙ ap (drop (length first)) whole ∙ drop_at first (second ++ rest) (length first) refl)
 
+-- what a second `strip_prefix` leaves
+pub heads-off : (first second bytes one : List ℕ) → same_bytes (take (length first) bytes) first ≡ true → one ≡ drop (length first) bytes
+    → (r : Option (Bor (List ℕ))) → MatchOption r (same_bytes (take (length second) one) second ≡ false)
+    (λ x. (same_bytes (take (length second) one) second ≡ true) × (x.now ≡ drop (length second) one)
+    × (length x.now + length second ≡ length one))
+    → IfSome r (λ said. bytes ≡ first ++ (second ++ said.now))
+heads-off first second bytes one e is None m = tt
+heads-off first second bytes one e is (Some x) m = head-off first second bytes one x.now e is m.0 m.1
+
 -- what comes after a head of 20 bytes
-pub after-head : (group said bytes : List ℕ) → length group ≡ 16 → bytes ≡ codes "RPB1" ++ group ++ said → drop 20 bytes ≡ said
+pub after-head : (group said bytes : List ℕ) → length group ≡ 16 → bytes ≡ codes "RPB1" ++ (group ++ said) → drop 20 bytes ≡ said
 after-head group said bytes len is = ap (drop 20) is ∙ drop_at group said 16 len
+
+pub after-heads : (group bytes : List ℕ) → length group ≡ 16 → (r : Option (Bor (List ℕ)))
+    → IfSome r (λ said. bytes ≡ codes "RPB1" ++ (group ++ said.now)) → IfSome r (λ said. drop 20 bytes ≡ said.now)
+after-heads group bytes len None is = tt
+after-heads group bytes len (Some x) is = after-head group x.now bytes len is
 
 -- ---- a signer and a statement
 

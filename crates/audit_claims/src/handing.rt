@@ -92,7 +92,8 @@ fn see_all<'a, V: Scheme>(
 }
 
 /// The bytes were handed over as a frame to a process: the claims in them that are valid are seen in the table of all claims, and in that
-/// of the claims that were handed to the process. A signature is not verified where the table of all claims knows it. Bytes that are no frame of claims hand over nothing.
+/// of the claims that were handed to the process. A signature is not verified where the table of all claims knows it. Bytes that are no
+/// frame of claims hand over nothing.
 ///
 /// # Errors
 /// [`NoMemory`]; then a part of the claims was seen, in one table or in both.
