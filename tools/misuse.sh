@@ -12,17 +12,13 @@ work=$(mktemp -d)
 trap 'rm -rf "$work"' EXIT
 git -C "$top" archive HEAD crates crates.txt HANDLES | tar -x -C "$work"
 echo 'misuse: rp_base stmt_codec view_table claim_index pool_values claim_pool view_phases rp_devices journal_rp member_core hosted_core chain_check' >> "$work/crates.txt"
-echo 'misuse_of_audits: rp_base kit_defs kit_making findings_json audit_core' >> "$work/crates.txt"
-mkdir -p "$work/crates/misuse/src" "$work/crates/misuse_of_audits/src"
+mkdir -p "$work/crates/misuse/src"
 failed=0
-
-# the crate that a program is made of
-crate=misuse
 
 # tries PROGRAM: `said` is what the try said, and the status is its status
 tries() {
-    printf '#![tactic(auto)]\n\n%s\n' "$1" > "$work/crates/$crate/src/main.rt"
-    said=$(cd "$work/crates/$crate" && rt try 2>&1)
+    printf '#![tactic(auto)]\n\n%s\n' "$1" > "$work/crates/misuse/src/main.rt"
+    said=$(cd "$work/crates/misuse" && rt try 2>&1)
 }
 
 # use WHAT PROGRAM: as it is meant
@@ -319,41 +315,6 @@ use view_table::View;
 
 fn forged(view: View) -> Chain {
     Chain { view }
-}
-
-fn main() {}'
-
-# ---- audits
-
-crate=misuse_of_audits
-
-use 'findings of an audit' 'use audit_core::audit;
-use kit_defs::KeyPlan;
-use kit_making::make_kit;
-use rp_base::PidSet;
-
-fn main(rt: HostRuntime) {
-    let Ok(kit) = make_kit(rt.alloc(), 4, 4, KeyPlan::Plain(9), &[7; 32]) else {
-        return;
-    };
-    if let Ok(findings) = audit(rt.alloc(), &kit, PidSet::new(), &[]) {
-        let _honest = findings.honest();
-    }
-}'
-
-misuse 'findings of no audit' 'use audit_core::Findings;
-use rp_base::{Pid, PidSet};
-
-fn forged(told: findings_json::Findings, grounds: Vec<(Pid, PidSet)>) -> Findings {
-    Findings { told, grounds }
-}
-
-fn main() {}'
-
-misuse 'findings whose convictions are changed' 'use audit_core::Findings;
-
-fn spares(findings: &mut Findings) {
-    findings.told.convicted.clear();
 }
 
 fn main() {}'

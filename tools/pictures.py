@@ -230,7 +230,7 @@ AREAS = {
     ),
     "frames and statements": (348, 777, 2, "byte_fields frame_codec statements stmt_codec"),
     "the outside": (348, 1013, 2, "rp_base rp_devices line_input net_edge file_disk udp_link"),
-    "how fast": (676, 20, 2, "pool_measures group_measures audit_measures bench"),
+    "how fast": (676, 20, 2, "pool_measures group_measures bench"),
     "kits and words": (676, 413, 2, "text_codec kit_file kit_lines kit_draft kit_reading kit_making command_line"),
     "signatures": (676, 622, 2, "sha256_lanes lms_chains lms_ots lms_tree lms_hss sig_scheme bench_parts"),
     "links and journals": (676, 777, 2, "link_defs auth_link journal_defs journal_disk journal_entries journal_rp"),

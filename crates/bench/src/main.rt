@@ -9,7 +9,6 @@ mod lms;
 mod schedules;
 
 use anyhow::{Error, Result};
-use audit_measures as audits;
 use group_measures::{cores, replay};
 use std::env;
 use std::process::ExitCode;
@@ -19,7 +18,7 @@ const OTHER_WORD: u8 = 2;
 
 const WORDS: &str =
     "lms, link, journal, frames GROUPS TIMES, schedules submits|ticks|copy PIECES, pool CLAIMS, core MEMBERS HUNDREDS, \
-    audit ENTRIES [audit|absorb|make], or replay FILE [times]";
+    or replay FILE [times]";
 
 /// What is measured.
 #[derive(Clone, Copy)]
@@ -32,7 +31,6 @@ enum Measure {
     Pool,
     Core,
     Replay,
-    Audit,
 }
 
 impl Measure {
@@ -47,7 +45,6 @@ impl Measure {
             "pool" => Some(Measure::Pool),
             "core" => Some(Measure::Core),
             "replay" => Some(Measure::Replay),
-            "audit" => Some(Measure::Audit),
             _ => None,
         }
     }
@@ -63,7 +60,6 @@ impl Measure {
             Measure::Pool => pool_measures::times_of(rt, words),
             Measure::Core => cores::times_of(rt, words),
             Measure::Replay => replay::count_in(rt, words),
-            Measure::Audit => audits::times_of(rt, words),
         }
     }
 }
@@ -77,8 +73,7 @@ fn once(rt: &HostRuntime) -> Result<()> {
     journal::once(rt)?;
     pool_measures::once(rt)?;
     cores::once(rt)?;
-    replay::once(rt)?;
-    audits::once(rt)
+    replay::once(rt)
 }
 
 // The words behind the program's name.
