@@ -1,8 +1,7 @@
 -- What is known of a signature is what the rule says of it.
-use Rattle.std.proofs.Common.{◌≡◌, ℕ, ◌+◌, ◌<◌, List, [], ◌∷◌, ◌++◌, length, take, drop, Option, Some, None, Bool, true, false, refl, sym, ap, ◌∙◌, arith, tt, Bor}
-use Rattle.std.specs.Prelude.{◌==◌, ◌&&◌, ◌||◌, nat_lt, if◌then◌else◌, codes, find, option_map, IfSome, MatchOption, Result, Ok, Err}
-use Rattle.std.proofs.lemmas.Bool.{lt-ltb, ltb-true}
-use Rattle.std.proofs.lemmas.List.{drop_at, take-append-drop, take_at}
+use Rattle.std.proofs.Common.{◌≡◌, ℕ, ◌+◌, List, [], ◌∷◌, ◌++◌, length, take, drop, Option, Some, None, Bool, true, false, refl, sym, ap, ◌∙◌, Bor}
+use Rattle.std.specs.Prelude.{◌&&◌, ◌||◌, nat_lt, if◌then◌else◌, codes, IfSome, MatchOption, Result, Ok, Err}
+use Rattle.std.proofs.lemmas.List.{drop_at, take-append-drop}
 use Rattle.std.proofs.lemmas.Slice.Eq.{bytes_eq-Decides}
 use Rattle.byte_defs.specs.Choices.{is_some_and}
 use Rattle.byte_defs.specs.Equality.{same_bytes}
@@ -11,7 +10,6 @@ use Rattle.message_defs.specs.Spelling.{body, spelling}
 use Rattle.message_defs.specs.Reading.{statement_of}
 use Rattle.message_defs.specs.declared.FrameFault.{FrameFault}
 use Rattle.group_defs.specs.Process.{Setting}
-use Rattle.group_defs.specs.Hearing.{is_valid}
 use Rattle.pool_laws.proofs.Tests.{and-first, and-second, some-and, some-same}
 use Rattle.claim_hearing.specs.Hearing.{Shares}
 use Rattle.claim_firsts.specs.Seen.{Saw}
@@ -73,25 +71,13 @@ module _ (s : Setting) (valid : List ℕ → List ℕ → List ℕ → Bool) (gr
 
 -- ---- a body in parts
 
-pub head-off : (first second bytes one two : List ℕ) → same_bytes (take (length first) bytes) first ≡ true → one ≡ drop (length first) bytes
+head-off : (first second bytes one two : List ℕ) → same_bytes (take (length first) bytes) first ≡ true → one ≡ drop (length first) bytes
     → same_bytes (take (length second) one) second ≡ true → two ≡ drop (length second) one → bytes ≡ first ++ (second ++ two)
 head-off first second bytes one two e is f behind =
     let front : take (length first) bytes ≡ first = (bytes_eq-Decides (take (length first) bytes) first).0 e in
     let next : take (length second) one ≡ second = (bytes_eq-Decides (take (length second) one) second).0 f in
     let rest : one ≡ second ++ two = sym (take-append-drop (length second) one) ∙ (λ i. next i ++ sym behind i) in
     sym (take-append-drop (length first) bytes) ∙ (λ i. front i ++ (sym is ∙ rest) i)
-
-clash : {b : Bool} → b ≡ true → b ≡ false → ⊥
-clash e f = cc
-
-pub no-first : (first bytes : List ℕ) → same_bytes (take (length first) bytes) first ≡ false → (rest : List ℕ) → bytes ≡ first ++ rest → ⊥
-no-first first bytes e rest is =
-    clash ((bytes_eq-Decides (take (length first) bytes) first).1 (ap (take (length first)) is ∙ take_at first rest (length first) refl)) e
-
-pub no-second : (first second bytes one : List ℕ) → one ≡ drop (length first) bytes → same_bytes (take (length second) one) second ≡ false
-    → (rest : List ℕ) → bytes ≡ first ++ (second ++ rest) → ⊥
-no-second first second bytes one is e rest whole =
-    no-first second one e rest (is ∙ ap (drop (length first)) whole ∙ drop_at first (second ++ rest) (length first) refl)
 
 -- what a second `strip_prefix` leaves
 pub heads-off : (first second bytes one : List ℕ) → same_bytes (take (length first) bytes) first ≡ true → one ≡ drop (length first) bytes
@@ -103,33 +89,13 @@ heads-off first second bytes one e is None m = tt
 heads-off first second bytes one e is (Some x) m = head-off first second bytes one x.now e is m.0 m.1
 
 -- what comes after a head of 20 bytes
-pub after-head : (group said bytes : List ℕ) → length group ≡ 16 → bytes ≡ codes "RPB1" ++ (group ++ said) → drop 20 bytes ≡ said
+after-head : (group said bytes : List ℕ) → length group ≡ 16 → bytes ≡ codes "RPB1" ++ (group ++ said) → drop 20 bytes ≡ said
 after-head group said bytes len is = ap (drop 20) is ∙ drop_at group said 16 len
 
 pub after-heads : (group bytes : List ℕ) → length group ≡ 16 → (r : Option (Bor (List ℕ)))
     → IfSome r (λ said. bytes ≡ codes "RPB1" ++ (group ++ said.now)) → IfSome r (λ said. drop 20 bytes ≡ said.now)
 after-heads group bytes len None is = tt
 after-heads group bytes len (Some x) is = after-head group x.now bytes len is
-
--- ---- a signer and a statement
-
-pub none-said : (said signature : List ℕ) → length said ≡ 0 → None ≡ claim_in said signature
-none-said [] signature none = refl
-none-said (p ∷ bytes) signature none = absurd (omega (arith, none))
-
-pub no-process : (said bytes signature : List ℕ) (p : ℕ) → said ≡ p ∷ bytes → (p < 64 → ⊥) → None ≡ claim_in said signature
-no-process said bytes signature p parts high = go (nat_lt p 64) refl ∙ sym (ap (λ b. claim_in b signature) parts)
-  where
-    go : (b : Bool) → nat_lt p 64 ≡ b → None ≡ (if b then claim_by p signature (statement_of bytes) else None)
-    go false e = refl
-    go true e = absurd (high (ltb-true p 64 e))
-
-pub a-process : (said bytes signature : List ℕ) (p signer : ℕ) → said ≡ p ∷ bytes → signer ≡ p → p < 64
-    → claim_by signer signature (statement_of bytes) ≡ claim_in said signature
-a-process said bytes signature p signer parts is low =
-    ap (λ q. claim_by q signature (statement_of bytes)) is
-    ∙ sym (ap (λ b. if b then claim_by p signature (statement_of bytes) else None) (lt-ltb p 64 low))
-    ∙ sym (ap (λ b. claim_in b signature) parts)
 
 -- ---- what is known
 
