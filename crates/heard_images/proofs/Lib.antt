@@ -1,0 +1,6 @@
+mod Heard
+mod New
+mod Once
+mod Own
+mod Decided
+mod Placed
