@@ -1,6 +1,7 @@
+mod Each
 mod Heard
 mod New
 mod Once
-mod Own
-mod Decided
-mod Placed
+mod Said
+mod Ranks
+mod Walks

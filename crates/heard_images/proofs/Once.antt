@@ -10,7 +10,7 @@ use Rattle.claim_index.proofs.Keyed.{same_slot_key-is, is-same_slot_key, one_slo
 use Rattle.pool_laws.proofs.Members.{Mem, mem-All, mem-snoc, snoc-mem, mem-behind, mem-list_any, list_any-mem}
 use Rattle.pool_laws.proofs.Places.{Pairs, all-pairs, pairs-all, mem-slice_get}
 use Rattle.pool_laws.proofs.Tests.{and-first, and-second, both-true, not-both}
-use Rattle.heard_images.specs.Own.{are_others}
+use Rattle.heard_images.specs.Signed.{are_others}
 
 abbrev pub Differ : Claim → Claim → Type 0
 Differ c d = slot_of c.statement ≢ slot_of d.statement

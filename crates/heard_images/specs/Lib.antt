@@ -1,3 +1,3 @@
 pub mod Hearing
-pub mod Own
-pub mod Placed
+pub mod Signed
+pub mod Walks

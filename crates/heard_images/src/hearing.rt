@@ -60,7 +60,9 @@ fn hear_each<V: Scheme>(
     ensures heard { IfOk result (λ b. b ≡ true → pool.new.pool ≡ with_more pool.old.pool claims.now) }
 {
     for kept in claims {
-        if !hear_one(judge, own, pool, &kept.claim())? {
+        let claim = kept.claim();
+        let is_new = hear_one(judge, own, pool, &claim)?;
+        if !is_new {
             return Ok(false);
         }
     }
@@ -84,9 +86,6 @@ pub fn hear_list<V: Scheme>(
         → IfOk result (λ r. IsTrue (is_some r) ↔ AreHeard s p) }
 {
     let mut pool = Pool::new(alloc, view)?;
-    if hear_each(judge, own, &mut pool, claims)? {
-        Ok(Some(pool))
-    } else {
-        Ok(None)
-    }
+    let are_new = hear_each(judge, own, &mut pool, claims)?;
+    if are_new { Ok(Some(pool)) } else { Ok(None) }
 }

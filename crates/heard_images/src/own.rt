@@ -6,7 +6,7 @@ ghost use Rattle.group_defs.specs.Certified.{heard_on};
 ghost use Rattle.stmt_codec.specs.Views.{stmt};
 ghost use Rattle.own_place.specs.Signed.{has_slot};
 ghost use Rattle.own_place.specs.Words.{slot_key};
-ghost use Rattle.heard_images.specs.Own as tests;
+ghost use Rattle.heard_images.specs.Signed as tests;
 
 use own_place::SignedSlots;
 use pool_questions::Pool;
@@ -87,7 +87,9 @@ fn are_others(alloc: Global, signed: &[KeptClaim]) -> Result<bool, NoMemory>
 {
     let mut slots = SignedSlots::new(alloc);
     for kept in signed {
-        if !note(&mut slots, &kept.claim().statement)? {
+        let claim = kept.claim();
+        let is_new = note(&mut slots, &claim.statement)?;
+        if !is_new {
             return Ok(false);
         }
     }

@@ -7,7 +7,7 @@ ghost use Rattle.group_defs.specs.Certified.{payload_at, place_at};
 ghost use Rattle.group_defs.specs.Accounts.{StandsByPlace, batch_at};
 ghost use Rattle.stmt_codec.specs.Batches.{message_of};
 ghost use Rattle.snapshot_rp.specs.Views.{delivered as plain};
-ghost use Rattle.heard_images.specs.Placed as tests;
+ghost use Rattle.heard_images.specs.Walks as tests;
 
 use pool_questions::{Pool, certified_batch, certified_payload};
 use rp_base::Pid;
@@ -62,12 +62,11 @@ fn after_places<'a>(pool: &Pool, delivered: &'a [Delivered], places: u16) -> Opt
     Some(left)
 }
 
-/// Whether at each place of these the pool certifies the batch that was delivered there. So many places were delivered, in the order of
-/// places.
+/// Whether at each place where messages were delivered the pool certifies their batch. The deliveries are in the order of places, of which
+/// there are so many.
 pub fn are_placed(pool: &Pool, delivered: &[Delivered], places: u16) -> bool
-    requires by_place { StandsByPlace (map plain delivered.now) }
-    requires places { places ≡ places_in (map plain delivered.now) }
-    ensures { IsTrue result ↔ ((k : ℕ) → k < places_in (map plain delivered.now)
+    ensures { StandsByPlace (map plain delivered.now) → places ≡ places_in (map plain delivered.now)
+        → IsTrue result ↔ ((k : ℕ) → k < places_in (map plain delivered.now)
         → place_at pool.now.pool k ≡ Some (batch_at k (map plain delivered.now))) }
 {
     match after_places(pool, delivered, places) {

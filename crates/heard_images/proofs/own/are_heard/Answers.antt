@@ -1,4 +1,4 @@
-use Rattle.heard_images.proofs.Own.{heard-is}
+use Rattle.heard_images.proofs.Said.{heard-is}
 use Rattle.heard_images.proofs.own.are_heard.Goals as goal
 
 pub returns : goal.returns

@@ -1,5 +1,5 @@
 use Rattle.std.proofs.Common.{◌≡◌, [], drop}
-use Rattle.heard_images.specs.Own.{are_others}
+use Rattle.heard_images.specs.Signed.{are_others}
 use Rattle.heard_images.proofs.own.are_others.Given as goal
 
 abbrev pub invariant-loop-kept : goal.invariant-loop-kept

@@ -1,6 +1,6 @@
 use Rattle.std.proofs.Common.{◌≡◌, ◌-◌, map}
 use Rattle.snapshot_rp.specs.Views.{delivered}
-use Rattle.heard_images.specs.Placed.{after_places}
+use Rattle.heard_images.specs.Walks.{after_places}
 use Rattle.heard_images.proofs.placed.after_places.Given as goal
 
 abbrev pub invariant-places : goal.invariant-places

@@ -1,8 +1,8 @@
 use Rattle.std.proofs.Common.{sym, ◌∙◌}
 use Rattle.std.proofs.lemmas.List.Folds.{list_all-map}
 use Rattle.snapshot_rp.specs.Views.{delivered}
-use Rattle.heard_images.specs.Placed.{is_paid}
-use Rattle.heard_images.proofs.Placed.{paid-is}
+use Rattle.heard_images.specs.Walks.{is_paid}
+use Rattle.heard_images.proofs.Walks.{paid-is}
 use Rattle.heard_images.proofs.placed.are_paid.Goals as goal
 
 pub returns : goal.returns

@@ -13,7 +13,7 @@ use Rattle.group_defs.specs.Certified.{payload_at, place_at}
 use Rattle.group_defs.specs.Accounts.{StandsByPlace, at_place, batch_at}
 use Rattle.pool_laws.proofs.Members.{Mem, append-mem, filter-mem, tested-all, all-tested}
 use Rattle.pool_laws.proofs.Tests.{and-first, and-second, both-true, is-yes, some-and, some-same, yes-is}
-use Rattle.heard_images.specs.Placed.{is_delivered, after_batch, after_place, after_places, is_paid}
+use Rattle.heard_images.specs.Walks.{is_delivered, after_batch, after_place, after_places, is_paid}
 
 -- ---- one place
 

@@ -8,7 +8,7 @@ use Rattle.group_defs.specs.Process.{Pool}
 use Rattle.group_defs.specs.Certified.{heard_on}
 use Rattle.pool_laws.proofs.Members.{tested-all, all-tested}
 use Rattle.pool_laws.proofs.Tests.{implied, implies}
-use Rattle.heard_images.specs.Own.{is_heard}
+use Rattle.heard_images.specs.Signed.{is_heard}
 
 pub some-mapped : {A B : Type 0} (f : A → B) (o : Option A) → is_some (option_map f o) ≡ is_some o
 some-mapped f None = refl
