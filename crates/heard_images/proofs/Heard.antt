@@ -151,9 +151,9 @@ module _ (s : Setting) (p : Process) where
               (λ t. (let lt = ltb-true p.pool.view.number (view_of c.statement) t in (let is = fits.of_view in omega (arith, lt, is))));
           not_strange = fits.known;
           not_beyond = beyond-same h c.signer c.statement ∙ fits.within;
-          not_known = ap (λ (o : Option Claim). is_some_and (option_map (λ c. c.statement) o) (same_statement c.statement)) none;
+          not_known = ap (λ (o : Option Claim). is_some_and (option_map (λ (c : Claim). c.statement) o) (same_statement c.statement)) none;
           signed = ap not fits.valid;
-          alone = ap (λ (o : Option Claim). is_some (option_map (λ c. c.statement) o)) none;
+          alone = ap (λ (o : Option Claim). is_some (option_map (λ (c : Claim). c.statement) o)) none;
         })
 
   -- each fits, none is apart from none that was heard before, and none from another
@@ -203,18 +203,18 @@ module _ (s : Setting) (p : Process) where
   new-is = (
     λ new. (let facts = new-facts [] p.pool.heard new in
         record {
-          view = mem-All (λ c. view_of c.statement ≡ p.pool.view.number) p.pool.heard (λ c m. (facts.each c m).of_view);
-          known = mem-All (λ c. IsFalse (is_strange p c)) p.pool.heard (λ c m. (facts.each c m).known);
-          within = mem-All (λ c. IsFalse (is_beyond p c.signer c.statement)) p.pool.heard (λ c m. (facts.each c m).within);
-          valid = mem-All (λ c. IsTrue (is_valid s c)) p.pool.heard (λ c m. (facts.each c m).valid);
+          view = mem-All (λ (c : Claim). view_of c.statement ≡ p.pool.view.number) p.pool.heard (λ c m. (facts.each c m).of_view);
+          known = mem-All (λ (c : Claim). IsFalse (is_strange p c)) p.pool.heard (λ c m. (facts.each c m).known);
+          within = mem-All (λ (c : Claim). IsFalse (is_beyond p c.signer c.statement)) p.pool.heard (λ c m. (facts.each c m).within);
+          valid = mem-All (λ (c : Claim). IsTrue (is_valid s c)) p.pool.heard (λ c m. (facts.each c m).valid);
           once = facts.once;
         }),
     λ are. facts-new [] p.pool.heard (record {
       each = λ c m. record {
-        of_view = All-mem (λ c. view_of c.statement ≡ p.pool.view.number) p.pool.heard c are.view m;
-        known = All-mem (λ c. IsFalse (is_strange p c)) p.pool.heard c are.known m;
-        within = All-mem (λ c. IsFalse (is_beyond p c.signer c.statement)) p.pool.heard c are.within m;
-        valid = All-mem (λ c. IsTrue (is_valid s c)) p.pool.heard c are.valid m;
+        of_view = All-mem (λ (c : Claim). view_of c.statement ≡ p.pool.view.number) p.pool.heard c are.view m;
+        known = All-mem (λ (c : Claim). IsFalse (is_strange p c)) p.pool.heard c are.known m;
+        within = All-mem (λ (c : Claim). IsFalse (is_beyond p c.signer c.statement)) p.pool.heard c are.within m;
+        valid = All-mem (λ (c : Claim). IsTrue (is_valid s c)) p.pool.heard c are.valid m;
       };
       apart = λ d c m there. absurd m;
       once = are.once;
