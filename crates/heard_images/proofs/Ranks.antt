@@ -10,7 +10,7 @@ use Rattle.group_defs.specs.Certified.{certified_on, is_certified, backers, says
 use Rattle.pool_laws.proofs.Grown.{is-certified, one_certified}
 use Rattle.pool_laws.proofs.Heard.{certified_on-is, heard-says}
 use Rattle.pool_laws.proofs.Members.{Mem, filter-mem, mem-map, some-mem}
-use Rattle.pool_laws.proofs.Tests.{none-some}
+use Rattle.pool_laws.proofs.Tests.{none-some, some-same}
 
 module _ (h : Pool) (some : 1 ≤ number_of_members h) where
   -- what is certified is what is found on its slot
@@ -54,3 +54,12 @@ module _ (h : Pool) (some : 1 ≤ number_of_members h) where
 
     pub none-ready : certified_on h (ReadyAt h.view.number rank) ≡ None → IsTrue false ↔ IsTrue (is_certified h ready)
     none-ready none = (λ no_way. absurd cc, λ certified. absurd (none-some none (certified-found ready certified)))
+
+-- ---- of a decision
+
+pub decided-some : (P : ℕ × Value → Type 0) (d : ℕ × Value) (b : Bool) → (IsTrue b ↔ P d)
+    → IsTrue b ↔ ((e : ℕ × Value) → Some d ≡ Some e → P e)
+decided-some P d b so = (λ ok e same. subst P (some-same d e same) (so.0 ok), λ all. so.1 (all d refl))
+
+pub decided-none : (P : ℕ × Value → Type 0) → IsTrue true ↔ ((e : ℕ × Value) → None ≡ Some e → P e)
+decided-none P = (λ ok e no_way. absurd cc, λ all. refl)

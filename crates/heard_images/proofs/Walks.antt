@@ -1,8 +1,8 @@
 -- What the walk over places says: at each place the batch that is certified was delivered.
-use Rattle.std.proofs.Common.{◌≡◌, ℕ, zero, suc, ◌+◌, ◌-◌, ◌<◌, ◌≤◌, List, [], ◌∷◌, ◌++◌, map, Bool, true, false, Option, Some, None, refl, sym, ap, subst, ◌∙◌, inl, inr, arith}
-use Rattle.std.specs.Prelude.{◌↔◌, ◌&&◌, ◌==◌, if◌then◌else◌, option_and_then, All, IsTrue}
+use Rattle.std.proofs.Common.{◌≡◌, ℕ, zero, suc, ◌+◌, ◌-◌, ◌<◌, ◌≤◌, List, [], ◌∷◌, ◌++◌, length, map, Bool, true, false, Option, Some, None, refl, sym, ap, subst, ◌∙◌, inl, inr, arith}
+use Rattle.std.specs.Prelude.{◌↔◌, ◌&&◌, ◌==◌, nat_lt, if◌then◌else◌, option_and_then, All, IsTrue}
 use Rattle.std.specs.List.{flat_map, list_all, range_with_len}
-use Rattle.std.proofs.lemmas.Bool.{eqb-true, eq-eqb}
+use Rattle.std.proofs.lemmas.Bool.{eqb-true, eq-eqb, ltb-true, ltb-false}
 use Rattle.std.proofs.lemmas.List.{append-nil}
 use Rattle.std.proofs.lemmas.List.Elements.{filter-append}
 use Rattle.byte_defs.specs.Choices.{is_some_and}
@@ -12,7 +12,7 @@ use Rattle.group_defs.specs.Process.{Pool, Delivered, places_in}
 use Rattle.group_defs.specs.Certified.{payload_at, place_at}
 use Rattle.group_defs.specs.Accounts.{StandsByPlace, at_place, batch_at}
 use Rattle.pool_laws.proofs.Members.{Mem, append-mem, filter-mem, tested-all, all-tested}
-use Rattle.pool_laws.proofs.Tests.{and-first, and-second, both-true, is-yes, some-and, some-same, yes-is}
+use Rattle.pool_laws.proofs.Tests.{and-first, and-second, both-true, is-yes, none-some, some-and, some-same, yes-is}
 use Rattle.heard_images.specs.Walks.{is_delivered, after_batch, after_place, after_places, is_paid}
 
 -- ---- one place
@@ -48,7 +48,8 @@ begins k [] ds rest e = record { first = []; is = some-same ds rest e; says = re
 begins k (m ∷ ms) [] rest e = absurd cc
 begins k (m ∷ ms) (d ∷ ds) rest e = go (is_delivered k m d) refl e
   where
-    go : (b : Bool) → is_delivered k m d ≡ b → (if b then after_batch k ms ds else None) ≡ Some rest → Begins k (m ∷ ms) (d ∷ ds) rest
+    go : (b : Bool) → is_delivered k m d ≡ b → option_and_then (after_batch k ms) (if b then Some ds else None) ≡ Some rest
+        → Begins k (m ∷ ms) (d ∷ ds) rest
     go false is e = absurd cc
     go true is e =
         let tail = begins k ms ds rest e in
@@ -68,7 +69,7 @@ after-own : (k : ℕ) (xs rest : List Delivered) → ((d : Delivered) → Mem d 
     → after_batch k (messages xs) (xs ++ rest) ≡ Some rest
 after-own k [] rest all = refl
 after-own k (d ∷ xs) rest all =
-    ap (λ (b : Bool). if b then after_batch k (messages xs) (xs ++ rest) else None)
+    ap (λ (b : Bool). option_and_then (after_batch k (messages xs)) (if b then Some (xs ++ rest) else None))
     (both-true (d.place == k) (d.message.sender == d.message.sender && d.message.number == d.message.number) (all d (inl refl))
     (both-true (d.message.sender == d.message.sender) (d.message.number == d.message.number)
     (eq-eqb d.message.sender d.message.sender refl) (eq-eqb d.message.number d.message.number refl)))
@@ -116,7 +117,11 @@ module _ (h : Pool) where
           other e f = cc
 
           above : (j ≡ k → ⊥) → k ≤ j → k < j
-          above apart le = omega (arith, apart, le)
+          above apart le = go (nat_lt k j) refl
+            where
+              go : (t : Bool) → nat_lt k j ≡ t → k < j
+              go true e = ltb-true k j e
+              go false e = let ge = ltb-false k j e in absurd (apart (omega (arith, le, ge)))
 
   walk-placed : (more k : ℕ) (ds : List Delivered) → after_places h more k ds ≡ Some [] → Placed more k ds
   walk-placed zero k ds e =
@@ -156,6 +161,25 @@ module _ (h : Pool) where
         (placed-walk ds (places_in ds) 0 (λ j ge lt. placed j (omega (arith, lt)))),
   )
 
+  map-none : {X : Type 0} (f : X → Delivered) (left : List X) → map f left ≡ [] → left ≡ []
+  map-none f [] e = refl
+  map-none f (x ∷ xs) e = absurd cc
+
+  module _ (ds : List Delivered) (by : StandsByPlace ds) (n : ℕ) (many : n ≡ places_in ds) where
+    pub left-is : {X : Type 0} (f : X → Delivered) (left : List X) (b : Bool) → Some (map f left) ≡ after_places h n 0 ds
+        → (b ≡ true → left ≡ []) → (left ≡ [] → b ≡ true) → IsTrue b ↔ IsPlaced ds
+    left-is f left b at there back = (
+      λ ok. (walk-is ds by).0 (ap (λ k. after_places h k 0 ds) (sym many) ∙ sym at ∙ ap Some (ap (map f) (there ok))),
+      λ placed. back (map-none f left (some-same (map f left) []
+          (at ∙ ap (λ k. after_places h k 0 ds) many ∙ (walk-is ds by).1 placed))),
+    )
+
+    pub none-left : None ≡ after_places h n 0 ds → IsTrue false ↔ IsPlaced ds
+    none-left at = (
+      λ no_way. absurd cc,
+      λ placed. absurd (none-some (sym at) (ap (λ k. after_places h k 0 ds) many ∙ (walk-is ds by).1 placed)),
+    )
+
   -- ---- payloads
 
   paid-so : (d : Delivered) → is_paid h d ≡ true → payload_at h d.message ≡ Some d.payload
@@ -173,3 +197,11 @@ module _ (h : Pool) where
     λ ok. tested-all (is_paid h) (λ (d : Delivered). payload_at h d.message ≡ Some d.payload) (map f xs) paid-so (sym is ∙ ok),
     λ all. is ∙ all-tested (is_paid h) (λ (d : Delivered). payload_at h d.message ≡ Some d.payload) (map f xs) so-paid all,
   )
+
+-- a list without elements has length 0
+pub empty-so : {X : Type 0} (xs : List X) (b : Bool) → b ≡ (length xs == 0) → b ≡ true → xs ≡ []
+empty-so [] b is ok = refl
+empty-so (x ∷ xs) b is ok = let none : suc (length xs) ≡ 0 = eqb-true (suc (length xs)) 0 (sym is ∙ ok) in absurd (omega (arith, none))
+
+pub so-empty : {X : Type 0} (xs : List X) (b : Bool) → b ≡ (length xs == 0) → xs ≡ [] → b ≡ true
+so-empty xs b is none = is ∙ ap (λ ys. length ys == 0) none

@@ -10,11 +10,15 @@ use Rattle.group_defs.specs.Certified.{payload_at, place_at}
 abbrev pub is_delivered : ℕ → Message → Delivered → Bool
 is_delivered k m d = d.place == k && (d.message.sender == m.sender && d.message.number == m.number)
 
--- the first of these deliveries are the messages of the batch, in order, at place k: what is left after them
+-- the first of these deliveries is the message, at place k: what is left after it
+abbrev pub after_message : ℕ → Message → List Delivered → Option (List Delivered)
+after_message k m [] = None
+after_message k m (d ∷ ds) = if is_delivered k m d then Some ds else None
+
+-- and so for the messages of a batch, in order
 abbrev pub after_batch : ℕ → Batch → List Delivered → Option (List Delivered)
 after_batch k [] ds = Some ds
-after_batch k (m ∷ ms) [] = None
-after_batch k (m ∷ ms) (d ∷ ds) = if is_delivered k m d then after_batch k ms ds else None
+after_batch k (m ∷ ms) ds = option_and_then (after_batch k ms) (after_message k m ds)
 
 -- and so for the batch that is certified of the place
 abbrev pub after_place : Pool → ℕ → List Delivered → Option (List Delivered)

@@ -14,8 +14,9 @@ use stmt_codec::{Slot, Statement, conflicts};
 fn is_certified(pool: &Pool, rank: u8, value: Value) -> bool
     ensures { IsTrue result ↔ IsTrue (defs.is_certified pool.now.pool (Ready pool.now.pool.view.number rank (value_of value))) }
 {
-    let _members = pool.view().members();
-    let view = pool.view().number();
+    let current = pool.view();
+    let _members = current.members();
+    let view = current.number();
     let ready = Statement::Ready { view, rank, value };
     match pool.certified::<Commit>(Slot::Rank { view, rank }) {
         Some(found) => !conflicts(&found, &ready),

@@ -20,8 +20,22 @@ fn is_delivered(d: &Delivered, place: u16, message: &(Pid, u16)) -> bool
     d.place == place && d.sender == message.0 && d.number == message.1
 }
 
-// What is left of the deliveries after those of the place; None exactly where the first of them are not these messages, in order.
-fn after_batch<'a>(
+// What is left of the deliveries after the first; None exactly where that is not this message, at this place.
+fn after_message<'a>(
+    delivered: &'a [Delivered],
+    place: u16,
+    message: &(Pid, u16),
+) -> Option<&'a [Delivered]>
+    ensures { option_map (λ l. map plain l.now) result ≡ tests.after_message place (message_of message.now) (map plain delivered.now) }
+{
+    match delivered.split_first() {
+        Some((first, rest)) if is_delivered(first, place, message) => Some(rest),
+        _ => None,
+    }
+}
+
+// What is left of them after these messages; None exactly where the first of them are not these, in order, at this place.
+fn after_messages<'a>(
     delivered: &'a [Delivered],
     place: u16,
     messages: &[(Pid, u16)],
@@ -30,9 +44,9 @@ fn after_batch<'a>(
 {
     let mut left = delivered;
     for message in messages {
-        match left.split_first() {
-            Some((first, rest)) if is_delivered(first, place, message) => left = rest,
-            _ => return None,
+        match after_message(left, place, message) {
+            Some(rest) => left = rest,
+            None => return None,
         }
     }
     Some(left)
@@ -43,7 +57,7 @@ fn after_place<'a>(pool: &Pool, delivered: &'a [Delivered], place: u16) -> Optio
     ensures { option_map (λ l. map plain l.now) result ≡ tests.after_place pool.now.pool place (map plain delivered.now) }
 {
     match certified_batch(pool, place) {
-        Some(batch) => after_batch(delivered, place, batch.messages()),
+        Some(batch) => after_messages(delivered, place, batch.messages()),
         None => None,
     }
 }
