@@ -46,13 +46,13 @@ record Begins (k : ℕ) (b : Batch) (ds rest : List Delivered) : Type 0 where
 begins : (k : ℕ) (b : Batch) (ds rest : List Delivered) → after_batch k b ds ≡ Some rest → Begins k b ds rest
 begins k [] ds rest e = record { first = []; is = some-same ds rest e; says = refl; there = λ d m. absurd m }
 begins k (m ∷ ms) [] rest e = absurd cc
-begins k (m ∷ ms) (d ∷ ds) rest e = go (is_delivered k m d) refl e
+begins k (m ∷ ms) (d ∷ ds) rest e = go (is_delivered k m d) refl e (begins k ms ds rest)
   where
     go : (b : Bool) → is_delivered k m d ≡ b → option_and_then (after_batch k ms) (if b then Some ds else None) ≡ Some rest
-        → Begins k (m ∷ ms) (d ∷ ds) rest
-    go false is e = absurd cc
-    go true is e =
-        let tail = begins k ms ds rest e in
+        → (after_batch k ms ds ≡ Some rest → Begins k ms ds rest) → Begins k (m ∷ ms) (d ∷ ds) rest
+    go false is e others = absurd cc
+    go true is e others =
+        let tail = others e in
         let both = and-second (d.place == k) (d.message.sender == m.sender && d.message.number == m.number) is in
         let sender : d.message.sender ≡ m.sender = eqb-true _ _ (and-first (d.message.sender == m.sender) (d.message.number == m.number) both) in
         let number : d.message.number ≡ m.number = eqb-true _ _ (and-second (d.message.sender == m.sender) (d.message.number == m.number) both)
@@ -127,17 +127,19 @@ module _ (h : Pool) where
   walk-placed zero k ds e =
       let none : ds ≡ [] = some-same ds [] e in
       record { from = λ d m. absurd (subst (Mem d) none m); each = λ j ge lt. absurd (omega (arith, ge, lt)) }
-  walk-placed (suc more) k ds e = go (place_at h k) refl e
+  walk-placed (suc more) k ds e = go (place_at h k) refl e (walk-placed more (k + 1))
     where
       after : (b : Batch) → place_at h k ≡ Some b → (o : Option (List Delivered)) → after_batch k b ds ≡ o
-          → option_and_then (after_places h more (k + 1)) o ≡ Some [] → Placed (suc more) k ds
-      after b at None is e = absurd cc
-      after b at (Some rest) is e = one-placed more k b ds rest at (begins k b ds rest is) (walk-placed more (k + 1) rest e)
+          → option_and_then (after_places h more (k + 1)) o ≡ Some []
+          → ((rest : List Delivered) → after_places h more (k + 1) rest ≡ Some [] → Placed more (k + 1) rest) → Placed (suc more) k ds
+      after b at None is e others = absurd cc
+      after b at (Some rest) is e others = one-placed more k b ds rest at (begins k b ds rest is) (others rest e)
 
       go : (o : Option Batch) → place_at h k ≡ o
-          → option_and_then (after_places h more (k + 1)) (option_and_then (λ b. after_batch k b ds) o) ≡ Some [] → Placed (suc more) k ds
-      go None at e = absurd cc
-      go (Some b) at e = after b at (after_batch k b ds) refl e
+          → option_and_then (after_places h more (k + 1)) (option_and_then (λ b. after_batch k b ds) o) ≡ Some []
+          → ((rest : List Delivered) → after_places h more (k + 1) rest ≡ Some [] → Placed more (k + 1) rest) → Placed (suc more) k ds
+      go None at e others = absurd cc
+      go (Some b) at e others = after b at (after_batch k b ds) refl e others
 
   placed-walk : (ds : List Delivered) (more k : ℕ) → ((j : ℕ) → k ≤ j → j < k + more → place_at h j ≡ Some (batch_at j ds))
       → after_places h more k (flat_map (λ j. at_place j ds) (range_with_len k more)) ≡ Some []

@@ -1,5 +1,5 @@
 //! A list of claims, heard one after the other.
-ghost use Rattle.std.specs.Prelude.{◌≡◌, ◌↔◌, ◌≤◌, true, [], length, is_some, IfOk, IfSome, IsTrue};
+ghost use Rattle.std.specs.Prelude.{◌≡◌, ◌↔◌, true, [], ◌∷◌, length, is_some, IfOk, IfSome, IsTrue};
 ghost use Rattle.message_defs.specs.Spelling.{IsClaim};
 ghost use Rattle.group_defs.specs.Process.{Setting, Process};
 ghost use Rattle.group_defs.specs.Certified.{number_of_members};
