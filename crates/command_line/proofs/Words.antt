@@ -3,11 +3,6 @@ use Rattle.std.proofs.Common.{◌≡◌, ◌<◌, ◌≤◌, List, [], ◌∷◌
 use Rattle.std.specs.Prelude.{String, string_bytes}
 use Rattle.command_line.specs.Reading.{command_of}
 
--- none is empty
-pub no_words : (words : List (String Global)) → length words < 1 → command_of (map string_bytes words) ≡ None
-no_words [] none = refl
-no_words (_ ∷ more) none = absurd (omega arith)
-
 -- none has three or four
 pub few_words : (words : List (String Global)) → 3 ≤ length words → length words < 5 → command_of (map string_bytes words) ≡ None
 few_words [] some few = absurd (omega arith)

@@ -68,12 +68,16 @@ fn of_five_words<'a>(
     }
 }
 
+// Each number of words up to five has an arm: where two join, what is known of the number is lost.
 fn of_words(words: &[String]) -> Option<Command<'_>>
     ensures { option_map views.command result ≡ command_of (map string_bytes words.now) }
 {
     match words {
+        [] => None,
         [word] => of_one_word(word.as_bytes()),
         [word, further] => of_two_words(word.as_bytes(), further.as_str()),
+        [_, _, _] => None,
+        [_, _, _, _] => None,
         [word, members, roster, keys, seed] => of_five_words(
             word.as_bytes(),
             members.as_bytes(),
