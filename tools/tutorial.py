@@ -53,7 +53,7 @@ def run():
             if what == "file":
                 (pathlib.Path(folder) / name).write_text(text)
                 continue
-            done = subprocess.run(["bash", "-c", name], cwd=folder, capture_output=True, text=True, check=False)
+            done = subprocess.run(["bash", "-c", name], cwd=folder, capture_output=True, text=True, check=False, timeout=600)
             told = "".join(line + "\n" for line in done.stderr.splitlines() if not re.match(r"(story|rampart): ", line))
             if done.stdout + told != text:
                 differ += 1
@@ -77,7 +77,7 @@ def write():
             replays.append((words.group(3), text))
         elif words and words.group(2) == "run":
             runs.append((words.group(3), text))
-        elif name.startswith("echo "):
+        elif name.endswith("| ./story assemble"):
             faults.append((re.match(r"echo '(.*)' \| \./story assemble$", name).group(1) + "\n", text))
     out = ["//! The stories of docs/TUTORIAL.md, and what it shows of them; written by tools/tutorial.py.", ""]
     for name, text in stories.items():

@@ -10,7 +10,7 @@ use Rattle.text_defs.proofs.Bytes.{bytes_found, bytes_spelled}
 use Rattle.text_defs.proofs.Choosing.{if_some, map_some, some_is, then_some}
 use Rattle.text_defs.proofs.Numbers.{number_within_found, number_within_spelled}
 use Rattle.text_defs.proofs.Tests.{word_is, and_true}
-use Rattle.command_line.specs.Commands.{Asks, Command, Replay, Chain, Gen, Keygen, IsOrder, KitOrder, plan_word}
+use Rattle.command_line.specs.Commands.{Asks, Command, Replay, Chain, Gen, Keygen, Node, IsOrder, KitOrder, plan_word}
 use Rattle.command_line.specs.Laws.{CommandIsSpelled}
 use Rattle.command_line.specs.Reading.{command_of, order_of, plan_of}
 use Rattle.command_line.proofs.Plans.{plan_found, plan_spelled}
@@ -74,16 +74,25 @@ command_found (word ∷ further ∷ []) c e = of_gen (same_bytes word (codes "ge
         subst (Asks (word ∷ further ∷ [])) (some_is (Replay true) c tested.1)
         (record { fits = tt; spelled = λ i. word_is word (codes "replay") both.0 i ∷ word_is further (codes "short") both.1 i ∷ [] })
 
-    of_gen : (is_gen : Bool) → same_bytes word (codes "gen") ≡ is_gen
-        → (if is_gen then option_map Gen (number_within 0 (2 ^ 32 - 1) further)
+    of_node : (is_node : Bool) → same_bytes word (codes "node") ≡ is_node
+        → (if is_node then Some (Node further)
         else (if same_bytes word (codes "replay") && same_bytes further (codes "short") then Some (Replay true) else None)) ≡ Some c
+        → Asks (word ∷ further ∷ []) c
+    of_node true is e = subst (Asks (word ∷ further ∷ [])) (some_is (Node further) c e)
+        (record { fits = tt; spelled = λ i. word_is word (codes "node") is i ∷ further ∷ [] })
+    of_node false is e = of_short e
+
+    of_gen : (is_gen : Bool) → same_bytes word (codes "gen") ≡ is_gen
+        → (if is_gen then option_map Gen (number_within 0 (2 ^ 32 - 1) further) else
+        (if same_bytes word (codes "node") then Some (Node further) else
+        (if same_bytes word (codes "replay") && same_bytes further (codes "short") then Some (Replay true) else None))) ≡ Some c
         → Asks (word ∷ further ∷ []) c
     of_gen true is e =
         let read = map_some Gen (number_within 0 (2 ^ 32 - 1) further) c e in
         let n = number_within_found 0 (2 ^ 32 - 1) further read.0 read.1 in
         let fits : read.0 < 2 ^ 32 = omega (arith, n.2) in
         subst (Asks (word ∷ further ∷ [])) read.2 (record { fits = fits; spelled = λ i. word_is word (codes "gen") is i ∷ n.0 i ∷ [] })
-    of_gen false is e = of_short e
+    of_gen false is e = of_node (same_bytes word (codes "node")) refl e
 command_found (word ∷ members ∷ roster ∷ keys ∷ seed ∷ []) c e =
     let tested = if_some (same_bytes word (codes "keygen")) (option_map Keygen (order_of members roster keys seed)) c e in
     let read = map_some Keygen (order_of members roster keys seed) c tested.1 in
@@ -100,6 +109,7 @@ command_spelled (Gen number) words asks =
     let fits : number < 2 ^ 32 = asks.fits in
     ap command_of asks.spelled ∙ ap (option_map Gen) (number_within_spelled 0 (2 ^ 32 - 1) number (omega arith) (omega arith) (omega arith))
 command_spelled (Keygen order) words asks = ap command_of asks.spelled ∙ ap (option_map Keygen) (order_spelled order asks.fits)
+command_spelled (Node file) words asks = ap command_of asks.spelled
 
 pub command_is_spelled : CommandIsSpelled
 command_is_spelled words c = (command_found words c, command_spelled c words)

@@ -6,6 +6,7 @@
 --   keygen N R KEYS SEED      a new kit: N members, 1 to 16, of R processes, N to 64; KEYS is plain:T, lms:H:W with the
 --                             typecodes of height, 5 to 7, and one-time parameter set, 1 to 4, or hss:L:H:W with L levels of such
 --                             trees, where they are built; SEED is 32 bytes in hexadecimal
+--   node FILE                 the kit and the script that are read run a node, whose journal is the file of this name; any word is one
 use Rattle.std.specs.Prelude.{◌≡◌, ℕ, Bool, true, false, ◌^◌, ◌<◌, ◌≤◌, List, [], ◌∷◌, ◌++◌, codes}
 use Rattle.std.specs.Fmt.{decimal}
 use Rattle.hex.specs.Hex.{encode_lower}
@@ -31,6 +32,8 @@ pub data Command : Type 0 where
   Chain : Command
   Gen : (number : ℕ) → Command
   Keygen : (order : KitOrder) → Command
+  -- a node, whose journal is the file of this name
+  Node : (file : List ℕ) → Command
 
 -- ---- the words
 
@@ -52,6 +55,7 @@ command_words Chain = codes "chain" ∷ []
 command_words (Gen number) = codes "gen" ∷ decimal number ∷ []
 command_words (Keygen order) = codes "keygen" ∷ decimal order.members ∷ decimal order.roster ∷ plan_word order.keys
     ∷ encode_lower order.seed ∷ []
+command_words (Node file) = codes "node" ∷ file ∷ []
 
 -- ---- the ranges
 
@@ -71,6 +75,7 @@ IsCommand (Replay short) = Unit {0}
 IsCommand Chain = Unit {0}
 IsCommand (Gen number) = number < 2 ^ 32
 IsCommand (Keygen order) = IsOrder order
+IsCommand (Node file) = Unit {0}
 
 -- the words are those of the command
 pub record Asks (words : List (List ℕ)) (command : Command) : Type 0 where

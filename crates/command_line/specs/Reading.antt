@@ -9,7 +9,7 @@ use Rattle.signature_defs.specs.Secrets.{levels_are_built}
 use Rattle.kit_defs.specs.declared.KeyPlan.{KeyPlan}
 use Rattle.kit_defs.specs.declared.KeyPlan.TheVariants.{Plain, Lms, Hss}
 use Rattle.text_defs.specs.Words.{number_within, bytes_of}
-use Rattle.command_line.specs.Commands.{KitOrder, Command, Replay, Chain, Gen, Keygen}
+use Rattle.command_line.specs.Commands.{KitOrder, Command, Replay, Chain, Gen, Keygen, Node}
 
 -- what stands behind this front
 abbrev pub behind : List ℕ → List ℕ → Option (List ℕ)
@@ -58,7 +58,8 @@ command_of (word ∷ []) =
     (if same_bytes word (codes "chain") then Some Chain else None)
 command_of (word ∷ further ∷ []) =
     if same_bytes word (codes "gen") then option_map Gen (number_within 0 (2 ^ 32 - 1) further) else
-    (if same_bytes word (codes "replay") && same_bytes further (codes "short") then Some (Replay true) else None)
+    (if same_bytes word (codes "node") then Some (Node further) else
+    (if same_bytes word (codes "replay") && same_bytes further (codes "short") then Some (Replay true) else None))
 command_of (word ∷ members ∷ roster ∷ keys ∷ seed ∷ []) = if same_bytes word (codes "keygen")
     then option_map Keygen (order_of members roster keys seed) else None
 command_of _ = None

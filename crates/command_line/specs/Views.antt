@@ -1,7 +1,7 @@
 -- Commands of the code, as plain data.
 use Rattle.command_line.specs.Commands as plain
 use Rattle.command_line.specs.declared.commands.Command.{Command}
-use Rattle.command_line.specs.declared.commands.Command.TheVariants.{Replay, Chain, Gen, Keygen}
+use Rattle.command_line.specs.declared.commands.Command.TheVariants.{Replay, Chain, Gen, Keygen, Node}
 use Rattle.command_line.specs.declared.orders.KitOrder.{KitOrder}
 
 abbrev pub order : KitOrder → plain.KitOrder
@@ -12,3 +12,4 @@ command (Replay short) = plain.Replay short
 command Chain = plain.Chain
 command (Gen number) = plain.Gen number
 command (Keygen o) = plain.Keygen (order o)
+command (Node file) = plain.Node file.now

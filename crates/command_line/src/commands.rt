@@ -9,7 +9,7 @@ use text_codec::number;
 
 /// What the program is to do. Its `Debug` does not show the seed of an order.
 #[derive(Clone, Copy, Debug, PartialEq, Eq)]
-pub enum Command {
+pub enum Command<'a> {
     /// Read a schedule, and write its report: all that it tells, or the short one.
     Replay { short: bool },
 
@@ -21,9 +21,12 @@ pub enum Command {
 
     /// Write a new kit.
     Keygen(KitOrder),
+
+    /// Read a kit and a script, and run a node whose journal is the file of this name.
+    Node(&'a str),
 }
 
-fn of_one_word(word: &[u8]) -> Option<Command>
+fn of_one_word(word: &[u8]) -> Option<Command<'_>>
     ensures { option_map views.command result ≡ command_of (word.now ∷ []) }
 {
     if word == b"replay".as_slice() {
@@ -35,25 +38,27 @@ fn of_one_word(word: &[u8]) -> Option<Command>
     }
 }
 
-fn of_two_words(word: &[u8], further: &[u8]) -> Option<Command>
+fn of_two_words<'a>(word: &[u8], further: &'a str) -> Option<Command<'a>>
     ensures { option_map views.command result ≡ command_of (word.now ∷ further.now ∷ []) }
 {
     if word == b"gen".as_slice() {
-        Some(Command::Gen(number(further, 0, u32::MAX)?))
-    } else if word == b"replay".as_slice() && further == b"short".as_slice() {
+        Some(Command::Gen(number(further.as_bytes(), 0, u32::MAX)?))
+    } else if word == b"node".as_slice() {
+        Some(Command::Node(further))
+    } else if word == b"replay".as_slice() && further == "short" {
         Some(Command::Replay { short: true })
     } else {
         None
     }
 }
 
-fn of_five_words(
+fn of_five_words<'a>(
     word: &[u8],
     members: &[u8],
     roster: &[u8],
     keys: &[u8],
     seed: &[u8],
-) -> Option<Command>
+) -> Option<Command<'a>>
     ensures { option_map views.command result ≡ command_of (word.now ∷ members.now ∷ roster.now ∷ keys.now ∷ seed.now ∷ []) }
 {
     if word == b"keygen".as_slice() {
@@ -63,12 +68,16 @@ fn of_five_words(
     }
 }
 
-fn of_words(words: &[String]) -> Option<Command>
+// Each number of words up to five has an arm: where two join, what is known of the number is lost.
+fn of_words(words: &[String]) -> Option<Command<'_>>
     ensures { option_map views.command result ≡ command_of (map string_bytes words.now) }
 {
     match words {
+        [] => None,
         [word] => of_one_word(word.as_bytes()),
-        [word, further] => of_two_words(word.as_bytes(), further.as_bytes()),
+        [word, further] => of_two_words(word.as_bytes(), further.as_str()),
+        [_, _, _] => None,
+        [_, _, _, _] => None,
         [word, members, roster, keys, seed] => of_five_words(
             word.as_bytes(),
             members.as_bytes(),
@@ -81,9 +90,9 @@ fn of_words(words: &[String]) -> Option<Command>
 }
 
 /// The command that the words ask for; None exactly where they ask for none. The words are those behind the program's
-/// name: `replay`, `replay short`, `chain`, `gen NUMBER` with a number of 32 bits, or `keygen N R KEYS SEED` with the ranges of
-/// [`KitOrder`].
-pub fn read_command(words: &[String]) -> Option<Command>
+/// name: `replay`, `replay short`, `chain`, `gen NUMBER` with a number of 32 bits, `keygen N R KEYS SEED` with the ranges of
+/// [`KitOrder`], or `node FILE` with any word.
+pub fn read_command(words: &[String]) -> Option<Command<'_>>
     // The words are those of the command that is read, and it is in its ranges.
     ensures found { IfSome result (λ c. Asks (map string_bytes words.now) (views.command c)) }
 

@@ -10,6 +10,8 @@ mod interop_calls;
 #[cfg(test)]
 mod large_examples;
 #[cfg(test)]
+mod node_calls;
+#[cfg(test)]
 mod rampart_calls;
 #[cfg(test)]
 mod story_calls;

@@ -1,11 +1,12 @@
-//! The program: hands the system's words and streams to the one call, and ends with its status.
+//! The program: hands the system's words, streams, file and sockets to the one call, and ends with its status.
 #![tactic(auto)]
 
+use file_disk::FileDisk;
 use net_edge::{StdSink, StdSource, run};
-use rampart_cli::rampart;
-use rp_base::{NoDisk, NoLink};
+use rampart_cli::{journal_name, rampart};
 use std::io;
 use std::process::ExitCode;
+use udp_link::UdpLink;
 
 fn main(rt: HostRuntime) -> io::Result<ExitCode> {
     run(&rt, |words| {
@@ -14,8 +15,8 @@ fn main(rt: HostRuntime) -> io::Result<ExitCode> {
             &words,
             &mut StdSource::new(&rt),
             &mut StdSink::new(&rt),
-            &mut NoDisk::new(),
-            &mut NoLink::new(),
+            &mut FileDisk::new(&rt, journal_name(&words)),
+            &mut UdpLink::new(rt.alloc(), &rt),
         )
     })
 }

@@ -1,12 +1,12 @@
 -- Which command the words of the program are.
 --
 -- What each command answers is said by relations between what a stream held before and what it holds now: of `replay`, `gen` and `keygen` in
--- `replay_words`, of `chain` in `chain_words`. Of a stream that does not tell what it holds, as standard input and output don't, these say
+-- `replay_words`, of `chain` in `chain_words`, of `node` in `node_loop`. Of a stream that does not tell what it holds, as standard input and output don't, these say
 -- nothing of its bytes (`Answers` in `replay_words`). What is said by words, statuses and counts of faults holds of every stream.
-use Rattle.std.specs.Prelude.{List, map, String, string_bytes}
+use Rattle.std.specs.Prelude.{ℕ, List, map, String, string_bytes}
 use Rattle.std.specs.declared.alloc.Global.{Global}
 use Rattle.command_line.specs.Commands as commands
-use Rattle.command_line.specs.Commands.{Command}
+use Rattle.command_line.specs.Commands.{Command, Node}
 
 -- the words are those of this command
 abbrev pub Asks : List (String Global) → Command → Type 0
@@ -15,3 +15,7 @@ Asks words command = commands.Asks (map string_bytes words) command
 -- the words are those of some command
 abbrev pub AskAny : List (String Global) → Type 0
 AskAny words = (command : Command) × Asks words command
+
+-- the words ask for a node, whose journal is in a file of some name
+abbrev pub AskNode : List (String Global) → Type 0
+AskNode words = (file : List ℕ) × Asks words (Node file)

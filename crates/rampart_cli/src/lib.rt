@@ -3,4 +3,4 @@
 
 mod top;
 
-pub use top::rampart;
+pub use top::{journal_name, rampart};

@@ -1,20 +1,37 @@
-ghost use Rattle.std.specs.Prelude.{◌≡◌, ◌≢◌, ◌↔◌, ◌⊎◌, ℕ, Bool, List, codes, IsOk, IsErr, IsSomeAnd};
+ghost use Rattle.std.specs.Prelude.{◌≡◌, ◌≢◌, ◌↔◌, ◌⊎◌, [], ℕ, Bool, List, codes, IsOk, IsErr, IsSomeAnd};
 ghost use Rattle.std.specs.Io.KnownBytes.{Appends, Consumes, Keeps};
 ghost use Rattle.rp_base.specs.Causes.{Rose};
 ghost use Rattle.replay_defs.specs.Reports.{report_of};
 ghost use Rattle.chain_laws.specs.Told.{AnswerTells};
 ghost use Rattle.chain_words.specs.Running as chains;
 ghost use Rattle.chain_words.specs.Running.{Answered, HasStatus, ShownAndSays, ShownInPart, SomeShown};
-ghost use Rattle.command_line.specs.Commands.{KitOrder, Replay, Chain, Gen, Keygen};
+ghost use Rattle.command_line.specs.Commands.{KitOrder, Replay, Chain, Gen, Keygen, Node};
+ghost use Rattle.node_defs.specs.Lives.{Found};
+ghost use Rattle.node_defs.specs.Nodes.{Snapper};
+ghost use Rattle.node_traces.specs.Seen.{link_seen, sink_seen, source_seen};
+ghost use Rattle.node_loop.specs.Ended.{HasEnded, SaysLast};
+ghost use Rattle.node_loop.specs.Inputs.{TellInOrder};
 ghost use Rattle.rp_base.specs.Streams.{AppendsPrefix, Says};
 ghost use Rattle.replay_words.specs.Answers.{Reported, ReportedInPart, Stopped, kit_of_order, schedule_of_number};
-ghost use Rattle.rampart_cli.specs.Top.{Asks, AskAny};
+ghost use Rattle.rampart_cli.specs.Top.{Asks, AskAny, AskNode};
 
 use chain_words::chain;
 use command_line::{Command, read_command};
+use node_loop::host;
 use replay_words::{Stop, run_gen, run_keygen, run_replay, tell};
 use rp_base::{Disk, Link, Sink, Source};
 use std::alloc::Global;
+
+/// The name of the file that is a node's journal: the word after `node`, and empty where the words ask for none.
+pub fn journal_name(words: &[String]) -> &str
+    ensures node { (file : List ℕ) → Asks words.now (Node file) → result.now ≡ file }
+    ensures other { ¬ AskNode words.now → result.now ≡ [] }
+{
+    match read_command(words) {
+        Some(Command::Node(file)) => file,
+        _ => "",
+    }
+}
 
 /// The whole program: `words` are those behind the program's name, and the answer is the status that it ends with.
 pub fn rampart<S: Source, K: Sink, D: Disk, L: Link>(
@@ -42,14 +59,21 @@ pub fn rampart<S: Source, K: Sink, D: Disk, L: Link>(
     ensures shown { Asks words.now Chain → result ≡ 0
         → Answered (S.left input.old) (S.left input.new) (K.written output.old) (K.written output.new) }
 
-    // 0: nothing failed.
+    // node, whatever the status: what was done is a run of the node of the definitions, up to a stop with this status, and then the stop's
+    // line.
+    ensures ended { (file : List ℕ) → Asks words.now (Node file) → (snap : Snapper) (f : Found)
+        → HasEnded D.seen D.may_leave D.moment D.left_since snap f (source_seen S.left S.faults input.old)
+        (link_seen L.sent L.coming L.faults link.old) (sink_seen K.written K.faults output.old) disk.old (S.left input.new) (S.faults input.new)
+        (link_seen L.sent L.coming L.faults link.new) (sink_seen K.written K.faults output.new) disk.new result }
+
+    // 0: no read and no write failed.
     ensures steady { result ≡ 0
         → (S.faults input.new ≡ S.faults input.old) × (K.faults output.new ≡ K.faults output.old) }
 
-    // 1: no memory is left, or chain has read 2^64 - 2 lines; nothing was written, but by chain the lines of views. No clause says when
-    // memory is left: a body that answered 1 always, or for inputs of its choice, would meet this contract, and tests show otherwise of their
-    // inputs (docs/TESTED.md).
-    ensures silent { ¬ Asks words.now Chain → result ≡ 1 → Keeps (K.written output.old) (K.written output.new) }
+    // 1: no memory is left, or chain has read 2^64 - 2 lines; nothing was written, but by chain the lines of views, and by node its lines. No
+    // clause says when memory is left: a body that answered 1 always, or for inputs of its choice, would meet this contract, and tests show
+    // otherwise of their inputs (docs/TESTED.md).
+    ensures silent { ¬ Asks words.now Chain → ¬ AskNode words.now → result ≡ 1 → Keeps (K.written output.old) (K.written output.new) }
     ensures some { Asks words.now Chain → result ≡ 1
         → SomeShown (S.left input.old) (S.left input.new) (K.written output.old) (K.written output.new) }
 
@@ -60,16 +84,17 @@ pub fn rampart<S: Source, K: Sink, D: Disk, L: Link>(
     ensures words_line { result ≡ 2 → Says (codes "stop 2 words\n")
         (K.written output.old) (K.written output.new) (K.faults output.old) (K.faults output.new) }
 
-    // 3: only where the source failed. The line that says so was written and nothing else, but by chain the lines of views before it.
+    // 3: only where the source failed. The line that says so was written and nothing else, but by chain the lines of views before it, and by
+    // node its lines.
     ensures read { result ≡ 3 → Rose (S.faults input.old) (S.faults input.new) }
-    ensures read_line { ¬ Asks words.now Chain → result ≡ 3 → Says (codes "stop 3 read\n")
+    ensures read_line { ¬ Asks words.now Chain → ¬ AskNode words.now → result ≡ 3 → Says (codes "stop 3 read\n")
         (K.written output.old) (K.written output.new) (K.faults output.old) (K.faults output.new) }
     ensures read_behind_views { Asks words.now Chain → result ≡ 3
         → ShownAndSays (codes "stop 3 read\n") (S.left input.old) (S.left input.new)
         (K.written output.old) (K.written output.new) (K.faults output.old) (K.faults output.new) }
 
     // 4: only where the sink failed; a prefix of the report, of the schedule, of the kit's text or of the lines of views was written and
-    // nothing else.
+    // nothing else, or lines of the node and a prefix of one text more.
     ensures write { result ≡ 4 → Rose (K.faults output.old) (K.faults output.new) }
     ensures part { (short : Bool) → Asks words.now (Replay short) → result ≡ 4
         → ReportedInPart short (S.left input.old) (S.left input.new) (K.written output.old) (K.written output.new) }
@@ -83,9 +108,15 @@ pub fn rampart<S: Source, K: Sink, D: Disk, L: Link>(
     // 4, 7: no read failed.
     ensures whole { (result ≡ 4) ⊎ (result ≡ 7) → S.faults input.new ≡ S.faults input.old }
 
+    // 5, 6: only where a call of the disk or a bind failed; at 6 nothing was sent, and nothing written but the line that says so.
+    ensures kept { result ≡ 5 → Rose (D.faults disk.old) (D.faults disk.new) }
+    ensures bound { result ≡ 6 → Rose (L.faults link.old) (L.faults link.new) }
+    ensures untold { result ≡ 6 → (L.sent link.new ≡ L.sent link.old)
+        × SaysLast (codes "stop 6 link\n") (sink_seen K.written K.faults output.old) (sink_seen K.written K.faults output.new) }
+
     // 7: what was read has no report, long or short, and the line says why. By chain: it has a fault, and the lines of the views before
-    // the fault were written, and then its own.
-    ensures input { ¬ Asks words.now Chain → result ≡ 7 → Stopped (S.left input.old) (S.left input.new)
+    // the fault were written, and then its own. By node: its kit has one, or a line of its script is none.
+    ensures input { ¬ Asks words.now Chain → ¬ AskNode words.now → result ≡ 7 → Stopped (S.left input.old) (S.left input.new)
         (K.written output.old) (K.written output.new) (K.faults output.old) (K.faults output.new) }
     ensures fault { Asks words.now Chain → result ≡ 7 → chains.Refused (S.left input.old) (S.left input.new)
         (K.written output.old) (K.written output.new) (K.faults output.old) (K.faults output.new) }
@@ -131,17 +162,29 @@ pub fn rampart<S: Source, K: Sink, D: Disk, L: Link>(
     // processes truly.
     ensures views { Asks words.now Chain → (read : List ℕ) → Consumes (S.left input.old) (S.left input.new) read → AnswerTells read }
 
-    // No other status comes, and neither disk nor link is touched.
-    ensures only { (result ≡ 0) ⊎ (result ≡ 1) ⊎ (result ≡ 2)
-        ⊎ (result ≡ 3) ⊎ (result ≡ 4) ⊎ (result ≡ 7) }
-    ensures disk { disk.new ≡ disk.old }
-    ensures link { link.new ≡ link.old }
+    // node: an input and a journal in order give 0, where memory and room are left and nothing failed; a send or receive that fails changes no
+    // status. But for 1, each read and each call of the disk that fails ends the node with its own status. No status but 0, 1 and 3 to 9 comes.
+    ensures hosts { (file : List ℕ) → Asks words.now (Node file) → TellInOrder (S.left input.old) (D.seen disk.old)
+        → ¬ Rose (S.faults input.old) (S.faults input.new) → ¬ Rose (K.faults output.old) (K.faults output.new)
+        → ¬ Rose (D.faults disk.old) (D.faults disk.new) → (result ≡ 0) ⊎ (result ≡ 1) ⊎ (result ≡ 6) ⊎ (result ≡ 9) }
+    ensures no_read { (file : List ℕ) → Asks words.now (Node file) → result ≢ 1 → result ≢ 3 → S.faults input.new ≡ S.faults input.old }
+    ensures no_disk { (file : List ℕ) → Asks words.now (Node file) → result ≢ 1 → result ≢ 5 → D.faults disk.new ≡ D.faults disk.old }
+    ensures only_hosted { (file : List ℕ) → Asks words.now (Node file) → (result ≡ 0) ⊎ (result ≡ 1) ⊎ (result ≡ 3) ⊎ (result ≡ 4)
+        ⊎ (result ≡ 5) ⊎ (result ≡ 6) ⊎ (result ≡ 7) ⊎ (result ≡ 8) ⊎ (result ≡ 9) }
+
+    // No other status comes, 5, 6, 8 and 9 only by node; and by other words neither disk nor link is touched.
+    ensures only { (result ≡ 0) ⊎ (result ≡ 1) ⊎ (result ≡ 2) ⊎ (result ≡ 3) ⊎ (result ≡ 4) ⊎ (result ≡ 5) ⊎ (result ≡ 6) ⊎ (result ≡ 7)
+        ⊎ (result ≡ 8) ⊎ (result ≡ 9) }
+    ensures by_node { (result ≡ 5) ⊎ (result ≡ 6) ⊎ (result ≡ 8) ⊎ (result ≡ 9) → AskNode words.now }
+    ensures disk { ¬ AskNode words.now → disk.new ≡ disk.old }
+    ensures link { ¬ AskNode words.now → link.new ≡ link.old }
 {
     match read_command(words) {
         Some(Command::Replay { short }) => run_replay(alloc, short, input, output),
         Some(Command::Chain) => chain(alloc, input, output),
         Some(Command::Gen(number)) => run_gen(alloc, number, output),
         Some(Command::Keygen(ordered)) => run_keygen(alloc, &ordered, output),
+        Some(Command::Node(_)) => host(alloc, input, output, disk, link),
         None => tell(output, Stop::Words),
     }
 }

@@ -2,7 +2,7 @@ use Rattle.std.proofs.Common.{ℕ, Bool, subst, sym}
 use Rattle.std.specs.Prelude.{IsSomeAnd, IsOk, IsErr}
 use Rattle.std.specs.Io.KnownBytes.{Appends}
 use Rattle.replay_defs.specs.Reports.{report_of}
-use Rattle.command_line.specs.Commands.{KitOrder, Replay, Gen, Keygen}
+use Rattle.command_line.specs.Commands.{KitOrder, Replay, Gen, Keygen, Node}
 use Rattle.rp_base.specs.Streams.{AppendsPrefix}
 use Rattle.chain_laws.proofs.Told.{answer_tells_views}
 use Rattle.replay_words.specs.Answers.{Reported, ReportedInPart, kit_of_order, schedule_of_number}
@@ -84,3 +84,30 @@ returns-in-None-clause-only_replayed g c = λ short asks. absurd (no_command _ (
 
 pub returns-in-Some-Chain-clause-views : goal.returns-in-Some-Chain-clause-views
 returns-in-Some-Chain-clause-views g c = λ asks read taken. answer_tells_views read
+
+pub returns-in-None-clause-ended : goal.returns-in-None-clause-ended
+returns-in-None-clause-ended g c = λ file asks snap f. absurd (no_command _ (c.in-None.ensures.only (Node file) asks))
+
+pub returns-in-None-clause-hosts : goal.returns-in-None-clause-hosts
+returns-in-None-clause-hosts g c = λ file asks order calm calm_sink calm_disk. absurd (no_command _ (c.in-None.ensures.only (Node file) asks))
+
+pub returns-in-None-clause-only_hosted : goal.returns-in-None-clause-only_hosted
+returns-in-None-clause-only_hosted g c = λ file asks. absurd (no_command _ (c.in-None.ensures.only (Node file) asks))
+
+pub returns-in-Some-Node-clause-silent : goal.returns-in-Some-Node-clause-silent
+returns-in-Some-Node-clause-silent g c = λ no_chain no_node. absurd (no_node (_, rw c.in-Some-Node.field-0-is at c.in-Some-Node.ensures.found))
+
+pub returns-in-Some-Node-clause-read_line : goal.returns-in-Some-Node-clause-read_line
+returns-in-Some-Node-clause-read_line g c = λ no_chain no_node. absurd (no_node (_, rw c.in-Some-Node.field-0-is at c.in-Some-Node.ensures.found))
+
+pub returns-in-Some-Node-clause-input : goal.returns-in-Some-Node-clause-input
+returns-in-Some-Node-clause-input g c = λ no_chain no_node. absurd (no_node (_, rw c.in-Some-Node.field-0-is at c.in-Some-Node.ensures.found))
+
+pub returns-in-Some-Node-clause-by_node : goal.returns-in-Some-Node-clause-by_node
+returns-in-Some-Node-clause-by_node g c = λ _. (_, rw c.in-Some-Node.field-0-is at c.in-Some-Node.ensures.found)
+
+pub returns-in-Some-Node-clause-disk : goal.returns-in-Some-Node-clause-disk
+returns-in-Some-Node-clause-disk g c = λ no_node. absurd (no_node (_, rw c.in-Some-Node.field-0-is at c.in-Some-Node.ensures.found))
+
+pub returns-in-Some-Node-clause-link : goal.returns-in-Some-Node-clause-link
+returns-in-Some-Node-clause-link g c = λ no_node. absurd (no_node (_, rw c.in-Some-Node.field-0-is at c.in-Some-Node.ensures.found))

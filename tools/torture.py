@@ -1,0 +1,254 @@
+#!/usr/bin/env python3
+"""Drawn runs of groups of real nodes, and after each of them what must hold.
+
+    python3 tools/torture.py NUMBER COUNT [--program PROGRAM] [--show]
+
+One run of each number from NUMBER on: a group of 4 to 7 nodes (tools/group.py), over a network that loses, repeats and delays; with plain
+keys or trees; nodes are killed at any time and started again on their journals; cuts that heal; at most f liars, of whom some members are
+handed other texts than the rest; suspicions and joins of so many members that views change. At last the network is whole, all nodes run,
+and time goes on. Then
+
+- no correct process has signed two texts for one slot, nor two bodies with one leaf, in any datagram that a node sent;
+- what the nodes wrote agrees: one message for a view, place, sender and number, each delivered once by a node, in rising order;
+- an audit of all journals says `agree` and `sound`, and convicts nobody but liars;
+- what a journal holds is at least what its node wrote.
+
+What a correct member that stayed was given to send, and was not delivered by all that stayed within 100 ticks, is counted and is no fault:
+nothing promises progress. A run that breaks a rule is printed with its number; the status is 1 then.
+"""
+import argparse
+import collections
+import json
+import random
+import subprocess
+import sys
+import time
+
+import group
+import schedules
+
+TICK = 0.1
+MOST_TICKS = 100
+# where the words of a slot end in a statement of each kind, which begins with its kind and view; a Notify has no slot of one content
+SLOT = {schedules.INIT: 5, schedules.ECHO: 6, schedules.ORDER: 5, schedules.PLACE: 5, schedules.KEEP: 5, schedules.END: 3,
+        schedules.LAST: 4, schedules.SUGGEST: 4, schedules.ACK: 4, schedules.READY: 4}
+# an Order, a Place and a Keep of several messages are of the slots of those of one
+OF_ONE = {12: schedules.ORDER, 13: schedules.PLACE, 14: schedules.KEEP}
+
+
+def claims_in(frame):
+    """Each (signer, statement, signature) of a frame that a node made."""
+    if frame[1] == schedules.WANT:
+        return
+    at = 3
+    for _ in range(frame[2]):
+        length = int.from_bytes(frame[at : at + 2], "big")
+        statement = frame[at + 2 : at + 2 + length]
+        at += 2 + length
+        count = frame[at]
+        at += 1
+        for _ in range(count):
+            signer, size = frame[at], int.from_bytes(frame[at + 1 : at + 3], "big")
+            yield signer, statement, frame[at + 3 : at + 3 + size]
+            at += 3 + size
+
+
+class Watch(group.Network):
+    """The network, which looks at all that the nodes send."""
+
+    def __init__(self, ports, parts, seed):
+        super().__init__(ports, parts, seed)
+        self.slots, self.leaves, self.faults, self.trees = {}, {}, [], False
+        self.liars = set()
+
+    def take(self, p, q, datagram):
+        for signer, statement, signature in claims_in(datagram[22:-32]):
+            self.look(signer, statement, signature)
+        super().take(p, q, datagram)
+
+    def look(self, signer, statement, signature):
+        if signer in self.liars:
+            return
+        kind = OF_ONE.get(statement[0], statement[0])
+        if kind in SLOT:
+            slot = signer, kind, statement[1 : SLOT[kind]]
+            if self.slots.setdefault(slot, statement) != statement:
+                self.faults.append(f"{signer} signed two texts: {self.slots[slot].hex()} and {statement.hex()}")
+        if self.trees:
+            leaf = signer, signature[:4]
+            if self.leaves.setdefault(leaf, statement) != statement:
+                self.faults.append(f"{signer} signed two texts with leaf {leaf[1].hex()}")
+
+
+class Run(group.Group):
+    """A group whose lines are kept."""
+
+    def __init__(self, number, words):
+        self.draw = random.Random(number)
+        self.n = self.draw.choice([4, 4, 4, 5, 7])
+        self.trees = self.draw.random() < 0.2
+        self.liars = set(self.draw.sample(range(self.n), self.draw.randint(0, (self.n - 1) // 3))) if not self.trees else set()
+        self.shows, self.heard, self.count = words.show, collections.defaultdict(list), collections.Counter()
+        keys = "lms:5:4" if self.trees else "plain:100000"
+        super().__init__(argparse.Namespace(
+            program=words.program, tick=TICK, folder=None, seed=number, n=self.n, keys=keys, direct=False,
+            loss=self.draw.choice([0, 0.05, 0.2]), twice=self.draw.choice([0, 0.1]), late=self.draw.choice([0, 0.1, 0.3])))
+        self.network.trees, self.network.liars = self.trees, self.liars
+        self.given = collections.defaultdict(list)
+
+    def make_network(self, parts, seed):
+        return Watch(self.kit.ports, parts, seed)
+
+    def say(self, p, line):
+        if self.shows:
+            super().say(p, line)
+        if p != "-":
+            self.heard[p].append(line)
+            self.count[line.split()[0]] += 1
+
+    # -- what happens
+
+    def running(self):
+        return [p for p, it in self.nodes.items() if it.runs]
+
+    def act(self, number):
+        what = self.draw.choices(["submit", "kill", "start", "cut", "heal", "vote", "lie", "rest"], [8, 2, 3, 1, 1, 1, 2, 3])[0]
+        running = self.running()
+        if what == "submit" and running:
+            p = self.draw.choice(running)
+            text = f"{number} of {p}"
+            self.given[p].append(text.encode())
+            self.submit(p, text)
+        elif what == "kill" and running:
+            self.count["kills"] += 1
+            p = self.draw.choice(running)
+            self.kill(p)
+            # what it had not delivered yet it may not have taken in
+            own = {line.split()[6] for line in self.delivered(p)}
+            self.given[p] = [text for text in self.given[p] if text.hex() in own]
+        elif what == "start" and len(running) < self.n:
+            self.count["starts"] += 1
+            self.start(self.draw.choice([p for p in self.nodes if p not in running]))
+        elif what == "cut":
+            self.count["cuts"] += 1
+            self.cut(*self.draw.sample(range(self.n), 2))
+        elif what == "heal":
+            self.heal()
+        elif what == "vote":
+            q, word = self.draw.randrange(self.n), self.draw.choice(["suspect", "join"])
+            for p in self.draw.sample(range(self.n), self.draw.randint(1, self.n - 1)):
+                if p != q and self.nodes[p].runs:
+                    getattr(self, word)(p, q)
+        elif what == "lie" and self.liars:
+            p = self.draw.choice(sorted(self.liars))
+            if self.nodes[p].submitted:
+                self.count["lies"] += 1
+                self.lie(p, self.draw.choice([q for q in self.nodes if q != p]), f"another {number}")
+        time.sleep(self.draw.choice([0, 0.02, 0.2]))
+
+    def settle(self):
+        """The network is whole, all run, and time goes on until nothing is missing, or for so many ticks."""
+        self.heal()
+        self.network.parts = {"loss": 0, "twice": 0, "late": 0}
+        for p, it in self.nodes.items():
+            if not it.runs:
+                self.start(p)
+        for ticks in range(MOST_TICKS):
+            time.sleep(TICK)
+            if ticks > 10 and not self.missing():
+                return
+        self.count["late runs"] += 1
+
+    def missing(self):
+        """Whether a correct node that was never out of the view lacks what another of them was given to send."""
+        stayed = [p for p in self.nodes if p not in self.liars and all(str(p) in members for members in self.views())]
+        texts = {text.hex() for p in stayed for text in self.given[p]}
+        return any(texts - {line.split()[6] for line in self.delivered(p)} for p in stayed)
+
+    def views(self):
+        return [line.partition(" : ")[2].split() for lines in self.heard.values() for line in lines if line.startswith("view ")]
+
+    def delivered(self, p):
+        return [line for line in list(self.heard[p]) if line.startswith("deliver ")]
+
+    # -- what must hold
+
+    def faults(self):
+        yield from self.network.faults
+        yield from self.disagreements()
+        yield from self.of_audit()
+
+    def disagreements(self):
+        messages, places = {}, {}
+        for p in self.nodes:
+            if p in self.liars:
+                continue
+            seen = []
+            for line in self.delivered(p):
+                x, k, s, l = map(int, line.split()[2:6])
+                if messages.setdefault((x, s, l), line.split()[6]) != line.split()[6] or places.setdefault((x, s, l), k) != k:
+                    yield f"{line}: another node delivered {messages[x, s, l]} at {places[x, s, l]}"
+                seen.append((x, k))
+            if seen != sorted(seen):
+                yield f"{p} delivered out of order"
+            if len({tuple(line.split()[2:6]) for line in self.delivered(p)}) < len(seen):
+                yield f"{p} delivered a message twice"
+
+    def of_audit(self):
+        data = self.kit.without_secrets().encode()
+        for p in self.nodes:
+            self.nodes[p].kill()
+            journal = (self.folder / f"{p}.journal").read_bytes()
+            data += f"journal {len(journal)}\n".encode() + journal
+        correct = [p for p in self.nodes if p not in self.liars]
+        done = subprocess.run([self.program, "audit", *map(str, correct)], input=data, capture_output=True, check=False)
+        if done.stdout == b"stop 2 words\n":
+            self.count["unaudited"] += 1
+            return
+        if done.returncode:
+            yield f"the audit ended with {done.returncode}: {done.stdout.decode()}"
+            return
+        found = json.loads(done.stdout)
+        yield from (f"the audit says {it} {found[it]}" for it in ("agree", "sound", "honest", "bounded") if not found[it])
+        yield from (f"the audit convicts {it['process']}" for it in found["convicted"] if it["process"] not in self.liars)
+        self.count["convicted"] += len(found["convicted"])
+        for it in found["processes"]:
+            wrote = len(self.delivered(it["process"]))
+            if it["delivered"] < wrote:
+                yield f"the journal of {it['process']} has {it['delivered']} deliveries, and its node wrote {wrote}"
+
+
+def one(number, words, counts):
+    run = Run(number, words)
+    try:
+        run.open()
+        for at in range(run.draw.randint(10, 30)):
+            run.act(at)
+        run.settle()
+        time.sleep(2 * TICK)
+        faults = list(run.faults())
+    finally:
+        run.close()
+    counts.update(run.count)
+    for fault in faults:
+        print(f"{number}: {fault}", flush=True)
+    return bool(faults)
+
+
+def main():
+    words = argparse.ArgumentParser(description=__doc__.partition("\n")[0])
+    words.add_argument("number", type=int)
+    words.add_argument("runs", type=int)
+    words.add_argument("--program", default=str(group.TOP / "rampart"))
+    words.add_argument("--show", action="store_true")
+    words = words.parse_args()
+    counts, wrong = collections.Counter(), 0
+    for number in range(words.number, words.number + words.runs):
+        wrong += one(number, words, counts)
+    told = ("kills", "starts", "cuts", "lies", "deliver", "view", "liar", "refused", "spent", "convicted", "late runs", "unaudited")
+    print(f"{words.runs} runs, {wrong} wrong; {', '.join(f'{counts[it]} {it}' for it in told)}")
+    sys.exit(1 if wrong else 0)
+
+
+if __name__ == "__main__":
+    main()
