@@ -1,0 +1,153 @@
+ghost use Rattle.std.specs.Prelude.{◌≡◌, ◌≤◌};
+ghost use Rattle.store_keys.specs.Keys.{next, signs};
+ghost use Rattle.store_replies.specs.Words.{most_counted};
+
+use crate::saying::{answer, tell};
+use kv_service::Store;
+use rp_base::{GroupId, NoMemory, Pid};
+use std::alloc::Global;
+use store_keys::LeafKey;
+use store_records::Reply;
+
+/// What a process replies to the messages that it delivers: the key that signs, how many messages it delivered so far, and the store that
+/// answers, where the process holds it. What the definitions' server has of these, the record `IsReplying` of the specs says.
+#[derive(Drop)]
+pub struct Replies {
+    me: Pid,
+    group: GroupId,
+    key: LeafKey,
+
+    // How many messages the process delivered in all its views: the next leaf. The count stays at the last u32, and no key has that leaf.
+    delivered: u32,
+
+    // The place of the message that was delivered last in this run and view, and its position there.
+    last: Option<(u16, u8)>,
+    store: Option<Store>,
+    ghost unused: { next key ≤ delivered },
+    ghost few: { (signs key).total ≤ most_counted },
+}
+
+impl Replies {
+    ghost use Rattle.std.specs.Prelude.{◌⊎◌, ◌++◌, min, OnOk, OnErr, None, option_map, is_some, IfSome};
+    ghost use Rattle.group_defs.specs.Views.{View, is_member};
+    ghost use Rattle.message_defs.specs.Statements.{Message};
+    ghost use Rattle.store_defs.specs.Serving.{Place, Server, ToldReply, after_message, after_view, position_at, reply_to};
+    ghost use Rattle.store_defs.specs.Words.{told_text};
+    ghost use Rattle.store_replies.specs.Words.{HasSpelling, message_at};
+    ghost use Rattle.store_replies.specs.Replying.{Fits, IsReplying, next_position};
+
+    /// Of a process of this group, whose key has signed nothing yet: it delivered so many messages before this run (the last u32, where it
+    /// is more), and holds the store or not.
+    pub fn new(
+        me: Pid,
+        group: GroupId,
+        key: LeafKey,
+        delivered: u32,
+        store: Option<Store>,
+    ) -> Replies
+        requires unused { next key ≡ 0 }
+        ensures { (q : Place) (s : Server) → q.me ≡ me → q.group ≡ group → q.replies ≡ signs key
+            → delivered ≡ min s.delivered most_counted → s.last ≡ None → s.store ≡ store → IsReplying q s result }
+    {
+        let _total = key.total();
+        Replies {
+            me,
+            group,
+            key,
+            delivered,
+            last: None,
+            store,
+        }
+    }
+
+    // The position of the next message, at this place.
+    fn position(&self, place: u16) -> u8
+        requires { next_position self.now place ≤ 15 }
+        ensures { result ≡ next_position self.now place }
+    {
+        match self.last {
+            Some((before, position)) if before == place => position + 1,
+            _ => 0,
+        }
+    }
+
+    /// Takes a message that the process delivers at this place, in the view of this number: the store carries its payload out, and the line
+    /// of the reply is appended. The reply is signed with the leaf whose number is how many messages were delivered before.
+    ///
+    /// # Errors
+    /// [`NoMemory`] where room for the store, for what is signed or for the line is refused. Nothing is appended then; either nothing has
+    /// changed, or the message is taken, its reply is lost, and nothing else is signed with its leaf.
+    pub fn deliver(
+        &mut self,
+        alloc: Global,
+        view: u16,
+        place: u16,
+        payload: &[u8],
+        out: &mut Vec<u8>,
+    ) -> Result<(), NoMemory>
+        requires fits { Fits self.old view place payload.now }
+        ensures after { (q : Place) (s : Server) (m : Message) → IsReplying q s self.old
+            → OnOk result (IsReplying q (after_message s (message_at place payload.now m)) self.new) }
+        ensures told { (q : Place) (s : Server) (m : Message) → IsReplying q s self.old
+            → OnOk result (out.new.items ≡ out.old.items ++ told_text q.me (ToldReply (reply_to q s view (message_at place payload.now m)))) }
+        ensures untold { OnErr result (out.new.items ≡ out.old.items) }
+        ensures lost { (q : Place) (s : Server) (m : Message) → IsReplying q s self.old
+            → OnErr result (IsReplying q s self.new ⊎ IsReplying q (after_message s (message_at place payload.now m)) self.new) }
+    {
+        let position = self.position(place);
+        let asked = Reply {
+            signer: self.me,
+            view,
+            place,
+            position,
+            payload,
+            answer: &[],
+            signature: &[],
+        };
+        let answered = answer(&mut self.store, alloc, payload)?;
+        let told = tell(
+            &mut self.key,
+            alloc,
+            &self.group,
+            self.delivered,
+            &asked,
+            &answered,
+            out,
+        );
+        self.delivered = self.delivered.saturating_add(1);
+        self.last = Some((place, position));
+        told
+    }
+
+    /// A view begins: its messages begin at position 0 again, and the process goes on to hold the store where it is a member of the view.
+    pub fn begin_view(&mut self, is_member: bool)
+        ensures { (q : Place) (s : Server) (v : View) → IsReplying q s self.old → is_member v q.me ≡ is_member
+            → IsReplying q (after_view q s v) self.new }
+    {
+        self.last = None;
+        if !is_member {
+            self.store = None;
+        }
+    }
+
+    /// The process has this store now, or none.
+    pub fn take_over(&mut self, store: Option<Store>)
+        ensures { (q : Place) (s : Server) → IsReplying q s self.old → IsReplying q (record s { store = store }) self.new }
+    {
+        self.store = store;
+    }
+
+    /// The store, where the process holds it.
+    pub fn store(&self) -> Option<&Store>
+        ensures { (q : Place) (s : Server) → IsReplying q s self.now → option_map (λ t. t.now) result ≡ s.store }
+    {
+        self.store.as_ref()
+    }
+
+    /// The public key of the replies.
+    pub fn public(&self) -> &[u8]
+        ensures { (q : Place) (s : Server) → IsReplying q s self.now → result.now ≡ q.replies.public }
+    {
+        self.key.public()
+    }
+}
