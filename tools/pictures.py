@@ -204,7 +204,7 @@ def reduced(crates):
 
 # The areas of the crates: where each is drawn, how many crates stand side by side, and its crates, none above one that it uses.
 AREAS = {
-    "the program": (20, 20, 2, "rampart_cli rampart page"),
+    "the program": (20, 20, 2, "replay_words rampart_cli rampart page"),
     "a replay": (
         20, 121, 2,
         "said_index replay_cast group_questions sound_question trace_defs told_defs told_laws happenings replay_world replay_questions"

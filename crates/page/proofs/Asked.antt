@@ -2,11 +2,9 @@
 use Rattle.std.proofs.Common.{◌≡◌, ℕ, ◌≤◌, Bool, true, false, List, [], ◌∷◌, length, get_or, String, refl, sym, ap, subst, ◌∙◌, arith, zero, suc}
 use Rattle.std.specs.Prelude.{map, string_bytes}
 use Rattle.std.specs.declared.alloc.Global.{Global}
-use Rattle.command_line.specs.Commands.{Replay, Chain}
 use Rattle.story_cli.specs.declared.commands.Command.{Command}
 use Rattle.story_cli.specs.declared.commands.Command.TheVariants.{Assemble, Text, Run, Draw}
 use Rattle.story_cli.specs.Top.{AskAny, AskOfSchedule, Asks, command_word, reads_schedule}
-use Rattle.rampart_cli.specs.Top as rampart
 use Rattle.page.specs.Answers.{number_of}
 
 -- each number below four is a command's
@@ -67,8 +65,3 @@ reads_at number given words few same asks a =
     let at = asked_at number given words few same asks in
     let least = to_read at.0 a.command (map string_bytes given) at.2 a.asked a.reads in
     omega (arith, least, at.1)
-
--- words that ask for a report are not those that ask for views
-pub no_chain : (short : Bool) (words : List (String Global)) → rampart.Asks words (Replay short) → ¬ rampart.Asks words Chain
-no_chain false words asks chain = omega (arith, first_lengths _ _ _ _ (sym asks.spelled ∙ chain.spelled))
-no_chain true words asks chain = omega (arith, first_lengths _ _ _ _ (sym asks.spelled ∙ chain.spelled))

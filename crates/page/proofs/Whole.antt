@@ -6,7 +6,7 @@ use Rattle.rp_base.specs.Streams.{Says}
 use Rattle.replay_defs.specs.Reading.{schedule_of}
 use Rattle.story_defs.specs.Stories.{story_of}
 use Rattle.story_cli.specs.Top.{NoStory, NoSchedule}
-use Rattle.rampart_cli.specs.Top.{Reported, Stopped}
+use Rattle.replay_words.specs.Answers.{Reported, Stopped}
 use Rattle.page.specs.Answers.{HasNoReport, IsNoSchedule, IsNoStory, IsReport, Line}
 
 -- an input that tells what it holds, and was read to its end, is what was read

@@ -10,7 +10,7 @@ use Rattle.story_cli.specs.declared.stops.Stop.TheVariants.{Story, Schedule}
 use Rattle.story_cli.specs.declared.commands.Command.{Command}
 use Rattle.story_cli.specs.declared.commands.Command.TheVariants.{Assemble, Text, Run, Draw}
 use Rattle.story_cli.specs.Messages.{line_of}
-use Rattle.rampart_cli.specs.Top.{Runs, Headline, family, report_of_run, stop_line}
+use Rattle.replay_words.specs.Answers.{Runs, Headline, family, report_of_run, stop_line}
 
 -- the number by which the page asks for a command
 abbrev pub number_of : Command → ℕ

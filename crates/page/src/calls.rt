@@ -1,14 +1,11 @@
-ghost use Rattle.std.specs.Prelude.{◌≡◌, ◌≢◌, ◌⊎◌, [], Bool};
+ghost use Rattle.std.specs.Prelude.{◌≡◌, ◌≢◌, ◌⊎◌, []};
 ghost use Rattle.rp_base.specs.Mem.{sink_bytes};
-ghost use Rattle.command_line.specs.Commands.{Replay};
 ghost use Rattle.story_cli.specs.declared.commands.Command.{Command};
 ghost use Rattle.story_cli.specs.Top as story;
 ghost use Rattle.story_cli.specs.Top.{MakesOf};
-ghost use Rattle.rampart_cli.specs.Top as rampart;
 ghost use Rattle.page.specs.Answers.{HasNoReport, IsNoSchedule, IsNoStory, IsReport};
 
-use rampart_cli::rampart;
-use rp_base::{MemSink, MemSource, NoDisk, NoLink};
+use rp_base::{MemSink, MemSource};
 use std::alloc::Global;
 use story_cli::story;
 
@@ -47,26 +44,16 @@ pub fn run_story(alloc: Global, words: &[String], input: Vec<u8>) -> Ran
     Ran { status, told }
 }
 
-/// What `rampart` does at words that ask for a report, and this input.
-pub fn run_replay(alloc: Global, words: &[String], input: Vec<u8>) -> Ran
-    ensures made { (short : Bool) → rampart.Asks words.now (Replay short) → result.status ≡ 0
-        → IsReport short input.items (sink_bytes result.told) }
-    ensures silent { (short : Bool) → rampart.Asks words.now (Replay short) → result.status ≡ 1
-        → sink_bytes result.told ≡ [] }
-    ensures none { (short : Bool) → rampart.Asks words.now (Replay short) → result.status ≡ 7
-        → HasNoReport input.items (sink_bytes result.told) }
-    ensures only { (short : Bool) → rampart.Asks words.now (Replay short) → (result.status ≡ 0) ⊎ (result.status ≡ 1)
-        ⊎ (result.status ≡ 3) ⊎ (result.status ≡ 4) ⊎ (result.status ≡ 7) }
+/// What `rampart` does at this input where it is asked for a report, long or short.
+pub fn run_replay(alloc: Global, short: bool, input: Vec<u8>) -> Ran
+    ensures made { result.status ≡ 0 → IsReport short input.items (sink_bytes result.told) }
+    ensures silent { result.status ≡ 1 → sink_bytes result.told ≡ [] }
+    ensures none { result.status ≡ 7 → HasNoReport input.items (sink_bytes result.told) }
+    ensures only { (result.status ≡ 0) ⊎ (result.status ≡ 1) ⊎ (result.status ≡ 3) ⊎ (result.status ≡ 4)
+        ⊎ (result.status ≡ 7) }
 {
     let mut input = MemSource::new(input, Vec::new(alloc));
     let mut told = MemSink::new(alloc, Vec::new(alloc));
-    let status = rampart(
-        alloc,
-        words,
-        &mut input,
-        &mut told,
-        &mut NoDisk::new(),
-        &mut NoLink::new(),
-    );
+    let status = replay_words::run_replay(alloc, short, &mut input, &mut told);
     Ran { status, told }
 }

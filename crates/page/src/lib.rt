@@ -1,5 +1,5 @@
-//! What a page calls: an input in memory, and room for the answer. Each call is one of the two programs' top calls over streams in memory,
-//! and hands on what it wrote.
+//! What a page calls: an input in memory, and room for the answer. Each call is the one that a program makes, over streams in memory, and hands
+//! on what it wrote: the top call of `story`, and of `rampart` the call of the word `replay`.
 #![tactic(auto)]
 
 mod calls;
@@ -16,7 +16,7 @@ ghost use Rattle.page.specs.Answers.{Answers, HasNoReport, IsNoSchedule, IsNoSto
 use calls::{run_replay, run_story};
 use rooms::put;
 use std::alloc::Global;
-use words::{replay_words, story_words};
+use words::story_words;
 
 /// The status where no memory is left.
 const NO_MEMORY: u8 = 1;
@@ -94,13 +94,10 @@ pub extern "C" fn page_replay(
     ensures only { (result ≡ 0) ⊎ (result ≡ 1) ⊎ (result ≡ 3) ⊎ (result ≡ 4) ⊎ (result ≡ 7) }
 {
     *count = 0;
-    let Ok(words) = replay_words(alloc, short) else {
-        return NO_MEMORY;
-    };
     let Ok(input) = input.to_vec(alloc) else {
         return NO_MEMORY;
     };
-    let ran = run_replay(alloc, &words, input);
+    let ran = run_replay(alloc, short, input);
     *count = put(ran.told.bytes(), room);
     ran.status
 }

@@ -1,8 +1,6 @@
 ghost use Rattle.std.specs.Prelude.{◌≡◌, ◌≤◌, map, string_bytes, IfOk, [], ◌∷◌};
 ghost use Rattle.story_cli.specs.declared.commands.Command.{Command};
 ghost use Rattle.story_cli.specs.Top as story;
-ghost use Rattle.command_line.specs.Commands.{Replay};
-ghost use Rattle.rampart_cli.specs.Top as rampart;
 ghost use Rattle.page.specs.Answers.{number_of};
 
 use rp_base::NoMemory;
@@ -36,15 +34,4 @@ pub fn story_words(alloc: Global, command: u8) -> Result<Vec<String>, NoMemory>
     ensures { IfOk result (λ words. (c : Command) → number_of c ≡ command → story.Asks words.items c) }
 {
     one_word(alloc, word_of(command))
-}
-
-/// The words that ask `rampart` for a report.
-pub fn replay_words(alloc: Global, short: bool) -> Result<Vec<String>, NoMemory>
-    ensures { IfOk result (λ words. rampart.Asks words.items (Replay short)) }
-{
-    let mut words = one_word(alloc, "replay")?;
-    if short {
-        words.push(String::from_str(alloc, "short")?)?;
-    }
-    Ok(words)
 }

@@ -1,4 +1,1 @@
-pub mod Headline
-pub mod Runs
-pub mod Stopped
 mod Orders

@@ -1,30 +1,12 @@
--- What the program answers.
+-- Which command the words of the program are.
 --
--- A stream tells what it holds where its `left` or `written` is `Some bytes`, as streams in memory do. Standard input and output do not
--- tell: theirs is `None`. Of a stream that does not tell, `Consumes`, `IsAtEnd`, `Appends`, `AppendsPrefix` and `Keeps` hold whatever the
--- bytes. So where the source does not tell, `Replayed` and `Refused` say that there is an input that runs, or one that has no run, and not
--- that it is the one that was read; and where the sink does not tell, `Reported`, `ReportedInPart` and `Stopped` say nothing of what was
--- written. So it is with the relations of `chain_words`. The contract is proved for every type of stream, so also for one that tells and is
--- otherwise as the system's (docs/TESTED.md, «What is trusted»). What is said by words, statuses and counts of faults holds of every stream.
-use Rattle.std.specs.Prelude.{◌≡◌, ℕ, Bool, ◌≤◌, List, ◌∷◌, ◌++◌, length, map, Option, IfSome, Ok, Err, codes, String, string_bytes}
-use Rattle.std.specs.Io.KnownBytes.{Appends, Consumes, IsAtEnd}
+-- What each command answers is said by relations between what a stream held before and what it holds now: of `replay`, `gen` and `keygen` in
+-- `replay_words`, of `chain` in `chain_words`. Of a stream that does not tell what it holds, as standard input and output don't, these say
+-- nothing of its bytes (`Answers` in `replay_words`). What is said by words, statuses and counts of faults holds of every stream.
+use Rattle.std.specs.Prelude.{List, map, String, string_bytes}
 use Rattle.std.specs.declared.alloc.Global.{Global}
-use Rattle.text_defs.specs.Words.{line_text}
-use Rattle.group_defs.specs.Process.{keyed}
-use Rattle.group_defs.specs.Accounts.{Bounded, Agree, Sound}
-use Rattle.group_defs.specs.Family.{Family, accounts, numbers, Honest}
-use Rattle.replay_defs.specs.Schedules.{Schedule, IsSchedule, schedule_bytes, most_bytes}
-use Rattle.replay_defs.specs.Reading.{schedule_of}
-use Rattle.replay_defs.specs.Worlds.{World, WorldFault, world_of, family_of}
-use Rattle.replay_defs.specs.Reports.{ReplayFault, Stops, report_by, report_of, fault_words}
-use Rattle.replay_defs.specs.Generator.{generated}
-use Rattle.kit_defs.specs.Kits.{kit_text}
-use Rattle.kit_defs.specs.KitMaking.{made_kit}
 use Rattle.command_line.specs.Commands as commands
-use Rattle.command_line.specs.Commands.{KitOrder, Command}
-use Rattle.rp_base.specs.Streams.{AppendsPrefix, Says}
-
--- ---- the words
+use Rattle.command_line.specs.Commands.{Command}
 
 -- the words are those of this command
 abbrev pub Asks : List (String Global) → Command → Type 0
@@ -33,90 +15,3 @@ Asks words command = commands.Asks (map string_bytes words) command
 -- the words are those of some command
 abbrev pub AskAny : List (String Global) → Type 0
 AskAny words = (command : Command) × Asks words command
-
--- ---- the bytes of an input
-
--- The bytes are a schedule, and its world runs to its end.
-pub record Runs (bytes : List ℕ) : Type 0 where
-  pub schedule : Schedule
-  pub fits : IsSchedule schedule
-  pub spelled : bytes ≡ schedule_bytes schedule
-  pub read : schedule_of bytes ≡ Ok schedule
-  pub world : World
-  pub ran : world_of schedule ≡ Ok world
-
--- the family of the schedule's correct processes, as they are at its end
-abbrev pub family : {bytes : List ℕ} → Runs bytes → Family
-family run = family_of run.schedule.header run.world
-
--- its report, long or short
-abbrev pub report_of_run : {bytes : List ℕ} → Bool → Runs bytes → List ℕ
-report_of_run short run = report_by short run.world (family run)
-
--- The bytes have no report, long or short, and this is why. Where they are a schedule, it is why its world stops.
-pub record HasNoRun (bytes : List ℕ) : Type 0 where
-  pub fault : ReplayFault
-  pub none : (short : Bool) → report_of short bytes ≡ Err fault
-  pub no_world : (s : Schedule) → IsSchedule s → bytes ≡ schedule_bytes s
-      → (why : WorldFault) × (fault ≡ Stops why) × (world_of s ≡ Err why)
-
--- ---- the headline
-
--- Where what was handed over of correct processes is their own word, and in no view that they installed more than f members are not
--- correct: all of them agree on the views, on one sequence of messages in each view, and on all of it where they left the view as members;
--- each view has its cause, and each sequence is in order and is what its senders accepted.
-pub record Headline (f : Family) : Type 0 where
-  pub agree : Honest f → Bounded (accounts f) (numbers f) → Agree (accounts f)
-  pub sound : Honest f → Bounded (accounts f) (numbers f) → Sound (accounts f) (keyed f.setting)
-
--- ---- the input: what a source had left before, and what it has left now
-
--- The input was read to its end, and it runs.
-pub record Replayed (before now : Option (List ℕ)) : Type 0 where
-  pub input : List ℕ
-  pub taken : Consumes before now input
-  pub ended : IsAtEnd now
-  pub run : Runs input
-
--- What was read has no run. It is the whole input, or longer than a schedule may be. All that the source had left has none either,
--- for the same reason.
-pub record Refused (before now : Option (List ℕ)) : Type 0 where
-  pub input : List ℕ
-  pub taken : Consumes before now input
-  pub ended : length input ≤ most_bytes → IsAtEnd now
-  pub none : HasNoRun input
-  pub told : IfSome before (λ all. (short : Bool) → report_of short all ≡ Err none.fault)
-
--- ---- the output: what a sink held before, and what it holds now
-
--- The report of the schedule's own family was written, long or short, and nothing else; and the headline holds of this family.
-pub record Reported (short : Bool) (before now old new : Option (List ℕ)) : Type 0 where
-  pub replayed : Replayed before now
-  pub written : Appends old new (report_of_run short replayed.run)
-  pub headline : Headline (family replayed.run)
-
--- a prefix of that report was written and nothing else
-pub record ReportedInPart (short : Bool) (before now old new : Option (List ℕ)) : Type 0 where
-  pub replayed : Replayed before now
-  pub written : AppendsPrefix old new (report_of_run short replayed.run)
-
--- the line that says why there is no report
-unfoldable pub stop_line : ReplayFault → List ℕ
-stop_line fault = line_text (codes "stop" ∷ codes "7" ∷ fault_words fault)
-
--- The line of the input's fault was written, or the sink failed in the midst of it: by the count of its faults before and now.
-pub record Stopped (before now old new : Option (List ℕ)) (faults faults_now : ℕ) : Type 0 where
-  pub refused : Refused before now
-  pub line : Says (stop_line refused.none.fault) old new faults faults_now
-
--- ---- schedules
-
--- the bytes of the schedule that this number makes
-abbrev pub schedule_of_number : ℕ → List ℕ
-schedule_of_number number = schedule_bytes (generated number)
-
--- ---- kits
-
--- The text of the kit that is ordered, and the line that ends it.
-abbrev pub kit_of_order : KitOrder → List ℕ
-kit_of_order order = kit_text (made_kit order.members order.roster order.keys order.seed) ++ codes "go\n"

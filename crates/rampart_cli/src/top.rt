@@ -7,12 +7,12 @@ ghost use Rattle.chain_words.specs.Running as chains;
 ghost use Rattle.chain_words.specs.Running.{Answered, HasStatus, ShownAndSays, ShownInPart, SomeShown};
 ghost use Rattle.command_line.specs.Commands.{KitOrder, Replay, Chain, Gen, Keygen};
 ghost use Rattle.rp_base.specs.Streams.{AppendsPrefix, Says};
-ghost use Rattle.rampart_cli.specs.Top.{Asks, AskAny, Reported, ReportedInPart, Stopped, kit_of_order, schedule_of_number};
+ghost use Rattle.replay_words.specs.Answers.{Reported, ReportedInPart, Stopped, kit_of_order, schedule_of_number};
+ghost use Rattle.rampart_cli.specs.Top.{Asks, AskAny};
 
-use crate::running::{run_gen, run_keygen, run_replay, tell};
-use crate::stops::Stop;
 use chain_words::chain;
 use command_line::{Command, read_command};
+use replay_words::{Stop, run_gen, run_keygen, run_replay, tell};
 use rp_base::{Disk, Link, Sink, Source};
 use std::alloc::Global;
 

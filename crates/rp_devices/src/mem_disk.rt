@@ -10,11 +10,11 @@ use crate::change::{Change, Left};
 use crate::images::remains_of;
 use rp_base::{Disk, Failed, NoMemory};
 use std::alloc::{AllocError, Global};
+use std::mem;
 
 /// A disk in memory, which remembers each change. Of its calls those fail whose numbers are in a list, the first being
 /// number 0, those that find no memory, and all from the call on at which it is stopped. A write at which it stops may
 /// be torn; any other call that fails changes nothing.
-#[derive(Drop)]
 pub struct MemDisk {
     alloc: Global,
     bytes: Vec<u8>,
@@ -22,6 +22,24 @@ pub struct MemDisk {
     log: Vec<Change>,
     calls: Calls,
     ghost remembered: { bytes.items ≡ (after (opened first.items) log.items).file },
+}
+
+// Written out, so that whoever drops a disk makes one call: a derived drop is proved anew, down to the last field, wherever a value is
+// dropped.
+impl Drop for MemDisk {
+    fn drop(self) {
+        let MemDisk {
+            alloc: _,
+            bytes,
+            first,
+            log,
+            calls,
+        } = self;
+        mem::drop(bytes);
+        mem::drop(first);
+        mem::drop(log);
+        mem::drop(calls);
+    }
 }
 
 impl MemDisk {

@@ -6,6 +6,7 @@ ghost use Rattle.rp_devices.specs.Links.{all_of, on_port, ported, TakesFirst};
 use crate::calls::{Calls, no_calls};
 use rp_base::{Failed, Got, Link};
 use std::alloc::{AllocError, Global};
+use std::mem;
 
 /// A datagram, and the port that it was sent to.
 #[derive(Drop)]
@@ -16,12 +17,27 @@ pub struct Datagram {
 
 /// A link in memory: what is sent comes on the port that it was sent to. Of its calls those fail whose numbers are in a
 /// list, the first being number 0, and those that find no memory. A call that fails sends and takes nothing.
-#[derive(Drop)]
 pub struct MemLink {
     alloc: Global,
     sent: Vec<Datagram>,
     coming: Vec<Datagram>,
     calls: Calls,
+}
+
+// Written out, so that whoever drops a link makes one call: a derived drop is proved anew, down to the last field, wherever a value is
+// dropped.
+impl Drop for MemLink {
+    fn drop(self) {
+        let MemLink {
+            alloc: _,
+            sent,
+            coming,
+            calls,
+        } = self;
+        mem::drop(sent);
+        mem::drop(coming);
+        mem::drop(calls);
+    }
 }
 
 // One more datagram, with a copy of the bytes.

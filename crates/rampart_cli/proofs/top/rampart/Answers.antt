@@ -5,7 +5,7 @@ use Rattle.replay_defs.specs.Reports.{report_of}
 use Rattle.command_line.specs.Commands.{KitOrder, Replay, Gen, Keygen}
 use Rattle.rp_base.specs.Streams.{AppendsPrefix}
 use Rattle.chain_laws.proofs.Told.{answer_tells_views}
-use Rattle.rampart_cli.specs.Top.{Reported, ReportedInPart, kit_of_order, schedule_of_number}
+use Rattle.replay_words.specs.Answers.{Reported, ReportedInPart, kit_of_order, schedule_of_number}
 use Rattle.rampart_cli.proofs.Orders.{same_order, same_number, same_short, no_command}
 use Rattle.rampart_cli.proofs.top.rampart.Goals as goal
 

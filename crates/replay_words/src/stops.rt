@@ -1,6 +1,6 @@
 ghost use Rattle.std.specs.Prelude.{◌≡◌};
-ghost use Rattle.rampart_cli.specs.declared.stops.Stop.TheVariants as stops;
-ghost use Rattle.rampart_cli.specs.Statuses.{status_of, line_of, stop_of};
+ghost use Rattle.replay_words.specs.declared.stops.Stop.TheVariants as stops;
+ghost use Rattle.replay_words.specs.Statuses.{status_of, line_of, stop_of};
 
 use crate::streams::ReadFault;
 use rp_base::NoMemory;

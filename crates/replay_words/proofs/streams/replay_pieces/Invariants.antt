@@ -1,7 +1,7 @@
 use Rattle.std.proofs.Common.{◌≡◌, ◌-◌, ℕ, List, length}
 use Rattle.std.specs.Io.KnownBytes.{Consumes}
 use Rattle.replay_run.specs.Fed.{HasFed}
-use Rattle.rampart_cli.proofs.streams.replay_pieces.Given as goal
+use Rattle.replay_words.proofs.streams.replay_pieces.Given as goal
 
 -- what was taken so far was fed, and no call has failed
 abbrev pub invariant-pieces : goal.invariant-pieces

@@ -1,5 +1,5 @@
-use Rattle.rampart_cli.proofs.Runs.{reported, reported_in_part, stopped, replayed_told}
-use Rattle.rampart_cli.proofs.running.run_replay.Goals as goal
+use Rattle.replay_words.proofs.Runs.{reported, reported_in_part, stopped, replayed_told}
+use Rattle.replay_words.proofs.running.run_replay.Goals as goal
 
 pub returns-in-Ok-Ok-clause-done : goal.returns-in-Ok-Ok-clause-done
 returns-in-Ok-Ok-clause-done g c = λ zero.

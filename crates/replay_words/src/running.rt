@@ -5,9 +5,9 @@ ghost use Rattle.rp_base.specs.Causes.{Rose};
 ghost use Rattle.replay_defs.specs.Reports.{report_of};
 ghost use Rattle.command_line.specs.Commands.{IsOrder};
 ghost use Rattle.command_line.specs.Views.{order};
-ghost use Rattle.rampart_cli.specs.Statuses.{status_of, line_of};
+ghost use Rattle.replay_words.specs.Statuses.{status_of, line_of};
 ghost use Rattle.rp_base.specs.Streams.{AppendsPrefix, Says};
-ghost use Rattle.rampart_cli.specs.Top.{Reported, ReportedInPart, Stopped, kit_of_order, schedule_of_number};
+ghost use Rattle.replay_words.specs.Answers.{Reported, ReportedInPart, Stopped, kit_of_order, schedule_of_number};
 
 use crate::generating::write_generated;
 use crate::keygen::keygen;

@@ -2,7 +2,7 @@ ghost use Rattle.std.specs.Prelude.{◌≡◌, ◌⊎◌, OnOk, IfOk, IfErr, IsE
 ghost use Rattle.std.specs.Io.KnownBytes.{Appends};
 ghost use Rattle.rp_base.specs.Causes.{Rose};
 ghost use Rattle.rp_base.specs.Streams.{AppendsPrefix};
-ghost use Rattle.rampart_cli.specs.Top.{schedule_of_number};
+ghost use Rattle.replay_words.specs.Answers.{schedule_of_number};
 
 use crate::stops::Stop;
 use rp_base::{NoMemory, Sink, write_all};

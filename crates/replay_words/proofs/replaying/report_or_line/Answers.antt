@@ -1,6 +1,6 @@
 use Rattle.replay_run.proofs.Feeding.{fed_bytes}
-use Rattle.rampart_cli.proofs.Runs.{tells, none_told}
-use Rattle.rampart_cli.proofs.replaying.report_or_line.Goals as goal
+use Rattle.replay_words.proofs.Runs.{tells, none_told}
+use Rattle.replay_words.proofs.replaying.report_or_line.Goals as goal
 
 pub returns-in-Ok-clause-report : goal.returns-in-Ok-clause-report
 returns-in-Ok-clause-report c = λ fed has.

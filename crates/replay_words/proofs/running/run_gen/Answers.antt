@@ -1,6 +1,6 @@
 use Rattle.std.proofs.Common.{sym, ◌∙◌}
-use Rattle.rampart_cli.proofs.Stopped.{at_write, stopped_so, prefix_stays}
-use Rattle.rampart_cli.proofs.running.run_keygen.Goals as goal
+use Rattle.replay_words.proofs.Stopped.{at_write, stopped_so, prefix_stays}
+use Rattle.replay_words.proofs.running.run_gen.Goals as goal
 
 pub returns-in-Err-clause-part : goal.returns-in-Err-clause-part
 returns-in-Err-clause-part g c = λ e.

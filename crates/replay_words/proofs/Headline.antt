@@ -24,7 +24,7 @@ use Rattle.replay_defs.specs.declared.Scheme.{Scheme}
 use Rattle.replay_defs.specs.Keys.{is_from}
 use Rattle.replay_defs.specs.Schedules.{Listed, ScheduleEvent, Submit, Raw, Pass, Drain, Lie, Suspect, Join, Renew, Tick, Header, Schedule, AreListed, IsSchedule}
 use Rattle.replay_defs.specs.Worlds.{Player, Sent, World, WorldFault, setting_of, begins, start_of, correct_of, family_of, is_in, send, send_all, with_turn, takes, turn_of, turns_out, steps, player_of, hands, hands_frame, delivers, next_delivery, drains, lie_claim, lies, sends_lie, NoSuchFrame, TooMuchSent, happens, sum_above, counts, after_event, run_events, world_of}
-use Rattle.rampart_cli.specs.Top.{Headline}
+use Rattle.replay_words.specs.Answers.{Headline}
 
 -- ---- who takes part stays
 

@@ -1,9 +1,9 @@
 -- Why a run stops, the status that it ends with, and the line that it writes.
 use Rattle.std.specs.Prelude.{ℕ, List, [], codes}
-use Rattle.rampart_cli.specs.declared.stops.Stop.{Stop}
-use Rattle.rampart_cli.specs.declared.stops.Stop.TheVariants.{NoMemory, Words, Read, Write}
-use Rattle.rampart_cli.specs.declared.streams.ReadFault.{ReadFault}
-use Rattle.rampart_cli.specs.declared.streams.ReadFault.TheVariants as faults
+use Rattle.replay_words.specs.declared.stops.Stop.{Stop}
+use Rattle.replay_words.specs.declared.stops.Stop.TheVariants.{NoMemory, Words, Read, Write}
+use Rattle.replay_words.specs.declared.streams.ReadFault.{ReadFault}
+use Rattle.replay_words.specs.declared.streams.ReadFault.TheVariants as faults
 
 abbrev pub stop_of : ReadFault → Stop
 stop_of faults.NoMemory = NoMemory

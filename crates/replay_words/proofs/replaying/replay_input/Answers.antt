@@ -1,6 +1,6 @@
 use Rattle.replay_defs.specs.Schedules.{most_bytes}
-use Rattle.rampart_cli.proofs.Runs.{as_replayed, as_refused}
-use Rattle.rampart_cli.proofs.replaying.replay_input.Goals as goal
+use Rattle.replay_words.proofs.Runs.{as_replayed, as_refused}
+use Rattle.replay_words.proofs.replaying.replay_input.Goals as goal
 
 pub returns-clause-report : goal.returns-clause-report
 unfolding most_bytes

@@ -4,7 +4,7 @@ ghost use Rattle.rp_base.specs.Causes.{Rose};
 ghost use Rattle.command_line.specs.Commands.{IsOrder};
 ghost use Rattle.command_line.specs.Views.{order};
 ghost use Rattle.rp_base.specs.Streams.{AppendsPrefix};
-ghost use Rattle.rampart_cli.specs.Top.{kit_of_order};
+ghost use Rattle.replay_words.specs.Answers.{kit_of_order};
 
 use crate::stops::Stop;
 use command_line::KitOrder;

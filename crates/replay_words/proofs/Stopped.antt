@@ -4,9 +4,9 @@ use Rattle.std.specs.Prelude.{IsErrOf}
 use Rattle.std.proofs.KnownBytes.{Appends-trans}
 use Rattle.std.proofs.lemmas.List.{append-nil}
 use Rattle.std.specs.Io.KnownBytes.{Appends}
-use Rattle.rampart_cli.specs.declared.stops.Stop.{Stop}
-use Rattle.rampart_cli.specs.declared.stops.Stop.TheVariants.{NoMemory, Words, Read, Write}
-use Rattle.rampart_cli.specs.Statuses.{status_of, line_of}
+use Rattle.replay_words.specs.declared.stops.Stop.{Stop}
+use Rattle.replay_words.specs.declared.stops.Stop.TheVariants.{NoMemory, Words, Read, Write}
+use Rattle.replay_words.specs.Statuses.{status_of, line_of}
 use Rattle.rp_base.specs.Streams.{AppendsPrefix, Says}
 
 pub at_write : (stop : Stop) → status_of stop ≡ 4 → stop ≡ Write

@@ -1,7 +1,7 @@
 ghost use Rattle.std.specs.Prelude.{◌≡◌, IfOk, OnOk, IsErrOf};
 ghost use Rattle.rp_base.specs.Causes.{Rose};
-ghost use Rattle.rampart_cli.specs.Inputs.{WasFed};
-ghost use Rattle.rampart_cli.specs.declared.streams.ReadFault.TheVariants as faults;
+ghost use Rattle.replay_words.specs.Inputs.{WasFed};
+ghost use Rattle.replay_words.specs.declared.streams.ReadFault.TheVariants as faults;
 
 use replay_run::Replay;
 use rp_base::{Failed, NoMemory, Source};

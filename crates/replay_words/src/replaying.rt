@@ -1,8 +1,8 @@
 ghost use Rattle.std.specs.Prelude.{◌≡◌, ◌⊎◌, ℕ, List, OnOk, IfOk, IfErr, IsErrOf};
 ghost use Rattle.rp_base.specs.Causes.{Rose};
 ghost use Rattle.replay_run.specs.Fed.{HasFed};
-ghost use Rattle.rampart_cli.specs.Top as told;
-ghost use Rattle.rampart_cli.specs.Top.{Runs, HasNoRun, report_of_run, Replayed, Refused};
+ghost use Rattle.replay_words.specs.Answers as told;
+ghost use Rattle.replay_words.specs.Answers.{Runs, HasNoRun, report_of_run, Replayed, Refused};
 
 use crate::faults::stop_line;
 use crate::stops::Stop;

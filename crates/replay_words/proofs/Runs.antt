@@ -12,8 +12,8 @@ use Rattle.replay_defs.specs.Worlds.{World, WorldFault, world_of}
 use Rattle.replay_defs.specs.Reports.{ReplayFault, Stops, report_of, report_if_read, report_if_run}
 use Rattle.schedule_laws.proofs.Wholes.{schedule_takes, schedule_again}
 use Rattle.rp_base.specs.Streams.{AppendsPrefix, Says}
-use Rattle.rampart_cli.specs.Top.{Runs, HasNoRun, Replayed, Refused, Reported, ReportedInPart, Stopped, report_of_run, stop_line}
-use Rattle.rampart_cli.proofs.Headline.{headline}
+use Rattle.replay_words.specs.Answers.{Runs, HasNoRun, Replayed, Refused, Reported, ReportedInPart, Stopped, report_of_run, stop_line}
+use Rattle.replay_words.proofs.Headline.{headline}
 
 -- ---- reports
 

@@ -1,7 +1,7 @@
 use Rattle.std.proofs.Common.{[], ◌++◌, ◌∙◌, take, arith, refl, length-append}
 use Rattle.std.proofs.KnownBytes.{Consumes-nil, Consumes-trans}
 use Rattle.std.proofs.lemmas.List.{length-take}
-use Rattle.rampart_cli.proofs.streams.replay_pieces.Goals as goal
+use Rattle.replay_words.proofs.streams.replay_pieces.Goals as goal
 
 pub pieces-init : goal.pieces-init
 pieces-init g c = record { fed = []; has = c.in_ok-replay.ensures; taken = Consumes-nil _; count = refl; steady = refl }
