@@ -1,9 +1,22 @@
 -- What of a server answers the messages that its process delivers.
 use Rattle.std.specs.Prelude.{◌≡◌, ℕ, min, List, Option, option_map}
+use Rattle.store_defs.specs.Keys.{Signs}
 use Rattle.store_defs.specs.Serving.{Place, Server, position_at}
 use Rattle.store_keys.specs.Keys.{signs}
 use Rattle.store_replies.specs.Words.{most_counted, HasSpelling}
 use Rattle.store_replies.specs.declared.replies.Replies.{Replies}
+
+-- who replies
+abbrev pub me_in : Replies → ℕ
+me_in r = r.me
+
+-- its group
+abbrev pub group_in : Replies → List ℕ
+group_in r = r.group
+
+-- its key
+abbrev pub key_in : Replies → Signs
+key_in r = signs r.key
 
 -- the position of a message that is delivered next, at this place
 abbrev pub next_position : Replies → ℕ → ℕ
@@ -15,9 +28,9 @@ Fits r view place payload = HasSpelling view place (next_position r place) paylo
 
 -- they are those of the server: who replies, by which key, how many messages it delivered, the last one, and the store
 pub record IsReplying (q : Place) (s : Server) (r : Replies) : Type 0 where
-  pub me : q.me ≡ r.me
-  pub group : q.group ≡ r.group
-  pub key : q.replies ≡ signs r.key
+  pub me : q.me ≡ me_in r
+  pub group : q.group ≡ group_in r
+  pub key : q.replies ≡ key_in r
   -- up to the last number that is counted
   pub delivered : r.delivered ≡ min s.delivered most_counted
   pub last : s.last ≡ r.last

@@ -7,5 +7,5 @@ mod saying;
 
 pub use kv_service::Store;
 pub use replies::Replies;
-pub use rp_base::{GroupId, NoMemory, Pid};
+pub use rp_base::{GroupId, NoMemory, Pid, Roster};
 pub use store_keys::{LeafKey, Secret, reply_key, state_key};

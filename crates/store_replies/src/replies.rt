@@ -8,6 +8,7 @@ use rp_base::{GroupId, NoMemory, Pid};
 use std::alloc::Global;
 use store_keys::LeafKey;
 use store_records::Reply;
+use store_words::push_hex_line;
 
 /// What a process replies to the messages that it delivers: the key that signs, how many messages it delivered so far, and the store that
 /// answers, where the process holds it. What the definitions' server has of these, the record `IsReplying` of the specs says.
@@ -28,13 +29,13 @@ pub struct Replies {
 }
 
 impl Replies {
-    ghost use Rattle.std.specs.Prelude.{◌⊎◌, ◌++◌, min, OnOk, OnErr, None, option_map, is_some, IfSome};
+    ghost use Rattle.std.specs.Prelude.{◌⊎◌, ◌++◌, min, OnOk, OnErr, None, option_map, is_some, if◌then◌else◌};
     ghost use Rattle.group_defs.specs.Views.{View, is_member};
     ghost use Rattle.message_defs.specs.Statements.{Message};
     ghost use Rattle.store_defs.specs.Serving.{Place, Server, ToldReply, after_message, after_view, position_at, reply_to};
-    ghost use Rattle.store_defs.specs.Words.{told_text};
+    ghost use Rattle.store_defs.specs.Words.{reply_key_text, told_text};
     ghost use Rattle.store_replies.specs.Words.{HasSpelling, message_at};
-    ghost use Rattle.store_replies.specs.Replying.{Fits, IsReplying, next_position};
+    ghost use Rattle.store_replies.specs.Replying.{Fits, IsReplying, key_in, me_in, next_position};
 
     /// Of a process of this group, whose key has signed nothing yet: it delivered so many messages before this run (the last u32, where it
     /// is more), and holds the store or not.
@@ -137,17 +138,42 @@ impl Replies {
         self.store = store;
     }
 
-    /// The store, where the process holds it.
-    pub fn store(&self) -> Option<&Store>
-        ensures { (q : Place) (s : Server) → IsReplying q s self.now → option_map (λ t. t.now) result ≡ s.store }
+    /// Whether the process holds the store.
+    pub fn holds(&self) -> bool
+        ensures { (q : Place) (s : Server) → IsReplying q s self.now → result ≡ is_some s.store }
     {
-        self.store.as_ref()
+        self.store.is_some()
     }
 
-    /// The public key of the replies.
-    pub fn public(&self) -> &[u8]
-        ensures { (q : Place) (s : Server) → IsReplying q s self.now → result.now ≡ q.replies.public }
+    /// The store, where the process holds it and goes on to do so.
+    pub fn kept(&self, is_member: bool) -> Option<&Store>
+        ensures { (q : Place) (s : Server) → IsReplying q s self.now
+            → option_map (λ t. t.now) result ≡ if is_member then s.store else None }
     {
-        self.key.public()
+        if !is_member {
+            return None;
+        }
+        match &self.store {
+            Some(store) => Some(store),
+            None => None,
+        }
+    }
+
+    /// Who replies.
+    pub fn me(&self) -> Pid
+        ensures { result ≡ me_in self.now }
+    {
+        self.me
+    }
+
+    /// Appends the line of the key that signs the replies.
+    ///
+    /// # Errors
+    /// [`NoMemory`] where room for it is refused; nothing is appended then.
+    pub fn push_key(&self, out: &mut Vec<u8>) -> Result<(), NoMemory>
+        ensures pushed { OnOk result (out.new.items ≡ out.old.items ++ reply_key_text (me_in self.now) (key_in self.now).public) }
+        ensures unchanged { OnErr result (out.new.items ≡ out.old.items) }
+    {
+        push_hex_line(out, b"replykey", self.me, self.key.public())
     }
 }
