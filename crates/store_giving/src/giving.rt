@@ -195,6 +195,13 @@ impl Giving {
         self.push_given(alloc, out)
     }
 
+    /// The number of its view.
+    pub fn view_number(&self) -> u16
+        ensures { result ≡ (view_in self.now).number }
+    {
+        self.view.number()
+    }
+
     /// A view begins, which comes after the one before: the process gives this store of it, or none, and nobody has given a state yet.
     ///
     /// # Errors

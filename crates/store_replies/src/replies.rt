@@ -28,8 +28,16 @@ pub struct Replies {
     ghost few: { (signs key).total ≤ most_counted },
 }
 
+// The greatest number of a view or a place.
+const LAST_NUMBER: u16 = 1023;
+
+// The last position at a place.
+const LAST_POSITION: u8 = 15;
+
+const PAYLOAD_BYTES: usize = 1024;
+
 impl Replies {
-    ghost use Rattle.std.specs.Prelude.{◌⊎◌, ◌++◌, min, OnOk, OnErr, None, option_map, is_some, if◌then◌else◌};
+    ghost use Rattle.std.specs.Prelude.{◌⊎◌, ◌++◌, ◌↔◌, IsTrue, min, OnOk, OnErr, None, option_map, is_some, if◌then◌else◌};
     ghost use Rattle.group_defs.specs.Views.{View, is_member};
     ghost use Rattle.message_defs.specs.Statements.{Message};
     ghost use Rattle.store_defs.specs.Serving.{Place, Server, ToldReply, after_message, after_view, position_at, reply_to};
@@ -70,6 +78,18 @@ impl Replies {
             Some((before, position)) if before == place => position + 1,
             _ => 0,
         }
+    }
+
+    /// Whether the reply to the next message, of this place and payload in the view of this number, is in its ranges: view and place to
+    /// 1,023, its position to 15, its payload to 1,024 bytes.
+    pub fn fits(&self, view: u16, place: u16, payload: &[u8]) -> bool
+        ensures { IsTrue result ↔ Fits self.now view place payload.now }
+    {
+        let follows = match self.last {
+            Some((before, position)) if before == place => position < LAST_POSITION,
+            _ => true,
+        };
+        follows && view <= LAST_NUMBER && place <= LAST_NUMBER && payload.len() <= PAYLOAD_BYTES
     }
 
     /// Takes a message that the process delivers at this place, in the view of this number: the store carries its payload out, and the line

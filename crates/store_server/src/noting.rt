@@ -1,5 +1,5 @@
 //! Notes of the process.
-ghost use Rattle.std.specs.Prelude.{◌≡◌, ◌⊎◌, ◌++◌, OnOk, OnErr};
+ghost use Rattle.std.specs.Prelude.{◌≡◌, ◌⊎◌, ◌↔◌, ◌++◌, IsTrue, OnOk, OnErr};
 ghost use Rattle.group_defs.specs.Events.{Installs};
 ghost use Rattle.member_state.specs.Events.{note as note_of};
 ghost use Rattle.store_defs.specs.Serving as plain;
@@ -16,6 +16,31 @@ use store_giving::View;
 use store_replies::{NoMemory, Pid};
 
 impl Server {
+    // Whether the view of this number with these members is one, and comes after the one before it.
+    fn can_install(&self, number: u16, members: &[Pid]) -> bool
+        ensures { IsTrue result ↔ CanInstall self.now number members.now }
+    {
+        View::new(number, members).is_some() && self.giving.view_number() < number
+    }
+
+    /// Whether the server can take a note: a message that is delivered has its fields in the ranges of a reply, view and place to 1,023,
+    /// position at its place to 15, payload to 1,024 bytes; a view that is installed is one, and has a greater number than the one before.
+    pub fn can_take(&self, note: &Note) -> bool
+        ensures { IsTrue result ↔ CanTake self.now note.now }
+    {
+        match note {
+            Note::Delivered {
+                view,
+                place,
+                sender: _,
+                number: _,
+                payload,
+            } => self.replies.fits(*view, *place, payload.bytes()),
+            Note::Installed { view, members } => self.can_install(*view, members),
+            Note::Liar(_) | Note::Spent | Note::Halted { .. } => true,
+        }
+    }
+
     // The process is in the view of this number now, with these members.
     fn install(&mut self, alloc: Global, number: u16, members: &[Pid]) -> Result<(), NoMemory>
         requires { CanInstall self.old number members.now }
@@ -34,8 +59,7 @@ impl Server {
     }
 
     /// Takes a note of the process, and appends the line of the reply where it is of a message that was delivered; of other notes nothing is
-    /// written. A message that is delivered has its fields in the ranges of a reply: view and place to 1,023, position at its place to 15,
-    /// payload to 1,024 bytes. A view that is installed has a greater number than the one before.
+    /// written.
     ///
     /// # Errors
     /// [`NoMemory`] where room for the store, for what is signed or for the line is refused. Nothing is appended then; either nothing has
