@@ -12,7 +12,7 @@ use Rattle.replay_defs.specs.Pieces.{Reading, Stands, IsWhole}
 use Rattle.schedule_fields.specs.declared.fault.ScheduleFault.{ScheduleFault}
 use Rattle.schedule_fields.specs.Faults.{fault_of}
 use Rattle.schedule_pieces.specs.Readers.{Ends, IsFault}
-use Rattle.replay_questions.specs.Runs.{World}
+use Rattle.replay_report.specs.Runs.{World}
 use Rattle.replay_run.specs.declared.fault.ReplayFault.{ReplayFault}
 use Rattle.replay_run.specs.declared.fault.Stop.{Stop}
 use Rattle.replay_run.specs.declared.run.Run.{Run}

@@ -14,9 +14,8 @@ use Rattle.replay_defs.specs.Schedules.{Header, Listed, IsHeader, Schedule}
 use Rattle.replay_defs.specs.Worlds as plain
 use Rattle.replay_defs.specs.Worlds.{family_of, correct_of}
 use Rattle.replay_defs.specs.Reports.{report_by}
-use Rattle.replay_questions.specs.Runs.{World}
-use Rattle.replay_questions.specs.Worlds.{Shows, IsWorldOf}
-use Rattle.replay_questions.proofs.Seats.{Rises, listed_rise}
+use Rattle.replay_report.specs.Runs.{World, Shows, IsWorldOf}
+use Rattle.replay_report.proofs.Runs.{Rises, listed_rise}
 use Rattle.replay_run.specs.Reported.{Headline, IsReportOf}
 
 -- rising numbers are strictly increasing

@@ -1,7 +1,3 @@
-pub mod Players
-pub mod Standing
-pub mod Questions
-pub mod Ending
 pub mod Headlines
 pub mod Faulting
 pub mod Ranges

@@ -6,10 +6,9 @@ use Rattle.replay_defs.specs.Schedules.{Header, ScheduleEvent}
 use Rattle.replay_defs.specs.Worlds as plain
 use Rattle.replay_defs.specs.Worlds.{run_events, after_event, start_of}
 use Rattle.replay_defs.specs.Reports as reports
-use Rattle.replay_questions.specs.Runs.{World}
-use Rattle.replay_questions.specs.Runs.{WorldFault}
-use Rattle.replay_questions.specs.Stops.{NoSuchFrame, TooMuchSent, NoMemory}
-use Rattle.replay_questions.specs.Worlds.{Shows, Happens, Stops, IsFault, count_of}
+use Rattle.replay_report.specs.Runs.{World, WorldFault}
+use Rattle.replay_report.specs.Stops.{NoSuchFrame, TooMuchSent, NoMemory}
+use Rattle.replay_report.specs.Runs.{Shows, Happens, Stops, IsFault, count_of}
 use Rattle.replay_run.specs.Faults.{fault, fault_of_run}
 use Rattle.replay_run.specs.declared.fault.ReplayFault.{ReplayFault}
 use Rattle.replay_run.specs.declared.run.Run.{Run}

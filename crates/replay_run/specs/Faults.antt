@@ -5,8 +5,8 @@ use Rattle.replay_defs.specs.Worlds as worlds
 use Rattle.replay_defs.specs.Reports as plain
 use Rattle.schedule_fields.specs.declared.fault.ScheduleFault.{ScheduleFault}
 use Rattle.schedule_fields.specs.Faults.{fault_of}
-use Rattle.replay_questions.specs.Runs.{WorldFault}
-use Rattle.replay_questions.specs.Stops as stops
+use Rattle.replay_report.specs.Runs.{WorldFault}
+use Rattle.replay_report.specs.Stops as stops
 use Rattle.replay_run.specs.declared.fault.ReplayFault.{ReplayFault}
 use Rattle.replay_run.specs.declared.fault.ReplayFault.TheVariants.{Schedule, NoSuchFrame, TooMuchSent}
 use Rattle.replay_run.specs.declared.fault.Stop.{Stop}

@@ -1,5 +1,4 @@
 pub mod Faults
-pub mod Answered
 pub mod Reported
 pub mod Running
 pub mod Midway

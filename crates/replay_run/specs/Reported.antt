@@ -1,8 +1,8 @@
 -- What a report is of, and what holds of its family.
-use Rattle.std.specs.Prelude.{◌≡◌, Bool, List, ℕ, ◌++◌, flat_map, if◌then◌else◌, Ok}
+use Rattle.std.specs.Prelude.{◌≡◌, Bool, List, ℕ, Ok}
 use Rattle.group_defs.specs.Process.{keyed}
 use Rattle.group_defs.specs.Accounts.{Bounded, Agree, Sound}
-use Rattle.group_defs.specs.Family.{Family, ends, accounts, numbers, Honest}
+use Rattle.group_defs.specs.Family.{Family, accounts, numbers, Honest}
 use Rattle.replay_defs.specs.Schedules.{Schedule}
 use Rattle.replay_defs.specs.Reading.{schedule_of}
 use Rattle.replay_defs.specs.Worlds.{World, world_of, family_of}
@@ -27,10 +27,3 @@ pub record IsReported (short : Bool) (bytes text : List ℕ) : Type 0 where
   pub schedule : Schedule
   pub read : schedule_of bytes ≡ Ok schedule
   pub report : IsReportOf short schedule text
-
--- ---- the lines between the head and the answers
-
-abbrev pub middle_lines : Bool → World → Family → List ℕ
-middle_lines short w f =
-    if short then plain.refused_count w ++ flat_map plain.process_line (ends f)
-    else flat_map plain.refused_line w.refused ++ flat_map (plain.block w.spent) (ends f)

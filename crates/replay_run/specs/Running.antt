@@ -4,9 +4,7 @@ use Rattle.std.specs.Option.{option_map}
 use Rattle.replay_defs.specs.Schedules.{Header, ScheduleEvent, IsEvent}
 use Rattle.replay_defs.specs.Worlds.{World, WorldFault, run_events, start_of}
 use Rattle.replay_defs.specs.Reports as plain
-use Rattle.replay_questions.specs.Worlds.{Shows, count_of}
-use Rattle.replay_questions.specs.Runs.{World as CodeWorld}
-use Rattle.replay_questions.specs.Runs.{WorldFault as CodeFault}
+use Rattle.replay_report.specs.Runs.{Shows, count_of, World as CodeWorld, WorldFault as CodeFault}
 use Rattle.replay_run.specs.Faults.{fault, fault_of_run}
 use Rattle.replay_run.specs.declared.run.Run.{Run}
 use Rattle.replay_run.specs.declared.run.Run.TheVariants.{Waits, Runs, Stops}

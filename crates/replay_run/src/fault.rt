@@ -4,7 +4,7 @@ ghost use Rattle.replay_run.specs.declared.fault.Stop.TheVariants as stops;
 ghost use Rattle.replay_run.specs.Faults.{IsOfRun, IsOfBytes};
 
 use replay_defs::{Fault, FaultKind};
-use replay_questions::WorldFault;
+use replay_report::WorldFault;
 use rp_base::NoMemory;
 use schedule_pieces::ScheduleFault;
 

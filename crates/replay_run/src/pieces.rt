@@ -11,9 +11,9 @@ ghost use Rattle.replay_run.specs.Midway.{IsMidway, IsAfter, IsReal, IsMidwayThe
 ghost use Rattle.replay_run.specs.Fed.{HasFed};
 
 use crate::fault::{ReplayFault, Stop};
-use crate::reporting::report;
 use crate::run::{Run, begin, run_event};
 use crate::under_way::Replay;
+use replay_report::report;
 use rp_base::NoMemory;
 use schedule_file::ScheduleEvent;
 use schedule_pieces::ScheduleReader;

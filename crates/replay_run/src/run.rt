@@ -5,7 +5,7 @@ ghost use Rattle.schedule_file.specs.Views as views;
 ghost use Rattle.replay_run.specs.Running.{HasRun, CanCount, Begins, IsStoppedBy, RunsOn};
 
 use crate::fault::{ReplayFault, Stop};
-use replay_questions::{Told, World, WorldFault};
+use replay_report::{Told, World, WorldFault};
 use rp_base::NoMemory;
 use schedule_file::ScheduleEvent;
 use schedule_pieces::ScheduleReader;

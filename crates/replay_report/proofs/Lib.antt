@@ -1,0 +1,5 @@
+pub mod Players
+pub mod Standing
+pub mod Questions
+pub mod Ending
+pub mod Runs

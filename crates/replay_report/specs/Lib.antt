@@ -1,0 +1,4 @@
+pub mod Answered
+pub mod Lines
+pub mod Runs
+pub mod Stops

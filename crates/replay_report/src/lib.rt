@@ -1,0 +1,9 @@
+//! The report of a world: where its processes are, what was refused, and the answers to the four questions (docs/FORMATS.md, «The report»).
+#![tactic(auto)]
+
+mod answers;
+mod reporting;
+mod standings;
+
+pub use replay_questions::{Told, World, WorldFault};
+pub use reporting::report;
