@@ -1,11 +1,10 @@
 //! Notes of the process.
 ghost use Rattle.std.specs.Prelude.{◌≡◌, ◌⊎◌, ◌↔◌, ◌++◌, IsTrue, OnOk, OnErr};
 ghost use Rattle.group_defs.specs.Events.{Installs};
-ghost use Rattle.member_state.specs.Events.{note as note_of};
 ghost use Rattle.store_defs.specs.Serving as plain;
 ghost use Rattle.store_defs.specs.Serving.{Place, after_note};
 ghost use Rattle.store_defs.specs.Services.{noted_text};
-ghost use Rattle.store_server.specs.Notes.{CanInstall, CanTake};
+ghost use Rattle.store_server.specs.Notes.{CanInstall, CanTake, note_of};
 ghost use Rattle.store_server.specs.Serving.{IsServer};
 ghost use Rattle.view_table.specs.Views.{as_view};
 
