@@ -1,7 +1,7 @@
 mod Below
-mod ChMaj
 pub mod DigestWords
 pub mod Four
 pub mod InLane
+mod Majority
 mod Rotations
 mod Short

@@ -1,6 +1,6 @@
 // The functions on words (FIPS 180-4, section 4.1.2), on each lane of a vector.
 ghost use Rattle.std.specs.Prelude.{◌≡◌, ℕ, ◌<◌, ◌*◌, ◌/◌, ◌%◌, ◌^◌, if◌then◌else◌, nat_lt, slice_index, bit_and, bit_xor};
-ghost use Rattle.std.specs.Int.{w32, rotate_right};
+ghost use Rattle.std.specs.Int.{w32, bit_not, rotate_right};
 ghost use Rattle.sha2.specs.Sha256.{add32, big_sigma0, big_sigma1, ch, maj, small_sigma0, small_sigma1};
 
 use std::simd::u32x4;
@@ -33,6 +33,13 @@ fn and(x: u32x4, y: u32x4) -> u32x4
     ensures { (j : ℕ) → j < 4 → slice_index result j ≡ bit_and (slice_index x j) (slice_index y j) }
 {
     x & y
+}
+
+#[inline(always)]
+fn not(x: u32x4) -> u32x4
+    ensures { (j : ℕ) → j < 4 → slice_index result j ≡ bit_not w32 (slice_index x j) }
+{
+    !x
 }
 
 /// A shift to the left in each lane.
@@ -70,12 +77,12 @@ pub fn choose(a: u32x4, b: u32x4, x: u32x4, y: u32x4) -> u32x4
     a.simd_lt(b).select(x, y)
 }
 
-// One operation fewer than the standard's form.
+// The standard's form: the shorter `z ^ (x & (y ^ z))` is compiled to as many operations and one copy more.
 #[inline(always)]
 pub(crate) fn ch(x: u32x4, y: u32x4, z: u32x4) -> u32x4
     ensures { (j : ℕ) → j < 4 → slice_index result j ≡ ch (slice_index x j) (slice_index y j) (slice_index z j) }
 {
-    xor(z, and(x, xor(y, z)))
+    xor(and(x, y), and(not(x), z))
 }
 
 // One round's `x ^ y` is the next round's `y ^ z`, so it is computed once.
