@@ -25,9 +25,9 @@ most_counted = 4294967295
 abbrev pub message_at : ℕ → List ℕ → Message → Delivered
 message_at place payload m = record { place = place; message = m; payload = payload }
 
--- a reply in a view of this number, to a message of this place, position and payload, is in its ranges
-pub record HasSpelling (view place position : ℕ) (payload : List ℕ) : Type 0 where
-  pub view : view ≤ last_number
-  pub place : place ≤ last_number
-  pub position : position ≤ last_position
-  pub payload : length payload ≤ most_payload_bytes
+-- a reply in view x, to a message at position i of place k with this payload, is in its ranges
+pub record HasSpelling (x k i : ℕ) (bytes : List ℕ) : Type 0 where
+  pub view : x ≤ last_number
+  pub place : k ≤ last_number
+  pub position : i ≤ last_position
+  pub payload : length bytes ≤ most_payload_bytes

@@ -1,4 +1,4 @@
-ghost use Rattle.std.specs.Prelude.{◌≡◌, ◌≤◌};
+ghost use Rattle.std.specs.Prelude.{◌≡◌, ◌≤◌, None, if◌then◌else◌};
 ghost use Rattle.store_keys.specs.Keys.{next, signs};
 ghost use Rattle.store_replies.specs.Words.{most_counted};
 
@@ -28,6 +28,13 @@ pub struct Replies {
     ghost few: { (signs key).total ≤ most_counted },
 }
 
+// The store, where it is kept.
+fn kept_if(store: Option<Store>, keep: bool) -> Option<Store>
+    ensures { result ≡ if keep then store else None }
+{
+    if keep { store } else { None }
+}
+
 // The greatest number of a view or a place.
 const LAST_NUMBER: u16 = 1023;
 
@@ -37,7 +44,7 @@ const LAST_POSITION: u8 = 15;
 const PAYLOAD_BYTES: usize = 1024;
 
 impl Replies {
-    ghost use Rattle.std.specs.Prelude.{◌⊎◌, ◌++◌, ◌↔◌, IsTrue, min, OnOk, OnErr, None, option_map, is_some, if◌then◌else◌};
+    ghost use Rattle.std.specs.Prelude.{◌⊎◌, ◌++◌, ◌↔◌, IsTrue, min, OnOk, OnErr, option_map, is_some};
     ghost use Rattle.group_defs.specs.Views.{View, is_member};
     ghost use Rattle.message_defs.specs.Statements.{Message};
     ghost use Rattle.store_defs.specs.Serving.{Place, Server, ToldReply, after_message, after_view, position_at, reply_to};
@@ -47,6 +54,7 @@ impl Replies {
 
     /// Of a process of this group, whose key has signed nothing yet: it delivered so many messages before this run (the last u32, where it
     /// is more), and holds the store or not.
+    #[tactic(auto, unfolding(crate::specs::Words::most_counted))]
     pub fn new(
         me: Pid,
         group: GroupId,
@@ -146,9 +154,7 @@ impl Replies {
             → IsReplying q (after_view q s v) self.new }
     {
         self.last = None;
-        if !is_member {
-            self.store = None;
-        }
+        self.store = kept_if(self.store.take(), is_member);
     }
 
     /// The process has this store now, or none.
