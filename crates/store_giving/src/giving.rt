@@ -266,7 +266,9 @@ impl Giving {
             return Ok(Offered::Offered(Taken::OtherView));
         }
         let key = self.keys.of(given.signer);
-        let taken = self.transfer.offer(alloc, scheme, &self.group, key, &given)?;
+        let taken = self
+            .transfer
+            .offer(alloc, scheme, &self.group, key, &given)?;
         Ok(Offered::Offered(taken))
     }
 

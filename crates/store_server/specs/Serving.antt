@@ -6,12 +6,16 @@ use Rattle.store_defs.specs.Serving as plain
 use Rattle.store_defs.specs.Serving.{Place}
 use Rattle.store_defs.specs.Transfers.{Transfer}
 use Rattle.store_replies.specs.Replying.{IsReplying, key_in, group_in, me_in}
-use Rattle.store_giving.specs.Given.{IsGiving, state_key_in}
+use Rattle.store_giving.specs.Given.{IsGiving, state_key_in, transfer_in}
 use Rattle.store_server.specs.declared.server.Server.{Server}
 
 -- what never changes of it
 abbrev pub place : Server → Place
 place x = record { me = me_in x.replies; group = group_in x.replies; replies = key_in x.replies; states = state_key_in x.giving }
+
+-- who is counted with which state, and which is ready
+abbrev pub transfer_of : Server → Transfer
+transfer_of x = transfer_in x.giving
 
 -- that of a process of this number and group with this secret
 abbrev pub place_with : ℕ → List ℕ → Secret → Place

@@ -63,12 +63,7 @@ impl Server {
     /// # Errors
     /// [`NoMemory`] where room for the store, for what is signed or for the line is refused. Nothing is appended then; either nothing has
     /// changed, or the message is taken, its reply is lost, and nothing else is signed with its leaf.
-    pub fn note(
-        &mut self,
-        alloc: Global,
-        note: &Note,
-        out: &mut Vec<u8>,
-    ) -> Result<(), NoMemory>
+    pub fn note(&mut self, alloc: Global, note: &Note, out: &mut Vec<u8>) -> Result<(), NoMemory>
         requires takes { CanTake self.old note.now }
         ensures after { (q : Place) (s : plain.Server) → IsServer q s self.old
             → OnOk result (IsServer q (after_note q s (note_of note.now)) self.new) }

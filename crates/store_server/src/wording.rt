@@ -1,5 +1,5 @@
 //! Lines of a script that say something to the server.
-ghost use Rattle.std.specs.Prelude.{◌≡◌, ◌++◌, map, IfOk, OnErr};
+ghost use Rattle.std.specs.Prelude.{◌≡◌, ◌++◌, ◌∷◌, [], List, map, IfOk, OnOk, OnErr};
 ghost use Rattle.accounts.specs.Views.{account, delivery};
 ghost use Rattle.group_defs.specs.Accounts.{account_of};
 ghost use Rattle.group_defs.specs.Process as process;
@@ -12,9 +12,9 @@ ghost use Rattle.store_defs.specs.Serving.{Place, after_offer, offer_word};
 ghost use Rattle.store_defs.specs.Services.{line_worded, worded};
 ghost use Rattle.store_defs.specs.Words.{offered_text};
 ghost use Rattle.store_giving.specs.Offers.{store_by};
-ghost use Rattle.store_giving.specs.Given.{transfer_in};
 ghost use Rattle.store_words.specs.Views.{word as word_of};
-ghost use Rattle.store_server.specs.Serving.{IsHeard, IsServer, IsServerButTransfer};
+ghost use Rattle.store_server.specs.Beginning.{lists_of};
+ghost use Rattle.store_server.specs.Serving.{IsHeard, IsServer, IsServerButTransfer, transfer_of};
 
 use crate::server::Server;
 use accounts::{Account, Delivered};
@@ -37,7 +37,15 @@ fn last_of(lists: &[Vec<Delivered>]) -> &[Delivered]
 
 impl Server {
     // Takes the store over where a state is ready.
-    fn settle(&mut self, alloc: Global, here: &[Delivered], offered: Offered) -> Result<(), NoMemory>
+    fn settle(
+        &mut self,
+        alloc: Global,
+        here: &[Delivered],
+        offered: Offered,
+    ) -> Result<(), NoMemory>
+        ensures settled { (q : Place) (s : plain.Server) → IsServer q s self.old → OnOk result (IsServer q
+            (record s { store = store_by (payloads_of (map delivery here.now)) s.store offered (transfer_of self.old) }) self.new) }
+        ensures unchanged { (q : Place) (s : plain.Server) → IsServer q s self.old → OnErr result (IsServer q s self.new) }
     {
         if let Offered::Offered(Taken::Ready) = offered {
             let store = self.giving.ready(alloc, here)?;
@@ -55,6 +63,12 @@ impl Server {
         bytes: &[u8],
         out: &mut Vec<u8>,
     ) -> Result<(), NoMemory>
+        ensures written { (q : Place) (s : plain.Server) → IsServer q s self.old → OnOk result (out.new.items
+            ≡ out.old.items ++ offered_text q.me (offer_word (is_valid (scheme_in scheme)) q s bytes.now)) }
+        ensures after { (q : Place) (s : plain.Server) → IsServer q s self.old → OnOk result (IsServer q
+            (after_offer (is_valid (scheme_in scheme)) q (payloads_of (map delivery here.now)) s bytes.now) self.new) }
+        ensures unwritten { OnErr result (out.new.items ≡ out.old.items) }
+        ensures lost { (q : Place) (s : plain.Server) → IsServer q s self.old → OnErr result (IsServerButTransfer q s self.new) }
     {
         reserve_offered(out)?;
         let holds = self.replies.holds();
@@ -73,6 +87,12 @@ impl Server {
         word: &Word,
         out: &mut Vec<u8>,
     ) -> Result<(), NoMemory>
+        ensures written { (q : Place) (s : plain.Server) → IsServer q s self.old → OnOk result (out.new.items
+            ≡ out.old.items ++ (worded (is_valid (scheme_in scheme)) q (payloads_of (map delivery here.now)) s (word_of word.now)).0) }
+        ensures after { (q : Place) (s : plain.Server) → IsServer q s self.old → OnOk result (IsServer q
+            (worded (is_valid (scheme_in scheme)) q (payloads_of (map delivery here.now)) s (word_of word.now)).1 self.new) }
+        ensures unwritten { OnErr result (out.new.items ≡ out.old.items) }
+        ensures lost { (q : Place) (s : plain.Server) → IsServer q s self.old → OnErr result (IsServerButTransfer q s self.new) }
     {
         match word {
             Word::Give => self.giving.give(alloc, out),
