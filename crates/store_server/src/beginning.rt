@@ -1,42 +1,41 @@
 //! Where a run begins: a process as its journal left it.
-ghost use Rattle.std.specs.Prelude.{◌≡◌, ◌≤◌, [], length, map, slice_index_or, option_map, IfOk};
-ghost use Rattle.std.specs.List.{list_all};
+ghost use Rattle.std.specs.Prelude.{◌≡◌, ◌≤◌, [], length, map, min, slice_index_or, option_map, IfOk};
 ghost use Rattle.accounts.specs.Views.{account, delivery};
 ghost use Rattle.group_defs.specs.Accounts.{account_of};
 ghost use Rattle.group_defs.specs.Process as process;
-ghost use Rattle.group_defs.specs.Views.{is_member};
 ghost use Rattle.kit_defs.specs.Kits.{IsSecret};
 ghost use Rattle.sig_scheme.specs.Views.{secret as secret_in};
-ghost use Rattle.store_defs.specs.Holding.{payloads_of, store_over};
+ghost use Rattle.store_defs.specs.Holding.{delivered_below, payloads_of, stayed, store_over};
 ghost use Rattle.store_defs.specs.Serving.{held, server_of};
 ghost use Rattle.store_defs.specs.Stores.{store_after};
-ghost use Rattle.store_server.specs.Beginning.{counted, lists_of};
+ghost use Rattle.store_replies.specs.Words.{most_counted};
+ghost use Rattle.store_server.specs.Beginning.{lists_of};
 ghost use Rattle.store_server.specs.Serving.{IsServer, place_with};
 
 use crate::server::Server;
 use accounts::{Account, Delivered};
 use sig_scheme::Secret;
 use std::alloc::Global;
-use store_giving::{Giving, Store, View, carry_out};
-use store_replies::{GroupId, NoMemory, Pid, Replies, reply_key, state_key};
+use store_giving::{Giving, Store, carry_out};
+use store_replies::{GroupId, NoMemory, Replies, reply_key, state_key};
 
-// How many messages were delivered in these views, up to the last u32.
-fn count(lists: &[Vec<Delivered>]) -> u32
-    ensures { result ≡ counted (lists_of lists.now) }
+// How many messages the process delivered in all its views, up to the last u32.
+fn count(told: &Account) -> u32
+    ensures { result ≡ min (delivered_below (account told.now) (length told.now.delivered.items)) most_counted }
 {
     let mut total = 0u32;
-    'views: for delivered in lists {
+    'views: for delivered in &told.delivered {
         total = total.saturating_add(delivered.len().min(u32::MAX as usize) as u32);
     }
     total
 }
 
-// Whether the process is a member of each of these views.
-fn is_in_all(views: &[View], me: Pid) -> bool
-    ensures { result ≡ list_all (λ v. is_member v me) views.now }
+// Whether the process was a member of all its views.
+fn is_in_all(told: &Account) -> bool
+    ensures { result ≡ stayed (account told.now) 0 (length told.now.views.items) }
 {
-    'views: for view in views {
-        if !view.is_member(me) {
+    'views: for view in &told.views {
+        if !view.is_member(told.me) {
             return false;
         }
     }
@@ -58,14 +57,13 @@ fn store_after_all(alloc: Global, lists: &[Vec<Delivered>]) -> Result<Store, NoM
 // The store as the view begins, where the process was a member of all its views; what was delivered in those before it.
 fn begun(
     alloc: Global,
-    views: &[View],
-    me: Pid,
+    told: &Account,
     below: &[Vec<Delivered>],
 ) -> Result<Option<Store>, NoMemory>
-    ensures { IfOk result (λ o. o ≡ held (list_all (λ v. is_member v me) views.now)
+    ensures { IfOk result (λ o. o ≡ held (stayed (account told.now) 0 (length told.now.views.items))
         (store_over (λ z. payloads_of (slice_index_or (lists_of below.now) z [])) [] 0 (length below.now))) }
 {
-    if !is_in_all(views, me) {
+    if !is_in_all(told) {
         return Ok(None);
     }
     Ok(Some(store_after_all(alloc, below)?))
@@ -113,12 +111,12 @@ impl Server {
         let Some(view) = told.views.last() else {
             unreachable!();
         };
-        let store = begun(alloc, &told.views, told.me, below)?;
+        let store = begun(alloc, told, below)?;
         let states = state_key(alloc, secret)?;
         let giving = Giving::new(told.me, group, states, view.clone()?, store.as_ref(), alloc)?;
         let store = gone_on(alloc, store, here)?;
         let key = reply_key(alloc, secret)?;
-        let replies = Replies::new(told.me, group, key, count(&told.delivered), store);
+        let replies = Replies::new(told.me, group, key, count(told), store);
         Ok(Server { replies, giving })
     }
 }
