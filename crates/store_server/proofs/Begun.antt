@@ -1,6 +1,7 @@
 -- Where a run begins, from what an account says of each view.
 use Rattle.std.proofs.Common.{◌≡◌, ℕ, zero, suc, ◌+◌, ◌-◌, ◌<◌, ◌≤◌, List, [], ◌∷◌, ◌++◌, map, length, Bool, true, false, Option, None, Some, refl, sym, ap, ◌∙◌, subst, arith}
 use Rattle.std.specs.Prelude.{◌&&◌, nat_le, slice_index_or, min, option_map}
+use Rattle.std.proofs.lemmas.Bool.{leb-true, leb-false}
 use Rattle.group_defs.specs.Views.{View}
 use Rattle.group_defs.specs.Process.{Delivered, Process}
 use Rattle.group_defs.specs.Accounts.{Account, account_of, delivered_in}
@@ -49,7 +50,12 @@ left-once a n zero le no = ap (stayed a 0) same ∙ no
   where
     same : 0 ≡ n
     same = omega (arith, le)
-left-once a n (suc m) le no = ?
+left-once a n (suc m) le no = go (nat_le n m) refl (λ lem. left-once a n m lem no)
+  where
+    go : (b : Bool) → b ≡ nat_le n m → (n ≤ m → stayed a 0 m ≡ false) → stayed a 0 (suc m) ≡ false
+    go true here before = ap (λ (c : Bool). c && was_member a m) (before (leb-true n m (sym here)))
+    go false here before =
+        let lt = leb-false n m (sym here) in let same : suc m ≡ n = omega (arith, le, lt) in ap (stayed a 0) same ∙ no
 
 -- from the genesis on it holds the store where it was a member of all views up to this one
 pub holds-so : (a : Account) (x : ℕ) → holds a genesis x ≡ stayed a 0 (x + 1)

@@ -55,11 +55,7 @@ fn store_after_all(alloc: Global, lists: &[Vec<Delivered>]) -> Result<Store, NoM
 }
 
 // The store as the view begins, where the process was a member of all its views; what was delivered in those before it.
-fn begun(
-    alloc: Global,
-    told: &Account,
-    below: &[Vec<Delivered>],
-) -> Result<Option<Store>, NoMemory>
+fn begun(alloc: Global, told: &Account, below: &[Vec<Delivered>]) -> Result<Option<Store>, NoMemory>
     ensures { IfOk result (λ o. o ≡ held (stayed (account told.now) 0 (length told.now.views.items))
         (store_over (λ z. payloads_of (slice_index_or (lists_of below.now) z [])) [] 0 (length below.now))) }
 {
