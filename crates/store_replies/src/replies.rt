@@ -1,4 +1,4 @@
-ghost use Rattle.std.specs.Prelude.{◌≡◌, ◌≤◌, None, if◌then◌else◌};
+ghost use Rattle.std.specs.Prelude.{◌≡◌, ◌≤◌, ◌+◌, None, min, if◌then◌else◌};
 ghost use Rattle.store_keys.specs.Keys.{next, signs};
 ghost use Rattle.store_replies.specs.Words.{most_counted};
 
@@ -28,6 +28,14 @@ pub struct Replies {
     ghost few: { (signs key).total ≤ most_counted },
 }
 
+// One more, up to the last u32.
+#[tactic(auto, unfolding(crate::specs::Words::most_counted))]
+fn one_more(count: u32) -> u32
+    ensures { result ≡ min (count + 1) most_counted }
+{
+    count.saturating_add(1)
+}
+
 // The store, where it is kept.
 fn kept_if(store: Option<Store>, keep: bool) -> Option<Store>
     ensures { result ≡ if keep then store else None }
@@ -44,7 +52,7 @@ const LAST_POSITION: u8 = 15;
 const PAYLOAD_BYTES: usize = 1024;
 
 impl Replies {
-    ghost use Rattle.std.specs.Prelude.{◌⊎◌, ◌++◌, ◌↔◌, IsTrue, min, OnOk, OnErr, option_map, is_some};
+    ghost use Rattle.std.specs.Prelude.{◌⊎◌, ◌++◌, ◌↔◌, IsTrue, OnOk, OnErr, option_map, is_some};
     ghost use Rattle.group_defs.specs.Views.{View, is_member};
     ghost use Rattle.message_defs.specs.Statements.{Message};
     ghost use Rattle.store_defs.specs.Serving.{Place, Server, ToldReply, after_message, after_view, position_at, reply_to};
@@ -143,9 +151,10 @@ impl Replies {
             &answered,
             out,
         );
-        self.delivered = self.delivered.saturating_add(1);
+        self.delivered = one_more(self.delivered);
         self.last = Some((place, position));
-        told
+        told?;
+        Ok(())
     }
 
     /// A view begins: its messages begin at position 0 again, and the process goes on to hold the store where it is a member of the view.

@@ -81,6 +81,7 @@ fn record_of(alloc: Global, reply: &Reply<'_>, signature: &[u8]) -> Result<Vec<u
 }
 
 // Appends the line of a reply that has an answer: signed with the leaf of this number, or that there is none.
+#[tactic(auto, unfolding(crate::specs::Words::most_counted))]
 fn say(
     key: &mut LeafKey,
     alloc: Global,
@@ -107,6 +108,7 @@ fn say(
 
 /// Appends the line of a reply, of which all but answer and signature is there: that there is no store, where there is no answer, or the
 /// answered reply, signed with the leaf of this number, or that there is no such leaf.
+#[tactic(auto, unfolding(crate::specs::Words::most_counted))]
 pub(crate) fn tell(
     key: &mut LeafKey,
     alloc: Global,
