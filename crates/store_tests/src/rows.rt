@@ -1,12 +1,14 @@
 //! Rows, each a run of another program: what it wrote of one process, and the script's lines to this one.
-use crate::running::Row;
+use crate::running::{Key, Row};
 
 /// A process alone in its view serves two requests.
 pub(crate) const TWO_REQUESTS: Row = Row {
     me: 0,
     group: b"6f289d5b5aa425dc2f365877e4cf8595",
-    key: b"2dd447ac7305bc84b2dc0da0fe9411f33e1af724d30036daa8b9c930ce8b3722",
-    total: 100,
+    key: Key::Plain(
+        b"2dd447ac7305bc84b2dc0da0fe9411f33e1af724d30036daa8b9c930ce8b3722",
+        100,
+    ),
     processes: 1,
     genesis: b"0",
     before: b"",
@@ -24,8 +26,10 @@ reply 0 000000000100000b0000000000000001020161000201620020a737d1c1150f49f398e5f7
 pub(crate) const BATCH: Row = Row {
     me: 1,
     group: b"7511c48de3f553e68e572a2f5706dfd5",
-    key: b"044c020d5a71eb24632bf8e402ee75b6ea480c37810b74c96a3de7df9f5910ad",
-    total: 100,
+    key: Key::Plain(
+        b"044c020d5a71eb24632bf8e402ee75b6ea480c37810b74c96a3de7df9f5910ad",
+        100,
+    ),
     processes: 3,
     genesis: b"0 1 2",
     before: b"",
@@ -49,8 +53,10 @@ reply 1 010000000100000b000000000000000302016b000301763200208fb158d6c8518d23e370
 pub(crate) const ONE_LEAF: Row = Row {
     me: 3,
     group: b"011ae01bb5166b000f1b74a83cefdddf",
-    key: b"a094dc50e3c6e2095fb393fb5e4989410ac0e5f6a9ca330a3a7eb3cc57af1266",
-    total: 1,
+    key: Key::Plain(
+        b"a094dc50e3c6e2095fb393fb5e4989410ac0e5f6a9ca330a3a7eb3cc57af1266",
+        1,
+    ),
     processes: 4,
     genesis: b"0 1 2 3",
     before: b"",
@@ -72,8 +78,10 @@ state 3 spent",
 pub(crate) const JOINER: Row = Row {
     me: 1,
     group: b"324fdc7c3c2699e8a131868e33daaf60",
-    key: b"5d786cddc96e8994755ac75ebf48ec30eccbddf073b9135dd2df0347000ff688",
-    total: 100,
+    key: Key::Plain(
+        b"5d786cddc96e8994755ac75ebf48ec30eccbddf073b9135dd2df0347000ff688",
+        100,
+    ),
     processes: 2,
     genesis: b"0",
     before: b"",
@@ -105,8 +113,10 @@ state 1 01000200000007000101610001620020beec4734d75949ac47efc6d6c818e2fb753eeda3
 pub(crate) const REFUSED: Row = Row {
     me: 4,
     group: b"ec52d0e231d36c58493886fcebeda2ef",
-    key: b"a4a166480ef211c15a01ba7a763c6e27d7a9314c0fde6a69cf4abfd65582e473",
-    total: 100,
+    key: Key::Plain(
+        b"a4a166480ef211c15a01ba7a763c6e27d7a9314c0fde6a69cf4abfd65582e473",
+        100,
+    ),
     processes: 6,
     genesis: b"0 1 2 3",
     before: b"",
@@ -140,8 +150,10 @@ state 4 refused held",
 pub(crate) const ADDED_AGAIN: Row = Row {
     me: 3,
     group: b"21ec3367d877d46f8581037099c12aa6",
-    key: b"a0e7a8f6f011d55d7efee7f4dc650b52afc5075ebfbe28b5683d0eaa198f6a0d",
-    total: 100,
+    key: Key::Plain(
+        b"a0e7a8f6f011d55d7efee7f4dc650b52afc5075ebfbe28b5683d0eaa198f6a0d",
+        100,
+    ),
     processes: 4,
     genesis: b"0 1 2 3",
     before: b"",
@@ -171,8 +183,10 @@ c7d4",
 pub(crate) const BEGUN_AGAIN: Row = Row {
     me: 0,
     group: b"7055ecb30f3ff1a6214008adc502df6a",
-    key: b"9449212e8a0e6c949f874ee3fadb178a59c47fcfa2bee4e2a7df362bda6b9d56",
-    total: 100,
+    key: Key::Plain(
+        b"9449212e8a0e6c949f874ee3fadb178a59c47fcfa2bee4e2a7df362bda6b9d56",
+        100,
+    ),
     processes: 1,
     genesis: b"0",
     before: b"deliver 0 0 0 0 0 000000000000000001016b000176
@@ -190,3 +204,25 @@ view 0 2 : 0
 > 0 give
 state 0 000002000000070001016b000177002059a820a2c895a2ade5cbf8f3b4d54f87452b13e01d1d951ee5b92d8c9bcda65a",
 };
+
+/// The same with keys of trees: the reply has leaf 3, and the state leaf 1.
+pub(crate) const LEAVES: Row = Row {
+    me: 0,
+    group: b"5989e4a81e9d0f8c6b18e32499125fb3",
+    key: Key::Tree(
+        b"ac6486a45c70fcf2c8524897e112b0f9",
+        b"824bb205d5deb4e0d9bbaee71da0746c6a4e291c7d09ec867134a77f69a02ccf",
+    ),
+    processes: 1,
+    genesis: b"0",
+    before: b"deliver 0 0 0 0 0 000000000000000001016b000176
+deliver 0 0 1 0 1 000000000000000102016b
+view 0 1 : 0
+deliver 0 1 0 0 0 000000000000000201016b000177",
+    lines: b"deliver 0 1 1 0 1 000000000000000302016b
+> 0 give",
+};
+
+/// SHA-256 of what is written then.
+pub(crate) const LEAVES_DIGEST: &[u8; 64] =
+    b"509a6ea850e3d34771208477eb6cf967ff9d5ed96c2c0a09a989e415ffbdac01";

@@ -5,17 +5,25 @@ use std::alloc::Global;
 use std::process::Abort;
 use std::test::Fail;
 use store_server::{
-    Account, AnyScheme, Delivered, GroupId, Note, Payload, Pid, Roster, Secret, Server, View,
-    push_keys,
+    Account, AnyScheme, Delivered, GroupId, Note, OtsType, Payload, Pid, Roster, Secret, Server,
+    View, push_keys,
 };
 use text_codec::{Parts, byte_list, bytes, number, process};
 
-/// A process of plain keys, and the lines of its run.
+/// What the process signs with.
+pub(crate) enum Key {
+    /// This plain key, so many times.
+    Plain(&'static [u8; 64], u32),
+
+    /// The tree of height 5 and W8 of this I and seed.
+    Tree(&'static [u8; 32], &'static [u8; 64]),
+}
+
+/// A process, and the lines of its run.
 pub(crate) struct Row {
     pub(crate) me: u8,
     pub(crate) group: &'static [u8; 32],
-    pub(crate) key: &'static [u8; 64],
-    pub(crate) total: u32,
+    pub(crate) key: Key,
     pub(crate) processes: u8,
     pub(crate) genesis: &'static [u8],
 
@@ -136,17 +144,40 @@ fn roster(alloc: Global, row: &Row) -> Result<Roster, Fail> {
     Ok(roster)
 }
 
-fn server(alloc: Global, row: &Row, told: &Account) -> Result<Server, Fail> {
-    let secret = Secret::Plain {
-        key: bytes::<32>(row.key).ok_or("no key")?,
-        total: row.total,
-    };
-    let group = GroupId(bytes::<16>(row.group).ok_or("no group")?);
-    Ok(Server::begin(alloc, &secret, group, told)?)
+fn plain(key: &[u8; 64], total: u32) -> Result<Secret, Fail> {
+    Ok(Secret::Plain {
+        key: bytes::<32>(key).ok_or("no key")?,
+        total,
+    })
 }
 
-/// Holds what the server of the row writes against the row's lines.
-pub(crate) fn run(rt: &impl Abort, alloc: Global, row: &Row) -> Result<(), Fail> {
+fn tree(id: &[u8; 32], seed: &[u8; 64]) -> Result<Secret, Fail> {
+    Ok(Secret::Lms {
+        height: 5,
+        ots: OtsType::W8,
+        id: bytes::<16>(id).ok_or("no I")?,
+        seed: bytes::<32>(seed).ok_or("no seed")?,
+    })
+}
+
+fn begun(alloc: Global, row: &Row, secret: &Secret, told: &Account) -> Result<Server, Fail> {
+    let group = GroupId(bytes::<16>(row.group).ok_or("no group")?);
+    Ok(Server::begin(alloc, secret, group, told)?)
+}
+
+fn server(alloc: Global, row: &Row, told: &Account) -> Result<Server, Fail> {
+    match row.key {
+        Key::Plain(key, total) => begun(alloc, row, &plain(key, total)?, told),
+        Key::Tree(id, seed) => begun(alloc, row, &tree(id, seed)?, told),
+    }
+}
+
+/// What the server of the row writes, and what the row's lines want.
+pub(crate) fn written(
+    rt: &impl Abort,
+    alloc: Global,
+    row: &Row,
+) -> Result<(Vec<u8>, Vec<u8>), Fail> {
     let mut told = told_before(alloc, row)?;
     let roster = roster(alloc, row)?;
     let mut servers = vec![in alloc; server(alloc, row, &told)?]?;
@@ -167,6 +198,12 @@ pub(crate) fn run(rt: &impl Abort, alloc: Global, row: &Row) -> Result<(), Fail>
             wanted.push(b'\n')?;
         }
     }
+    Ok((written, wanted))
+}
+
+/// Holds what the server of the row writes against the row's lines.
+pub(crate) fn run(rt: &impl Abort, alloc: Global, row: &Row) -> Result<(), Fail> {
+    let (written, wanted) = written(rt, alloc, row)?;
     assert_eq!(rt; written.as_slice(), wanted.as_slice());
     Ok(())
 }

@@ -1,7 +1,11 @@
 //! Each row, run.
-use crate::rows::{ADDED_AGAIN, BATCH, BEGUN_AGAIN, JOINER, ONE_LEAF, REFUSED, TWO_REQUESTS};
-use crate::running::run;
+use crate::rows::{
+    ADDED_AGAIN, BATCH, BEGUN_AGAIN, JOINER, LEAVES, LEAVES_DIGEST, ONE_LEAF, REFUSED, TWO_REQUESTS,
+};
+use crate::running::{run, written};
+use sha2::{Digest, Sha256};
 use std::test::Fail;
+use text_codec::bytes;
 
 #[test]
 fn two_requests_are_served(rt: HostRuntime) -> Result<(), Fail> {
@@ -36,4 +40,11 @@ fn a_process_added_again_replies_by_a_state(rt: HostRuntime) -> Result<(), Fail>
 #[test]
 fn a_run_goes_on_with_the_leaf_that_follows(rt: HostRuntime) -> Result<(), Fail> {
     run(&rt, rt.alloc(), &BEGUN_AGAIN)
+}
+
+#[test]
+fn a_leaf_counts_what_was_delivered(rt: HostRuntime) -> Result<(), Fail> {
+    let (written, _) = written(&rt, rt.alloc(), &LEAVES)?;
+    assert_eq!(rt; Some(Sha256::digest(&written)), bytes::<32>(LEAVES_DIGEST));
+    Ok(())
 }
