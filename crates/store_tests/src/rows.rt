@@ -225,4 +225,4 @@ deliver 0 1 0 0 0 000000000000000201016b000177",
 
 /// SHA-256 of what is written then.
 pub(crate) const LEAVES_DIGEST: &[u8; 64] =
-    b"509a6ea850e3d34771208477eb6cf967ff9d5ed96c2c0a09a989e415ffbdac01";
+    b"79a04b15db8991bf31970e1b3502397f25bac41e0863884b6460e82abf4b7884";

@@ -15,7 +15,7 @@ pub(crate) enum Key {
     /// This plain key, so many times.
     Plain(&'static [u8; 64], u32),
 
-    /// The tree of height 5 and W8 of this I and seed.
+    /// The tree of height 5 and W2 of this I and seed.
     Tree(&'static [u8; 32], &'static [u8; 64]),
 }
 
@@ -154,7 +154,7 @@ fn plain(key: &[u8; 64], total: u32) -> Result<Secret, Fail> {
 fn tree(id: &[u8; 32], seed: &[u8; 64]) -> Result<Secret, Fail> {
     Ok(Secret::Lms {
         height: 5,
-        ots: OtsType::W8,
+        ots: OtsType::W2,
         id: bytes::<16>(id).ok_or("no I")?,
         seed: bytes::<32>(seed).ok_or("no seed")?,
     })
