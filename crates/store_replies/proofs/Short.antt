@@ -27,14 +27,14 @@ found-short (Get key) old s short = omega arith
 found-short (Remove key) old s short = omega arith
 found-short (Exchange key expected value) old s short = go (same_bytes old expected)
   where
-    go : (b : Bool) → length (answer_bytes (if b then (Done, with_pair key value s) else (Differs old, s)).0) ≤ 513
+    go : (b : Bool) → length (answer_bytes (if◌then◌else◌ {A = Answer × Store} b (Done, with_pair key value s) (Differs old, s)).0) ≤ 513
     go true = omega arith
     go false = omega arith
 
 missed-short : (c : Command) (s : Store) → length (answer_bytes (missed c s).0) ≤ 513
 missed-short (Set key value) s = go (length s == most_keys)
   where
-    go : (b : Bool) → length (answer_bytes (if b then (Full, s) else (Done, with_pair key value s)).0) ≤ 513
+    go : (b : Bool) → length (answer_bytes (if◌then◌else◌ {A = Answer × Store} b (Full, s) (Done, with_pair key value s)).0) ≤ 513
     go true = omega arith
     go false = omega arith
 missed-short (Get key) s = omega arith
@@ -46,7 +46,7 @@ unfolding carried_out
 carried-short c s is = go (value_of (key_of c) s) refl
   where
     go : (o : Option (List ℕ)) → o ≡ value_of (key_of c) s
-        → length (answer_bytes (elim o [ None ↦ missed c s | Some old ↦ found c old s ]).0) ≤ 513
+        → length (answer_bytes (elim o as (λ x. Answer × Store) [ None ↦ missed c s | Some old ↦ found c old s ]).0) ≤ 513
     go None here = missed-short c s
     go (Some old) here = found-short c old s (value-short (key_of c) s old is.each (sym here))
 
@@ -54,6 +54,6 @@ pub answer-short : (s : Store) (payload : List ℕ) → IsStore s → length (an
 unfolding applied
 answer-short s payload is = go (request_of payload)
   where
-    go : (r : Reading Command) → length (answer_bytes (elim r [ Ok c ↦ carried_out c s | Err fault ↦ (NoCommand, s) ]).0) ≤ 513
+    go : (r : Reading Command) → length (answer_bytes (elim r as (λ x. Answer × Store) [ Ok c ↦ carried_out c s | Err fault ↦ (NoCommand, s) ]).0) ≤ 513
     go (Ok c) = carried-short c s is
     go (Err fault) = omega arith

@@ -1,7 +1,7 @@
 -- Where a run begins, from what an account says of each view.
 use Rattle.std.proofs.Common.{◌≡◌, ℕ, zero, suc, ◌+◌, ◌-◌, ◌<◌, ◌≤◌, List, [], ◌∷◌, ◌++◌, map, length, Bool, true, false, Option, None, Some, refl, sym, ap, ◌∙◌, subst, arith}
 use Rattle.std.specs.Prelude.{◌&&◌, nat_le, slice_index_or, min, option_map}
-use Rattle.std.proofs.lemmas.Bool.{leb-true, leb-false}
+use Rattle.std.proofs.lemmas.Bool.{le-leb, leb-true, leb-false}
 use Rattle.group_defs.specs.Views.{View}
 use Rattle.group_defs.specs.Process.{Delivered, Process}
 use Rattle.group_defs.specs.Accounts.{Account, account_of, delivered_in}
@@ -46,17 +46,20 @@ module _ (a : Account) (below : List (List Delivered)) (here : List Delivered) (
 -- it was no member of one of the first views, so it was not one of all
 pub left-once : (a : Account) (n m : ℕ) → n ≤ m → stayed a 0 n ≡ false → stayed a 0 m ≡ false
 unfolding stayed
-left-once a n zero le no = ap (stayed a 0) same ∙ no
+left-once a n zero le out = ap (stayed a 0) same ∙ out
   where
     same : 0 ≡ n
     same = omega (arith, le)
-left-once a n (suc m) le no = go (nat_le n m) refl (λ lem. left-once a n m lem no)
+left-once a n (suc m) le out = go (nat_le n m) refl (λ lem. left-once a n m lem out)
   where
     go : (b : Bool) → b ≡ nat_le n m → (n ≤ m → stayed a 0 m ≡ false) → stayed a 0 (suc m) ≡ false
-    go true here before = ap (λ (c : Bool). c && was_member a m) (before (leb-true n m (sym here)))
+    go true here before = ap (λ (c : Bool). c && was_member a (0 + m)) (before (leb-true n m (sym here)))
     go false here before =
-        let lt = leb-false n m (sym here) in let same : suc m ≡ n = omega (arith, le, lt) in ap (stayed a 0) same ∙ no
+        let lt = leb-false n m (sym here) in let same : suc m ≡ n = omega (arith, le, lt) in ap (stayed a 0) same ∙ out
 
 -- from the genesis on it holds the store where it was a member of all views up to this one
 pub holds-so : (a : Account) (x : ℕ) → holds a genesis x ≡ stayed a 0 (x + 1)
-holds-so a x = refl
+holds-so a x =
+    let first : nat_le 0 x ≡ true = le-leb 0 x (omega arith) in
+    let count : x - 0 + 1 ≡ x + 1 = omega arith in
+    λ i. first i && stayed a 0 (count i)
