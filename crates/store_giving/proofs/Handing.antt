@@ -21,7 +21,8 @@ handed-in keys after p key q lt is = ap (λ (ks : List (Option PublicKey)). key_
     go false other = ap (option_map key_bytes) (get_or-set_other keys p q (Some key) None (λ at. eqb-false p q (sym other) (sym at)))
 
 -- and so it is of the definitions' server
-pub handed-key : (s : Server) (p : ℕ) (key : List ℕ) (q : ℕ) → handed_key (with_key p key s) q ≡ (if p == q then Some key else handed_key s q)
+pub handed-key : (s : Server) (p : ℕ) (key : List ℕ) (q : ℕ)
+    → handed_key (with_key p key s) q ≡ (if p == q then Some key else handed_key s q)
 handed-key s p key q = go (p == q)
   where
     go : (b : Bool) → option_map (λ (k : ℕ × List ℕ). k.1) (if b then Some (p, key) else find (λ k. k.0 == q) s.keys)

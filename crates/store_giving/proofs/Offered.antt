@@ -90,7 +90,8 @@ store_taken here store taken.Ready t = ready_store here t
 store_taken here store o t = store
 
 pub taken-parts : (here : List (List ℕ)) (s : Server) (r : StateRecord) (t : Taken)
-    → after_taken here s r t ≡ record s { store = store_taken here s.store t (with_record s.transfer r t); transfer = with_record s.transfer r t }
+    → after_taken here s r t
+    ≡ record s { store = store_taken here s.store t (with_record s.transfer r t); transfer = with_record s.transfer r t }
 taken-parts here s r taken.OtherView = refl
 taken-parts here s r taken.Stranger = refl
 taken-parts here s r taken.Unsigned = refl

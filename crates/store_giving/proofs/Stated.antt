@@ -11,7 +11,8 @@ use Rattle.store_giving.specs.Signatures.{record_with}
 
 -- the state record, signed with the leaf whose number is the view's
 abbrev pub signed_with : ℕ → List ℕ → Signs → ℕ → List ℕ → StateRecord
-signed_with me group key number state = record_with me number state (key.signature number (state_body group (record_with me number state [])))
+signed_with me group key number state =
+    record_with me number state (key.signature number (state_body group (record_with me number state [])))
 
 -- the word of the state that is given, of these parts
 abbrev pub state_in_parts : ℕ → List ℕ → Signs → ℕ → Option (List ℕ) → StateWord

@@ -18,4 +18,5 @@ record_with me number state signature = record { signer = me; view = number; sta
 -- the bytes are the signature of the state with the leaf whose number is the view's
 abbrev pub IsSignature : Signs → List ℕ → ℕ → ℕ → Option Spelling → List ℕ → Type 0
 IsSignature key group me number state signature =
-    (signature ≡ key.signature number (state_body group (record_with me number (state_in state) []))) × (length signature ≤ most_signature_bytes)
+    (signature ≡ key.signature number (state_body group (record_with me number (state_in state) [])))
+    × (length signature ≤ most_signature_bytes)

@@ -25,8 +25,8 @@ use store_records::{StateRecord, push_state, push_state_body, read_state};
 use store_words::{push_hex_line, push_line};
 use view_table::View;
 
-/// What a process gives of its view, and what others gave: the key that signs, the state with its signature, once it was asked for, the keys
-/// of the others, and the states that they gave. What the definitions' server has of these, the record `IsGiving` of the specs says.
+/// What a process gives of its view, and what others gave: the key that signs, the state with its signature, once it was asked for, the
+/// keys of the others, and the states that they gave. What the definitions' server has of these, the record `IsGiving` of the specs says.
 #[derive(Drop)]
 pub struct Giving {
     me: Pid,
@@ -93,8 +93,8 @@ impl Giving {
     ghost use Rattle.store_giving.specs.Given.{IsGiving, IsSameBut, giver_in, signed_record, state_key_in, transfer_in, view_in};
     ghost use Rattle.store_giving.specs.Offers.{ready_store, store_by, word};
 
-    /// Of a process of this group in this view, whose key has signed nothing yet, and which gives this store or none. It was handed no key and
-    /// no state.
+    /// Of a process of this group in this view, whose key has signed nothing yet, and which gives this store or none. It was handed no key
+    /// and no state.
     ///
     /// # Errors
     /// [`NoMemory`] where room for the state or for keys is refused.
@@ -174,8 +174,8 @@ impl Giving {
         push_hex_line(out, STATE, self.me, &record)
     }
 
-    /// Appends the line of the store that the process gives of its view: the state as it was when the view began, signed with the leaf whose
-    /// number is the view's, or that there is no such leaf, or no store. The state is signed once in a view: the signature is kept.
+    /// Appends the line of the store that the process gives of its view: the state as it was when the view began, signed with the leaf
+    /// whose number is the view's, or that there is no such leaf, or no store. The state is signed once in a view: the signature is kept.
     ///
     /// # Errors
     /// [`NoMemory`] where room for what is signed or for the line is refused. Nothing is appended then; a signature that was made is kept.
@@ -234,9 +234,9 @@ impl Giving {
         self.keys.hand(p, key);
     }
 
-    /// Offers bytes as a state to the process, of which `holds` says whether it holds the store. The state counts where its bytes are a state
-    /// record, the process holds no store and is a member of its view, and the transfer takes it; else the answer is the first reason why not,
-    /// and nothing has changed.
+    /// Offers bytes as a state to the process, of which `holds` says whether it holds the store. The state counts where its bytes are a
+    /// state record, the process holds no store and is a member of its view, and the transfer takes it; else the answer is the first
+    /// reason why not, and nothing has changed.
     ///
     /// # Errors
     /// [`NoMemory`] where room for what is signed or for the state is refused; nothing has changed then.
@@ -289,7 +289,8 @@ impl Giving {
         Ok(Some(store))
     }
 
-    /// Appends the line that says what became of a state that was offered, for which there is room ([`reserve_offered`](crate::reserve_offered)).
+    /// Appends the line that says what became of a state that was offered, for which there is room
+    /// ([`reserve_offered`](crate::reserve_offered)).
     pub fn append_offered(&self, out: &mut Vec<u8>, offered: Offered)
         requires room { vec_len out.old + 32 ≤ vec_capacity out.old }
         ensures { out.new.items ≡ out.old.items ++ offered_text (giver_in self.now) (word offered) }

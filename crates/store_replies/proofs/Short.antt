@@ -54,6 +54,7 @@ pub answer-short : (s : Store) (payload : List ℕ) → IsStore s → length (an
 unfolding applied
 answer-short s payload is = go (request_of payload)
   where
-    go : (r : Reading Command) → length (answer_bytes (elim r as (λ x. Answer × Store) [ Ok c ↦ carried_out c s | Err fault ↦ (NoCommand, s) ]).0) ≤ 513
+    go : (r : Reading Command)
+        → length (answer_bytes (elim r as (λ x. Answer × Store) [ Ok c ↦ carried_out c s | Err fault ↦ (NoCommand, s) ]).0) ≤ 513
     go (Ok c) = carried-short c s is
     go (Err fault) = omega arith

@@ -126,7 +126,8 @@ impl Replies {
         ensures after { (q : Place) (s : Server) (m : Message) → IsReplying q s self.old
             → OnOk result (IsReplying q (after_message s (message_at place payload.now m)) self.new) }
         ensures told { (q : Place) (s : Server) (m : Message) → IsReplying q s self.old
-            → OnOk result (out.new.items ≡ out.old.items ++ told_text q.me (ToldReply (reply_to q s view (message_at place payload.now m)))) }
+            → OnOk result (out.new.items
+            ≡ out.old.items ++ told_text q.me (ToldReply (reply_to q s view (message_at place payload.now m)))) }
         ensures untold { OnErr result (out.new.items ≡ out.old.items) }
         ensures lost { (q : Place) (s : Server) (m : Message) → IsReplying q s self.old
             → OnErr result (IsReplying q s self.new ⊎ IsReplying q (after_message s (message_at place payload.now m)) self.new) }

@@ -57,8 +57,8 @@ impl Server {
         Ok(())
     }
 
-    /// Takes a note of the process, and appends the line of the reply where it is of a message that was delivered; of other notes nothing is
-    /// written.
+    /// Takes a note of the process, and appends the line of the reply where it is of a message that was delivered; of other notes nothing
+    /// is written.
     ///
     /// # Errors
     /// [`NoMemory`] where room for the store, for what is signed or for the line is refused. Nothing is appended then; either nothing has

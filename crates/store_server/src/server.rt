@@ -7,8 +7,8 @@ ghost use Rattle.store_server.specs.Serving.{Begins, place};
 use store_giving::Giving;
 use store_replies::{NoMemory, Replies};
 
-/// The server of one hosted process: what it replies, and what it gives. What the definitions' server keeps, it keeps: the record `IsServer`
-/// of the specs says so.
+/// The server of one hosted process: what it replies, and what it gives. What the definitions' server keeps, it keeps: the record
+/// `IsServer` of the specs says so.
 #[derive(Drop)]
 pub struct Server {
     pub(crate) replies: Replies,

@@ -104,8 +104,8 @@ impl Server {
         }
     }
 
-    /// Does what a line of a script asks of the server, in a group of this scheme and roster, and appends what is written then; `told` is what
-    /// the process tells of itself. False where the line has no word for a server; nothing has changed then.
+    /// Does what a line of a script asks of the server, in a group of this scheme and roster, and appends what is written then; `told` is
+    /// what the process tells of itself. False where the line has no word for a server; nothing has changed then.
     ///
     /// # Errors
     /// [`NoMemory`] where room for a state, for what is signed, for the store or for the line is refused. Nothing is appended then, and
@@ -119,8 +119,8 @@ impl Server {
         line: &[u8],
         out: &mut Vec<u8>,
     ) -> Result<bool, NoMemory>
-        ensures heard { (kit : Kit) (p : process.Process) (q : Place) (s : plain.Server) → kit.scheme ≡ scheme_in scheme → kit.keys ≡ roster.now
-            → account_of p ≡ account told.now → IsServer q s self.old
+        ensures heard { (kit : Kit) (p : process.Process) (q : Place) (s : plain.Server)
+            → kit.scheme ≡ scheme_in scheme → kit.keys ≡ roster.now → account_of p ≡ account told.now → IsServer q s self.old
             → IfOk result (λ heard. IsHeard q s out.old.items out.new.items self.new heard
             (line_worded kit q (payloads_of p.delivered) s line.now)) }
         ensures unwritten { OnErr result (out.new.items ≡ out.old.items) }
