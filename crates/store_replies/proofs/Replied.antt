@@ -52,7 +52,8 @@ counted-where-held view place payload me group key n last (Some t) few = counted
     (record (asked me view place (position_at last place) payload) { answer = answer_to t payload }) few
 
 pub reply-is : (q : Place) (s : Server) (view place : ℕ) (payload : List ℕ) (m : Message) (me : ℕ) (group : List ℕ) (key : Signs)
-    (count : ℕ) (last : Option (ℕ × ℕ)) (store : Option Store) → q.me ≡ me → q.group ≡ group → q.replies ≡ key → count ≡ min s.delivered most_counted
+    (count : ℕ) (last : Option (ℕ × ℕ)) (store : Option Store)
+    → q.me ≡ me → q.group ≡ group → q.replies ≡ key → count ≡ min s.delivered most_counted
     → s.last ≡ last → s.store ≡ store → key.total ≤ most_counted
     → reply_to q s view (message_at place payload m) ≡ word_in view place payload me group key last count store
 reply-is q s view place payload m me group key count last store is_me is_group is_key is_count is_last is_store few =
