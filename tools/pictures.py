@@ -234,7 +234,7 @@ AREAS = {
     "kits and words": (676, 413, 2, "text_codec kit_file kit_lines kit_draft kit_reading kit_making command_line"),
     "signatures": (676, 622, 2, "sha256_lanes lms_chains lms_ots lms_tree lms_hss sig_scheme bench_parts"),
     "links and journals": (676, 777, 2, "link_defs auth_link journal_defs journal_disk journal_entries journal_rp"),
-    "a store": (1040, 20, 2, "store_defs store_laws store_rows store_records kv_service vote_client state_transfer store_words store_keys store_replies store_giving store_server"),
+    "a store": (1040, 20, 2, "store_defs store_laws following_laws store_rows store_records kv_service vote_client state_transfer store_words store_keys store_replies store_giving store_server"),
     "chains of views, and guards": (1040, 262, 2, "chain_defs chain_text_defs chain_laws chain_rows chain_check chain_words guard_defs guard_laws guard_rows"),
     "convictions and audits": (1040, 450, 2, "conviction_defs conviction_laws conviction audit_defs audit_laws evidence_laws findings_laws claim_firsts audit_claims audit_turns journal_steps audit_sources audit_walk audit_cast findings_json audit_core audit_rows"),
     "nodes": (1040, 746, 2, "image_defs image_laws snapshot_defs snapshot_laws snapshot_rows snapshot_rp kept_images node_defs node_laws node_text node_keys node_hosts node_traces opening_laws resume_laws script_laws letting_laws letter_laws node_input node_opening node_turns sealing_laws node_taking node_receiving node_script stop_laws node_loop node_rows"),

@@ -1,2 +1,4 @@
 pub mod LineLaws
 pub mod Taken
+pub mod BytesTaken
+pub mod Places

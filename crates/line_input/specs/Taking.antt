@@ -34,6 +34,11 @@ IsLast most now bytes Line = Unit {0}
 IsLast most now bytes Broken = (most < length bytes) ⊎ IsAtEnd now
 IsLast most now bytes End = IsAtEnd now
 
+-- Bytes were taken as they came, and these are ahead now: so many, or all that came before the input ended, which are fewer.
+abbrev pub TakesBytes : ℕ → Option (List ℕ) → Option (List ℕ) → List ℕ → List ℕ → Option (List ℕ) → Type 0
+TakesBytes count before now ahead left (Some bytes) = (length bytes ≡ count) × ReadOn before now ahead (bytes ++ left)
+TakesBytes count before now ahead left None = (bytes : List ℕ) × (length bytes < count) × ReadOn before now ahead bytes × (left ≡ []) × IsAtEnd now
+
 -- A reader has read on, to these bytes, and then answered this: by what the source had left before and has left now, and by what was ahead.
 pub record Answered (most : ℕ) (before now : Option (List ℕ)) (ahead : List ℕ) (l : Taken) (next : Next) : Type 0 where
   pub bytes : List ℕ

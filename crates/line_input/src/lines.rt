@@ -1,8 +1,8 @@
-ghost use Rattle.std.specs.Prelude.{◌≡◌, ◌==◌, ◌⊎◌, ◌<◌, ◌≤◌, true, false, [], length, drop, IfOk, IsErrOf, OnErr, OnOk};
+ghost use Rattle.std.specs.Prelude.{◌≡◌, ◌==◌, ◌⊎◌, ◌<◌, ◌≤◌, ◌++◌, ℕ, List, true, false, [], length, drop, option_map, take, IfErr, IfOk, IsErrOf, OnErr, OnOk};
 ghost use Rattle.std.specs.List.{position};
 ghost use Rattle.std.specs.Io.KnownBytes.{IsAtEnd, Keeps};
 ghost use Rattle.rp_base.specs.Causes.{Rose};
-ghost use Rattle.line_input.specs.Taking.{Answered, HasFeed, ReadOn, Takes};
+ghost use Rattle.line_input.specs.Taking.{Answered, HasFeed, ReadOn, Takes, TakesBytes};
 
 use crate::faults::InputFault;
 use rp_base::Source;
@@ -101,7 +101,7 @@ impl Lines {
     fn read_piece<S: Source>(&mut self, input: &mut S) -> Result<bool, InputFault>
         ensures read { ReadOn (S.left input.old) (S.left input.new) self.old.ahead self.new.ahead }
         ensures more { IfOk result (λ some. (some ≡ true → length self.old.ahead < length self.new.ahead)
-            × (some ≡ false → IsAtEnd (S.left input.new))) }
+            × (some ≡ false → (self.new.ahead ≡ self.old.ahead) × IsAtEnd (S.left input.new))) }
         ensures failed { IsErrOf result InputFault.Read → Rose (S.faults input.old) (S.faults input.new) }
         ensures steady { IsErrOf result InputFault.Read ⊎ (S.faults input.new ≡ S.faults input.old) }
     {
@@ -169,5 +169,61 @@ impl Lines {
     {
         self.read_on(input, most)?;
         Ok(self.take(most))
+    }
+
+    // Whether bytes are ahead, where need be after a further piece was read: else the input has ended.
+    fn has_more<S: Source>(&mut self, input: &mut S) -> Result<bool, InputFault>
+        ensures read { ReadOn (S.left input.old) (S.left input.new) self.old.ahead self.new.ahead }
+        ensures more { IfOk result (λ some. (some ≡ true → 0 < length self.new.ahead)
+            × (some ≡ false → (self.new.ahead ≡ []) × IsAtEnd (S.left input.new))) }
+        ensures failed { IsErrOf result InputFault.Read → Rose (S.faults input.old) (S.faults input.new) }
+        ensures steady { IsErrOf result InputFault.Read ⊎ (S.faults input.new ≡ S.faults input.old) }
+    {
+        if self.ahead().is_empty() {
+            self.read_piece(input)
+        } else {
+            Ok(true)
+        }
+    }
+
+    // Takes what is ahead, but at most so many bytes, and appends it.
+    fn take_into(&mut self, most: usize, bytes: &mut Vec<u8>) -> Result<(), InputFault>
+        ensures took { OnOk result ((bytes.new.items ≡ bytes.old.items ++ take most self.old.ahead)
+            × (self.new.ahead ≡ drop most self.old.ahead)) }
+        ensures kept { OnErr result (self.new.ahead ≡ self.old.ahead) }
+        ensures only { IfErr result (λ fault. fault ≡ InputFault.NoMemory) }
+    {
+        let ahead = self.ahead();
+        let count = ahead.len().min(most);
+        bytes.extend_from_slice(&ahead[..count])?;
+        self.next += count;
+        Ok(())
+    }
+
+    /// Takes the next `count` bytes of the input, which may be any: where the input ends before, None, and all that came is taken. The
+    /// vector grows with what comes, and not with `count`. It is to be called with the same source as [`Lines::read`].
+    ///
+    /// # Errors
+    /// [`InputFault::Read`] only where a read failed; [`InputFault::NoMemory`]. Some of the bytes are taken then.
+    pub fn read_bytes<S: Source>(
+        &mut self,
+        alloc: Global,
+        input: &mut S,
+        count: usize,
+    ) -> Result<Option<Vec<u8>>, InputFault>
+        ensures takes { IfOk result (λ found. TakesBytes count (S.left input.old) (S.left input.new) self.old.ahead self.new.ahead
+            (option_map (λ bytes. bytes.items) found)) }
+        ensures some { OnErr result ((taken : List ℕ) × ReadOn (S.left input.old) (S.left input.new) self.old.ahead (taken ++ self.new.ahead)) }
+        ensures failed { IsErrOf result InputFault.Read → Rose (S.faults input.old) (S.faults input.new) }
+        ensures steady { IsErrOf result InputFault.Read ⊎ (S.faults input.new ≡ S.faults input.old) }
+    {
+        let mut bytes = Vec::new(alloc);
+        'pieces: while bytes.len() < count {
+            if !self.has_more(input)? {
+                return Ok(None);
+            }
+            self.take_into(count - bytes.len(), &mut bytes)?;
+        }
+        Ok(Some(bytes))
     }
 }

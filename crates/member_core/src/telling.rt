@@ -1,11 +1,11 @@
 //! A member as it starts, and what it tells of itself.
-ghost use Rattle.std.specs.Prelude.{◌≡◌, ◌≤◌, length, IfOk};
+ghost use Rattle.std.specs.Prelude.{◌≡◌, ◌≤◌, length, IfOk, None};
 ghost use Rattle.std.specs.Option.{option_map};
-ghost use Rattle.group_defs.specs.Process.{Setting, Process, start};
+ghost use Rattle.group_defs.specs.Process.{Setting, Process, all_kinds, start};
 ghost use Rattle.group_defs.specs.Accounts.{account_of};
 ghost use Rattle.group_defs.specs.Settle.{phase_of};
 ghost use Rattle.stmt_codec.specs.Views.{claim as claim_of};
-ghost use Rattle.member_signing.specs.States.{account, word, kept_of, liars_of, halted_at};
+ghost use Rattle.member_signing.specs.States.{IsReal, IsStateOf, account, word, kept_of, liars_of, halted_at};
 ghost use Rattle.member_core.specs.Cores.{IsCore, Shares, me_of, signer_of};
 
 use crate::attempts::Rooms;
@@ -36,8 +36,26 @@ impl<G: Tally + Drop> Core<G> {
         ensures starts { IfOk result (λ c. (s : Setting) → Shares s group roster genesis → IsCore G.used s (start s me batch_limit) c) }
         ensures signer { IfOk result (λ c. signer_of c ≡ signer) }
     {
-        let frames = Frames::new(alloc)?;
         let state = ProcessState::new(alloc, &roster, &genesis, me, batch_limit)?;
+        Core::of_state(alloc, group, roster, state, signer)
+    }
+
+    /// The process that has this state, in the group of this roster. The signer has made as many signatures as the process has signed
+    /// statements; on `NoMemory` it is dropped unused.
+    pub fn of_state(
+        alloc: Global,
+        group: GroupId,
+        roster: Roster,
+        state: ProcessState,
+        signer: G,
+    ) -> Result<Core<G>, NoMemory>
+        requires real { IsReal state }
+        requires here { state.left ≡ None }
+        ensures is { IfOk result (λ c. (s : Setting) (p : Process) → s.group ≡ group → s.roster ≡ roster → s.signs ≡ all_kinds
+            → length p.signed ≡ G.used signer → IsStateOf s p state → IsCore G.used s p c) }
+        ensures signer { IfOk result (λ c. signer_of c ≡ signer) }
+    {
+        let frames = Frames::new(alloc)?;
         let rooms = Rooms::new(alloc, &state);
         let kept = Box::new(alloc, state)?;
         let keyless = Keyless {
@@ -49,6 +67,16 @@ impl<G: Tally + Drop> Core<G> {
             rooms,
         };
         Ok(Core { keyless, signer })
+    }
+
+    /// The state of the process: its own data, apart from group, roster and signer. Nothing is copied.
+    #[tactic(auto, unfolding(crate::specs::Cores::IsCore))]
+    pub fn state(&self) -> &ProcessState
+        ensures state { (s : Setting) (p : Process) → IsCore G.used s p self.now → IsStateOf s p result.now }
+        ensures real { IsReal result.now }
+        ensures here { result.now.left ≡ None }
+    {
+        &self.keyless.state
     }
 
     /// The process's number.

@@ -1,12 +1,12 @@
-use Rattle.std.proofs.Common.{false, refl, subst, sym}
+use Rattle.std.proofs.Common.{false, refl, sym}
 use Rattle.std.proofs.lemmas.Grind.{merely}
+use Rattle.std.proofs.lemmas.Result.{IfOk-weaker}
 use Rattle.group_defs.specs.Process.{Setting, Process, all_kinds, start}
-use Rattle.member_signing.specs.States.{HasProcess, IsStateOf}
-use Rattle.member_core.specs.Cores.{IsCore}
+use Rattle.member_signing.specs.States.{HasProcess}
 use Rattle.member_core.proofs.member.Core.new.Goals as goal
 
-pub invariant_of-keyless-clause-real : goal.invariant_of-keyless-clause-real
-invariant_of-keyless-clause-real g c =
+pub of_state-requires-clause-real : goal.of_state-requires-clause-real
+of_state-requires-clause-real g c =
     let s : Setting = record {
       group = c.args.group;
       roster = c.args.roster;
@@ -14,24 +14,16 @@ invariant_of-keyless-clause-real g c =
       valid = λ key body signature. false;
       signs = all_kinds;
     } in
-    let p : Process = start s c.args.me c.args.batch_limit in
-    let has : HasProcess c.in_ok-kept.kept.value = record {
+    let has : HasProcess c.in_ok-state.state = record {
       setting = s;
-      process = p;
-      state = subst (IsStateOf s p) (sym c.in_ok-kept.ensures.ok)
-          (c.in_ok-state.ensures.starts s (record { keys = refl; genesis = refl }));
+      process = start s c.args.me c.args.batch_limit;
+      state = c.in_ok-state.ensures.starts s (record { keys = refl; genesis = refl });
     } in
     merely has
 
 pub returns-clause-starts : goal.returns-clause-starts
-unfolding IsCore
-returns-clause-starts g c s shares = record {
-  keyless = record {
-    state = subst (IsStateOf s (start s c.args.me c.args.batch_limit)) (sym c.in_ok-kept.ensures.ok)
-        (c.in_ok-state.ensures.starts s (record { keys = shares.roster; genesis = shares.genesis }));
-    group = shares.group;
-    roster = shares.roster;
-    kinds = shares.kinds;
-  };
-  signed = sym c.requires.unused;
-}
+returns-clause-starts g c =
+    IfOk-weaker c.of_state.result _ _
+    (λ core is. λ s shares. is s (start s c.args.me c.args.batch_limit) shares.group shares.roster shares.kinds (sym c.requires.unused)
+    (c.in_ok-state.ensures.starts s (record { keys = shares.roster; genesis = shares.genesis })))
+    c.of_state.ensures.is

@@ -1,0 +1,5 @@
+use Rattle.following_laws.proofs.Growing as laws
+use Rattle.following_laws.proofs.replies_stay.Goals as goal
+
+pub returns : goal.returns
+returns c = laws.replies_stay

@@ -1,0 +1,5 @@
+use Rattle.following_laws.proofs.Replying as laws
+use Rattle.following_laws.proofs.turn_opens_places.Goals as goal
+
+pub returns : goal.returns
+returns c = laws.turn_opens_places
