@@ -1,5 +1,5 @@
 -- An answer is a byte and at most a value.
-use Rattle.std.proofs.Common.{◌≡◌, ℕ, ◌+◌, ◌<◌, ◌≤◌, List, [], ◌∷◌, length, Option, Some, None, Bool, true, false, refl, sym, ap, ◌∙◌, subst, arith, Ok, Err}
+use Rattle.std.proofs.Common.{◌≡◌, ℕ, ◌+◌, ◌<◌, ◌≤◌, List, [], ◌∷◌, ◌++◌, length, Option, Some, None, Bool, true, false, refl, sym, ap, ◌∙◌, subst, arith, Ok, Err}
 use Rattle.std.specs.Prelude.{if◌then◌else◌, find, option_map, Result, ◌==◌}
 use Rattle.std.specs.List.{AllByRecursion}
 use Rattle.byte_defs.specs.Equality.{same_bytes}
@@ -50,7 +50,7 @@ carried-short c s is = go (value_of (key_of c) s) refl
     go None here = missed-short c s
     go (Some old) here = found-short c old s (value-short (key_of c) s old is.each (sym here))
 
-pub answer-short : (s : Store) (payload : List ℕ) → IsStore s → length (answer_to s payload) ≤ 513
+answer-short : (s : Store) (payload : List ℕ) → IsStore s → length (answer_to s payload) ≤ 513
 unfolding applied
 answer-short s payload is = go (request_of payload)
   where
@@ -58,3 +58,11 @@ answer-short s payload is = go (request_of payload)
         → length (answer_bytes (elim r as (λ x. Answer × Store) [ Ok c ↦ carried_out c s | Err fault ↦ (NoCommand, s) ]).0) ≤ 513
     go (Ok c) = carried-short c s is
     go (Err fault) = omega arith
+
+-- an answer after no bytes
+pub appended-short : (s : Store) (payload before after : List ℕ) → IsStore s → after ≡ before ++ answer_to s payload → before ≡ []
+    → length after ≤ 513
+appended-short s payload before after within said none =
+    let short = answer-short s payload within in
+    let same : after ≡ answer_to s payload = said ∙ ap (λ (b : List ℕ). b ++ answer_to s payload) none in
+    omega (arith, ap length same, short)

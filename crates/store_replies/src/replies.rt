@@ -132,6 +132,8 @@ impl Replies {
         ensures lost { (q : Place) (s : Server) (m : Message) → IsReplying q s self.old
             → OnErr result (IsReplying q s self.new ⊎ IsReplying q (after_message s (message_at place payload.now m)) self.new) }
     {
+        // Read, so that it is known to be at most 63.
+        let _number = self.me.get();
         let position = self.position(place);
         let asked = Reply {
             signer: self.me,
@@ -158,13 +160,14 @@ impl Replies {
         Ok(())
     }
 
-    /// A view begins: its messages begin at position 0 again, and the process goes on to hold the store where it is a member of the view.
-    pub fn begin_view(&mut self, is_member: bool)
-        ensures { (q : Place) (s : Server) (v : View) → IsReplying q s self.old → is_member v q.me ≡ is_member
+    /// A view begins: its messages begin at position 0 again, and the process holds the store further where it stays, which is where it is
+    /// a member of the view.
+    pub fn begin_view(&mut self, stays: bool)
+        ensures { (q : Place) (s : Server) (v : View) → IsReplying q s self.old → is_member v q.me ≡ stays
             → IsReplying q (after_view q s v) self.new }
     {
         self.last = None;
-        self.store = kept_if(self.store.take(), is_member);
+        self.store = kept_if(self.store.take(), stays);
     }
 
     /// The process has this store now, or none.
@@ -181,12 +184,12 @@ impl Replies {
         self.store.is_some()
     }
 
-    /// The store, where the process holds it and goes on to do so.
-    pub fn kept(&self, is_member: bool) -> Option<&Store>
+    /// The store, where the process holds it and stays.
+    pub fn kept(&self, stays: bool) -> Option<&Store>
         ensures { (q : Place) (s : Server) → IsReplying q s self.now
-            → option_map (λ t. t.now) result ≡ if is_member then s.store else None }
+            → option_map (λ t. t.now) result ≡ if stays then s.store else None }
     {
-        if !is_member {
+        if !stays {
             return None;
         }
         match &self.store {
