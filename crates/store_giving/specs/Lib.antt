@@ -1,5 +1,0 @@
-pub mod Handed
-pub mod Spellings
-pub mod Signatures
-pub mod Offers
-pub mod Given

@@ -1,3 +1,0 @@
-pub mod Serving
-pub mod Notes
-pub mod Beginning
