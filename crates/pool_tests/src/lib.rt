@@ -14,6 +14,8 @@ mod firsts;
 #[cfg(test)]
 mod group;
 #[cfg(test)]
+mod heard;
+#[cfg(test)]
 mod multicast;
 #[cfg(test)]
 mod own;
