@@ -88,7 +88,10 @@ impl Store {
         ensures answered { OnOk result (answer.new.items ≡ answer.old.items ++ answer_to self.old payload.now) }
         ensures unchanged { OnErr result (self.new ≡ self.old) }
         ensures unanswered { OnErr result (answer.new.items ≡ answer.old.items) }
+        ensures within { IsStore self.old }
     {
+        // Read before the first way out, so that what holds of every store is known there.
+        let _ = &self.pairs;
         answer.reserve(1)?;
         let Some(command) = read_request(payload) else {
             say(answer, NO_COMMAND);
@@ -105,6 +108,7 @@ impl Store {
     pub fn state_into(&self, out: &mut Vec<u8>) -> Result<(), NoMemory>
         ensures pushed { OnOk result (out.new.items ≡ out.old.items ++ stores.store_bytes self.now) }
         ensures unchanged { OnErr result (out.new.items ≡ out.old.items) }
+        ensures within { IsStore self.now }
     {
         out.reserve(state_length(&self.pairs))?;
         append_state(&self.pairs, out);

@@ -1,0 +1,4 @@
+pub mod Replied
+pub mod Short
+pub mod Delivering
+pub mod Telling
