@@ -14,8 +14,6 @@ mod firsts;
 #[cfg(test)]
 mod group;
 #[cfg(test)]
-mod heard;
-#[cfg(test)]
 mod multicast;
 #[cfg(test)]
 mod own;
