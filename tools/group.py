@@ -14,7 +14,7 @@ comes, after its number. A word at the prompt, or a line of standard input:
     cut P Q          nothing passes between P and Q any more; heal mends all cuts
     lie P Q TEXT     Q is handed TEXT as P's last message, signed with P's key: P has then signed two texts under one number
     show             each node's view, members and deliveries, and what the network did
-    audit            what all journals say of their processes, and who is convicted by them
+    audit            what all journals say of their processes, and who is convicted by them, once the program has that word
     wait SECONDS     for scripts
     quit             as the end of the input
 
