@@ -1,0 +1,4 @@
+mod Gathered
+mod Entries
+mod Ends
+mod Phases

@@ -1,0 +1,156 @@
+//! Claims of an image, in the lists that a member keeps.
+ghost use Rattle.std.specs.Prelude.{◌≡◌, ◌≢◌, ◌==◌, ◌++◌, ◌∷◌, [], filter, AllPairs, IfOk, OnOk};
+ghost use Rattle.message_defs.specs.Spelling.{IsClaim};
+ghost use Rattle.message_defs.specs.Statements as plain;
+ghost use Rattle.stmt_codec.specs.Views.{stmt, claim as claim_of};
+ghost use Rattle.claim_index.specs.Kept.{claim_bytes};
+ghost use Rattle.claim_lists.specs.Pairs.{with_pair};
+ghost use Rattle.image_parts.specs.Walks.{with_said, with_all_said, with_pairs};
+
+use claim_lists::{ClaimList, Conflicts};
+use rp_base::NoMemory;
+use snapshot_rp::KeptClaim;
+use std::alloc::Global;
+use stmt_codec::{Claim, Statement, spelled_len};
+
+// The number of the view that the statement belongs to.
+fn view_of(statement: &Statement<'_>) -> u16
+    ensures { result ≡ plain.view_of (stmt statement.now) }
+{
+    match *statement {
+        Statement::Init { view, .. }
+        | Statement::Echo { view, .. }
+        | Statement::Order { view, .. }
+        | Statement::Place { view, .. }
+        | Statement::Keep { view, .. }
+        | Statement::Notify { view, .. }
+        | Statement::End { view, .. }
+        | Statement::Last { view, .. }
+        | Statement::Suggest { view, .. }
+        | Statement::Ack { view, .. }
+        | Statement::Ready { view, .. } => view,
+    }
+}
+
+// How many bytes the claim's statement and signature have.
+fn bytes_of(claim: &Claim<'_>) -> usize
+    requires { IsClaim (claim_of claim.now) }
+    ensures { result ≡ claim_bytes (claim_of claim.now) }
+{
+    spelled_len(&claim.statement) + claim.signature.len()
+}
+
+// Puts the claim behind the others.
+fn put(claims: &mut ClaimList, claim: &Claim<'_>) -> Result<(), NoMemory>
+    requires { IsClaim (claim_of claim.now) }
+    ensures { OnOk result (claims.new.claims ≡ claims.old.claims ++ claim_of claim.now ∷ []) }
+{
+    claims.reserve(1, bytes_of(claim))?;
+    claims.push(claim);
+    Ok(())
+}
+
+// Puts the claim behind the others, where it is of the view of this number.
+fn put_said(said: &mut ClaimList, number: u16, kept: &KeptClaim) -> Result<(), NoMemory>
+    ensures { OnOk result (said.new.claims ≡ with_said number said.old.claims kept.now) }
+{
+    let claim = kept.claim();
+    if view_of(&claim.statement) == number {
+        put(said, &claim)?;
+    }
+    Ok(())
+}
+
+// Puts those of the claims behind the others that are of the view of this number.
+fn put_all_said(said: &mut ClaimList, number: u16, signed: &[KeptClaim]) -> Result<(), NoMemory>
+    ensures { OnOk result (said.new.claims ≡ with_all_said number said.old.claims signed.now) }
+{
+    for kept in signed {
+        put_said(said, number, kept)?;
+    }
+    Ok(())
+}
+
+/// Those of the claims that are of the view of this number, in order.
+pub fn said_in(alloc: Global, number: u16, signed: &[KeptClaim]) -> Result<ClaimList, NoMemory>
+    ensures { IfOk result (λ said. said.claims ≡ filter (λ c. plain.view_of c.statement == number) signed.now) }
+{
+    let mut said = ClaimList::new(alloc);
+    put_all_said(&mut said, number, signed)?;
+    Ok(said)
+}
+
+// Keeps the pair, where none of its other claim's signer is kept.
+fn keep(conflicts: &mut Conflicts, heard: &Claim<'_>, other: &Claim<'_>) -> Result<(), NoMemory>
+    requires heard { IsClaim (claim_of heard.now) }
+    requires other { IsClaim (claim_of other.now) }
+    ensures { OnOk result (conflicts.new.pairs ≡ with_pair conflicts.old.pairs (claim_of heard.now) (claim_of other.now)) }
+{
+    conflicts.reserve(1, bytes_of(heard).max(bytes_of(other)))?;
+    conflicts.keep(heard, other);
+    Ok(())
+}
+
+// The same, with the other claim as the image has it.
+fn keep_other(
+    conflicts: &mut Conflicts,
+    heard: &Claim<'_>,
+    kept: &KeptClaim,
+) -> Result<(), NoMemory>
+    requires { IsClaim (claim_of heard.now) }
+    ensures { OnOk result (conflicts.new.pairs ≡ with_pair conflicts.old.pairs (claim_of heard.now) kept.now) }
+{
+    let Claim {
+        signer,
+        statement,
+        signature,
+    } = kept.claim();
+
+    // The type is named, since the checker is not told of it here otherwise.
+    let statement: Statement<'_> = statement;
+    let other = Claim {
+        signer,
+        statement,
+        signature,
+    };
+    keep(conflicts, heard, &other)
+}
+
+// The same, with both as the image has them.
+fn keep_pair(conflicts: &mut Conflicts, kept: &KeptClaim, other: &KeptClaim) -> Result<(), NoMemory>
+    ensures { OnOk result (conflicts.new.pairs ≡ with_pair conflicts.old.pairs kept.now other.now) }
+{
+    let Claim {
+        signer,
+        statement,
+        signature,
+    } = kept.claim();
+
+    // As in `keep_other`.
+    let statement: Statement<'_> = statement;
+    let heard = Claim {
+        signer,
+        statement,
+        signature,
+    };
+    keep_other(conflicts, &heard, other)
+}
+
+// Keeps these pairs, each where none of its other claim's signer is kept.
+fn keep_each(conflicts: &mut Conflicts, pairs: &[(KeptClaim, KeptClaim)]) -> Result<(), NoMemory>
+    ensures { OnOk result (conflicts.new.pairs ≡ with_pairs conflicts.old.pairs pairs.now) }
+{
+    for pair in pairs {
+        keep_pair(conflicts, &pair.0, &pair.1)?;
+    }
+    Ok(())
+}
+
+/// The conflicts that these pairs are, where no signer has two of them.
+pub fn conflicts_of(alloc: Global, pairs: &[(KeptClaim, KeptClaim)]) -> Result<Conflicts, NoMemory>
+    ensures { AllPairs (λ a b. a.1.signer ≢ b.1.signer) pairs.now → IfOk result (λ c. c.pairs ≡ pairs.now) }
+{
+    let mut conflicts = Conflicts::new(alloc);
+    keep_each(&mut conflicts, pairs)?;
+    Ok(conflicts)
+}
