@@ -1,0 +1,5 @@
+pub mod Handed
+pub mod Spellings
+pub mod Signatures
+pub mod Offers
+pub mod Given
