@@ -12,7 +12,7 @@ ghost use Rattle.store_giving.specs.Spellings.{bytes_in};
 use crate::handed::StateKeys;
 use crate::offered::{Offered, append_offered};
 use crate::spelling::Spelling;
-use crate::stores::carry_out;
+use crate::stores::carried_out;
 use accounts::Delivered;
 use kv_service::Store;
 use rp_base::{GroupId, NoMemory, Pid, Scheme};
@@ -282,11 +282,10 @@ impl Giving {
         let Some(state) = self.transfer.state() else {
             return Ok(None);
         };
-        let Some(mut store) = Store::of_state(alloc, state)? else {
+        let Some(store) = Store::of_state(alloc, state)? else {
             return Ok(None);
         };
-        carry_out(&mut store, alloc, here)?;
-        Ok(Some(store))
+        Ok(Some(carried_out(store, alloc, here)?))
     }
 
     /// Appends the line that says what became of a state that was offered, for which there is room

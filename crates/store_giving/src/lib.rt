@@ -16,5 +16,5 @@ pub use rp_base::{GroupId, NoMemory, Pid, Scheme};
 pub use sig_scheme::PublicKey;
 pub use store_defs::Taken;
 pub use store_keys::LeafKey;
-pub use stores::carry_out;
+pub use stores::carried_out;
 pub use view_table::View;

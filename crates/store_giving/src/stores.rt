@@ -1,5 +1,5 @@
 //! A store after what its process delivered.
-ghost use Rattle.std.specs.Prelude.{◌≡◌, map, OnOk};
+ghost use Rattle.std.specs.Prelude.{◌≡◌, map, IfOk};
 ghost use Rattle.accounts.specs.Views.{delivery};
 ghost use Rattle.store_defs.specs.Holding.{payloads_of};
 ghost use Rattle.store_defs.specs.Stores.{store_after};
@@ -9,17 +9,21 @@ use kv_service::Store;
 use rp_base::NoMemory;
 use std::alloc::Global;
 
-/// Carries out the payloads of these messages, one after the other.
+/// The store after the payloads of these messages, one after the other.
 ///
 /// # Errors
-/// [`NoMemory`] where room for the store or an answer is refused; the first of them are carried out then.
-pub fn carry_out(store: &mut Store, alloc: Global, delivered: &[Delivered]) -> Result<(), NoMemory>
-    ensures { OnOk result (store.new ≡ store_after store.old (payloads_of (map delivery delivered.now))) }
+/// [`NoMemory`] where room for the store or an answer is refused.
+pub fn carried_out(
+    mut store: Store,
+    alloc: Global,
+    delivered: &[Delivered],
+) -> Result<Store, NoMemory>
+    ensures { IfOk result (λ t. t ≡ store_after store (payloads_of (map delivery delivered.now))) }
 {
     let mut answer = Vec::new(alloc);
     'messages: for message in delivered {
         answer.clear();
         store.apply(alloc, message.payload.bytes(), &mut answer)?;
     }
-    Ok(())
+    Ok(store)
 }

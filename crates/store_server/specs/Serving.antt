@@ -1,5 +1,5 @@
 -- A server of the code, as the definitions' server of one process.
-use Rattle.std.specs.Prelude.{◌≡◌, ℕ, Bool, true, false, List, ◌++◌, Option, Some, None}
+use Rattle.std.specs.Prelude.{◌≡◌, ◌⊎◌, ℕ, Bool, true, false, List, ◌++◌, Option, Some, None}
 use Rattle.signature_defs.specs.Secrets.{Secret}
 use Rattle.store_defs.specs.Keys.{reply_secret, signs_of, state_secret}
 use Rattle.store_defs.specs.Serving as plain
@@ -27,9 +27,15 @@ pub record IsServer (q : Place) (s : plain.Server) (x : Server) : Type 0 where
   pub replies : IsReplying q s x.replies
   pub gives : IsGiving q s x.giving
 
--- it keeps that but for what it was given: who is counted with which state, and which is ready
-abbrev pub IsServerButTransfer : Place → plain.Server → Server → Type 0
-IsServerButTransfer q s x = (t : Transfer) × IsServer q (record s { transfer = t }) x
+-- memory was refused on the way to the server after a call: it keeps what it kept before, but for the transfer maybe, which is then that
+-- of the server after
+abbrev pub IsCutOff : Place → plain.Server → plain.Server → Server → Type 0
+IsCutOff q s after x = IsServer q s x ⊎ IsServer q (record s { transfer = after.transfer }) x
+
+-- the same of a line, where it has a word
+abbrev pub IsCutOffAt : Place → plain.Server → Server → Option (List ℕ × plain.Server) → Type 0
+IsCutOffAt q s x None = IsServer q s x
+IsCutOffAt q s x (Some w) = IsCutOff q s w.1 x
 
 -- a text begins with another
 abbrev pub Begins : List ℕ → List ℕ → Type 0

@@ -16,7 +16,7 @@ use crate::server::Server;
 use accounts::{Account, Delivered};
 use sig_scheme::Secret;
 use std::alloc::Global;
-use store_giving::{Giving, Store, carry_out};
+use store_giving::{Giving, Store, carried_out};
 use store_replies::{GroupId, NoMemory, Replies, reply_key, state_key};
 
 // How many messages the process delivered in all its views, up to the last u32.
@@ -49,7 +49,7 @@ fn store_after_all(alloc: Global, lists: &[Vec<Delivered>]) -> Result<Store, NoM
 {
     let mut store = Store::new(alloc);
     'views: for delivered in lists {
-        carry_out(&mut store, alloc, delivered)?;
+        store = carried_out(store, alloc, delivered)?;
     }
     Ok(store)
 }
@@ -73,11 +73,10 @@ fn gone_on(
 ) -> Result<Option<Store>, NoMemory>
     ensures { IfOk result (λ o. o ≡ option_map (λ t. store_after t (payloads_of (map delivery here.now))) store) }
 {
-    let Some(mut store) = store else {
-        return Ok(None);
-    };
-    carry_out(&mut store, alloc, here)?;
-    Ok(Some(store))
+    match store {
+        Some(store) => Ok(Some(carried_out(store, alloc, here)?)),
+        None => Ok(None),
+    }
 }
 
 impl Server {

@@ -14,7 +14,7 @@ ghost use Rattle.store_defs.specs.Words.{offered_text};
 ghost use Rattle.store_giving.specs.Offers.{store_by};
 ghost use Rattle.store_words.specs.Views.{word as word_of};
 ghost use Rattle.store_server.specs.Beginning.{lists_of};
-ghost use Rattle.store_server.specs.Serving.{IsHeard, IsServer, IsServerButTransfer, transfer_of};
+ghost use Rattle.store_server.specs.Serving.{IsCutOff, IsCutOffAt, IsHeard, IsServer, transfer_of};
 
 use crate::server::Server;
 use accounts::{Account, Delivered};
@@ -68,7 +68,8 @@ impl Server {
         ensures after { (q : Place) (s : plain.Server) → IsServer q s self.old → OnOk result (IsServer q
             (after_offer (is_valid (scheme_in scheme)) q (payloads_of (map delivery here.now)) s bytes.now) self.new) }
         ensures unwritten { OnErr result (out.new.items ≡ out.old.items) }
-        ensures lost { (q : Place) (s : plain.Server) → IsServer q s self.old → OnErr result (IsServerButTransfer q s self.new) }
+        ensures lost { (q : Place) (s : plain.Server) → IsServer q s self.old → OnErr result (IsCutOff q s
+            (after_offer (is_valid (scheme_in scheme)) q (payloads_of (map delivery here.now)) s bytes.now) self.new) }
     {
         reserve_offered(out)?;
         let holds = self.replies.holds();
@@ -92,7 +93,8 @@ impl Server {
         ensures after { (q : Place) (s : plain.Server) → IsServer q s self.old → OnOk result (IsServer q
             (worded (is_valid (scheme_in scheme)) q (payloads_of (map delivery here.now)) s (word_of word.now)).1 self.new) }
         ensures unwritten { OnErr result (out.new.items ≡ out.old.items) }
-        ensures lost { (q : Place) (s : plain.Server) → IsServer q s self.old → OnErr result (IsServerButTransfer q s self.new) }
+        ensures lost { (q : Place) (s : plain.Server) → IsServer q s self.old → OnErr result (IsCutOff q s
+            (worded (is_valid (scheme_in scheme)) q (payloads_of (map delivery here.now)) s (word_of word.now)).1 self.new) }
     {
         match word {
             Word::Give => self.giving.give(alloc, out),
@@ -109,7 +111,7 @@ impl Server {
     ///
     /// # Errors
     /// [`NoMemory`] where room for a state, for what is signed, for the store or for the line is refused. Nothing is appended then, and
-    /// nothing has changed but which states are counted, and which of them is ready: what is ready is not taken over.
+    /// either nothing has changed, or the state is counted, and a store that it makes ready is not taken over.
     pub fn word(
         &mut self,
         alloc: Global,
@@ -124,7 +126,9 @@ impl Server {
             → IfOk result (λ heard. IsHeard q s out.old.items out.new.items self.new heard
             (line_worded kit q (payloads_of p.delivered) s line.now)) }
         ensures unwritten { OnErr result (out.new.items ≡ out.old.items) }
-        ensures lost { (q : Place) (s : plain.Server) → IsServer q s self.old → OnErr result (IsServerButTransfer q s self.new) }
+        ensures lost { (kit : Kit) (p : process.Process) (q : Place) (s : plain.Server)
+            → kit.scheme ≡ scheme_in scheme → kit.keys ≡ roster.now → account_of p ≡ account told.now → IsServer q s self.old
+            → OnErr result (IsCutOffAt q s self.new (line_worded kit q (payloads_of p.delivered) s line.now)) }
     {
         let Some(word) = read_word(alloc, scheme, roster, line)? else {
             return Ok(false);

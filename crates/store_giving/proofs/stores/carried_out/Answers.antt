@@ -1,7 +1,7 @@
 use Rattle.std.proofs.Common.{◌<◌, ◌≤◌, ◌∙◌, sym, ap, ℕ, List, length, arith}
 use Rattle.store_defs.specs.Stores.{applied}
 use Rattle.store_giving.proofs.Carried.{carry-end, carry-next}
-use Rattle.store_giving.proofs.stores.carry_out.Goals as goal
+use Rattle.store_giving.proofs.stores.carried_out.Goals as goal
 
 pub messages-preserved : goal.messages-preserved
 messages-preserved c =
