@@ -1,1 +1,4 @@
+pub mod Lasts
 pub mod Begun
+pub mod KeyLines
+pub mod Counted

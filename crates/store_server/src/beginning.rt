@@ -103,7 +103,7 @@ impl Server {
         let Some((here, below)) = told.delivered.split_last() else {
             unreachable!();
         };
-        let Some(view) = told.views.last() else {
+        let Some((view, _)) = told.views.split_last() else {
             unreachable!();
         };
         let store = begun(alloc, told, below)?;

@@ -5,7 +5,7 @@ ghost use Rattle.store_defs.specs.Words.{most_state_line_bytes, reply_key_text, 
 ghost use Rattle.store_server.specs.Serving.{Begins, place};
 
 use store_giving::Giving;
-use store_replies::{NoMemory, Replies};
+use store_replies::{NoMemory, Pid, Replies};
 
 /// The server of one hosted process: what it replies, and what it gives. What the definitions' server keeps, it keeps: the record
 /// `IsServer` of the specs says so.
@@ -25,7 +25,7 @@ pub fn longest() -> usize
 // Appends the keys of the replies of these servers.
 fn push_reply_keys(servers: &[Server], out: &mut Vec<u8>) -> Result<(), NoMemory>
     ensures pushed { OnOk result (out.new.items
-        ≡ out.old.items ++ flat_map (λ q. reply_key_text q.me q.replies.public) (map place servers.now)) }
+        ≡ out.old.items ++ flat_map (λ x. reply_key_text (place x).me (place x).replies.public) servers.now) }
     ensures begun { OnErr result (Begins out.old.items out.new.items) }
 {
     'servers: for server in servers {
@@ -37,7 +37,7 @@ fn push_reply_keys(servers: &[Server], out: &mut Vec<u8>) -> Result<(), NoMemory
 // Appends the keys of the states of these servers.
 fn push_state_keys(servers: &[Server], out: &mut Vec<u8>) -> Result<(), NoMemory>
     ensures pushed { OnOk result (out.new.items
-        ≡ out.old.items ++ flat_map (λ q. state_key_text q.me q.states.public) (map place servers.now)) }
+        ≡ out.old.items ++ flat_map (λ x. state_key_text (place x).me (place x).states.public) servers.now) }
     ensures begun { OnErr result (Begins out.old.items out.new.items) }
 {
     'servers: for server in servers {
@@ -47,6 +47,7 @@ fn push_state_keys(servers: &[Server], out: &mut Vec<u8>) -> Result<(), NoMemory
 }
 
 // Appends all keys.
+#[tactic(auto, using(crate::proofs::KeyLines::keys_written))]
 fn push_all(servers: &[Server], out: &mut Vec<u8>) -> Result<(), NoMemory>
     ensures pushed { OnOk result (out.new.items ≡ out.old.items ++ keys_text (map place servers.now)) }
     ensures begun { OnErr result (Begins out.old.items out.new.items) }
@@ -69,4 +70,13 @@ pub fn push_keys(servers: &[Server], out: &mut Vec<u8>) -> Result<(), NoMemory>
         out.truncate(start);
     }
     pushed
+}
+
+impl Server {
+    /// Whose server it is.
+    pub fn me(&self) -> Pid
+        ensures { result ≡ (place self.now).me }
+    {
+        self.replies.me()
+    }
 }

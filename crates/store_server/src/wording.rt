@@ -29,8 +29,8 @@ fn last_of(lists: &[Vec<Delivered>]) -> &[Delivered]
     ensures { (before : List (List process.Delivered)) (last : List process.Delivered)
         → lists_of lists.now ≡ before ++ last ∷ [] → map delivery result.now ≡ last }
 {
-    match lists.last() {
-        Some(delivered) => delivered,
+    match lists.split_last() {
+        Some((delivered, _)) => delivered,
         None => &[],
     }
 }

@@ -1,0 +1,88 @@
+-- View by view: how many messages were delivered, whether the process was a member, and the store.
+use Rattle.std.proofs.Common.{◌≡◌, ℕ, zero, suc, ◌+◌, ◌<◌, ◌≤◌, List, [], ◌∷◌, map, length, take, drop, get_or, Bool, true, false, refl, sym, ap, ◌∙◌, arith, add-one, drop-cons, Vec, Global}
+use Rattle.std.specs.Prelude.{◌&&◌, ◌||◌, slice_index_or, min}
+use Rattle.std.specs.List.{list_any}
+use Rattle.std.proofs.lemmas.List.{length-map}
+use Rattle.accounts.specs.Views.{delivery}
+use Rattle.group_defs.specs.Views.{View, is_member}
+use Rattle.group_defs.specs.Process as process
+use Rattle.group_defs.specs.Accounts.{Account, delivered_in}
+use Rattle.stmt_codec.specs.declared.events.Delivered.{Delivered}
+use Rattle.store_defs.specs.Stores.{Store, store_after}
+use Rattle.store_defs.specs.Holding.{delivered_below, payloads_of, stayed, store_over, was_member}
+use Rattle.store_server.specs.Beginning.{lists_of}
+use Rattle.store_server.proofs.Begun.{left-once}
+
+-- what is made of the element at a place
+index-mapped : {A B : Type 0} (f : A → B) (xs : List A) (i : ℕ) (x : A) (d : B) → i < length xs → x ≡ get_or xs i x
+    → slice_index_or (map f xs) i d ≡ f x
+index-mapped f [] i x d lt is = absurd (omega (arith, lt))
+index-mapped f (y ∷ xs) zero x d lt is = ap f (sym is)
+index-mapped f (y ∷ xs) (suc i) x d lt is = index-mapped f xs i x d (omega (arith, lt)) is
+
+-- ---- how many messages
+
+counted : (most so_far more total after : ℕ) → total ≡ min so_far most → after ≡ min (total + min more most) most
+    → after ≡ min (so_far + more) most
+counted most so_far more total after is next = omega (arith, is, next)
+
+pub count-more : (a : Account) (lists : List (Vec Delivered Global)) (i : ℕ) (ds : Vec Delivered Global) (most total after : ℕ)
+    → a.delivered ≡ lists_of lists → i < length lists → ds ≡ get_or lists i ds → total ≡ min (delivered_below a i) most
+    → after ≡ min (total + min (length ds.items) most) most → after ≡ min (delivered_below a (i + 1)) most
+unfolding delivered_below
+count-more a lists i ds most total after told lt is total_is after_is =
+    let here : delivered_in a i ≡ map delivery ds.items =
+    ap (λ (ls : List (List process.Delivered)). slice_index_or ls i []) told
+    ∙ index-mapped (λ (es : Vec Delivered Global). map delivery es.items) lists i ds [] lt is in
+    let many : length (delivered_in a i) ≡ length ds.items = ap length here ∙ length-map ds.items delivery in
+    counted most (delivered_below a i) (length ds.items) total after total_is after_is
+    ∙ ap (λ (n : ℕ). min (delivered_below a i + n) most) (sym many)
+    ∙ ap (λ (n : ℕ). min (delivered_below a n) most) (sym (add-one i))
+
+-- ---- whether it was a member
+
+member-there : (a : Account) (i : ℕ) (v : View) → i < length a.views → v ≡ get_or a.views i v → was_member a i ≡ is_member v a.me
+member-there a i v lt is =
+    ap (λ (vs : List View). list_any (λ w. is_member w a.me) (take 1 vs)) (drop-cons a.views i v lt)
+    ∙ or-none (is_member (get_or a.views i v) a.me)
+    ∙ ap (λ (w : View). is_member w a.me) (sym is)
+  where
+    or-none : (b : Bool) → (b || false) ≡ b
+    or-none true = refl
+    or-none false = refl
+
+both-true : (b c : Bool) → b ≡ true → c ≡ true → (b && c) ≡ true
+both-true b c e f = (λ i. e i && f i)
+
+second-false : (b c : Bool) → c ≡ false → (b && c) ≡ false
+second-false true c e = e
+second-false false c e = refl
+
+pub stays-more : (a : Account) (i : ℕ) (v : View) → i < length a.views → v ≡ get_or a.views i v → is_member v a.me ≡ true
+    → stayed a 0 i ≡ true → stayed a 0 (i + 1) ≡ true
+unfolding stayed
+stays-more a i v lt is member so_far =
+    ap (stayed a 0) (add-one i)
+    ∙ both-true (stayed a 0 i) (was_member a i) so_far (member-there a i v lt is ∙ member)
+
+pub stays-not : (a : Account) (i : ℕ) (v : View) → i < length a.views → v ≡ get_or a.views i v → is_member v a.me ≡ false
+    → stayed a 0 (length a.views) ≡ false
+unfolding stayed
+stays-not a i v lt is member =
+    left-once a (suc i) (length a.views) (omega (arith, lt))
+    (second-false (stayed a 0 i) (was_member a i) (member-there a i v lt is ∙ member))
+
+-- ---- the store
+
+pub carried-more : (lists : List (Vec Delivered Global)) (i : ℕ) (ds : Vec Delivered Global) (store after : Store)
+    → i < length lists → ds ≡ get_or lists i ds
+    → store ≡ store_over (λ z. payloads_of (slice_index_or (lists_of lists) z [])) [] 0 i
+    → after ≡ store_after store (payloads_of (map delivery ds.items))
+    → after ≡ store_over (λ z. payloads_of (slice_index_or (lists_of lists) z [])) [] 0 (i + 1)
+unfolding store_over
+carried-more lists i ds store after lt is store_is after_is =
+    let here : slice_index_or (lists_of lists) i [] ≡ map delivery ds.items =
+    index-mapped (λ (es : Vec Delivered Global). map delivery es.items) lists i ds [] lt is in
+    after_is
+    ∙ (λ j. store_after (store_is j) (payloads_of (sym here j)))
+    ∙ ap (store_over (λ z. payloads_of (slice_index_or (lists_of lists) z [])) [] 0) (sym (add-one i))
