@@ -5,3 +5,4 @@ pub mod Carried
 pub mod Handing
 pub mod Answering
 pub mod Telling
+pub mod Keeping
