@@ -47,7 +47,7 @@ handed-so s t u p key is handed m =
 -- ---- a state that is given
 
 some-state : (o : Option Spelling) → IsSome o → option_map bytes_in o ≡ Some (state_in o)
-some-state None some = absurd some
+some-state None some = absurd cc
 some-state (Some b) some = refl
 
 module _ (q : Place) (s : Server) (g h : Giving) (is : IsGiving q s g) (same : IsSameBut g h) where

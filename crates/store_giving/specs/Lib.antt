@@ -1,3 +1,4 @@
+pub mod States
 pub mod Handed
 pub mod Spellings
 pub mod Signatures

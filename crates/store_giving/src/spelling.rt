@@ -1,6 +1,5 @@
 //! A store as the bytes of its state.
-ghost use Rattle.std.specs.Prelude.{IsTrue, is_ok};
-ghost use Rattle.store_defs.specs.Stores.{store_of};
+ghost use Rattle.store_giving.specs.States.{IsSpelled};
 
 use kv_service::Store;
 use rp_base::NoMemory;
@@ -10,13 +9,13 @@ use std::alloc::Global;
 #[derive(Drop)]
 pub(crate) struct Spelling {
     bytes: Vec<u8>,
-    ghost spelled: { IsTrue (is_ok (store_of bytes.items)) },
+    ghost spelled: { IsSpelled bytes.items },
 }
 
 impl Spelling {
     ghost use Rattle.std.specs.Prelude.{◌≡◌, IfOk};
-    ghost use Rattle.store_defs.specs.Stores.{IsStore, store_bytes};
-    ghost use Rattle.store_giving.specs.Spellings.{bytes_in, IsSpelled};
+    ghost use Rattle.store_defs.specs.Stores.{store_bytes};
+    ghost use Rattle.store_giving.specs.Spellings.{bytes_in};
 
     /// That of a store.
     pub(crate) fn of(alloc: Global, store: &Store) -> Result<Spelling, NoMemory>

@@ -6,7 +6,7 @@ use Rattle.store_giving.proofs.stores.carried_out.Goals as goal
 pub messages-preserved : goal.messages-preserved
 messages-preserved c =
     let lt : c.messages.message-index < length c.args.delivered.now = omega arith in
-    carry-next c.messages.store c.args.delivered.now c.messages.message-index c.message-item.result c.apply.new.store lt c.message-item.is
+    carry-next c.messages.store c.args.delivered.now c.messages.message-index c.message-item.result c.apply.new.self lt c.message-item.is
     (c.in_ok-apply.ensures.applied ∙ ap (λ (b : List ℕ). (applied c.messages.store b).1) c.bytes.ensures)
     ∙ c.messages.invariant
 
