@@ -1,9 +1,10 @@
 -- What a process keeps of its view.
-use Rattle.std.proofs.Common.{◌≡◌, ℕ, ◌<◌, List, [], ◌++◌, Option, Some, None, Bool, true, false, refl, sym, ap, ◌∙◌}
-use Rattle.std.specs.Prelude.{◌==◌, if◌then◌else◌, IsSome, find, option_map}
+use Rattle.std.proofs.Common.{◌≡◌, ℕ, ◌<◌, List, [], ◌++◌, Option, Some, None, Bool, true, false, refl, sym, ap, ◌∙◌, subst}
+use Rattle.std.specs.Prelude.{◌==◌, if◌then◌else◌, IsSome, is_some, find, option_map}
 use Rattle.group_defs.specs.Views.{View, is_member}
 use Rattle.sig_scheme.specs.Keys.{key_bytes}
 use Rattle.sig_scheme.specs.declared.public_key.PublicKey.{PublicKey}
+use Rattle.store_defs.specs.Keys.{Signs}
 use Rattle.store_defs.specs.Serving.{Given, Place, Server, after_view, handed_key, state_given, with_key}
 use Rattle.store_defs.specs.Stores.{Store, store_bytes}
 use Rattle.store_defs.specs.Transfers.{new_transfer}
@@ -46,7 +47,11 @@ handed-so s t u p key is handed m =
 
 -- ---- a state that is given
 
-some-state : (o : Option Spelling) → IsSome o → option_map bytes_in o ≡ Some (state_in o)
+pub no-bytes : (o : Option Spelling) → is_some o ≡ false → option_map bytes_in o ≡ None
+no-bytes None none = refl
+no-bytes (Some b) none = absurd cc
+
+pub some-state : (o : Option Spelling) → IsSome o → option_map bytes_in o ≡ Some (state_in o)
 some-state None some = absurd cc
 some-state (Some b) some = refl
 
@@ -66,7 +71,10 @@ module _ (q : Place) (s : Server) (g h : Giving) (is : IsGiving q s g) (same : I
   gave some left = given q s h.me h.group (signs h.key) h.view (option_map bytes_in h.state) same-giving.me same-giving.group
       same-giving.key same-giving.view same-giving.gives (state_in h.state) (some-state h.state some) left
 
-  pub gave-told : (before after : List ℕ) → IsSome h.state → h.view.number < (signs h.key).total
+  pub gave-told : (before after : List ℕ) → IsSome g.state → g.view.number < (signs g.key).total
       → after ≡ before ++ given_text h.me (Given (signed_record h)) → after ≡ before ++ given_text q.me (state_given q s)
   gave-told before after some left said =
-      record-told q s h.me same-giving.me before after (signed_record h) (gave some left) said
+      let some_so : IsSome h.state = subst (λ (o : Option Spelling). IsSome o) (sym same.state) some in
+      let left_so : h.view.number < (signs h.key).total = subst (λ (v : View). v.number < (signs h.key).total) (sym same.view)
+      (subst (λ (k : Signs). g.view.number < k.total) (sym same.key) left) in
+      record-told q s h.me same-giving.me before after (signed_record h) (gave some_so left_so) said

@@ -133,6 +133,8 @@ impl Giving {
         ensures signed { OnOk result (IsSome self.new.signature) }
         ensures same { IsSameBut self.old self.new }
     {
+        // Read, so that it is known to be at most 63.
+        let _number = self.me.get();
         if self.signature.is_some() {
             return Ok(());
         }
@@ -157,6 +159,8 @@ impl Giving {
         ensures given { OnOk result (out.new.items ≡ out.old.items ++ given_text self.now.me (Given (signed_record self.now))) }
         ensures ungiven { OnErr result (out.new.items ≡ out.old.items) }
     {
+        // Read, so that it is known to be at most 63.
+        let _number = self.me.get();
         let Some(state) = &self.state else {
             unreachable!();
         };

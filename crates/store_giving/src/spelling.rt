@@ -1,4 +1,6 @@
 //! A store as the bytes of its state.
+ghost use Rattle.std.specs.Prelude.{◌≡◌, IsTrue, is_ok};
+ghost use Rattle.store_defs.specs.Stores.{store_of};
 ghost use Rattle.store_giving.specs.States.{IsSpelled};
 
 use kv_service::Store;
@@ -9,11 +11,20 @@ use std::alloc::Global;
 #[derive(Drop)]
 pub(crate) struct Spelling {
     bytes: Vec<u8>,
-    ghost spelled: { IsSpelled bytes.items },
+    ghost spelled: { IsTrue (is_ok (store_of bytes.items)) },
+}
+
+// Bytes that are read as a store are the spelling of one.
+fn as_spelled(bytes: &[u8]) -> &[u8]
+    requires { IsTrue (is_ok (store_of bytes.now)) }
+    ensures value { result.now ≡ bytes.now }
+    ensures spelled { IsSpelled result.now }
+{
+    bytes
 }
 
 impl Spelling {
-    ghost use Rattle.std.specs.Prelude.{◌≡◌, IfOk};
+    ghost use Rattle.std.specs.Prelude.{IfOk};
     ghost use Rattle.store_defs.specs.Stores.{store_bytes};
     ghost use Rattle.store_giving.specs.Spellings.{bytes_in};
 
@@ -31,6 +42,6 @@ impl Spelling {
         ensures value { result.now ≡ bytes_in self.now }
         ensures spelled { IsSpelled result.now }
     {
-        self.bytes.as_slice()
+        as_spelled(self.bytes.as_slice())
     }
 }

@@ -26,11 +26,11 @@ counted : (most so_far more total after : ℕ) → total ≡ min so_far most →
     → after ≡ min (so_far + more) most
 counted most so_far more total after is next = omega (arith, is, next)
 
-pub count-more : (a : Account) (lists : List (Vec Delivered Global)) (i : ℕ) (ds : Vec Delivered Global) (most total after : ℕ)
+pub count_more : (a : Account) (lists : List (Vec Delivered Global)) (i : ℕ) (ds : Vec Delivered Global) (most total after : ℕ)
     → a.delivered ≡ lists_of lists → i < length lists → ds ≡ get_or lists i ds → total ≡ min (delivered_below a i) most
     → after ≡ min (total + min (length ds.items) most) most → after ≡ min (delivered_below a (i + 1)) most
 unfolding delivered_below
-count-more a lists i ds most total after told lt is total_is after_is =
+count_more a lists i ds most total after told lt is total_is after_is =
     let here : delivered_in a i ≡ map delivery ds.items =
     ap (λ (ls : List (List process.Delivered)). slice_index_or ls i []) told
     ∙ index-mapped (λ (es : Vec Delivered Global). map delivery es.items) lists i ds [] lt is in
@@ -58,31 +58,61 @@ second-false : (b c : Bool) → c ≡ false → (b && c) ≡ false
 second-false true c e = e
 second-false false c e = refl
 
-pub stays-more : (a : Account) (i : ℕ) (v : View) → i < length a.views → v ≡ get_or a.views i v → is_member v a.me ≡ true
+pub stays_more : (a : Account) (i : ℕ) (v : View) → i < length a.views → v ≡ get_or a.views i v → is_member v a.me ≡ true
     → stayed a 0 i ≡ true → stayed a 0 (i + 1) ≡ true
 unfolding stayed
-stays-more a i v lt is member so_far =
+stays_more a i v lt is member so_far =
     ap (stayed a 0) (add-one i)
     ∙ both-true (stayed a 0 i) (was_member a i) so_far (member-there a i v lt is ∙ member)
 
-pub stays-not : (a : Account) (i : ℕ) (v : View) → i < length a.views → v ≡ get_or a.views i v → is_member v a.me ≡ false
+pub stays_not : (a : Account) (i : ℕ) (v : View) → i < length a.views → v ≡ get_or a.views i v → is_member v a.me ≡ false
     → stayed a 0 (length a.views) ≡ false
 unfolding stayed
-stays-not a i v lt is member =
+stays_not a i v lt is member =
     left-once a (suc i) (length a.views) (omega (arith, lt))
     (second-false (stayed a 0 i) (was_member a i) (member-there a i v lt is ∙ member))
 
 -- ---- the store
 
-pub carried-more : (lists : List (Vec Delivered Global)) (i : ℕ) (ds : Vec Delivered Global) (store after : Store)
+pub carried_more : (lists : List (Vec Delivered Global)) (i : ℕ) (ds : Vec Delivered Global) (store after : Store)
     → i < length lists → ds ≡ get_or lists i ds
     → store ≡ store_over (λ z. payloads_of (slice_index_or (lists_of lists) z [])) [] 0 i
     → after ≡ store_after store (payloads_of (map delivery ds.items))
     → after ≡ store_over (λ z. payloads_of (slice_index_or (lists_of lists) z [])) [] 0 (i + 1)
 unfolding store_over
-carried-more lists i ds store after lt is store_is after_is =
+carried_more lists i ds store after lt is store_is after_is =
     let here : slice_index_or (lists_of lists) i [] ≡ map delivery ds.items =
     index-mapped (λ (es : Vec Delivered Global). map delivery es.items) lists i ds [] lt is in
     after_is
     ∙ (λ j. store_after (store_is j) (payloads_of (sym here j)))
     ∙ ap (store_over (λ z. payloads_of (slice_index_or (lists_of lists) z [])) [] 0) (sym (add-one i))
+
+-- at the end
+pub count_ends : (a : Account) (i n most total : ℕ) → total ≡ min (delivered_below a i) most → n ≤ i → i ≤ n
+    → total ≡ min (delivered_below a n) most
+count_ends a i n most total is low high =
+    let same : i ≡ n = omega (arith, low, high) in is ∙ ap (λ (k : ℕ). min (delivered_below a k) most) same
+
+pub stays_ends : (a : Account) (i n : ℕ) → stayed a 0 i ≡ true → n ≤ i → i ≤ n → true ≡ stayed a 0 n
+stays_ends a i n is low high = let same : i ≡ n = omega (arith, low, high) in sym is ∙ ap (stayed a 0) same
+
+pub carried_ends : (lists : List (Vec Delivered Global)) (i n : ℕ) (store : Store)
+    → store ≡ store_over (λ z. payloads_of (slice_index_or (lists_of lists) z [])) [] 0 i → n ≤ i → i ≤ n
+    → store ≡ store_over (λ z. payloads_of (slice_index_or (lists_of lists) z [])) [] 0 n
+carried_ends lists i n store is low high =
+    let same : i ≡ n = omega (arith, low, high) in
+    is ∙ ap (store_over (λ z. payloads_of (slice_index_or (lists_of lists) z [])) [] 0) same
+
+-- at the beginning
+pub count_begins : (a : Account) (most : ℕ) → 0 ≡ min (delivered_below a 0) most
+unfolding delivered_below
+count_begins a most = omega arith
+
+pub stays_begins : (a : Account) → stayed a 0 0 ≡ true
+unfolding stayed
+stays_begins a = refl
+
+pub carried_begins : (lists : List (Vec Delivered Global))
+    → [] ≡ store_over (λ z. payloads_of (slice_index_or (lists_of lists) z [])) [] 0 0
+unfolding store_over
+carried_begins lists = refl
