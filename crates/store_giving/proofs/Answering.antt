@@ -16,12 +16,11 @@ use Rattle.store_records.specs.declared.state.StateRecord.{StateRecord as Read}
 use Rattle.store_giving.specs.Given.{IsGiving, IsSameBut, transfer_in}
 use Rattle.store_giving.specs.Spellings.{bytes_in}
 use Rattle.store_giving.specs.Handed.{key_of}
-use Rattle.store_giving.specs.Offers.{ready_store, store_by, word}
+use Rattle.store_giving.specs.Offers.{store_by, word}
 use Rattle.store_giving.specs.declared.giving.Giving.{Giving}
-use Rattle.store_giving.specs.declared.offered.Offered.{Offered}
-use Rattle.store_giving.specs.declared.offered.Offered.TheVariants.{Grammar, Held, Offered as Made}
+use Rattle.store_giving.specs.declared.offered.Offered.TheVariants.{Offered as Made}
 use Rattle.store_giving.proofs.Keeping.{same-giving}
-use Rattle.store_giving.proofs.Offering.{grammar-after, grammar-word, held-after, held-word, other-after, other-word, store_taken, taken-after, taken-parts, taken-word}
+use Rattle.store_giving.proofs.Offering.{store_taken, taken-after, taken-parts, taken-word}
 
 -- the store after what became of the state
 made-so : (here : List (List ℕ)) (o : Option Store) (t : Taken) (r : Transfer) → store_by here o (Made t) r ≡ store_taken here o t r

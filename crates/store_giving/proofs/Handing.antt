@@ -1,6 +1,6 @@
 -- A key that is handed in is its process's from then on.
-use Rattle.std.proofs.Common.{◌≡◌, ℕ, ◌<◌, List, length, Option, Some, None, Bool, true, false, refl, sym, ap, ◌∙◌, arith, get_or}
-use Rattle.std.specs.Prelude.{if◌then◌else◌, ◌==◌, ◌∷◌, find, option_map, set}
+use Rattle.std.proofs.Common.{◌≡◌, ℕ, ◌<◌, List, length, Option, Some, None, Bool, true, false, refl, sym, ap, ◌∙◌, get_or}
+use Rattle.std.specs.Prelude.{if◌then◌else◌, ◌==◌, find, option_map, set}
 use Rattle.std.proofs.lemmas.Bool.{eqb-true, eqb-false}
 use Rattle.std.proofs.lemmas.List.{get_or-set_same, get_or-set_other}
 use Rattle.sig_scheme.specs.Keys.{key_bytes}

@@ -1,13 +1,12 @@
 -- What a process keeps of its view.
-use Rattle.std.proofs.Common.{◌≡◌, ℕ, ◌<◌, List, [], ◌++◌, Option, Some, None, Bool, true, false, refl, sym, ap, ◌∙◌, subst}
+use Rattle.std.proofs.Common.{◌≡◌, ℕ, ◌<◌, List, [], ◌++◌, Option, Some, None, false, refl, sym, ap, ◌∙◌, subst}
 use Rattle.std.specs.Prelude.{◌==◌, if◌then◌else◌, IsSome, is_some, find, option_map}
-use Rattle.group_defs.specs.Views.{View, is_member}
+use Rattle.group_defs.specs.Views.{View}
 use Rattle.sig_scheme.specs.Keys.{key_bytes}
 use Rattle.sig_scheme.specs.declared.public_key.PublicKey.{PublicKey}
 use Rattle.store_defs.specs.Keys.{Signs}
-use Rattle.store_defs.specs.Serving.{Given, Place, Server, after_view, handed_key, state_given, with_key}
+use Rattle.store_defs.specs.Serving.{Given, Place, Server, handed_key, state_given, with_key}
 use Rattle.store_defs.specs.Stores.{Store, store_bytes}
-use Rattle.store_defs.specs.Transfers.{new_transfer}
 use Rattle.store_defs.specs.Words.{given_text}
 use Rattle.store_keys.specs.Keys.{signs}
 use Rattle.store_giving.specs.Given.{IsGiving, IsSameBut, signed_record}

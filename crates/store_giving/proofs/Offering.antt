@@ -1,5 +1,5 @@
 -- What becomes of a state that is offered, case by case.
-use Rattle.std.proofs.Common.{◌≡◌, ℕ, List, [], ◌∷◌, Option, Some, None, Bool, true, false, refl, sym, ap, ◌∙◌, Ok, Err}
+use Rattle.std.proofs.Common.{◌≡◌, ℕ, List, [], ◌∷◌, Option, Bool, true, false, refl, ap, ◌∙◌, Ok, Err}
 use Rattle.std.specs.Prelude.{if◌then◌else◌, ◌||◌, not, is_some}
 use Rattle.std.specs.Option.{unwrap_or}
 use Rattle.byte_defs.specs.Choices.{first_that_holds}

@@ -1,8 +1,8 @@
 -- The signature of the state of a view, and the record that has it.
-use Rattle.std.proofs.Common.{◌≡◌, ℕ, ◌≤◌, List, [], length, Option, Some, refl, sym, ap, ◌∙◌, subst, Vec, Global}
+use Rattle.std.proofs.Common.{◌≡◌, ℕ, ◌≤◌, List, [], length, Option, Some, sym, ap, ◌∙◌, subst, Vec, Global}
 use Rattle.std.specs.Option.{ForSome}
 use Rattle.store_defs.specs.Keys.{Signs}
-use Rattle.store_defs.specs.Records.{StateRecord, state_body}
+use Rattle.store_defs.specs.Records.{state_body}
 use Rattle.store_keys.specs.Keys.{signs}
 use Rattle.store_giving.specs.Given.{signed_record}
 use Rattle.store_giving.specs.Signatures.{IsSignature, record_with, state_in}

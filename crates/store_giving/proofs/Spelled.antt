@@ -1,6 +1,6 @@
 -- The bytes of a state are the spelling of a store.
-use Rattle.std.proofs.Common.{◌≡◌, ℕ, List, true, refl, sym, ap, ◌∙◌, subst, Ok, Err}
-use Rattle.std.specs.Prelude.{Result, is_ok, IsTrue}
+use Rattle.std.proofs.Common.{◌≡◌, ℕ, List, refl, sym, ap, ◌∙◌, Ok, Err}
+use Rattle.std.specs.Prelude.{is_ok, IsTrue}
 use Rattle.store_defs.specs.Laws.{AreBytes}
 use Rattle.store_defs.specs.Stores.{IsStore, Reading, Store, store_bytes, store_of}
 use Rattle.store_giving.specs.States.{IsSpelled}

@@ -5,7 +5,7 @@ use Rattle.std.specs.Fmt.{decimal}
 use Rattle.hex.specs.Hex.{encode_lower}
 use Rattle.text_defs.specs.Words.{line_text}
 use Rattle.store_defs.specs.Records.{StateRecord, state_bytes}
-use Rattle.store_defs.specs.Serving.{Given, NoState, NoStateLeaf, Place, Server, StateWord, state_given}
+use Rattle.store_defs.specs.Serving.{Given, NoState, NoStateLeaf, Place, Server, state_given}
 use Rattle.store_defs.specs.Words.{given_text}
 
 -- what follows from what holds after an Ok

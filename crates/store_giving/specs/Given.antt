@@ -1,5 +1,5 @@
 -- What of a server gives states, and takes those of others.
-use Rattle.std.specs.Prelude.{◌≡◌, ℕ, List, [], Option, option_map}
+use Rattle.std.specs.Prelude.{◌≡◌, ℕ, [], option_map}
 use Rattle.group_defs.specs.Views.{View}
 use Rattle.store_defs.specs.Keys.{Signs}
 use Rattle.store_defs.specs.Records.{StateRecord, state_body}

@@ -1,6 +1,5 @@
 -- What became of a state that was offered.
 use Rattle.std.specs.Prelude.{ℕ, List, Option, Some, None}
-use Rattle.store_defs.specs.declared.Taken.{Taken}
 use Rattle.store_defs.specs.declared.Taken.TheVariants as taken
 use Rattle.store_defs.specs.Stores.{Store}
 use Rattle.store_defs.specs.Serving as serving

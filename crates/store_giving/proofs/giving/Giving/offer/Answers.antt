@@ -1,8 +1,4 @@
-use Rattle.std.proofs.Common.{◌≡◌, ℕ, List, [], true, false, Ok, Err, refl, sym, ◌∙◌}
-use Rattle.std.specs.Prelude.{is_some}
-use Rattle.group_defs.specs.Views.{is_member}
-use Rattle.store_defs.specs.Records.{state_record_of}
-use Rattle.store_defs.specs.Serving.{Place, Server}
+use Rattle.std.proofs.Common.{[], refl, sym, ◌∙◌}
 use Rattle.store_records.specs.Views.{state_record as record_of}
 use Rattle.store_giving.proofs.Answering.{after-so, member-so, read-none, read-some, server-so, stays, unmoved, word-so}
 use Rattle.store_giving.proofs.Offering.{grammar-after, grammar-word, held-after, held-word, other-after, other-word}
