@@ -51,6 +51,9 @@ member-there a i v lt is =
     or-none true = refl
     or-none false = refl
 
+from-zero : (i : ℕ) → 0 + i ≡ i
+from-zero i = omega arith
+
 both-true : (b c : Bool) → b ≡ true → c ≡ true → (b && c) ≡ true
 both-true b c e f = (λ i. e i && f i)
 
@@ -62,15 +65,15 @@ pub stays_more : (a : Account) (i : ℕ) (v : View) → i < length a.views → v
     → stayed a 0 i ≡ true → stayed a 0 (i + 1) ≡ true
 unfolding stayed
 stays_more a i v lt is member so_far =
-    ap (stayed a 0) (add-one i)
-    ∙ both-true (stayed a 0 i) (was_member a i) so_far (member-there a i v lt is ∙ member)
+    let here : was_member a (0 + i) ≡ true = ap (was_member a) (from-zero i) ∙ member-there a i v lt is ∙ member in
+    ap (stayed a 0) (add-one i) ∙ both-true (stayed a 0 i) (was_member a (0 + i)) so_far here
 
 pub stays_not : (a : Account) (i : ℕ) (v : View) → i < length a.views → v ≡ get_or a.views i v → is_member v a.me ≡ false
     → stayed a 0 (length a.views) ≡ false
 unfolding stayed
 stays_not a i v lt is member =
     left-once a (suc i) (length a.views) (omega (arith, lt))
-    (second-false (stayed a 0 i) (was_member a i) (member-there a i v lt is ∙ member))
+    (second-false (stayed a 0 i) (was_member a (0 + i)) (ap (was_member a) (from-zero i) ∙ member-there a i v lt is ∙ member))
 
 -- ---- the store
 
@@ -85,6 +88,8 @@ carried_more lists i ds store after lt is store_is after_is =
     index-mapped (λ (es : Vec Delivered Global). map delivery es.items) lists i ds [] lt is in
     after_is
     ∙ (λ j. store_after (store_is j) (payloads_of (sym here j)))
+    ∙ ap (λ (n : ℕ). store_after (store_over (λ z. payloads_of (slice_index_or (lists_of lists) z [])) [] 0 i)
+    (payloads_of (slice_index_or (lists_of lists) n []))) (sym (from-zero i))
     ∙ ap (store_over (λ z. payloads_of (slice_index_or (lists_of lists) z [])) [] 0) (sym (add-one i))
 
 -- at the end

@@ -6,7 +6,7 @@ use Rattle.pool_laws.proofs.Places.{index-is, length-snoc, slice_get-last}
 
 -- the last elements of the same list are the same
 pub same-last : {A : Type 0} (xs ys : List A) (a b : A) → xs ++ a ∷ [] ≡ ys ++ b ∷ [] → a ≡ b
-same-last xs ys a b e =
+same-last {A = A} xs ys a b e =
     let count : suc (length xs) ≡ suc (length ys) = sym (length-snoc xs a) ∙ ap length e ∙ length-snoc ys b in
     sym (index-is (xs ++ a ∷ []) (length xs) a a (slice_get-last xs a (length xs) refl))
     ∙ ap (λ (zs : List A). slice_index_or zs (length xs) a) e
@@ -14,5 +14,5 @@ same-last xs ys a b e =
 
 -- and so are those before them
 pub same-front : {A : Type 0} (xs ys : List A) (a b : A) → xs ++ a ∷ [] ≡ ys ++ b ∷ [] → xs ≡ ys
-same-front xs ys a b e =
+same-front {A = A} xs ys a b e =
     append_cancel_right xs ys (b ∷ []) (ap (λ (x : A). xs ++ x ∷ []) (sym (same-last xs ys a b e)) ∙ e)

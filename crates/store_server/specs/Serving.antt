@@ -1,17 +1,13 @@
 -- A server of the code, as the definitions' server of one process.
-use Rattle.std.specs.Prelude.{◌≡◌, ◌⊎◌, ℕ, Bool, true, false, List, ◌++◌, Option, Some, None}
+use Rattle.std.specs.Prelude.{◌≡◌, ◌⊎◌, ℕ, Bool, true, false, List, [], ◌∷◌, ◌++◌, Option, Some, None}
 use Rattle.signature_defs.specs.Secrets.{Secret}
 use Rattle.store_defs.specs.Keys.{reply_secret, signs_of, state_secret}
 use Rattle.store_defs.specs.Serving as plain
 use Rattle.store_defs.specs.Serving.{Place}
 use Rattle.store_defs.specs.Transfers.{Transfer}
-use Rattle.store_replies.specs.Replying.{IsReplying, key_in, group_in, me_in}
-use Rattle.store_giving.specs.Given.{IsGiving, state_key_in, transfer_in}
+use Rattle.store_replies.specs.Replying.{IsReplying}
+use Rattle.store_giving.specs.Given.{IsGiving, transfer_in}
 use Rattle.store_server.specs.declared.server.Server.{Server}
-
--- what never changes of it
-abbrev pub place : Server → Place
-place x = record { me = me_in x.replies; group = group_in x.replies; replies = key_in x.replies; states = state_key_in x.giving }
 
 -- who is counted with which state, and which is ready
 abbrev pub transfer_of : Server → Transfer
@@ -26,6 +22,12 @@ place_with me group secret =
 pub record IsServer (q : Place) (s : plain.Server) (x : Server) : Type 0 where
   pub replies : IsReplying q s x.replies
   pub gives : IsGiving q s x.giving
+
+-- they are servers of these places
+abbrev pub AreServers : List Place → List Server → Type 0
+AreServers [] [] = Unit {0}
+AreServers (q ∷ qs) (x ∷ xs) = ((s : plain.Server) × IsServer q s x) × AreServers qs xs
+AreServers _ _ = ⊥
 
 -- memory was refused on the way to the server after a call: it keeps what it kept before, but for the transfer maybe, which is then that
 -- of the server after

@@ -41,6 +41,7 @@ impl Server {
     }
 
     // The process is in the view of this number now, with these members.
+    #[tactic(auto, unfolding(store_defs::specs::Serving::after_note))]
     fn install(&mut self, alloc: Global, number: u16, members: &[Pid]) -> Result<(), NoMemory>
         requires { CanInstall self.old number members.now }
         ensures after { (q : Place) (s : plain.Server) → IsServer q s self.old
@@ -63,6 +64,7 @@ impl Server {
     /// # Errors
     /// [`NoMemory`] where room for the store, for what is signed or for the line is refused. Nothing is appended then; either nothing has
     /// changed, or the message is taken, its reply is lost, and nothing else is signed with its leaf.
+    #[tactic(auto, unfolding(store_defs::specs::Serving::after_note, store_defs::specs::Serving::told_of, store_defs::specs::Words::told_text,))]
     pub fn note(&mut self, alloc: Global, note: &Note, out: &mut Vec<u8>) -> Result<(), NoMemory>
         requires takes { CanTake self.old note.now }
         ensures after { (q : Place) (s : plain.Server) → IsServer q s self.old

@@ -1,8 +1,11 @@
-ghost use Rattle.std.specs.Prelude.{◌≡◌, ◌++◌, map, OnOk, OnErr};
+ghost use Rattle.std.specs.Prelude.{◌≡◌, ◌++◌, List, OnOk, OnErr};
 ghost use Rattle.std.specs.List.{flat_map};
 ghost use Rattle.store_defs.specs.Services.{keys_text};
 ghost use Rattle.store_defs.specs.Words.{most_state_line_bytes, reply_key_text, state_key_text};
-ghost use Rattle.store_server.specs.Serving.{Begins, place};
+ghost use Rattle.store_defs.specs.Serving.{Place};
+ghost use Rattle.store_giving.specs.Given.{giver_in, state_key_in};
+ghost use Rattle.store_replies.specs.Replying.{key_in, me_in};
+ghost use Rattle.store_server.specs.Serving.{AreServers, Begins};
 
 use store_giving::Giving;
 use store_replies::{NoMemory, Pid, Replies};
@@ -16,6 +19,7 @@ pub struct Server {
 }
 
 /// How many bytes a line of a script may have that says something to a server: 8,388,608.
+#[tactic(auto, unfolding(store_defs::specs::Words::most_state_line_bytes))]
 pub fn longest() -> usize
     ensures { result ≡ most_state_line_bytes }
 {
@@ -25,7 +29,7 @@ pub fn longest() -> usize
 // Appends the keys of the replies of these servers.
 fn push_reply_keys(servers: &[Server], out: &mut Vec<u8>) -> Result<(), NoMemory>
     ensures pushed { OnOk result (out.new.items
-        ≡ out.old.items ++ flat_map (λ x. reply_key_text (place x).me (place x).replies.public) servers.now) }
+        ≡ out.old.items ++ flat_map (λ x. reply_key_text (me_in x.replies) (key_in x.replies).public) servers.now) }
     ensures begun { OnErr result (Begins out.old.items out.new.items) }
 {
     'servers: for server in servers {
@@ -37,7 +41,7 @@ fn push_reply_keys(servers: &[Server], out: &mut Vec<u8>) -> Result<(), NoMemory
 // Appends the keys of the states of these servers.
 fn push_state_keys(servers: &[Server], out: &mut Vec<u8>) -> Result<(), NoMemory>
     ensures pushed { OnOk result (out.new.items
-        ≡ out.old.items ++ flat_map (λ x. state_key_text (place x).me (place x).states.public) servers.now) }
+        ≡ out.old.items ++ flat_map (λ x. state_key_text (giver_in x.giving) (state_key_in x.giving).public) servers.now) }
     ensures begun { OnErr result (Begins out.old.items out.new.items) }
 {
     'servers: for server in servers {
@@ -47,21 +51,21 @@ fn push_state_keys(servers: &[Server], out: &mut Vec<u8>) -> Result<(), NoMemory
 }
 
 // Appends all keys.
-#[tactic(auto, using(crate::proofs::KeyLines::keys_written))]
 fn push_all(servers: &[Server], out: &mut Vec<u8>) -> Result<(), NoMemory>
-    ensures pushed { OnOk result (out.new.items ≡ out.old.items ++ keys_text (map place servers.now)) }
+    ensures pushed { (qs : List Place) → AreServers qs servers.now → OnOk result (out.new.items ≡ out.old.items ++ keys_text qs) }
     ensures begun { OnErr result (Begins out.old.items out.new.items) }
 {
     push_reply_keys(servers, out)?;
     push_state_keys(servers, out)
 }
 
-/// Appends the public keys of these servers, a line each: those of their replies first, and then those of their states.
+/// Appends the public keys of these servers, a line each: those of their replies first, and then those of their states. They are servers of
+/// these places, in order.
 ///
 /// # Errors
 /// [`NoMemory`] where room for a line is refused; nothing is appended then.
 pub fn push_keys(servers: &[Server], out: &mut Vec<u8>) -> Result<(), NoMemory>
-    ensures pushed { OnOk result (out.new.items ≡ out.old.items ++ keys_text (map place servers.now)) }
+    ensures pushed { (qs : List Place) → AreServers qs servers.now → OnOk result (out.new.items ≡ out.old.items ++ keys_text qs) }
     ensures unchanged { OnErr result (out.new.items ≡ out.old.items) }
 {
     let start = out.len();
@@ -75,7 +79,7 @@ pub fn push_keys(servers: &[Server], out: &mut Vec<u8>) -> Result<(), NoMemory>
 impl Server {
     /// Whose server it is.
     pub fn me(&self) -> Pid
-        ensures { result ≡ (place self.now).me }
+        ensures { result ≡ me_in self.now.replies }
     {
         self.replies.me()
     }

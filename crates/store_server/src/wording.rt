@@ -80,6 +80,7 @@ impl Server {
     }
 
     // Does what a word asks for.
+    #[tactic(auto, unfolding(store_defs::specs::Services::worded))]
     fn answer(
         &mut self,
         alloc: Global,
@@ -112,6 +113,7 @@ impl Server {
     /// # Errors
     /// [`NoMemory`] where room for a state, for what is signed, for the store or for the line is refused. Nothing is appended then, and
     /// either nothing has changed, or the state is counted, and a store that it makes ready is not taken over.
+    #[tactic(auto, unfolding(store_defs::specs::Services::line_worded))]
     pub fn word(
         &mut self,
         alloc: Global,
