@@ -4,3 +4,4 @@ pub mod KeyLines
 pub mod Counted
 pub mod Parts
 pub mod Settled
+pub mod Noted

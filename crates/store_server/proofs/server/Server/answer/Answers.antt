@@ -9,13 +9,15 @@ use Rattle.store_defs.specs.Serving as plain
 use Rattle.store_words.specs.Views.{word as word_of}
 use Rattle.store_giving.proofs.Telling.{on-ok}
 use Rattle.store_server.specs.Serving.{IsCutOff, IsServer}
+use Rattle.store_server.specs.declared.server.Server.{Server}
 use Rattle.store_server.proofs.Parts.{replying-key}
 use Rattle.store_server.proofs.Settled.{any-err, any-ok, on-err, worded-give, worded-key, worded-state}
 use Rattle.store_server.proofs.server.Server.answer.Goals as goal
 
 pub returns-in-Give-clause-after : goal.returns-in-Give-clause-after
 returns-in-Give-clause-after c = λ q s is.
-    any-ok c.give.result (subst (λ (t : plain.Server). IsServer q t _)
+    let x : Server = record { replies = c.args.self.now.replies; giving = c.give.new.self } in
+    any-ok c.give.result (subst (λ (t : plain.Server). IsServer q t x)
     (worded-give (is_valid (scheme_in c.args.scheme)) q (payloads_of (map delivery c.args.here.now)) s (word_of c.args.word.now)
     (ap word_of c.in-Give.is)) (record { replies = is.replies; gives = c.give.ensures.same q s is.gives }))
 
@@ -37,7 +39,8 @@ returns-in-State-clause-lost c = λ q s is.
 
 pub returns-in-StateKey-clause-after : goal.returns-in-StateKey-clause-after
 returns-in-StateKey-clause-after c = λ q s is.
-    subst (λ (t : plain.Server). IsServer q t _)
+    let x : Server = record { replies = c.args.self.now.replies; giving = c.hand.new.self } in
+    subst (λ (t : plain.Server). IsServer q t x)
     (worded-key (is_valid (scheme_in c.args.scheme)) q (payloads_of (map delivery c.args.here.now)) s (word_of c.args.word.now)
     c.in-StateKey.process (key_bytes c.in-StateKey.key) (ap word_of c.in-StateKey.is))
     (record {
