@@ -5,9 +5,7 @@ use rp_base::{GroupId, Pid, Roster};
 use std::alloc::Global;
 use std::process::Abort;
 use std::test::Fail;
-use store_server::{
-    Account, AnyScheme, Note, Payload, Secret, Server, View, longest, push_keys,
-};
+use store_server::{Account, AnyScheme, Note, Payload, Secret, Server, View, longest, push_keys};
 use text_codec::bytes;
 
 const GROUP: &[u8; 32] = b"6f289d5b5aa425dc2f365877e4cf8595";
@@ -22,7 +20,8 @@ const SET: &[u8] = b"\0\0\0\0\0\0\0\0\x01\x01a\0\x01b";
 
 const GET: &[u8] = b"\0\0\0\0\0\0\0\x01\x02\x01a";
 
-const KEY_LINES: &[u8] = b"replykey 0 c812792564484ed2db7d7a0479050f49eb7bcd71e7fcd29432c45a891508a94b
+const KEY_LINES: &[u8] =
+    b"replykey 0 c812792564484ed2db7d7a0479050f49eb7bcd71e7fcd29432c45a891508a94b
 statekey 0 3870ef34517471704c4edbd01958d3793eb40ce23eb7005b96a38961a888f9bd
 ";
 
@@ -123,9 +122,13 @@ fn a_member_serves_and_gives(rt: HostRuntime) -> Result<(), Fail> {
     assert_eq!(rt; longest(), 8_388_608);
     let [mut server] = servers;
     let replied = noted(rt.alloc(), &mut server, &delivered(rt.alloc(), 0, SET)?)?;
-    assert_eq!(rt; replied.as_slice(), b"reply 0 000000000000000e00000000000000000101610001620001000020c30f02c6e7865639d258b1b374c743a79fefcd59d5cd8383a7c50c8939ebe0db\n".as_slice());
+    assert_eq!(rt;
+        replied.as_slice(),
+        b"reply 0 000000000000000e00000000000000000101610001620001000020c30f02c6e7865639d258b1b374c743a79fefcd59d5cd8383a7c50c8939ebe0db\n".as_slice()
+    );
     assert!(rt; noted(rt.alloc(), &mut server, &installed()?)?.is_empty());
-    let given = b"state 0 00000100000007000101610001620020eb6f94fc669abaf5834d61ae87f1286692bb03f4d88eb00290d43c9670fe92df\n";
+    let given =
+        b"state 0 00000100000007000101610001620020eb6f94fc669abaf5834d61ae87f1286692bb03f4d88eb00290d43c9670fe92df\n";
     all_worded(
         &rt,
         rt.alloc(),
@@ -149,8 +152,10 @@ fn joined(rt: &impl Abort, alloc: Global, lines: &[(&[u8], &[u8])]) -> Result<Se
 
 #[test]
 fn a_joiner_takes_the_store_over(rt: HostRuntime) -> Result<(), Fail> {
-    let state = b"1 state 00000100000007000101610001620020eb6f94fc669abaf5834d61ae87f1286692bb03f4d88eb00290d43c9670fe92df".as_slice();
-    let key = b"1 statekey 0 3870ef34517471704c4edbd01958d3793eb40ce23eb7005b96a38961a888f9bd".as_slice();
+    let state =
+        b"1 state 00000100000007000101610001620020eb6f94fc669abaf5834d61ae87f1286692bb03f4d88eb00290d43c9670fe92df".as_slice();
+    let key =
+        b"1 statekey 0 3870ef34517471704c4edbd01958d3793eb40ce23eb7005b96a38961a888f9bd".as_slice();
     let mut server = joined(
         &rt,
         rt.alloc(),
@@ -165,7 +170,10 @@ fn a_joiner_takes_the_store_over(rt: HostRuntime) -> Result<(), Fail> {
         ],
     )?;
     let replied = noted(rt.alloc(), &mut server, &delivered(rt.alloc(), 1, GET)?)?;
-    assert_eq!(rt; replied.as_slice(), b"reply 1 010001000000000b0000000000000001020161000201620020b552e239bc3e9a49068d35c3224d504dc622e9b174583149219857c6ab5a1f9b\n".as_slice());
+    assert_eq!(rt;
+        replied.as_slice(),
+        b"reply 1 010001000000000b0000000000000001020161000201620020b552e239bc3e9a49068d35c3224d504dc622e9b174583149219857c6ab5a1f9b\n".as_slice()
+    );
     let again = noted(rt.alloc(), &mut server, &installed()?)?;
     assert_eq!(rt; again.as_slice(), b"not taken".as_slice());
     Ok(())
