@@ -24,4 +24,6 @@ mod pool;
 #[cfg(test)]
 mod reliable;
 #[cfg(test)]
+mod served;
+#[cfg(test)]
 mod views;

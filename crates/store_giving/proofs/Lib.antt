@@ -1,0 +1,10 @@
+pub mod Spelled
+pub mod Stated
+pub mod Offering
+pub mod Carried
+pub mod Handing
+pub mod Telling
+pub mod Offers
+pub mod Signing
+pub mod Keeping
+pub mod Answering

@@ -1,0 +1,3 @@
+pub mod Serving
+pub mod Notes
+pub mod Beginning
