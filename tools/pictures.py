@@ -234,15 +234,15 @@ AREAS = {
     "kits and words": (676, 413, 2, "text_codec kit_file kit_lines kit_draft kit_reading kit_making command_line"),
     "signatures": (676, 622, 2, "sha256_lanes lms_chains lms_ots lms_tree lms_hss sig_scheme bench_parts"),
     "links and journals": (676, 777, 2, "link_defs auth_link journal_defs journal_disk journal_entries journal_rp"),
-    "a store": (1040, 20, 2, "store_defs store_laws following_laws store_rows store_records kv_service vote_client state_transfer store_words store_keys store_replies"),
-    "chains of views, and guards": (1040, 262, 2, "chain_defs chain_text_defs chain_laws chain_rows chain_check chain_words guard_defs guard_laws guard_rows"),
-    "convictions and audits": (1040, 450, 2, "conviction_defs conviction_laws conviction audit_defs audit_laws evidence_laws findings_laws claim_firsts audit_claims audit_turns journal_steps audit_sources audit_walk audit_cast findings_json audit_core audit_rows"),
-    "nodes": (1040, 746, 2, "image_defs image_laws snapshot_defs snapshot_laws snapshot_rows snapshot_rp kept_images heard_images image_parts node_defs node_laws node_text node_keys node_hosts node_traces opening_laws resume_laws script_laws letting_laws letter_laws node_input node_opening node_turns sealing_laws node_taking node_receiving node_script stop_laws node_loop node_rows"),
+    "a store": (1040, 20, 2, "store_defs store_laws following_laws store_rows store_records kv_service vote_client state_transfer store_words store_keys store_replies store_giving store_server"),
+    "chains of views, and guards": (1040, 289, 2, "chain_defs chain_text_defs chain_laws chain_rows chain_check chain_words guard_defs guard_laws guard_rows"),
+    "convictions and audits": (1040, 477, 2, "conviction_defs conviction_laws conviction audit_defs audit_laws evidence_laws findings_laws claim_firsts audit_claims audit_turns journal_steps audit_sources audit_walk audit_cast findings_json audit_core audit_rows"),
+    "nodes": (1040, 773, 2, "image_defs image_laws snapshot_defs snapshot_laws snapshot_rows snapshot_rp kept_images heard_images image_parts node_defs node_laws node_text node_keys node_hosts node_traces opening_laws resume_laws script_laws letting_laws letter_laws node_input node_opening node_turns sealing_laws node_taking node_receiving node_script stop_laws node_loop node_rows"),
 }
 
 # The lines from each area to those that it uses, without those that others imply.
 LINES = {
-    ("the program", "chains of views, and guards"): [(200, 20), (200, 13), (1022, 13), (1022, 302), (1040, 302)],
+    ("the program", "chains of views, and guards"): [(200, 20), (200, 13), (1022, 13), (1022, 329), (1040, 329)],
     ("the program", "a run shown"): [(324, 60), (348, 60)],
     ("a replay", "a member"): [(172, 321), (172, 405)],
     ("a replay", "schedules and stories"): [(250, 321), (250, 394), (430, 394), (430, 413)],
@@ -265,11 +265,11 @@ LINES = {
     ("kits and words", "signatures"): [(828, 559), (828, 622)],
     ("signatures", "the outside"): [(676, 690), (664, 690), (664, 1070), (652, 1070)],
     ("the outside", "definitions"): [(500, 1132), (500, 1195)],
-    ("a store", "what is heard"): [(1040, 120), (1032, 120), (1032, 940), (324, 940)],
+    ("a store", "a member"): [(1040, 120), (1032, 120), (1032, 602), (656, 602), (656, 700), (333, 700), (333, 500), (324, 500)],
     ("a store", "kits and words"): [(1040, 100), (1004, 100), (1004, 460), (980, 460)],
-    ("nodes", "convictions and audits"): [(1192, 746), (1192, 731)],
-    ("chains of views, and guards", "nodes"): [(1344, 330), (1354, 330), (1354, 800), (1344, 800)],
-    ("convictions and audits", "a replay"): [(1040, 470), (1012, 470), (1012, 608), (662, 608), (662, 706), (330, 706), (330, 290), (324, 290)],
+    ("nodes", "convictions and audits"): [(1192, 773), (1192, 758)],
+    ("chains of views, and guards", "nodes"): [(1344, 357), (1354, 357), (1354, 827), (1344, 827)],
+    ("convictions and audits", "a replay"): [(1040, 497), (1012, 497), (1012, 608), (662, 608), (662, 706), (330, 706), (330, 290), (324, 290)],
 }
 
 

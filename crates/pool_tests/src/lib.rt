@@ -24,6 +24,4 @@ mod pool;
 #[cfg(test)]
 mod reliable;
 #[cfg(test)]
-mod served;
-#[cfg(test)]
 mod views;
