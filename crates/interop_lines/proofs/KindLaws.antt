@@ -18,7 +18,7 @@ use Rattle.interop_schedules.proofs.ScheduleLaws as of_schedules
 use Rattle.interop_node.proofs.QuestionLaws as of_nodes
 use Rattle.interop_pool.proofs.QuestionLaws as of_pools
 
--- a line that asks on no signature, no frame, no kit, no schedule, no journal and no datagram, and on no pool
+-- a line that asks on no signature, no frame, no kit, no schedule, no journal and no datagram, and on no pool and no conviction
 pub none : (line told : List ℕ) (ws ls vs us ss ns ps : List (List ℕ)) → ws ≡ words_of line → ls ≡ words_of line → vs ≡ words_of line
     → us ≡ words_of line → ss ≡ words_of line → ns ≡ words_of line → ps ≡ words_of line
     → (signatures.Answers ws told → ⊥) → (levels.Answers ls told → ⊥) → (frames.Answers vs told → ⊥) → (kits.Answers us told → ⊥)
@@ -48,7 +48,7 @@ abbrev second_letter : List ℕ → ℕ
 second_letter [] = 0
 second_letter (letter ∷ word) = first_letter word
 
--- what begins with `verify lms`, with `lms`, `hss`, `frame`, `statement`, `kit`, `schedule`, `journal`, `datagram` and `pool`
+-- what begins with `verify lms`, with `lms`, `hss`, `frame`, `statement`, `kit`, `schedule`, `journal`, `datagram`, `pool` and `convicted`
 of_words : List ℕ → List ℕ → ℕ
 of_words first second =
     if first_letter first == 118 then (if first_letter second == 108 then 0 else 1)
@@ -59,6 +59,7 @@ of_words first second =
     else if first_letter first == 106 then 5
     else if first_letter first == 100 then 5
     else if first_letter first == 112 then 6
+    else if first_letter first == 99 then 6
     else if second_letter first == 116 then 2
     else 4
 
@@ -119,6 +120,7 @@ asks_pool ws x a = of a.question a.asked
   where
     of : (q : pools.Question) → ws ≡ pools.spelled q → number ws ≡ 6
     of (pools.OfPool view members counts frame) is = ap number is
+    of (pools.OfConvicted frame) is = ap number is
 
 -- ---- one answer
 

@@ -1,4 +1,4 @@
--- Questions on pools, by the words of a line.
+-- Questions on pools and convictions, by the words of a line.
 use Rattle.std.proofs.Common.{◌≡◌, ℕ, ◌<◌, ◌≤◌, inl, inr, Bool, true, nat_eq, List, [], ◌∷◌, length, get_or, map, Bor, refl, sym, ap, subst, ◌∙◌, arith}
 use Rattle.std.specs.Prelude.{codes}
 use lib.Pointwise.{pointwise}
@@ -7,7 +7,7 @@ use Rattle.std.proofs.lemmas.Fmt.{decimal_injective}
 use Rattle.std.proofs.lemmas.Slice.Eq.{bytes_eq-Decides}
 use Rattle.text_defs.specs.Words.{Spells, bytes_word}
 use Rattle.text_codec.proofs.Spelled.{spelled_once}
-use Rattle.interop_pool.specs.Questions.{Answers, IsAnswerTo, IsQuestion, OfPool, Question, Says, spelled}
+use Rattle.interop_pool.specs.Questions.{Answers, IsAnswerTo, IsQuestion, OfConvicted, OfPool, Question, Says, claims_in, convicted_words, spelled}
 
 -- the line of these words behind `pool`
 abbrev pub asking : List ℕ → List ℕ → List ℕ → List ℕ → List (List ℕ)
@@ -20,6 +20,15 @@ pool_answers n m c f number members counts frame told sn low sm sc sf says = rec
   fits = (low, sm.0, sc.0, sf.0);
   asked = λ i. asking (sn i) (sm.1 i) (sc.1 i) (sf.1 i);
   is_told = says;
+}
+
+pub convicted_answers : (word bytes told : List ℕ) → Spells word bytes → told ≡ convicted_words (claims_in bytes)
+    → Answers (codes "convicted" ∷ word ∷ []) told
+convicted_answers word bytes told s is = record {
+  question = OfConvicted bytes;
+  fits = s.0;
+  asked = ap (λ (w : List ℕ). codes "convicted" ∷ w ∷ []) s.1;
+  is_told = is;
 }
 
 -- ---- the words of a line
@@ -57,3 +66,7 @@ one_answer words x y a b = of a.question b.question a.fits b.fits a.asked b.aske
         (subst (λ (ns : List ℕ). Says n ns cs f y) (sym members) (subst (λ (ds : List ℕ). Says n ns ds f y) (sym counts)
         (subst (λ (g : List ℕ). Says n ns ds g y) (sym frame) u))) in
         one_said m ms cs f x y t says
+    of (OfConvicted m) (OfConvicted n) fm fn is also t u =
+        t ∙ ap (λ (f : List ℕ). convicted_words (claims_in f)) (spelled_once (bytes_word m) m n (fm, refl) (fn, cc)) ∙ sym u
+    of (OfPool m ms cs f) (OfConvicted n) fm fn is also t u = absurd cc
+    of (OfConvicted n) (OfPool m ms cs f) fm fn is also t u = absurd cc

@@ -1,5 +1,6 @@
--- Questions on what a pool hears: how they are spelled, and what is answered.
-use Rattle.std.specs.Prelude.{◌≡◌, ◌⊎◌, ℕ, ◌≤◌, List, [], ◌∷◌, codes, Result, Ok, Err}
+-- Questions on what a pool hears, and whom claims convict: how they are spelled, and what is answered.
+use Rattle.std.specs.Prelude.{◌≡◌, ◌⊎◌, ℕ, ◌≤◌, List, [], ◌∷◌, ◌++◌, codes, Result, Ok, Err}
+use Rattle.std.specs.List.{flat_map}
 use Rattle.std.specs.Fmt.{decimal}
 use Rattle.hex.specs.Hex.{IsBytes}
 use Rattle.byte_defs.specs.Fields.{◌>>=◌}
@@ -8,11 +9,12 @@ use Rattle.message_defs.specs.Statements.{Claim}
 use Rattle.message_defs.specs.Frames.{frame_of}
 use Rattle.message_defs.specs.Claims.{claims_of}
 use Rattle.group_defs.specs.Views.{View}
+use Rattle.conviction_defs.specs.Convictions.{convicted}
 use Rattle.text_defs.specs.Words.{bytes_word}
 use Rattle.view_table.specs.Views.{as_view}
 use Rattle.interop_frames.specs.Frames.{fault_word}
-use Rattle.interop_pool.specs.Hearers.{IsHearer, hearer}
-use Rattle.interop_pool.specs.Telling.{heard_words}
+use Rattle.interop_pool.specs.Hearers.{IsHearer, hearer, setting}
+use Rattle.interop_pool.specs.Telling.{heard_words, signer_word}
 
 -- the claims of a frame's bytes, or the first fault
 abbrev pub claims_in : List ℕ → Result (List Claim) FrameFault
@@ -29,24 +31,34 @@ Says number members counts frame told =
     (IsHearer number members counts × (told ≡ said (as_view number members) counts (claims_in frame)))
     ⊎ ((¬ IsHearer number members counts) × (told ≡ codes "noview"))
 
+-- `convicted` and each whom the claims convict, by rising number, or the word of the fault
+abbrev pub convicted_words : Result (List Claim) FrameFault → List ℕ
+convicted_words (Ok claims) = codes "convicted" ++ flat_map signer_word (convicted setting claims)
+convicted_words (Err fault) = fault_word fault
+
 -- ---- the questions
 
 pub data Question : Type 0 where
   -- what is heard of a frame, in the view of this number and these members, after so many deliveries of each
   OfPool : (number : ℕ) (members counts frame : List ℕ) → Question
+  -- whom the claims of a frame convict
+  OfConvicted : (frame : List ℕ) → Question
 
 abbrev pub IsQuestion : Question → Type 0
 IsQuestion (OfPool number members counts frame) = (number ≤ 1023) × IsBytes members × IsBytes counts × IsBytes frame
+IsQuestion (OfConvicted frame) = IsBytes frame
 
--- `pool VIEW MEMBERS COUNTS FRAME`
+-- `pool VIEW MEMBERS COUNTS FRAME` and `convicted FRAME`
 abbrev pub spelled : Question → List (List ℕ)
 spelled (OfPool number members counts frame) =
     codes "pool" ∷ decimal number ∷ bytes_word members ∷ bytes_word counts ∷ bytes_word frame ∷ []
+spelled (OfConvicted frame) = codes "convicted" ∷ bytes_word frame ∷ []
 
 abbrev pub IsAnswerTo : Question → List ℕ → Type 0
 IsAnswerTo (OfPool number members counts frame) told = Says number members counts frame told
+IsAnswerTo (OfConvicted frame) told = told ≡ convicted_words (claims_in frame)
 
--- the words are those of a question on a pool, and this is what is answered
+-- the words are those of a question on a pool or on convictions, and this is what is answered
 pub record Answers (words : List (List ℕ)) (told : List ℕ) : Type 0 where
   pub question : Question
   pub fits : IsQuestion question

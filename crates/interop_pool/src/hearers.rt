@@ -12,6 +12,9 @@ use rp_base::{Pid, PidSet};
 use std::alloc::Global;
 use view_table::View;
 
+/// How many processes have a key.
+pub(crate) const KEYED: u8 = 48;
+
 /// The most members of a view.
 const MOST_MEMBERS: usize = 16;
 

@@ -16,7 +16,8 @@ use claim_pool::{Own, Pool, Verdict};
 use rp_base::{GroupId, NoMemory, PlainScheme, Roster};
 use stmt_codec::{Claim, Claims, spelled_len};
 
-const GROUP: GroupId = GroupId([0; 16]);
+/// The group's name.
+pub(crate) const GROUP: GroupId = GroupId([0; 16]);
 
 fn verdict_word(verdict: Verdict) -> &'static [u8]
     ensures { result.now ≡ words.verdict_word (verdict_of verdict) }

@@ -13,7 +13,8 @@ ghost use Rattle.interop_pool.specs.Telling as words;
 ghost use Rattle.interop_pool.specs.Questions as plain;
 ghost use Rattle.interop_pool.specs.Questions.{Answers, Says, said};
 
-use crate::hearers::{own, view_of};
+use crate::convictions::answer_on_convicted;
+use crate::hearers::{KEYED, own, view_of};
 use crate::hearing::take_all;
 use crate::telling::{push_claims, push_totals};
 use bench_parts::plain_roster;
@@ -25,9 +26,6 @@ use rp_base::{NoMemory, Roster};
 use std::alloc::Global;
 use stmt_codec::{Claims, claims_of};
 use view_table::View;
-
-/// How many processes have a key.
-const KEYED: u8 = 48;
 
 /// The number of the last view.
 const LAST_NUMBER: u32 = 1_023;
@@ -145,7 +143,7 @@ fn answer_on_pool(
     Ok(answer_pool(alloc, number as u16, &members, &counts, &frame)?)
 }
 
-/// The answer to a question on a pool, by the words of a line.
+/// The answer to a question on a pool or on convictions, by the words of a line.
 pub fn answer_pools(alloc: Global, words: &[&[u8]]) -> Result<Vec<u8>, LineFault>
     ensures answers { IfOk result (λ told. Answers (map (λ word. word.now) words.now) told.items) }
     ensures no_question { IsErrOf result LineFault.NoQuestion
@@ -155,6 +153,7 @@ pub fn answer_pools(alloc: Global, words: &[&[u8]]) -> Result<Vec<u8>, LineFault
         [verb, number, members, counts, frame] if *verb == b"pool".as_slice() => {
             answer_on_pool(alloc, number, members, counts, frame)
         }
+        [verb, frame] if *verb == b"convicted".as_slice() => answer_on_convicted(alloc, frame),
         _ => Err(LineFault::NoQuestion),
     }
 }

@@ -23,7 +23,7 @@ fn push_word(out: &mut Vec<u8>, word: &[u8]) -> Result<(), NoMemory>
 }
 
 // Each process behind a space, by rising number.
-fn push_signers(out: &mut Vec<u8>, signers: PidSet) -> Result<(), NoMemory>
+pub(crate) fn push_signers(out: &mut Vec<u8>, signers: PidSet) -> Result<(), NoMemory>
     ensures { OnOk result (out.new.items ≡ out.old.items ++ flat_map words.signer_word signers) }
 {
     let mut left = signers;
