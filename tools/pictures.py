@@ -236,8 +236,8 @@ AREAS = {
     "links and journals": (676, 777, 2, "link_defs auth_link journal_defs journal_disk journal_entries journal_rp"),
     "a store": (1040, 20, 2, "store_defs store_laws following_laws store_rows store_records kv_service vote_client state_transfer store_words store_keys store_replies store_giving store_server"),
     "chains of views, and guards": (1040, 289, 2, "chain_defs chain_text_defs chain_laws chain_rows chain_check chain_words guard_defs guard_laws guard_rows"),
-    "convictions and audits": (1040, 477, 2, "conviction_defs conviction_laws conviction audit_defs audit_laws evidence_laws findings_laws claim_firsts audit_claims audit_turns journal_steps audit_sources audit_walk audit_cast findings_json audit_core audit_rows"),
-    "nodes": (1040, 773, 2, "image_defs image_laws snapshot_defs snapshot_laws snapshot_rows snapshot_rp kept_images heard_images image_parts node_defs node_laws node_text node_keys node_hosts node_traces opening_laws resume_laws script_laws letting_laws letter_laws node_input node_opening node_turns sealing_laws node_taking node_receiving node_script stop_laws node_loop node_rows"),
+    "convictions and audits": (1040, 477, 2, "conviction_defs conviction_laws conviction audit_defs audit_laws evidence_laws findings_laws claim_firsts audit_claims audit_turns journal_steps audit_sources audit_walk audit_cast findings_json audit_core audit_input audit_words audit_rows"),
+    "nodes": (1040, 800, 2, "image_defs image_laws snapshot_defs snapshot_laws snapshot_rows snapshot_rp kept_images heard_images image_parts node_defs node_laws node_text node_keys node_hosts node_traces opening_laws resume_laws script_laws letting_laws letter_laws node_input node_opening node_turns sealing_laws node_taking node_receiving node_script stop_laws node_loop node_rows"),
 }
 
 # The lines from each area to those that it uses, without those that others imply.
@@ -253,9 +253,7 @@ LINES = {
     ("what is heard", "frames and statements"): [(324, 823), (348, 823)],
     ("laws and rows", "definitions"): [(172, 1159), (172, 1195)],
     ("a run shown", "a replay"): [(348, 155), (324, 155)],
-    ("beside other implementations", "schedules and stories"): [(500, 376), (500, 413)],
-    ("beside other implementations", "what is heard"): [(348, 300), (342, 300), (342, 800), (324, 800)],
-    ("beside other implementations", "links and journals"): [(652, 369), (996, 369), (996, 830), (980, 830)],
+    ("beside other implementations", "convictions and audits"): [(652, 369), (996, 369), (996, 490), (1040, 490)],
     ("how fast", "a replay"): [(676, 40), (664, 40), (664, 8), (332, 8), (332, 150), (324, 150)],
     ("schedules and stories", "kits and words"): [(652, 486), (676, 486)],
     ("schedules and stories", "frames and statements"): [(500, 667), (500, 777)],
@@ -267,7 +265,7 @@ LINES = {
     ("the outside", "definitions"): [(500, 1132), (500, 1195)],
     ("a store", "a member"): [(1040, 120), (1032, 120), (1032, 602), (656, 602), (656, 700), (333, 700), (333, 500), (324, 500)],
     ("a store", "kits and words"): [(1040, 100), (1004, 100), (1004, 460), (980, 460)],
-    ("nodes", "convictions and audits"): [(1192, 773), (1192, 758)],
+    ("nodes", "convictions and audits"): [(1192, 800), (1192, 785)],
     ("chains of views, and guards", "nodes"): [(1344, 357), (1354, 357), (1354, 827), (1344, 827)],
     ("convictions and audits", "a replay"): [(1040, 497), (1012, 497), (1012, 608), (662, 608), (662, 706), (330, 706), (330, 290), (324, 290)],
 }
