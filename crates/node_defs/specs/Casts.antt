@@ -26,6 +26,8 @@ pub record Cast : Type 0 where
   -- by rising numbers
   pub hosted : List ℕ
   pub batch_limit : ℕ
+  -- what its key is made of, and what a service may make further keys of
+  pub secret : ℕ → Option Secret
   -- how many signatures its key makes, and the key's signature on a body after so many others
   pub total : ℕ → ℕ
   pub signer : ℕ → Signer
@@ -74,6 +76,7 @@ cast_of kit version = record {
   setting = setting_of kit;
   hosted = hosted_by kit;
   batch_limit = batch_limit version;
+  secret = λ p. option_map (λ h. h.secret) (host_of kit p);
   total = λ p. option_map_or (λ h. total_of h.secret) (host_of kit p) 0;
   signer = λ p used body. option_map_or (λ h. signature_of h.secret used body) (host_of kit p) [];
   port = λ p. unwrap_or (option_map (λ port. port.1) (find (λ port. port.0 == p) kit.ports)) 0;

@@ -93,6 +93,7 @@ toy total = record {
   setting = toy_setting (0 ∷ 1 ∷ []) (0 ∷ 1 ∷ []);
   hosted = 0 ∷ 1 ∷ [];
   batch_limit = 16;
+  secret = λ p. None;
   total = λ p. total;
   signer = λ p used body. [];
   port = λ p. 47000 + p;
