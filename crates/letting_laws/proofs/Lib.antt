@@ -1,2 +1,3 @@
 pub mod Joined
 pub mod Machine
+pub mod Posting

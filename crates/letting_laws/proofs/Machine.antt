@@ -6,6 +6,7 @@ use Rattle.std.proofs.lemmas.List.{append-nil, append_assoc}
 use Rattle.node_defs.specs.Casts.{Cast}
 use Rattle.node_defs.specs.Lines.{note_line, fault_line}
 use Rattle.node_defs.specs.Nodes.{Leaving, Sends, Tells, Call, leaving_call, Answer, Done, Failed, Said, Node, Snapper, call_of, after_leaving, answered, run, calls}
+use Rattle.node_traces.specs.Service.{Asked, asking, hears, asked_by}
 use Rattle.letting_laws.specs.Letting.{Fits, asked, told_by, failed_by, EachLetsOut}
 
 -- the node, open and running, with this to let out
@@ -92,11 +93,25 @@ run-so c snap n (l ∷ ls) others (a ∷ more) each =
     ∙ run-so c snap (with_lines n (told_by (l, a)) (failed_by (l, a))) ls others more each.1
     ∙ lines-more n (told_by (l, a)) (failed_by (l, a)) (flat_map told_by (zip ls more)) (flat_map failed_by (zip ls more)) others
 
+heard-so : (c : Cast) (snap : Snapper) (n : Node) (ls others : List Leaving) (answers : List Answer) → AllZip Fits ls answers
+    → asked_by c snap (letting n (ls ++ others)) answers ≡ hears c n.now (asked c ls answers)
+unfolding asked_by
+heard-so c snap n [] others [] each = refl
+heard-so c snap n [] others (a ∷ more) each = absurd each
+heard-so c snap n (l ∷ ls) others [] each = absurd each
+heard-so c snap n (l ∷ ls) others (a ∷ more) each =
+    ap (λ (call : Call). asking c n.now call a ++ asked_by c snap (answered c snap (letting n (l ∷ ls ++ others)) a) more)
+    (asks-so c n (ls ++ others) l)
+    ∙ ap (λ (h : List Asked). asking c n.now (leaving_call c l) a ++ h)
+    (ap (λ (m : Node). asked_by c snap m more) (answered-so c snap n (ls ++ others) l a each.0)
+    ∙ heard-so c snap (with_lines n (told_by (l, a)) (failed_by (l, a))) ls others more each.1)
+
 pub each_lets_out : EachLetsOut
 each_lets_out c snap n first others answers is each =
     let same : n ≡ letting n (first ++ others) = λ i. record n { stopped = is.runs i; opening = is.ready i; leaving = is.leaving i } in
     record {
       calls_are = ap (λ (m : Node). calls c snap m answers) same ∙ calls-so c snap n first others answers each;
+      asked_are = ap (λ (m : Node). asked_by c snap m answers) same ∙ heard-so c snap n first others answers each;
       run_is = ap (λ (m : Node). run c snap m answers) same ∙ run-so c snap n first others answers each ∙ back;
     }
   where

@@ -3,3 +3,4 @@ pub mod Left
 pub mod Going
 pub mod Went
 pub mod Quiet
+pub mod Service

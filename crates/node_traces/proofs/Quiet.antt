@@ -1,9 +1,10 @@
 -- Memory that runs out: the node ends, and nothing outside changes.
-use Rattle.std.proofs.Common.{◌≡◌, ℕ, None, Some, refl, ap}
+use Rattle.std.proofs.Common.{◌≡◌, ℕ, None, Some, refl, sym, ap}
 use Rattle.std.specs.Prelude.{Option}
+use Rattle.std.proofs.lemmas.List.{append-nil}
 use Rattle.node_defs.specs.Casts.{Cast}
 use Rattle.node_defs.specs.Lines.{Stop, NoMemory}
-use Rattle.node_defs.specs.Nodes.{Node, Call, Binds, Writes, Serves, Finishes, SendsTo, TellsOf, Steps, Appends, Asks, ReceivesOn, Words, Marks, ReadsLine, Rests, Snapper, Answer, Unremembered, call_of, answered, unless_stopped}
+use Rattle.node_defs.specs.Nodes.{Node, Call, Binds, Writes, Serves, Finishes, SendsTo, TellsOf, Steps, Appends, Asks, ReceivesOn, Words, Marks, ReadsLine, Rests, Snapper, Unremembered, call_of, answered, unless_stopped}
 use Rattle.node_traces.specs.Outside.{LinkSeen, LinkStep, SinkSeen, SinkStep, SourceSeen, SourceStep}
 use Rattle.node_traces.specs.Goes.{Outside, Does}
 
@@ -28,7 +29,7 @@ nothing-happens most Rests k s o = (refl, refl, refl)
 pub no-memory : (c : Cast) (most : ℕ) (n : Node) (x : Outside) → Does c most n Unremembered x x
 no-memory c most n x =
     let is = nothing-happens most (call_of c n) x.link x.sink x.source in
-    record { link = is.0; sink = is.1; source = is.2 }
+    record { link = is.0; sink = is.1; source = is.2; service = sym (append-nil x.service) }
 
 -- and a node that runs ends then, with what it has kept
 pub runs-out : (c : Cast) (snap : Snapper) (n : Node) → n.stopped ≡ None

@@ -5,7 +5,7 @@ use Rattle.journal_disk.specs.Disks.{LeavesOnly}
 use Rattle.journal_disk.proofs.Moments.{then, weaker}
 use Rattle.node_defs.specs.Lines.{Stop}
 use Rattle.node_defs.specs.Lives.{Found}
-use Rattle.node_defs.specs.Nodes.{Node, Answer, Snapper, run}
+use Rattle.node_defs.specs.Nodes.{Node, Snapper}
 use Rattle.node_defs.specs.Casts.{Cast}
 use Rattle.node_traces.specs.Goes.{Outside, Goes}
 use Rattle.node_traces.specs.Stops.{LeftBy}

@@ -1,5 +1,6 @@
 pub mod Ways
 pub mod Outside
+pub mod Service
 pub mod Stops
 pub mod Goes
 pub mod Seen

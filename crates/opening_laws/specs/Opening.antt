@@ -2,9 +2,10 @@
 use Rattle.std.specs.Prelude.{◌≡◌, ℕ, List, ◌∷◌, ◌++◌, map, Some, None}
 use Rattle.node_defs.specs.Lines.{Stop, NoMemory, WriteFailed, DiskFailed, BindFailed}
 use Rattle.node_defs.specs.Casts.{Cast}
-use Rattle.node_defs.specs.Nodes.{Node, Opening, Bind, Greet, Serve, Finish, Snapper}
+use Rattle.node_defs.specs.Nodes.{Node, Opening, Bind, Greet, Serve, Finish, Serves, Said, Snapper}
 use Rattle.node_traces.specs.Outside.{LinkSeen, LinkFailed, SinkSeen, SinkWrote, SinkFailed}
-use Rattle.node_traces.specs.Goes.{Outside, Goes}
+use Rattle.node_traces.specs.Service.{asking}
+use Rattle.node_traces.specs.Goes.{Outside, Goes, with_service}
 
 -- the node has not stopped, and this is left of its opening
 pub record HasToOpen (n : Node) (left : List Opening) : Type 0 where
@@ -58,9 +59,9 @@ pub record EachOpens (c : Cast) (snap : Snapper) (most : ℕ) (n : Node) (x : Ou
       → Goes c snap most n x (left_to_open n more) (with_sink x sink)
   pub not_greeted : (text : List ℕ) (more : List Opening) (sink : SinkSeen) → HasToOpen n (Greet text ∷ more) → SinkFailed x.sink sink text
       → Goes c snap most n x (stopped_by WriteFailed n) (with_sink x sink)
-  -- the service begins with this text
+  -- the service begins with this text, which is written then
   pub served : (text : List ℕ) (sends : List (ℕ × List ℕ)) (more : List Opening) → HasToOpen n (Serve ∷ more)
-      → Goes c snap most n x (left_to_open n (Greet text ∷ more)) x
+      → Goes c snap most n x (left_to_open n (Greet text ∷ more)) (with_service x (x.service ++ asking c n.now Serves (Said text sends)))
   pub finished : (more : List Opening) → HasToOpen n (Finish ∷ more) → Goes c snap most n x (left_to_open n more) x
   pub not_finished : (more : List Opening) → HasToOpen n (Finish ∷ more) → Goes c snap most n x (stopped_by DiskFailed n) x
   pub unremembered : n.stopped ≡ None → Goes c snap most n x (stopped_by NoMemory n) x

@@ -9,5 +9,6 @@ pub mod Snapping
 pub mod Frames
 pub mod Taking
 pub mod Said
+pub mod Heard
 pub mod Traces
 pub mod GivenBack

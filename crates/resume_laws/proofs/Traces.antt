@@ -8,28 +8,45 @@ use Rattle.node_defs.specs.Lives.{Found, with_or_without, leaves}
 use Rattle.std.specs.Option.{option_to_list}
 use Rattle.node_defs.specs.Snapshots.{Snapshot, snap_line, from_snapshot}
 use Rattle.node_traces.specs.Outside.{LinkAnswered, SinkAnswered, SourceAnswered}
+use Rattle.node_traces.specs.Service.{Asked, asked_by}
 use Rattle.node_traces.specs.Goes.{Outside, Goes}
 use Rattle.node_traces.specs.Stops.{LeftBy}
 use Rattle.resume_laws.specs.Resuming.{IsResumed, after_these, begun, GoesAlike}
-use Rattle.resume_laws.specs.Traces.{DidTheSame, ResumesTraceAlike}
+use Rattle.resume_laws.specs.Traces.{answers_in, DidTheSame, ResumesTraceAlike}
+use Rattle.resume_laws.proofs.Heard.{answers-append, heard-same}
 use Rattle.resume_laws.proofs.Resuming.{resumes_as_node}
 
 module _ (c : Cast) (s : Snapshot) (es : List Entry) (node resumed : Node)
     (alike : (answers : List Answer) → GoesAlike c s es node resumed answers) where
+  same-heard : (most : ℕ) (x y : Outside) (m : Node) (g : Goes c (snap_line c (from_snapshot c s)) most resumed x m y)
+      → answers_in (x.service ++ asked_by c (snap_line c (from_start c)) node g.answers) ≡ answers_in y.service
+  same-heard most x y m g =
+      let snap = snap_line c (from_start c) in
+      let snap' = snap_line c (from_snapshot c s) in
+      answers-append x.service (asked_by c snap node g.answers)
+      ∙ ap (λ (cs : List (Call × Answer)). answers_in x.service ++ cs)
+      (sym (heard-same c snap snap' node resumed g.answers (alike g.answers).calls_are))
+      ∙ sym (answers-append x.service (asked_by c snap' resumed g.answers))
+      ∙ ap (λ (h : List Asked). answers_in h) (sym g.service)
+
   did-same : (most : ℕ) (x y : Outside) (m : Node) → Goes c (snap_line c (from_snapshot c s)) most resumed x m y
       → DidTheSame c es most node x m y
   did-same most x y m g =
       let both = alike g.answers in
+      let snap = snap_line c (from_start c) in
       record {
-        other = run c (snap_line c (from_start c)) node g.answers;
+        other = run c snap node g.answers;
+        service = x.service ++ asked_by c snap node g.answers;
+        same = same-heard most x y m g;
         goes = record {
           answers = g.answers;
           becomes = refl;
           link = subst (λ (cs : List (Call × Answer)). LinkAnswered x.link cs y.link) both.calls_are g.link;
           sink = subst (λ (cs : List (Call × Answer)). SinkAnswered x.sink cs y.sink) both.calls_are g.sink;
           source = subst (λ (cs : List (Call × Answer)). SourceAnswered most x.source cs y.source) both.calls_are g.source;
+          service = refl;
         };
-        is_resumed = subst (IsResumed c es (run c (snap_line c (from_start c)) node g.answers)) (sym g.becomes) both.is_resumed;
+        is_resumed = subst (IsResumed c es (run c snap node g.answers)) (sym g.becomes) both.is_resumed;
       }
 
   -- with the one more, or without it

@@ -1,19 +1,26 @@
 -- What a node that begins by a snapshot did to the outside, and what a stop of it leaves.
-use Rattle.std.specs.Prelude.{ℕ, ◌+◌, List, [], ◌++◌, Option}
+use Rattle.std.specs.Prelude.{◌≡◌, ℕ, ◌+◌, List, [], ◌++◌, map, Option}
 use Rattle.group_defs.specs.Views.{IsView}
 use Rattle.journal_defs.specs.Entries.{Entry}
 use Rattle.node_defs.specs.Casts.{Cast, from_start}
-use Rattle.node_defs.specs.Nodes.{Node, Answer}
+use Rattle.node_defs.specs.Nodes.{Node, Call, Answer}
 use Rattle.node_defs.specs.Lives.{Found, FitsFrom}
 use Rattle.node_defs.specs.Snapshots.{Snapshot, snap_line, from_snapshot}
-use Rattle.node_traces.specs.Goes.{Outside, Goes}
+use Rattle.node_traces.specs.Service.{Asked}
+use Rattle.node_traces.specs.Goes.{Outside, Goes, with_service}
 use Rattle.node_traces.specs.Stops.{LeftBy}
 use Rattle.resume_laws.specs.Resuming.{IsSnapshotAfter, IsResumed, after_these, begun}
 
--- some node that the other becomes, which did to the outside the same
+-- what a service was asked, each with its answer
+abbrev pub answers_in : List Asked → List (Call × Answer)
+answers_in h = map (λ i. (i.call, i.answer)) h
+
+-- some node that the other becomes, which did to the outside the same, and whose service answered the same to the same calls
 pub record DidTheSame (c : Cast) (es : List Entry) (most : ℕ) (node : Node) (x : Outside) (resumed : Node) (y : Outside) : Type 0 where
   pub other : Node
-  pub goes : Goes c (snap_line c (from_start c)) most node x other y
+  pub service : List Asked
+  pub same : answers_in service ≡ answers_in y.service
+  pub goes : Goes c (snap_line c (from_start c)) most node x other (with_service y service)
   pub is_resumed : IsResumed c es other resumed
 
 -- Whatever it did to link, output and input, the node that reads the whole journal may do, and it is then that node. And what a stop leaves

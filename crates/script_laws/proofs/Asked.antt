@@ -57,7 +57,47 @@ in-own-words (word ∷ arg ∷ []) most e =
     arg most e
 in-own-words (word ∷ arg ∷ more ∷ words) most e = absurd cc
 
--- ---- and the service's lines do not
+-- ---- nor are they for the service
+
+one-not-other : (renew tick : Bool) → first_that_holds ((renew, Hand Renew) ∷ (tick, Hand Tick) ∷ []) ≡ Some Other → ⊥
+one-not-other true tick e = cc
+one-not-other false true e = cc
+one-not-other false false e = cc
+
+two-not-other : (submit suspect join recv : Bool) (arg : List ℕ)
+    → (if submit then option_map (λ payload. Hand (Submit payload)) (payload_of arg)
+    else if suspect then option_map (λ q. Hand (Suspect q)) (process_of arg)
+    else if join then option_map (λ q. Hand (Join q)) (process_of arg)
+    else if recv then option_map Receive (number_within 1 1000 arg)
+    else None) ≡ Some Other → ⊥
+two-not-other true suspect join recv arg e =
+    let found = map_some (λ payload. Hand (Submit payload)) (payload_of arg) Other e in
+    let other : Hand (Submit found.0) ≡ Other = found.2 in
+    cc
+two-not-other false true join recv arg e =
+    let found = map_some (λ q. Hand (Suspect q)) (process_of arg) Other e in
+    let other : Hand (Suspect found.0) ≡ Other = found.2 in
+    cc
+two-not-other false false true recv arg e =
+    let found = map_some (λ q. Hand (Join q)) (process_of arg) Other e in
+    let other : Hand (Join found.0) ≡ Other = found.2 in
+    cc
+two-not-other false false false true arg e =
+    let found = map_some Receive (number_within 1 1000 arg) Other e in
+    let other : Receive found.0 ≡ Other = found.2 in
+    cc
+two-not-other false false false false arg e = cc
+
+own-not-other : (words : List (List ℕ)) → said_by words ≡ Some Other → ⊥
+unfolding said_by
+own-not-other [] e = cc
+own-not-other (word ∷ []) e = one-not-other (same_bytes word (codes "renew")) (same_bytes word (codes "tick")) e
+own-not-other (word ∷ arg ∷ []) e =
+    two-not-other (same_bytes word (codes "submit")) (same_bytes word (codes "suspect")) (same_bytes word (codes "join"))
+    (same_bytes word (codes "recv")) arg e
+own-not-other (word ∷ arg ∷ more ∷ words) e = cc
+
+-- ---- and the service's lines do not, and are text
 
 not-for-the-service : (line : List ℕ) (most : ℕ) → other_said line ≡ Some (Receive most) → IsSome-receive most
 not-for-the-service line most e =
@@ -72,6 +112,13 @@ some-datagrams line words most e =
       | inr other ↦ not-for-the-service line most other
     ]
 
+is-text : (line : List ℕ) (words : List (List ℕ)) → said_or_other line words ≡ Some Other → IsTrue (is_utf8 line)
+is-text line words e =
+    elim (or_some (if nat_le (length line) most_own_bytes then said_by words else None) (other_said line) Other e) [
+      | inl own ↦ absurd (own-not-other words (if_some (nat_le (length line) most_own_bytes) (said_by words) Other own).1)
+      | inr other ↦ (if_some (is_utf8 line) (Some Other) Other other).0
+    ]
+
 -- ---- the law
 
 asked-of : (hosted line : List ℕ) (words : List (List ℕ)) (q p : ℕ) (said : Said) → line_if_hosted hosted line words q ≡ Some (Of p said)
@@ -84,6 +131,7 @@ asked-of hosted line words q p said e =
     record {
       is_hosted = subst (λ (r : ℕ). IsTrue (has hosted r)) who here.0;
       some = λ most is. some-datagrams line words most (found.1 ∙ ap (λ (s : Said). Some s) (what ∙ is));
+      text = λ is. is-text line words (found.1 ∙ ap (λ (s : Said). Some s) (what ∙ is));
     }
 
 by-words : (hosted line : List ℕ) (words : List (List ℕ)) (p : ℕ) (said : Said) → line_of_words hosted line words ≡ Some (Of p said)

@@ -56,7 +56,7 @@ module _ (c : Cast) (snap : Snapper) (most : ℕ) (n : Node) (x : Outside) where
   does-came : (line : List ℕ) (source : SourceSeen) → SourceTook most x.source source line
       → Does c most (reading n) (Came line) x (with_source x source)
   unfolding call_of
-  does-came line source took = record { link = refl; sink = refl; source = took }
+  does-came line source took = record { link = refl; sink = refl; source = took; service = sym (append-nil x.service) }
 
   took-one : (line : List ℕ) (said : Line) (source : SourceSeen) → SourceTook most x.source source line → n.script ≢ most_lines
       → line_said c.hosted line ≡ Some said
@@ -109,13 +109,17 @@ module _ (c : Cast) (snap : Snapper) (most : ℕ) (n : Node) (x : Outside) where
   each-reading : EachReads c snap most (reading n) x
   unfolding answered after_read call_of
   each-reading =
-      let same = append-nil n.kept in record {
+      let same = append-nil n.kept in
+      let heard = sym (append-nil x.service) in record {
         took = took-one;
         refused = refused-one;
-        broken = λ source broke. stops-by Broken (BadLine (n.lines + 1)) source refl same (record { link = refl; sink = refl; source = broke });
-        ended = λ source ended. stops-by Done Ended source refl same (record { link = refl; sink = refl; source = ended });
-        failed = λ source failed. stops-by Failed ReadFailed source refl same (record { link = refl; sink = refl; source = failed });
-        unremembered = stops-by Unremembered NoMemory x.source refl refl (record { link = refl; sink = refl; source = refl });
+        broken = λ source broke. stops-by Broken (BadLine (n.lines + 1)) source refl same
+            (record { link = refl; sink = refl; source = broke; service = heard });
+        ended = λ source ended. stops-by Done Ended source refl same (record { link = refl; sink = refl; source = ended; service = heard });
+        failed = λ source failed. stops-by Failed ReadFailed source refl same
+            (record { link = refl; sink = refl; source = failed; service = heard });
+        unremembered = stops-by Unremembered NoMemory x.source refl refl
+            (record { link = refl; sink = refl; source = refl; service = heard });
       }
 
 pub reads_in_order : ReadsInOrder

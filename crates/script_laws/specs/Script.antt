@@ -1,12 +1,15 @@
 -- How a node reads its script, line by line: which part of a run the answer to a read is.
-use Rattle.std.specs.Prelude.{◌≡◌, ◌≢◌, ◌⊎◌, ℕ, ◌+◌, ◌≤◌, List, [], ◌∷◌, Some, None, IsTrue}
+use Rattle.std.specs.Prelude.{◌≡◌, ◌≢◌, ◌⊎◌, ℕ, ◌+◌, ◌≤◌, List, [], ◌∷◌, ◌++◌, Some, None, IsTrue}
+use Rattle.std.specs.Str.{is_utf8}
 use Rattle.byte_defs.specs.Members.{has}
-use Rattle.node_defs.specs.Scripts.{Line, Of, Receive, Said, line_said, most_lines}
+use Rattle.node_defs.specs.Scripts.{Line, Of, Receive, Other, Said, line_said, most_lines}
 use Rattle.node_defs.specs.Lines.{Stop, Ended, NoMemory, ReadFailed, BadLine}
 use Rattle.node_defs.specs.Casts.{Cast}
-use Rattle.node_defs.specs.Nodes.{Node, Task, Word, Mark, Marks, Snapper, call_of, tasks_of_line}
+use Rattle.node_defs.specs.Nodes as nodes
+use Rattle.node_defs.specs.Nodes.{Node, Task, Say, Flush, Word, Words, Mark, Marks, Done, Snapper, call_of, post_tasks, tasks_of_line}
 use Rattle.node_traces.specs.Outside.{SourceSeen, SourceTook, SourceBroke, SourceEnded, SourceFailed}
-use Rattle.node_traces.specs.Goes.{Outside, Goes}
+use Rattle.node_traces.specs.Service.{asking}
+use Rattle.node_traces.specs.Goes.{Outside, Goes, with_service}
 
 -- the node runs, its opening is over, and this is left of what it read
 pub record HasToDo (n : Node) (ts : List Task) : Type 0 where
@@ -51,19 +54,24 @@ pub record EachReads (c : Cast) (snap : Snapper) (most : ℕ) (n : Node) (x : Ou
 abbrev pub ReadsInOrder : Type 0
 ReadsInOrder = (c : Cast) (snap : Snapper) (most : ℕ) (n : Node) (x : Outside) → HasToDo n [] → EachReads c snap most n x
 
--- A node that asks its service for a line stops, where the service has none. One that is asked for a snapshot asks for the journal's
--- digest.
+-- A node that asks its service for a line stops, where the service has none; else it writes what the service says, posts what it sends, and
+-- writes the lines of failed sends. One that is asked for a snapshot asks for the journal's digest.
 pub record EachAsks (c : Cast) (snap : Snapper) (most : ℕ) (n : Node) (x : Outside) : Type 0 where
-  pub refused : (p : ℕ) (line : List ℕ) (ts : List Task) → HasToDo n (Word p line ∷ ts) → StopsWith c snap most n x (BadLine n.lines) x
+  pub refused : (p : ℕ) (line : List ℕ) (ts : List Task) → HasToDo n (Word p line ∷ ts)
+      → StopsWith c snap most n x (BadLine n.lines) (with_service x (x.service ++ asking c n.now (Words p line) Done))
+  pub said : (p : ℕ) (line : List ℕ) (ts : List Task) (text : List ℕ) (sends : List (ℕ × List ℕ)) → HasToDo n (Word p line ∷ ts)
+      → Goes c snap most n x (record n { tasks = Say text ∷ ((post_tasks p sends ++ Flush ∷ []) ++ ts) })
+      (with_service x (x.service ++ asking c n.now (Words p line) (nodes.Said text sends)))
   pub marks : (ts : List Task) → HasToDo n (Mark ∷ ts) → call_of c n ≡ Marks
 
 abbrev pub AsksTheOutside : Type 0
 AsksTheOutside = (c : Cast) (snap : Snapper) (most : ℕ) (n : Node) (x : Outside) → EachAsks c snap most n x
 
--- what a line asks of a process, it asks of one that is hosted; and it asks for 1 to 1,000 datagrams
+-- what a line asks of a process, it asks of one that is hosted; it asks for 1 to 1,000 datagrams; and a line for the service is text
 pub record AsksHosted (hosted line : List ℕ) (p : ℕ) (said : Said) : Type 0 where
   pub is_hosted : IsTrue (has hosted p)
   pub some : (most : ℕ) → said ≡ Receive most → (1 ≤ most) × (most ≤ 1000)
+  pub text : said ≡ Other → IsTrue (is_utf8 line)
 
 abbrev pub LinesAskHosted : Type 0
 LinesAskHosted = (hosted line : List ℕ) (p : ℕ) (said : Said) → line_said hosted line ≡ Some (Of p said) → AsksHosted hosted line p said

@@ -10,12 +10,12 @@ pub fn reads_in_order()
     ensures { ReadsInOrder }
 {}
 
-/// A node that asks its service for a line stops, where the service has none.
+/// A node that asks its service for a line stops, where the service has none, and else does what it says.
 pub fn asks_the_outside()
     ensures { AsksTheOutside }
 {}
 
-/// A line of the script asks nothing of a process that is not hosted.
+/// A line of the script asks nothing of a process that is not hosted, and one for the service is text.
 pub fn lines_ask_hosted()
     ensures { LinesAskHosted }
 {}
