@@ -36,8 +36,8 @@ pub struct Unsynced;
 pub struct Synced;
 
 /// What one event brought about at a process, its entry, and the process itself. What is to be sent and told is lent once the entry is
-/// in the journal for good, and the process is handed back then: only `Turn<Synced, P>` has `sends`, `notes` and `into_process`, and only
-/// `Journal::append` makes one.
+/// in the journal for good, and the process is lent and handed back then: only `Turn<Synced, P>` has `sends`, `notes`, `process`,
+/// `into_parts` and `into_process`, and only `Journal::append` makes one.
 #[derive(Drop)]
 pub struct Turn<S, P> {
     pub(crate) bytes: Vec<u8>,
@@ -116,6 +116,26 @@ impl<P: Drop> Turn<Synced, P> {
         ensures { result.now ≡ (outcome_of self.now).notes.items }
     {
         self.outcome.notes.as_slice()
+    }
+
+    /// The process that took the turn, lent.
+    pub fn process(&self) -> &P
+        ensures { result.now ≡ process_of self.now }
+    {
+        &self.process
+    }
+
+    /// The process that took the turn, which can take the next one, and what the event brought about.
+    pub fn into_parts(self) -> (P, Outcome)
+        ensures process { result.0 ≡ process_of self }
+        ensures outcome { result.1 ≡ outcome_of self }
+    {
+        let Turn {
+            outcome,
+            process,
+            ..
+        } = self;
+        (process, outcome)
     }
 
     /// The process that took the turn, which can take the next one.

@@ -9,6 +9,7 @@ use Rattle.node_defs.specs.Lines.{Stop, Ended, NoMemory, ReadFailed, WriteFailed
 use Rattle.node_defs.specs.Lives.{Found}
 use Rattle.node_defs.specs.Nodes.{Node, Snapper, at_first, reads, reads_one, takes_up}
 use Rattle.node_traces.specs.Outside.{LinkSeen, SinkSeen, SourceSeen}
+use Rattle.node_traces.specs.Service.{Asked}
 use Rattle.node_traces.specs.Goes.{Outside, Goes}
 use Rattle.script_laws.specs.Faults.{ByCount, HasCauses, HasNotFailed}
 use Rattle.script_laws.proofs.Stopping.{faults_stop}
@@ -16,7 +17,6 @@ use Rattle.stop_laws.specs.Binds.{IsSilent}
 use Rattle.stop_laws.proofs.Binding.{binds_first}
 use Rattle.stop_laws.proofs.Rested.{ends-so}
 use Rattle.node_script.specs.Inputs.{HasNoKit}
-use Rattle.node_script.specs.Sources.{most_line_bytes}
 use Rattle.node_script.specs.Words.{Unopened, reading, opening, outside, Unread, no_memory, no_disk, no_header, no_entry}
 use Rattle.node_loop.specs.Runs.{HasRun, HasStopped, no_kit, not_opened, no_snapshot, opened_on, ran}
 
@@ -38,15 +38,15 @@ opens-calm kit version go es =
     reads-calm c (at_first (from_start c) go) es
     (record { no_read = λ e. absurd cc; no_write = λ e. absurd cc; no_bind = λ e. absurd cc; no_end = λ e. absurd cc })
 
-goes-causes : (kit : Kit) (version : Version) (snap : Snapper) (go : ℕ) (es : List Entry) (last : Node) (x y : Outside)
-    → Goes (cast_of kit version) snap most_line_bytes (opened_on kit version go es) x last y → HasCauses last.stopped x y
-goes-causes kit version snap go es last x y goes =
-    faults_stop (cast_of kit version) snap most_line_bytes (opened_on kit version go es) last x y goes (opens-calm kit version go es)
+goes-causes : (kit : Kit) (version : Version) (snap : Snapper) (most : ℕ) (go : ℕ) (es : List Entry) (last : Node) (x y : Outside)
+    → Goes (cast_of kit version) snap most (opened_on kit version go es) x last y → HasCauses last.stopped x y
+goes-causes kit version snap most go es last x y goes =
+    faults_stop (cast_of kit version) snap most (opened_on kit version go es) last x y goes (opens-calm kit version go es)
 
 -- a node that stops for a port has sent and written nothing
-goes-silent : (kit : Kit) (version : Version) (snap : Snapper) (go : ℕ) (es : List Entry) (last : Node) (x y : Outside)
-    → Goes (cast_of kit version) snap most_line_bytes (opened_on kit version go es) x last y → last.stopped ≡ Some BindFailed → IsSilent x y
-goes-silent kit version snap go es last x y goes failed = of n.stopped refl
+goes-silent : (kit : Kit) (version : Version) (snap : Snapper) (most : ℕ) (go : ℕ) (es : List Entry) (last : Node) (x y : Outside)
+    → Goes (cast_of kit version) snap most (opened_on kit version go es) x last y → last.stopped ≡ Some BindFailed → IsSilent x y
+goes-silent kit version snap most go es last x y goes failed = of n.stopped refl
   where
     c : Cast
     c = cast_of kit version
@@ -55,7 +55,7 @@ goes-silent kit version snap go es last x y goes failed = of n.stopped refl
     n = opened_on kit version go es
 
     of : (stopped : Option Stop) → n.stopped ≡ stopped → IsSilent x y
-    of None runs = binds_first c snap most_line_bytes n last x y c.hosted _ goes runs refl tt failed
+    of None runs = binds_first c snap most n last x y c.hosted _ goes runs refl tt failed
     of (Some why) is =
         let same : last ≡ n = goes.becomes ∙ ends-so c snap why n goes.answers is in
         absurd ((opens-calm kit version go es).no_bind (sym (ap (λ (w : Node). w.stopped) same) ∙ failed))
@@ -154,14 +154,14 @@ no-kit k faults sink link _ h = absurd h
 
 -- ---- of a run
 
-not-opened : (kit : Kit) (snap : Snapper) (go : ℕ) (seen : Option (List ℕ)) (x y : Outside) (why : Stop)
-    → Unopened kit snap most_line_bytes go seen x y why → Counted why x.source.faults y.source.faults x.sink y.sink x.link y.link
-not-opened kit snap go seen x y _ (reading why unread same) =
+not-opened : (kit : Kit) (snap : Snapper) (most : ℕ) (go : ℕ) (seen : Option (List ℕ)) (x y : Outside) (why : Stop)
+    → Unopened kit snap most go seen x y why → Counted why x.source.faults y.source.faults x.sink y.sink x.link y.link
+not-opened kit snap most go seen x y _ (reading why unread same) =
     subst (λ (z : Outside). Counted why x.source.faults z.source.faults x.sink z.sink x.link z.link) (sym same)
     (quiet why x.source.faults x.sink x.link (not-read unread))
-not-opened kit snap go seen x y _ (opening why version es holds stops) =
-    by-causes why x y (subst (λ (s : Option Stop). HasCauses s x y) stops.stops (goes-causes kit version snap go es stops.last x y stops.goes))
-    (λ e. goes-silent kit version snap go es stops.last x y stops.goes (stops.stops ∙ ap (λ (w : Stop). Some w) e))
+not-opened kit snap most go seen x y _ (opening why version es holds stops) =
+    by-causes why x y (subst (λ (s : Option Stop). HasCauses s x y) stops.stops (goes-causes kit version snap most go es stops.last x y stops.goes))
+    (λ e. goes-silent kit version snap most go es stops.last x y stops.goes (stops.stops ∙ ap (λ (w : Stop). Some w) e))
 
 -- by the input as it is seen before and after
 by-source : (why : Stop) (a b c d : ℕ) (sink sink_now : SinkSeen) (link link_now : LinkSeen) → b ≡ a → c ≡ d
@@ -171,31 +171,36 @@ by-source why a b c d sink sink_now link link_now before after counted =
     (subst (λ (m : ℕ). Counted why b m sink sink_now link link_now) after counted)
 
 module _ {D : Type 0} (seen : D → Option (List ℕ)) (may_leave : D → List ℕ → Type 0) (moment : D → ℕ)
-    (left_since : D → ℕ → List ℕ → Type 0) (snap : Snapper) (f : Found) (k : SourceSeen) (link : LinkSeen) (sink : SinkSeen) (old : D)
-    (left : Option (List ℕ)) (faults : ℕ) (link_now : LinkSeen) (sink_now : SinkSeen) (new : D) where
-  pub counted : (why : Stop) → HasStopped seen may_leave moment left_since snap f k link sink old left faults link_now sink_now new why
+    (left_since : D → ℕ → List ℕ → Type 0) (snap : Snapper) (most : ℕ) (f : Found) (k : SourceSeen) (link : LinkSeen) (sink : SinkSeen) (old : D)
+    (left : Option (List ℕ)) (faults : ℕ) (link_now : LinkSeen) (sink_now : SinkSeen) (new : D) (h i : List Asked) where
+  pub counted : (why : Stop) → HasStopped seen may_leave moment left_since snap most f k link sink old left faults link_now sink_now new h i why
       → Counted why k.faults faults sink sink_now link link_now
-  counted _ (no_kit why none links sinks disks) =
+  counted _ (no_kit why none links sinks disks same) =
       subst (λ (l : LinkSeen). Counted why k.faults faults sink sink_now link l) (sym links)
       (subst (λ (s : SinkSeen). Counted why k.faults faults sink s link link) (sym sinks) (no-kit k faults sink link why none))
   counted _ (not_opened why ahead read) =
       by-source why k.faults read.source.faults read.source.faults faults sink sink_now link link_now read.has.steady read.holds.0.count
-      (not-opened read.kit snap read.go (seen old) (outside link sink read.source) (outside link_now sink_now read.source) why read.holds.1.unopened)
+      (not-opened read.kit snap most read.go (seen old) (outside link sink read.source h) (outside link_now sink_now read.source i) why
+      read.holds.1.unopened)
   counted _ (ran why ahead can read) =
       let m = read.holds.source in
       let last = read.holds.holds.0 in
       let run = read.holds.holds.2 in
+      let x = outside link sink read.source h in
+      let y = outside link_now sink_now m i in
       by-source why k.faults read.source.faults m.faults faults sink sink_now link link_now read.has.steady read.holds.seen.count
-      (by-causes why (outside link sink read.source) (outside link_now sink_now m)
-      (subst (λ (s : Option Stop). HasCauses s (outside link sink read.source) (outside link_now sink_now m)) read.holds.holds.1
-      (goes-causes read.kit run.version snap read.go run.entries last (outside link sink read.source) (outside link_now sink_now m) run.goes))
-      (λ e. goes-silent read.kit run.version snap read.go run.entries last (outside link sink read.source) (outside link_now sink_now m) run.goes
+      (by-causes why x y
+      (subst (λ (s : Option Stop). HasCauses s x y) read.holds.holds.1
+      (goes-causes read.kit run.version snap most read.go run.entries last x y run.goes))
+      (λ e. goes-silent read.kit run.version snap most read.go run.entries last x y run.goes
       (read.holds.holds.1 ∙ ap (λ (w : Stop). Some w) e)))
   counted _ (no_snapshot number ahead read) =
       let m = read.holds.source in
       let last = read.holds.holds.0 in
       let run = read.holds.holds.3 in
+      let x = outside link sink read.source h in
+      let y = outside link_now sink_now m i in
       by-source (BadLine number) k.faults read.source.faults m.faults faults sink sink_now link link_now read.has.steady read.holds.seen.count
-      (by-none number (outside link sink read.source) (outside link_now sink_now m)
-      (subst (λ (s : Option Stop). HasCauses s (outside link sink read.source) (outside link_now sink_now m)) read.holds.holds.1.runs
-      (goes-causes read.kit run.version snap read.go run.entries last (outside link sink read.source) (outside link_now sink_now m) run.goes)))
+      (by-none number x y
+      (subst (λ (s : Option Stop). HasCauses s x y) read.holds.holds.1.runs
+      (goes-causes read.kit run.version snap most read.go run.entries last x y run.goes)))

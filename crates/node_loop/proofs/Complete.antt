@@ -12,9 +12,9 @@ use Rattle.node_defs.specs.Lives.{Found}
 use Rattle.node_defs.specs.Nodes.{Node, Mark, Snapper, at_first, reads, reads_one, takes_up}
 use Rattle.node_laws.proofs.Openings.{opens_sound}
 use Rattle.node_traces.specs.Outside.{LinkSeen, SinkSeen, SourceSeen}
+use Rattle.node_traces.specs.Service.{Asked}
 use Rattle.node_traces.specs.Goes.{Outside, Goes}
 use Rattle.node_script.specs.Inputs.{BeginsWith, HasKit, HasNoKit, node_front}
-use Rattle.node_script.specs.Sources.{most_line_bytes}
 use Rattle.node_script.specs.Words.{HoldsAs, Unopened, reading, opening, outside, Unread, no_memory, no_disk, no_header, no_entry}
 use Rattle.stop_laws.specs.Scripts.{CarriesOut, IsScript}
 use Rattle.stop_laws.specs.Stops.{CanStop, CanHaveStopped}
@@ -43,23 +43,23 @@ no-fault _ can other = tt
 -- ---- the input after the kit
 
 -- the script of this kit is left, and the file is its node's
-record InOrder (kit : Kit) (left : Option (List ℕ)) (file : List ℕ) : Type 0 where
+record InOrder (most : ℕ) (kit : Kit) (left : Option (List ℕ)) (file : List ℕ) : Type 0 where
   rest : List ℕ
   told : left ≡ Some rest
-  script : IsScript most_line_bytes (hosted_by kit) most_lines rest
+  script : IsScript most (hosted_by kit) most_lines rest
   journal : (file ≡ []) ⊎ IsJournalOf kit file
 
-after-kit : (bytes file : List ℕ) (kit : Kit) (go : ℕ) (left : Option (List ℕ)) → IsInOrder bytes file → BeginsWith (Some bytes) kit go left
-    → InOrder kit left file
-after-kit bytes file kit go None order begins = absurd begins
-after-kit bytes file kit go (Some rest) order begins =
+after-kit : (most : ℕ) (bytes file : List ℕ) (kit : Kit) (go : ℕ) (left : Option (List ℕ)) → IsInOrder most bytes file
+    → BeginsWith (Some bytes) kit go left → InOrder most kit left file
+after-kit most bytes file kit go None order begins = absurd begins
+after-kit most bytes file kit go (Some rest) order begins =
     let read : Front = record { kit = kit; line = go + 1; rest = rest } in
     let both : Ok order.front ≡ Ok read = sym order.begins ∙ begins in
     let same : order.front ≡ read = cc in
     record {
       rest = rest;
       told = refl;
-      script = subst (λ (f : Front). IsScript most_line_bytes (hosted_by f.kit) most_lines f.rest) same order.script;
+      script = subst (λ (f : Front). IsScript most (hosted_by f.kit) most_lines f.rest) same order.script;
       journal = subst (λ (f : Front). (file ≡ []) ⊎ IsJournalOf f.kit file) same order.journal;
     }
 
@@ -80,18 +80,18 @@ record Ends (last : Node) : Type 0 where
   carries : CarriesOut last
   can : CanHaveStopped last.stopped
 
-module _ (kit : Kit) (snap : Snapper) (go : ℕ) (file : List ℕ) (x : Outside) (order : InOrder kit x.source.left file) where
+module _ (kit : Kit) (snap : Snapper) (most : ℕ) (go : ℕ) (file : List ℕ) (x : Outside) (order : InOrder most kit x.source.left file) where
   ends : (v : Version) (es : List Entry) (last : Node) (y : Outside) → HoldsAs kit v es (Some file)
-      → Goes (cast_of kit v) snap most_line_bytes (opened_on kit v go es) x last y → Ends last
+      → Goes (cast_of kit v) snap most (opened_on kit v go es) x last y → Ends last
   ends v es last y holds goes =
       let c = cast_of kit v in
       let n : Node = opened_on kit v go es in
       let opened = opens_sound c (from_start c) go es (fits-there kit file v es order.journal holds) in
       let few : n.script + most_lines ≤ most_lines = omega (arith, reads-script c (at_first (from_start c) go) es) in
       record {
-        carries = script_is_carried_out c snap most_line_bytes n last x y most_lines order.rest goes opened.goes_on opened.tasks few order.told
+        carries = script_is_carried_out c snap most n last x y most_lines order.rest goes opened.goes_on opened.tasks few order.told
             order.script;
-        can = stops_only_so c snap most_line_bytes n last x y goes opened.goes_on;
+        can = stops_only_so c snap most n last x y goes opened.goes_on;
       }
 
   stops-fine : (last : Node) (why : Stop) → last.stopped ≡ Some why → Ends last → IsNoFault why
@@ -104,45 +104,47 @@ module _ (kit : Kit) (snap : Snapper) (go : ℕ) (file : List ℕ) (x : Outside)
   unread-fine _ (no_header other) = absurd (not-other kit file order.journal other)
   unread-fine _ (no_entry v es place breaks) = absurd (no-place kit go file v es place order.journal breaks)
 
-  unopened-fine : (why : Stop) (y : Outside) → Unopened kit snap most_line_bytes go (Some file) x y why → IsNoFault why
+  unopened-fine : (why : Stop) (y : Outside) → Unopened kit snap most go (Some file) x y why → IsNoFault why
   unopened-fine _ y (reading why unread same) = unread-fine why unread
   unopened-fine _ y (opening why v es holds stops) = stops-fine stops.last why stops.stops (ends v es stops.last y holds stops.goes)
 
 -- ---- a run
 
-no-kit-fine : (left : Option (List ℕ)) (steady faults : ℕ) (bytes file : List ℕ) (why : Stop) → left ≡ Some bytes → IsInOrder bytes file
+no-kit-fine : (most : ℕ) (left : Option (List ℕ)) (steady faults : ℕ) (bytes file : List ℕ) (why : Stop) → left ≡ Some bytes
+    → IsInOrder most bytes file
     → HasNoKit (record { left = left; faults = steady }) faults why → IsNoFault why
-no-kit-fine left steady faults bytes file (BadKit fault) is order none =
+no-kit-fine most left steady faults bytes file (BadKit fault) is order none =
     let refused : node_front bytes ≡ Err fault = subst (λ (o : Option (List ℕ)). IfSome o (λ b. node_front b ≡ Err fault)) is none.0 in
     let both : Ok order.front ≡ Err fault = sym order.begins ∙ refused in
     absurd cc
-no-kit-fine left steady faults bytes file (BadLine line) is order none = none
-no-kit-fine left steady faults bytes file (BadSnap line) is order none = none
-no-kit-fine left steady faults bytes file (BadJournal place) is order none = none
-no-kit-fine left steady faults bytes file _ is order none = tt
+no-kit-fine most left steady faults bytes file (BadLine line) is order none = none
+no-kit-fine most left steady faults bytes file (BadSnap line) is order none = none
+no-kit-fine most left steady faults bytes file (BadJournal place) is order none = none
+no-kit-fine most left steady faults bytes file _ is order none = tt
 
 module _ {D : Type 0} (seen : D → Option (List ℕ)) (may_leave : D → List ℕ → Type 0) (moment : D → ℕ)
-    (left_since : D → ℕ → List ℕ → Type 0) (snap : Snapper) (f : Found) (k : SourceSeen) (link : LinkSeen) (sink : SinkSeen) (old : D)
-    (left : Option (List ℕ)) (faults : ℕ) (link_now : LinkSeen) (sink_now : SinkSeen) (new : D) (bytes file : List ℕ)
-    (tells : k.left ≡ Some bytes) (holds : seen old ≡ Some file) (order : IsInOrder bytes file) where
-  kit-there : (kit : Kit) (go : ℕ) (l : SourceSeen) → HasKit k kit go l → InOrder kit l.left file
+    (left_since : D → ℕ → List ℕ → Type 0) (snap : Snapper) (most : ℕ) (f : Found) (k : SourceSeen) (link : LinkSeen) (sink : SinkSeen) (old : D)
+    (left : Option (List ℕ)) (faults : ℕ) (link_now : LinkSeen) (sink_now : SinkSeen) (new : D) (h i : List Asked) (bytes file : List ℕ)
+    (tells : k.left ≡ Some bytes) (holds : seen old ≡ Some file) (order : IsInOrder most bytes file) where
+  kit-there : (kit : Kit) (go : ℕ) (l : SourceSeen) → HasKit k kit go l → InOrder most kit l.left file
   kit-there kit go l has =
-      after-kit bytes file kit go l.left order (subst (λ (o : Option (List ℕ)). BeginsWith o kit go l.left) tells has.begins)
+      after-kit most bytes file kit go l.left order (subst (λ (o : Option (List ℕ)). BeginsWith o kit go l.left) tells has.begins)
 
   run-ends : (kit : Kit) (go : ℕ) (l m : SourceSeen) (last : Node) → HasKit k kit go l
-      → HasRun seen may_leave moment left_since kit snap f go (outside link sink l) old last (outside link_now sink_now m) new → Ends last
-  run-ends kit go l m last has run = ends kit snap go file (outside link sink l) (kit-there kit go l has) run.version run.entries last
-      (outside link_now sink_now m) (subst (HoldsAs kit run.version run.entries) holds run.holds) run.goes
+      → HasRun seen may_leave moment left_since kit snap most f go (outside link sink l h) old last (outside link_now sink_now m i) new
+      → Ends last
+  run-ends kit go l m last has run = ends kit snap most go file (outside link sink l h) (kit-there kit go l has) run.version run.entries last
+      (outside link_now sink_now m i) (subst (HoldsAs kit run.version run.entries) holds run.holds) run.goes
 
-  pub in-order : (why : Stop) → HasStopped seen may_leave moment left_since snap f k link sink old left faults link_now sink_now new why
+  pub in-order : (why : Stop) → HasStopped seen may_leave moment left_since snap most f k link sink old left faults link_now sink_now new h i why
       → IsNoFault why
-  in-order _ (no_kit why none links sinks disks) = no-kit-fine k.left k.faults faults bytes file why tells order none
+  in-order _ (no_kit why none links sinks disks same) = no-kit-fine most k.left k.faults faults bytes file why tells order none
   in-order _ (not_opened why ahead read) =
       let l = read.source in
-      let x = outside link sink l in
-      let y = outside link_now sink_now l in
-      unopened-fine read.kit snap read.go file x (kit-there read.kit read.go l read.has) why y
-      (subst (λ (o : Option (List ℕ)). Unopened read.kit snap most_line_bytes read.go o x y why) holds read.holds.1.unopened)
+      let x = outside link sink l h in
+      let y = outside link_now sink_now l i in
+      unopened-fine read.kit snap most read.go file x (kit-there read.kit read.go l read.has) why y
+      (subst (λ (o : Option (List ℕ)). Unopened read.kit snap most read.go o x y why) holds read.holds.1.unopened)
   in-order _ (ran why ahead can read) =
       let end = run-ends read.kit read.go read.source read.holds.source read.holds.holds.0 read.has read.holds.holds.2 in
       no-fault why can (λ number e. absurd (end.carries.no_line number (read.holds.holds.1 ∙ ap (λ (w : Stop). Some w) e)))

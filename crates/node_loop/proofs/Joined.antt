@@ -13,13 +13,14 @@ use Rattle.node_defs.specs.Lines.{Stop}
 use Rattle.node_defs.specs.Lives.{Found}
 use Rattle.node_defs.specs.Nodes.{Node, Mark, Snapper}
 use Rattle.node_traces.specs.Outside.{LinkSeen, SinkSeen, SourceSeen}
+use Rattle.node_traces.specs.Service.{Asked}
 use Rattle.node_traces.specs.Goes.{Outside, Goes}
 use Rattle.node_traces.specs.Stops.{LeftBy}
 use Rattle.node_traces.proofs.Going.{parts_go_on}
 use Rattle.node_traces.proofs.Left.{parts_leave}
 use Rattle.node_script.specs.Words.{Running, cast_in}
 use Rattle.node_script.specs.Inputs.{HasKit}
-use Rattle.node_script.specs.Sources.{most_line_bytes, IsSeen, SeenAs}
+use Rattle.node_script.specs.Sources.{IsSeen, SeenAs}
 use Rattle.node_script.specs.Words.{HasOpened, outside}
 use Rattle.node_script.specs.Ends.{ScriptEnds}
 use Rattle.stop_laws.specs.Stops.{CanHaveStopped, CanStop}
@@ -36,12 +37,12 @@ can : (last : Node) (why : Stop) → last.stopped ≡ Some why → CanHaveStoppe
 can last why is so = subst CanHaveStopped is so
 
 module _ {D : Type 0} (seen : D → Option (List ℕ)) (may_leave : D → List ℕ → Type 0) (moment : D → ℕ)
-    (left_since : D → ℕ → List ℕ → Type 0) (r : Running) (snap : Snapper) (f : Found) (go : ℕ) (x y : Outside) (old mid : D)
-    (opened : HasOpened r snap most_line_bytes go (seen old) x y (seen mid) (may_leave mid))
+    (left_since : D → ℕ → List ℕ → Type 0) (r : Running) (snap : Snapper) (most : ℕ) (f : Found) (go : ℕ) (x y : Outside) (old mid : D)
+    (opened : HasOpened r snap most go (seen old) x y (seen mid) (may_leave mid))
     (moments : (version : Version) (es : List Entry) → IsSome (seen old) → Stands (cast_of r.kit.now version).header es (may_leave old)
     → LeavesOnly moment left_since old mid (LeavesStaged (cast_of r.kit.now version).header es (may_leave old))) where
   -- what a crash leaves in the script, it may leave in the run
-  in-script : (last : Node) (z : Outside) (goes : Goes (cast_in r) snap most_line_bytes opened.node y last z) (image : List ℕ)
+  in-script : (last : Node) (z : Outside) (goes : Goes (cast_in r) snap most opened.node y last z) (image : List ℕ)
       → LeftBy (cast_in r) snap f opened.node goes.answers [] image
       → LeftBy (cast_in r) snap f (opened_on r.kit.now (version_of r.journal) go opened.entries) (opened.goes.answers ++ goes.answers) [] image
   in-script last z goes image left =
@@ -49,10 +50,10 @@ module _ {D : Type 0} (seen : D → Option (List ℕ)) (may_leave : D → List �
       let parts = parts_leave (cast_in r) snap f n opened.goes.answers goes.answers in
       parts.by_more [] image (subst (λ (w : Node). LeftBy (cast_in r) snap f w goes.answers [] image) opened.goes.becomes left)
 
-  pub one-run : (last : Node) (z : Outside) (new : D) (goes : Goes (cast_in r) snap most_line_bytes opened.node y last z)
+  pub one-run : (last : Node) (z : Outside) (new : D) (goes : Goes (cast_in r) snap most opened.node y last z)
       → (IsSome (seen mid) → LeavesOnly moment left_since mid new (LeftBy (cast_in r) snap f opened.node goes.answers []))
       → IfSome (seen mid) (λ file. Stands (cast_in r).header last.kept (may_leave new))
-      → HasRun seen may_leave moment left_since r.kit.now snap f go x old last z new
+      → HasRun seen may_leave moment left_since r.kit.now snap most f go x old last z new
   unfolding parts_go_on
   one-run last z new goes leaves finds =
       let c = cast_in r in
@@ -62,7 +63,7 @@ module _ {D : Type 0} (seen : D → Option (List ℕ)) (may_leave : D → List �
         version = version_of r.journal;
         entries = opened.entries;
         holds = opened.holds;
-        goes = parts_go_on c snap most_line_bytes n opened.node last x y z opened.goes goes;
+        goes = parts_go_on c snap most n opened.node last x y z opened.goes goes;
         leaves = λ some stands.
             then moment left_since old mid new (MayBeLeft c snap f n answers (may_leave old))
             (weaker moment left_since old mid (LeavesStaged c.header f.sure (may_leave old)) (MayBeLeft c snap f n answers (may_leave old))
@@ -81,27 +82,34 @@ module _ {D : Type 0} (seen : D → Option (List ℕ)) (may_leave : D → List �
 
 -- the run of the kit's node, by how its script ends
 module _ {D : Type 0} (seen : D → Option (List ℕ)) (may_leave : D → List ℕ → Type 0) (moment : D → ℕ)
-    (left_since : D → ℕ → List ℕ → Type 0) (r : Running) (snap : Snapper) (f : Found) (go : ℕ) (k l : SourceSeen) (link link_mid link_now : LinkSeen)
-    (sink sink_mid sink_now : SinkSeen) (old mid new : D) (left : Option (List ℕ)) (faults : ℕ) where
-  by-script : HasKit k r.kit.now go l
-      → (opened : HasOpened r snap most_line_bytes go (seen old) (outside link sink l) (outside link_mid sink_mid l) (seen mid) (may_leave mid))
+    (left_since : D → ℕ → List ℕ → Type 0) (r : Running) (snap : Snapper) (most : ℕ) (f : Found) (go : ℕ) (k l : SourceSeen)
+    (link link_mid link_now : LinkSeen) (sink sink_mid sink_now : SinkSeen) (old mid new : D) (h g i : List Asked) (left : Option (List ℕ))
+    (faults : ℕ) where
+  -- The node has opened so; and its script ends so.
+  abbrev pub Opens : Type 0
+  Opens = HasOpened r snap most go (seen old) (outside link sink l h) (outside link_mid sink_mid l g) (seen mid) (may_leave mid)
+
+  abbrev pub Scripts : Opens → Stop → List ℕ → Type 0
+  Scripts opened why ahead = SeenAs (λ m. ScriptEnds seen may_leave moment left_since (cast_in r) snap most f opened.node
+      (outside link_mid sink_mid l g) mid why (outside link_now sink_now m i) new) ahead left faults
+
+  abbrev pub Stops : Stop → Type 0
+  Stops why = HasStopped seen may_leave moment left_since snap most f k link sink old left faults link_now sink_now new h i why
+
+  by-script : HasKit k r.kit.now go l → (opened : Opens)
       → ((version : Version) (es : List Entry) → IsSome (seen old) → Stands (cast_of r.kit.now version).header es (may_leave old)
       → LeavesOnly moment left_since old mid (LeavesStaged (cast_of r.kit.now version).header es (may_leave old)))
-      → (why : Stop) (ahead : List ℕ)
-      → SeenAs (λ m. ScriptEnds seen may_leave moment left_since (cast_in r) snap most_line_bytes f opened.node (outside link_mid sink_mid l) mid why
-      (outside link_now sink_now m) new) ahead left faults
-      → HasStopped seen may_leave moment left_since snap f k link sink old left faults link_now sink_now new why
+      → (why : Stop) (ahead : List ℕ) → Scripts opened why ahead → Stops why
   by-script has opened moments why ahead script = of script.holds
     where
       m : SourceSeen
       m = script.source
 
-      of : ScriptEnds seen may_leave moment left_since (cast_in r) snap most_line_bytes f opened.node (outside link_mid sink_mid l) mid why
-          (outside link_now sink_now script.source) new
-          → HasStopped seen may_leave moment left_since snap f k link sink old left faults link_now sink_now new why
+      of : ScriptEnds seen may_leave moment left_since (cast_in r) snap most f opened.node (outside link_mid sink_mid l g) mid why
+          (outside link_now sink_now script.source i) new → Stops why
       of (inl ends) =
           let last = ends.stop.last in
-          let so = stops_only_so (cast_in r) snap most_line_bytes opened.node last (outside link_mid sink_mid l) (outside link_now sink_now m)
+          let so = stops_only_so (cast_in r) snap most opened.node last (outside link_mid sink_mid l g) (outside link_now sink_now m i)
           ends.stop.goes opened.is.at.runs in
           ran why ahead (can last why ends.stop.stops so) (record {
             kit = r.kit.now;
@@ -114,13 +122,13 @@ module _ {D : Type 0} (seen : D → Option (List ℕ)) (may_leave : D → List �
               holds = (
                 last,
                 ends.stop.stops,
-                one-run seen may_leave moment left_since r snap f go (outside link sink l) (outside link_mid sink_mid l) old mid
-                    opened moments last (outside link_now sink_now m) new ends.stop.goes ends.stop.leaves ends.stands,
+                one-run seen may_leave moment left_since r snap most f go (outside link sink l h) (outside link_mid sink_mid l g) old mid
+                    opened moments last (outside link_now sink_now m i) new ends.stop.goes ends.stop.leaves ends.stands,
               );
             };
           })
       of (inr ends) =
-          subst (HasStopped seen may_leave moment left_since snap f k link sink old left faults link_now sink_now new) (sym ends.told)
+          subst Stops (sym ends.told)
           (no_snapshot ends.node.lines ahead (record {
             kit = r.kit.now;
             go = go;
@@ -133,22 +141,18 @@ module _ {D : Type 0} (seen : D → Option (List ℕ)) (may_leave : D → List �
                 ends.node,
                 ends.asked,
                 refl,
-                one-run seen may_leave moment left_since r snap f go (outside link sink l)
-                    (outside link_mid sink_mid l) old mid opened moments ends.node (outside link_now sink_now m) new ends.went.goes
+                one-run seen may_leave moment left_since r snap most f go (outside link sink l h)
+                    (outside link_mid sink_mid l g) old mid opened moments ends.node (outside link_now sink_now m i) new ends.went.goes
                     ends.went.leaves ends.stands,
               );
             };
           }))
 
   -- of the kit that was read
-  pub whole : (kit : Kit) → r.kit.now ≡ kit → HasKit k kit go l
-      → (opened : HasOpened r snap most_line_bytes go (seen old) (outside link sink l) (outside link_mid sink_mid l) (seen mid) (may_leave mid))
+  pub whole : (kit : Kit) → r.kit.now ≡ kit → HasKit k kit go l → (opened : Opens)
       → ((version : Version) (es : List Entry) → IsSome (seen old) → Stands (cast_of kit version).header es (may_leave old)
       → LeavesOnly moment left_since old mid (LeavesStaged (cast_of kit version).header es (may_leave old)))
-      → (why : Stop) (ahead : List ℕ)
-      → SeenAs (λ m. ScriptEnds seen may_leave moment left_since (cast_in r) snap most_line_bytes f opened.node (outside link_mid sink_mid l) mid why
-      (outside link_now sink_now m) new) ahead left faults
-      → HasStopped seen may_leave moment left_since snap f k link sink old left faults link_now sink_now new why
+      → (why : Stop) (ahead : List ℕ) → Scripts opened why ahead → Stops why
   whole kit same has opened moments why ahead script =
       by-script (subst (λ (q : Kit). HasKit k q go l) (sym same) has) opened
       (subst (λ (q : Kit). (version : Version) (es : List Entry) → IsSome (seen old) → Stands (cast_of q version).header es (may_leave old)

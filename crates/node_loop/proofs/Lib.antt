@@ -1,3 +1,4 @@
+mod Limits
 mod Joined
 mod Last
 mod Causes

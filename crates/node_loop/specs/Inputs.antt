@@ -9,8 +9,8 @@ use Rattle.node_defs.specs.Scripts.{most_lines}
 use Rattle.node_defs.specs.Casts.{cast_of, from_start, hosted_by}
 use Rattle.node_defs.specs.Lives.{FitsFrom}
 use Rattle.node_script.specs.Inputs.{node_front}
-use Rattle.node_script.specs.Sources.{most_line_bytes}
 use Rattle.stop_laws.specs.Scripts.{IsScript}
+pub use Rattle.node_script.specs.Sources.{most_line_bytes, line_limit}
 
 -- a journal of this kit's node: each of its entries a hosted process may have written where it is
 pub record IsJournalOf (kit : Kit) (file : List ℕ) : Type 0 where
@@ -19,14 +19,14 @@ pub record IsJournalOf (kit : Kit) (file : List ℕ) : Type 0 where
   pub reads : ReadsAs (cast_of kit version).header file entries
   pub fits : FitsFrom (cast_of kit version) (from_start (cast_of kit version)).from entries
 
--- The input is a kit that hosts a process and then a script of at most 1,000,000 lines in the node's own words; and the file is empty, or a
--- journal of the kit's node.
-pub record IsInOrder (bytes file : List ℕ) : Type 0 where
+-- The input is a kit that hosts a process and then a script of at most 1,000,000 lines in the node's own words, where lines have at most so
+-- many bytes; and the file is empty, or a journal of the kit's node.
+pub record IsInOrder (most : ℕ) (bytes file : List ℕ) : Type 0 where
   pub front : Front
   pub begins : node_front bytes ≡ Ok front
-  pub script : IsScript most_line_bytes (hosted_by front.kit) most_lines front.rest
+  pub script : IsScript most (hosted_by front.kit) most_lines front.rest
   pub journal : (file ≡ []) ⊎ IsJournalOf front.kit file
 
 -- the same, of an input and a disk that tell what they hold
-abbrev pub TellInOrder : Option (List ℕ) → Option (List ℕ) → Type 0
-TellInOrder left seen = IsSomeAnd left (λ bytes. IsSomeAnd seen (λ file. IsInOrder bytes file))
+abbrev pub TellInOrder : ℕ → Option (List ℕ) → Option (List ℕ) → Type 0
+TellInOrder most left seen = IsSomeAnd left (λ bytes. IsSomeAnd seen (λ file. IsInOrder most bytes file))

@@ -10,11 +10,12 @@ use Rattle.node_defs.specs.Lines.{Stop, BadLine}
 use Rattle.node_defs.specs.Lives.{Found}
 use Rattle.node_defs.specs.Nodes.{Node, Answer, Mark, Snapper, opens}
 use Rattle.node_traces.specs.Outside.{LinkSeen, SinkSeen, SourceSeen}
+use Rattle.node_traces.specs.Service.{Asked}
 use Rattle.node_traces.specs.Goes.{Outside, Goes}
 use Rattle.node_traces.specs.Stops.{LeftBy}
 use Rattle.node_script.specs.Words.{IsAt}
 use Rattle.node_script.specs.Inputs.{HasKit, HasNoKit}
-use Rattle.node_script.specs.Sources.{most_line_bytes, IsSeen, SeenAs}
+use Rattle.node_script.specs.Sources.{IsSeen, SeenAs}
 use Rattle.node_script.specs.Words.{HoldsAs, Unopened, outside}
 use Rattle.stop_laws.specs.Stops.{CanStop}
 
@@ -40,12 +41,12 @@ pub record LeavesOnceOpened {D : Type 0} (seen : D → Option (List ℕ)) (may_l
 -- before, and y is what they are then. What a crash leaves at any moment is what was found, or what a stop leaves; and what the next run
 -- finds is the entries that are kept, perhaps with one more that was staged. `f.sure` is what this run found.
 pub record HasRun {D : Type 0} (seen : D → Option (List ℕ)) (may_leave : D → List ℕ → Type 0) (moment : D → ℕ)
-    (left_since : D → ℕ → List ℕ → Type 0) (kit : Kit) (snap : Snapper) (f : Found) (go : ℕ) (x : Outside) (old : D) (last : Node)
+    (left_since : D → ℕ → List ℕ → Type 0) (kit : Kit) (snap : Snapper) (most : ℕ) (f : Found) (go : ℕ) (x : Outside) (old : D) (last : Node)
     (y : Outside) (new : D) : Type 0 where
   pub version : Version
   pub entries : List Entry
   pub holds : HoldsAs kit version entries (seen old)
-  pub goes : Goes (cast_of kit version) snap most_line_bytes (opened_on kit version go entries) x last y
+  pub goes : Goes (cast_of kit version) snap most (opened_on kit version go entries) x last y
   pub leaves : IsSome (seen old) → Stands (cast_of kit version).header f.sure (may_leave old)
       → LeavesOnly moment left_since old new
       (MayBeLeft (cast_of kit version) snap f (opened_on kit version go entries) goes.answers (may_leave old))
@@ -56,9 +57,9 @@ pub record HasRun {D : Type 0} (seen : D → Option (List ℕ)) (may_leave : D �
 -- The node has not opened, and this is why. Its journal is as it was found: at every moment a crash leaves what the run found, with the
 -- staged entry or without it, and the next run finds it again.
 pub record HasNotOpened {D : Type 0} (seen : D → Option (List ℕ)) (may_leave : D → List ℕ → Type 0) (moment : D → ℕ)
-    (left_since : D → ℕ → List ℕ → Type 0) (kit : Kit) (snap : Snapper) (f : Found) (go : ℕ) (x : Outside) (old : D) (why : Stop)
+    (left_since : D → ℕ → List ℕ → Type 0) (kit : Kit) (snap : Snapper) (most : ℕ) (f : Found) (go : ℕ) (x : Outside) (old : D) (why : Stop)
     (y : Outside) (new : D) : Type 0 where
-  pub unopened : Unopened kit snap most_line_bytes go (seen old) x y why
+  pub unopened : Unopened kit snap most go (seen old) x y why
   pub leaves : (version : Version) → IsSome (seen old) → Stands (cast_of kit version).header f.sure (may_leave old)
       → LeavesOnly moment left_since old new (LeavesStaged (cast_of kit version).header f.sure (may_leave old))
   pub finds : (version : Version) → IsSome (seen old) → Stands (cast_of kit version).header f.sure (may_leave old)
@@ -72,20 +73,21 @@ pub record HasRead (k : SourceSeen) (P : Kit → ℕ → SourceSeen → Type 0) 
   pub has : HasKit k kit go source
   pub holds : P kit go source
 
--- The run of a node has ended so. There was no kit, and nothing else was touched; or the node of the kit has not opened; or it ran, and stopped;
--- or it ran up to a line that asks for a snapshot, which is not made yet, and ended there as at a line that is none.
+-- The run of a node has ended so, whose lines have at most so many bytes and whose service had the one history and has the other now. There
+-- was no kit, and nothing else was touched; or the node of the kit has not opened; or it ran, and stopped; or it ran up to a line that asks
+-- for a snapshot, which is not made yet, and ended there as at a line that is none.
 pub data HasStopped {D : Type 0} (seen : D → Option (List ℕ)) (may_leave : D → List ℕ → Type 0) (moment : D → ℕ)
-    (left_since : D → ℕ → List ℕ → Type 0) (snap : Snapper) (f : Found) (k : SourceSeen) (link : LinkSeen) (sink : SinkSeen) (old : D)
-    (left : Option (List ℕ)) (faults : ℕ) (link_now : LinkSeen) (sink_now : SinkSeen) (new : D) : Stop → Type 0 where
-  no_kit : (why : Stop) → HasNoKit k faults why → link_now ≡ link → sink_now ≡ sink → new ≡ old
-      → HasStopped seen may_leave moment left_since snap f k link sink old left faults link_now sink_now new why
+    (left_since : D → ℕ → List ℕ → Type 0) (snap : Snapper) (most : ℕ) (f : Found) (k : SourceSeen) (link : LinkSeen) (sink : SinkSeen) (old : D)
+    (left : Option (List ℕ)) (faults : ℕ) (link_now : LinkSeen) (sink_now : SinkSeen) (new : D) (h i : List Asked) : Stop → Type 0 where
+  no_kit : (why : Stop) → HasNoKit k faults why → link_now ≡ link → sink_now ≡ sink → new ≡ old → i ≡ h
+      → HasStopped seen may_leave moment left_since snap most f k link sink old left faults link_now sink_now new h i why
   not_opened : (why : Stop) (ahead : List ℕ) → HasRead k (λ kit go l. IsSeen l ahead left faults
-      × HasNotOpened seen may_leave moment left_since kit snap f go (outside link sink l) old why (outside link_now sink_now l) new)
-      → HasStopped seen may_leave moment left_since snap f k link sink old left faults link_now sink_now new why
+      × HasNotOpened seen may_leave moment left_since kit snap most f go (outside link sink l h) old why (outside link_now sink_now l i) new)
+      → HasStopped seen may_leave moment left_since snap most f k link sink old left faults link_now sink_now new h i why
   ran : (why : Stop) (ahead : List ℕ) → CanStop why → HasRead k (λ kit go l. SeenAs (λ m. (last : Node) × (last.stopped ≡ Some why)
-      × HasRun seen may_leave moment left_since kit snap f go (outside link sink l) old last (outside link_now sink_now m) new) ahead left faults)
-      → HasStopped seen may_leave moment left_since snap f k link sink old left faults link_now sink_now new why
+      × HasRun seen may_leave moment left_since kit snap most f go (outside link sink l h) old last (outside link_now sink_now m i) new) ahead left faults)
+      → HasStopped seen may_leave moment left_since snap most f k link sink old left faults link_now sink_now new h i why
   no_snapshot : (number : ℕ) (ahead : List ℕ) → HasRead k (λ kit go l. SeenAs (λ m. (last : Node) × IsAt last (Mark ∷ [])
       × (last.lines ≡ number)
-      × HasRun seen may_leave moment left_since kit snap f go (outside link sink l) old last (outside link_now sink_now m) new) ahead left faults)
-      → HasStopped seen may_leave moment left_since snap f k link sink old left faults link_now sink_now new (BadLine number)
+      × HasRun seen may_leave moment left_since kit snap most f go (outside link sink l h) old last (outside link_now sink_now m i) new) ahead left faults)
+      → HasStopped seen may_leave moment left_since snap most f k link sink old left faults link_now sink_now new h i (BadLine number)

@@ -1,27 +1,28 @@
 //! A node from its kit to its stop.
-ghost use Rattle.std.specs.Prelude.{◌≡◌, ◌≢◌, ◌⊎◌, [], ℕ, codes};
+ghost use Rattle.std.specs.Prelude.{◌≡◌, ◌≢◌, ◌⊎◌, [], ℕ, List, codes};
 ghost use Rattle.kit_defs.specs.Kits.{IsKit};
 ghost use Rattle.rp_base.specs.Causes.{Rose};
 ghost use Rattle.node_defs.specs.Lives.{Found};
 ghost use Rattle.node_defs.specs.Nodes.{Snapper};
 ghost use Rattle.node_traces.specs.Outside.{SourceSeen};
 ghost use Rattle.node_traces.specs.Seen.{link_seen, sink_seen, source_seen};
+ghost use Rattle.node_traces.specs.Service.{Asked, HeardBy};
 ghost use Rattle.node_script.specs.Words.{stop as stop_of};
 ghost use Rattle.node_script.specs.Inputs.{HasKit};
-ghost use Rattle.node_script.specs.Sources.{IsSeen};
+ghost use Rattle.node_script.specs.Sources.{IsSeen, line_limit};
 ghost use Rattle.node_script.specs.Words.{StopsByDisk};
 ghost use Rattle.node_loop.specs.Ended.{HasEnded, SaysLast};
 ghost use Rattle.node_loop.specs.Inputs.{TellInOrder};
 ghost use Rattle.node_loop.specs.Runs.{HasStopped};
 
 use crate::last_lines::tell;
-use node_script::{Front, Kit, Lines, Stop, open, read_kit, run_script};
+use node_script::{Front, Kit, Lines, Service, Stop, most_of_line, open, read_kit, run_script};
 use rp_base::{Disk, Link, Sink, Source};
 use std::alloc::Global;
 
 // Opens the node of the kit, whose line `go` has this number, and carries out its script.
 #[tactic(none)]
-fn run_node<S: Source, K: Sink, D: Disk, L: Link>(
+fn run_node<S: Source, K: Sink, D: Disk, L: Link, V: Service>(
     alloc: Global,
     kit: &Kit,
     go: usize,
@@ -30,45 +31,55 @@ fn run_node<S: Source, K: Sink, D: Disk, L: Link>(
     output: &mut K,
     disk: &mut D,
     link: &mut L,
+    service: &mut V,
 ) -> Stop
     requires { IsKit kit.now }
-    ensures stops { (snap : Snapper) (f : Found) (k l : SourceSeen) → HasKit k kit.now go l
+    ensures stops { (snap : Snapper) (f : Found) (k l : SourceSeen) (h : List Asked) → V.heard service.old h → HasKit k kit.now go l
         → IsSeen l lines.old.ahead (S.left input.old) (S.faults input.old)
-        → HasStopped D.seen D.may_leave D.moment D.left_since snap f k
+        → HeardBy V.heard service.new (λ i. HasStopped D.seen D.may_leave D.moment D.left_since snap
+        (line_limit (V.longest_line service.old)) f k
         (link_seen L.sent L.coming L.faults link.old) (sink_seen K.written K.faults output.old) disk.old (S.left input.new) (S.faults input.new)
-        (link_seen L.sent L.coming L.faults link.new) (sink_seen K.written K.faults output.new) disk.new (stop_of result) }
+        (link_seen L.sent L.coming L.faults link.new) (sink_seen K.written K.faults output.new) disk.new h i (stop_of result)) }
     ensures cause { StopsByDisk (D.faults disk.old) (D.faults disk.new) (stop_of result) }
 {
-    match open(alloc, kit, disk, link, output) {
-        Ok(running) => run_script(alloc, running, go, lines, input, disk, link, output),
+    let most = most_of_line(service.longest());
+    match open(alloc, kit, disk, link, output, service) {
+        Ok(running) => run_script(
+            alloc, running, go, most, lines, input, disk, link, output, service,
+        ),
         Err(why) => why,
     }
 }
 
 // Reads the kit, opens its node and carries out the script.
 #[tactic(none)]
-fn run<S: Source, K: Sink, D: Disk, L: Link>(
+fn run<S: Source, K: Sink, D: Disk, L: Link, V: Service>(
     alloc: Global,
     input: &mut S,
     output: &mut K,
     disk: &mut D,
     link: &mut L,
+    service: &mut V,
 ) -> Stop
-    ensures stops { (snap : Snapper) (f : Found)
-        → HasStopped D.seen D.may_leave D.moment D.left_since snap f (source_seen S.left S.faults input.old)
+    ensures stops { (snap : Snapper) (f : Found) (h : List Asked) → V.heard service.old h
+        → HeardBy V.heard service.new (λ i. HasStopped D.seen D.may_leave D.moment D.left_since snap
+        (line_limit (V.longest_line service.old)) f (source_seen S.left S.faults input.old)
         (link_seen L.sent L.coming L.faults link.old) (sink_seen K.written K.faults output.old) disk.old (S.left input.new) (S.faults input.new)
-        (link_seen L.sent L.coming L.faults link.new) (sink_seen K.written K.faults output.new) disk.new (stop_of result) }
+        (link_seen L.sent L.coming L.faults link.new) (sink_seen K.written K.faults output.new) disk.new h i (stop_of result)) }
     ensures cause { StopsByDisk (D.faults disk.old) (D.faults disk.new) (stop_of result) }
 {
     let mut lines = Lines::new(alloc);
     match read_kit(alloc, &mut lines, input) {
-        Ok(Front { kit, go }) => run_node(alloc, &kit, go, &mut lines, input, output, disk, link),
+        Ok(Front { kit, go }) => run_node(
+            alloc, &kit, go, &mut lines, input, output, disk, link, service,
+        ),
         Err(stop) => stop,
     }
 }
 
 /// A node: reads a kit up to the line `go`, opens the journal of the processes that it hosts, or begins one on an empty disk, and then carries
-/// out the lines of the script to the input's end. It answers the status that the program ends with.
+/// out the lines of the script to the input's end. The service is told of what happens, takes the lines that are for it, and names whom to
+/// suspect. It answers the status that the program ends with.
 ///
 /// | Status | Written last | Comes |
 /// |---|---|---|
@@ -84,18 +95,21 @@ fn run<S: Source, K: Sink, D: Disk, L: Link>(
 ///
 /// A line that says why it stops is written or not, as the output takes it or fails; the status is the same.
 #[tactic(none)]
-pub fn host<S: Source, K: Sink, D: Disk, L: Link>(
+pub fn host<S: Source, K: Sink, D: Disk, L: Link, V: Service>(
     alloc: Global,
     input: &mut S,
     output: &mut K,
     disk: &mut D,
     link: &mut L,
+    service: &mut V,
 ) -> u8
-    // Whatever the status: what was done is a run of the node of the definitions, up to a stop with this status, and then the stop's line.
-    ensures ended { (snap : Snapper) (f : Found)
-        → HasEnded D.seen D.may_leave D.moment D.left_since snap f (source_seen S.left S.faults input.old)
+    // Whatever the status: what was done is a run of the node of the definitions, up to a stop with this status, and then the stop's line. And
+    // what a call of the service answered in this run is the service's own: the run lengthens whatever history it had to one that it has.
+    ensures ended { (snap : Snapper) (f : Found) (h : List Asked) → V.heard service.old h
+        → HeardBy V.heard service.new (λ i. HasEnded D.seen D.may_leave D.moment D.left_since snap
+        (line_limit (V.longest_line service.old)) f (source_seen S.left S.faults input.old)
         (link_seen L.sent L.coming L.faults link.old) (sink_seen K.written K.faults output.old) disk.old (S.left input.new) (S.faults input.new)
-        (link_seen L.sent L.coming L.faults link.new) (sink_seen K.written K.faults output.new) disk.new result }
+        (link_seen L.sent L.coming L.faults link.new) (sink_seen K.written K.faults output.new) disk.new h i result) }
 
     // 0: nothing failed but sends and receives, each of which has its line.
     ensures steady { result ≡ 0 → K.faults output.new ≡ K.faults output.old }
@@ -113,12 +127,12 @@ pub fn host<S: Source, K: Sink, D: Disk, L: Link>(
 
     // An input and a journal in order give 0, where memory and room are left and nothing failed; a send or receive that fails changes no
     // status.
-    ensures completes { TellInOrder (S.left input.old) (D.seen disk.old)
+    ensures completes { TellInOrder (line_limit (V.longest_line service.old)) (S.left input.old) (D.seen disk.old)
         → ¬ Rose (S.faults input.old) (S.faults input.new) → ¬ Rose (K.faults output.old) (K.faults output.new)
         → ¬ Rose (D.faults disk.old) (D.faults disk.new) → (result ≡ 0) ⊎ (result ≡ 1) ⊎ (result ≡ 6) ⊎ (result ≡ 9) }
     ensures only { (result ≡ 0) ⊎ (result ≡ 1) ⊎ (result ≡ 3) ⊎ (result ≡ 4) ⊎ (result ≡ 5) ⊎ (result ≡ 6) ⊎ (result ≡ 7) ⊎ (result ≡ 8)
         ⊎ (result ≡ 9) }
 {
-    let stop = run(alloc, input, output, disk, link);
+    let stop = run(alloc, input, output, disk, link, service);
     tell(alloc, output, stop)
 }

@@ -5,3 +5,4 @@ mod hosting;
 mod last_lines;
 
 pub use hosting::host;
+pub use node_script::{AnySigner, Event, Hosted, Hosts, Kit, NoService, Note, Sending, Service};

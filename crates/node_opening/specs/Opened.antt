@@ -8,6 +8,7 @@ use Rattle.node_defs.specs.Lines.{Stop}
 use Rattle.node_defs.specs.Casts.{cast_of, from_start}
 use Rattle.node_defs.specs.Nodes.{Node, Snapper, opens}
 use Rattle.node_traces.specs.Outside.{LinkSeen, SinkSeen, SourceSeen}
+use Rattle.node_traces.specs.Service.{Asked}
 use Rattle.node_traces.specs.Goes.{Outside, Goes}
 use Rattle.opening_laws.specs.Opening.{StopsBy}
 use Rattle.node_hosts.specs.declared.running.Running.{Running}
@@ -15,11 +16,11 @@ use Rattle.node_hosts.specs.Nodes.{IsNode, cast_in}
 use Rattle.node_opening.specs.Holding.{HoldsAs}
 use Rattle.node_opening.specs.Reading.{Unread}
 
-abbrev pub outside : LinkSeen → SinkSeen → SourceSeen → Outside
-outside link sink source = record { link = link; sink = sink; source = source }
+abbrev pub outside : LinkSeen → SinkSeen → SourceSeen → List Asked → Outside
+outside link sink source service = record { link = link; sink = sink; source = source; service = service }
 
 -- The node opens on a journal with these entries, which the disk held, and all that is to be done before its first line was done: x is link,
--- output and input before it, and y after it. `seen` and `may_leave` are of the disk after it.
+-- output, input and the service's history before it, and y after it. `seen` and `may_leave` are of the disk after it.
 pub record HasOpened (r : Running) (snap : Snapper) (most lines : ℕ) (held : Option (List ℕ)) (x y : Outside) (seen : Option (List ℕ))
     (may_leave : List ℕ → Type 0) : Type 0 where
   pub entries : List Entry

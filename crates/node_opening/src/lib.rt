@@ -1,5 +1,5 @@
-//! How a node opens: it takes up the entries of its journal, binds the ports of the processes that it hosts, tells of each of them, and then
-//! goes on with its journal (docs/FORMATS.md, «Nodes»).
+//! How a node opens: it takes up the entries of its journal, binds the ports of the processes that it hosts, tells of each of them, begins
+//! its service, and then goes on with its journal (docs/FORMATS.md, «Nodes»).
 #![tactic(auto)]
 
 mod binding;
@@ -14,6 +14,8 @@ mod stopping;
 pub use node_hosts::{
     AnySigner, Event, EventFault, Host, Hosted, Hosts, Kit, LinkKeys, Running, Taken,
 };
-pub use node_text::{LinkFault, Stop, push_drop, push_fault, push_recv, push_refused};
+pub use node_service::{NoService, Note, Sending, Service};
+pub use node_text::{LinkFault, Stop, push_drop, push_expel, push_fault, push_recv, push_refused};
 pub use opening::open;
+pub use stmt_codec::Outcome;
 pub use stopping::stop_at;

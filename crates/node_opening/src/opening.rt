@@ -9,6 +9,7 @@ ghost use Rattle.node_defs.specs.Casts.{cast_of};
 ghost use Rattle.node_defs.specs.Nodes.{Snapper};
 ghost use Rattle.node_traces.specs.Outside.{SourceSeen};
 ghost use Rattle.node_traces.specs.Seen.{link_seen, sink_seen};
+ghost use Rattle.node_traces.specs.Service.{Asked, HeardBy};
 ghost use Rattle.node_text.specs.Views.{stop as stop_of};
 ghost use Rattle.node_opening.specs.Causes.{HasDiskCause};
 ghost use Rattle.node_opening.specs.Opened.{HasOpened, Unopened, outside};
@@ -18,39 +19,42 @@ use crate::presenting::present;
 use crate::reading::read_journal;
 use crate::stopping::stop_at;
 use node_hosts::{Kit, Running};
+use node_service::Service;
 use node_text::Stop;
 use rp_base::{Disk, Link, Sink};
 use std::alloc::Global;
 
 /// Opens the node of a kit on its journal; an empty disk gets a new one, of the second kind. Each entry is taken up by its process, the ports
-/// of the hosted processes are bound, a line of each is written, all in one write, and the journal then takes in turns. There is no service:
-/// it says nothing as it begins.
+/// of the hosted processes are bound, a line of each is written, all in one write, the service begins and what it says is written, and the
+/// journal then takes in turns.
 ///
 /// # Errors
 /// `BadJournal` with place 0 where the disk is not empty and begins with no header of the kit, and else with the place at which the journal
 /// has what is no entry of this node; `DiskFailed`, `BindFailed`, `WriteFailed` where a call failed; and `NoMemory`. Until the journal is
 /// read, nothing is bound and nothing written, and a disk that is not empty is only read.
-pub fn open<'a, D: Disk, L: Link, K: Sink>(
+pub fn open<'a, D: Disk, L: Link, K: Sink, V: Service>(
     alloc: Global,
     kit: &'a Kit,
     disk: &mut D,
     link: &mut L,
     output: &mut K,
+    service: &mut V,
 ) -> Result<Running<'a>, Stop>
     requires { IsKit kit.now }
 
     // At Ok it is a node of the definitions, opened on the entries that the disk held.
-    ensures opens { (snap : Snapper) (most lines : ℕ) (source : SourceSeen) → IfOk result (λ r. HasOpened r snap most lines (D.seen disk.old)
-        (outside (link_seen L.sent L.coming L.faults link.old) (sink_seen K.written K.faults output.old) source)
-        (outside (link_seen L.sent L.coming L.faults link.new) (sink_seen K.written K.faults output.new) source)
-        (D.seen disk.new) (D.may_leave disk.new)) }
+    ensures opens { (snap : Snapper) (most lines : ℕ) (source : SourceSeen) (h : List Asked) → V.heard service.old h
+        → IfOk result (λ r. HeardBy V.heard service.new (λ i. HasOpened r snap most lines (D.seen disk.old)
+        (outside (link_seen L.sent L.coming L.faults link.old) (sink_seen K.written K.faults output.old) source h)
+        (outside (link_seen L.sent L.coming L.faults link.new) (sink_seen K.written K.faults output.new) source i)
+        (D.seen disk.new) (D.may_leave disk.new))) }
     ensures kit { IfOk result (λ r. r.kit.now ≡ kit.now) }
 
     // At Err that is why.
-    ensures stops { (snap : Snapper) (most lines : ℕ) (source : SourceSeen)
-        → IfErr result (λ why. Unopened kit.now snap most lines (D.seen disk.old)
-        (outside (link_seen L.sent L.coming L.faults link.old) (sink_seen K.written K.faults output.old) source)
-        (outside (link_seen L.sent L.coming L.faults link.new) (sink_seen K.written K.faults output.new) source) (stop_of why)) }
+    ensures stops { (snap : Snapper) (most lines : ℕ) (source : SourceSeen) (h : List Asked) → V.heard service.old h
+        → IfErr result (λ why. HeardBy V.heard service.new (λ i. Unopened kit.now snap most lines (D.seen disk.old)
+        (outside (link_seen L.sent L.coming L.faults link.old) (sink_seen K.written K.faults output.old) source h)
+        (outside (link_seen L.sent L.coming L.faults link.new) (sink_seen K.written K.faults output.new) source i) (stop_of why))) }
 
     // A crash at any moment leaves a well formed journal with the entries that the run found, or with the staged one too.
     ensures moments { (version : Version) (es : List Entry) → IsSome (D.seen disk.old)
@@ -65,7 +69,15 @@ pub fn open<'a, D: Disk, L: Link, K: Sink>(
 {
     let readers = read_journal(alloc, kit, disk)?;
     let greeting = host_lines(alloc, &readers.hosts, &readers.counts)?;
-    present(&readers.hosts, greeting.as_slice(), link, output)?;
+    present(
+        alloc,
+        kit,
+        &readers.hosts,
+        greeting.as_slice(),
+        link,
+        output,
+        service,
+    )?;
     match readers.journal.finish(disk) {
         Ok(journal) => Ok(Running {
             kit,

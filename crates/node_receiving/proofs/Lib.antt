@@ -1,9 +1,8 @@
-pub mod Joined
 pub mod Gets
 pub mod Links
 pub mod Others
-pub mod Lent
-pub mod Said
+pub mod Opened
 pub mod Answered
 pub mod Loop
 pub mod Still
+pub mod Handed

@@ -4,3 +4,5 @@ pub mod Opened
 pub mod Receiving
 pub mod Stops
 pub mod Taking
+pub mod Service
+pub mod Turns

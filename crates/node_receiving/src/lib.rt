@@ -8,6 +8,9 @@ mod rooms;
 mod taking;
 mod telling;
 
-pub use node_taking::{Event, Hosts, Kit, Running, Stop, open, say, take};
+pub use node_taking::{
+    AnySigner, Event, Hosted, Hosts, Kit, NoService, Note, Running, Sending, Service, Speaker,
+    Stop, let_frames_out, open, say, take,
+};
 pub use receiving::receive;
 pub use rooms::Rooms;

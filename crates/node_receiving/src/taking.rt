@@ -5,13 +5,14 @@ ghost use Rattle.node_defs.specs.Lives.{Found};
 ghost use Rattle.node_defs.specs.Nodes.{Node, Snapper, Task, after_came};
 ghost use Rattle.node_traces.specs.Outside.{SourceSeen};
 ghost use Rattle.node_traces.specs.Seen.{link_seen, sink_seen};
+ghost use Rattle.node_traces.specs.Service.{Asked, HeardBy};
 ghost use Rattle.node_taking.specs.Hosts.{IsNode, cast_in, numbers_of};
 ghost use Rattle.node_taking.specs.Stops.{stop as stop_of};
 ghost use Rattle.node_taking.specs.Taking.{outside, HasNode, HasDiskCause, GoesOnTo, StopsSo};
 
 use crate::hosting::open_datagram;
 use crate::telling::say_drop;
-use node_taking::{Event, Running, Stop, take};
+use node_taking::{Event, Running, Service, Stop, take};
 use rp_base::{Disk, Link, Pid, Sink};
 use std::alloc::Global;
 
@@ -20,7 +21,7 @@ use std::alloc::Global;
 ///
 /// # Errors
 /// The node ends, as `node_taking::take` says; and `NoMemory` and `WriteFailed` for the line.
-pub(crate) fn take_datagram<'a, D: Disk, L: Link, K: Sink>(
+pub(crate) fn take_datagram<'a, D: Disk, L: Link, K: Sink, V: Service>(
     alloc: Global,
     running: Running<'a>,
     me: Pid,
@@ -29,22 +30,23 @@ pub(crate) fn take_datagram<'a, D: Disk, L: Link, K: Sink>(
     link: &mut L,
     output: &mut K,
     room: &mut [u8],
+    service: &mut V,
 ) -> Result<Running<'a>, Stop>
     requires node { HasNode (D.seen disk.old) (D.may_leave disk.old) running }
     requires hosted { IsTrue (has (numbers_of running.hosts) me) }
     requires room { 61054 ≤ length room.old }
-    ensures goes_on { (snap : Snapper) (most : ℕ) (f : Found) (source : SourceSeen) (n : Node) (ts : List Task)
-        → IsNode (D.seen disk.old) (D.may_leave disk.old) running.entry n
+    ensures goes_on { (snap : Snapper) (most : ℕ) (f : Found) (source : SourceSeen) (h : List Asked) (n : Node) (ts : List Task)
+        → V.heard service.old h → IsNode (D.seen disk.old) (D.may_leave disk.old) running.entry n
         (after_came me ((cast_in running.entry).unseal me datagram.now) ++ ts)
-        → IfOk result (GoesOnTo D.seen D.may_leave D.moment D.left_since (cast_in running.entry) snap most f n
-        (outside (link_seen L.sent L.coming L.faults link.old) (sink_seen K.written K.faults output.old) source) disk.old ts
-        (outside (link_seen L.sent L.coming L.faults link.new) (sink_seen K.written K.faults output.new) source) disk.new) }
-    ensures stops { (snap : Snapper) (most : ℕ) (f : Found) (source : SourceSeen) (n : Node) (ts : List Task)
-        → IsNode (D.seen disk.old) (D.may_leave disk.old) running.entry n
+        → IfOk result (λ r. HeardBy V.heard service.new (λ i. GoesOnTo D.seen D.may_leave D.moment D.left_since (cast_in running.entry) snap most f n
+        (outside (link_seen L.sent L.coming L.faults link.old) (sink_seen K.written K.faults output.old) source h) disk.old ts
+        (outside (link_seen L.sent L.coming L.faults link.new) (sink_seen K.written K.faults output.new) source i) disk.new r)) }
+    ensures stops { (snap : Snapper) (most : ℕ) (f : Found) (source : SourceSeen) (h : List Asked) (n : Node) (ts : List Task)
+        → V.heard service.old h → IsNode (D.seen disk.old) (D.may_leave disk.old) running.entry n
         (after_came me ((cast_in running.entry).unseal me datagram.now) ++ ts)
-        → IfErr result (λ why. StopsSo D.seen D.may_leave D.moment D.left_since (cast_in running.entry) snap most f n
-        (outside (link_seen L.sent L.coming L.faults link.old) (sink_seen K.written K.faults output.old) source) disk.old (stop_of why)
-        (outside (link_seen L.sent L.coming L.faults link.new) (sink_seen K.written K.faults output.new) source) disk.new) }
+        → IfErr result (λ why. HeardBy V.heard service.new (λ i. StopsSo D.seen D.may_leave D.moment D.left_since (cast_in running.entry) snap most f n
+        (outside (link_seen L.sent L.coming L.faults link.old) (sink_seen K.written K.faults output.old) source h) disk.old (stop_of why)
+        (outside (link_seen L.sent L.coming L.faults link.new) (sink_seen K.written K.faults output.new) source i) disk.new)) }
     ensures cause { HasDiskCause (D.faults disk.old) (D.faults disk.new) result }
 {
     match open_datagram(&running, me, datagram) {
@@ -53,7 +55,9 @@ pub(crate) fn take_datagram<'a, D: Disk, L: Link, K: Sink>(
                 from: opened.from,
                 bytes: opened.frame,
             };
-            take(alloc, running, me, &event, disk, link, output, room)
+            take(
+                alloc, running, me, &event, disk, link, output, room, service,
+            )
         }
         Err(fault) => {
             say_drop(alloc, me, fault, output)?;

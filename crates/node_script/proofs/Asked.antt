@@ -1,10 +1,13 @@
 -- What a line asks of a process.
 use Rattle.std.proofs.Common.{◌≡◌, ◌⊎◌, inl, ℕ, List, [], ◌∷◌, Result, Ok, Err, ap, subst, sym, ◌∙◌}
-use Rattle.std.specs.Prelude.{IfErr}
+use Rattle.std.specs.Prelude.{IfErr, IsTrue}
+use Rattle.std.specs.Str.{is_utf8}
 use Rattle.journal_defs.specs.Entries.{Event}
 use Rattle.node_defs.specs.Casts as casts
 use Rattle.node_defs.specs.Nodes.{Take, Get, Word, tasks_of_line}
 use Rattle.node_defs.specs.Scripts as plain
+use Rattle.node_input.specs.Reads.{IsRange}
+use Rattle.node_traces.specs.Service.{Asked, HeardBy}
 use Rattle.node_input.specs.Texts.{Handed}
 use Rattle.node_input.specs.Events as events
 use Rattle.node_input.specs.Texts.{Said, Hand, Receive, Other, handed as handed_of, said as said_of}
@@ -34,7 +37,12 @@ pub asks-service : (me : ℕ) (line : List ℕ) (said : Said) → said ≡ Other
     (said_of said)) ≡ Word me line ∷ []
 asks-service me line said is = ap (λ (s : Said). tasks_of_line line (plain.Of me (said_of s))) is
 
+-- and a line for the service is text
+pub is-text : (line : List ℕ) (said : Said) → said ≡ Other → IsRange line (said_of said) → IsTrue (is_utf8 line)
+is-text line said is range = subst (λ (s : Said). IsRange line (said_of s)) is range
+
 -- where it stops, it stops so or otherwise
-pub stops-or : {A E : Type 0} (r : Result A E) (P Q : E → Type 0) → IfErr r P → IfErr r (λ why. P why ⊎ Q why)
-stops-or (Ok a) P Q is = tt
-stops-or (Err why) P Q is = inl is
+pub stops-or : {A E V : Type 0} (heard : V → List Asked → Type 0) (service : V) (r : Result A E) (P Q : E → List Asked → Type 0)
+    → IfErr r (λ why. HeardBy heard service (P why)) → IfErr r (λ why. HeardBy heard service (λ i. P why i ⊎ Q why i))
+stops-or heard service (Ok a) P Q is = tt
+stops-or heard service (Err why) P Q is = record { history = is.history; has = is.has; holds = inl is.holds }

@@ -7,8 +7,9 @@ use Rattle.node_defs.specs.Lives.{Found}
 use Rattle.node_defs.specs.Nodes.{Node, Task, Snapper}
 use Rattle.node_defs.specs.Scripts.{most_lines}
 use Rattle.node_traces.specs.Outside.{LinkSeen, SinkSeen, SourceSeen}
+use Rattle.node_traces.specs.Service.{Asked}
 use Rattle.node_traces.specs.Goes.{Outside}
-use Rattle.node_input.specs.Reads.{AsksNone, EndsAfter, most_line_bytes}
+use Rattle.node_input.specs.Reads.{AsksNone, EndsAfter}
 use Rattle.node_input.specs.Sources.{IsSeen, SeenAs}
 use Rattle.node_receiving.specs.Hosts.{Running, IsNode, cast_in, numbers_of}
 use Rattle.node_receiving.specs.Taking.{HasNode, outside}
@@ -44,21 +45,21 @@ untold-is ahead left faults = record { bytes = tt; count = refl }
 
 module _ {D : Type 0} (seen : D → Option (List ℕ)) (may_leave : D → List ℕ → Type 0) (moment : D → ℕ)
     (left_since : D → ℕ → List ℕ → Type 0) (only_now : (d : D) (image : List ℕ) → left_since d (moment d) image → may_leave d image)
-    (snap : Snapper) (f : Found) (ahead : List ℕ) (left : Option (List ℕ)) (faults : ℕ) where
+    (snap : Snapper) (most : ℕ) (f : Found) (ahead : List ℕ) (left : Option (List ℕ)) (faults : ℕ) where
   -- the running node is a node of the definitions still
   pub has-node : (c : Cast) (n : Node) (x : Outside) (l : LinkSeen) (s : SinkSeen) (old new : D) (count : ℕ) (r : Running)
-      → SeenAs (λ o. ReadsOn seen may_leave moment left_since c snap most_line_bytes f n x old count
-      (outside l s o) new r) ahead left faults
+      (i : List Asked) → SeenAs (λ o. ReadsOn seen may_leave moment left_since c snap most f n x old count
+      (outside l s o i) new r) ahead left faults
       → HasNode (seen new) (may_leave new) r
-  has-node c n x l s old new count r on = record { node = on.holds.node; tasks = []; is = on.holds.is }
+  has-node c n x l s old new count r i on = record { node = on.holds.node; tasks = []; is = on.holds.is }
 
   -- ---- at one line
 
-  module _ (r : Running) (n : Node) (l : LinkSeen) (s : SinkSeen) (k : SourceSeen) (d : D) (is : IsNode (seen d) (may_leave d) r n []) where
+  module _ (r : Running) (n : Node) (l : LinkSeen) (s : SinkSeen) (k : SourceSeen) (h : List Asked) (d : D) (is : IsNode (seen d) (may_leave d) r n []) where
     -- The script ends so, and the input was seen so then.
     abbrev EndsHere : Stop → SourceSeen → Type 0
-    EndsHere why o = ScriptEnds seen may_leave moment left_since (cast_in r) snap most_line_bytes f n (outside l s k) d why
-        (outside l s o) d
+    EndsHere why o = ScriptEnds seen may_leave moment left_since (cast_in r) snap most f n (outside l s k h) d why
+        (outside l s o h) d
 
     pub forgets-here : IsSeen k ahead left faults → (all : List ℕ) × SeenAs (EndsHere NoMemory) all left faults
     forgets-here here = (
@@ -66,74 +67,72 @@ module _ {D : Type 0} (seen : D → Option (List ℕ)) (may_leave : D → List �
       record {
         source = k;
         seen = here;
-        holds = inl (forgets seen may_leave moment left_since only_now (cast_in r) snap f n l s k d (to-do n [] is.at) is.journal.rest);
+        holds = inl (forgets seen may_leave moment left_since only_now (cast_in r) snap most f n l s k h d (to-do n [] is.at) is.journal.rest);
       },
     )
 
     pub asked-none : (hosted : List ℕ) (number : ℕ) (why : Stop) → hosted ≡ numbers_of r.hosts → number ≡ n.lines + 1
-        → SeenAs (λ o. AsksNone hosted number k o why) ahead left faults → SeenAs (EndsHere why) ahead left faults
+        → SeenAs (λ o. AsksNone most hosted number k o why) ahead left faults → SeenAs (EndsHere why) ahead left faults
     asked-none hosted number why same next way = record {
       source = way.source;
       seen = way.seen;
-      holds = inl (asks-none seen may_leave moment left_since only_now (cast_in r) snap f n l s k d
+      holds = inl (asks-none seen may_leave moment left_since only_now (cast_in r) snap most f n l s k h d
           (to-do n [] is.at) is.journal.rest hosted
           number way.source why (same ∙ is.hosts.numbers) next way.holds);
     }
 
     ended-after : (number : ℕ) (why : Stop) → n.script ≡ most_lines → number ≡ n.lines + 1
-        → SeenAs (λ o. EndsAfter number k o why) ahead left faults → SeenAs (EndsHere why) ahead left faults
+        → SeenAs (λ o. EndsAfter most number k o why) ahead left faults → SeenAs (EndsHere why) ahead left faults
     ended-after number why many next way = record {
       source = way.source;
       seen = way.seen;
-      holds = inl (ends-after seen may_leave moment left_since only_now (cast_in r) snap f n l s k d
+      holds = inl (ends-after seen may_leave moment left_since only_now (cast_in r) snap most f n l s k h d
           (to-do n [] is.at) is.journal.rest number
           way.source why many next way.holds);
     }
 
   -- ---- after other lines
 
-  module _ (c : Cast) (n : Node) (x : Outside) (l m : LinkSeen) (s t : SinkSeen) (k : SourceSeen) (old mid new : D) (count : ℕ)
-      (r : Running)
-      (first : ReadsOn seen may_leave moment left_since c snap most_line_bytes f n x old count (outside l s k) mid r) where
+  module _ (c : Cast) (n : Node) (x : Outside) (l m : LinkSeen) (s t : SinkSeen) (k : SourceSeen) (h i : List Asked) (old mid new : D)
+      (count : ℕ) (r : Running)
+      (first : ReadsOn seen may_leave moment left_since c snap most f n x old count (outside l s k h) mid r) where
     pub then-more : (r' : Running) (more : ℕ)
-        → SeenAs (λ o. ReadsOn seen may_leave moment left_since (cast_in r) snap most_line_bytes f first.node (outside l s k) mid more
-        (outside m t o) new r') ahead left faults
-        → SeenAs (λ o. ReadsOn seen may_leave moment left_since c snap most_line_bytes f n x old (count + more)
-        (outside m t o) new r') ahead left
+        → SeenAs (λ o. ReadsOn seen may_leave moment left_since (cast_in r) snap most f first.node (outside l s k h) mid more
+        (outside m t o i) new r') ahead left faults
+        → SeenAs (λ o. ReadsOn seen may_leave moment left_since c snap most f n x old (count + more) (outside m t o i) new r') ahead left
         faults
     then-more r' more next = record {
       source = next.source;
       seen = next.seen;
-      holds = reads-more seen may_leave moment left_since only_now snap most_line_bytes f c n x (outside l s k)
-          (outside m t next.source) old mid
+      holds = reads-more seen may_leave moment left_since only_now snap most f c n x (outside l s k h)
+          (outside m t next.source i) old mid
           new r r' count more first next.holds;
     }
 
     pub then-stops : (why : Stop)
-        → SeenAs (λ o. ScriptEnds seen may_leave moment left_since (cast_in r) snap most_line_bytes f first.node (outside l s k) mid why
-        (outside m t o) new) ahead left faults
-        → SeenAs (λ o. ScriptEnds seen may_leave moment left_since c snap most_line_bytes f n x old why
-        (outside m t o) new) ahead left faults
+        → SeenAs (λ o. ScriptEnds seen may_leave moment left_since (cast_in r) snap most f first.node (outside l s k h) mid why
+        (outside m t o i) new) ahead left faults
+        → SeenAs (λ o. ScriptEnds seen may_leave moment left_since c snap most f n x old why (outside m t o i) new) ahead left faults
     then-stops why next =
-        let end = subst (λ (h : Cast). ScriptEnds seen may_leave moment left_since h snap most_line_bytes f first.node
-        (outside l s k) mid why
-        (outside m t next.source) new) first.cast next.holds in
+        let end = subst (λ (d : Cast). ScriptEnds seen may_leave moment left_since d snap most f first.node
+        (outside l s k h) mid why
+        (outside m t next.source i) new) first.cast next.holds in
         record {
           source = next.source;
           seen = next.seen;
-          holds = stops-later seen may_leave moment left_since only_now snap most_line_bytes f c n x (outside l s k)
-              (outside m t next.source) old
+          holds = stops-later seen may_leave moment left_since only_now snap most f c n x (outside l s k h)
+              (outside m t next.source i) old
               mid new first.node why first.went end;
         }
 
   -- the last line that a script may have, and then one too many
-  pub ends-at-last : (c : Cast) (n : Node) (x : Outside) (l : LinkSeen) (s : SinkSeen) (old new : D) (r : Running) (go : ℕ) (why : Stop)
-      (k : SourceSeen) → n.lines ≡ go → n.script ≡ 0
-      → ReadsOn seen may_leave moment left_since c snap most_line_bytes f n x old most_lines (outside l s k) new r
-      → SeenAs (λ o. EndsAfter (go + most_lines + 1) k o why) ahead left faults
-      → SeenAs (λ o. ScriptEnds seen may_leave moment left_since c snap most_line_bytes f n x old why (outside l s o) new) ahead left faults
-  ends-at-last c n x l s old new r go why k lines script first way =
+  pub ends-at-last : (c : Cast) (n : Node) (x : Outside) (l : LinkSeen) (s : SinkSeen) (h : List Asked) (old new : D) (r : Running) (go : ℕ)
+      (why : Stop) (k : SourceSeen) → n.lines ≡ go → n.script ≡ 0
+      → ReadsOn seen may_leave moment left_since c snap most f n x old most_lines (outside l s k h) new r
+      → SeenAs (λ o. EndsAfter most (go + most_lines + 1) k o why) ahead left faults
+      → SeenAs (λ o. ScriptEnds seen may_leave moment left_since c snap most f n x old why (outside l s o h) new) ahead left faults
+  ends-at-last c n x l s h old new r go why k lines script first way =
       let many : first.node.script ≡ most_lines = omega (arith, first.script, script) in
       let next : go + most_lines + 1 ≡ first.node.lines + 1 = omega (arith, first.lines, lines) in
-      then-stops c n x l l s s k old new new most_lines r first why
-      (ended-after r first.node l s k new first.is (go + most_lines + 1) why many next way)
+      then-stops c n x l l s s k h h old new new most_lines r first why
+      (ended-after r first.node l s k h new first.is (go + most_lines + 1) why many next way)

@@ -4,3 +4,5 @@ mod Carried
 mod Ending
 mod NoDisk
 mod Asked
+mod Served
+mod Heard

@@ -10,20 +10,20 @@ no-disk : (count : ℕ) (why : Stop) → (why ≡ DiskFailed → ⊥) → StopsB
 no-disk count DiskFailed not = absurd (not refl)
 no-disk count _ not = refl
 
-none-by-disk : (number : ℕ) (k o : SourceSeen) (why : Stop) → TakesNone number k o why → why ≡ DiskFailed → ⊥
-none-by-disk number k o DiskFailed none is = none
-none-by-disk number k o _ none is = absurd cc
+none-by-disk : (most number : ℕ) (k o : SourceSeen) (why : Stop) → TakesNone most number k o why → why ≡ DiskFailed → ⊥
+none-by-disk most number k o DiskFailed none is = none
+none-by-disk most number k o _ none is = absurd cc
 
-bad-by-disk : (P : List ℕ → Type 0) (number : ℕ) (k o : SourceSeen) (why : Stop) → TakesBad P number k o why → why ≡ DiskFailed → ⊥
-bad-by-disk P number k o why bad is = let told = bad.told in cc
+bad-by-disk : (P : List ℕ → Type 0) (most number : ℕ) (k o : SourceSeen) (why : Stop) → TakesBad P most number k o why → why ≡ DiskFailed → ⊥
+bad-by-disk P most number k o why bad is = let told = bad.told in cc
 
 -- a line that asks for nothing
-pub asked-cause : (hosted : List ℕ) (number count : ℕ) (k o : SourceSeen) (why : Why) → AsksNone hosted number k o (stop_of why)
+pub asked-cause : (hosted : List ℕ) (most number count : ℕ) (k o : SourceSeen) (why : Why) → AsksNone most hosted number k o (stop_of why)
     → HasStopCause count count why
-asked-cause hosted number count k o why (inl none) = no-disk count (stop_of why) (none-by-disk number k o (stop_of why) none)
-asked-cause hosted number count k o why (inr bad) = no-disk count (stop_of why) (bad-by-disk _ number k o (stop_of why) bad)
+asked-cause hosted most number count k o why (inl none) = no-disk count (stop_of why) (none-by-disk most number k o (stop_of why) none)
+asked-cause hosted most number count k o why (inr bad) = no-disk count (stop_of why) (bad-by-disk _ most number k o (stop_of why) bad)
 
 -- a line too many
-pub ended-cause : (number count : ℕ) (k o : SourceSeen) (why : Why) → EndsAfter number k o (stop_of why) → HasStopCause count count why
-ended-cause number count k o why (inl none) = no-disk count (stop_of why) (none-by-disk number k o (stop_of why) none)
-ended-cause number count k o why (inr bad) = no-disk count (stop_of why) (bad-by-disk _ number k o (stop_of why) bad)
+pub ended-cause : (most number count : ℕ) (k o : SourceSeen) (why : Why) → EndsAfter most number k o (stop_of why) → HasStopCause count count why
+ended-cause most number count k o why (inl none) = no-disk count (stop_of why) (none-by-disk most number k o (stop_of why) none)
+ended-cause most number count k o why (inr bad) = no-disk count (stop_of why) (bad-by-disk _ most number k o (stop_of why) bad)

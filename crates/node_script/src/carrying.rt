@@ -6,6 +6,7 @@ ghost use Rattle.node_defs.specs.Nodes.{Node, Snapper, Task, tasks_of_line};
 ghost use Rattle.node_defs.specs.Scripts as plain;
 ghost use Rattle.node_traces.specs.Outside.{SourceSeen};
 ghost use Rattle.node_traces.specs.Seen.{link_seen, sink_seen};
+ghost use Rattle.node_traces.specs.Service.{Asked, HeardBy};
 ghost use Rattle.node_input.specs.Texts.{line as line_of, said as said_of};
 ghost use Rattle.node_receiving.specs.Stops.{stop as stop_of};
 ghost use Rattle.node_input.specs.Reads.{IsFor, IsRange};
@@ -13,38 +14,41 @@ ghost use Rattle.node_receiving.specs.Hosts.{IsNode, cast_in, numbers_of};
 ghost use Rattle.node_receiving.specs.Taking.{GoesOnTo, HasDiskCause, HasNode, StopsSo, outside};
 ghost use Rattle.node_script.specs.Ends.{IsUnbuilt};
 
+use crate::serving::serve;
 use node_input::{Line, Said, Stop};
-use node_receiving::{Rooms, Running, receive, take};
+use node_receiving::{Rooms, Running, Service, receive, take};
 use rp_base::{Disk, Link, Pid, Sink};
 use std::alloc::Global;
 
 // What a line asks of a process, carried out.
-fn ask<'a, D: Disk, L: Link, K: Sink>(
+fn ask<'a, D: Disk, L: Link, K: Sink, V: Service>(
     alloc: Global,
     running: Running<'a>,
     me: Pid,
     said: Said,
+    line: &[u8],
     number: u64,
     disk: &mut D,
     link: &mut L,
     output: &mut K,
     rooms: &mut Rooms,
+    service: &mut V,
 ) -> Result<Running<'a>, Stop>
     requires node { HasNode (D.seen disk.old) (D.may_leave disk.old) running }
     requires hosted { IsTrue (has (numbers_of running.hosts) me) }
-    requires range { IsRange (said_of said) }
-    ensures goes_on { (snap : Snapper) (most : ℕ) (f : Found) (source : SourceSeen) (n : Node) (line : List ℕ)
-        → IsNode (D.seen disk.old) (D.may_leave disk.old) running.entry n (tasks_of_line line (plain.Of me (said_of said)))
+    requires range { IsRange line.now (said_of said) }
+    ensures goes_on { (snap : Snapper) (most : ℕ) (f : Found) (source : SourceSeen) (h : List Asked) (n : Node)
+        → V.heard service.old h → IsNode (D.seen disk.old) (D.may_leave disk.old) running.entry n (tasks_of_line line.now (plain.Of me (said_of said)))
         → n.lines ≡ number
-        → IfOk result (GoesOnTo D.seen D.may_leave D.moment D.left_since (cast_in running.entry) snap most f n
-        (outside (link_seen L.sent L.coming L.faults link.old) (sink_seen K.written K.faults output.old) source) disk.old []
-        (outside (link_seen L.sent L.coming L.faults link.new) (sink_seen K.written K.faults output.new) source) disk.new) }
-    ensures stops { (snap : Snapper) (most : ℕ) (f : Found) (source : SourceSeen) (n : Node) (line : List ℕ)
-        → IsNode (D.seen disk.old) (D.may_leave disk.old) running.entry n (tasks_of_line line (plain.Of me (said_of said)))
+        → IfOk result (λ r. HeardBy V.heard service.new (λ i. GoesOnTo D.seen D.may_leave D.moment D.left_since (cast_in running.entry) snap most f n
+        (outside (link_seen L.sent L.coming L.faults link.old) (sink_seen K.written K.faults output.old) source h) disk.old []
+        (outside (link_seen L.sent L.coming L.faults link.new) (sink_seen K.written K.faults output.new) source i) disk.new r)) }
+    ensures stops { (snap : Snapper) (most : ℕ) (f : Found) (source : SourceSeen) (h : List Asked) (n : Node)
+        → V.heard service.old h → IsNode (D.seen disk.old) (D.may_leave disk.old) running.entry n (tasks_of_line line.now (plain.Of me (said_of said)))
         → n.lines ≡ number
-        → IfErr result (λ why. StopsSo D.seen D.may_leave D.moment D.left_since (cast_in running.entry) snap most f n
-        (outside (link_seen L.sent L.coming L.faults link.old) (sink_seen K.written K.faults output.old) source) disk.old (stop_of why)
-        (outside (link_seen L.sent L.coming L.faults link.new) (sink_seen K.written K.faults output.new) source) disk.new) }
+        → IfErr result (λ why. HeardBy V.heard service.new (λ i. StopsSo D.seen D.may_leave D.moment D.left_since (cast_in running.entry) snap most f n
+        (outside (link_seen L.sent L.coming L.faults link.old) (sink_seen K.written K.faults output.old) source h) disk.old (stop_of why)
+        (outside (link_seen L.sent L.coming L.faults link.new) (sink_seen K.written K.faults output.new) source i) disk.new)) }
     ensures cause { HasDiskCause (D.faults disk.old) (D.faults disk.new) result }
 {
     match said {
@@ -57,51 +61,77 @@ fn ask<'a, D: Disk, L: Link, K: Sink>(
             link,
             output,
             &mut rooms.sealed,
+            service,
         ),
-        Said::Receive(most) => receive(alloc, running, me, most as u16, disk, link, output, rooms),
-        Said::Other => Err(Stop::BadLine(number)),
+        Said::Receive(most) => receive(
+            alloc,
+            running,
+            me,
+            most as u16,
+            disk,
+            link,
+            output,
+            rooms,
+            service,
+        ),
+        Said::Other => {
+            serve(
+                alloc,
+                &running,
+                me,
+                line,
+                number,
+                link,
+                output,
+                &mut rooms.sealed,
+                service,
+            )?;
+            Ok(running)
+        }
     }
 }
 
-/// Carries out one line of the script, which has this number: a process takes an event, or receives datagrams. A line for the service ends
-/// the node, since it has none; and so does `snap`, since no node makes a snapshot yet.
+/// Carries out one line of the script, which has this number and these bytes: a process takes an event, or receives datagrams, or the service
+/// answers the line. `snap` ends the node, since no node makes a snapshot yet.
 ///
 /// # Errors
-/// The node ends: `BadLine` for the service's lines and for `snap`; else as `take` and `receive` say.
-pub fn carry_out<'a, D: Disk, L: Link, K: Sink>(
+/// The node ends: `BadLine` for a line that the service has none of, and for `snap`; else as `take`, `receive` and `serve` say.
+pub fn carry_out<'a, D: Disk, L: Link, K: Sink, V: Service>(
     alloc: Global,
     running: Running<'a>,
     said: Line,
+    line: &[u8],
     number: u64,
     disk: &mut D,
     link: &mut L,
     output: &mut K,
     rooms: &mut Rooms,
+    service: &mut V,
 ) -> Result<Running<'a>, Stop>
     requires node { HasNode (D.seen disk.old) (D.may_leave disk.old) running }
-    requires asks { IsFor (numbers_of running.hosts) (line_of said) }
+    requires asks { IsFor (numbers_of running.hosts) line.now (line_of said) }
 
     // A node that has read this line does what it asks, and then has nothing to do.
-    ensures goes_on { (snap : Snapper) (most : ℕ) (f : Found) (source : SourceSeen) (n : Node) (line : List ℕ)
-        → IsNode (D.seen disk.old) (D.may_leave disk.old) running.entry n (tasks_of_line line (line_of said)) → n.lines ≡ number
-        → IfOk result (GoesOnTo D.seen D.may_leave D.moment D.left_since (cast_in running.entry) snap most f n
-        (outside (link_seen L.sent L.coming L.faults link.old) (sink_seen K.written K.faults output.old) source) disk.old []
-        (outside (link_seen L.sent L.coming L.faults link.new) (sink_seen K.written K.faults output.new) source) disk.new) }
+    ensures goes_on { (snap : Snapper) (most : ℕ) (f : Found) (source : SourceSeen) (h : List Asked) (n : Node)
+        → V.heard service.old h → IsNode (D.seen disk.old) (D.may_leave disk.old) running.entry n (tasks_of_line line.now (line_of said)) → n.lines ≡ number
+        → IfOk result (λ r. HeardBy V.heard service.new (λ i. GoesOnTo D.seen D.may_leave D.moment D.left_since (cast_in running.entry) snap most f n
+        (outside (link_seen L.sent L.coming L.faults link.old) (sink_seen K.written K.faults output.old) source h) disk.old []
+        (outside (link_seen L.sent L.coming L.faults link.new) (sink_seen K.written K.faults output.new) source i) disk.new r)) }
 
     // Or it stops, after some calls and their answers; at `snap` before the first of them.
-    ensures stops { (snap : Snapper) (most : ℕ) (f : Found) (source : SourceSeen) (n : Node) (line : List ℕ)
-        → IsNode (D.seen disk.old) (D.may_leave disk.old) running.entry n (tasks_of_line line (line_of said)) → n.lines ≡ number
-        → IfErr result (λ why. StopsSo D.seen D.may_leave D.moment D.left_since (cast_in running.entry) snap most f n
-        (outside (link_seen L.sent L.coming L.faults link.old) (sink_seen K.written K.faults output.old) source) disk.old (stop_of why)
-        (outside (link_seen L.sent L.coming L.faults link.new) (sink_seen K.written K.faults output.new) source) disk.new
+    ensures stops { (snap : Snapper) (most : ℕ) (f : Found) (source : SourceSeen) (h : List Asked) (n : Node)
+        → V.heard service.old h → IsNode (D.seen disk.old) (D.may_leave disk.old) running.entry n (tasks_of_line line.now (line_of said)) → n.lines ≡ number
+        → IfErr result (λ why. HeardBy V.heard service.new (λ i. StopsSo D.seen D.may_leave D.moment D.left_since (cast_in running.entry) snap most f n
+        (outside (link_seen L.sent L.coming L.faults link.old) (sink_seen K.written K.faults output.old) source h) disk.old (stop_of why)
+        (outside (link_seen L.sent L.coming L.faults link.new) (sink_seen K.written K.faults output.new) source i) disk.new
         ⊎ IsUnbuilt (line_of said) number
-        (outside (link_seen L.sent L.coming L.faults link.old) (sink_seen K.written K.faults output.old) source) disk.old (stop_of why)
-        (outside (link_seen L.sent L.coming L.faults link.new) (sink_seen K.written K.faults output.new) source) disk.new) }
+        (outside (link_seen L.sent L.coming L.faults link.old) (sink_seen K.written K.faults output.old) source h) disk.old (stop_of why)
+        (outside (link_seen L.sent L.coming L.faults link.new) (sink_seen K.written K.faults output.new) source i) disk.new)) }
     ensures cause { HasDiskCause (D.faults disk.old) (D.faults disk.new) result }
 {
     match said {
         Line::Of { process, said } => ask(
-            alloc, running, process, said, number, disk, link, output, rooms,
+            alloc, running, process, said, line, number, disk, link, output, rooms, service,
         ),
         Line::Snap => Err(Stop::BadLine(number)),
     }

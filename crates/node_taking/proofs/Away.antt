@@ -1,6 +1,6 @@
 -- A turn that is away with its process: what its journal, what lets it out, and its place ask of it.
-use Rattle.std.proofs.Common.{◌≡◌, ℕ, List, Option, None, Some, refl, sym, ap, subst, ◌∙◌}
-use Rattle.std.specs.Prelude.{◌≢◌, if◌then◌else◌, All, IfSome, IsTrue}
+use Rattle.std.proofs.Common.{◌≡◌, ℕ, List, ◌++◌, Option, None, Some, refl, sym, ap, subst, ◌∙◌}
+use Rattle.std.specs.Prelude.{◌≢◌, if◌then◌else◌, map, All, IfSome, IsTrue}
 use Rattle.std.proofs.lemmas.Bool.{eq-eqb, ne_eqb}
 use Rattle.std.proofs.Math.Logic.{∥∥₁_elim}
 use Rattle.std.proofs.Props.{props}
@@ -9,7 +9,7 @@ use Rattle.byte_defs.specs.Members.{has}
 use Rattle.sealing_laws.specs.Letters.{IsClaim, IsFromOther, IsLast, IsSealable, letters_in}
 use Rattle.kit_defs.specs.Kits.{IsKit, Kit}
 use Rattle.group_defs.specs.Process.{Process}
-use Rattle.group_defs.specs.Events.{after}
+use Rattle.group_defs.specs.Events.{Note, Outcome as PlainOutcome, after}
 use Rattle.journal_defs.specs.Entries.{Event}
 use Rattle.journal_rp.specs.declared.journal.Journal.{Journal}
 use Rattle.journal_rp.specs.declared.journal.Writing.{Writing}
@@ -18,11 +18,14 @@ use Rattle.journal_rp.specs.declared.turn.Unsynced.{Unsynced}
 use Rattle.journal_rp.specs.Stages.{version_of}
 use Rattle.journal_rp.specs.Turns.{outcome_of, process_of, staged_of}
 use Rattle.auth_link.specs.Keys.{known}
-use Rattle.node_opening.specs.Hosts.{AnySigner, used, Hosted, IsCore, IsReal, Running, Host, Hosts, AreHosts, numbers_of, IsHost, IsHosted, IsJournalOf, IsNode, cast_in}
+use Rattle.stmt_codec.specs.declared.events.Outcome.{Outcome}
+use Rattle.node_opening.specs.Hosts.{AnySigner, used, Hosted, IsCore, IsOutcome, IsReal, Running, Host, Hosts, AreHosts, numbers_of, IsHost, IsHosted, IsJournalOf, IsNode, cast_in}
 use Rattle.node_defs.specs.Casts.{Cast, entries_of, entry_for, handed, live}
-use Rattle.node_defs.specs.Nodes.{Node, Task, with_turn}
+use Rattle.node_defs.specs.Nodes.{Node, Task, asks, with_turn}
+use Rattle.sealing_laws.specs.Service.{note}
 use Rattle.sealing_laws.proofs.Sealed.{turns_can_be_sealed}
 use Rattle.node_taking.specs.declared.stepping.Away.{Away}
+use Rattle.node_taking.specs.Asking.{left_to_ask}
 use Rattle.node_taking.specs.Turns.{IsAway, IsTurnOf}
 use Rattle.node_taking.specs.Keeping.{grown, IsSameTurn}
 use Rattle.node_taking.proofs.Still.{if-told, told}
@@ -77,14 +80,19 @@ turned-here c n p e = ap (λ b. if b then after c.setting (n.now p) (live c (n.n
 turned-others : (c : Cast) (n : Node) (p : ℕ) (e : Event) (q : ℕ) → q ≢ p → with_turn c n (Some (p, e)) q ≡ n.now q
 turned-others c n p e q other = ap (λ b. if b then after c.setting (n.now q) (live c (n.now q) e) else n.now q) (ne_eqb q p other)
 
+-- the process as it is then, with which the turn is let out
+pub grown-so : (c : Cast) (kit : Kit) (n : Node) (p : ℕ) (e : Event) (was : Away Unsynced) (now : Away Synced) (h : Hosted AnySigner)
+    → IsAway c kit p (n.now p) e was → IsSameTurn was now → h ≡ process_of now.turn → IsHosted c p ((grown c n p e).now p) h
+grown-so c kit n p e was now h is same process = subst (λ (r : Process). IsHosted c p r h) (sym (turned-here c n p e))
+    (subst (λ (g : Hosted AnySigner). IsHosted c p (after c.setting (n.now p) (live c (n.now p) e)) g) (sym (process ∙ same.process))
+    is.takes.0)
+
 -- the host that is put back
 pub back-so : (c : Cast) (kit : Kit) (n : Node) (p : ℕ) (e : Event) (was : Away Unsynced) (now : Away Synced) (h : Host)
     → IsAway c kit p (n.now p) e was → IsSameTurn was now → h.process ≡ process_of now.turn → h.keys ≡ now.keys → h.port ≡ now.port
     → IsHost c kit p ((grown c n p e).now p) h
 back-so c kit n p e was now h is same process keys port = record {
-  process = subst (λ (r : Process). IsHosted c p r h.process) (sym (turned-here c n p e))
-      (subst (λ (g : Hosted AnySigner). IsHosted c p (after c.setting (n.now p) (live c (n.now p) e)) g)
-      (sym (process ∙ same.process)) is.takes.0);
+  process = grown-so c kit n p e was now h.process is same process;
   keys = ap known (keys ∙ same.keys) ∙ is.keys;
   port = is.port ∙ sym (port ∙ same.port);
 }
@@ -95,6 +103,12 @@ pub all-back : (c : Cast) (kit : Kit) (n : Node) (p : ℕ) (e : Event) (old new 
     → AreHosts c kit n.now (Some p) old → IsTrue (has c.hosted p) → IsHost c kit p ((grown c n p e).now p) h
     → AreHosts c kit (grown c n p e).now None new
 all-back c kit n p e old new h put are there is = put n.now (grown c n p e).now p are there is (turned-others c n p e)
+
+-- what the service is asked of it then
+pub asked-so : (p : ℕ) (e : Event) (ts : List Task) (o : PlainOutcome) (r came : Outcome) → came ≡ r → IsOutcome o r
+    → left_to_ask p e (Some came) ++ ts ≡ asks p e o.notes ++ ts
+asked-so p e ts o r came same is = ap (λ (w : Outcome). asks p e (map note w.notes.items) ++ ts) same
+    ∙ ap (λ (notes : List Note). asks p e notes ++ ts) (sym is.told)
 
 -- some process is it
 pub real-so : (c : Cast) (p : ℕ) (now : Process) (h : Hosted AnySigner) → IsHosted c p now h → IsReal used h

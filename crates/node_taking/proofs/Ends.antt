@@ -5,6 +5,7 @@ use Rattle.node_defs.specs.Casts.{Cast}
 use Rattle.node_defs.specs.Lines.{Stop, NoMemory}
 use Rattle.node_defs.specs.Nodes.{Node, Task, Say, Done, Failed, Unremembered, Snapper, answered}
 use Rattle.node_traces.specs.Outside.{LinkSeen, SinkSeen, SinkWrote, SourceSeen}
+use Rattle.node_traces.specs.Service.{Asked}
 use Rattle.node_traces.specs.Goes.{Outside, Goes}
 use Rattle.node_traces.proofs.Going.{parts_go_on}
 use Rattle.node_traces.proofs.Quiet.{no-memory, runs-out}
@@ -43,18 +44,18 @@ ends-after c snap most n m x y z why kept first ends = record {
 -- ---- a line
 
 pub says-on : (c : Cast) (snap : Snapper) (most : ℕ) (n : Node) (text : List ℕ) (ts : List Task) (l : LinkSeen) (s t : SinkSeen) (o : SourceSeen)
-    → SinkWrote s t text → Goes c snap most (at n (Say text ∷ ts)) (outside l s o) (at n ts) (outside l t o)
-says-on c snap most n text ts l s t o wrote =
-    answers c snap most (at n (Say text ∷ ts)) (at n ts) Done (outside l s o) (outside l t o) (said-so c snap n text ts)
-    (says-does c most n text ts Done l s t o wrote)
+    (h : List Asked) → SinkWrote s t text → Goes c snap most (at n (Say text ∷ ts)) (outside l s o h) (at n ts) (outside l t o h)
+says-on c snap most n text ts l s t o h wrote =
+    answers c snap most (at n (Say text ∷ ts)) (at n ts) Done (outside l s o h) (outside l t o h) (said-so c snap n text ts)
+    (says-does c most n text ts Done l s t o h wrote)
 
 pub says-stops : (T : Type 0) (why : Why) (c : Cast) (snap : Snapper) (most : ℕ) (n : Node) (text : List ℕ) (ts : List Task) (l : LinkSeen)
-    (s t : SinkSeen) (o : SourceSeen) → Says (let r : Result T Why = Err why in r) text s t
-    → Ends c snap most (at n (Say text ∷ ts)) (outside l s o) (stop_of why) (outside l t o) n.kept
-says-stops T whys.NoMemory c snap most n text ts l s t o same =
-    subst (λ (z : SinkSeen). Ends c snap most (at n (Say text ∷ ts)) (outside l s o) NoMemory (outside l z o) n.kept) same
-    (forgets c snap most (at n (Say text ∷ ts)) (outside l s o) refl)
-says-stops T whys.WriteFailed c snap most n text ts l s t o failed =
+    (s t : SinkSeen) (o : SourceSeen) (h : List Asked) → Says (let r : Result T Why = Err why in r) text s t
+    → Ends c snap most (at n (Say text ∷ ts)) (outside l s o h) (stop_of why) (outside l t o h) n.kept
+says-stops T whys.NoMemory c snap most n text ts l s t o h same =
+    subst (λ (z : SinkSeen). Ends c snap most (at n (Say text ∷ ts)) (outside l s o h) NoMemory (outside l z o h) n.kept) same
+    (forgets c snap most (at n (Say text ∷ ts)) (outside l s o h) refl)
+says-stops T whys.WriteFailed c snap most n text ts l s t o h failed =
     let m : Node = at n (Say text ∷ ts) in
     let last : Node = answered c snap m Failed in
     let ends = say-failed c snap n text ts in
@@ -62,6 +63,6 @@ says-stops T whys.WriteFailed c snap most n text ts l s t o failed =
       last = last;
       stops = ends.0;
       keeps = ends.1;
-      goes = answers c snap most m last Failed (outside l s o) (outside l t o) refl (says-does c most n text ts Failed l s t o failed);
+      goes = answers c snap most m last Failed (outside l s o h) (outside l t o h) refl (says-does c most n text ts Failed l s t o h failed);
     }
-says-stops T _ c snap most n text ts l s t o bad = absurd bad
+says-stops T _ c snap most n text ts l s t o h bad = absurd bad

@@ -8,3 +8,8 @@ pub mod Answered
 pub mod Stepped
 pub mod Away
 pub mod Whole
+pub mod Lent
+pub mod Joined
+pub mod Leads
+pub mod Expelled
+pub mod Handed

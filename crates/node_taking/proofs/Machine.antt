@@ -6,9 +6,10 @@ use Rattle.group_defs.specs.Events.{EventFault}
 use Rattle.journal_defs.specs.Entries.{Event, entry_bytes}
 use Rattle.node_defs.specs.Casts.{Cast, entry_for, outcome_of}
 use Rattle.node_defs.specs.Lines.{DiskFailed, Full, refused_line}
-use Rattle.node_defs.specs.Nodes.{Node, Task, Take, Append, Say, Answer, Done, Failed, Change, Snapper, after_step, after_task, answered, call_of, changed, ends, goes, is_full}
+use Rattle.node_defs.specs.Nodes.{Node, Task, Take, Append, Say, Call, Steps, Appends, Answer, Done, Failed, Change, Snapper, after_step, after_task, answered, call_of, changed, ends, goes, is_full}
 use Rattle.node_traces.specs.Goes.{Outside, Goes, Does}
 use Rattle.node_traces.proofs.Going.{one_answer_goes}
+use Rattle.node_traces.proofs.Service.{asks-none}
 use Rattle.node_opening.specs.Hosts.{IsAt}
 use Rattle.node_taking.specs.Keeping.{at, letting}
 
@@ -27,14 +28,14 @@ pub answers : (c : Cast) (snap : Snapper) (most : ℕ) (n k : Node) (a : Answer)
     → Goes c snap most n x k y
 answers c snap most n k a x y is does =
     let one = one_answer_goes c snap most n a x y does in
-    record { answers = one.answers; becomes = is ∙ one.becomes; link = one.link; sink = one.sink; source = one.source }
+    record { answers = one.answers; becomes = is ∙ one.becomes; link = one.link; sink = one.sink; source = one.source; service = one.service }
 
 -- ---- memory for the event
 
 pub steps-does : (c : Cast) (most : ℕ) (n : Node) (p : ℕ) (e : Event) (ts : List Task) (x : Outside)
     → Does c most (at n (Take p e ∷ ts)) Done x x
 unfolding call_of
-steps-does c most n p e ts x = record { link = refl; sink = refl; source = refl }
+steps-does c most n p e ts x = record { link = refl; sink = refl; source = refl; service = asks-none c n.now (Steps p e) Done x.service refl }
 
 abbrev stepped : Cast → Node → ℕ → Event → List Task → Option EventFault → Node
 stepped c n p e ts verdict = changed c (at n (Take p e ∷ ts)) [] ts (after_step c (at n (Take p e ∷ ts)) p e verdict)
@@ -81,7 +82,11 @@ full-so c snap n p e ts is full =
 pub appends-does : (c : Cast) (most : ℕ) (n : Node) (p : ℕ) (e : Event) (ts : List Task) (x : Outside)
     → Does c most (at n (Append p e ∷ ts)) Done x x × Does c most (at n (Append p e ∷ ts)) Failed x x
 unfolding call_of
-appends-does c most n p e ts x = (record { link = refl; sink = refl; source = refl }, record { link = refl; sink = refl; source = refl })
+appends-does c most n p e ts x =
+    let call : Call = Appends (entry_for c (n.now p) e) in (
+      record { link = refl; sink = refl; source = refl; service = asks-none c n.now call Done x.service refl },
+      record { link = refl; sink = refl; source = refl; service = asks-none c n.now call Failed x.service refl },
+    )
 
 pub appended-so : (c : Cast) (snap : Snapper) (n : Node) (p : ℕ) (e : Event) (ts : List Task)
     → letting c n p e ts ≡ answered c snap (at n (Append p e ∷ ts)) Done

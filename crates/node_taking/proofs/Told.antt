@@ -1,5 +1,5 @@
 -- What goes out of a turn and is written, in the node's words.
-use Rattle.std.proofs.Common.{◌≡◌, ℕ, List, [], ◌∷◌, ◌++◌, Result, Err, refl, sym, subst, ◌∙◌}
+use Rattle.std.proofs.Common.{◌≡◌, ℕ, List, [], ◌∷◌, ◌++◌, Result, Err, refl, sym, ap, subst, ◌∙◌}
 use Rattle.std.specs.Prelude.{flat_map, zip}
 use Rattle.std.specs.List.{AllZip}
 use Rattle.std.proofs.lemmas.List.{append-nil}
@@ -9,6 +9,7 @@ use Rattle.node_defs.specs.Lines.{NoMemory, WriteFailed}
 use Rattle.node_defs.specs.Nodes.{Node, Task, Flush, Leaving, Sends, Tells, Answer, Done, Failed, Snapper, answered, asks, leaving_of, run}
 use Rattle.node_traces.specs.Ways.{Through}
 use Rattle.node_traces.specs.Outside.{LinkSeen, LinkAnswered, SinkSeen, SinkAnswered, SinkWrote, SinkFailed, SourceSeen, SourceAnswered}
+use Rattle.node_traces.specs.Service.{Asked, hears}
 use Rattle.node_traces.specs.Goes.{Goes}
 use Rattle.node_traces.proofs.Going.{parts_go_on}
 use Rattle.letting_laws.specs.Letting.{Fits, asked, edge, failed_by, told_by, HasBegun, LetOut, LetsFirstOut}
@@ -19,7 +20,7 @@ use Rattle.node_taking.specs.Taking.{outside}
 use Rattle.node_taking.specs.Keeping.{at, grown, letting}
 use Rattle.node_taking.specs.Telling.{Tells as Told, TellsTurn}
 use Rattle.node_taking.proofs.Machine.{answers}
-use Rattle.node_taking.proofs.Lines.{asks-nobody, flush-failed, flushed-so, flushes-does, with_lines}
+use Rattle.node_taking.proofs.Lines.{flush-failed, flushed-so, flushes-does, with_lines}
 use Rattle.node_taking.proofs.Ends.{Ends, ends-after, forgets}
 
 sink-still : (c : Cast) (ls : List Leaving) (ws : List Answer) (s : SinkSeen) → AllZip Fits ls ws → SinkAnswered s (asked c ls ws) s
@@ -41,18 +42,19 @@ source-still c most (Tells p note ∷ ls) (a ∷ ws) o each = (o, refl, source-s
 
 -- the first of it goes out
 lets-first : (c : Cast) (snap : Snapper) (most : ℕ) (n k : Node) (first others : List Leaving) (ws : List Answer) (l m : LinkSeen) (s : SinkSeen)
-    (o : SourceSeen) → LetsFirstOut c snap n first others ws → AllZip Fits first ws → LinkAnswered l (asked c first ws) m
-    → k ≡ run c snap n ws → Goes c snap most n (outside l s o) k (outside m s o)
-lets-first c snap most n k first others ws l m s o law each link is = record {
+    (o : SourceSeen) (h g : List Asked) → LetsFirstOut c snap n first others ws → AllZip Fits first ws → LinkAnswered l (asked c first ws) m
+    → g ≡ h ++ hears c n.now (asked c first ws) → k ≡ run c snap n ws → Goes c snap most n (outside l s o h) k (outside m s o g)
+lets-first c snap most n k first others ws l m s o h g law each link heard is = record {
   answers = ws;
   becomes = is;
   link = subst (λ cs. LinkAnswered l cs m) (sym law.calls_are) link;
   sink = subst (λ cs. SinkAnswered s cs s) (sym law.calls_are) (sink-still c first ws s each);
   source = subst (λ cs. SourceAnswered most o cs o) (sym law.calls_are) (source-still c most first ws o each);
+  service = heard ∙ ap (λ (more : List Asked). h ++ more) (sym law.asked_are);
 }
 
 module _ (c : Cast) (snap : Snapper) (most : ℕ) (n : Node) (p : ℕ) (e : Event) (ts : List Task) (k l : LinkSeen) (s t : SinkSeen)
-    (o : SourceSeen) where
+    (o : SourceSeen) (h g : List Asked) where
   -- what goes out of the turn, and the tasks after it
   abbrev out : List Leaving
   out = leaving_of p (outcome_of c (n.now p) e)
@@ -61,45 +63,47 @@ module _ (c : Cast) (snap : Snapper) (most : ℕ) (n : Node) (p : ℕ) (e : Even
   others = asks p e (outcome_of c (n.now p) e).notes ++ ts
 
   -- all of it goes out
-  lets-out : (text late : List ℕ) → LetOut c out (edge k [] []) (edge l text late)
-      → Goes c snap most (letting c n p e ts) (outside k s o) (with_lines (at (grown c n p e) (Flush ∷ others)) text late) (outside l s o)
+  lets-out : (text late : List ℕ) → LetOut c (grown c n p e).now out (edge k [] [] h) (edge l text late g)
+      → Goes c snap most (letting c n p e ts) (outside k s o h) (with_lines (at (grown c n p e) (Flush ∷ others)) text late) (outside l s o g)
   lets-out text late lets =
       let law = each_lets_out c snap (letting c n p e ts) out [] lets.answers
       (record { runs = refl; ready = refl; leaving = sym (append-nil out) }) lets.each in
-      lets-first c snap most (letting c n p e ts) (with_lines (at (grown c n p e) (Flush ∷ others)) text late) out [] lets.answers k l s o law lets.each
-      lets.link ((λ i. with_lines (at (grown c n p e) (Flush ∷ others)) (lets.text i) (lets.late i)) ∙ sym law.run_is)
+      lets-first c snap most (letting c n p e ts) (with_lines (at (grown c n p e) (Flush ∷ others)) text late) out [] lets.answers k l s o h g law
+      lets.each lets.link lets.service
+      ((λ i. with_lines (at (grown c n p e) (Flush ∷ others)) (lets.text i) (lets.late i)) ∙ sym law.run_is)
 
   -- and is written
-  pub tells-on : Told c out k l (SinkWrote s t) → Goes c snap most (letting c n p e ts) (outside k s o) (at (grown c n p e) ts) (outside l t o)
+  pub tells-on : Told c (grown c n p e).now out k l h g (SinkWrote s t)
+      → Goes c snap most (letting c n p e ts) (outside k s o h) (at (grown c n p e) others) (outside l t o g)
   tells-on told =
       let m : Node = with_lines (at (grown c n p e) (Flush ∷ others)) told.out.text told.out.late in
-      parts_go_on c snap most (letting c n p e ts) m (at (grown c n p e) ts) (outside k s o) (outside l s o) (outside l t o)
+      parts_go_on c snap most (letting c n p e ts) m (at (grown c n p e) others) (outside k s o h) (outside l s o g) (outside l t o g)
       (lets-out told.out.text told.out.late told.out.out)
-      (parts_go_on c snap most m (at (grown c n p e) others) (at (grown c n p e) ts) (outside l s o) (outside l t o) (outside l t o)
-      (answers c snap most m (at (grown c n p e) others) Done (outside l s o) (outside l t o)
+      (answers c snap most m (at (grown c n p e) others) Done (outside l s o g) (outside l t o g)
       (flushed-so c snap (grown c n p e) told.out.text told.out.late others)
-      (flushes-does c most (grown c n p e) told.out.text told.out.late others Done l s t o (subst (SinkWrote s t) told.out.whole told.wrote)))
-      (asks-nobody c snap most (grown c n p e) p e (outcome_of c (n.now p) e).notes ts (outside l t o)))
+      (flushes-does c most (grown c n p e) told.out.text told.out.late others Done l s t o g (subst (SinkWrote s t) told.out.whole told.wrote)))
 
   -- the output failed
-  write-failed : Told c out k l (SinkFailed s t)
-      → Ends c snap most (letting c n p e ts) (outside k s o) WriteFailed (outside l t o) (grown c n p e).kept
+  write-failed : Told c (grown c n p e).now out k l h g (SinkFailed s t)
+      → Ends c snap most (letting c n p e ts) (outside k s o h) WriteFailed (outside l t o g) (grown c n p e).kept
   write-failed told =
       let m : Node = with_lines (at (grown c n p e) (Flush ∷ others)) told.out.text told.out.late in
       let last : Node = answered c snap m Failed in
       let ends = flush-failed c snap (grown c n p e) told.out.text told.out.late others in
-      ends-after c snap most (letting c n p e ts) m (outside k s o) (outside l s o) (outside l t o) WriteFailed (grown c n p e).kept
+      ends-after c snap most (letting c n p e ts) m (outside k s o h) (outside l s o g) (outside l t o g) WriteFailed (grown c n p e).kept
       (lets-out told.out.text told.out.late told.out.out)
       (record {
         last = last;
         stops = ends.0;
         keeps = ends.1;
-        goes = answers c snap most m last Failed (outside l s o) (outside l t o) refl
-            (flushes-does c most (grown c n p e) told.out.text told.out.late others Failed l s t o (subst (SinkFailed s t) told.out.whole told.wrote));
+        goes = answers c snap most m last Failed (outside l s o g) (outside l t o g) refl
+            (flushes-does c most (grown c n p e) told.out.text told.out.late others Failed l s t o g
+            (subst (SinkFailed s t) told.out.whole told.wrote));
       })
 
   -- memory ran out, after the first of it
-  forgets-after : HasBegun c out k l → Ends c snap most (letting c n p e ts) (outside k s o) NoMemory (outside l s o) (grown c n p e).kept
+  forgets-after : HasBegun c (grown c n p e).now out k h l g
+      → Ends c snap most (letting c n p e ts) (outside k s o h) NoMemory (outside l s o g) (grown c n p e).kept
   forgets-after some =
       let law = each_lets_out c snap (letting c n p e ts) some.first some.others some.answers
       (record { runs = refl; ready = refl; leaving = some.splits }) some.each in
@@ -108,14 +112,15 @@ module _ (c : Cast) (snap : Snapper) (most : ℕ) (n : Node) (p : ℕ) (e : Even
         text = flat_map told_by (zip some.first some.answers);
         late = flat_map failed_by (zip some.first some.answers);
       } in
-      ends-after c snap most (letting c n p e ts) m (outside k s o) (outside l s o) (outside l s o) NoMemory (grown c n p e).kept
-      (lets-first c snap most (letting c n p e ts) m some.first some.others some.answers k l s o law some.each some.link (sym law.run_is))
-      (forgets c snap most m (outside l s o) refl)
+      ends-after c snap most (letting c n p e ts) m (outside k s o h) (outside l s o g) (outside l s o g) NoMemory (grown c n p e).kept
+      (lets-first c snap most (letting c n p e ts) m some.first some.others some.answers k l s o h g law some.each some.link some.service
+      (sym law.run_is))
+      (forgets c snap most m (outside l s o g) refl)
 
-  pub tells-stops : (T : Type 0) (why : Why) → TellsTurn (let r : Result T Why = Err why in r) c out k l s t
-      → Ends c snap most (letting c n p e ts) (outside k s o) (stop_of why) (outside l t o) (grown c n p e).kept
+  pub tells-stops : (T : Type 0) (why : Why) → TellsTurn (let r : Result T Why = Err why in r) c (grown c n p e).now out k l h g s t
+      → Ends c snap most (letting c n p e ts) (outside k s o h) (stop_of why) (outside l t o g) (grown c n p e).kept
   tells-stops T whys.NoMemory so =
-      subst (λ (z : SinkSeen). Ends c snap most (letting c n p e ts) (outside k s o) NoMemory (outside l z o) (grown c n p e).kept) so.1
+      subst (λ (z : SinkSeen). Ends c snap most (letting c n p e ts) (outside k s o h) NoMemory (outside l z o g) (grown c n p e).kept) so.1
       (forgets-after so.0)
   tells-stops T whys.WriteFailed so = write-failed so
   tells-stops T _ bad = absurd bad

@@ -1,5 +1,5 @@
 -- One event, from the node at it to the node at its other tasks, or to its stop.
-use Rattle.std.proofs.Common.{◌≡◌, ℕ, List, [], ◌∷◌, Option, None, Some, refl, sym, subst, ◌∙◌}
+use Rattle.std.proofs.Common.{◌≡◌, ℕ, List, [], ◌∷◌, ◌++◌, Option, None, Some, refl, sym, subst, ◌∙◌}
 use Rattle.group_defs.specs.Events.{EventFault, refusal}
 use Rattle.journal_defs.specs.Entries.{Event}
 use Rattle.journal_rp.specs.declared.journal.Journal.{Journal}
@@ -8,8 +8,9 @@ use Rattle.node_opening.proofs.Laws.{verdict-is, stays_sound}
 use Rattle.node_defs.specs.Casts.{Cast, from_start, handed, live, outcome_of}
 use Rattle.node_defs.specs.Lines.{Stop, NoMemory, refused_line}
 use Rattle.node_defs.specs.Lives.{Found, IsSound}
-use Rattle.node_defs.specs.Nodes.{Node, Task, Take, Say, Done, Snapper, leaving_of}
+use Rattle.node_defs.specs.Nodes.{Node, Task, Take, Say, Done, Snapper, asks, leaving_of}
 use Rattle.node_traces.specs.Outside.{LinkSeen, SinkSeen, SinkWrote, SourceSeen}
+use Rattle.node_traces.specs.Service.{Asked}
 use Rattle.node_traces.specs.Goes.{Outside, Goes}
 use Rattle.node_traces.specs.Went.{Went}
 use Rattle.node_traces.proofs.Going.{parts_go_on}
@@ -63,70 +64,78 @@ module _ {D : Type 0} (seen : D → Option (List ℕ)) (may_leave : D → List �
 
     -- ---- it was refused
 
-    module _ (fault : EventFault) (l : LinkSeen) (s t : SinkSeen) (o : SourceSeen) (d : D)
+    module _ (fault : EventFault) (l : LinkSeen) (s t : SinkSeen) (o : SourceSeen) (h : List Asked) (d : D)
         (is : IsNode (seen d) (may_leave d) r n (Take p e ∷ ts)) (refused : refusal c.setting (n.now p) (handed e) ≡ Some fault) where
-      refused-first : Goes c snap most (at n (Take p e ∷ ts)) (outside l s o) (at n (Say (refused_line p fault) ∷ ts)) (outside l s o)
-      refused-first = answers c snap most (at n (Take p e ∷ ts)) (at n (Say (refused_line p fault) ∷ ts)) Done (outside l s o) (outside l s o)
+      refused-first : Goes c snap most (at n (Take p e ∷ ts)) (outside l s o h) (at n (Say (refused_line p fault) ∷ ts)) (outside l s o h)
+      refused-first = answers c snap most (at n (Take p e ∷ ts)) (at n (Say (refused_line p fault) ∷ ts)) Done (outside l s o h) (outside l s o h)
           (refused-so c snap n p e ts fault (verdict-is c.setting (n.now p) (live c (n.now p) e) ∙ refused))
-          (steps-does c most n p e ts (outside l s o))
+          (steps-does c most n p e ts (outside l s o h))
 
       pub refused-on : (r' : Running) → cast_in r' ≡ c → AreHosts c r'.kit.now n.now None r'.hosts
           → IsJournalOf c n r'.journal (seen d) (may_leave d) → SinkWrote s t (refused_line p fault)
-          → GoesOnTo seen may_leave moment left_since c snap most f n (outside l s o) d ts (outside l t o) d r'
+          → GoesOnTo seen may_leave moment left_since c snap most f n (outside l s o h) d ts (outside l t o h) d r'
       refused-on r' same hosts journal wrote =
-          let whole = parts_go_on c snap most (at n (Take p e ∷ ts)) (at n (Say (refused_line p fault) ∷ ts)) (at n ts) (outside l s o)
-          (outside l s o) (outside l t o) refused-first (says-on c snap most n (refused_line p fault) ts l s t o wrote) in
-          let went = subst (λ (m : Node). Went seen moment left_since c snap most f m (outside l s o) d (at n ts) (outside l t o) d)
+          let whole = parts_go_on c snap most (at n (Take p e ∷ ts)) (at n (Say (refused_line p fault) ∷ ts)) (at n ts) (outside l s o h)
+          (outside l s o h) (outside l t o h) refused-first (says-on c snap most n (refused_line p fault) ts l s t o h wrote) in
+          let went = subst (λ (m : Node). Went seen moment left_since c snap most f m (outside l s o h) d (at n ts) (outside l t o h) d)
           (sym (at-so n (Take p e ∷ ts) is.at))
-          (still seen may_leave moment left_since only_now c snap most f (at n (Take p e ∷ ts)) (at n ts) (outside l s o) (outside l t o) d
+          (still seen may_leave moment left_since only_now c snap most f (at n (Take p e ∷ ts)) (at n ts) (outside l s o h) (outside l t o h) d
           refl is.journal.rest whole) in
           record {
             node = at n ts;
             went = went;
             is = is-now r r' (seen d) (may_leave d) n ts same hosts journal
-                (sound-on c snap most n (at n ts) (outside l s o) (outside l t o) went.goes is.sound);
+                (sound-on c snap most n (at n ts) (outside l s o h) (outside l t o h) went.goes is.sound);
             cast = same;
             lines = refl;
             script = refl;
           }
 
-      pub refused-stops : (why : Stop) → Ends c snap most (at n (Say (refused_line p fault) ∷ ts)) (outside l s o) why (outside l t o) n.kept
-          → StopsSo seen may_leave moment left_since c snap most f n (outside l s o) d why (outside l t o) d
+      pub refused-stops : (why : Stop) → Ends c snap most (at n (Say (refused_line p fault) ∷ ts)) (outside l s o h) why (outside l t o h) n.kept
+          → StopsSo seen may_leave moment left_since c snap most f n (outside l s o h) d why (outside l t o h) d
       refused-stops why ends =
           let m : Node = at n (Say (refused_line p fault) ∷ ts) in
-          subst (λ (k : Node). StopsSo seen may_leave moment left_since c snap most f k (outside l s o) d why (outside l t o) d)
+          subst (λ (k : Node). StopsSo seen may_leave moment left_since c snap most f k (outside l s o h) d why (outside l t o h) d)
           (sym (at-so n (Take p e ∷ ts) is.at))
-          (stops-after seen may_leave moment left_since only_now c snap most f (at n (Take p e ∷ ts)) m (outside l s o) (outside l s o) (outside l t o) d d d why
-          (still seen may_leave moment left_since only_now c snap most f (at n (Take p e ∷ ts)) m (outside l s o) (outside l s o) d refl
+          (stops-after seen may_leave moment left_since only_now c snap most f (at n (Take p e ∷ ts)) m (outside l s o h) (outside l s o h) (outside l t o h) d d d why
+          (still seen may_leave moment left_since only_now c snap most f (at n (Take p e ∷ ts)) m (outside l s o h) (outside l s o h) d refl
           is.journal.rest refused-first)
-          (ends-still c m (outside l s o) (outside l t o) d why refl is.journal.rest ends))
+          (ends-still c m (outside l s o h) (outside l t o h) d why refl is.journal.rest ends))
 
     -- ---- it was taken
 
-    module _ (k l : LinkSeen) (s t : SinkSeen) (o : SourceSeen) (old new : D) (is : IsNode (seen old) (may_leave old) r n (Take p e ∷ ts)) where
-      pub taken-on : (r' : Running) → cast_in r' ≡ c → AreHosts c r'.kit.now (grown c n p e).now None r'.hosts
-          → Keeps seen may_leave moment left_since c snap most f n p e ts (outside k s o) old new r'.journal
-          → Tells c (leaving_of p (outcome_of c (n.now p) e)) k l (SinkWrote s t)
-          → GoesOnTo seen may_leave moment left_since c snap most f n (outside k s o) old ts (outside l t o) new r'
-      taken-on r' same hosts keeps tells =
-          let went = went_on seen moment left_since c snap most f n (letting c n p e ts) (at (grown c n p e) ts) (outside k s o) (outside k s o)
-          (outside l t o) old new new keeps.went
-          (still seen may_leave moment left_since only_now c snap most f (letting c n p e ts) (at (grown c n p e) ts) (outside k s o)
-          (outside l t o) new refl keeps.journal.rest (tells-on c snap most n p e ts k l s t o tells)) in
-          record {
-            node = at (grown c n p e) ts;
+    module _ (k l : LinkSeen) (s t : SinkSeen) (o : SourceSeen) (h g : List Asked) (old new : D)
+        (is : IsNode (seen old) (may_leave old) r n (Take p e ∷ ts)) where
+      -- the service is asked whom to suspect, before the other tasks
+      abbrev others : List Task
+      others = asks p e (outcome_of c (n.now p) e).notes ++ ts
+
+      pub taken-on : (r' : Running) (us : List Task) → us ≡ others → cast_in r' ≡ c → AreHosts c r'.kit.now (grown c n p e).now None r'.hosts
+          → Keeps seen may_leave moment left_since c snap most f n p e ts (outside k s o h) old new r'.journal
+          → Tells c (grown c n p e).now (leaving_of p (outcome_of c (n.now p) e)) k l h g (SinkWrote s t)
+          → GoesOnTo seen may_leave moment left_since c snap most f n (outside k s o h) old us (outside l t o g) new r'
+      taken-on r' us left same hosts keeps tells =
+          let went = went_on seen moment left_since c snap most f n (letting c n p e ts) (at (grown c n p e) others) (outside k s o h)
+          (outside k s o h) (outside l t o g) old new new keeps.went
+          (still seen may_leave moment left_since only_now c snap most f (letting c n p e ts) (at (grown c n p e) others) (outside k s o h)
+          (outside l t o g) new refl keeps.journal.rest (tells-on c snap most n p e ts k l s t o h g tells)) in
+          let goes : GoesOnTo seen may_leave moment left_since c snap most f n (outside k s o h) old others (outside l t o g) new r' = record {
+            node = at (grown c n p e) others;
             went = went;
-            is = is-now r r' (seen new) (may_leave new) (grown c n p e) ts same hosts keeps.journal
-                (sound-on c snap most n (at (grown c n p e) ts) (outside k s o) (outside l t o) went.goes is.sound);
+            is = is-now r r' (seen new) (may_leave new) (grown c n p e) others same hosts keeps.journal
+                (sound-on c snap most n (at (grown c n p e) others) (outside k s o h) (outside l t o g) went.goes is.sound);
             cast = same;
             lines = refl;
             script = refl;
-          }
+          } in
+          subst (λ (vs : List Task). GoesOnTo seen may_leave moment left_since c snap most f n (outside k s o h) old vs (outside l t o g) new r')
+          (sym left) goes
 
       pub taken-stops : (journal : Journal Writing) (why : Stop)
-          → Keeps seen may_leave moment left_since c snap most f n p e ts (outside k s o) old new journal
-          → Ends c snap most (letting c n p e ts) (outside k s o) why (outside l t o) (grown c n p e).kept
-          → StopsSo seen may_leave moment left_since c snap most f n (outside k s o) old why (outside l t o) new
+          → Keeps seen may_leave moment left_since c snap most f n p e ts (outside k s o h) old new journal
+          → Ends c snap most (letting c n p e ts) (outside k s o h) why (outside l t o g) (grown c n p e).kept
+          → StopsSo seen may_leave moment left_since c snap most f n (outside k s o h) old why (outside l t o g) new
       taken-stops journal why keeps ends =
-          stops-after seen may_leave moment left_since only_now c snap most f n (letting c n p e ts) (outside k s o) (outside k s o) (outside l t o) old new new why keeps.went
-          (ends-still c (letting c n p e ts) (outside k s o) (outside l t o) new why refl keeps.journal.rest ends)
+          stops-after seen may_leave moment left_since only_now c snap most f n (letting c n p e ts) (outside k s o h) (outside k s o h)
+          (outside l t o g) old new new why keeps.went
+          (ends-still c (letting c n p e ts) (outside k s o h) (outside l t o g) new why refl keeps.journal.rest ends)

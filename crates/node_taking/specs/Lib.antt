@@ -1,3 +1,4 @@
+pub mod Asking
 pub mod Events
 pub mod Hosts
 pub mod Keeping
@@ -6,3 +7,4 @@ pub mod Stops
 pub mod Taking
 pub mod Telling
 pub mod Turns
+pub mod Service

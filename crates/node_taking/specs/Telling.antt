@@ -1,8 +1,10 @@
 -- What was let out and written, by what a call of the code answered.
 use Rattle.std.specs.Prelude.{◌≡◌, ℕ, List, [], Result, Ok, Err}
+use Rattle.group_defs.specs.Process.{Process}
 use Rattle.node_defs.specs.Casts.{Cast}
 use Rattle.node_defs.specs.Nodes.{Leaving}
 use Rattle.node_traces.specs.Outside.{LinkSeen, SinkSeen, SinkWrote, SinkFailed}
+use Rattle.node_traces.specs.Service.{Asked}
 use Rattle.letting_laws.specs.Letting.{HasBegun}
 use Rattle.sealing_laws.specs.Letters.{LetsTurnOut}
 use Rattle.node_opening.specs.Stops.{Stop, NoMemory, WriteFailed}
@@ -15,14 +17,15 @@ Says (Err NoMemory) text old new = old ≡ new
 Says (Err _) text old new = ⊥
 
 -- a turn was let out, with this text; and the text was written, or the output failed, which took a front of it
-pub record Tells (c : Cast) (ls : List Leaving) (k l : LinkSeen) (Wrote : List ℕ → Type 0) : Type 0 where
+pub record Tells (c : Cast) (at : ℕ → Process) (ls : List Leaving) (k l : LinkSeen) (h i : List Asked) (Wrote : List ℕ → Type 0) : Type 0 where
   pub text : List ℕ
-  pub out : LetsTurnOut c ls k l [] text
+  pub out : LetsTurnOut c at ls k l h i [] text
   pub wrote : Wrote text
 
 -- all of it was let out and written; or the output failed; or memory ran out, after the first of it
-abbrev pub TellsTurn : {T : Type 0} → Result T Stop → Cast → List Leaving → LinkSeen → LinkSeen → SinkSeen → SinkSeen → Type 0
-TellsTurn (Ok x) c ls k l old new = Tells c ls k l (SinkWrote old new)
-TellsTurn (Err WriteFailed) c ls k l old new = Tells c ls k l (SinkFailed old new)
-TellsTurn (Err NoMemory) c ls k l old new = HasBegun c ls k l × (old ≡ new)
-TellsTurn (Err _) c ls k l old new = ⊥
+abbrev pub TellsTurn : {T : Type 0} → Result T Stop → Cast → (ℕ → Process) → List Leaving → LinkSeen → LinkSeen → List Asked → List Asked
+    → SinkSeen → SinkSeen → Type 0
+TellsTurn (Ok x) c at ls k l h i old new = Tells c at ls k l h i (SinkWrote old new)
+TellsTurn (Err WriteFailed) c at ls k l h i old new = Tells c at ls k l h i (SinkFailed old new)
+TellsTurn (Err NoMemory) c at ls k l h i old new = HasBegun c at ls k h l i × (old ≡ new)
+TellsTurn (Err _) c at ls k l h i old new = ⊥

@@ -1,20 +1,23 @@
 //! What goes out of a turn, and the lines of it.
-ghost use Rattle.std.specs.Prelude.{◌≡◌, ◌≤◌, length, All, IfSome};
+ghost use Rattle.std.specs.Prelude.{◌≡◌, ◌≤◌, ℕ, List, length, All, IfSome};
+ghost use Rattle.group_defs.specs.Process.{Process};
 ghost use Rattle.group_defs.specs.Events.{Outcome};
 ghost use Rattle.journal_defs.specs.declared.Version.{Version};
-ghost use Rattle.journal_rp.specs.Turns.{outcome_of, staged_of};
+ghost use Rattle.journal_rp.specs.Turns.{outcome_of, process_of, staged_of};
 ghost use Rattle.auth_link.specs.Keys.{known};
 ghost use Rattle.node_defs.specs.Casts.{cast_of, known_of};
-ghost use Rattle.node_defs.specs.Lines.{refused_line};
+ghost use Rattle.node_defs.specs.Lines.{expel_line, refused_line};
 ghost use Rattle.node_defs.specs.Nodes.{leaving_of};
 ghost use Rattle.node_traces.specs.Seen.{link_seen, sink_seen};
-ghost use Rattle.node_opening.specs.Hosts.{IsOutcome, fault as fault_of};
+ghost use Rattle.node_traces.specs.Service.{Asked, HeardBy};
+ghost use Rattle.node_opening.specs.Hosts.{IsHosted, IsOutcome, fault as fault_of};
 ghost use Rattle.sealing_laws.specs.Letters.{IsLast, IsSealable, letters_in};
+ghost use Rattle.node_taking.specs.Taking.{HasDiskCause};
 ghost use Rattle.node_taking.specs.Telling.{Says, TellsTurn};
 
 use crate::stepping::Away;
 use journal_rp::Synced;
-use node_opening::{EventFault, Kit, Stop, push_refused};
+use node_opening::{EventFault, Kit, Service, Stop, push_expel, push_refused};
 use rp_base::{Disk, Failed, Link, Pid, Sink, write_all};
 use sealing_laws::{Speaker, let_out};
 use std::alloc::Global;
@@ -50,11 +53,29 @@ pub(crate) fn say_refused<K: Sink>(
     say(output, line.as_slice())
 }
 
-/// Lets out what a turn sends and tells, once its entry is in the journal for good, and writes its lines in one write.
+/// Writes that this process is to suspect that one, on evidence.
+///
+/// # Errors
+/// `NoMemory` for the line, and `WriteFailed`.
+pub(crate) fn say_expel<K: Sink>(
+    alloc: Global,
+    me: Pid,
+    other: Pid,
+    output: &mut K,
+) -> Result<(), Stop>
+    ensures { Says result (expel_line me other) (sink_seen K.written K.faults output.old) (sink_seen K.written K.faults output.new) }
+{
+    let mut line = Vec::new(alloc);
+    push_expel(&mut line, me, other)?;
+    say(output, line.as_slice())
+}
+
+/// Lets out what a turn sends and tells, once its entry is in the journal for good, and writes its lines and those of the service in one
+/// write.
 ///
 /// # Errors
 /// `NoMemory` for a line, where the first of it went out, and `WriteFailed`.
-pub(crate) fn tell<D: Disk, L: Link, K: Sink>(
+pub(crate) fn tell<D: Disk, L: Link, K: Sink, V: Service>(
     alloc: Global,
     kit: &Kit,
     me: Pid,
@@ -63,14 +84,18 @@ pub(crate) fn tell<D: Disk, L: Link, K: Sink>(
     link: &mut L,
     output: &mut K,
     room: &mut [u8],
+    service: &mut V,
 ) -> Result<(), Stop>
     requires keys { known away.now.keys ≡ known_of kit.now me }
     requires kept { IfSome (D.seen disk.now) (λ file. IsLast (D.seen disk.now) (D.may_leave disk.now) (staged_of away.now.turn)) }
     requires sealable { All (IsSealable kit.now me) (letters_in (outcome_of away.now.turn).sends.items) }
     requires room { 61054 ≤ length room.old }
-    ensures { (version : Version) (o : Outcome) → IsOutcome o (outcome_of away.now.turn)
-        → TellsTurn result (cast_of kit.now version) (leaving_of me o) (link_seen L.sent L.coming L.faults link.old)
-        (link_seen L.sent L.coming L.faults link.new) (sink_seen K.written K.faults output.old) (sink_seen K.written K.faults output.new) }
+    ensures told { (version : Version) (o : Outcome) (at : ℕ → Process) (h : List Asked) → IsOutcome o (outcome_of away.now.turn)
+        → V.heard service.old h → IsHosted (cast_of kit.now version) me (at me) (process_of away.now.turn)
+        → HeardBy V.heard service.new (λ i. TellsTurn result (cast_of kit.now version) at (leaving_of me o)
+        (link_seen L.sent L.coming L.faults link.old) (link_seen L.sent L.coming L.faults link.new) h i
+        (sink_seen K.written K.faults output.old) (sink_seen K.written K.faults output.new)) }
+    ensures cause { HasDiskCause (D.faults disk.now) (D.faults disk.now) result }
 {
     let speaker = Speaker {
         me,
@@ -78,7 +103,9 @@ pub(crate) fn tell<D: Disk, L: Link, K: Sink>(
         keys: &away.keys,
     };
     let mut text = Vec::new(alloc);
-    let out = let_out(alloc, &away.turn, &speaker, disk, link, room, &mut text);
+    let out = let_out(
+        alloc, &away.turn, &speaker, disk, link, room, &mut text, service,
+    );
 
     // A speaker is not let go, but taken apart.
     let Speaker {

@@ -1,7 +1,7 @@
 //! Kits, lines and journals that are none.
 use crate::data::{HOSTS, SCRIPT, TREES};
 use crate::runs::{answered, disk_of, joined};
-use node_loop::host;
+use node_loop::{NoService, host};
 use rp_base::{MemSink, MemSource, NoDisk, NoLink, NoMemory};
 use rp_devices::MemLink;
 use std::alloc::Global;
@@ -21,6 +21,7 @@ fn is_told(alloc: Global, parts: &[&[&[u8]]], told: &[u8]) -> Result<bool, NoMem
         &mut sink,
         &mut NoDisk::new(),
         &mut NoLink::new(),
+        &mut NoService,
     );
     Ok(status == 7 && sink.bytes() == told)
 }

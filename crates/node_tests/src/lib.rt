@@ -8,4 +8,6 @@ mod faults;
 #[cfg(test)]
 mod runs;
 #[cfg(test)]
+mod services;
+#[cfg(test)]
 mod stops;

@@ -1,6 +1,6 @@
 //! Runs in which nothing stops the node before its input ends.
 use crate::data::{AGAIN, DATAGRAMS, DELIVERED, HOSTS, KIT, SCRIPT};
-use node_loop::host;
+use node_loop::{NoService, host};
 use rp_base::{Link, MemSink, MemSource, NoMemory};
 use rp_devices::{MemDisk, MemLink};
 use std::alloc::Global;
@@ -22,7 +22,7 @@ pub fn answered(
     input.extend_from_slice(script)?;
     let mut source = MemSource::new(input, Vec::new(alloc));
     let mut sink = MemSink::new(alloc, Vec::new(alloc));
-    let status = host(alloc, &mut source, &mut sink, disk, link);
+    let status = host(alloc, &mut source, &mut sink, disk, link, &mut NoService);
     Ok((status, sink))
 }
 

@@ -1,7 +1,7 @@
 //! Calls that fail, and stops at each call of the disk.
 use crate::data::{AGAIN, HOSTS, KIT, SCRIPT};
 use crate::runs::{answered, disk_of, joined};
-use node_loop::host;
+use node_loop::{NoService, host};
 use rp_base::{MemSink, MemSource, NoMemory};
 use rp_devices::{Left, MemDisk, MemLink};
 use std::alloc::Global;
@@ -128,7 +128,14 @@ fn a_failed_stream_ends_the_node(rt: HostRuntime) -> Result<(), Fail> {
         let mut sink = MemSink::new(alloc, writes);
         let mut disk = disk_of(alloc, b"")?;
         let mut link = MemLink::new(alloc, Vec::new(alloc));
-        let status = host(alloc, &mut source, &mut sink, &mut disk, &mut link);
+        let status = host(
+            alloc,
+            &mut source,
+            &mut sink,
+            &mut disk,
+            &mut link,
+            &mut NoService,
+        );
         assert_eq!(rt; status, ended);
         assert_eq!(rt; sink.bytes(), written);
     }

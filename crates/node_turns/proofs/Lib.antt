@@ -1,2 +1,4 @@
+pub mod Handed
 pub mod Sent
+pub mod Told
 pub mod Turned

@@ -4,6 +4,7 @@ use Rattle.std.specs.Prelude.{Result, Ok, Err, OnOk, OnErr, IsSome, IfSome, All,
 use Rattle.std.specs.Option.{option_map_or}
 use Rattle.std.proofs.lemmas.Grind.{flat_map-append}
 use Rattle.std.proofs.lemmas.List.{append-nil, append_assoc, map-append, take_all, take_more, take-append-drop}
+use Rattle.group_defs.specs.Process.{Process}
 use Rattle.pool_laws.proofs.Members.{Mem, All-mem, mem-All, mem-map, mem-behind, mem-flat_map, index-mem}
 use Rattle.stmt_codec.specs.declared.events.Sending.{Sending}
 use Rattle.node_text.specs.Outcomes.{frame_to}
@@ -16,12 +17,12 @@ use Rattle.auth_link.specs.Opening.{sent_by}
 use Rattle.kit_defs.specs.Kits.{Kit}
 use Rattle.journal_defs.specs.declared.Version.{Version}
 use Rattle.node_defs.specs.Casts.{Cast, cast_of, datagram, known_of, pair_of}
-use Rattle.node_defs.specs.Lines.{fault_line}
 use Rattle.node_defs.specs.Nodes.{Sends, SendsTo, Answer}
 use Rattle.node_traces.specs.Outside.{LinkSeen, LinkStep}
+use Rattle.node_traces.specs.Service.{Asked}
 use Rattle.letting_laws.specs.Letting.{Edge, edge, LetOut, HasBegun}
 use Rattle.node_turns.specs.Letters.{letters_to, letters_in, sends_of, IsSealable, answer_of}
-use Rattle.letting_laws.proofs.Joined.{let-nothing, let-both, sent-one, failed-one, begun-with, begun-after, begun-front}
+use Rattle.letting_laws.proofs.Joined.{let-nothing, let-both, begun-after, begun-front}
 
 -- ---- one letter
 
@@ -61,31 +62,9 @@ letter-sent kit version me to frame bytes port result k l port_is sealed_is step
     subst (λ (p : ℕ). LinkStep k (SendsTo p ((cast_of kit version).seal me to frame), answer_of result) l) port_is
     (subst (λ (b : List ℕ). LinkStep k (SendsTo port b, answer_of result) l) sealed_is step)
 
-pub on-ok : {T E P Q : Type 0} (r : Result T E) → (P → Q) → OnOk r P → OnOk r Q
-on-ok (Ok x) f p = f p
-on-ok (Err e) f p = tt
-
 pub on-err : {T E Q : Type 0} (r : Result T E) → Q → OnErr r Q
 on-err (Ok x) q = tt
 on-err (Err e) q = q
-
-pub letter-out : {T E : Type 0} (c : Cast) (me to : ℕ) (frame : List ℕ) (k l : LinkSeen) (late : List ℕ) (r : Result T E) (x : T) → r ≡ Ok x
-    → LinkStep k (SendsTo (c.port to) (c.seal me to frame), answer_of r) l
-    → LetOut c (sends_of me ((to, frame) ∷ [])) (edge k [] late) (edge l [] late)
-letter-out c me to frame k l late r x is step = sent-one c me to frame k l [] late
-    (subst (λ (a : Answer). LinkStep k (SendsTo (c.port to) (c.seal me to frame), a) l) (ap answer_of is) step)
-
-pub letter-failed : {T E : Type 0} (c : Cast) (me to : ℕ) (frame : List ℕ) (k l : LinkSeen) (late new : List ℕ) (r : Result T E) (e : E)
-    → r ≡ Err e → LinkStep k (SendsTo (c.port to) (c.seal me to frame), answer_of r) l → new ≡ late ++ fault_line me
-    → LetOut c (sends_of me ((to, frame) ∷ [])) (edge k [] late) (edge l [] new)
-letter-failed c me to frame k l late new r e is step more = failed-one c me to frame k l [] late new
-    (subst (λ (a : Answer). LinkStep k (SendsTo (c.port to) (c.seal me to frame), a) l) (ap answer_of is) step) more
-
--- whatever becomes of its line, the letter was tried
-pub letter-begun : {T E : Type 0} (c : Cast) (me to : ℕ) (frame : List ℕ) (k l : LinkSeen) (r : Result T E) (e : E) → r ≡ Err e
-    → LinkStep k (SendsTo (c.port to) (c.seal me to frame), answer_of r) l → HasBegun c (sends_of me ((to, frame) ∷ [])) k l
-letter-begun c me to frame k l r e is step = begun-with c (sends_of me ((to, frame) ∷ [])) (edge k [] []) (edge l [] (fault_line me))
-    (letter-failed c me to frame k l [] (fault_line me) r e is step refl)
 
 -- ---- the letters of a frame
 
@@ -96,75 +75,84 @@ sends-append : (me : ℕ) (xs ys : List (ℕ × List ℕ)) → sends_of me (xs +
 sends-append me xs ys = map-append (λ (l : ℕ × List ℕ). Sends me l.0 l.1) xs ys
 
 -- the letters to the first of these processes went out, and those to others are left
-pub record Along (c : Cast) (me : ℕ) (frame : List ℕ) (all left : List ℕ) (e f : Edge) : Type 0 where
+pub record Along (c : Cast) (at : ℕ → Process) (me : ℕ) (frame : List ℕ) (all left : List ℕ) (e f : Edge) : Type 0 where
   pub done : List ℕ
   pub splits : all ≡ done ++ left
-  pub out : LetOut c (sends_of me (to_each frame done)) e f
+  pub out : LetOut c at (sends_of me (to_each frame done)) e f
 
-pub along-begins : (c : Cast) (me : ℕ) (frame all left : List ℕ) (e : Edge) → left ≡ all → Along c me frame all left e e
-along-begins c me frame all left e same = record { done = []; splits = sym same; out = let-nothing c e }
+pub along-begins : (c : Cast) (at : ℕ → Process) (me : ℕ) (frame all left : List ℕ) (e : Edge) → left ≡ all
+    → Along c at me frame all left e e
+along-begins c at me frame all left e same = record { done = []; splits = sym same; out = let-nothing c at e }
 
 one-more : (me : ℕ) (frame done : List ℕ) (q : ℕ)
     → sends_of me (to_each frame done) ++ sends_of me ((q, frame) ∷ []) ≡ sends_of me (to_each frame (done ++ q ∷ []))
 one-more me frame done q = sym (sends-append me (to_each frame done) ((q, frame) ∷ []))
     ∙ ap (sends_of me) (sym (map-append (λ (q : ℕ). (q, frame)) done (q ∷ [])))
 
-pub along-more : (c : Cast) (me : ℕ) (frame all : List ℕ) (q : ℕ) (left : List ℕ) (e f g : Edge) → Along c me frame all (q ∷ left) e f
-    → LetOut c (sends_of me ((q, frame) ∷ [])) f g → Along c me frame all left e g
-along-more c me frame all q left e f g before one = record {
+pub along-more : (c : Cast) (at : ℕ → Process) (me : ℕ) (frame all : List ℕ) (q : ℕ) (left : List ℕ) (e f g : Edge)
+    → Along c at me frame all (q ∷ left) e f
+    → LetOut c at (sends_of me ((q, frame) ∷ [])) f g → Along c at me frame all left e g
+along-more c at me frame all q left e f g before one = record {
   done = before.done ++ q ∷ [];
   splits = before.splits ∙ sym (append_assoc before.done (q ∷ []) left);
-  out = subst (λ ls. LetOut c ls e g) (one-more me frame before.done q)
-      (let-both c (sends_of me (to_each frame before.done)) (sends_of me ((q, frame) ∷ [])) e f g before.out one);
+  out = subst (λ ls. LetOut c at ls e g) (one-more me frame before.done q)
+      (let-both c at (sends_of me (to_each frame before.done)) (sends_of me ((q, frame) ∷ [])) e f g before.out one);
 }
 
-pub along-ended : (c : Cast) (me : ℕ) (frame all left : List ℕ) (e f : Edge) → left ≡ [] → Along c me frame all left e f
-    → LetOut c (sends_of me (to_each frame all)) e f
-along-ended c me frame all left e f none before =
-    subst (λ ps. LetOut c (sends_of me (to_each frame ps)) e f)
+pub along-ended : (c : Cast) (at : ℕ → Process) (me : ℕ) (frame all left : List ℕ) (e f : Edge) → left ≡ []
+    → Along c at me frame all left e f
+    → LetOut c at (sends_of me (to_each frame all)) e f
+along-ended c at me frame all left e f none before =
+    subst (λ ps. LetOut c at (sends_of me (to_each frame ps)) e f)
     (sym (append-nil before.done) ∙ ap (λ ps. before.done ++ ps) (sym none) ∙ sym before.splits) before.out
 
 with-rest : (me : ℕ) (frame all done : List ℕ) (q : ℕ) (left : List ℕ) → all ≡ done ++ q ∷ left
-    → (sends_of me (to_each frame done) ++ sends_of me ((q, frame) ∷ [])) ++ sends_of me (to_each frame left) ≡ sends_of me (to_each frame all)
+    → (sends_of me (to_each frame done) ++ sends_of me ((q, frame) ∷ [])) ++ sends_of me (to_each frame left) ≡ sends_of me
+    (to_each frame all)
 with-rest me frame all done q left splits =
     ap (λ ls. ls ++ sends_of me (to_each frame left)) (one-more me frame done q)
     ∙ sym (sends-append me (to_each frame (done ++ q ∷ [])) (to_each frame left))
     ∙ ap (sends_of me) (sym (map-append (λ (q : ℕ). (q, frame)) (done ++ q ∷ []) left))
     ∙ ap (λ ps. sends_of me (to_each frame ps)) (append_assoc done (q ∷ []) left ∙ sym splits)
 
-pub along-begun : (c : Cast) (me : ℕ) (frame all : List ℕ) (q : ℕ) (left : List ℕ) (e f : Edge) (l : LinkSeen)
-    → Along c me frame all (q ∷ left) e f → HasBegun c (sends_of me ((q, frame) ∷ [])) f.link l
-    → HasBegun c (sends_of me (to_each frame all)) e.link l
-along-begun c me frame all q left e f l before some =
-    subst (λ ls. HasBegun c ls e.link l) (with-rest me frame all before.done q left before.splits)
-    (begun-front c (sends_of me (to_each frame before.done) ++ sends_of me ((q, frame) ∷ [])) (sends_of me (to_each frame left)) e.link l
-    (begun-after c (sends_of me (to_each frame before.done)) (sends_of me ((q, frame) ∷ [])) e f l before.out some))
+pub along-begun : (c : Cast) (at : ℕ → Process) (me : ℕ) (frame all : List ℕ) (q : ℕ) (left : List ℕ) (e f : Edge) (l : LinkSeen)
+    (i : List Asked)
+    → Along c at me frame all (q ∷ left) e f → HasBegun c at (sends_of me ((q, frame) ∷ [])) f.link f.service l i
+    → HasBegun c at (sends_of me (to_each frame all)) e.link e.service l i
+along-begun c at me frame all q left e f l i before some =
+    subst (λ ls. HasBegun c at ls e.link e.service l i) (with-rest me frame all before.done q left before.splits)
+    (begun-front c at (sends_of me (to_each frame before.done) ++ sends_of me ((q, frame) ∷ [])) (sends_of me (to_each frame left)) e.link l
+    e.service i
+    (begun-after c at (sends_of me (to_each frame before.done)) (sends_of me ((q, frame) ∷ [])) e f l i before.out some))
 
-pub next-sealable : (c : Cast) (kit : Kit) (me : ℕ) (frame all : List ℕ) (q : ℕ) (left : List ℕ) (e f : Edge)
-    → Along c me frame all (q ∷ left) e f → All (IsSealable kit me) (to_each frame all) → IsSealable kit me (q, frame)
-next-sealable c kit me frame all q left e f before each = All-mem (IsSealable kit me) (to_each frame all) (q, frame) each
+pub next-sealable : (c : Cast) (at : ℕ → Process) (kit : Kit) (me : ℕ) (frame all : List ℕ) (q : ℕ) (left : List ℕ) (e f : Edge)
+    → Along c at me frame all (q ∷ left) e f → All (IsSealable kit me) (to_each frame all) → IsSealable kit me (q, frame)
+next-sealable c at kit me frame all q left e f before each = All-mem (IsSealable kit me) (to_each frame all) (q, frame) each
     (mem-map (λ (q : ℕ). (q, frame)) all q
     (subst (λ ps. Mem q ps) (sym before.splits) (mem-behind before.done (q ∷ left) q (inl refl))))
 
 -- as the loop has it: the processes that were left before this one, and the bytes of the frame as they are lent
-pub along-step : (c : Cast) (me : ℕ) (frame all : List ℕ) (q : ℕ) (left old bytes : List ℕ) (e f g : Edge) → old ≡ q ∷ left → bytes ≡ frame
-    → Along c me frame all old e f → LetOut c (sends_of me ((q, bytes) ∷ [])) f g → Along c me frame all left e g
-along-step c me frame all q left old bytes e f g steps lent before one =
-    along-more c me frame all q left e f g (subst (λ ps. Along c me frame all ps e f) steps before)
-    (subst (λ b. LetOut c (sends_of me ((q, b) ∷ [])) f g) lent one)
+pub along-step : (c : Cast) (at : ℕ → Process) (me : ℕ) (frame all : List ℕ) (q : ℕ) (left old bytes : List ℕ) (e f g : Edge)
+    → old ≡ q ∷ left → bytes ≡ frame
+    → Along c at me frame all old e f → LetOut c at (sends_of me ((q, bytes) ∷ [])) f g → Along c at me frame all left e g
+along-step c at me frame all q left old bytes e f g steps lent before one =
+    along-more c at me frame all q left e f g (subst (λ ps. Along c at me frame all ps e f) steps before)
+    (subst (λ b. LetOut c at (sends_of me ((q, b) ∷ [])) f g) lent one)
 
-pub along-stop : (c : Cast) (me : ℕ) (frame all : List ℕ) (q : ℕ) (left old bytes : List ℕ) (e f : Edge) (l : LinkSeen) → old ≡ q ∷ left
-    → bytes ≡ frame → Along c me frame all old e f → HasBegun c (sends_of me ((q, bytes) ∷ [])) f.link l
-    → HasBegun c (sends_of me (to_each frame all)) e.link l
-along-stop c me frame all q left old bytes e f l steps lent before some =
-    along-begun c me frame all q left e f l (subst (λ ps. Along c me frame all ps e f) steps before)
-    (subst (λ b. HasBegun c (sends_of me ((q, b) ∷ [])) f.link l) lent some)
+pub along-stop : (c : Cast) (at : ℕ → Process) (me : ℕ) (frame all : List ℕ) (q : ℕ) (left old bytes : List ℕ) (e f : Edge) (l : LinkSeen)
+    (i : List Asked) → old ≡ q ∷ left
+    → bytes ≡ frame → Along c at me frame all old e f → HasBegun c at (sends_of me ((q, bytes) ∷ [])) f.link f.service l i
+    → HasBegun c at (sends_of me (to_each frame all)) e.link e.service l i
+along-stop c at me frame all q left old bytes e f l i steps lent before some =
+    along-begun c at me frame all q left e f l i (subst (λ ps. Along c at me frame all ps e f) steps before)
+    (subst (λ b. HasBegun c at (sends_of me ((q, b) ∷ [])) f.link f.service l i) lent some)
 
-pub along-sealable : (c : Cast) (kit : Kit) (me : ℕ) (frame all : List ℕ) (q : ℕ) (left old bytes : List ℕ) (e f : Edge) → old ≡ q ∷ left
-    → bytes ≡ frame → Along c me frame all old e f → All (IsSealable kit me) (to_each frame all) → IsSealable kit me (q, bytes)
-along-sealable c kit me frame all q left old bytes e f steps lent before each =
+pub along-sealable : (c : Cast) (at : ℕ → Process) (kit : Kit) (me : ℕ) (frame all : List ℕ) (q : ℕ) (left old bytes : List ℕ) (e f : Edge)
+    → old ≡ q ∷ left
+    → bytes ≡ frame → Along c at me frame all old e f → All (IsSealable kit me) (to_each frame all) → IsSealable kit me (q, bytes)
+along-sealable c at kit me frame all q left old bytes e f steps lent before each =
     subst (λ b. IsSealable kit me (q, b)) (sym lent)
-    (next-sealable c kit me frame all q left e f (subst (λ ps. Along c me frame all ps e f) steps before) each)
+    (next-sealable c at kit me frame all q left e f (subst (λ ps. Along c at me frame all ps e f) steps before) each)
 
 -- ---- the frames
 
@@ -172,21 +160,24 @@ letters-snoc : (xs : List Sending) (x : Sending) → letters_in (xs ++ x ∷ [])
 letters-snoc xs x = flat_map-append (λ (out : Sending). letters_to (frame_to out)) xs (x ∷ [])
     ∙ ap (λ ls. letters_in xs ++ ls) (append-nil (letters_to (frame_to x)))
 
-pub frames-more : (c : Cast) (me : ℕ) (xs ys : List Sending) (x : Sending) (e f g : Edge) → ys ≡ xs ++ x ∷ []
-    → LetOut c (sends_of me (letters_in xs)) e f → LetOut c (sends_of me (letters_to (frame_to x))) f g
-    → LetOut c (sends_of me (letters_in ys)) e g
-frames-more c me xs ys x e f g is before one =
-    subst (λ ls. LetOut c ls e g) (sym (sends-append me (letters_in xs) (letters_to (frame_to x)))
+pub frames-more : (c : Cast) (at : ℕ → Process) (me : ℕ) (xs ys : List Sending) (x : Sending) (e f g : Edge) → ys ≡ xs ++ x ∷ []
+    → LetOut c at (sends_of me (letters_in xs)) e f → LetOut c at (sends_of me (letters_to (frame_to x))) f g
+    → LetOut c at (sends_of me (letters_in ys)) e g
+frames-more c at me xs ys x e f g is before one =
+    subst (λ ls. LetOut c at ls e g) (sym (sends-append me (letters_in xs) (letters_to (frame_to x)))
     ∙ ap (sends_of me) (sym (letters-snoc xs x) ∙ ap letters_in (sym is)))
-    (let-both c (sends_of me (letters_in xs)) (sends_of me (letters_to (frame_to x))) e f g before one)
+    (let-both c at (sends_of me (letters_in xs)) (sends_of me (letters_to (frame_to x))) e f g before one)
 
-pub frames-begun : (c : Cast) (me : ℕ) (all xs : List Sending) (x : Sending) (rest : List Sending) (e f : Edge) (l : LinkSeen)
-    → all ≡ (xs ++ x ∷ []) ++ rest → LetOut c (sends_of me (letters_in xs)) e f
-    → HasBegun c (sends_of me (letters_to (frame_to x))) f.link l → HasBegun c (sends_of me (letters_in all)) e.link l
-frames-begun c me all xs x rest e f l is before some =
-    subst (λ ls. HasBegun c ls e.link l) whole
-    (begun-front c (sends_of me (letters_in xs) ++ sends_of me (letters_to (frame_to x))) (sends_of me (letters_in rest)) e.link l
-    (begun-after c (sends_of me (letters_in xs)) (sends_of me (letters_to (frame_to x))) e f l before some))
+pub frames-begun : (c : Cast) (at : ℕ → Process) (me : ℕ) (all xs : List Sending) (x : Sending) (rest : List Sending) (e f : Edge)
+    (l : LinkSeen) (i : List Asked)
+    → all ≡ (xs ++ x ∷ []) ++ rest → LetOut c at (sends_of me (letters_in xs)) e f
+    → HasBegun c at (sends_of me (letters_to (frame_to x))) f.link f.service l i
+    → HasBegun c at (sends_of me (letters_in all)) e.link e.service l i
+frames-begun c at me all xs x rest e f l i is before some =
+    subst (λ ls. HasBegun c at ls e.link e.service l i) whole
+    (begun-front c at (sends_of me (letters_in xs) ++ sends_of me (letters_to (frame_to x))) (sends_of me (letters_in rest)) e.link l
+    e.service i
+    (begun-after c at (sends_of me (letters_in xs)) (sends_of me (letters_to (frame_to x))) e f l i before some))
   where
     whole : (sends_of me (letters_in xs) ++ sends_of me (letters_to (frame_to x))) ++ sends_of me (letters_in rest)
         ≡ sends_of me (letters_in all)
@@ -202,16 +193,18 @@ frame-sealable kit me sends i d lt each = mem-All (IsSealable kit me) (letters_t
     (mem-flat_map (λ (out : Sending). letters_to (frame_to out)) sends (slice_index_or sends i d) letter (index-mem sends i d lt) m))
 
 -- as the loop has it: this is the frame at the place
-pub frames-step : (c : Cast) (me : ℕ) (sends : List Sending) (i : ℕ) (x : Sending) (e f g : Edge) → i < length sends → x ≡ get_or sends i x
-    → LetOut c (sends_of me (letters_in (take i sends))) e f → LetOut c (sends_of me (letters_to (frame_to x))) f g
-    → LetOut c (sends_of me (letters_in (take (i + 1) sends))) e g
-frames-step c me sends i x e f g lt is before one = frames-more c me (take i sends) (take (i + 1) sends) x e f g
+pub frames-step : (c : Cast) (at : ℕ → Process) (me : ℕ) (sends : List Sending) (i : ℕ) (x : Sending) (e f g : Edge) → i < length sends
+    → x ≡ get_or sends i x → LetOut c at (sends_of me (letters_in (take i sends))) e f
+    → LetOut c at (sends_of me (letters_to (frame_to x))) f g
+    → LetOut c at (sends_of me (letters_in (take (i + 1) sends))) e g
+frames-step c at me sends i x e f g lt is before one = frames-more c at me (take i sends) (take (i + 1) sends) x e f g
     (take_more sends i x lt ∙ ap (λ (y : Sending). take i sends ++ y ∷ []) (sym is)) before one
 
-pub frames-stop : (c : Cast) (me : ℕ) (sends : List Sending) (i : ℕ) (x : Sending) (e f : Edge) (l : LinkSeen) → i < length sends
-    → x ≡ get_or sends i x → LetOut c (sends_of me (letters_in (take i sends))) e f
-    → HasBegun c (sends_of me (letters_to (frame_to x))) f.link l → HasBegun c (sends_of me (letters_in sends)) e.link l
-frames-stop c me sends i x e f l lt is before some = frames-begun c me sends (take i sends) x (drop (i + 1) sends) e f l
+pub frames-stop : (c : Cast) (at : ℕ → Process) (me : ℕ) (sends : List Sending) (i : ℕ) (x : Sending) (e f : Edge) (l : LinkSeen)
+    (j : List Asked) → i < length sends → x ≡ get_or sends i x → LetOut c at (sends_of me (letters_in (take i sends))) e f
+    → HasBegun c at (sends_of me (letters_to (frame_to x))) f.link f.service l j
+    → HasBegun c at (sends_of me (letters_in sends)) e.link e.service l j
+frames-stop c at me sends i x e f l j lt is before some = frames-begun c at me sends (take i sends) x (drop (i + 1) sends) e f l j
     (sym (take-append-drop (i + 1) sends) ∙ ap (λ (ys : List Sending). ys ++ drop (i + 1) sends)
     (take_more sends i x lt ∙ ap (λ (y : Sending). take i sends ++ y ∷ []) (sym is))) before some
 
@@ -220,7 +213,7 @@ pub item-sealable : (kit : Kit) (me : ℕ) (sends : List Sending) (i : ℕ) (x :
 item-sealable kit me sends i x lt is each =
     subst (λ (y : Sending). All (IsSealable kit me) (letters_to (frame_to y))) (sym is) (frame-sealable kit me sends i x lt each)
 
-pub frames-ended : (c : Cast) (me : ℕ) (sends : List Sending) (i : ℕ) (e f : Edge) → length sends ≤ i
-    → LetOut c (sends_of me (letters_in (take i sends))) e f → LetOut c (sends_of me (letters_in sends)) e f
-frames-ended c me sends i e f past before =
-    subst (λ (ys : List Sending). LetOut c (sends_of me (letters_in ys)) e f) (take_all i sends past) before
+pub frames-ended : (c : Cast) (at : ℕ → Process) (me : ℕ) (sends : List Sending) (i : ℕ) (e f : Edge) → length sends ≤ i
+    → LetOut c at (sends_of me (letters_in (take i sends))) e f → LetOut c at (sends_of me (letters_in sends)) e f
+frames-ended c at me sends i e f past before =
+    subst (λ (ys : List Sending). LetOut c at (sends_of me (letters_in ys)) e f) (take_all i sends past) before

@@ -1,10 +1,9 @@
 -- A whole turn that was let out.
-use Rattle.std.proofs.Common.{◌≡◌, ℕ, List, [], ◌∷◌, ◌++◌, map, refl, sym, ap, subst, ◌∙◌}
+use Rattle.std.proofs.Common.{◌≡◌, ℕ, List, [], ◌∷◌, ◌++◌, map, refl, sym, ap, subst, append_assoc, ◌∙◌}
 use Rattle.std.specs.Prelude.{flat_map, zip}
-use Rattle.std.specs.List.{AllZip}
 use Rattle.std.proofs.lemmas.Grind.{flat_map-append}
-use Rattle.std.proofs.lemmas.List.{append-nil}
 use Rattle.std.proofs.lemmas.List.Folds.{flat_map-map}
+use Rattle.group_defs.specs.Process.{Process}
 use Rattle.group_defs.specs.Sending as parcels
 use Rattle.group_defs.specs.Sending.{frames_of}
 use Rattle.group_defs.specs.Events as defs
@@ -14,52 +13,13 @@ use Rattle.stmt_codec.specs.declared.events.Note.{Note}
 use Rattle.node_text.specs.Outcomes.{frame_to, frames_to, IsOutcome}
 use Rattle.node_text.specs.Told.{note}
 use Rattle.node_defs.specs.Casts.{Cast, letters_of}
-use Rattle.node_defs.specs.Lines.{note_line}
-use Rattle.node_defs.specs.Nodes.{Leaving, Tells, Answer, Said, leaving_of}
-use Rattle.node_traces.specs.Ways.{Through}
-use Rattle.node_traces.specs.Outside.{LinkSeen, LinkAnswered}
-use Rattle.letting_laws.specs.Letting.{Fits, asked, told_by, failed_by, edge, LetOut, HasBegun}
-use Rattle.node_turns.specs.Letters.{letters_to, letters_in, sends_of, tells_of, LetsTurnOut}
-use Rattle.letting_laws.proofs.Joined.{let-both, begun-front, begun-with}
-
--- ---- notes
-
--- the service says nothing after a note
-abbrev silent : List Note → List Answer
-silent [] = []
-silent (n ∷ ns) = Said [] [] ∷ silent ns
-
-abbrev note_lines : ℕ → List Note → List ℕ
-note_lines me ns = flat_map (λ n. note_line me (note n)) ns
-
-notes-fit : (me : ℕ) (ns : List Note) → AllZip Fits (tells_of me ns) (silent ns)
-notes-fit me [] = tt
-notes-fit me (n ∷ ns) = (tt, notes-fit me ns)
-
-notes-silent : (c : Cast) (me : ℕ) (ns : List Note) (l : LinkSeen) → LinkAnswered l (asked c (tells_of me ns) (silent ns)) l
-unfolding Through
-notes-silent c me [] l = refl
-notes-silent c me (n ∷ ns) l = (l, refl, notes-silent c me ns l)
-
-notes-told : (me : ℕ) (ns : List Note) → flat_map told_by (zip (tells_of me ns) (silent ns)) ≡ note_lines me ns
-notes-told me [] = refl
-notes-told me (n ∷ ns) =
-    ap (λ (t : List ℕ). t ++ flat_map told_by (zip (tells_of me ns) (silent ns))) (append-nil (note_line me (note n)))
-    ∙ ap (λ (t : List ℕ). note_line me (note n) ++ t) (notes-told me ns)
-
-notes-late : (me : ℕ) (ns : List Note) → flat_map failed_by (zip (tells_of me ns) (silent ns)) ≡ []
-notes-late me [] = refl
-notes-late me (n ∷ ns) = notes-late me ns
-
-pub told-all : (c : Cast) (me : ℕ) (ns : List Note) (l : LinkSeen) (late : List ℕ)
-    → LetOut c (tells_of me ns) (edge l [] late) (edge l (note_lines me ns) late)
-told-all c me ns l late = record {
-  answers = silent ns;
-  each = notes-fit me ns;
-  link = notes-silent c me ns l;
-  text = sym (notes-told me ns);
-  late = sym (append-nil late) ∙ ap (λ (t : List ℕ). late ++ t) (sym (notes-late me ns));
-}
+use Rattle.node_defs.specs.Nodes.{Leaving, Tells, leaving_of}
+use Rattle.node_traces.specs.Outside.{LinkSeen}
+use Rattle.node_traces.specs.Service.{Asked, HeardBy}
+use Rattle.letting_laws.specs.Letting.{told_by, edge, LetOut, HasBegun}
+use Rattle.node_turns.specs.Letters.{letters_to, letters_in, sends_of, tells_of, LetsTurnOut, TellsNotes}
+use Rattle.letting_laws.proofs.Joined.{let-both, begun-after, begun-front}
+use Rattle.node_turns.proofs.Told.{told-anywhere}
 
 -- ---- letters
 
@@ -95,43 +55,66 @@ leaving-is me o r is =
     ap (λ (ls : List Leaving). ls ++ tells_of me r.notes.items) (ap (sends_of me) (sym (letters-are o r is)))
     ∙ ap (λ (ls : List Leaving). sends_of me (letters_of o) ++ ls) (sym (notes-are me r.notes.items) ∙ ap (map (Tells me)) (sym is.told))
 
-pub turn-let-out : (c : Cast) (me : ℕ) (o : defs.Outcome) (r : Outcome) (k l : LinkSeen) (late old new : List ℕ) → IsOutcome o r
-    → LetOut c (sends_of me (letters_in r.sends.items)) (edge k [] []) (edge l [] late)
-    → new ≡ old ++ (flat_map (λ n. note_line me (note n)) r.notes.items ++ late) → LetsTurnOut c (leaving_of me o) k l old new
-turn-let-out c me o r k l late old new is sent whole = record {
-  text = flat_map (λ n. note_line me (note n)) r.notes.items;
-  late = late;
-  out = subst (λ ls. LetOut c ls (edge k [] []) (edge l (flat_map (λ n. note_line me (note n)) r.notes.items) late)) (leaving-is me o r is)
-      (let-both c (sends_of me (letters_in r.sends.items)) (tells_of me r.notes.items) (edge k [] []) (edge l [] late)
-      (edge l (flat_map (λ n. note_line me (note n)) r.notes.items) late) sent (told-all c me r.notes.items l late));
-  whole = whole;
-}
+-- ---- all of it
 
-pub turn-begun : (c : Cast) (me : ℕ) (o : defs.Outcome) (r : Outcome) (k l : LinkSeen) → IsOutcome o r
-    → HasBegun c (sends_of me (letters_in r.sends.items)) k l → HasBegun c (leaving_of me o) k l
-turn-begun c me o r k l is some = subst (λ ls. HasBegun c ls k l) (leaving-is me o r is)
-    (begun-front c (sends_of me (letters_in r.sends.items)) (tells_of me r.notes.items) k l some)
+-- what is lent of the outcome is what is in it
+lent-is : (me : ℕ) (o : defs.Outcome) (r : Outcome) (sends : List Sending) (ns : List Note) → IsOutcome o r → sends ≡ r.sends.items
+    → ns ≡ r.notes.items → sends_of me (letters_in sends) ++ tells_of me ns ≡ leaving_of me o
+lent-is me o r sends ns is sends_are notes_are =
+    (λ i. sends_of me (letters_in (sends_are i)) ++ tells_of me (notes_are i)) ∙ leaving-is me o r is
 
--- as the code has it: what is lent of the outcome, and the lines of failed sends, none at first
-pub turn-out : (c : Cast) (me : ℕ) (o : defs.Outcome) (r : Outcome) (k l : LinkSeen) (sends : List Sending) (ns : List Note)
-    (first late lent old new : List ℕ) → IsOutcome o r → sends ≡ r.sends.items → ns ≡ r.notes.items → first ≡ [] → lent ≡ late
-    → LetOut c (sends_of me (letters_in sends)) (edge k [] first) (edge l [] late)
-    → new ≡ old ++ (flat_map (λ n. note_line me (note n)) ns ++ lent) → LetsTurnOut c (leaving_of me o) k l old new
-turn-out c me o r k l sends ns first late lent old new is sends_are notes_are none lent_is sent told =
-    turn-let-out c me o r k l late old new is
-    (subst (λ (t : List ℕ). LetOut c (sends_of me (letters_in r.sends.items)) (edge k [] t) (edge l [] late)) none
-    (subst (λ (ss : List Sending). LetOut c (sends_of me (letters_in ss)) (edge k [] first) (edge l [] late)) sends_are sent))
-    (told ∙ (λ i. old ++ (flat_map (λ n. note_line me (note n)) (notes_are i) ++ lent_is i)))
+-- the letters went out, and the notes were told: as the code has it, with the lines of failed sends, none at first
+pub turn-out : (c : Cast) (at : ℕ → Process) (me : ℕ) (o : defs.Outcome) (r : Outcome) (k l : LinkSeen) (sends : List Sending)
+    (ns : List Note)
+    (first late lent old new : List ℕ) (h i : List Asked) → IsOutcome o r → sends ≡ r.sends.items → ns ≡ r.notes.items → first ≡ []
+    → lent ≡ late → LetOut c at (sends_of me (letters_in sends)) (edge k [] first h) (edge l [] late h)
+    → TellsNotes c at me ns h i old lent new → LetsTurnOut c at (leaving_of me o) k l h i old new
+turn-out c at me o r k l sends ns first late lent old new h i is sends_are notes_are none lent_is sent told =
+    let out = told.out k in
+    let text = flat_map told_by (zip (tells_of me ns) out.answers) in
+    record {
+      text = text;
+      late = late;
+      out = subst (λ ls. LetOut c at ls (edge k [] [] h) (edge l text late i)) (lent-is me o r sends ns is sends_are notes_are)
+          (let-both c at (sends_of me (letters_in sends)) (tells_of me ns) (edge k [] [] h) (edge l [] late h) (edge l text late i)
+          (subst (λ (t : List ℕ). LetOut c at (sends_of me (letters_in sends)) (edge k [] t h) (edge l [] late h)) none sent)
+          (told-anywhere c at me ns k l old told.told [] late h i out));
+      whole = told.whole ∙ (λ j. out.text j ++ lent_is j) ∙ append_assoc old text late;
+    }
 
 -- some letters went out
-pub turn-stopped : (c : Cast) (me : ℕ) (o : defs.Outcome) (r : Outcome) (k l : LinkSeen) (sends : List Sending) → IsOutcome o r
-    → sends ≡ r.sends.items → HasBegun c (sends_of me (letters_in sends)) k l → HasBegun c (leaving_of me o) k l
-turn-stopped c me o r k l sends is sends_are some = turn-begun c me o r k l is
-    (subst (λ (ss : List Sending). HasBegun c (sends_of me (letters_in ss)) k l) sends_are some)
+pub turn-stopped : {V : Type 0} (heard : V → List Asked → Type 0) (service : V) (c : Cast) (at : ℕ → Process) (me : ℕ) (o : defs.Outcome)
+    (r : Outcome) (k l : LinkSeen) (sends : List Sending) (h : List Asked) → IsOutcome o r → sends ≡ r.sends.items → heard service h
+    → HasBegun c at (sends_of me (letters_in sends)) k h l h → HeardBy heard service (λ i. HasBegun c at (leaving_of me o) k h l i)
+turn-stopped heard service c at me o r k l sends h is sends_are has some = record {
+  history = h;
+  has = has;
+  holds = subst (λ ls. HasBegun c at ls k h l h) (lent-is me o r sends r.notes.items is sends_are refl)
+      (begun-front c at (sends_of me (letters_in sends)) (tells_of me r.notes.items) k l h h some);
+}
 
--- all letters did, and a line could not be kept
-pub turn-untold : (c : Cast) (me : ℕ) (o : defs.Outcome) (r : Outcome) (k l : LinkSeen) (sends : List Sending) (first late : List ℕ)
-    → IsOutcome o r → sends ≡ r.sends.items → LetOut c (sends_of me (letters_in sends)) (edge k [] first) (edge l [] late)
-    → HasBegun c (leaving_of me o) k l
-turn-untold c me o r k l sends first late is sends_are sent = turn-stopped c me o r k l sends is sends_are
-    (begun-with c (sends_of me (letters_in sends)) (edge k [] first) (edge l [] late) sent)
+-- all letters did and some of the notes, and a line could not be kept
+pub turn-untold : {V : Type 0} (heard : V → List Asked → Type 0) (service : V) (c : Cast) (at : ℕ → Process) (me : ℕ) (o : defs.Outcome)
+    (r : Outcome) (k l : LinkSeen) (sends : List Sending) (ns : List Note) (first late : List ℕ) (h : List Asked) → IsOutcome o r
+    → sends ≡ r.sends.items → ns ≡ r.notes.items → LetOut c at (sends_of me (letters_in sends)) (edge k [] first h) (edge l [] late h)
+    → HeardBy heard service (λ i. HasBegun c at (tells_of me ns) l h l i)
+    → HeardBy heard service (λ i. HasBegun c at (leaving_of me o) k h l i)
+turn-untold heard service c at me o r k l sends ns first late h is sends_are notes_are sent some = record {
+  history = some.history;
+  has = some.has;
+  holds = subst (λ ls. HasBegun c at ls k h l some.history) (lent-is me o r sends ns is sends_are notes_are)
+      (begun-after c at (sends_of me (letters_in sends)) (tells_of me ns) (edge k [] first h) (edge l [] late h) l some.history sent some.holds);
+}
+
+-- the whole turn went out, and the service has heard of it
+pub turn-heard : {V : Type 0} (heard : V → List Asked → Type 0) (service : V) (c : Cast) (at : ℕ → Process) (me : ℕ) (o : defs.Outcome)
+    (r : Outcome) (k l : LinkSeen) (sends : List Sending) (ns : List Note) (first late lent old new : List ℕ) (h : List Asked) → IsOutcome o r
+    → sends ≡ r.sends.items → ns ≡ r.notes.items → first ≡ [] → lent ≡ late
+    → LetOut c at (sends_of me (letters_in sends)) (edge k [] first h) (edge l [] late h)
+    → HeardBy heard service (λ i. TellsNotes c at me ns h i old lent new)
+    → HeardBy heard service (λ i. LetsTurnOut c at (leaving_of me o) k l h i old new)
+turn-heard heard service c at me o r k l sends ns first late lent old new h is sends_are notes_are none lent_is sent told = record {
+  history = told.history;
+  has = told.has;
+  holds = turn-out c at me o r k l sends ns first late lent old new h told.history is sends_are notes_are none lent_is sent told.holds;
+}

@@ -1,26 +1,16 @@
 -- The letters of a turn: each a frame and a process that it goes to.
-use Rattle.std.specs.Prelude.{ℕ, ◌≤◌, List, [], length, map, flat_map, Option, Result, Ok, Err, IsSome, ◌≡◌, ◌++◌}
+use Rattle.std.specs.Prelude.{ℕ, ◌≤◌, List, [], length, map, Option, Result, Ok, Err, IsSome, ◌≡◌, ◌++◌}
 use Rattle.kit_defs.specs.Kits.{Kit}
-use Rattle.stmt_codec.specs.declared.events.Sending.{Sending}
+use Rattle.group_defs.specs.Process.{Process}
 use Rattle.stmt_codec.specs.declared.events.Note.{Note}
-use Rattle.node_text.specs.Outcomes.{frame_to}
 use Rattle.node_text.specs.Told.{note}
 use Rattle.node_defs.specs.Casts.{Cast, pair_of}
-use Rattle.node_defs.specs.Nodes.{Leaving, Sends, Tells, Answer, Done, Failed}
+use Rattle.node_defs.specs.Nodes.{Leaving, Tells, Answer, Done, Failed}
 use Rattle.node_traces.specs.Outside.{LinkSeen}
+use Rattle.node_traces.specs.Service.{Asked}
 use Rattle.letting_laws.specs.Letting.{edge, LetOut}
-
--- the letters of a frame: one to each of these
-abbrev pub letters_to : List ℕ × List ℕ → List (ℕ × List ℕ)
-letters_to out = map (λ q. (q, out.1)) out.0
-
--- the letters of what is to be sent, in order
-abbrev pub letters_in : List Sending → List (ℕ × List ℕ)
-letters_in sends = flat_map (λ out. letters_to (frame_to out)) sends
-
--- the process lets these letters out
-abbrev pub sends_of : ℕ → List (ℕ × List ℕ) → List Leaving
-sends_of me letters = map (λ l. Sends me l.0 l.1) letters
+pub use Rattle.letting_laws.specs.Letting.{sends_of}
+pub use Rattle.node_service.specs.Answers.{letters_to, letters_in}
 
 -- the process lets these notes out
 abbrev pub tells_of : ℕ → List Note → List Leaving
@@ -42,10 +32,18 @@ answer_of (Err failed) = Failed
 abbrev pub link_seen : {L : Type 0} → (L → Option (List (ℕ × List ℕ))) → (L → Option (ℕ → List (List ℕ))) → (L → ℕ) → L → LinkSeen
 link_seen sent coming faults link = record { sent = sent link; coming = coming link; faults = faults link }
 
--- Of a whole turn: all of this was let out, with the notes' lines and after them those of failed sends; and these follow the text that
--- there was.
-pub record LetsTurnOut (c : Cast) (ls : List Leaving) (before now : LinkSeen) (old new : List ℕ) : Type 0 where
+-- These notes of the process were told: each has its line and after it what the service said of it, and they follow the text that there
+-- was; the service heard of them, one after the other. After them are these lines.
+pub record TellsNotes (c : Cast) (at : ℕ → Process) (me : ℕ) (notes : List Note) (heard hears : List Asked) (old late new : List ℕ) : Type 0 where
+  pub told : List ℕ
+  pub out : (link : LinkSeen) → LetOut c at (tells_of me notes) (edge link old [] heard) (edge link told [] hears)
+  pub whole : new ≡ told ++ late
+
+-- Of a whole turn: all of this was let out, with the notes' lines and what the service said of them, and after them the lines of failed sends;
+-- and these follow the text that there was.
+pub record LetsTurnOut (c : Cast) (at : ℕ → Process) (ls : List Leaving) (before now : LinkSeen) (heard hears : List Asked) (old new : List ℕ)
+    : Type 0 where
   pub text : List ℕ
   pub late : List ℕ
-  pub out : LetOut c ls (edge before [] []) (edge now text late)
+  pub out : LetOut c at ls (edge before [] [] heard) (edge now text late hears)
   pub whole : new ≡ old ++ (text ++ late)

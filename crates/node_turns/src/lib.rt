@@ -1,5 +1,5 @@
-//! What a node does with one turn, once its entry is in the journal for good: it lets out what the turn sends, and tells its notes
-//! (docs/FORMATS.md, «Nodes»).
+//! What a node does with one turn, once its entry is in the journal for good: it lets out what the turn sends, and tells its notes, also to
+//! its service (docs/FORMATS.md, «Nodes»).
 #![tactic(auto)]
 
 mod letting;
@@ -10,5 +10,6 @@ mod speaker;
 pub use journal_rp::{Synced, Turn};
 pub use letting::let_out;
 pub use node_keys::{Kit, LinkKeys};
-pub use sending::SEALED_BYTES;
+pub use node_service::{AnySigner, Event, Hosted, Hosts, NoService, Note, Sending, Service};
+pub use sending::{SEALED_BYTES, let_frames_out};
 pub use speaker::Speaker;

@@ -1,9 +1,11 @@
 //! The letters of a turn.
 ghost use Rattle.std.specs.Prelude.{◌≡◌, ◌≤◌, [], ◌∷◌, ℕ, List, length, map, All, OnOk, OnErr};
+ghost use Rattle.group_defs.specs.Process.{Process};
 ghost use Rattle.journal_defs.specs.declared.Version.{Version};
 ghost use Rattle.node_defs.specs.Casts.{cast_of};
 ghost use Rattle.node_defs.specs.Nodes.{SendsTo};
 ghost use Rattle.node_traces.specs.Outside.{LinkStep};
+ghost use Rattle.node_traces.specs.Service.{Asked};
 ghost use Rattle.node_text.specs.Outcomes.{frame_to};
 ghost use Rattle.letting_laws.specs.Letting.{edge, LetOut, HasBegun};
 ghost use Rattle.node_turns.specs.Letters.{IsSealable, letters_in, letters_to, sends_of, answer_of, link_seen};
@@ -47,13 +49,13 @@ fn let_letter_out<L: Link>(
 ) -> Result<(), NoMemory>
     requires sealable { IsSealable speaker.now.kit.now speaker.now.me (to, frame.now) }
     requires room { 61054 ≤ length room.old }
-    ensures out { (version : Version) → OnOk result (LetOut (cast_of speaker.now.kit.now version)
+    ensures out { (version : Version) (at : ℕ → Process) (h : List Asked) → OnOk result (LetOut (cast_of speaker.now.kit.now version) at
         (sends_of speaker.now.me ((to, frame.now) ∷ []))
-        (edge (link_seen L.sent L.coming L.faults link.old) [] late.old.items)
-        (edge (link_seen L.sent L.coming L.faults link.new) [] late.new.items)) }
-    ensures begun { (version : Version) → OnErr result (HasBegun (cast_of speaker.now.kit.now version)
-        (sends_of speaker.now.me ((to, frame.now) ∷ [])) (link_seen L.sent L.coming L.faults link.old)
-        (link_seen L.sent L.coming L.faults link.new)) }
+        (edge (link_seen L.sent L.coming L.faults link.old) [] late.old.items h)
+        (edge (link_seen L.sent L.coming L.faults link.new) [] late.new.items h)) }
+    ensures begun { (version : Version) (at : ℕ → Process) (h : List Asked) → OnErr result (HasBegun (cast_of speaker.now.kit.now version) at
+        (sends_of speaker.now.me ((to, frame.now) ∷ [])) (link_seen L.sent L.coming L.faults link.old) h
+        (link_seen L.sent L.coming L.faults link.new) h) }
 {
     match send_letter(speaker, to, frame, link, room) {
         Ok(()) => Ok(()),
@@ -71,13 +73,13 @@ fn let_frame_out<L: Link>(
 ) -> Result<(), NoMemory>
     requires sealable { All (IsSealable speaker.now.kit.now speaker.now.me) (letters_to (frame_to out.now)) }
     requires room { 61054 ≤ length room.old }
-    ensures out { (version : Version) → OnOk result (LetOut (cast_of speaker.now.kit.now version)
+    ensures out { (version : Version) (at : ℕ → Process) (h : List Asked) → OnOk result (LetOut (cast_of speaker.now.kit.now version) at
         (sends_of speaker.now.me (letters_to (frame_to out.now)))
-        (edge (link_seen L.sent L.coming L.faults link.old) [] late.old.items)
-        (edge (link_seen L.sent L.coming L.faults link.new) [] late.new.items)) }
-    ensures begun { (version : Version) → OnErr result (HasBegun (cast_of speaker.now.kit.now version)
-        (sends_of speaker.now.me (letters_to (frame_to out.now))) (link_seen L.sent L.coming L.faults link.old)
-        (link_seen L.sent L.coming L.faults link.new)) }
+        (edge (link_seen L.sent L.coming L.faults link.old) [] late.old.items h)
+        (edge (link_seen L.sent L.coming L.faults link.new) [] late.new.items h)) }
+    ensures begun { (version : Version) (at : ℕ → Process) (h : List Asked) → OnErr result (HasBegun (cast_of speaker.now.kit.now version) at
+        (sends_of speaker.now.me (letters_to (frame_to out.now))) (link_seen L.sent L.coming L.faults link.old) h
+        (link_seen L.sent L.coming L.faults link.new) h) }
 {
     'letters: for to in out.to.iter() {
         let_letter_out(speaker, to, out.frame.bytes(), link, room, late)?;
@@ -86,11 +88,11 @@ fn let_frame_out<L: Link>(
 }
 
 /// Lets the letters of these frames out, frame by frame and by rising number of whom each goes to: each is sealed in the room and sent.
-/// For each send that fails a line is appended to `late`.
+/// For each send that fails a line is appended to `late`. The frames are those of a turn, or what the service has its process send.
 ///
 /// # Errors
 /// `NoMemory` where memory for such a line is refused: the first letters went out, and the others were not tried.
-pub(crate) fn let_frames_out<L: Link>(
+pub fn let_frames_out<L: Link>(
     speaker: &Speaker<'_>,
     sends: &[Sending],
     link: &mut L,
@@ -99,13 +101,13 @@ pub(crate) fn let_frames_out<L: Link>(
 ) -> Result<(), NoMemory>
     requires sealable { All (IsSealable speaker.now.kit.now speaker.now.me) (letters_in sends.now) }
     requires room { 61054 ≤ length room.old }
-    ensures out { (version : Version) → OnOk result (LetOut (cast_of speaker.now.kit.now version)
+    ensures out { (version : Version) (at : ℕ → Process) (h : List Asked) → OnOk result (LetOut (cast_of speaker.now.kit.now version) at
         (sends_of speaker.now.me (letters_in sends.now))
-        (edge (link_seen L.sent L.coming L.faults link.old) [] late.old.items)
-        (edge (link_seen L.sent L.coming L.faults link.new) [] late.new.items)) }
-    ensures begun { (version : Version) → OnErr result (HasBegun (cast_of speaker.now.kit.now version)
-        (sends_of speaker.now.me (letters_in sends.now)) (link_seen L.sent L.coming L.faults link.old)
-        (link_seen L.sent L.coming L.faults link.new)) }
+        (edge (link_seen L.sent L.coming L.faults link.old) [] late.old.items h)
+        (edge (link_seen L.sent L.coming L.faults link.new) [] late.new.items h)) }
+    ensures begun { (version : Version) (at : ℕ → Process) (h : List Asked) → OnErr result (HasBegun (cast_of speaker.now.kit.now version) at
+        (sends_of speaker.now.me (letters_in sends.now)) (link_seen L.sent L.coming L.faults link.old) h
+        (link_seen L.sent L.coming L.faults link.new) h) }
 {
     'frames: for out in sends {
         let_frame_out(speaker, out, link, room, late)?;

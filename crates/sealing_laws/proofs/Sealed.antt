@@ -2,7 +2,7 @@
 use Rattle.std.proofs.Common.{◌≡◌, inl, inr, ℕ, ◌≤◌, List, [], ◌∷◌, ◌++◌, length, map, refl, sym, subst}
 use Rattle.std.specs.Prelude.{◌≢◌, flat_map, All, IsTrue}
 use Rattle.std.proofs.lemmas.Grind.{flat_map-append}
-use Rattle.std.proofs.lemmas.List.Elements.{All-append, All-from_recursion}
+use Rattle.std.proofs.lemmas.List.Elements.{All-append, All-from_recursion, All-weaker}
 use Rattle.byte_defs.specs.Members.{has}
 use Rattle.message_defs.specs.Limits.{most_frame_bytes}
 use Rattle.message_defs.specs.Spelling.{IsClaim}
@@ -18,9 +18,10 @@ use Rattle.letter_laws.specs.Letters.{AreInRange, IsOther}
 use Rattle.letter_laws.proofs.Addressees.{sends_to_others}
 use Rattle.letter_laws.proofs.Claims.{frames_are_short}
 use Rattle.letter_laws.proofs.Keeping.{kept_is_in_range}
+use Rattle.node_turns.specs.Service.{CanBeSent}
 use Rattle.node_turns.specs.Letters.{IsSealable, letters_in}
 use Rattle.node_turns.proofs.Turned.{letters-are}
-use Rattle.sealing_laws.specs.Sealing.{CanBeSealed, LettersCanBeSealed, TurnsCanBeSealed}
+use Rattle.sealing_laws.specs.Sealing.{CanBeSealed, LettersCanBeSealed, SendsCanBeSealed, TurnsCanBeSealed}
 use Rattle.sealing_laws.proofs.InRange.{handed-in-range, kept-in-range}
 
 abbrev Each : {A : Type 0} → (A → Type 0) → List A → Type 0
@@ -79,3 +80,10 @@ turns_can_be_sealed kit version me p es e r is hosted same other =
     (All-append IsClaim (claims_in (handed e)) [] (handed-in-range e) (All-from_recursion IsClaim [] tt))) in
     subst (λ (q : Process). CanBeSealed kit me q t r) (sym same)
     (letters_can_be_sealed kit me c.batch_limit ts t r is hosted other range)
+
+-- ---- what a service sends
+
+pub sends_can_be_sealed : SendsCanBeSealed
+sends_can_be_sealed kit version me letters is hosted can =
+    All-weaker (CanBeSent (cast_of kit version) me) (IsSealable kit me)
+    (λ letter sent. record { shared = shared kit me letter.0 is hosted sent.listed sent.other; short = sent.short }) letters can

@@ -12,6 +12,7 @@ use Rattle.journal_defs.specs.declared.Version.{Version}
 use Rattle.journal_defs.specs.Entries.{Event, Entry}
 use Rattle.node_defs.specs.Casts.{cast_of, from_start, handed, hosted_by, live, setting_of, taken_up}
 use Rattle.letter_laws.specs.Letters.{IsFromOther}
+use Rattle.node_turns.specs.Service.{CanBeSent}
 use Rattle.node_turns.specs.Letters.{IsSealable, letters_in}
 
 -- A hosted process of a kit, whatever claims in range it was handed, as long as the frame is not its own: where all that it has signed by
@@ -31,3 +32,8 @@ abbrev pub TurnsCanBeSealed : Type 0
 TurnsCanBeSealed = (kit : Kit) (version : Version) (me : ℕ) (p : Process) (es : List Entry) (e : Event) (r : Outcome) → IsKit kit
     → IsTrue (has (hosted_by kit) me) → p ≡ taken_up (setting_of kit) ((from_start (cast_of kit version)).from me) es
     → IsFromOther me (handed e) → CanBeSealed kit me p (live (cast_of kit version) p e) r
+
+-- What a service has a hosted process send can be sealed, where it goes to other processes of the roster in short frames.
+abbrev pub SendsCanBeSealed : Type 0
+SendsCanBeSealed = (kit : Kit) (version : Version) (me : ℕ) (letters : List (ℕ × List ℕ)) → IsKit kit → IsTrue (has (hosted_by kit) me)
+    → All (CanBeSent (cast_of kit version) me) letters → All (IsSealable kit me) letters

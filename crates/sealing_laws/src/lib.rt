@@ -1,9 +1,12 @@
-//! The letters of a turn can be sealed: what `let_out` requires of them, by the laws of what a process sends.
+//! The letters of a turn can be sealed, and those of a service: what `let_out` and `let_frames_out` require of them.
 #![tactic(auto)]
 
-ghost use Rattle.sealing_laws.specs.Sealing.{LettersCanBeSealed, TurnsCanBeSealed};
+ghost use Rattle.sealing_laws.specs.Sealing.{LettersCanBeSealed, SendsCanBeSealed, TurnsCanBeSealed};
 
-pub use node_turns::{SEALED_BYTES, Speaker, Synced, let_out};
+pub use node_turns::{
+    AnySigner, Event, Hosted, NoService, Note, SEALED_BYTES, Sending, Service, Speaker, Synced,
+    let_frames_out, let_out,
+};
 
 /// A hosted process shares a key with whom each letter of a turn goes to, and no frame is too long.
 pub fn letters_can_be_sealed()
@@ -13,4 +16,9 @@ pub fn letters_can_be_sealed()
 /// The same of a hosted process of a node, whatever entries its journal has.
 pub fn turns_can_be_sealed()
     ensures { TurnsCanBeSealed }
+{}
+
+/// What a service has a hosted process send can be sealed too.
+pub fn sends_can_be_sealed()
+    ensures { SendsCanBeSealed }
 {}

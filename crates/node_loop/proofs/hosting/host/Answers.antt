@@ -10,12 +10,18 @@ use Rattle.node_loop.proofs.Statuses.{disk-by, no-disk-by, rose-by-disk, still-b
 use Rattle.node_loop.proofs.hosting.host.Goals as goal
 
 pub returns-clause-ended : goal.returns-clause-ended
-returns-clause-ended g c = λ snap f. record {
-  why = stop_of c.run-stop.result;
-  before = sink_seen g.K.Sink.written g.K.Sink.faults c.run-stop.new.output;
-  run = c.run-stop.ensures.stops snap f;
-  ends = c.tell.ensures;
-}
+returns-clause-ended g c = λ snap f h has.
+    let run = c.run-stop.ensures.stops snap f h has in
+    record {
+      history = run.history;
+      has = run.has;
+      holds = record {
+        why = stop_of c.run-stop.result;
+        before = sink_seen g.K.Sink.written g.K.Sink.faults c.run-stop.new.output;
+        run = run.holds;
+        ends = c.tell.ensures;
+      };
+    }
 
 pub returns-clause-steady : goal.returns-clause-steady
 returns-clause-steady g c =
@@ -29,9 +35,10 @@ returns-clause-steady g c =
     let u = sink_seen g.K.Sink.written g.K.Sink.faults c.tell.new.output in
     let left = g.S.Source.left c.run-stop.new.input in
     let faults = g.S.Source.faults c.run-stop.new.input in
-    let run = c.run-stop.ensures.stops nobody fresh in
-    let counts = counted g.D.Disk.seen g.D.Disk.may_leave g.D.Disk.moment g.D.Disk.left_since nobody fresh k l s c.args.disk.now left faults m t
-    c.run-stop.new.disk why run in
+    let begun = g.V.Service.begun c.args.service.now in
+    let run = c.run-stop.ensures.stops nobody fresh begun.history begun.has in
+    let counts = counted g.D.Disk.seen g.D.Disk.may_leave g.D.Disk.moment g.D.Disk.left_since nobody _ fresh k l s c.args.disk.now left faults m t
+    c.run-stop.new.disk begun.history run.history why run.holds in
     ends-steady why c.tell.result k.faults faults s t u l m counts c.tell.ensures
 
 pub returns-clause-read : goal.returns-clause-read
@@ -46,9 +53,10 @@ returns-clause-read g c =
     let u = sink_seen g.K.Sink.written g.K.Sink.faults c.tell.new.output in
     let left = g.S.Source.left c.run-stop.new.input in
     let faults = g.S.Source.faults c.run-stop.new.input in
-    let run = c.run-stop.ensures.stops nobody fresh in
-    let counts = counted g.D.Disk.seen g.D.Disk.may_leave g.D.Disk.moment g.D.Disk.left_since nobody fresh k l s c.args.disk.now left faults m t
-    c.run-stop.new.disk why run in
+    let begun = g.V.Service.begun c.args.service.now in
+    let run = c.run-stop.ensures.stops nobody fresh begun.history begun.has in
+    let counts = counted g.D.Disk.seen g.D.Disk.may_leave g.D.Disk.moment g.D.Disk.left_since nobody _ fresh k l s c.args.disk.now left faults m t
+    c.run-stop.new.disk begun.history run.history why run.holds in
     ends-read why c.tell.result k.faults faults s t u l m counts c.tell.ensures
 
 pub returns-clause-written : goal.returns-clause-written
@@ -63,9 +71,10 @@ returns-clause-written g c =
     let u = sink_seen g.K.Sink.written g.K.Sink.faults c.tell.new.output in
     let left = g.S.Source.left c.run-stop.new.input in
     let faults = g.S.Source.faults c.run-stop.new.input in
-    let run = c.run-stop.ensures.stops nobody fresh in
-    let counts = counted g.D.Disk.seen g.D.Disk.may_leave g.D.Disk.moment g.D.Disk.left_since nobody fresh k l s c.args.disk.now left faults m t
-    c.run-stop.new.disk why run in
+    let begun = g.V.Service.begun c.args.service.now in
+    let run = c.run-stop.ensures.stops nobody fresh begun.history begun.has in
+    let counts = counted g.D.Disk.seen g.D.Disk.may_leave g.D.Disk.moment g.D.Disk.left_since nobody _ fresh k l s c.args.disk.now left faults m t
+    c.run-stop.new.disk begun.history run.history why run.holds in
     ends-written why c.tell.result k.faults faults s t u l m counts c.tell.ensures
 
 pub returns-clause-bound : goal.returns-clause-bound
@@ -80,9 +89,10 @@ returns-clause-bound g c =
     let u = sink_seen g.K.Sink.written g.K.Sink.faults c.tell.new.output in
     let left = g.S.Source.left c.run-stop.new.input in
     let faults = g.S.Source.faults c.run-stop.new.input in
-    let run = c.run-stop.ensures.stops nobody fresh in
-    let counts = counted g.D.Disk.seen g.D.Disk.may_leave g.D.Disk.moment g.D.Disk.left_since nobody fresh k l s c.args.disk.now left faults m t
-    c.run-stop.new.disk why run in
+    let begun = g.V.Service.begun c.args.service.now in
+    let run = c.run-stop.ensures.stops nobody fresh begun.history begun.has in
+    let counts = counted g.D.Disk.seen g.D.Disk.may_leave g.D.Disk.moment g.D.Disk.left_since nobody _ fresh k l s c.args.disk.now left faults m t
+    c.run-stop.new.disk begun.history run.history why run.holds in
     ends-bound why c.tell.result k.faults faults s t u l m counts c.tell.ensures
 
 pub returns-clause-untold : goal.returns-clause-untold
@@ -97,9 +107,10 @@ returns-clause-untold g c =
     let u = sink_seen g.K.Sink.written g.K.Sink.faults c.tell.new.output in
     let left = g.S.Source.left c.run-stop.new.input in
     let faults = g.S.Source.faults c.run-stop.new.input in
-    let run = c.run-stop.ensures.stops nobody fresh in
-    let counts = counted g.D.Disk.seen g.D.Disk.may_leave g.D.Disk.moment g.D.Disk.left_since nobody fresh k l s c.args.disk.now left faults m t
-    c.run-stop.new.disk why run in
+    let begun = g.V.Service.begun c.args.service.now in
+    let run = c.run-stop.ensures.stops nobody fresh begun.history begun.has in
+    let counts = counted g.D.Disk.seen g.D.Disk.may_leave g.D.Disk.moment g.D.Disk.left_since nobody _ fresh k l s c.args.disk.now left faults m t
+    c.run-stop.new.disk begun.history run.history why run.holds in
     ends-untold why c.tell.result k.faults faults s t u l m counts c.tell.ensures
 
 pub returns-clause-no_read : goal.returns-clause-no_read
@@ -114,9 +125,10 @@ returns-clause-no_read g c =
     let u = sink_seen g.K.Sink.written g.K.Sink.faults c.tell.new.output in
     let left = g.S.Source.left c.run-stop.new.input in
     let faults = g.S.Source.faults c.run-stop.new.input in
-    let run = c.run-stop.ensures.stops nobody fresh in
-    let counts = counted g.D.Disk.seen g.D.Disk.may_leave g.D.Disk.moment g.D.Disk.left_since nobody fresh k l s c.args.disk.now left faults m t
-    c.run-stop.new.disk why run in
+    let begun = g.V.Service.begun c.args.service.now in
+    let run = c.run-stop.ensures.stops nobody fresh begun.history begun.has in
+    let counts = counted g.D.Disk.seen g.D.Disk.may_leave g.D.Disk.moment g.D.Disk.left_since nobody _ fresh k l s c.args.disk.now left faults m t
+    c.run-stop.new.disk begun.history run.history why run.holds in
     ends-unread why c.tell.result k.faults faults s t u l m counts c.tell.ensures
 
 pub returns-clause-completes : goal.returns-clause-completes
@@ -131,13 +143,14 @@ returns-clause-completes g c =
     let u = sink_seen g.K.Sink.written g.K.Sink.faults c.tell.new.output in
     let left = g.S.Source.left c.run-stop.new.input in
     let faults = g.S.Source.faults c.run-stop.new.input in
-    let run = c.run-stop.ensures.stops nobody fresh in
-    let counts = counted g.D.Disk.seen g.D.Disk.may_leave g.D.Disk.moment g.D.Disk.left_since nobody fresh k l s c.args.disk.now left faults m t
-    c.run-stop.new.disk why run in
+    let begun = g.V.Service.begun c.args.service.now in
+    let run = c.run-stop.ensures.stops nobody fresh begun.history begun.has in
+    let counts = counted g.D.Disk.seen g.D.Disk.may_leave g.D.Disk.moment g.D.Disk.left_since nobody _ fresh k l s c.args.disk.now left faults m t
+    c.run-stop.new.disk begun.history run.history why run.holds in
     λ order. ends-fine why c.tell.result k.faults faults s t u l m counts c.tell.ensures
     (g.D.Disk.faults c.args.disk.now) (g.D.Disk.faults c.run-stop.new.disk) c.run-stop.ensures.cause
-    (told-in-order g.D.Disk.seen g.D.Disk.may_leave g.D.Disk.moment g.D.Disk.left_since nobody fresh k l s c.args.disk.now left faults m t
-    c.run-stop.new.disk why run order)
+    (told-in-order g.D.Disk.seen g.D.Disk.may_leave g.D.Disk.moment g.D.Disk.left_since nobody _ fresh k l s c.args.disk.now left faults m t
+    c.run-stop.new.disk begun.history run.history why run.holds order)
 
 pub returns-clause-kept : goal.returns-clause-kept
 returns-clause-kept g c =

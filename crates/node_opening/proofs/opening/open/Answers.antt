@@ -1,4 +1,4 @@
-use Rattle.std.proofs.Common.{refl, sym, subst, ◌∙◌}
+use Rattle.std.proofs.Common.{sym, subst, ◌∙◌}
 use Rattle.std.proofs.lemmas.Result.{err_from_is_err_and}
 use Rattle.journal_rp.specs.declared.journal.Journal.{Journal}
 use Rattle.journal_rp.specs.declared.journal.Writing.{Writing}
@@ -8,19 +8,21 @@ use Rattle.node_defs.specs.Casts.{cast_of, from_start}
 use Rattle.node_defs.specs.Nodes.{opens}
 use Rattle.node_traces.specs.Seen.{link_seen, sink_seen}
 use Rattle.node_text.specs.Views.{stop}
-use Rattle.node_opening.specs.Opened.{Unopened, reading, opening, outside}
+use Rattle.node_opening.specs.Opened.{Unopened, opening, outside}
 use Rattle.node_opening.specs.Reading.{no_memory, node_after}
 use Rattle.node_opening.proofs.Finished.{ends-at, opened}
 use Rattle.node_opening.proofs.Lines.{to-open}
 use Rattle.node_opening.proofs.Moments.{finish-moments, finish-stands, read-moments, read-stands}
-use Rattle.node_opening.proofs.Presented.{not-finished}
+use Rattle.node_opening.proofs.Presented.{not-finished, unopened, unread}
 use Rattle.node_opening.proofs.Stopped.{by-disk, by-no-disk}
 use Rattle.node_opening.proofs.opening.open.Goals as goal
 
 pub returns-in_err-readers-clause-stops : goal.returns-in_err-readers-clause-stops
-returns-in_err-readers-clause-stops g c = λ snap most lines source.
+returns-in_err-readers-clause-stops g c = λ snap most lines source h has.
     let out = err_from_is_err_and c.from_residual.result c.from_residual.ensures.1 in
-    rw (out.1, out.2) (reading (stop c.in_err-readers.field-0.0) (c.in_err-readers.ensures.unread lines) refl)
+    rw (out.1, out.2) (unread g.V.Service.heard c.args.service.now c.args.kit.now snap most lines (g.D.Disk.seen c.args.disk.now)
+    (link_seen g.L.Link.sent g.L.Link.coming g.L.Link.faults c.args.link.now)
+    (sink_seen g.K.Sink.written g.K.Sink.faults c.args.output.now) source h (stop c.in_err-readers.field-0.0) has (c.in_err-readers.ensures.unread lines))
 
 pub returns-in_err-readers-clause-moments : goal.returns-in_err-readers-clause-moments
 returns-in_err-readers-clause-moments g c = λ v es some stands.
@@ -33,9 +35,11 @@ returns-in_err-readers-clause-stands g c = λ v es some stands.
     (g.D.Disk.reads_image c.args.disk.now) some stands c.read_journal.new.disk c.read_journal.ensures.only_read
 
 pub returns-in_err-greeting-clause-stops : goal.returns-in_err-greeting-clause-stops
-returns-in_err-greeting-clause-stops g c = λ snap most lines source.
+returns-in_err-greeting-clause-stops g c = λ snap most lines source h has.
     let out = err_from_is_err_and c.from_residual-in_err-greeting.result c.from_residual-in_err-greeting.ensures.1 in
-    rw (out.1, out.2) (reading NoMemory no_memory refl)
+    rw (out.1, out.2) (unread g.V.Service.heard c.args.service.now c.args.kit.now snap most lines (g.D.Disk.seen c.args.disk.now)
+    (link_seen g.L.Link.sent g.L.Link.coming g.L.Link.faults c.args.link.now)
+    (sink_seen g.K.Sink.written g.K.Sink.faults c.args.output.now) source h NoMemory has no_memory)
 
 pub returns-in_err-greeting-clause-moments : goal.returns-in_err-greeting-clause-moments
 returns-in_err-greeting-clause-moments g c = λ v es some stands.
@@ -48,7 +52,7 @@ returns-in_err-greeting-clause-stands g c = λ v es some stands.
     (g.D.Disk.reads_image c.args.disk.now) some stands c.read_journal.new.disk c.read_journal.ensures.only_read
 
 pub returns-in_err-present-clause-stops : goal.returns-in_err-present-clause-stops
-returns-in_err-present-clause-stops g c = λ snap most lines source.
+returns-in_err-present-clause-stops g c = λ snap most lines source h has.
     let out = err_from_is_err_and c.from_residual-in_err-present.result c.from_residual-in_err-present.ensures.1 in
     let kit = c.args.kit.now in
     let v = version_of c.in_ok-readers.readers.journal in
@@ -57,8 +61,12 @@ returns-in_err-present-clause-stops g c = λ snap most lines source.
     let es = journal.all.entries in
     let read = journal.all.read in
     let n = node_after cast lines es in
-    rw (out.1, out.2) (opening (stop c.in_err-present.field-0.0) v es journal.holds
-    (c.in_err-present.ensures.stops cast snap most (opens cast (from_start cast) lines es) source read.hosts_are.numbers
+    rw (out.1, out.2) (unopened g.V.Service.heard c.present.new.service kit v es snap most lines (g.D.Disk.seen c.args.disk.now)
+    (link_seen g.L.Link.sent g.L.Link.coming g.L.Link.faults c.args.link.now)
+    (link_seen g.L.Link.sent g.L.Link.coming g.L.Link.faults c.present.new.link)
+    (sink_seen g.K.Sink.written g.K.Sink.faults c.args.output.now)
+    (sink_seen g.K.Sink.written g.K.Sink.faults c.present.new.output) source h (stop c.in_err-present.field-0.0) journal.holds
+    (c.in_err-present.ensures.stops v snap most (opens cast (from_start cast) lines es) source h read.hosts_are has
     (to-open cast kit lines (g.D.Disk.seen c.read_journal.new.disk) es (gate_of c.in_ok-readers.readers.journal) c.in_ok-readers.readers.hosts
     c.in_ok-readers.readers.counts read c.as_slice.result.now
     (c.as_slice.ensures.value ∙ c.in_ok-greeting.ensures cast kit n.now read.hosts_are))))
@@ -80,7 +88,7 @@ returns-in_err-present-clause-cause g c =
     (stop c.in_err-present.field-0.0) c.in_ok-readers.ensures.cause c.in_err-present.ensures.no_disk)
 
 pub returns-in-Ok-clause-opens : goal.returns-in-Ok-clause-opens
-returns-in-Ok-clause-opens g c = λ snap most lines source.
+returns-in-Ok-clause-opens g c = λ snap most lines source h has.
     let kit = c.args.kit.now in
     let v = version_of c.in_ok-readers.readers.journal in
     let gate = gate_of c.in_ok-readers.readers.journal in
@@ -89,22 +97,23 @@ returns-in-Ok-clause-opens g c = λ snap most lines source.
     let es = journal.all.entries in
     let read = journal.all.read in
     let n = node_after cast lines es in
-    opened _ snap most lines (g.D.Disk.seen c.args.disk.now) (g.D.Disk.seen c.read_journal.new.disk) (g.D.Disk.seen c.finish.new.disk)
-    (g.D.Disk.may_leave c.finish.new.disk)
-    (outside (link_seen g.L.Link.sent g.L.Link.coming g.L.Link.faults c.args.link.now)
-    (sink_seen g.K.Sink.written g.K.Sink.faults c.args.output.now) source)
-    (outside (link_seen g.L.Link.sent g.L.Link.coming g.L.Link.faults c.present.new.link)
-    (sink_seen g.K.Sink.written g.K.Sink.faults c.present.new.output) source)
-    c.in_ok-readers.readers.counts c.in-Ok.ensures.untold c.in-Ok.ensures.length c.in_ok-readers.ensures.tells v gate
-    c.in-Ok.ensures.place.1 c.in-Ok.ensures.place.0 c.in-Ok.ensures.ok
-    (record {
-      all = journal.all;
-      holds = journal.holds;
-      goes = c.in_ok-present.ensures.presents cast snap most (opens cast (from_start cast) lines es) source read.hosts_are.numbers
-          (to-open cast kit lines (g.D.Disk.seen c.read_journal.new.disk) es gate c.in_ok-readers.readers.hosts
-          c.in_ok-readers.readers.counts read c.as_slice.result.now
-          (c.as_slice.ensures.value ∙ c.in_ok-greeting.ensures cast kit n.now read.hosts_are));
-    })
+    let told = c.in_ok-present.ensures.presents v snap most (opens cast (from_start cast) lines es) source h read.hosts_are has
+    (to-open cast kit lines (g.D.Disk.seen c.read_journal.new.disk) es gate c.in_ok-readers.readers.hosts
+    c.in_ok-readers.readers.counts read c.as_slice.result.now
+    (c.as_slice.ensures.value ∙ c.in_ok-greeting.ensures cast kit n.now read.hosts_are)) in
+    record {
+      history = told.history;
+      has = told.has;
+      holds = opened _ snap most lines (g.D.Disk.seen c.args.disk.now) (g.D.Disk.seen c.read_journal.new.disk) (g.D.Disk.seen c.finish.new.disk)
+          (g.D.Disk.may_leave c.finish.new.disk)
+          (outside (link_seen g.L.Link.sent g.L.Link.coming g.L.Link.faults c.args.link.now)
+          (sink_seen g.K.Sink.written g.K.Sink.faults c.args.output.now) source h)
+          (outside (link_seen g.L.Link.sent g.L.Link.coming g.L.Link.faults c.present.new.link)
+          (sink_seen g.K.Sink.written g.K.Sink.faults c.present.new.output) source told.history)
+          c.in_ok-readers.readers.counts c.in-Ok.ensures.untold c.in-Ok.ensures.length c.in_ok-readers.ensures.tells v gate
+          c.in-Ok.ensures.place.1 c.in-Ok.ensures.place.0 c.in-Ok.ensures.ok
+          (record { all = journal.all; holds = journal.holds; goes = told.holds });
+    }
 
 pub returns-in-Ok-clause-moments : goal.returns-in-Ok-clause-moments
 returns-in-Ok-clause-moments g c = λ v es some stands.
@@ -127,7 +136,7 @@ returns-in-Ok-clause-stands g c = λ v es some stands.
     (gate_of c.in_ok-readers.readers.journal) told journal.all.read.stands journal.all.closed) c.finish.ensures.stands
 
 pub returns-clause-stops : goal.returns-clause-stops
-returns-clause-stops g c = λ snap most lines source.
+returns-clause-stops g c = λ snap most lines source h has.
     let kit = c.args.kit.now in
     let v = version_of c.in_ok-readers.readers.journal in
     let cast = cast_of kit v in
@@ -135,19 +144,23 @@ returns-clause-stops g c = λ snap most lines source.
     let es = journal.all.entries in
     let read = journal.all.read in
     let n = node_after cast lines es in
-    let x = outside (link_seen g.L.Link.sent g.L.Link.coming g.L.Link.faults c.args.link.now)
-    (sink_seen g.K.Sink.written g.K.Sink.faults c.args.output.now) source in
-    let y = outside (link_seen g.L.Link.sent g.L.Link.coming g.L.Link.faults c.present.new.link)
-    (sink_seen g.K.Sink.written g.K.Sink.faults c.present.new.output) source in
-    subst (Unopened kit snap most lines (g.D.Disk.seen c.args.disk.now) x y)
-    (sym (c.stop_at.ensures ∙ by-disk (Journal Writing) (g.D.Disk.faults c.read_journal.new.disk) (g.D.Disk.faults c.finish.new.disk)
-    c.in-Err.fault c.in-Err.ensures.cause))
-    (opening DiskFailed v es journal.holds
-    (not-finished cast snap most (opens cast (from_start cast) lines es) x y read.runs
-    (c.in_ok-present.ensures.presents cast snap most (opens cast (from_start cast) lines es) source read.hosts_are.numbers
+    let told = c.in_ok-present.ensures.presents v snap most (opens cast (from_start cast) lines es) source h read.hosts_are has
     (to-open cast kit lines (g.D.Disk.seen c.read_journal.new.disk) es (gate_of c.in_ok-readers.readers.journal)
     c.in_ok-readers.readers.hosts c.in_ok-readers.readers.counts read c.as_slice.result.now
-    (c.as_slice.ensures.value ∙ c.in_ok-greeting.ensures cast kit n.now read.hosts_are)))))
+    (c.as_slice.ensures.value ∙ c.in_ok-greeting.ensures cast kit n.now read.hosts_are)) in
+    let x = outside (link_seen g.L.Link.sent g.L.Link.coming g.L.Link.faults c.args.link.now)
+    (sink_seen g.K.Sink.written g.K.Sink.faults c.args.output.now) source h in
+    let y = outside (link_seen g.L.Link.sent g.L.Link.coming g.L.Link.faults c.present.new.link)
+    (sink_seen g.K.Sink.written g.K.Sink.faults c.present.new.output) source told.history in
+    record {
+      history = told.history;
+      has = told.has;
+      holds = subst (Unopened kit snap most lines (g.D.Disk.seen c.args.disk.now) x y)
+          (sym (c.stop_at.ensures ∙ by-disk (Journal Writing) (g.D.Disk.faults c.read_journal.new.disk) (g.D.Disk.faults c.finish.new.disk)
+          c.in-Err.fault c.in-Err.ensures.cause))
+          (opening DiskFailed v es journal.holds
+          (not-finished cast snap most (opens cast (from_start cast) lines es) x y read.runs told.holds));
+    }
 
 pub returns-clause-moments : goal.returns-clause-moments
 returns-clause-moments g c = λ v es some stands.

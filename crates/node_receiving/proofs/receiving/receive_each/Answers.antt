@@ -1,18 +1,20 @@
 use Rattle.std.proofs.Common.{ℕ, ◌+◌, ◌-◌, ◌≤◌, false, true, [], ◌∷◌, refl, sym, subst, ◌∙◌, arith}
-use Rattle.node_defs.specs.Nodes.{Say, more_gets}
+use Rattle.node_defs.specs.Nodes.{Get, Say, more_gets}
 use Rattle.node_traces.specs.Seen.{link_seen, sink_seen}
 use Rattle.node_taking.specs.Stops.{StopsByDisk, stop as stop_of}
+use Rattle.node_taking.proofs.Leads.{around, hosted-led, node-led}
 use Rattle.node_receiving.specs.Receiving.{end_text}
-use Rattle.node_receiving.proofs.Loop.{gets-all, gets-more, gets-to-stop, hosted-now, node-now, so-far-first}
+use Rattle.node_receiving.proofs.Loop.{gets-all, gets-more, gets-to-stop, so-far-first}
 use Rattle.node_receiving.proofs.receiving.receive_each.Goals as goal
 
 pub receives-init : goal.receives-init
 receives-init g c = record {
   node = c.requires.node;
   hosted = c.requires.hosted;
-  came = so-far-first g.D.Disk.seen g.D.Disk.may_leave g.D.Disk.moment g.D.Disk.left_since c.args.me c.args.most c.args.running
-      c.args.disk.now (link_seen g.L.Link.sent g.L.Link.coming g.L.Link.faults c.args.link.now)
-      (sink_seen g.K.Sink.written g.K.Sink.faults c.args.output.now) (λ d image left. g.D.Disk.only_now d image left) c.requires.some;
+  came = so-far-first g.D.Disk.seen g.D.Disk.may_leave g.D.Disk.moment g.D.Disk.left_since g.V.Service.heard
+      (λ d image left. g.D.Disk.only_now d image left) c.args.me c.args.most c.args.running
+      (around c.args.disk.now c.args.service.now (link_seen g.L.Link.sent g.L.Link.coming g.L.Link.faults c.args.link.now)
+      (sink_seen g.K.Sink.written g.K.Sink.faults c.args.output.now)) c.requires.some;
   steady = refl;
   coming = c.requires.coming;
   sealed = c.requires.sealed;
@@ -24,28 +26,29 @@ receives-preserved g c =
     let may_leave = g.D.Disk.may_leave in
     let moment = g.D.Disk.moment in
     let since = g.D.Disk.left_since in
+    let heard = g.V.Service.heard in
     let p = c.args.me in
+    let x = around c.args.disk.now c.args.service.now (link_seen g.L.Link.sent g.L.Link.coming g.L.Link.faults c.args.link.now)
+    (sink_seen g.K.Sink.written g.K.Sink.faults c.args.output.now) in
+    let y = around c.receives.disk c.receives.service (link_seen g.L.Link.sent g.L.Link.coming g.L.Link.faults c.receives.link)
+    (sink_seen g.K.Sink.written g.K.Sink.faults c.receives.output) in
+    let z = around c.receive_one.new.disk c.receive_one.new.service
+    (link_seen g.L.Link.sent g.L.Link.coming g.L.Link.faults c.receive_one.new.link)
+    (sink_seen g.K.Sink.written g.K.Sink.faults c.receive_one.new.output) in
     let most = c.args.most in
     let r = c.args.running in
-    let old = c.args.disk.now in
-    let k = link_seen g.L.Link.sent g.L.Link.coming g.L.Link.faults c.args.link.now in
-    let s = sink_seen g.K.Sink.written g.K.Sink.faults c.args.output.now in
-    let l = link_seen g.L.Link.sent g.L.Link.coming g.L.Link.faults c.receives.link in
-    let t = sink_seen g.K.Sink.written g.K.Sink.faults c.receives.output in
-    let m = link_seen g.L.Link.sent g.L.Link.coming g.L.Link.faults c.receive_one.new.link in
-    let u = sink_seen g.K.Sink.written g.K.Sink.faults c.receive_one.new.output in
-    let new = c.receive_one.new.disk in
     let now = c.in-Ok-One.next in
     let count = c.receives.count in
     let one = rw c.in-Ok-One.field-0-is at c.in-Ok-One.ensures.goes_on in
-    let came = gets-more seen may_leave moment since p most r old k s (λ d image left. g.D.Disk.only_now d image left) count
-    c.receives.last now c.receives.disk new l m t u (λ left. more_gets p left (count + 1)) c.receives-test.true c.receives.invariant.came
-    (λ snap line f source n left ts is. one snap line f source n left count ts is) in
+    let came = gets-more seen may_leave moment since heard (λ d image left. g.D.Disk.only_now d image left) p most r x count c.receives.last y now
+    z (λ left. more_gets p left (count + 1)) c.receives-test.true c.receives.invariant.came
+    (λ left snap line f source h n ts has is. one snap line f source h n left count ts has is) in
+    let begun = g.V.Service.begun c.args.service.now in
     record {
-      node = node-now seen may_leave moment since p most r old k s (more_gets p (most - (count + 1)) (count + 1)) now new m u came
+      node = node-led seen may_leave moment since heard r now x z (Get p most 0 ∷ []) (more_gets p (most - (count + 1)) (count + 1)) came begun
           c.requires.node;
-      hosted = hosted-now seen may_leave moment since p most r old k s (more_gets p (most - (count + 1)) (count + 1)) now new m u came
-          c.requires.node c.requires.hosted;
+      hosted = hosted-led seen may_leave moment since heard r now x z (Get p most 0 ∷ []) (more_gets p (most - (count + 1)) (count + 1)) p came
+          begun c.requires.node c.requires.hosted;
       came = came;
       steady = c.in-Ok-One.ensures.cause ∙ c.receives.invariant.steady;
       coming = c.receive_one.auto.coming ∙ c.receives.invariant.coming;
@@ -54,56 +57,78 @@ receives-preserved g c =
 
 pub returns-in-Ok-Nothing-clause-goes_on : goal.returns-in-Ok-Nothing-clause-goes_on
 returns-in-Ok-Nothing-clause-goes_on g c =
+    let seen = g.D.Disk.seen in
+    let may_leave = g.D.Disk.may_leave in
+    let moment = g.D.Disk.moment in
+    let since = g.D.Disk.left_since in
+    let heard = g.V.Service.heard in
     let p = c.args.me in
-    let k = link_seen g.L.Link.sent g.L.Link.coming g.L.Link.faults c.args.link.now in
-    let s = sink_seen g.K.Sink.written g.K.Sink.faults c.args.output.now in
-    let l = link_seen g.L.Link.sent g.L.Link.coming g.L.Link.faults c.receives.link in
-    let t = sink_seen g.K.Sink.written g.K.Sink.faults c.receives.output in
-    let m = link_seen g.L.Link.sent g.L.Link.coming g.L.Link.faults c.receive_one.new.link in
-    let u = sink_seen g.K.Sink.written g.K.Sink.faults c.receive_one.new.output in
+    let x = around c.args.disk.now c.args.service.now (link_seen g.L.Link.sent g.L.Link.coming g.L.Link.faults c.args.link.now)
+    (sink_seen g.K.Sink.written g.K.Sink.faults c.args.output.now) in
+    let y = around c.receives.disk c.receives.service (link_seen g.L.Link.sent g.L.Link.coming g.L.Link.faults c.receives.link)
+    (sink_seen g.K.Sink.written g.K.Sink.faults c.receives.output) in
+    let z = around c.receive_one.new.disk c.receive_one.new.service
+    (link_seen g.L.Link.sent g.L.Link.coming g.L.Link.faults c.receive_one.new.link)
+    (sink_seen g.K.Sink.written g.K.Sink.faults c.receive_one.new.output) in
     let one = rw c.in-Ok-Nothing.field-0-is at c.in-Ok-Nothing.ensures.goes_on in
-    gets-more g.D.Disk.seen g.D.Disk.may_leave g.D.Disk.moment g.D.Disk.left_since p c.args.most c.args.running c.args.disk.now k s
-    (λ d image left. g.D.Disk.only_now d image left) c.receives.count c.receives.last c.in-Ok-Nothing.running c.receives.disk
-    c.receive_one.new.disk l m t u (λ left. Say (end_text p false c.receives.count) ∷ []) c.receives-test.true c.receives.invariant.came
-    (λ snap line f source n left ts is. one snap line f source n left c.receives.count ts is)
+    gets-more seen may_leave moment since heard (λ d image left. g.D.Disk.only_now d image left) p c.args.most c.args.running x c.receives.count
+    c.receives.last y c.in-Ok-Nothing.running z (λ left. Say (end_text p false c.receives.count) ∷ []) c.receives-test.true
+    c.receives.invariant.came (λ left snap line f source h n ts has is. one snap line f source h n left c.receives.count ts has is)
 
 pub returns-in-Ok-Fault-clause-goes_on : goal.returns-in-Ok-Fault-clause-goes_on
 returns-in-Ok-Fault-clause-goes_on g c =
+    let seen = g.D.Disk.seen in
+    let may_leave = g.D.Disk.may_leave in
+    let moment = g.D.Disk.moment in
+    let since = g.D.Disk.left_since in
+    let heard = g.V.Service.heard in
     let p = c.args.me in
-    let k = link_seen g.L.Link.sent g.L.Link.coming g.L.Link.faults c.args.link.now in
-    let s = sink_seen g.K.Sink.written g.K.Sink.faults c.args.output.now in
-    let l = link_seen g.L.Link.sent g.L.Link.coming g.L.Link.faults c.receives.link in
-    let t = sink_seen g.K.Sink.written g.K.Sink.faults c.receives.output in
-    let m = link_seen g.L.Link.sent g.L.Link.coming g.L.Link.faults c.receive_one.new.link in
-    let u = sink_seen g.K.Sink.written g.K.Sink.faults c.receive_one.new.output in
+    let x = around c.args.disk.now c.args.service.now (link_seen g.L.Link.sent g.L.Link.coming g.L.Link.faults c.args.link.now)
+    (sink_seen g.K.Sink.written g.K.Sink.faults c.args.output.now) in
+    let y = around c.receives.disk c.receives.service (link_seen g.L.Link.sent g.L.Link.coming g.L.Link.faults c.receives.link)
+    (sink_seen g.K.Sink.written g.K.Sink.faults c.receives.output) in
+    let z = around c.receive_one.new.disk c.receive_one.new.service
+    (link_seen g.L.Link.sent g.L.Link.coming g.L.Link.faults c.receive_one.new.link)
+    (sink_seen g.K.Sink.written g.K.Sink.faults c.receive_one.new.output) in
     let one = rw c.in-Ok-Fault.field-0-is at c.in-Ok-Fault.ensures.goes_on in
-    gets-more g.D.Disk.seen g.D.Disk.may_leave g.D.Disk.moment g.D.Disk.left_since p c.args.most c.args.running c.args.disk.now k s
-    (λ d image left. g.D.Disk.only_now d image left) c.receives.count c.receives.last c.in-Ok-Fault.running c.receives.disk
-    c.receive_one.new.disk l m t u (λ left. Say (end_text p true c.receives.count) ∷ []) c.receives-test.true c.receives.invariant.came
-    (λ snap line f source n left ts is. one snap line f source n left c.receives.count ts is)
+    gets-more seen may_leave moment since heard (λ d image left. g.D.Disk.only_now d image left) p c.args.most c.args.running x c.receives.count
+    c.receives.last y c.in-Ok-Fault.running z (λ left. Say (end_text p true c.receives.count) ∷ []) c.receives-test.true
+    c.receives.invariant.came (λ left snap line f source h n ts has is. one snap line f source h n left c.receives.count ts has is)
 
 pub returns-in-Err-clause-stops : goal.returns-in-Err-clause-stops
 returns-in-Err-clause-stops g c =
+    let seen = g.D.Disk.seen in
+    let may_leave = g.D.Disk.may_leave in
+    let moment = g.D.Disk.moment in
+    let since = g.D.Disk.left_since in
+    let heard = g.V.Service.heard in
     let p = c.args.me in
-    let k = link_seen g.L.Link.sent g.L.Link.coming g.L.Link.faults c.args.link.now in
-    let s = sink_seen g.K.Sink.written g.K.Sink.faults c.args.output.now in
-    let l = link_seen g.L.Link.sent g.L.Link.coming g.L.Link.faults c.receives.link in
-    let t = sink_seen g.K.Sink.written g.K.Sink.faults c.receives.output in
-    let m = link_seen g.L.Link.sent g.L.Link.coming g.L.Link.faults c.receive_one.new.link in
-    let u = sink_seen g.K.Sink.written g.K.Sink.faults c.receive_one.new.output in
-    gets-to-stop g.D.Disk.seen g.D.Disk.may_leave g.D.Disk.moment g.D.Disk.left_since p c.args.most c.args.running c.args.disk.now k s
-    (λ d image left. g.D.Disk.only_now d image left) c.receives.count c.receives.last c.receives.disk c.receive_one.new.disk l m t u
-    (stop_of c.in-Err.why) c.receives-test.true c.receives.invariant.came
-    (λ snap line f source n left ts is. c.in-Err.ensures.stops snap line f source n left c.receives.count ts is)
+    let x = around c.args.disk.now c.args.service.now (link_seen g.L.Link.sent g.L.Link.coming g.L.Link.faults c.args.link.now)
+    (sink_seen g.K.Sink.written g.K.Sink.faults c.args.output.now) in
+    let y = around c.receives.disk c.receives.service (link_seen g.L.Link.sent g.L.Link.coming g.L.Link.faults c.receives.link)
+    (sink_seen g.K.Sink.written g.K.Sink.faults c.receives.output) in
+    let z = around c.receive_one.new.disk c.receive_one.new.service
+    (link_seen g.L.Link.sent g.L.Link.coming g.L.Link.faults c.receive_one.new.link)
+    (sink_seen g.K.Sink.written g.K.Sink.faults c.receive_one.new.output) in
+    gets-to-stop seen may_leave moment since heard (λ d image left. g.D.Disk.only_now d image left) p c.args.most c.args.running x
+    c.receives.count c.receives.last y z (stop_of c.in-Err.why) c.receives-test.true c.receives.invariant.came
+    (λ left snap line f source h n ts has is. c.in-Err.ensures.stops snap line f source h n left c.receives.count ts has is)
 
 pub returns-in-Err-clause-cause : goal.returns-in-Err-clause-cause
 returns-in-Err-clause-cause g c = subst (λ n. StopsByDisk n (g.D.Disk.faults c.receive_one.new.disk) (stop_of c.in-Err.why))
     c.receives.invariant.steady c.in-Err.ensures.cause
 
 pub returns-clause-goes_on : goal.returns-clause-goes_on
-returns-clause-goes_on g c = gets-all g.D.Disk.seen g.D.Disk.may_leave g.D.Disk.moment g.D.Disk.left_since c.args.me c.args.most
-    c.args.running c.args.disk.now (link_seen g.L.Link.sent g.L.Link.coming g.L.Link.faults c.args.link.now)
-    (sink_seen g.K.Sink.written g.K.Sink.faults c.args.output.now) (λ d image left. g.D.Disk.only_now d image left) c.receives.count
-    c.receives.last c.receives.disk (link_seen g.L.Link.sent g.L.Link.coming g.L.Link.faults c.receives.link)
-    (sink_seen g.K.Sink.written g.K.Sink.faults c.receives.output) (omega (arith, c.receives.auto.count-end, c.receives-test.false))
-    c.receives.invariant.came
+returns-clause-goes_on g c =
+    let seen = g.D.Disk.seen in
+    let may_leave = g.D.Disk.may_leave in
+    let moment = g.D.Disk.moment in
+    let since = g.D.Disk.left_since in
+    let heard = g.V.Service.heard in
+    let p = c.args.me in
+    let x = around c.args.disk.now c.args.service.now (link_seen g.L.Link.sent g.L.Link.coming g.L.Link.faults c.args.link.now)
+    (sink_seen g.K.Sink.written g.K.Sink.faults c.args.output.now) in
+    let y = around c.receives.disk c.receives.service (link_seen g.L.Link.sent g.L.Link.coming g.L.Link.faults c.receives.link)
+    (sink_seen g.K.Sink.written g.K.Sink.faults c.receives.output) in
+    gets-all seen may_leave moment since heard (λ d image left. g.D.Disk.only_now d image left) p c.args.most c.args.running x c.receives.count
+    c.receives.last y (omega (arith, c.receives.auto.count-end, c.receives-test.false)) c.receives.invariant.came

@@ -9,7 +9,7 @@ pub returns-in-Ok : goal.returns-in-Ok
 unfolding most_lines
 returns-in-Ok g c = λ k seen.
     let same : c.in-Ok.number ≡ c.args.go + most_lines + 1 = omega (arith, c.in-Ok.ensures) in
-    subst (λ (m : ℕ). SeenAs (λ l. EndsAfter m k l (stop_of c.end_after.result)) c.end_after.new.lines.ahead
+    subst (λ (m : ℕ). SeenAs (λ l. EndsAfter c.args.most m k l (stop_of c.end_after.result)) c.end_after.new.lines.ahead
     (g.S.Source.left c.end_after.new.input) (g.S.Source.faults c.end_after.new.input)) same (c.end_after.ensures k seen)
 
 pub returns-in-Err : goal.returns-in-Err

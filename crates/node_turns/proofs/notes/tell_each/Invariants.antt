@@ -1,8 +1,19 @@
-use Rattle.std.proofs.Common.{◌≡◌, ◌++◌, take}
-use Rattle.std.specs.List.{flat_map}
-use Rattle.node_text.specs.Told.{note}
-use Rattle.node_defs.specs.Lines.{note_line}
+use Rattle.std.proofs.Common.{ℕ, List, [], take}
+use Rattle.group_defs.specs.Process.{Process}
+use Rattle.node_text.specs.Words.{GoesOn}
+use Rattle.node_defs.specs.Casts.{Cast}
+use Rattle.node_traces.specs.Outside.{LinkSeen}
+use Rattle.node_traces.specs.Service.{Asked, HeardBy}
+use Rattle.letting_laws.specs.Letting.{edge, LetOut}
+use Rattle.node_service.specs.Words.{IsHosted}
+use Rattle.node_turns.specs.Letters.{tells_of}
 use Rattle.node_turns.proofs.notes.tell_each.Given as goal
 
 abbrev pub invariant-notes : goal.invariant-notes
-invariant-notes l = l.text.items ≡ l.fn.text.items ++ flat_map (λ n. note_line l.me (note n)) (take l.note-index l.notes)
+invariant-notes g l = record {
+  told : (c : Cast) (at : ℕ → Process) (link : LinkSeen) (h : List Asked) → g.V.Service.heard l.fn.service h
+      → IsHosted c l.me (at l.me) l.process
+      → HeardBy g.V.Service.heard l.service (λ i. LetOut c at (tells_of l.me (take l.note-index l.notes)) (edge link l.fn.text.items [] h)
+      (edge link l.text.items [] i));
+  grows : GoesOn l.fn.text.items l.text.items;
+}

@@ -10,7 +10,7 @@ use Rattle.node_traces.specs.Goes.{Outside, Goes}
 use Rattle.node_traces.specs.Went.{Went}
 use Rattle.node_traces.proofs.Going.{nothing_goes}
 use Rattle.node_traces.proofs.Went.{went_on}
-use Rattle.node_taking.specs.Hosts.{IsNode, Running, cast_in, numbers_of}
+use Rattle.node_opening.specs.Hosts.{IsNode, Running, cast_in, numbers_of}
 use Rattle.node_taking.specs.Keeping.{at}
 use Rattle.node_taking.specs.Taking.{GoesOnTo, StopsSo}
 use Rattle.node_taking.proofs.Machine.{at-so}
