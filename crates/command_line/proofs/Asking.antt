@@ -1,5 +1,5 @@
 -- A command is read of the words that spell it, and of no others.
-use Rattle.std.proofs.Common.{◌≡◌, ℕ, Bool, true, false, ◌-◌, ◌^◌, ◌<◌, List, [], ◌∷◌, codes, Option, Some, None, IfSome, option_map, refl, sym, ap, subst, ◌∙◌, arith}
+use Rattle.std.proofs.Common.{◌≡◌, ℕ, Bool, true, false, ◌-◌, ◌^◌, ◌<◌, List, [], ◌∷◌, codes, map, Option, Some, None, IfSome, option_map, refl, sym, ap, subst, ◌∙◌, arith}
 use Rattle.std.specs.Prelude.{if◌then◌else◌, ◌&&◌}
 use Rattle.std.specs.Fmt.{decimal}
 use Rattle.hex.specs.Hex.{encode_lower}
@@ -10,9 +10,10 @@ use Rattle.text_defs.proofs.Bytes.{bytes_found, bytes_spelled}
 use Rattle.text_defs.proofs.Choosing.{if_some, map_some, some_is, then_some}
 use Rattle.text_defs.proofs.Numbers.{number_within_found, number_within_spelled}
 use Rattle.text_defs.proofs.Tests.{word_is, and_true}
-use Rattle.command_line.specs.Commands.{Asks, Command, Replay, Chain, Gen, Keygen, Node, IsOrder, KitOrder, plan_word}
+use Rattle.command_line.specs.Commands.{Asks, Command, Replay, Chain, Gen, Keygen, Node, Audit, IsOrder, KitOrder, plan_word}
 use Rattle.command_line.specs.Laws.{CommandIsSpelled}
-use Rattle.command_line.specs.Reading.{command_of, order_of, plan_of}
+use Rattle.command_line.specs.Reading.{command_of, listed_of, order_of, other_of, plan_of}
+use Rattle.command_line.proofs.RisingNumbers.{listed_found, listed_spelled}
 use Rattle.command_line.proofs.Plans.{plan_found, plan_spelled}
 
 -- ---- orders
@@ -49,8 +50,8 @@ order_spelled order fits =
 
 -- ---- commands
 
-command_found : (words : List (List ℕ)) (c : Command) → command_of words ≡ Some c → Asks words c
-command_found (word ∷ []) c e = of_replay (same_bytes word (codes "replay")) refl e
+other_found : (words : List (List ℕ)) (c : Command) → other_of words ≡ Some c → Asks words c
+other_found (word ∷ []) c e = of_replay (same_bytes word (codes "replay")) refl e
   where
     of_chain : (if same_bytes word (codes "chain") then Some Chain else None) ≡ Some c → Asks (word ∷ []) c
     of_chain e =
@@ -64,7 +65,7 @@ command_found (word ∷ []) c e = of_replay (same_bytes word (codes "replay")) r
     of_replay true is e = subst (Asks (word ∷ [])) (some_is (Replay false) c e)
         (record { fits = tt; spelled = λ i. word_is word (codes "replay") is i ∷ [] })
     of_replay false is e = of_chain e
-command_found (word ∷ further ∷ []) c e = of_gen (same_bytes word (codes "gen")) refl e
+other_found (word ∷ further ∷ []) c e = of_gen (same_bytes word (codes "gen")) refl e
   where
     of_short : (if same_bytes word (codes "replay") && same_bytes further (codes "short") then Some (Replay true) else None) ≡ Some c
         → Asks (word ∷ further ∷ []) c
@@ -93,13 +94,25 @@ command_found (word ∷ further ∷ []) c e = of_gen (same_bytes word (codes "ge
         let fits : read.0 < 2 ^ 32 = omega (arith, n.2) in
         subst (Asks (word ∷ further ∷ [])) read.2 (record { fits = fits; spelled = λ i. word_is word (codes "gen") is i ∷ n.0 i ∷ [] })
     of_gen false is e = of_node (same_bytes word (codes "node")) refl e
-command_found (word ∷ members ∷ roster ∷ keys ∷ seed ∷ []) c e =
+other_found (word ∷ members ∷ roster ∷ keys ∷ seed ∷ []) c e =
     let tested = if_some (same_bytes word (codes "keygen")) (option_map Keygen (order_of members roster keys seed)) c e in
     let read = map_some Keygen (order_of members roster keys seed) c tested.1 in
     let found = order_found members roster keys seed read.0 read.1 in
     subst (Asks (word ∷ members ∷ roster ∷ keys ∷ seed ∷ [])) read.2
     (record { fits = found.1; spelled = λ i. word_is word (codes "keygen") tested.0 i ∷ found.0 i })
-command_found _ c e = absurd cc
+other_found _ c e = absurd cc
+
+command_found : (words : List (List ℕ)) (c : Command) → command_of words ≡ Some c → Asks words c
+command_found [] c e = absurd cc
+command_found (word ∷ further) c e = of_audit (same_bytes word (codes "audit")) refl e
+  where
+    of_audit : (is_audit : Bool) → same_bytes word (codes "audit") ≡ is_audit
+        → (if is_audit then option_map Audit (listed_of further) else other_of (word ∷ further)) ≡ Some c → Asks (word ∷ further) c
+    of_audit true is e =
+        let read = map_some Audit (listed_of further) c e in
+        let found = listed_found further read.0 read.1 in
+        subst (Asks (word ∷ further)) read.2 (record { fits = found.1; spelled = λ i. word_is word (codes "audit") is i ∷ found.0 i })
+    of_audit false is e = other_found (word ∷ further) c e
 
 command_spelled : (c : Command) (words : List (List ℕ)) → Asks words c → command_of words ≡ Some c
 command_spelled (Replay false) words asks = ap command_of asks.spelled
@@ -110,6 +123,7 @@ command_spelled (Gen number) words asks =
     ap command_of asks.spelled ∙ ap (option_map Gen) (number_within_spelled 0 (2 ^ 32 - 1) number (omega arith) (omega arith) (omega arith))
 command_spelled (Keygen order) words asks = ap command_of asks.spelled ∙ ap (option_map Keygen) (order_spelled order asks.fits)
 command_spelled (Node file) words asks = ap command_of asks.spelled
+command_spelled (Audit listed) words asks = ap command_of asks.spelled ∙ ap (option_map Audit) (listed_spelled listed asks.fits)
 
 pub command_is_spelled : CommandIsSpelled
 command_is_spelled words c = (command_found words c, command_spelled c words)
@@ -123,3 +137,14 @@ asks_of view words (Some c) e = command_found words (view c) (sym e)
 
 pub asked_only : (words : List (List ℕ)) (o : Option Command) → o ≡ command_of words → (c : Command) → Asks words c → o ≡ Some c
 asked_only words o e c asks = e ∙ command_spelled c words asks
+
+-- the words behind `audit` spell the processes of the audit that they ask for
+pub asked_listed : (word : List ℕ) (words : List (List ℕ)) (listed : List ℕ) → Asks (word ∷ words) (Audit listed) → listed_of words ≡ Some listed
+asked_listed word words listed asks = ap listed_of (behind (map decimal listed) asks.spelled) ∙ listed_spelled listed asks.fits
+  where
+    behind : (spelled : List (List ℕ)) → word ∷ words ≡ codes "audit" ∷ spelled → words ≡ spelled
+    behind spelled e = cc
+
+pub or_is : (o : Option (List ℕ)) (put listed : List ℕ) → o ≡ Some listed → IfSome o (λ ps. put ≡ ps) → put ≡ listed
+or_is None put listed e is = absurd cc
+or_is (Some ps) put listed e is = is ∙ some_is ps listed e

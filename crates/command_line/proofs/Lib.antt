@@ -1,3 +1,4 @@
 mod Words
 mod Plans
+mod RisingNumbers
 mod Asking

@@ -7,7 +7,10 @@
 --                             typecodes of height, 5 to 7, and one-time parameter set, 1 to 4, or hss:L:H:W with L levels of such
 --                             trees, where they are built; SEED is 32 bytes in hexadecimal
 --   node FILE                 the kit and the script that are read run a node, whose journal is the file of this name; any word is one
-use Rattle.std.specs.Prelude.{◌≡◌, ℕ, Bool, true, false, ◌^◌, ◌<◌, ◌≤◌, List, [], ◌∷◌, ◌++◌, codes}
+--   audit P P ..              the kit and the journals that are read give what they say of these processes, which are taken as correct:
+--                             one at least, by rising numbers up to 63
+use Rattle.std.specs.Prelude.{◌≡◌, ℕ, Bool, true, false, ◌^◌, ◌<◌, ◌≤◌, List, [], ◌∷◌, ◌++◌, length, map, codes, All}
+use Rattle.std.specs.List.Sorted.{IsStrictlyIncreasing}
 use Rattle.std.specs.Fmt.{decimal}
 use Rattle.hex.specs.Hex.{encode_lower}
 use Rattle.signature_defs.specs.declared.OtsType.{OtsType}
@@ -34,6 +37,8 @@ pub data Command : Type 0 where
   Keygen : (order : KitOrder) → Command
   -- a node, whose journal is the file of this name
   Node : (file : List ℕ) → Command
+  -- an audit of journals, in which these processes are taken as correct
+  Audit : (listed : List ℕ) → Command
 
 -- ---- the words
 
@@ -56,6 +61,7 @@ command_words (Gen number) = codes "gen" ∷ decimal number ∷ []
 command_words (Keygen order) = codes "keygen" ∷ decimal order.members ∷ decimal order.roster ∷ plan_word order.keys
     ∷ encode_lower order.seed ∷ []
 command_words (Node file) = codes "node" ∷ file ∷ []
+command_words (Audit listed) = codes "audit" ∷ map decimal listed
 
 -- ---- the ranges
 
@@ -69,13 +75,20 @@ pub record IsOrder (order : KitOrder) : Type 0 where
   pub keys : IsPlan order.keys
   pub seed : AreBytes 32 order.seed
 
--- a Gen has a number of 32 bits, and a Keygen an order that can be carried out
+-- processes that an audit can take as correct: one at least, by rising numbers up to 63, which are 64 at most
+pub record AreListed (listed : List ℕ) : Type 0 where
+  pub some : 1 ≤ length listed
+  pub rising : IsStrictlyIncreasing listed
+  pub few : All (λ p. p ≤ 63) listed
+
+-- a Gen has a number of 32 bits, a Keygen an order that can be carried out, and an Audit processes that it can take as correct
 abbrev pub IsCommand : Command → Type 0
 IsCommand (Replay short) = Unit {0}
 IsCommand Chain = Unit {0}
 IsCommand (Gen number) = number < 2 ^ 32
 IsCommand (Keygen order) = IsOrder order
 IsCommand (Node file) = Unit {0}
+IsCommand (Audit listed) = AreListed listed
 
 -- the words are those of the command
 pub record Asks (words : List (List ℕ)) (command : Command) : Type 0 where

@@ -1,5 +1,5 @@
 -- The command that words ask for, word by word.
-use Rattle.std.specs.Prelude.{ℕ, ◌^◌, ◌-◌, ◌==◌, ◌&&◌, Bool, true, false, if◌then◌else◌, List, [], ◌∷◌, length, take, drop, slice_index, Option, Some, None, option_map, option_and_then, codes}
+use Rattle.std.specs.Prelude.{ℕ, ◌+◌, ◌^◌, ◌-◌, ◌==◌, ◌&&◌, Bool, true, false, if◌then◌else◌, List, [], ◌∷◌, length, take, drop, slice_index, Option, Some, None, option_map, option_and_then, codes}
 use Rattle.std.specs.Option.{option_or}
 use Rattle.byte_defs.specs.Equality.{same_bytes}
 use Rattle.byte_defs.specs.Choices.{and_then}
@@ -9,7 +9,7 @@ use Rattle.signature_defs.specs.Secrets.{levels_are_built}
 use Rattle.kit_defs.specs.declared.KeyPlan.{KeyPlan}
 use Rattle.kit_defs.specs.declared.KeyPlan.TheVariants.{Plain, Lms, Hss}
 use Rattle.text_defs.specs.Words.{number_within, bytes_of}
-use Rattle.command_line.specs.Commands.{KitOrder, Command, Replay, Chain, Gen, Keygen, Node}
+use Rattle.command_line.specs.Commands.{KitOrder, Command, Replay, Chain, Gen, Keygen, Node, Audit}
 
 -- what stands behind this front
 abbrev pub behind : List ℕ → List ℕ → Option (List ℕ)
@@ -51,15 +51,30 @@ order_of members roster keys seed =
     and_then (number_within 1 16 members) (λ n. and_then (number_within n 64 roster) (λ r. and_then (plan_of keys) (λ plan.
     option_map (λ s. record { members = n; roster = r; keys = plan; seed = s }) (bytes_of 32 seed))))
 
--- the command that the words ask for
-abbrev pub command_of : List (List ℕ) → Option Command
-command_of (word ∷ []) =
+-- the rising numbers up to 63 that the words spell, from this one on
+abbrev pub rising_from : ℕ → List (List ℕ) → Option (List ℕ)
+rising_from least [] = Some []
+rising_from least (word ∷ words) = and_then (number_within least 63 word) (λ p. option_map (λ ps. p ∷ ps) (rising_from (p + 1) words))
+
+-- the processes that the words behind `audit` spell, one at least
+abbrev pub listed_of : List (List ℕ) → Option (List ℕ)
+listed_of [] = None
+listed_of (word ∷ words) = rising_from 0 (word ∷ words)
+
+-- the command that the words ask for, unless it is an audit
+abbrev pub other_of : List (List ℕ) → Option Command
+other_of (word ∷ []) =
     if same_bytes word (codes "replay") then Some (Replay false) else
     (if same_bytes word (codes "chain") then Some Chain else None)
-command_of (word ∷ further ∷ []) =
+other_of (word ∷ further ∷ []) =
     if same_bytes word (codes "gen") then option_map Gen (number_within 0 (2 ^ 32 - 1) further) else
     (if same_bytes word (codes "node") then Some (Node further) else
     (if same_bytes word (codes "replay") && same_bytes further (codes "short") then Some (Replay true) else None))
-command_of (word ∷ members ∷ roster ∷ keys ∷ seed ∷ []) = if same_bytes word (codes "keygen")
+other_of (word ∷ members ∷ roster ∷ keys ∷ seed ∷ []) = if same_bytes word (codes "keygen")
     then option_map Keygen (order_of members roster keys seed) else None
-command_of _ = None
+other_of _ = None
+
+-- the command that the words ask for
+abbrev pub command_of : List (List ℕ) → Option Command
+command_of [] = None
+command_of (word ∷ further) = if same_bytes word (codes "audit") then option_map Audit (listed_of further) else other_of (word ∷ further)

@@ -1,5 +1,6 @@
 use command_line::{Command, KitOrder, read_command};
 use kit_defs::{KeyPlan, OtsType};
+use rp_base::PidSet;
 use std::alloc::Global;
 use std::test::Fail;
 
@@ -20,9 +21,9 @@ fn words_of(alloc: Global, line: &str) -> Result<Vec<String>, Fail> {
 }
 
 /// Whether the words of the line ask for this command.
-fn asks(alloc: Global, line: &str, command: Option<Command>) -> Result<bool, Fail> {
+fn asks(alloc: Global, line: &str, command: Option<&Command>) -> Result<bool, Fail> {
     let words = words_of(alloc, line)?;
-    Ok(read_command(&words) == command)
+    Ok(read_command(&words).as_ref() == command)
 }
 
 /// The words of a new kit: all but the first and the seed are given.
@@ -42,8 +43,14 @@ fn the_words_of_a_command_ask_for_it(rt: HostRuntime) -> Result<(), Fail> {
         ("node journal", Command::Node("journal")),
         ("node short", Command::Node("short")),
         ("node ", Command::Node("")),
+        ("audit 0", Command::Audit(PidSet::from_mask(1))),
+        (
+            "audit 0 1 2 63",
+            Command::Audit(PidSet::from_mask(1 << 63 | 7)),
+        ),
+        ("audit 9 10", Command::Audit(PidSet::from_mask(3 << 9))),
     ] {
-        assert!(rt; asks(rt.alloc(), line, Some(command))?, "{line}");
+        assert!(rt; asks(rt.alloc(), line, Some(&command))?, "{line}");
     }
     for (order, members, roster, keys) in [
         ("1 1 plain:0", 1, 1, KeyPlan::Plain(0)),
@@ -61,7 +68,7 @@ fn the_words_of_a_command_ask_for_it(rt: HostRuntime) -> Result<(), Fail> {
             seed: SEED_BYTES,
         });
         let line = keygen(rt.alloc(), order)?;
-        assert!(rt; asks(rt.alloc(), &line, Some(asked))?, "{order}");
+        assert!(rt; asks(rt.alloc(), &line, Some(&asked))?, "{order}");
     }
     Ok(())
 }
@@ -117,6 +124,15 @@ fn other_words_ask_for_nothing(rt: HostRuntime) -> Result<(), Fail> {
         "node",
         "node a b",
         "nodes a",
+        "audit",
+        "audit ",
+        "audit 64",
+        "audit 0 0",
+        "audit 1 0",
+        "audit 0 01",
+        "audit 0 1 2 3 4 5 6 7 8 7",
+        "audit 0 short",
+        "audits 0",
         "keygen",
         "keygen 4 4 plain:9",
         "keygen 4 4 plain:9 000102030405060708090a0b0c0d0e0f101112131415161718191a1b1c1d1ef",
@@ -125,6 +141,19 @@ fn other_words_ask_for_nothing(rt: HostRuntime) -> Result<(), Fail> {
     ] {
         assert!(rt; asks(rt.alloc(), line, None)?, "{line}");
     }
+    Ok(())
+}
+
+#[test]
+fn all_numbers_of_processes_can_be_listed(rt: HostRuntime) -> Result<(), Fail> {
+    let mut line = String::from_str(rt.alloc(), "audit")?;
+    for p in 0..64 {
+        line.push_str(&format!(in rt.alloc(); " {p}")?)?;
+    }
+    let all = Command::Audit(PidSet::from_mask(u64::MAX));
+    assert!(rt; asks(rt.alloc(), &line, Some(&all))?);
+    line.push_str(" 64")?;
+    assert!(rt; asks(rt.alloc(), &line, None)?);
     Ok(())
 }
 

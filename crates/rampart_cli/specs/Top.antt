@@ -1,12 +1,13 @@
 -- Which command the words of the program are.
 --
 -- What each command answers is said by relations between what a stream held before and what it holds now: of `replay`, `gen` and `keygen` in
--- `replay_words`, of `chain` in `chain_words`, of `node` in `node_loop`. Of a stream that does not tell what it holds, as standard input and output don't, these say
--- nothing of its bytes (`Answers` in `replay_words`). What is said by words, statuses and counts of faults holds of every stream.
+-- `replay_words`, of `chain` in `chain_words`, of `node` in `node_loop`, of `audit` in `audit_words`. Of a stream that does not tell what it
+-- holds, as standard input and output don't, these say nothing of its bytes (`Answers` in `replay_words`). What is said by words, statuses
+-- and counts of faults holds of every stream.
 use Rattle.std.specs.Prelude.{ℕ, List, map, String, string_bytes}
 use Rattle.std.specs.declared.alloc.Global.{Global}
 use Rattle.command_line.specs.Commands as commands
-use Rattle.command_line.specs.Commands.{Command, Node}
+use Rattle.command_line.specs.Commands.{Audit, Command, Node}
 
 -- the words are those of this command
 abbrev pub Asks : List (String Global) → Command → Type 0
@@ -19,3 +20,7 @@ AskAny words = (command : Command) × Asks words command
 -- the words ask for a node, whose journal is in a file of some name
 abbrev pub AskNode : List (String Global) → Type 0
 AskNode words = (file : List ℕ) × Asks words (Node file)
+
+-- the words ask for an audit, in which some processes are taken as correct
+abbrev pub AskAudit : List (String Global) → Type 0
+AskAudit words = (listed : List ℕ) × Asks words (Audit listed)

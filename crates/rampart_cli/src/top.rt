@@ -5,19 +5,22 @@ ghost use Rattle.replay_defs.specs.Reports.{report_of};
 ghost use Rattle.chain_laws.specs.Told.{AnswerTells};
 ghost use Rattle.chain_words.specs.Running as chains;
 ghost use Rattle.chain_words.specs.Running.{Answered, HasStatus, ShownAndSays, ShownInPart, SomeShown};
-ghost use Rattle.command_line.specs.Commands.{KitOrder, Replay, Chain, Gen, Keygen, Node};
+ghost use Rattle.audit_words.specs.Running as audits;
+ghost use Rattle.audit_words.specs.Running.{HasFindings, HasNoFindings, Unfound};
+ghost use Rattle.command_line.specs.Commands.{KitOrder, Replay, Chain, Gen, Keygen, Node, Audit};
 ghost use Rattle.node_defs.specs.Lives.{Found};
 ghost use Rattle.node_defs.specs.Nodes.{Snapper};
 ghost use Rattle.node_traces.specs.Seen.{link_seen, sink_seen, source_seen};
-ghost use Rattle.node_loop.specs.Ended.{HasEnded, SaysLast};
-ghost use Rattle.node_loop.specs.Inputs.{TellInOrder};
+ghost use Rattle.node_loop.specs.Ended.{HasEndedAlone, SaysLast};
+ghost use Rattle.node_loop.specs.Inputs.{TellInOrder, most_line_bytes};
 ghost use Rattle.rp_base.specs.Streams.{AppendsPrefix, Says};
 ghost use Rattle.replay_words.specs.Answers.{Reported, ReportedInPart, Stopped, kit_of_order, schedule_of_number};
-ghost use Rattle.rampart_cli.specs.Top.{Asks, AskAny, AskNode};
+ghost use Rattle.rampart_cli.specs.Top.{Asks, AskAny, AskAudit, AskNode};
 
+use audit_words::run_audit;
 use chain_words::chain;
-use command_line::{Command, read_command};
-use node_loop::host;
+use command_line::{Command, listed_in, read_command};
+use node_loop::{NoService, host};
 use replay_words::{Stop, run_gen, run_keygen, run_replay, tell};
 use rp_base::{Disk, Link, Sink, Source};
 use std::alloc::Global;
@@ -60,11 +63,16 @@ pub fn rampart<S: Source, K: Sink, D: Disk, L: Link>(
         → Answered (S.left input.old) (S.left input.new) (K.written output.old) (K.written output.new) }
 
     // node, whatever the status: what was done is a run of the node of the definitions, up to a stop with this status, and then the stop's
-    // line.
+    // line. Whatever its service was asked was answered with nothing: it says nothing, names nobody and has no line.
     ensures ended { (file : List ℕ) → Asks words.now (Node file) → (snap : Snapper) (f : Found)
-        → HasEnded D.seen D.may_leave D.moment D.left_since snap f (source_seen S.left S.faults input.old)
+        → HasEndedAlone D.seen D.may_leave D.moment D.left_since snap f (source_seen S.left S.faults input.old)
         (link_seen L.sent L.coming L.faults link.old) (sink_seen K.written K.faults output.old) disk.old (S.left input.new) (S.faults input.new)
         (link_seen L.sent L.coming L.faults link.new) (sink_seen K.written K.faults output.new) disk.new result }
+
+    // audit, 0: the input was read to its end, and the line of what an audit of it finds was written, and nothing else. Findings that are
+    // honest and bounded agree and are sound.
+    ensures audited { (listed : List ℕ) → Asks words.now (Audit listed) → result ≡ 0
+        → audits.Found listed (S.left input.old) (S.left input.new) (K.written output.old) (K.written output.new) }
 
     // 0: no read and no write failed.
     ensures steady { result ≡ 0
@@ -93,8 +101,8 @@ pub fn rampart<S: Source, K: Sink, D: Disk, L: Link>(
         → ShownAndSays (codes "stop 3 read\n") (S.left input.old) (S.left input.new)
         (K.written output.old) (K.written output.new) (K.faults output.old) (K.faults output.new) }
 
-    // 4: only where the sink failed; a prefix of the report, of the schedule, of the kit's text or of the lines of views was written and
-    // nothing else, or lines of the node and a prefix of one text more.
+    // 4: only where the sink failed; a prefix of the report, of the schedule, of the kit's text, of the lines of views or of the line of the
+    // findings was written and nothing else, or lines of the node and a prefix of one text more.
     ensures write { result ≡ 4 → Rose (K.faults output.old) (K.faults output.new) }
     ensures part { (short : Bool) → Asks words.now (Replay short) → result ≡ 4
         → ReportedInPart short (S.left input.old) (S.left input.new) (K.written output.old) (K.written output.new) }
@@ -104,9 +112,12 @@ pub fn rampart<S: Source, K: Sink, D: Disk, L: Link>(
         → AppendsPrefix (K.written output.old) (K.written output.new) (kit_of_order order) }
     ensures part_of_chain { Asks words.now Chain → result ≡ 4
         → ShownInPart (S.left input.old) (S.left input.new) (K.written output.old) (K.written output.new) }
+    ensures part_of_findings { (listed : List ℕ) → Asks words.now (Audit listed) → result ≡ 4
+        → audits.FoundInPart listed (S.left input.old) (S.left input.new) (K.written output.old) (K.written output.new) }
 
-    // 4, 7: no read failed.
+    // 4, 7, and 8 by audit: no read failed.
     ensures whole { (result ≡ 4) ⊎ (result ≡ 7) → S.faults input.new ≡ S.faults input.old }
+    ensures whole_journals { (listed : List ℕ) → Asks words.now (Audit listed) → result ≡ 8 → S.faults input.new ≡ S.faults input.old }
 
     // 5, 6: only where a call of the disk or a bind failed; at 6 nothing was sent, and nothing written but the line that says so.
     ensures kept { result ≡ 5 → Rose (D.faults disk.old) (D.faults disk.new) }
@@ -116,9 +127,15 @@ pub fn rampart<S: Source, K: Sink, D: Disk, L: Link>(
 
     // 7: what was read has no report, long or short, and the line says why. By chain: it has a fault, and the lines of the views before
     // the fault were written, and then its own. By node: its kit has one, or a line of its script is none.
-    ensures input { ¬ Asks words.now Chain → ¬ AskNode words.now → result ≡ 7 → Stopped (S.left input.old) (S.left input.new)
+    ensures input { ¬ Asks words.now Chain → ¬ AskNode words.now → ¬ AskAudit words.now → result ≡ 7 → Stopped (S.left input.old) (S.left input.new)
         (K.written output.old) (K.written output.new) (K.faults output.old) (K.faults output.new) }
     ensures fault { Asks words.now Chain → result ≡ 7 → chains.Refused (S.left input.old) (S.left input.new)
+        (K.written output.old) (K.written output.new) (K.faults output.old) (K.faults output.new) }
+
+    // audit, 7 and 8: what was read has no findings, whatever comes after it, for a reason of this status: 7 where a line is faulty or a listed
+    // process is not hosted by exactly one journal, 8 where a journal is refused. The line that says why was written and nothing else.
+    ensures audit_stops { (listed : List ℕ) → Asks words.now (Audit listed) → (result ≡ 7) ⊎ (result ≡ 8)
+        → Unfound listed result (S.left input.old) (S.left input.new)
         (K.written output.old) (K.written output.new) (K.faults output.old) (K.faults output.new) }
 
     // replay: an input with a report gives 0, and other input 7, where memory is left and nothing failed. No status but 0, 1, 3, 4 and 7
@@ -162,9 +179,20 @@ pub fn rampart<S: Source, K: Sink, D: Disk, L: Link>(
     // processes truly.
     ensures views { Asks words.now Chain → (read : List ℕ) → Consumes (S.left input.old) (S.left input.new) read → AnswerTells read }
 
+    // audit: an input of which something is found gives 0, and one of which nothing is found gives the status of the reason, where memory is
+    // left and nothing failed. No status but 0, 1, 3, 4, 7 and 8 comes.
+    ensures audit_completes { (listed : List ℕ) → Asks words.now (Audit listed) → HasFindings listed (S.left input.old)
+        → ¬ Rose (S.faults input.old) (S.faults input.new) → ¬ Rose (K.faults output.old) (K.faults output.new)
+        → (result ≡ 0) ⊎ (result ≡ 1) }
+    ensures audit_refuses { (listed : List ℕ) (status : ℕ) → Asks words.now (Audit listed) → HasNoFindings listed status (S.left input.old)
+        → ¬ Rose (S.faults input.old) (S.faults input.new)
+        → (result ≡ status) ⊎ (result ≡ 1) }
+    ensures only_audited { (listed : List ℕ) → Asks words.now (Audit listed)
+        → (result ≡ 0) ⊎ (result ≡ 1) ⊎ (result ≡ 3) ⊎ (result ≡ 4) ⊎ (result ≡ 7) ⊎ (result ≡ 8) }
+
     // node: an input and a journal in order give 0, where memory and room are left and nothing failed; a send or receive that fails changes no
     // status. But for 1, each read and each call of the disk that fails ends the node with its own status. No status but 0, 1 and 3 to 9 comes.
-    ensures hosts { (file : List ℕ) → Asks words.now (Node file) → TellInOrder (S.left input.old) (D.seen disk.old)
+    ensures hosts { (file : List ℕ) → Asks words.now (Node file) → TellInOrder most_line_bytes (S.left input.old) (D.seen disk.old)
         → ¬ Rose (S.faults input.old) (S.faults input.new) → ¬ Rose (K.faults output.old) (K.faults output.new)
         → ¬ Rose (D.faults disk.old) (D.faults disk.new) → (result ≡ 0) ⊎ (result ≡ 1) ⊎ (result ≡ 6) ⊎ (result ≡ 9) }
     ensures no_read { (file : List ℕ) → Asks words.now (Node file) → result ≢ 1 → result ≢ 3 → S.faults input.new ≡ S.faults input.old }
@@ -172,10 +200,11 @@ pub fn rampart<S: Source, K: Sink, D: Disk, L: Link>(
     ensures only_hosted { (file : List ℕ) → Asks words.now (Node file) → (result ≡ 0) ⊎ (result ≡ 1) ⊎ (result ≡ 3) ⊎ (result ≡ 4)
         ⊎ (result ≡ 5) ⊎ (result ≡ 6) ⊎ (result ≡ 7) ⊎ (result ≡ 8) ⊎ (result ≡ 9) }
 
-    // No other status comes, 5, 6, 8 and 9 only by node; and by other words neither disk nor link is touched.
+    // No other status comes, 5, 6 and 9 only by node and 8 only by node and audit; and but by node neither disk nor link is touched.
     ensures only { (result ≡ 0) ⊎ (result ≡ 1) ⊎ (result ≡ 2) ⊎ (result ≡ 3) ⊎ (result ≡ 4) ⊎ (result ≡ 5) ⊎ (result ≡ 6) ⊎ (result ≡ 7)
         ⊎ (result ≡ 8) ⊎ (result ≡ 9) }
-    ensures by_node { (result ≡ 5) ⊎ (result ≡ 6) ⊎ (result ≡ 8) ⊎ (result ≡ 9) → AskNode words.now }
+    ensures by_node { (result ≡ 5) ⊎ (result ≡ 6) ⊎ (result ≡ 9) → AskNode words.now }
+    ensures of_journals { result ≡ 8 → AskNode words.now ⊎ AskAudit words.now }
     ensures disk { ¬ AskNode words.now → disk.new ≡ disk.old }
     ensures link { ¬ AskNode words.now → link.new ≡ link.old }
 {
@@ -184,7 +213,8 @@ pub fn rampart<S: Source, K: Sink, D: Disk, L: Link>(
         Some(Command::Chain) => chain(alloc, input, output),
         Some(Command::Gen(number)) => run_gen(alloc, number, output),
         Some(Command::Keygen(ordered)) => run_keygen(alloc, &ordered, output),
-        Some(Command::Node(_)) => host(alloc, input, output, disk, link),
+        Some(Command::Audit(_)) => run_audit(alloc, listed_in(words), input, output),
+        Some(Command::Node(_)) => host(alloc, input, output, disk, link, &mut NoService),
         None => tell(output, Stop::Words),
     }
 }

@@ -1,11 +1,14 @@
-use Rattle.std.proofs.Common.{ℕ, Bool, subst, sym}
+use Rattle.std.proofs.Common.{ℕ, List, Bool, [], inl, inr, subst, sym}
 use Rattle.std.specs.Prelude.{IsSomeAnd, IsOk, IsErr}
 use Rattle.std.specs.Io.KnownBytes.{Appends}
 use Rattle.replay_defs.specs.Reports.{report_of}
-use Rattle.command_line.specs.Commands.{KitOrder, Replay, Gen, Keygen, Node}
+use Rattle.command_line.specs.Commands.{KitOrder, Replay, Gen, Keygen, Node, Audit}
 use Rattle.rp_base.specs.Streams.{AppendsPrefix}
 use Rattle.chain_laws.proofs.Told.{answer_tells_views}
+use Rattle.audit_words.specs.Running.{Found, FoundInPart, HasFindings, HasNoFindings, Unfound}
+use Rattle.node_traces.specs.Seen.{link_seen, sink_seen, source_seen}
 use Rattle.replay_words.specs.Answers.{Reported, ReportedInPart, kit_of_order, schedule_of_number}
+use Rattle.rampart_cli.proofs.Alone.{alone, own-lines}
 use Rattle.rampart_cli.proofs.Orders.{same_order, same_number, same_short, no_command}
 use Rattle.rampart_cli.proofs.top.rampart.Goals as goal
 
@@ -101,7 +104,7 @@ pub returns-in-Some-Node-clause-read_line : goal.returns-in-Some-Node-clause-rea
 returns-in-Some-Node-clause-read_line g c = λ no_chain no_node. absurd (no_node (_, rw c.in-Some-Node.field-0-is at c.in-Some-Node.ensures.found))
 
 pub returns-in-Some-Node-clause-input : goal.returns-in-Some-Node-clause-input
-returns-in-Some-Node-clause-input g c = λ no_chain no_node. absurd (no_node (_, rw c.in-Some-Node.field-0-is at c.in-Some-Node.ensures.found))
+returns-in-Some-Node-clause-input g c = λ no_chain no_node no_audit. absurd (no_node (_, rw c.in-Some-Node.field-0-is at c.in-Some-Node.ensures.found))
 
 pub returns-in-Some-Node-clause-by_node : goal.returns-in-Some-Node-clause-by_node
 returns-in-Some-Node-clause-by_node g c = λ _. (_, rw c.in-Some-Node.field-0-is at c.in-Some-Node.ensures.found)
@@ -111,3 +114,70 @@ returns-in-Some-Node-clause-disk g c = λ no_node. absurd (no_node (_, rw c.in-S
 
 pub returns-in-Some-Node-clause-link : goal.returns-in-Some-Node-clause-link
 returns-in-Some-Node-clause-link g c = λ no_node. absurd (no_node (_, rw c.in-Some-Node.field-0-is at c.in-Some-Node.ensures.found))
+
+pub returns-in-Some-Node-clause-ended : goal.returns-in-Some-Node-clause-ended
+returns-in-Some-Node-clause-ended g c = λ file asks snap f.
+    alone g.D.Disk.seen g.D.Disk.may_leave g.D.Disk.moment g.D.Disk.left_since snap f (source_seen g.S.Source.left g.S.Source.faults c.args.input.now)
+    (link_seen g.L.Link.sent g.L.Link.coming g.L.Link.faults c.args.link.now) (sink_seen g.K.Sink.written g.K.Sink.faults c.args.output.now)
+    c.args.disk.now (g.S.Source.left c.host.new.input) (g.S.Source.faults c.host.new.input)
+    (link_seen g.L.Link.sent g.L.Link.coming g.L.Link.faults c.host.new.link) (sink_seen g.K.Sink.written g.K.Sink.faults c.host.new.output)
+    c.host.new.disk c.host.result c.host.new.service (c.host.ensures.ended snap f [] tt)
+
+pub returns-in-Some-Node-clause-hosts : goal.returns-in-Some-Node-clause-hosts
+returns-in-Some-Node-clause-hosts g c = λ file asks order.
+    c.host.ensures.completes (own-lines (g.S.Source.left c.args.input.now) (g.D.Disk.seen c.args.disk.now) order)
+
+pub returns-in-Some-Node-clause-of_journals : goal.returns-in-Some-Node-clause-of_journals
+returns-in-Some-Node-clause-of_journals g c = λ _. inl (_, rw c.in-Some-Node.field-0-is at c.in-Some-Node.ensures.found)
+
+pub returns-in-Some-Audit-clause-of_journals : goal.returns-in-Some-Audit-clause-of_journals
+returns-in-Some-Audit-clause-of_journals g c = λ _. inr (_, rw c.in-Some-Audit.field-0-is at c.in-Some-Audit.ensures.found)
+
+pub returns-in-Some-Audit-clause-input : goal.returns-in-Some-Audit-clause-input
+returns-in-Some-Audit-clause-input g c = λ no_chain no_node no_audit.
+    absurd (no_audit (_, rw c.in-Some-Audit.field-0-is at c.in-Some-Audit.ensures.found))
+
+pub returns-in-Some-Audit-clause-audited : goal.returns-in-Some-Audit-clause-audited
+returns-in-Some-Audit-clause-audited g c = λ listed asks zero.
+    subst (λ (l : List ℕ). Found l (g.S.Source.left c.args.input.now) (g.S.Source.left c.run_audit.new.input)
+    (g.K.Sink.written c.args.output.now) (g.K.Sink.written c.run_audit.new.output))
+    (c.listed_in.ensures.audit listed asks)
+    (c.run_audit.ensures.audited zero)
+
+pub returns-in-Some-Audit-clause-part_of_findings : goal.returns-in-Some-Audit-clause-part_of_findings
+returns-in-Some-Audit-clause-part_of_findings g c = λ listed asks four.
+    subst (λ (l : List ℕ). FoundInPart l (g.S.Source.left c.args.input.now) (g.S.Source.left c.run_audit.new.input)
+    (g.K.Sink.written c.args.output.now) (g.K.Sink.written c.run_audit.new.output))
+    (c.listed_in.ensures.audit listed asks)
+    (c.run_audit.ensures.part four)
+
+pub returns-in-Some-Audit-clause-audit_stops : goal.returns-in-Some-Audit-clause-audit_stops
+returns-in-Some-Audit-clause-audit_stops g c = λ listed asks which.
+    subst (λ (l : List ℕ). Unfound l c.run_audit.result (g.S.Source.left c.args.input.now) (g.S.Source.left c.run_audit.new.input)
+    (g.K.Sink.written c.args.output.now) (g.K.Sink.written c.run_audit.new.output)
+    (g.K.Sink.faults c.args.output.now) (g.K.Sink.faults c.run_audit.new.output))
+    (c.listed_in.ensures.audit listed asks)
+    (c.run_audit.ensures.audit_stops which)
+
+pub returns-in-Some-Audit-clause-audit_completes : goal.returns-in-Some-Audit-clause-audit_completes
+returns-in-Some-Audit-clause-audit_completes g c = λ listed asks has calm calm_sink.
+    c.run_audit.ensures.completes
+    (subst (λ (l : List ℕ). HasFindings l (g.S.Source.left c.args.input.now))
+    (sym (c.listed_in.ensures.audit listed asks)) has)
+    calm calm_sink
+
+pub returns-in-Some-Audit-clause-audit_refuses : goal.returns-in-Some-Audit-clause-audit_refuses
+returns-in-Some-Audit-clause-audit_refuses g c = λ listed status asks none calm.
+    c.run_audit.ensures.refuses status
+    (subst (λ (l : List ℕ). HasNoFindings l status (g.S.Source.left c.args.input.now))
+    (sym (c.listed_in.ensures.audit listed asks)) none)
+    calm
+
+pub returns-in-None-clause-audit_completes : goal.returns-in-None-clause-audit_completes
+returns-in-None-clause-audit_completes g c = λ listed asks has calm calm_sink. absurd (no_command _ (c.in-None.ensures.only (Audit listed) asks))
+
+pub returns-in-None-clause-audit_refuses : goal.returns-in-None-clause-audit_refuses
+returns-in-None-clause-audit_refuses g c = λ listed status asks none calm. absurd (no_command _ (c.in-None.ensures.only (Audit listed) asks))
+
+pub returns-in-None-clause-only_audited : goal.returns-in-None-clause-only_audited
+returns-in-None-clause-only_audited g c = λ listed asks. absurd (no_command _ (c.in-None.ensures.only (Audit listed) asks))
