@@ -237,7 +237,7 @@ AREAS = {
     "a store": (1040, 20, 2, "store_defs store_laws following_laws store_rows store_records kv_service vote_client state_transfer store_words store_keys store_replies store_giving store_server"),
     "chains of views, and guards": (1040, 289, 2, "chain_defs chain_text_defs chain_laws chain_rows chain_check chain_words guard_defs guard_laws guard_rows"),
     "convictions and audits": (1040, 477, 2, "conviction_defs conviction_laws conviction audit_defs audit_laws evidence_laws findings_laws claim_firsts audit_claims audit_turns journal_steps audit_sources audit_walk audit_cast findings_json audit_core audit_input audit_words audit_rows"),
-    "nodes": (1040, 800, 2, "image_defs image_laws snapshot_defs snapshot_laws snapshot_rows snapshot_rp kept_images heard_images image_parts node_defs node_laws node_text node_keys node_hosts node_traces opening_laws resume_laws script_laws letting_laws letter_laws node_input node_opening node_turns sealing_laws node_taking node_receiving node_script stop_laws node_loop node_rows"),
+    "nodes": (1040, 800, 2, "image_defs image_laws snapshot_defs snapshot_laws snapshot_rows snapshot_rp kept_images heard_images image_parts node_defs node_laws node_text node_keys node_hosts node_traces node_service opening_laws resume_laws script_laws letting_laws letter_laws node_input node_opening node_turns sealing_laws node_taking node_receiving node_script stop_laws node_loop node_rows"),
 }
 
 # The lines from each area to those that it uses, without those that others imply.
