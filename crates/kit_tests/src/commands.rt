@@ -1,15 +1,8 @@
-use command_line::{Command, KitOrder, read_command};
-use kit_defs::{KeyPlan, OtsType};
-use rp_base::PidSet;
+use command_line::read_command;
 use std::alloc::Global;
 use std::test::Fail;
 
 const SEED: &str = "000102030405060708090a0b0c0d0e0f101112131415161718191a1b1c1d1eff";
-
-const SEED_BYTES: [u8; 32] = [
-    0, 1, 2, 3, 4, 5, 6, 7, 8, 9, 10, 11, 12, 13, 14, 15, 16, 17, 18, 19, 20, 21, 22, 23, 24, 25,
-    26, 27, 28, 29, 30, 255,
-];
 
 /// The words of a line.
 fn words_of(alloc: Global, line: &str) -> Result<Vec<String>, Fail> {
@@ -20,10 +13,11 @@ fn words_of(alloc: Global, line: &str) -> Result<Vec<String>, Fail> {
     Ok(words)
 }
 
-/// Whether the words of the line ask for this command.
-fn asks(alloc: Global, line: &str, command: Option<&Command>) -> Result<bool, Fail> {
+/// What the words of the line ask for, as it is printed: a command, or None.
+fn asked(alloc: Global, line: &str) -> Result<String, Fail> {
     let words = words_of(alloc, line)?;
-    Ok(read_command(&words).as_ref() == command)
+    let asked = read_command(&words);
+    Ok(format!(in alloc; "{asked:?}")?)
 }
 
 /// The words of a new kit: all but the first and the seed are given.
@@ -34,41 +28,51 @@ fn keygen(alloc: Global, order: &str) -> Result<String, Fail> {
 #[test]
 fn the_words_of_a_command_ask_for_it(rt: HostRuntime) -> Result<(), Fail> {
     for (line, command) in [
-        ("replay", Command::Replay { short: false }),
-        ("replay short", Command::Replay { short: true }),
-        ("chain", Command::Chain),
-        ("gen 0", Command::Gen(0)),
-        ("gen 1", Command::Gen(1)),
-        ("gen 4294967295", Command::Gen(u32::MAX)),
-        ("node journal", Command::Node("journal")),
-        ("node short", Command::Node("short")),
-        ("node ", Command::Node("")),
-        ("audit 0", Command::Audit(PidSet::from_mask(1))),
-        (
-            "audit 0 1 2 63",
-            Command::Audit(PidSet::from_mask(1 << 63 | 7)),
-        ),
-        ("audit 9 10", Command::Audit(PidSet::from_mask(3 << 9))),
+        ("replay", "Some(Replay { short: false })"),
+        ("replay short", "Some(Replay { short: true })"),
+        ("chain", "Some(Chain)"),
+        ("gen 0", "Some(Gen(0))"),
+        ("gen 1", "Some(Gen(1))"),
+        ("gen 4294967295", "Some(Gen(4294967295))"),
+        ("node journal", "Some(Node(\"journal\"))"),
+        ("node short", "Some(Node(\"short\"))"),
+        ("node ", "Some(Node(\"\"))"),
+        ("audit 0", "Some(Audit(PidSet(1)))"),
+        ("audit 0 1 2 63", "Some(Audit(PidSet(9223372036854775815)))"),
+        ("audit 9 10", "Some(Audit(PidSet(1536)))"),
     ] {
-        assert!(rt; asks(rt.alloc(), line, Some(&command))?, "{line}");
+        let asked = asked(rt.alloc(), line)?;
+        assert!(rt; asked.as_str() == command, "{line}");
     }
-    for (order, members, roster, keys) in [
-        ("1 1 plain:0", 1, 1, KeyPlan::Plain(0)),
-        ("16 64 plain:4294967295", 16, 64, KeyPlan::Plain(u32::MAX)),
-        ("4 7 lms:5:1", 4, 7, KeyPlan::Lms(5, OtsType::W1)),
-        ("4 7 lms:7:4", 4, 7, KeyPlan::Lms(7, OtsType::W8)),
-        ("4 7 hss:1:7:1", 4, 7, KeyPlan::Hss(1, 7, OtsType::W1)),
-        ("4 7 hss:2:7:4", 4, 7, KeyPlan::Hss(2, 7, OtsType::W8)),
-        ("4 7 hss:3:6:2", 4, 7, KeyPlan::Hss(3, 6, OtsType::W2)),
+    Ok(())
+}
+
+#[test]
+fn the_words_of_an_order_ask_for_its_kit(rt: HostRuntime) -> Result<(), Fail> {
+    for (order, plan) in [
+        ("1 1 plain:0", "members: 1, roster: 1, keys: Plain(0)"),
+        (
+            "16 64 plain:4294967295",
+            "members: 16, roster: 64, keys: Plain(4294967295)",
+        ),
+        ("4 7 lms:5:1", "members: 4, roster: 7, keys: Lms(5, W1)"),
+        ("4 7 lms:7:4", "members: 4, roster: 7, keys: Lms(7, W8)"),
+        (
+            "4 7 hss:1:7:1",
+            "members: 4, roster: 7, keys: Hss(1, 7, W1)",
+        ),
+        (
+            "4 7 hss:2:7:4",
+            "members: 4, roster: 7, keys: Hss(2, 7, W8)",
+        ),
+        (
+            "4 7 hss:3:6:2",
+            "members: 4, roster: 7, keys: Hss(3, 6, W2)",
+        ),
     ] {
-        let asked = Command::Keygen(KitOrder {
-            members,
-            roster,
-            keys,
-            seed: SEED_BYTES,
-        });
-        let line = keygen(rt.alloc(), order)?;
-        assert!(rt; asks(rt.alloc(), &line, Some(&asked))?, "{order}");
+        let asked = asked(rt.alloc(), &keygen(rt.alloc(), order)?)?;
+        let told = format!(in rt.alloc(); "Some(Keygen(KitOrder {{ {plan}, .. }}))")?;
+        assert!(rt; asked.as_str() == told.as_str(), "{order}");
     }
     Ok(())
 }
@@ -97,8 +101,8 @@ fn an_order_out_of_its_ranges_is_none(rt: HostRuntime) -> Result<(), Fail> {
         "4 4 hss:2:5:4:",
         "4 4 hss:2;5:4",
     ] {
-        let line = keygen(rt.alloc(), order)?;
-        assert!(rt; asks(rt.alloc(), &line, None)?, "{order}");
+        let asked = asked(rt.alloc(), &keygen(rt.alloc(), order)?)?;
+        assert!(rt; asked.as_str() == "None", "{order}");
     }
     Ok(())
 }
@@ -139,7 +143,8 @@ fn other_words_ask_for_nothing(rt: HostRuntime) -> Result<(), Fail> {
         "keygen 4 4 plain:9 000102030405060708090A0B0C0D0E0F101112131415161718191A1B1C1D1EFF",
         "replay 4 4 plain:9 000102030405060708090a0b0c0d0e0f101112131415161718191a1b1c1d1eff",
     ] {
-        assert!(rt; asks(rt.alloc(), line, None)?, "{line}");
+        let asked = asked(rt.alloc(), line)?;
+        assert!(rt; asked.as_str() == "None", "{line}");
     }
     Ok(())
 }
@@ -150,10 +155,11 @@ fn all_numbers_of_processes_can_be_listed(rt: HostRuntime) -> Result<(), Fail> {
     for p in 0..64 {
         line.push_str(&format!(in rt.alloc(); " {p}")?)?;
     }
-    let all = Command::Audit(PidSet::from_mask(u64::MAX));
-    assert!(rt; asks(rt.alloc(), &line, Some(&all))?);
+    let all = asked(rt.alloc(), &line)?;
+    assert!(rt; all.as_str() == "Some(Audit(PidSet(18446744073709551615)))");
     line.push_str(" 64")?;
-    assert!(rt; asks(rt.alloc(), &line, None)?);
+    let none = asked(rt.alloc(), &line)?;
+    assert!(rt; none.as_str() == "None");
     Ok(())
 }
 
