@@ -70,7 +70,7 @@ class Group(group.Group):
     def send(self, p, count):
         """Has p submit so many payloads at once, and returns how many seconds later all nodes have delivered them."""
         begun = time.perf_counter()
-        self.nodes[p].write("".join(f"{p} submit {os.urandom(PAYLOAD).hex()}\n" for _ in range(count)))
+        group.write_to(self.nodes[p].child, "".join(f"{p} submit {os.urandom(PAYLOAD).hex()}\n" for _ in range(count)))
         for _ in range(count * len(self.nodes)):
             self.delivered.get(timeout=60)
         return time.perf_counter() - begun

@@ -222,39 +222,44 @@ class Kit:
 # ---- nodes
 
 
+def write_to(child, text):
+    try:
+        child.stdin.write(text)
+        child.stdin.flush()
+    except (OSError, ValueError):
+        pass
+
+
 class Node:
     """One process: its node, while it runs, and what the node said."""
 
     def __init__(self, group, p):
         self.group, self.p = group, p
         self.child = None
+        # whether the node that was started last has opened its journal and its port
+        self.is_open = False
         self.view, self.members, self.delivered, self.submitted = 0, "", 0, 0
         self.texts = {}
-        
+
     @property
     def runs(self):
         return self.child is not None and self.child.poll() is None
 
     def start(self):
         inside_of = self.group.network and self.group.network.processes[self.p].pid
-        self.child = subprocess.Popen(
+        child = subprocess.Popen(
             [self.group.program, "node", str(self.group.folder / f"{self.p}.journal")],
             stdin=subprocess.PIPE, stdout=subprocess.PIPE, stderr=subprocess.STDOUT, text=True, bufsize=1,
             preexec_fn=(lambda: enter(inside_of)) if inside_of else None, start_new_session=True)
         self.asked = self.ticked = time.monotonic()
-        self.waits = False
-        self.write(self.group.kit.of(self.p))
-        threading.Thread(target=self.listen, args=(self.child,), daemon=True).start()
-
-    def write(self, text):
-        try:
-            self.child.stdin.write(text)
-            self.child.stdin.flush()
-        except (OSError, ValueError):
-            pass
+        self.waits = self.is_open = False
+        # before the node is fed lines of a script
+        write_to(child, self.group.kit.of(self.p))
+        self.child = child
+        threading.Thread(target=self.listen, args=(child,), daemon=True).start()
 
     def line(self, text):
-        self.write(f"{self.p} {text}\n")
+        write_to(self.child, f"{self.p} {text}\n")
 
     def listen(self, child):
         for line in child.stdout:
@@ -270,7 +275,7 @@ class Node:
             self.asked = 0 if words[2] == "64" else time.monotonic()
             return
         if words[0] == "host":
-            self.view, self.delivered = int(words[3]), int(words[5])
+            self.is_open, self.view, self.delivered = True, int(words[3]), int(words[5])
         elif words[0] == "view":
             self.view, self.members, self.submitted = int(words[2]), line.partition(" : ")[2], 0
         elif words[0] == "deliver":
@@ -396,11 +401,16 @@ class Group:
             self.say("-", ", ".join(f"{counts[it]} {it}" for it in ("sent", "lost", "twice", "late", "cut")))
 
     def audit(self):
-        data = self.kit.without_secrets().encode()
+        data, listed = self.kit.without_secrets().encode(), []
         for p in self.nodes:
-            journal = (self.folder / f"{p}.journal").read_bytes()
+            try:
+                journal = (self.folder / f"{p}.journal").read_bytes()
+            except FileNotFoundError:
+                # it has not run yet
+                continue
+            listed.append(p)
             data += f"journal {len(journal)}\n".encode() + journal
-        words = [self.program, "audit", *map(str, self.nodes)]
+        words = [self.program, "audit", *map(str, listed)]
         done = subprocess.run(words, input=data, capture_output=True, check=False)
         self.say("-", (done.stdout + done.stderr).decode().rstrip("\n"))
 

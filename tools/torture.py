@@ -1,7 +1,7 @@
 #!/usr/bin/env python3
 """Drawn runs of groups of real nodes, and after each of them what must hold.
 
-    python3 tools/torture.py NUMBER COUNT [--program PROGRAM] [--show]
+    python3 tools/torture.py NUMBER COUNT [--program PROGRAM] [--show] [--plant FAULT]
 
 One run of each number from NUMBER on: a group of 4 to 7 nodes (tools/group.py), over a network that loses, repeats and delays; with plain
 keys or trees; nodes are killed at any time and started again on their journals; cuts that heal; at most f liars, of whom some members are
@@ -10,11 +10,15 @@ and time goes on. Then
 
 - no correct process has signed two texts for one slot, nor two bodies with one leaf, in any datagram that a node sent;
 - what the nodes wrote agrees: one message for a view, place, sender and number, each delivered once by a node, in rising order;
-- an audit of all journals says `agree` and `sound`, and convicts nobody but liars;
+- an audit of all journals says `honest`, `agree` and `sound`, and convicts nobody but liars;
 - what a journal holds is at least what its node wrote.
 
+Where members were removed until liars were more than f of a view, the audit says that the run is not bounded, and agreement is not asked for.
 What a correct member that stayed was given to send, and was not delivered by all that stayed within 100 ticks, is counted and is no fault:
 nothing promises progress. A run that breaks a rule is printed with its number; the status is 1 then.
+
+--plant makes a fault, to show that it is seen: `forget`, a node that is started again lacks the last entry of its journal, as one would
+that sends before it syncs; `anew`, it begins with no journal; `skip`, the audit is not handed the journal of one correct process.
 """
 import argparse
 import collections
@@ -29,6 +33,10 @@ import schedules
 
 TICK = 0.1
 MOST_TICKS = 100
+# within which a node that is started opens its journal
+MOST_SECONDS = 60
+# the bytes of a journal before its entries
+HEADER = 60
 # where the words of a slot end in a statement of each kind, which begins with its kind and view; a Notify has no slot of one content
 SLOT = {schedules.INIT: 5, schedules.ECHO: 6, schedules.ORDER: 5, schedules.PLACE: 5, schedules.KEEP: 5, schedules.END: 3,
         schedules.LAST: 4, schedules.SUGGEST: 4, schedules.ACK: 4, schedules.READY: 4}
@@ -80,6 +88,14 @@ class Watch(group.Network):
                 self.faults.append(f"{signer} signed two texts with leaf {leaf[1].hex()}")
 
 
+def last_entry(journal):
+    """Where the last entry of a journal begins, if it has one."""
+    last, at = None, HEADER
+    while journal[at : at + 1] == b"\1":
+        last, at = at, at + 5 + int.from_bytes(journal[at + 1 : at + 5], "big")
+    return last
+
+
 class Run(group.Group):
     """A group whose lines are kept."""
 
@@ -88,6 +104,7 @@ class Run(group.Group):
         self.n = self.draw.choice([4, 4, 4, 5, 7])
         self.trees = self.draw.random() < 0.2
         self.liars = set(self.draw.sample(range(self.n), self.draw.randint(0, (self.n - 1) // 3))) if not self.trees else set()
+        self.plant = words.plant
         self.shows, self.heard, self.count = words.show, collections.defaultdict(list), collections.Counter()
         keys = "lms:5:4" if self.trees else "plain:100000"
         super().__init__(argparse.Namespace(
@@ -107,6 +124,15 @@ class Run(group.Group):
             self.count[line.split()[0]] += 1
 
     # -- what happens
+
+    def start(self, p):
+        path = self.folder / f"{p}.journal"
+        if self.plant in ("forget", "anew") and path.exists():
+            journal = path.read_bytes()
+            last = last_entry(journal) if self.plant == "forget" else 0
+            if last is not None:
+                path.write_bytes(journal[:last] + b"\0" if last else b"")
+        super().start(p)
 
     def running(self):
         return [p for p, it in self.nodes.items() if it.runs]
@@ -153,11 +179,20 @@ class Run(group.Group):
         for p, it in self.nodes.items():
             if not it.runs:
                 self.start(p)
+        self.wait_until_open()
         for ticks in range(MOST_TICKS):
             time.sleep(TICK)
             if ticks > 10 and not self.missing():
                 return
         self.count["late runs"] += 1
+
+    def wait_until_open(self):
+        """Until each node that was started has opened its journal, which may take long on a machine with much else to do."""
+        until = time.monotonic() + MOST_SECONDS
+        while not all(it.is_open for it in self.nodes.values()) and time.monotonic() < until:
+            time.sleep(TICK)
+        self.network.faults += [f"{p} was not opened in {MOST_SECONDS} seconds, and wrote last {self.heard[p][-2:]}"
+                                for p, it in self.nodes.items() if not it.is_open]
 
     def missing(self):
         """Whether a correct node that was never out of the view lacks what another of them was given to send."""
@@ -175,8 +210,10 @@ class Run(group.Group):
 
     def faults(self):
         yield from self.network.faults
-        yield from self.disagreements()
-        yield from self.of_audit()
+        of_audit = list(self.of_audit())
+        if not self.count["unbounded"]:
+            yield from self.disagreements()
+        yield from of_audit
 
     def disagreements(self):
         messages, places = {}, {}
@@ -198,6 +235,8 @@ class Run(group.Group):
         data = self.kit.without_secrets().encode()
         for p in self.nodes:
             self.nodes[p].kill()
+            if self.plant == "skip" and p == min(self.nodes.keys() - self.liars):
+                continue
             journal = (self.folder / f"{p}.journal").read_bytes()
             data += f"journal {len(journal)}\n".encode() + journal
         correct = [p for p in self.nodes if p not in self.liars]
@@ -209,7 +248,12 @@ class Run(group.Group):
             yield f"the audit ended with {done.returncode}: {done.stdout.decode()}"
             return
         found = json.loads(done.stdout)
-        yield from (f"the audit says {it} {found[it]}" for it in ("agree", "sound", "honest", "bounded") if not found[it])
+        views = [members for it in found["processes"] for members in it["views"]]
+        bounded = all(len(self.liars.intersection(members)) <= (len(members) - 1) // 3 for members in views)
+        self.count["unbounded"] += not bounded
+        if found["bounded"] != bounded:
+            yield f"the audit says bounded {found['bounded']}"
+        yield from (f"the audit says {it} {found[it]}" for it in ("agree", "sound", "honest") if bounded and not found[it])
         yield from (f"the audit convicts {it['process']}" for it in found["convicted"] if it["process"] not in self.liars)
         self.count["convicted"] += len(found["convicted"])
         for it in found["processes"]:
@@ -241,11 +285,12 @@ def main():
     words.add_argument("runs", type=int)
     words.add_argument("--program", default=str(group.TOP / "rampart"))
     words.add_argument("--show", action="store_true")
+    words.add_argument("--plant", choices=["forget", "anew", "skip"])
     words = words.parse_args()
     counts, wrong = collections.Counter(), 0
     for number in range(words.number, words.number + words.runs):
         wrong += one(number, words, counts)
-    told = ("kills", "starts", "cuts", "lies", "deliver", "view", "liar", "refused", "spent", "convicted", "late runs", "unaudited")
+    told = ("kills", "starts", "cuts", "lies", "deliver", "view", "liar", "refused", "spent", "convicted", "late runs", "unbounded", "unaudited")
     print(f"{words.runs} runs, {wrong} wrong; {', '.join(f'{counts[it]} {it}' for it in told)}")
     sys.exit(1 if wrong else 0)
 
