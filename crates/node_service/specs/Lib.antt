@@ -1,3 +1,5 @@
 pub mod Answers
+pub mod Histories
+pub mod Kits
 pub mod Silent
 pub mod Words

@@ -1,3 +1,4 @@
 pub mod Serving
 pub mod Notes
 pub mod Beginning
+pub mod Places
