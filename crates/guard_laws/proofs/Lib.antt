@@ -2,3 +2,4 @@ pub mod Convicting
 pub mod Evidence
 pub mod Running
 pub mod Grounds
+pub mod Accusing

@@ -1,10 +1,12 @@
 -- What a guard does, and whom it can't expel.
 use Rattle.std.specs.Prelude.{◌≡◌, ◌≢◌, ◌⊎◌, ℕ, ◌+◌, List, [], Some, IsTrue, All, Contains, slice_get}
+use Rattle.byte_defs.specs.Members.{has}
 use Rattle.message_defs.specs.Updates.{Update, Remove}
 use Rattle.message_defs.specs.Statements.{Notify}
+use Rattle.message_defs.specs.Spelling.{IsClaim}
 use Rattle.group_defs.specs.Views.{View, is_member, is_possible, next_view}
-use Rattle.group_defs.specs.Process.{Setting, Process, keyed}
-use Rattle.group_defs.specs.Events.{Event, Suspect}
+use Rattle.group_defs.specs.Process.{Setting, Process, keyed, start}
+use Rattle.group_defs.specs.Events.{Event, Suspect, Turn, run}
 use Rattle.group_defs.specs.Accounts.{group_of}
 use Rattle.group_defs.specs.Family.{Family, numbers, end_of, accounts, handed, handed_to, statements_of, Honest}
 use Rattle.group_defs.specs.Laws.{Premises}
@@ -56,3 +58,16 @@ abbrev pub ViewsHaveGrounds : Type 0
 ViewsHaveGrounds = (s : Setting) (guards : List Guard) (x : ℕ) (v w : View) → Premises (family_of s guards) → All (IsGuarded s) guards
     → slice_get (group_of (accounts (family_of s guards))).views x ≡ Some v
     → slice_get (group_of (accounts (family_of s guards))).views (x + 1) ≡ Some w → HasGrounds s guards v w
+
+-- ---- accusations
+
+-- the claims of each conflict that the process keeps are such as a frame can carry, and of each member of its view the roster has a key
+pub record CanAccuse (s : Setting) (p : Process) : Type 0 where
+  pub carried : All (λ pair. IsClaim pair.0 × IsClaim pair.1) p.conflicts
+  pub listed : All (λ m. IsTrue (has (keyed s) m)) p.pool.view.members
+
+-- So it is after any events, where what was handed over is such, and what the process has signed, and where the first members have keys:
+-- what a process accuses another with goes to all other members.
+abbrev pub RunsCanAccuse : Type 0
+RunsCanAccuse = (s : Setting) (me limit : ℕ) (ts : List Turn) → All (λ m. IsTrue (has (keyed s) m)) s.genesis.members
+    → All IsClaim (handed_to ts) → All IsClaim (run s (start s me limit) ts).signed → CanAccuse s (run s (start s me limit) ts)

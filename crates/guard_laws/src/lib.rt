@@ -1,7 +1,7 @@
 //! Laws of guards, over the definitions alone: whom they expel, and what ends the views of their group.
 #![tactic(auto)]
 
-ghost use Rattle.guard_laws.specs.Guards.{ExpelledIsConvicted, GuardsAreRuns, NoCorrectIsConvicted, NoCorrectIsExpelled, RemovalsAreHandedIn, ViewsHaveGrounds};
+ghost use Rattle.guard_laws.specs.Guards.{ExpelledIsConvicted, GuardsAreRuns, NoCorrectIsConvicted, NoCorrectIsExpelled, RemovalsAreHandedIn, RunsCanAccuse, ViewsHaveGrounds};
 
 /// A guard adds only what it may.
 pub fn guards_are_runs()
@@ -31,4 +31,9 @@ pub fn removals_are_handed_in()
 /// The views of a group of guards end by what was handed in from outside, or by conviction.
 pub fn views_have_grounds()
     ensures { ViewsHaveGrounds }
+{}
+
+/// What a process keeps of conflicts can be sent, and to all other members of its view.
+pub fn runs_can_accuse()
+    ensures { RunsCanAccuse }
 {}
