@@ -1,0 +1,5 @@
+use Rattle.store_service.proofs.Changes as laws
+use Rattle.store_service.proofs.laws.own_changes.Goals as goal
+
+pub returns : goal.returns
+returns c = laws.own_changes
