@@ -1,0 +1,10 @@
+mod Parts
+mod LinesRead
+mod Members
+mod Keys
+mod Questions
+mod Told
+mod Votes
+mod Runs
+mod Written
+mod Statuses
