@@ -10,10 +10,11 @@ use Rattle.text_defs.proofs.Bytes.{bytes_found, bytes_spelled}
 use Rattle.text_defs.proofs.Choosing.{if_some, map_some, some_is, then_some}
 use Rattle.text_defs.proofs.Numbers.{number_within_found, number_within_spelled}
 use Rattle.text_defs.proofs.Tests.{word_is, and_true}
-use Rattle.command_line.specs.Commands.{Asks, Command, Replay, Chain, Gen, Keygen, Node, Audit, IsOrder, KitOrder, plan_word}
+use Rattle.command_line.specs.Commands.{Asks, Command, Replay, Chain, Gen, Keygen, Node, Guard, Serve, Ask, Audit, IsOrder, KitOrder, plan_word}
 use Rattle.command_line.specs.Laws.{CommandIsSpelled}
-use Rattle.command_line.specs.Reading.{command_of, listed_of, order_of, other_of, plan_of}
+use Rattle.command_line.specs.Reading.{command_of, hosting_of, listed_of, order_of, other_of, payload_of, plan_of}
 use Rattle.command_line.proofs.RisingNumbers.{listed_found, listed_spelled}
+use Rattle.command_line.proofs.PayloadWords.{payload_found, payload_spelled}
 use Rattle.command_line.proofs.Plans.{plan_found, plan_spelled}
 
 -- ---- orders
@@ -50,6 +51,30 @@ order_spelled order fits =
 
 -- ---- commands
 
+hosting_found : (word file : List ℕ) (c : Command) → hosting_of word file ≡ Some c → Asks (word ∷ file ∷ []) c
+hosting_found word file c e = of_node (same_bytes word (codes "node")) refl e
+  where
+    of_serve : (if same_bytes word (codes "serve") then Some (Serve file) else None) ≡ Some c → Asks (word ∷ file ∷ []) c
+    of_serve e =
+        let tested = if_some (same_bytes word (codes "serve")) (Some (Serve file)) c e in
+        subst (Asks (word ∷ file ∷ [])) (some_is (Serve file) c tested.1)
+        (record { fits = tt; spelled = λ i. word_is word (codes "serve") tested.0 i ∷ file ∷ [] })
+
+    of_guard : (is_guard : Bool) → same_bytes word (codes "guard") ≡ is_guard
+        → (if is_guard then Some (Guard file) else (if same_bytes word (codes "serve") then Some (Serve file) else None)) ≡ Some c
+        → Asks (word ∷ file ∷ []) c
+    of_guard true is e = subst (Asks (word ∷ file ∷ [])) (some_is (Guard file) c e)
+        (record { fits = tt; spelled = λ i. word_is word (codes "guard") is i ∷ file ∷ [] })
+    of_guard false is e = of_serve e
+
+    of_node : (is_node : Bool) → same_bytes word (codes "node") ≡ is_node
+        → (if is_node then Some (Node file) else (if same_bytes word (codes "guard") then Some (Guard file) else
+        (if same_bytes word (codes "serve") then Some (Serve file) else None))) ≡ Some c
+        → Asks (word ∷ file ∷ []) c
+    of_node true is e = subst (Asks (word ∷ file ∷ [])) (some_is (Node file) c e)
+        (record { fits = tt; spelled = λ i. word_is word (codes "node") is i ∷ file ∷ [] })
+    of_node false is e = of_guard (same_bytes word (codes "guard")) refl e
+
 other_found : (words : List (List ℕ)) (c : Command) → other_of words ≡ Some c → Asks words c
 other_found (word ∷ []) c e = of_replay (same_bytes word (codes "replay")) refl e
   where
@@ -67,33 +92,35 @@ other_found (word ∷ []) c e = of_replay (same_bytes word (codes "replay")) ref
     of_replay false is e = of_chain e
 other_found (word ∷ further ∷ []) c e = of_gen (same_bytes word (codes "gen")) refl e
   where
-    of_short : (if same_bytes word (codes "replay") && same_bytes further (codes "short") then Some (Replay true) else None) ≡ Some c
-        → Asks (word ∷ further ∷ []) c
-    of_short e =
-        let tested = if_some (same_bytes word (codes "replay") && same_bytes further (codes "short")) (Some (Replay true)) c e in
-        let both = and_true (same_bytes word (codes "replay")) (same_bytes further (codes "short")) tested.0 in
-        subst (Asks (word ∷ further ∷ [])) (some_is (Replay true) c tested.1)
+    of_short : (is_short : Bool) → same_bytes word (codes "replay") && same_bytes further (codes "short") ≡ is_short
+        → (if is_short then Some (Replay true) else hosting_of word further) ≡ Some c → Asks (word ∷ further ∷ []) c
+    of_short true is e =
+        let both = and_true (same_bytes word (codes "replay")) (same_bytes further (codes "short")) is in
+        subst (Asks (word ∷ further ∷ [])) (some_is (Replay true) c e)
         (record { fits = tt; spelled = λ i. word_is word (codes "replay") both.0 i ∷ word_is further (codes "short") both.1 i ∷ [] })
+    of_short false is e = hosting_found word further c e
 
-    of_node : (is_node : Bool) → same_bytes word (codes "node") ≡ is_node
-        → (if is_node then Some (Node further)
-        else (if same_bytes word (codes "replay") && same_bytes further (codes "short") then Some (Replay true) else None)) ≡ Some c
+    of_ask : (is_ask : Bool) → same_bytes word (codes "ask") ≡ is_ask
+        → (if is_ask then option_map Ask (payload_of further) else
+        (if same_bytes word (codes "replay") && same_bytes further (codes "short") then Some (Replay true) else hosting_of word further)) ≡ Some c
         → Asks (word ∷ further ∷ []) c
-    of_node true is e = subst (Asks (word ∷ further ∷ [])) (some_is (Node further) c e)
-        (record { fits = tt; spelled = λ i. word_is word (codes "node") is i ∷ further ∷ [] })
-    of_node false is e = of_short e
+    of_ask true is e =
+        let read = map_some Ask (payload_of further) c e in
+        let found = payload_found further read.0 read.1 in
+        subst (Asks (word ∷ further ∷ [])) read.2 (record { fits = found.1; spelled = λ i. word_is word (codes "ask") is i ∷ found.0 i ∷ [] })
+    of_ask false is e = of_short (same_bytes word (codes "replay") && same_bytes further (codes "short")) refl e
 
     of_gen : (is_gen : Bool) → same_bytes word (codes "gen") ≡ is_gen
         → (if is_gen then option_map Gen (number_within 0 (2 ^ 32 - 1) further) else
-        (if same_bytes word (codes "node") then Some (Node further) else
-        (if same_bytes word (codes "replay") && same_bytes further (codes "short") then Some (Replay true) else None))) ≡ Some c
+        (if same_bytes word (codes "ask") then option_map Ask (payload_of further) else
+        (if same_bytes word (codes "replay") && same_bytes further (codes "short") then Some (Replay true) else hosting_of word further))) ≡ Some c
         → Asks (word ∷ further ∷ []) c
     of_gen true is e =
         let read = map_some Gen (number_within 0 (2 ^ 32 - 1) further) c e in
         let n = number_within_found 0 (2 ^ 32 - 1) further read.0 read.1 in
         let fits : read.0 < 2 ^ 32 = omega (arith, n.2) in
         subst (Asks (word ∷ further ∷ [])) read.2 (record { fits = fits; spelled = λ i. word_is word (codes "gen") is i ∷ n.0 i ∷ [] })
-    of_gen false is e = of_node (same_bytes word (codes "node")) refl e
+    of_gen false is e = of_ask (same_bytes word (codes "ask")) refl e
 other_found (word ∷ members ∷ roster ∷ keys ∷ seed ∷ []) c e =
     let tested = if_some (same_bytes word (codes "keygen")) (option_map Keygen (order_of members roster keys seed)) c e in
     let read = map_some Keygen (order_of members roster keys seed) c tested.1 in
@@ -123,6 +150,9 @@ command_spelled (Gen number) words asks =
     ap command_of asks.spelled ∙ ap (option_map Gen) (number_within_spelled 0 (2 ^ 32 - 1) number (omega arith) (omega arith) (omega arith))
 command_spelled (Keygen order) words asks = ap command_of asks.spelled ∙ ap (option_map Keygen) (order_spelled order asks.fits)
 command_spelled (Node file) words asks = ap command_of asks.spelled
+command_spelled (Guard file) words asks = ap command_of asks.spelled
+command_spelled (Serve file) words asks = ap command_of asks.spelled
+command_spelled (Ask payload) words asks = ap command_of asks.spelled ∙ ap (option_map Ask) (payload_spelled payload asks.fits)
 command_spelled (Audit listed) words asks = ap command_of asks.spelled ∙ ap (option_map Audit) (listed_spelled listed asks.fits)
 
 pub command_is_spelled : CommandIsSpelled

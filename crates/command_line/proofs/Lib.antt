@@ -1,4 +1,5 @@
 mod Words
 mod Plans
 mod RisingNumbers
+mod PayloadWords
 mod Asking

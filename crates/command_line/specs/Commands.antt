@@ -7,12 +7,16 @@
 --                             typecodes of height, 5 to 7, and one-time parameter set, 1 to 4, or hss:L:H:W with L levels of such
 --                             trees, where they are built; SEED is 32 bytes in hexadecimal
 --   node FILE                 the kit and the script that are read run a node, whose journal is the file of this name; any word is one
+--   guard FILE                the same as a guard: on evidence it has its processes ask to remove others
+--   serve FILE                the same, and its processes serve a store
+--   ask HEX                   the kit, reply keys, view and replies that are read give what enough members of the view answered to this
+--                             payload: 1 to 1,024 bytes in hexadecimal
 --   audit P P ..              the kit and the journals that are read give what they say of these processes, which are taken as correct:
 --                             one at least, by rising numbers up to 63
 use Rattle.std.specs.Prelude.{◌≡◌, ℕ, Bool, true, false, ◌^◌, ◌<◌, ◌≤◌, List, [], ◌∷◌, ◌++◌, length, map, codes, All}
 use Rattle.std.specs.List.Sorted.{IsStrictlyIncreasing}
 use Rattle.std.specs.Fmt.{decimal}
-use Rattle.hex.specs.Hex.{encode_lower}
+use Rattle.hex.specs.Hex.{encode_lower, IsBytes}
 use Rattle.signature_defs.specs.declared.OtsType.{OtsType}
 use Rattle.signature_defs.specs.LmOts.{ots_typecode}
 use Rattle.kit_defs.specs.declared.KeyPlan.{KeyPlan}
@@ -37,6 +41,12 @@ pub data Command : Type 0 where
   Keygen : (order : KitOrder) → Command
   -- a node, whose journal is the file of this name
   Node : (file : List ℕ) → Command
+  -- a node that is a guard
+  Guard : (file : List ℕ) → Command
+  -- a node whose processes serve a store
+  Serve : (file : List ℕ) → Command
+  -- what the members of a view answered to a payload
+  Ask : (payload : List ℕ) → Command
   -- an audit of journals, in which these processes are taken as correct
   Audit : (listed : List ℕ) → Command
 
@@ -61,6 +71,9 @@ command_words (Gen number) = codes "gen" ∷ decimal number ∷ []
 command_words (Keygen order) = codes "keygen" ∷ decimal order.members ∷ decimal order.roster ∷ plan_word order.keys
     ∷ encode_lower order.seed ∷ []
 command_words (Node file) = codes "node" ∷ file ∷ []
+command_words (Guard file) = codes "guard" ∷ file ∷ []
+command_words (Serve file) = codes "serve" ∷ file ∷ []
+command_words (Ask payload) = codes "ask" ∷ encode_lower payload ∷ []
 command_words (Audit listed) = codes "audit" ∷ map decimal listed
 
 -- ---- the ranges
@@ -75,19 +88,29 @@ pub record IsOrder (order : KitOrder) : Type 0 where
   pub keys : IsPlan order.keys
   pub seed : AreBytes 32 order.seed
 
+-- a payload that answers can be asked of: 1 to 1,024 bytes
+pub record IsPayload (payload : List ℕ) : Type 0 where
+  pub some : 1 ≤ length payload
+  pub few : length payload ≤ 1024
+  pub bytes : IsBytes payload
+
 -- processes that an audit can take as correct: one at least, by rising numbers up to 63, which are 64 at most
 pub record AreListed (listed : List ℕ) : Type 0 where
   pub some : 1 ≤ length listed
   pub rising : IsStrictlyIncreasing listed
   pub few : All (λ p. p ≤ 63) listed
 
--- a Gen has a number of 32 bits, a Keygen an order that can be carried out, and an Audit processes that it can take as correct
+-- a Gen has a number of 32 bits, a Keygen an order that can be carried out, an Ask a payload that answers can be
+-- asked of, and an Audit processes that it can take as correct
 abbrev pub IsCommand : Command → Type 0
 IsCommand (Replay short) = Unit {0}
 IsCommand Chain = Unit {0}
 IsCommand (Gen number) = number < 2 ^ 32
 IsCommand (Keygen order) = IsOrder order
 IsCommand (Node file) = Unit {0}
+IsCommand (Guard file) = Unit {0}
+IsCommand (Serve file) = Unit {0}
+IsCommand (Ask payload) = IsPayload payload
 IsCommand (Audit listed) = AreListed listed
 
 -- the words are those of the command

@@ -1,6 +1,6 @@
 -- The command that words ask for, word by word.
-use Rattle.std.specs.Prelude.{ℕ, ◌+◌, ◌^◌, ◌-◌, ◌==◌, ◌&&◌, Bool, true, false, if◌then◌else◌, List, [], ◌∷◌, length, take, drop, slice_index, Option, Some, None, option_map, option_and_then, codes}
-use Rattle.std.specs.Option.{option_or}
+use Rattle.std.specs.Prelude.{ℕ, ◌+◌, ◌/◌, ◌^◌, ◌-◌, ◌==◌, ◌&&◌, nat_le, Bool, true, false, if◌then◌else◌, List, [], ◌∷◌, length, take, drop, slice_index, Option, Some, None, option_map, option_and_then, codes}
+use Rattle.std.specs.Option.{option_or, unwrap_or}
 use Rattle.byte_defs.specs.Equality.{same_bytes}
 use Rattle.byte_defs.specs.Choices.{and_then}
 use Rattle.signature_defs.specs.declared.OtsType.{OtsType}
@@ -9,7 +9,7 @@ use Rattle.signature_defs.specs.Secrets.{levels_are_built}
 use Rattle.kit_defs.specs.declared.KeyPlan.{KeyPlan}
 use Rattle.kit_defs.specs.declared.KeyPlan.TheVariants.{Plain, Lms, Hss}
 use Rattle.text_defs.specs.Words.{number_within, bytes_of}
-use Rattle.command_line.specs.Commands.{KitOrder, Command, Replay, Chain, Gen, Keygen, Node, Audit}
+use Rattle.command_line.specs.Commands.{KitOrder, Command, Replay, Chain, Gen, Keygen, Node, Guard, Serve, Ask, Audit}
 
 -- what stands behind this front
 abbrev pub behind : List ℕ → List ℕ → Option (List ℕ)
@@ -51,6 +51,14 @@ order_of members roster keys seed =
     and_then (number_within 1 16 members) (λ n. and_then (number_within n 64 roster) (λ r. and_then (plan_of keys) (λ plan.
     option_map (λ s. record { members = n; roster = r; keys = plan; seed = s }) (bytes_of 32 seed))))
 
+-- the payload that the word spells: two digits for each of 1 to 1,024 bytes
+abbrev pub payload_of : List ℕ → Option (List ℕ)
+payload_of word = if nat_le 2 (length word) && nat_le (length word) 2048 then bytes_of (length word / 2) word else None
+
+-- the same of a word that spells one
+abbrev pub spelled_payload : List ℕ → List ℕ
+spelled_payload word = unwrap_or (payload_of word) []
+
 -- the rising numbers up to 63 that the words spell, from this one on
 abbrev pub rising_from : ℕ → List (List ℕ) → Option (List ℕ)
 rising_from least [] = Some []
@@ -61,6 +69,13 @@ abbrev pub listed_of : List (List ℕ) → Option (List ℕ)
 listed_of [] = None
 listed_of (word ∷ words) = rising_from 0 (word ∷ words)
 
+-- the node that the word asks for, whose journal is in this file
+abbrev pub hosting_of : List ℕ → List ℕ → Option Command
+hosting_of word file =
+    if same_bytes word (codes "node") then Some (Node file) else
+    (if same_bytes word (codes "guard") then Some (Guard file) else
+    (if same_bytes word (codes "serve") then Some (Serve file) else None))
+
 -- the command that the words ask for, unless it is an audit
 abbrev pub other_of : List (List ℕ) → Option Command
 other_of (word ∷ []) =
@@ -68,8 +83,8 @@ other_of (word ∷ []) =
     (if same_bytes word (codes "chain") then Some Chain else None)
 other_of (word ∷ further ∷ []) =
     if same_bytes word (codes "gen") then option_map Gen (number_within 0 (2 ^ 32 - 1) further) else
-    (if same_bytes word (codes "node") then Some (Node further) else
-    (if same_bytes word (codes "replay") && same_bytes further (codes "short") then Some (Replay true) else None))
+    (if same_bytes word (codes "ask") then option_map Ask (payload_of further) else
+    (if same_bytes word (codes "replay") && same_bytes further (codes "short") then Some (Replay true) else hosting_of word further))
 other_of (word ∷ members ∷ roster ∷ keys ∷ seed ∷ []) = if same_bytes word (codes "keygen")
     then option_map Keygen (order_of members roster keys seed) else None
 other_of _ = None

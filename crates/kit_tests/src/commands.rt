@@ -37,6 +37,12 @@ fn the_words_of_a_command_ask_for_it(rt: HostRuntime) -> Result<(), Fail> {
         ("node journal", "Some(Node(\"journal\"))"),
         ("node short", "Some(Node(\"short\"))"),
         ("node ", "Some(Node(\"\"))"),
+        ("guard journal", "Some(Guard(\"journal\"))"),
+        ("guard short", "Some(Guard(\"short\"))"),
+        ("serve journal", "Some(Serve(\"journal\"))"),
+        ("serve ", "Some(Serve(\"\"))"),
+        ("ask 00", "Some(Ask(\"00\"))"),
+        ("ask 0162ff", "Some(Ask(\"0162ff\"))"),
         ("audit 0", "Some(Audit(PidSet(1)))"),
         ("audit 0 1 2 63", "Some(Audit(PidSet(9223372036854775815)))"),
         ("audit 9 10", "Some(Audit(PidSet(1536)))"),
@@ -128,6 +134,21 @@ fn other_words_ask_for_nothing(rt: HostRuntime) -> Result<(), Fail> {
         "node",
         "node a b",
         "nodes a",
+        "guard",
+        "guard a b",
+        "guards a",
+        "serve",
+        "serve a b",
+        "server a",
+        "ask",
+        "ask ",
+        "ask -",
+        "ask 0",
+        "ask 016",
+        "ask 0A",
+        "ask 0g",
+        "ask 01 62",
+        "asks 01",
         "audit",
         "audit ",
         "audit 64",
@@ -146,6 +167,20 @@ fn other_words_ask_for_nothing(rt: HostRuntime) -> Result<(), Fail> {
         let asked = asked(rt.alloc(), line)?;
         assert!(rt; asked.as_str() == "None", "{line}");
     }
+    Ok(())
+}
+
+#[test]
+fn answers_to_at_most_1024_bytes_can_be_asked_of(rt: HostRuntime) -> Result<(), Fail> {
+    let mut line = String::from_str(rt.alloc(), "ask ")?;
+    for _ in 0..1024 {
+        line.push_str("7f")?;
+    }
+    let all = asked(rt.alloc(), &line)?;
+    assert!(rt; all.as_str().starts_with("Some(Ask(\"7f7f"));
+    line.push_str("7f")?;
+    let none = asked(rt.alloc(), &line)?;
+    assert!(rt; none.as_str() == "None");
     Ok(())
 }
 

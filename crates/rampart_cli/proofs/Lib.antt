@@ -1,2 +1,4 @@
-mod Alone
 mod Orders
+mod ReadFaults
+mod Services
+mod Told

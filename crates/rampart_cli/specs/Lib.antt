@@ -1,1 +1,3 @@
 pub mod Top
+pub mod Hosts
+pub mod Told

@@ -1,4 +1,4 @@
-ghost use Rattle.std.specs.Prelude.{◌≡◌, ◌≢◌, ◌↔◌, ◌⊎◌, [], ℕ, Bool, List, codes, IsOk, IsErr, IsSomeAnd};
+ghost use Rattle.std.specs.Prelude.{◌≡◌, ◌≢◌, ◌↔◌, ◌⊎◌, [], ℕ, Bool, List, codes, None, IsOk, IsErr, IsSomeAnd};
 ghost use Rattle.std.specs.Io.KnownBytes.{Appends, Consumes, Keeps};
 ghost use Rattle.rp_base.specs.Causes.{Rose};
 ghost use Rattle.replay_defs.specs.Reports.{report_of};
@@ -7,7 +7,12 @@ ghost use Rattle.chain_words.specs.Running as chains;
 ghost use Rattle.chain_words.specs.Running.{Answered, HasStatus, ShownAndSays, ShownInPart, SomeShown};
 ghost use Rattle.audit_words.specs.Running as audits;
 ghost use Rattle.audit_words.specs.Running.{HasFindings, HasNoFindings, Unfound};
-ghost use Rattle.command_line.specs.Commands.{KitOrder, Replay, Chain, Gen, Keygen, Node, Audit};
+ghost use Rattle.store_asking.specs.Answers as answers;
+ghost use Rattle.store_asking.specs.Answers.{AnsweredInPart, AsksNothing};
+ghost use Rattle.command_line.specs.Commands.{KitOrder, Replay, Chain, Gen, Keygen, Node, Guard, Serve, Ask, Audit};
+ghost use Rattle.guard_service.specs.Answers.{AreGuards};
+ghost use Rattle.store_defs.specs.Words.{most_state_line_bytes};
+ghost use Rattle.store_service.specs.Service.{AreServed};
 ghost use Rattle.node_defs.specs.Lives.{Found};
 ghost use Rattle.node_defs.specs.Nodes.{Snapper};
 ghost use Rattle.node_traces.specs.Seen.{link_seen, sink_seen, source_seen};
@@ -15,8 +20,11 @@ ghost use Rattle.node_loop.specs.Ended.{HasEndedAlone, SaysLast};
 ghost use Rattle.node_loop.specs.Inputs.{TellInOrder, most_line_bytes};
 ghost use Rattle.rp_base.specs.Streams.{AppendsPrefix, Says};
 ghost use Rattle.replay_words.specs.Answers.{Reported, ReportedInPart, Stopped, kit_of_order, schedule_of_number};
-ghost use Rattle.rampart_cli.specs.Top.{Asks, AskAny, AskAudit, AskNode};
+ghost use Rattle.rampart_cli.specs.Hosts.{HasEndedWith};
+ghost use Rattle.rampart_cli.specs.Told.{AskTells};
+ghost use Rattle.rampart_cli.specs.Top.{Asks, AskAny, AskAudit, AskHost};
 
+use crate::asking::run_ask;
 use audit_words::run_audit;
 use chain_words::chain;
 use command_line::{Command, listed_in, read_command};
@@ -24,14 +32,20 @@ use node_loop::{NoService, host};
 use replay_words::{Stop, run_gen, run_keygen, run_replay, tell};
 use rp_base::{Disk, Link, Sink, Source};
 use std::alloc::Global;
+use store_service::Servers;
 
-/// The name of the file that is a node's journal: the word after `node`, and empty where the words ask for none.
+/// The name of the file that is a node's journal: the word after `node`, `guard` or `serve`, and empty where the words ask for none of
+/// these.
 pub fn journal_name(words: &[String]) -> &str
     ensures node { (file : List ℕ) → Asks words.now (Node file) → result.now ≡ file }
-    ensures other { ¬ AskNode words.now → result.now ≡ [] }
+    ensures guard { (file : List ℕ) → Asks words.now (Guard file) → result.now ≡ file }
+    ensures serve { (file : List ℕ) → Asks words.now (Serve file) → result.now ≡ file }
+    ensures other { ¬ AskHost words.now → result.now ≡ [] }
 {
     match read_command(words) {
         Some(Command::Node(file)) => file,
+        Some(Command::Guard(file)) => file,
+        Some(Command::Serve(file)) => file,
         _ => "",
     }
 }
@@ -62,10 +76,30 @@ pub fn rampart<S: Source, K: Sink, D: Disk, L: Link>(
     ensures shown { Asks words.now Chain → result ≡ 0
         → Answered (S.left input.old) (S.left input.new) (K.written output.old) (K.written output.new) }
 
+    // ask, 0: the input was read to its end, and the line of what enough members of its view answered to the payload, in valid replies, or that
+    // there is no such answer, was written, and nothing else.
+    ensures answered { (payload : List ℕ) → Asks words.now (Ask payload) → result ≡ 0
+        → answers.Answered payload (S.left input.old) (S.left input.new) (K.written output.old) (K.written output.new) }
+
     // node, whatever the status: what was done is a run of the node of the definitions, up to a stop with this status, and then the stop's
     // line. Whatever its service was asked was answered with nothing: it says nothing, names nobody and has no line.
     ensures ended { (file : List ℕ) → Asks words.now (Node file) → (snap : Snapper) (f : Found)
         → HasEndedAlone D.seen D.may_leave D.moment D.left_since snap f (source_seen S.left S.faults input.old)
+        (link_seen L.sent L.coming L.faults link.old) (sink_seen K.written K.faults output.old) disk.old (S.left input.new) (S.faults input.new)
+        (link_seen L.sent L.coming L.faults link.new) (sink_seen K.written K.faults output.new) disk.new result }
+
+    // guard, whatever the status: the same, but that its service answered each of these calls as a guard does: after a frame it names whom the
+    // frame shows and its process may expel, and by a line of its own a process sends the others what convicts one.
+    ensures ended_guard { (file : List ℕ) → Asks words.now (Guard file) → (snap : Snapper) (f : Found)
+        → HasEndedWith AreGuards D.seen D.may_leave D.moment D.left_since snap most_line_bytes f (source_seen S.left S.faults input.old)
+        (link_seen L.sent L.coming L.faults link.old) (sink_seen K.written K.faults output.old) disk.old (S.left input.new) (S.faults input.new)
+        (link_seen L.sent L.coming L.faults link.new) (sink_seen K.written K.faults output.new) disk.new result }
+
+    // serve, whatever the status: the same, but that its service answered each of these calls as the servers of a store do, of which each
+    // hosted process has one: they write a reply after each message, and answer lines of their own. And their lines may be longer.
+    ensures ended_serve { (file : List ℕ) → Asks words.now (Serve file) → (snap : Snapper) (f : Found)
+        → HasEndedWith (AreServed None) D.seen D.may_leave D.moment D.left_since snap most_state_line_bytes f
+        (source_seen S.left S.faults input.old)
         (link_seen L.sent L.coming L.faults link.old) (sink_seen K.written K.faults output.old) disk.old (S.left input.new) (S.faults input.new)
         (link_seen L.sent L.coming L.faults link.new) (sink_seen K.written K.faults output.new) disk.new result }
 
@@ -78,10 +112,10 @@ pub fn rampart<S: Source, K: Sink, D: Disk, L: Link>(
     ensures steady { result ≡ 0
         → (S.faults input.new ≡ S.faults input.old) × (K.faults output.new ≡ K.faults output.old) }
 
-    // 1: no memory is left, or chain has read 2^64 - 2 lines; nothing was written, but by chain the lines of views, and by node its lines. No
+    // 1: no memory is left, or chain has read 2^64 - 2 lines; nothing was written, but by chain the lines of views, and by a node its lines. No
     // clause says when memory is left: a body that answered 1 always, or for inputs of its choice, would meet this contract, and tests show
     // otherwise of their inputs (docs/TESTED.md).
-    ensures silent { ¬ Asks words.now Chain → ¬ AskNode words.now → result ≡ 1 → Keeps (K.written output.old) (K.written output.new) }
+    ensures silent { ¬ Asks words.now Chain → ¬ AskHost words.now → result ≡ 1 → Keeps (K.written output.old) (K.written output.new) }
     ensures some { Asks words.now Chain → result ≡ 1
         → SomeShown (S.left input.old) (S.left input.new) (K.written output.old) (K.written output.new) }
 
@@ -93,16 +127,16 @@ pub fn rampart<S: Source, K: Sink, D: Disk, L: Link>(
         (K.written output.old) (K.written output.new) (K.faults output.old) (K.faults output.new) }
 
     // 3: only where the source failed. The line that says so was written and nothing else, but by chain the lines of views before it, and by
-    // node its lines.
+    // a node its lines.
     ensures read { result ≡ 3 → Rose (S.faults input.old) (S.faults input.new) }
-    ensures read_line { ¬ Asks words.now Chain → ¬ AskNode words.now → result ≡ 3 → Says (codes "stop 3 read\n")
+    ensures read_line { ¬ Asks words.now Chain → ¬ AskHost words.now → result ≡ 3 → Says (codes "stop 3 read\n")
         (K.written output.old) (K.written output.new) (K.faults output.old) (K.faults output.new) }
     ensures read_behind_views { Asks words.now Chain → result ≡ 3
         → ShownAndSays (codes "stop 3 read\n") (S.left input.old) (S.left input.new)
         (K.written output.old) (K.written output.new) (K.faults output.old) (K.faults output.new) }
 
     // 4: only where the sink failed; a prefix of the report, of the schedule, of the kit's text, of the lines of views or of the line of the
-    // findings was written and nothing else, or lines of the node and a prefix of one text more.
+    // answer or the findings was written and nothing else, or lines of a node and a prefix of one text more.
     ensures write { result ≡ 4 → Rose (K.faults output.old) (K.faults output.new) }
     ensures part { (short : Bool) → Asks words.now (Replay short) → result ≡ 4
         → ReportedInPart short (S.left input.old) (S.left input.new) (K.written output.old) (K.written output.new) }
@@ -112,12 +146,14 @@ pub fn rampart<S: Source, K: Sink, D: Disk, L: Link>(
         → AppendsPrefix (K.written output.old) (K.written output.new) (kit_of_order order) }
     ensures part_of_chain { Asks words.now Chain → result ≡ 4
         → ShownInPart (S.left input.old) (S.left input.new) (K.written output.old) (K.written output.new) }
+    ensures part_of_answer { (payload : List ℕ) → Asks words.now (Ask payload) → result ≡ 4
+        → AnsweredInPart payload (S.left input.old) (S.left input.new) (K.written output.old) (K.written output.new) }
     ensures part_of_findings { (listed : List ℕ) → Asks words.now (Audit listed) → result ≡ 4
         → audits.FoundInPart listed (S.left input.old) (S.left input.new) (K.written output.old) (K.written output.new) }
 
-    // 4, 7, and 8 by audit: no read failed.
-    ensures whole { (result ≡ 4) ⊎ (result ≡ 7) → S.faults input.new ≡ S.faults input.old }
-    ensures whole_journals { (listed : List ℕ) → Asks words.now (Audit listed) → result ≡ 8 → S.faults input.new ≡ S.faults input.old }
+    // But for 1, each read and each call of the disk that fails ends the run with its own status.
+    ensures no_read { result ≢ 1 → result ≢ 3 → S.faults input.new ≡ S.faults input.old }
+    ensures no_disk { result ≢ 1 → result ≢ 5 → D.faults disk.new ≡ D.faults disk.old }
 
     // 5, 6: only where a call of the disk or a bind failed; at 6 nothing was sent, and nothing written but the line that says so.
     ensures kept { result ≡ 5 → Rose (D.faults disk.old) (D.faults disk.new) }
@@ -126,10 +162,14 @@ pub fn rampart<S: Source, K: Sink, D: Disk, L: Link>(
         × SaysLast (codes "stop 6 link\n") (sink_seen K.written K.faults output.old) (sink_seen K.written K.faults output.new) }
 
     // 7: what was read has no report, long or short, and the line says why. By chain: it has a fault, and the lines of the views before
-    // the fault were written, and then its own. By node: its kit has one, or a line of its script is none.
-    ensures input { ¬ Asks words.now Chain → ¬ AskNode words.now → ¬ AskAudit words.now → result ≡ 7 → Stopped (S.left input.old) (S.left input.new)
+    // the fault were written, and then its own. By ask: it has a fault, whatever comes after it, and the line says which. By a node: its kit
+    // has one, or a line of its script is none.
+    ensures input { (short : Bool) → Asks words.now (Replay short) → result ≡ 7 → Stopped (S.left input.old) (S.left input.new)
         (K.written output.old) (K.written output.new) (K.faults output.old) (K.faults output.new) }
     ensures fault { Asks words.now Chain → result ≡ 7 → chains.Refused (S.left input.old) (S.left input.new)
+        (K.written output.old) (K.written output.new) (K.faults output.old) (K.faults output.new) }
+
+    ensures unasked { (payload : List ℕ) → Asks words.now (Ask payload) → result ≡ 7 → answers.Refused (S.left input.old) (S.left input.new)
         (K.written output.old) (K.written output.new) (K.faults output.old) (K.faults output.new) }
 
     // audit, 7 and 8: what was read has no findings, whatever comes after it, for a reason of this status: 7 where a line is faulty or a listed
@@ -179,6 +219,23 @@ pub fn rampart<S: Source, K: Sink, D: Disk, L: Link>(
     // processes truly.
     ensures views { Asks words.now Chain → (read : List ℕ) → Consumes (S.left input.old) (S.left input.new) read → AnswerTells read }
 
+    // ask: an input in which a question stands gives 0, and one that has a fault gives 7, where memory is left and nothing failed. No status but
+    // 0, 1, 3, 4 and 7 comes.
+    ensures ask_completes { (payload : List ℕ) → Asks words.now (Ask payload) → answers.Asks (S.left input.old)
+        → ¬ Rose (S.faults input.old) (S.faults input.new) → ¬ Rose (K.faults output.old) (K.faults output.new)
+        → (result ≡ 0) ⊎ (result ≡ 1) }
+    ensures ask_refuses { (payload : List ℕ) → Asks words.now (Ask payload) → AsksNothing (S.left input.old)
+        → ¬ Rose (S.faults input.old) (S.faults input.new)
+        → (result ≡ 7) ⊎ (result ≡ 1) }
+    ensures only_answered { (payload : List ℕ) → Asks words.now (Ask payload)
+        → (result ≡ 0) ⊎ (result ≡ 1) ⊎ (result ≡ 3) ⊎ (result ≡ 4) ⊎ (result ≡ 7) }
+
+    // ask, whatever the status: of the answer to what was read. Where a question stands in it, it is an answer exactly where more than f members
+    // of the view gave one in valid replies; and this is the store's, where a correct process installed the view and the valid replies of
+    // correct processes are their own.
+    ensures accepted { (payload : List ℕ) → Asks words.now (Ask payload)
+        → (read : List ℕ) → Consumes (S.left input.old) (S.left input.new) read → AskTells payload read }
+
     // audit: an input of which something is found gives 0, and one of which nothing is found gives the status of the reason, where memory is
     // left and nothing failed. No status but 0, 1, 3, 4, 7 and 8 comes.
     ensures audit_completes { (listed : List ℕ) → Asks words.now (Audit listed) → HasFindings listed (S.left input.old)
@@ -190,31 +247,44 @@ pub fn rampart<S: Source, K: Sink, D: Disk, L: Link>(
     ensures only_audited { (listed : List ℕ) → Asks words.now (Audit listed)
         → (result ≡ 0) ⊎ (result ≡ 1) ⊎ (result ≡ 3) ⊎ (result ≡ 4) ⊎ (result ≡ 7) ⊎ (result ≡ 8) }
 
-    // node: an input and a journal in order give 0, where memory and room are left and nothing failed; a send or receive that fails changes no
-    // status. But for 1, each read and each call of the disk that fails ends the node with its own status. No status but 0, 1 and 3 to 9 comes.
+    // node, guard, serve: an input in the node's own words and a journal in order give 0, where memory and room are left and nothing failed; a send or
+    // receive that fails changes no status.
     ensures hosts { (file : List ℕ) → Asks words.now (Node file) → TellInOrder most_line_bytes (S.left input.old) (D.seen disk.old)
         → ¬ Rose (S.faults input.old) (S.faults input.new) → ¬ Rose (K.faults output.old) (K.faults output.new)
         → ¬ Rose (D.faults disk.old) (D.faults disk.new) → (result ≡ 0) ⊎ (result ≡ 1) ⊎ (result ≡ 6) ⊎ (result ≡ 9) }
-    ensures no_read { (file : List ℕ) → Asks words.now (Node file) → result ≢ 1 → result ≢ 3 → S.faults input.new ≡ S.faults input.old }
-    ensures no_disk { (file : List ℕ) → Asks words.now (Node file) → result ≢ 1 → result ≢ 5 → D.faults disk.new ≡ D.faults disk.old }
-    ensures only_hosted { (file : List ℕ) → Asks words.now (Node file) → (result ≡ 0) ⊎ (result ≡ 1) ⊎ (result ≡ 3) ⊎ (result ≡ 4)
-        ⊎ (result ≡ 5) ⊎ (result ≡ 6) ⊎ (result ≡ 7) ⊎ (result ≡ 8) ⊎ (result ≡ 9) }
+    ensures hosts_guard { (file : List ℕ) → Asks words.now (Guard file) → TellInOrder most_line_bytes (S.left input.old) (D.seen disk.old)
+        → ¬ Rose (S.faults input.old) (S.faults input.new) → ¬ Rose (K.faults output.old) (K.faults output.new)
+        → ¬ Rose (D.faults disk.old) (D.faults disk.new) → (result ≡ 0) ⊎ (result ≡ 1) ⊎ (result ≡ 6) ⊎ (result ≡ 9) }
+    ensures hosts_serve { (file : List ℕ) → Asks words.now (Serve file) → TellInOrder most_state_line_bytes (S.left input.old) (D.seen disk.old)
+        → ¬ Rose (S.faults input.old) (S.faults input.new) → ¬ Rose (K.faults output.old) (K.faults output.new)
+        → ¬ Rose (D.faults disk.old) (D.faults disk.new) → (result ≡ 0) ⊎ (result ≡ 1) ⊎ (result ≡ 6) ⊎ (result ≡ 9) }
 
-    // No other status comes, 5, 6 and 9 only by node and 8 only by node and audit; and but by node neither disk nor link is touched.
+    // No other status comes, 5, 6 and 9 only by node, guard and serve, and 8 only by these and audit; and by other words neither disk nor link
+    // is touched.
     ensures only { (result ≡ 0) ⊎ (result ≡ 1) ⊎ (result ≡ 2) ⊎ (result ≡ 3) ⊎ (result ≡ 4) ⊎ (result ≡ 5) ⊎ (result ≡ 6) ⊎ (result ≡ 7)
         ⊎ (result ≡ 8) ⊎ (result ≡ 9) }
-    ensures by_node { (result ≡ 5) ⊎ (result ≡ 6) ⊎ (result ≡ 9) → AskNode words.now }
-    ensures of_journals { result ≡ 8 → AskNode words.now ⊎ AskAudit words.now }
-    ensures disk { ¬ AskNode words.now → disk.new ≡ disk.old }
-    ensures link { ¬ AskNode words.now → link.new ≡ link.old }
+    ensures by_host { (result ≡ 5) ⊎ (result ≡ 6) ⊎ (result ≡ 9) → AskHost words.now }
+    ensures of_journals { result ≡ 8 → AskHost words.now ⊎ AskAudit words.now }
+    ensures disk { ¬ AskHost words.now → disk.new ≡ disk.old }
+    ensures link { ¬ AskHost words.now → link.new ≡ link.old }
 {
     match read_command(words) {
         Some(Command::Replay { short }) => run_replay(alloc, short, input, output),
         Some(Command::Chain) => chain(alloc, input, output),
         Some(Command::Gen(number)) => run_gen(alloc, number, output),
         Some(Command::Keygen(ordered)) => run_keygen(alloc, &ordered, output),
+        Some(Command::Ask(_)) => run_ask(alloc, words, input, output),
         Some(Command::Audit(_)) => run_audit(alloc, listed_in(words), input, output),
         Some(Command::Node(_)) => host(alloc, input, output, disk, link, &mut NoService),
+        Some(Command::Guard(_)) => host(
+            alloc,
+            input,
+            output,
+            disk,
+            link,
+            &mut guard_service::Guard,
+        ),
+        Some(Command::Serve(_)) => host(alloc, input, output, disk, link, &mut Servers::new(alloc)),
         None => tell(output, Stop::Words),
     }
 }

@@ -1,15 +1,22 @@
-use Rattle.std.proofs.Common.{ℕ, List, Bool, [], inl, inr, subst, sym}
+use Rattle.std.proofs.Common.{ℕ, List, Bool, [], None, inl, inr, subst, sym}
 use Rattle.std.specs.Prelude.{IsSomeAnd, IsOk, IsErr}
 use Rattle.std.specs.Io.KnownBytes.{Appends}
 use Rattle.replay_defs.specs.Reports.{report_of}
-use Rattle.command_line.specs.Commands.{KitOrder, Replay, Gen, Keygen, Node, Audit}
+use Rattle.command_line.specs.Commands.{KitOrder, Replay, Gen, Keygen, Node, Guard, Serve, Ask, Audit}
 use Rattle.rp_base.specs.Streams.{AppendsPrefix}
+use Rattle.node_loop.specs.Inputs.{most_line_bytes}
+use Rattle.guard_service.specs.Answers.{AreGuards}
+use Rattle.store_defs.specs.Words.{most_state_line_bytes}
+use Rattle.store_service.specs.Served.{HasServed}
+use Rattle.store_service.specs.Service.{AreServed}
 use Rattle.chain_laws.proofs.Told.{answer_tells_views}
 use Rattle.audit_words.specs.Running.{Found, FoundInPart, HasFindings, HasNoFindings, Unfound}
 use Rattle.node_traces.specs.Seen.{link_seen, sink_seen, source_seen}
 use Rattle.replay_words.specs.Answers.{Reported, ReportedInPart, kit_of_order, schedule_of_number}
-use Rattle.rampart_cli.proofs.Alone.{alone, own-lines}
 use Rattle.rampart_cli.proofs.Orders.{same_order, same_number, same_short, no_command}
+use Rattle.rampart_cli.proofs.ReadFaults.{none_failed, none_failed_either}
+use Rattle.rampart_cli.proofs.Services.{alone, alone_limit, guard_limit, in_order, serve_limit, with_service}
+use Rattle.rampart_cli.proofs.Told.{ask_tells}
 use Rattle.rampart_cli.proofs.top.rampart.Goals as goal
 
 pub returns-in-Some-Keygen-clause-made : goal.returns-in-Some-Keygen-clause-made
@@ -94,26 +101,114 @@ returns-in-None-clause-ended g c = λ file asks snap f. absurd (no_command _ (c.
 pub returns-in-None-clause-hosts : goal.returns-in-None-clause-hosts
 returns-in-None-clause-hosts g c = λ file asks order calm calm_sink calm_disk. absurd (no_command _ (c.in-None.ensures.only (Node file) asks))
 
-pub returns-in-None-clause-only_hosted : goal.returns-in-None-clause-only_hosted
-returns-in-None-clause-only_hosted g c = λ file asks. absurd (no_command _ (c.in-None.ensures.only (Node file) asks))
-
 pub returns-in-Some-Node-clause-silent : goal.returns-in-Some-Node-clause-silent
-returns-in-Some-Node-clause-silent g c = λ no_chain no_node. absurd (no_node (_, rw c.in-Some-Node.field-0-is at c.in-Some-Node.ensures.found))
+returns-in-Some-Node-clause-silent g c = λ no_chain no_host. absurd (no_host (_, inl (rw c.in-Some-Node.field-0-is at c.in-Some-Node.ensures.found)))
 
 pub returns-in-Some-Node-clause-read_line : goal.returns-in-Some-Node-clause-read_line
-returns-in-Some-Node-clause-read_line g c = λ no_chain no_node. absurd (no_node (_, rw c.in-Some-Node.field-0-is at c.in-Some-Node.ensures.found))
+returns-in-Some-Node-clause-read_line g c = λ no_chain no_host. absurd (no_host (_, inl (rw c.in-Some-Node.field-0-is at c.in-Some-Node.ensures.found)))
 
-pub returns-in-Some-Node-clause-input : goal.returns-in-Some-Node-clause-input
-returns-in-Some-Node-clause-input g c = λ no_chain no_node no_audit. absurd (no_node (_, rw c.in-Some-Node.field-0-is at c.in-Some-Node.ensures.found))
+pub returns-in-Some-Node-clause-by_host : goal.returns-in-Some-Node-clause-by_host
+returns-in-Some-Node-clause-by_host g c = λ _. (_, inl (rw c.in-Some-Node.field-0-is at c.in-Some-Node.ensures.found))
 
-pub returns-in-Some-Node-clause-by_node : goal.returns-in-Some-Node-clause-by_node
-returns-in-Some-Node-clause-by_node g c = λ _. (_, rw c.in-Some-Node.field-0-is at c.in-Some-Node.ensures.found)
+pub returns-in-Some-Node-clause-of_journals : goal.returns-in-Some-Node-clause-of_journals
+returns-in-Some-Node-clause-of_journals g c = λ _. inl (_, inl (rw c.in-Some-Node.field-0-is at c.in-Some-Node.ensures.found))
 
 pub returns-in-Some-Node-clause-disk : goal.returns-in-Some-Node-clause-disk
-returns-in-Some-Node-clause-disk g c = λ no_node. absurd (no_node (_, rw c.in-Some-Node.field-0-is at c.in-Some-Node.ensures.found))
+returns-in-Some-Node-clause-disk g c = λ no_host. absurd (no_host (_, inl (rw c.in-Some-Node.field-0-is at c.in-Some-Node.ensures.found)))
 
 pub returns-in-Some-Node-clause-link : goal.returns-in-Some-Node-clause-link
-returns-in-Some-Node-clause-link g c = λ no_node. absurd (no_node (_, rw c.in-Some-Node.field-0-is at c.in-Some-Node.ensures.found))
+returns-in-Some-Node-clause-link g c = λ no_host. absurd (no_host (_, inl (rw c.in-Some-Node.field-0-is at c.in-Some-Node.ensures.found)))
+
+pub returns-in-Some-Guard-clause-silent : goal.returns-in-Some-Guard-clause-silent
+returns-in-Some-Guard-clause-silent g c = λ no_chain no_host. absurd (no_host (_, inr (inl (rw c.in-Some-Guard.field-0-is at c.in-Some-Guard.ensures.found))))
+
+pub returns-in-Some-Guard-clause-read_line : goal.returns-in-Some-Guard-clause-read_line
+returns-in-Some-Guard-clause-read_line g c = λ no_chain no_host. absurd (no_host (_, inr (inl (rw c.in-Some-Guard.field-0-is at c.in-Some-Guard.ensures.found))))
+
+pub returns-in-Some-Guard-clause-by_host : goal.returns-in-Some-Guard-clause-by_host
+returns-in-Some-Guard-clause-by_host g c = λ _. (_, inr (inl (rw c.in-Some-Guard.field-0-is at c.in-Some-Guard.ensures.found)))
+
+pub returns-in-Some-Guard-clause-of_journals : goal.returns-in-Some-Guard-clause-of_journals
+returns-in-Some-Guard-clause-of_journals g c = λ _. inl (_, inr (inl (rw c.in-Some-Guard.field-0-is at c.in-Some-Guard.ensures.found)))
+
+pub returns-in-Some-Guard-clause-disk : goal.returns-in-Some-Guard-clause-disk
+returns-in-Some-Guard-clause-disk g c = λ no_host. absurd (no_host (_, inr (inl (rw c.in-Some-Guard.field-0-is at c.in-Some-Guard.ensures.found))))
+
+pub returns-in-Some-Guard-clause-link : goal.returns-in-Some-Guard-clause-link
+returns-in-Some-Guard-clause-link g c = λ no_host. absurd (no_host (_, inr (inl (rw c.in-Some-Guard.field-0-is at c.in-Some-Guard.ensures.found))))
+
+pub returns-in-Some-Guard-clause-ended_guard : goal.returns-in-Some-Guard-clause-ended_guard
+returns-in-Some-Guard-clause-ended_guard g c = λ file asks snap f.
+    with_service AreGuards (λ _ h. AreGuards h) (λ _ h are. are) 70000 most_line_bytes guard_limit
+    g.D.Disk.seen g.D.Disk.may_leave g.D.Disk.moment g.D.Disk.left_since snap f (source_seen g.S.Source.left g.S.Source.faults c.args.input.now)
+    (link_seen g.L.Link.sent g.L.Link.coming g.L.Link.faults c.args.link.now) (sink_seen g.K.Sink.written g.K.Sink.faults c.args.output.now)
+    c.args.disk.now (g.S.Source.left c.host-in-Some-Guard.new.input) (g.S.Source.faults c.host-in-Some-Guard.new.input)
+    (link_seen g.L.Link.sent g.L.Link.coming g.L.Link.faults c.host-in-Some-Guard.new.link) (sink_seen g.K.Sink.written g.K.Sink.faults c.host-in-Some-Guard.new.output)
+    c.host-in-Some-Guard.new.disk c.host-in-Some-Guard.result c.host-in-Some-Guard.new.service (c.host-in-Some-Guard.ensures.ended snap f [] tt)
+
+pub returns-in-Some-Guard-clause-hosts_guard : goal.returns-in-Some-Guard-clause-hosts_guard
+returns-in-Some-Guard-clause-hosts_guard g c = λ file asks order.
+    c.host-in-Some-Guard.ensures.completes (in_order 70000 most_line_bytes guard_limit (g.S.Source.left c.args.input.now) (g.D.Disk.seen c.args.disk.now) order)
+
+pub returns-in-Some-Replay-clause-no_read : goal.returns-in-Some-Replay-clause-no_read
+returns-in-Some-Replay-clause-no_read g c = none_failed c.run_replay.result (g.S.Source.faults c.args.input.now) (g.S.Source.faults c.run_replay.new.input)
+    c.run_replay.ensures.only c.run_replay.ensures.steady c.run_replay.ensures.whole
+
+pub returns-in-Some-Chain-clause-no_read : goal.returns-in-Some-Chain-clause-no_read
+returns-in-Some-Chain-clause-no_read g c = none_failed c.chain.result (g.S.Source.faults c.args.input.now) (g.S.Source.faults c.chain.new.input)
+    c.chain.ensures.only c.chain.ensures.steady c.chain.ensures.whole
+
+pub returns-in-Some-Ask-clause-no_read : goal.returns-in-Some-Ask-clause-no_read
+returns-in-Some-Ask-clause-no_read g c = none_failed c.run_ask.result (g.S.Source.faults c.args.input.now) (g.S.Source.faults c.run_ask.new.input)
+    c.run_ask.ensures.only c.run_ask.ensures.steady c.run_ask.ensures.whole
+
+pub returns-in-Some-Audit-clause-no_read : goal.returns-in-Some-Audit-clause-no_read
+returns-in-Some-Audit-clause-no_read g c = none_failed_either c.run_audit.result (g.S.Source.faults c.args.input.now) (g.S.Source.faults c.run_audit.new.input)
+    c.run_audit.ensures.only c.run_audit.ensures.steady c.run_audit.ensures.whole
+
+pub returns-in-Some-Serve-clause-silent : goal.returns-in-Some-Serve-clause-silent
+returns-in-Some-Serve-clause-silent g c = λ no_chain no_host. absurd (no_host (_, inr (inr (rw c.in-Some-Serve.field-0-is at c.in-Some-Serve.ensures.found))))
+
+pub returns-in-Some-Serve-clause-read_line : goal.returns-in-Some-Serve-clause-read_line
+returns-in-Some-Serve-clause-read_line g c = λ no_chain no_host. absurd (no_host (_, inr (inr (rw c.in-Some-Serve.field-0-is at c.in-Some-Serve.ensures.found))))
+
+pub returns-in-Some-Serve-clause-by_host : goal.returns-in-Some-Serve-clause-by_host
+returns-in-Some-Serve-clause-by_host g c = λ _. (_, inr (inr (rw c.in-Some-Serve.field-0-is at c.in-Some-Serve.ensures.found)))
+
+pub returns-in-Some-Serve-clause-of_journals : goal.returns-in-Some-Serve-clause-of_journals
+returns-in-Some-Serve-clause-of_journals g c = λ _. inl (_, inr (inr (rw c.in-Some-Serve.field-0-is at c.in-Some-Serve.ensures.found)))
+
+pub returns-in-Some-Serve-clause-disk : goal.returns-in-Some-Serve-clause-disk
+returns-in-Some-Serve-clause-disk g c = λ no_host. absurd (no_host (_, inr (inr (rw c.in-Some-Serve.field-0-is at c.in-Some-Serve.ensures.found))))
+
+pub returns-in-Some-Serve-clause-link : goal.returns-in-Some-Serve-clause-link
+returns-in-Some-Serve-clause-link g c = λ no_host. absurd (no_host (_, inr (inr (rw c.in-Some-Serve.field-0-is at c.in-Some-Serve.ensures.found))))
+
+pub returns-in-Some-Serve-clause-ended_serve : goal.returns-in-Some-Serve-clause-ended_serve
+returns-in-Some-Serve-clause-ended_serve g c = λ file asks snap f.
+    with_service (AreServed None) (λ v h. HasServed v h) (λ _ h are. are.answered) most_state_line_bytes most_state_line_bytes serve_limit
+    g.D.Disk.seen g.D.Disk.may_leave g.D.Disk.moment g.D.Disk.left_since snap f (source_seen g.S.Source.left g.S.Source.faults c.args.input.now)
+    (link_seen g.L.Link.sent g.L.Link.coming g.L.Link.faults c.args.link.now) (sink_seen g.K.Sink.written g.K.Sink.faults c.args.output.now)
+    c.args.disk.now (g.S.Source.left c.host-in-Some-Serve.new.input) (g.S.Source.faults c.host-in-Some-Serve.new.input)
+    (link_seen g.L.Link.sent g.L.Link.coming g.L.Link.faults c.host-in-Some-Serve.new.link) (sink_seen g.K.Sink.written g.K.Sink.faults c.host-in-Some-Serve.new.output)
+    c.host-in-Some-Serve.new.disk c.host-in-Some-Serve.result c.host-in-Some-Serve.new.service (c.host-in-Some-Serve.ensures.ended snap f []
+    (record { answered = tt; servers = λ kept. tt }))
+
+pub returns-in-Some-Serve-clause-hosts_serve : goal.returns-in-Some-Serve-clause-hosts_serve
+returns-in-Some-Serve-clause-hosts_serve g c = λ file asks order.
+    c.host-in-Some-Serve.ensures.completes (in_order most_state_line_bytes most_state_line_bytes serve_limit (g.S.Source.left c.args.input.now) (g.D.Disk.seen c.args.disk.now) order)
+
+pub returns-in-None-clause-ended_guard : goal.returns-in-None-clause-ended_guard
+returns-in-None-clause-ended_guard g c = λ file asks snap f. absurd (no_command _ (c.in-None.ensures.only (Guard file) asks))
+
+pub returns-in-None-clause-hosts_guard : goal.returns-in-None-clause-hosts_guard
+returns-in-None-clause-hosts_guard g c = λ file asks order calm calm_sink calm_disk. absurd (no_command _ (c.in-None.ensures.only (Guard file) asks))
+
+pub returns-in-None-clause-ended_serve : goal.returns-in-None-clause-ended_serve
+returns-in-None-clause-ended_serve g c = λ file asks snap f. absurd (no_command _ (c.in-None.ensures.only (Serve file) asks))
+
+pub returns-in-None-clause-hosts_serve : goal.returns-in-None-clause-hosts_serve
+returns-in-None-clause-hosts_serve g c = λ file asks order calm calm_sink calm_disk. absurd (no_command _ (c.in-None.ensures.only (Serve file) asks))
 
 pub returns-in-Some-Node-clause-ended : goal.returns-in-Some-Node-clause-ended
 returns-in-Some-Node-clause-ended g c = λ file asks snap f.
@@ -125,17 +220,10 @@ returns-in-Some-Node-clause-ended g c = λ file asks snap f.
 
 pub returns-in-Some-Node-clause-hosts : goal.returns-in-Some-Node-clause-hosts
 returns-in-Some-Node-clause-hosts g c = λ file asks order.
-    c.host.ensures.completes (own-lines (g.S.Source.left c.args.input.now) (g.D.Disk.seen c.args.disk.now) order)
-
-pub returns-in-Some-Node-clause-of_journals : goal.returns-in-Some-Node-clause-of_journals
-returns-in-Some-Node-clause-of_journals g c = λ _. inl (_, rw c.in-Some-Node.field-0-is at c.in-Some-Node.ensures.found)
+    c.host.ensures.completes (in_order 0 most_line_bytes alone_limit (g.S.Source.left c.args.input.now) (g.D.Disk.seen c.args.disk.now) order)
 
 pub returns-in-Some-Audit-clause-of_journals : goal.returns-in-Some-Audit-clause-of_journals
 returns-in-Some-Audit-clause-of_journals g c = λ _. inr (_, rw c.in-Some-Audit.field-0-is at c.in-Some-Audit.ensures.found)
-
-pub returns-in-Some-Audit-clause-input : goal.returns-in-Some-Audit-clause-input
-returns-in-Some-Audit-clause-input g c = λ no_chain no_node no_audit.
-    absurd (no_audit (_, rw c.in-Some-Audit.field-0-is at c.in-Some-Audit.ensures.found))
 
 pub returns-in-Some-Audit-clause-audited : goal.returns-in-Some-Audit-clause-audited
 returns-in-Some-Audit-clause-audited g c = λ listed asks zero.
@@ -172,6 +260,21 @@ returns-in-Some-Audit-clause-audit_refuses g c = λ listed status asks none calm
     (subst (λ (l : List ℕ). HasNoFindings l status (g.S.Source.left c.args.input.now))
     (sym (c.listed_in.ensures.audit listed asks)) none)
     calm
+
+pub returns-in-Some-Ask-clause-accepted : goal.returns-in-Some-Ask-clause-accepted
+returns-in-Some-Ask-clause-accepted g c = λ payload asks read taken. ask_tells payload read
+
+pub returns-in-None-clause-accepted : goal.returns-in-None-clause-accepted
+returns-in-None-clause-accepted g c = λ payload asks read taken. absurd (no_command _ (c.in-None.ensures.only (Ask payload) asks))
+
+pub returns-in-None-clause-ask_completes : goal.returns-in-None-clause-ask_completes
+returns-in-None-clause-ask_completes g c = λ payload asks stands calm calm_sink. absurd (no_command _ (c.in-None.ensures.only (Ask payload) asks))
+
+pub returns-in-None-clause-ask_refuses : goal.returns-in-None-clause-ask_refuses
+returns-in-None-clause-ask_refuses g c = λ payload asks none calm. absurd (no_command _ (c.in-None.ensures.only (Ask payload) asks))
+
+pub returns-in-None-clause-only_answered : goal.returns-in-None-clause-only_answered
+returns-in-None-clause-only_answered g c = λ payload asks. absurd (no_command _ (c.in-None.ensures.only (Ask payload) asks))
 
 pub returns-in-None-clause-audit_completes : goal.returns-in-None-clause-audit_completes
 returns-in-None-clause-audit_completes g c = λ listed asks has calm calm_sink. absurd (no_command _ (c.in-None.ensures.only (Audit listed) asks))
