@@ -1,0 +1,5 @@
+pub mod Reasons
+pub mod Lines
+pub mod Steps
+pub mod Judged
+pub mod Statuses

@@ -1,0 +1,4 @@
+pub mod Stops
+pub mod Running
+pub mod Places
+pub mod Seen

@@ -1,0 +1,105 @@
+//! Evidence from journals.
+ghost use Rattle.std.specs.Prelude.{◌≡◌, ◌⊎◌, ℕ, IfOk, IsErrOf, codes};
+ghost use Rattle.std.specs.Io.KnownBytes.{Appends, Keeps};
+ghost use Rattle.rp_base.specs.Causes.{Rose};
+ghost use Rattle.rp_base.specs.Streams.{AppendsPrefix, Says};
+ghost use Rattle.audit_defs.specs.Findings as findings;
+ghost use Rattle.audit_defs.specs.Findings.{stop_line};
+ghost use Rattle.witness_words.specs.Stops.{fault_line, fault_status};
+ghost use Rattle.witness_words.specs.Running.{Audits, Convicted, ConvictedInPart, HasFindings, HasNoFindings, JudgeTakes, Unconvicted, Unread, text_of};
+
+use crate::stops::{Fault, Stop};
+use crate::telling::tell;
+use crate::writing::evidence_text;
+use audit_core::audit;
+use audit_input::read_input;
+use rp_base::{PidSet, Sink, Source, write_all};
+use std::alloc::Global;
+
+// Reads the input to its end, and makes the lines of those whom an audit of it convicts, with these processes taken as correct. Nothing is
+// written.
+fn convict_all<S: Source>(alloc: Global, listed: PidSet, input: &mut S) -> Result<Vec<u8>, Stop>
+    ensures found { IfOk result (λ text. (a : Audits listed (S.left input.old) (S.left input.new)) × (text.items ≡ text_of a) × JudgeTakes a.audited) }
+    ensures refused { (fault : Fault) → IsErrOf result (Stop.Input fault)
+        → (r : Unread listed (S.left input.old) (S.left input.new))
+        × (stop_line r.why ≡ fault_line fault) × (findings.status_of r.why ≡ fault_status fault) }
+    ensures read { IsErrOf result Stop.Read → Rose (S.faults input.old) (S.faults input.new) }
+    ensures steady { IsErrOf result Stop.Read ⊎ (S.faults input.new ≡ S.faults input.old) }
+    ensures no_write { ¬ IsErrOf result Stop.Write }
+{
+    let seen = read_input(alloc, input)?;
+    let found = audit(alloc, &seen.kit, listed, &seen.journals)?;
+    let text = evidence_text(alloc, &seen.kit, found.convicted())?;
+    Ok(text)
+}
+
+// Writes the lines, and answers the status: 0, or 4 where a write failed.
+fn give<K: Sink>(output: &mut K, text: &[u8]) -> u8
+    ensures done { result ≡ 0 → Appends (K.written output.old) (K.written output.new) text.now }
+    ensures steady { result ≡ 0 → K.faults output.new ≡ K.faults output.old }
+    ensures write { result ≡ 4 → Rose (K.faults output.old) (K.faults output.new) }
+    ensures part { result ≡ 4 → AppendsPrefix (K.written output.old) (K.written output.new) text.now }
+    ensures only { (result ≡ 0) ⊎ (result ≡ 4) }
+{
+    match write_all(output, text) {
+        Ok(()) => 0,
+        Err(_) => Stop::Write.status(),
+    }
+}
+
+/// The words `convict P ..`: reads a kit up to the line `go`, and then journals, with these processes taken as correct, and all others as
+/// corrupt. It writes a line of evidence for each whom the claims in them convict, by rising numbers, and answers the status that the program
+/// ends with. The input is read whole before anything is written.
+///
+/// | Status | Written | Comes |
+/// |---|---|---|
+/// | 0 | the lines of evidence, or nothing where nobody is convicted | the input was read to its end |
+/// | 1 | nothing | no memory is left |
+/// | 3 | `stop 3 read` | only where a read failed |
+/// | 4 | a prefix of the lines | only where a write failed |
+/// | 7, 8 | the line that `audit` writes | as `audit` has it (docs/FORMATS.md, «Audit») |
+pub fn convict<S: Source, K: Sink>(
+    alloc: Global,
+    listed: PidSet,
+    input: &mut S,
+    output: &mut K,
+) -> u8
+    // 0: the input was read to its end, and a line for each whom an audit of it convicts was written, and nothing else; `judge` takes these
+    // lines behind any kit of the same keys.
+    ensures convicted { result ≡ 0 → Convicted listed (S.left input.old) (S.left input.new) (K.written output.old) (K.written output.new) }
+    ensures steady { result ≡ 0 → (S.faults input.new ≡ S.faults input.old) × (K.faults output.new ≡ K.faults output.old) }
+
+    // 1: no memory is left, and nothing was written.
+    ensures silent { result ≡ 1 → Keeps (K.written output.old) (K.written output.new) }
+
+    // 3: only where the source failed.
+    ensures read { result ≡ 3 → Rose (S.faults input.old) (S.faults input.new) }
+    ensures read_line { result ≡ 3 → Says (codes "stop 3 read\n")
+        (K.written output.old) (K.written output.new) (K.faults output.old) (K.faults output.new) }
+
+    // 4: only where the sink failed; a prefix of the lines was written and nothing else.
+    ensures write { result ≡ 4 → Rose (K.faults output.old) (K.faults output.new) }
+    ensures part { result ≡ 4 → ConvictedInPart listed (S.left input.old) (S.left input.new) (K.written output.old) (K.written output.new) }
+
+    // 4, 7, 8: no read failed.
+    ensures whole { (result ≡ 4) ⊎ (result ≡ 7) ⊎ (result ≡ 8) → S.faults input.new ≡ S.faults input.old }
+
+    // 7, 8: what was read has no findings, for a reason of this status, and the line that says why was written and nothing else.
+    ensures stops { (result ≡ 7) ⊎ (result ≡ 8) → Unconvicted listed result (S.left input.old) (S.left input.new)
+        (K.written output.old) (K.written output.new) (K.faults output.old) (K.faults output.new) }
+
+    // An input of which something is found gives 0, and one of which nothing is found the status of the reason, where memory is left and
+    // nothing failed.
+    ensures completes { HasFindings listed (S.left input.old)
+        → ¬ Rose (S.faults input.old) (S.faults input.new) → ¬ Rose (K.faults output.old) (K.faults output.new)
+        → (result ≡ 0) ⊎ (result ≡ 1) }
+    ensures refuses { (status : ℕ) → HasNoFindings listed status (S.left input.old)
+        → ¬ Rose (S.faults input.old) (S.faults input.new)
+        → (result ≡ status) ⊎ (result ≡ 1) }
+    ensures only { (result ≡ 0) ⊎ (result ≡ 1) ⊎ (result ≡ 3) ⊎ (result ≡ 4) ⊎ (result ≡ 7) ⊎ (result ≡ 8) }
+{
+    match convict_all(alloc, listed, input) {
+        Ok(text) => give(output, &text),
+        Err(stop) => tell(alloc, output, stop),
+    }
+}

@@ -1,0 +1,24 @@
+//! The line that says why a run stops, as it is written.
+ghost use Rattle.std.specs.Prelude.{◌≡◌, ◌≢◌};
+ghost use Rattle.std.specs.Io.KnownBytes.{Keeps};
+ghost use Rattle.rp_base.specs.Streams.{Says};
+ghost use Rattle.witness_words.specs.Stops.{line_of, status_of};
+
+use crate::stops::Stop;
+use rp_base::{Sink, write_all};
+use std::alloc::Global;
+
+/// Writes the line that says why a run stops, and answers its status, or 1 where there is no memory for the line. A fault meanwhile leaves
+/// the status as it is.
+pub(crate) fn tell<K: Sink>(alloc: Global, output: &mut K, stop: Stop) -> u8
+    ensures silent { result ≡ 1 → Keeps (K.written output.old) (K.written output.new) }
+    ensures status { result ≢ 1 → result ≡ status_of stop }
+    ensures line { result ≢ 1 → Says (line_of stop)
+        (K.written output.old) (K.written output.new) (K.faults output.old) (K.faults output.new) }
+{
+    let Ok(line) = stop.line(alloc) else {
+        return Stop::NoMemory.status();
+    };
+    let _ = write_all(output, &line);
+    stop.status()
+}
