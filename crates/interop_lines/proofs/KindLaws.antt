@@ -1,6 +1,6 @@
 -- What a line asks, by the kinds of questions.
-use Rattle.std.proofs.Common.{◌≡◌, ◌==◌, ℕ, ◌<◌, List, [], ◌∷◌, ◌⊎◌, inl, inr, sym, ap, subst, arith}
-use Rattle.std.specs.Prelude.{if◌then◌else◌}
+use Rattle.std.proofs.Common.{◌≡◌, ◌==◌, ℕ, ◌<◌, List, [], ◌∷◌, length, ◌⊎◌, inl, inr, refl, sym, ap, ◌∙◌, subst, arith}
+use Rattle.std.specs.Prelude.{codes, if◌then◌else◌}
 use Rattle.text_defs.specs.Words.{words_of}
 use Rattle.interop_signatures.specs.Signatures as signatures
 use Rattle.interop_levels.specs.Levels as levels
@@ -9,7 +9,10 @@ use Rattle.interop_kits.specs.Kits as kits
 use Rattle.interop_schedules.specs.Schedules as schedules
 use Rattle.interop_node.specs.Questions as nodes
 use Rattle.interop_pool.specs.Questions as pools
-use Rattle.interop_lines.specs.Lines.{Answers}
+use Rattle.interop_store.specs.Questions as stores
+use Rattle.interop_runs.specs.Runs as runs
+use Rattle.interop_runs.specs.Runs.{Runs}
+use Rattle.interop_lines.specs.Lines.{Answers, AnswersOnce}
 use Rattle.interop_signatures.proofs.SignatureLaws as of_signatures
 use Rattle.interop_levels.proofs.LevelLaws as of_levels
 use Rattle.interop_frames.proofs.FrameLaws as of_frames
@@ -17,26 +20,42 @@ use Rattle.interop_kits.proofs.KitLaws as of_kits
 use Rattle.interop_schedules.proofs.ScheduleLaws as of_schedules
 use Rattle.interop_node.proofs.QuestionLaws as of_nodes
 use Rattle.interop_pool.proofs.QuestionLaws as of_pools
+use Rattle.interop_store.proofs.QuestionLaws as of_stores
 
--- a line that asks on no signature, no frame, no kit, no schedule, no journal and no datagram, and on no pool and no conviction
-pub none : (line told : List ℕ) (ws ls vs us ss ns ps : List (List ℕ)) → ws ≡ words_of line → ls ≡ words_of line → vs ≡ words_of line
-    → us ≡ words_of line → ss ≡ words_of line → ns ≡ words_of line → ps ≡ words_of line
+-- a line that asks on no signature, no frame, no kit, no schedule, no journal and no datagram, on no pool and no conviction, and on no store
+none_once : (line told : List ℕ) (ws ls vs us ss ns ps ts : List (List ℕ)) → ws ≡ words_of line → ls ≡ words_of line → vs ≡ words_of line
+    → us ≡ words_of line → ss ≡ words_of line → ns ≡ words_of line → ps ≡ words_of line → ts ≡ words_of line
     → (signatures.Answers ws told → ⊥) → (levels.Answers ls told → ⊥) → (frames.Answers vs told → ⊥) → (kits.Answers us told → ⊥)
-    → (schedules.Answers ss told → ⊥) → (nodes.Answers ns told → ⊥) → (pools.Answers ps told → ⊥) → Answers line told → ⊥
-none line told ws ls vs us ss ns ps e l f g h k m one two three four five six seven (inl a) =
+    → (schedules.Answers ss told → ⊥) → (nodes.Answers ns told → ⊥) → (pools.Answers ps told → ⊥) → (stores.Answers ts told → ⊥)
+    → AnswersOnce line told → ⊥
+none_once line told ws ls vs us ss ns ps ts e l f g h k m n one two three four five six seven eight (inl a) =
     one (subst (λ w. signatures.Answers w told) (sym e) a)
-none line told ws ls vs us ss ns ps e l f g h k m one two three four five six seven (inr (inl a)) =
+none_once line told ws ls vs us ss ns ps ts e l f g h k m n one two three four five six seven eight (inr (inl a)) =
     two (subst (λ w. levels.Answers w told) (sym l) a)
-none line told ws ls vs us ss ns ps e l f g h k m one two three four five six seven (inr (inr (inl a))) =
+none_once line told ws ls vs us ss ns ps ts e l f g h k m n one two three four five six seven eight (inr (inr (inl a))) =
     three (subst (λ w. frames.Answers w told) (sym f) a)
-none line told ws ls vs us ss ns ps e l f g h k m one two three four five six seven (inr (inr (inr (inl a)))) =
+none_once line told ws ls vs us ss ns ps ts e l f g h k m n one two three four five six seven eight (inr (inr (inr (inl a)))) =
     four (subst (λ w. kits.Answers w told) (sym g) a)
-none line told ws ls vs us ss ns ps e l f g h k m one two three four five six seven (inr (inr (inr (inr (inl a))))) =
+none_once line told ws ls vs us ss ns ps ts e l f g h k m n one two three four five six seven eight (inr (inr (inr (inr (inl a))))) =
     five (subst (λ w. schedules.Answers w told) (sym h) a)
-none line told ws ls vs us ss ns ps e l f g h k m one two three four five six seven (inr (inr (inr (inr (inr (inl a)))))) =
+none_once line told ws ls vs us ss ns ps ts e l f g h k m n one two three four five six seven eight (inr (inr (inr (inr (inr (inl a)))))) =
     six (subst (λ w. nodes.Answers w told) (sym k) a)
-none line told ws ls vs us ss ns ps e l f g h k m one two three four five six seven (inr (inr (inr (inr (inr (inr a)))))) =
+none_once line told ws ls vs us ss ns ps ts e l f g h k m n one two three four five six seven eight (inr (inr (inr (inr (inr (inr (inl a))))))) =
     seven (subst (λ w. pools.Answers w told) (sym m) a)
+none_once line told ws ls vs us ss ns ps ts e l f g h k m n one two three four five six seven eight (inr (inr (inr (inr (inr (inr (inr a))))))) =
+    eight (subst (λ w. stores.Answers w told) (sym n) a)
+
+-- and for no run
+pub none : (R : Runs) (line told : List ℕ) (ws ls vs us ss ns ps ts rs : List (List ℕ)) → ws ≡ words_of line → ls ≡ words_of line
+    → vs ≡ words_of line → us ≡ words_of line → ss ≡ words_of line → ns ≡ words_of line → ps ≡ words_of line → ts ≡ words_of line
+    → rs ≡ words_of line
+    → (signatures.Answers ws told → ⊥) → (levels.Answers ls told → ⊥) → (frames.Answers vs told → ⊥) → (kits.Answers us told → ⊥)
+    → (schedules.Answers ss told → ⊥) → (nodes.Answers ns told → ⊥) → (pools.Answers ps told → ⊥) → (stores.Answers ts told → ⊥)
+    → (runs.Answers R rs told → ⊥) → Answers R line told → ⊥
+none R line told ws ls vs us ss ns ps ts rs e l f g h k m n r one two three four five six seven eight nine (inl a) =
+    none_once line told ws ls vs us ss ns ps ts e l f g h k m n one two three four five six seven eight a
+none R line told ws ls vs us ss ns ps ts rs e l f g h k m n r one two three four five six seven eight nine (inr a) =
+    nine (subst (λ w. runs.Answers R w told) (sym r) a)
 
 -- ---- a number for each kind of question
 
@@ -48,7 +67,8 @@ abbrev second_letter : List ℕ → ℕ
 second_letter [] = 0
 second_letter (letter ∷ word) = first_letter word
 
--- what begins with `verify lms`, with `lms`, `hss`, `frame`, `statement`, `kit`, `schedule`, `journal`, `datagram`, `pool` and `convicted`
+-- what begins with `verify lms`, with `lms`, `hss`, `frame`, `statement`, `kit`, `schedule`, `journal`, `datagram`, `pool`, `convicted`, `apply`,
+-- `reply` and `state`
 of_words : List ℕ → List ℕ → ℕ
 of_words first second =
     if first_letter first == 118 then (if first_letter second == 108 then 0 else 1)
@@ -60,12 +80,14 @@ of_words first second =
     else if first_letter first == 100 then 5
     else if first_letter first == 112 then 6
     else if first_letter first == 99 then 6
-    else if second_letter first == 116 then 2
+    else if first_letter first == 97 then 7
+    else if first_letter first == 114 then 7
+    else if second_letter first == 116 then (if length first == 5 then 7 else 2)
     else 4
 
 number : List (List ℕ) → ℕ
-number [] = 7
-number (first ∷ []) = 7
+number [] = 8
+number (first ∷ []) = 8
 number (first ∷ second ∷ words) = of_words first second
 
 asks_signature : (ws : List (List ℕ)) (x : List ℕ) → signatures.Answers ws x → number ws ≡ 0
@@ -122,6 +144,16 @@ asks_pool ws x a = of a.question a.asked
     of (pools.OfPool view members counts frame) is = ap number is
     of (pools.OfConvicted frame) is = ap number is
 
+asks_store : (ws : List (List ℕ)) (x : List ℕ) → stores.Answers ws x → number ws ≡ 7
+unfolding number of_words
+asks_store ws x a = of a.question a.fits a.asked
+  where
+    of : (q : stores.Question) → stores.IsQuestion q → ws ≡ stores.spelled q → number ws ≡ 7
+    of (stores.OfApply []) fits is = absurd (omega (arith, fits.0))
+    of (stores.OfApply (payload ∷ payloads)) fits is = ap number is
+    of (stores.OfReply bytes) fits is = ap number is
+    of (stores.OfState bytes) fits is = ap number is
+
 -- ---- one answer
 
 -- what answers has this number, or a later one
@@ -147,8 +179,11 @@ module _ (P Q : List (List ℕ) → List ℕ → Type 0) (n m : ℕ) (is : IsKin
   both_later ws x (inl a) = omega (arith, is ws x a, less)
   both_later ws x (inr b) = omega (arith, later ws x b, less)
 
+abbrev From6 : List (List ℕ) → List ℕ → Type 0
+From6 ws x = pools.Answers ws x ⊎ stores.Answers ws x
+
 abbrev From5 : List (List ℕ) → List ℕ → Type 0
-From5 ws x = nodes.Answers ws x ⊎ pools.Answers ws x
+From5 ws x = nodes.Answers ws x ⊎ From6 ws x
 
 abbrev From4 : List (List ℕ) → List ℕ → Type 0
 From4 ws x = schedules.Answers ws x ⊎ From5 ws x
@@ -162,11 +197,14 @@ From2 ws x = frames.Answers ws x ⊎ From3 ws x
 abbrev From1 : List (List ℕ) → List ℕ → Type 0
 From1 ws x = levels.Answers ws x ⊎ From2 ws x
 
-last : IsFrom pools.Answers 5
-last ws x a = omega (arith, asks_pool ws x a)
+last : IsFrom stores.Answers 6
+last ws x a = omega (arith, asks_store ws x a)
+
+later5 : IsFrom From6 5
+later5 = both_later pools.Answers stores.Answers 5 6 asks_pool last (omega arith)
 
 later4 : IsFrom From5 4
-later4 = both_later nodes.Answers pools.Answers 4 5 asks_node last (omega arith)
+later4 = both_later nodes.Answers From6 4 5 asks_node later5 (omega arith)
 
 later3 : IsFrom From4 3
 later3 = both_later schedules.Answers From5 3 4 asks_schedule later4 (omega arith)
@@ -180,8 +218,11 @@ later1 = both_later frames.Answers From3 1 2 asks_frame later2 (omega arith)
 later0 : IsFrom From1 0
 later0 = both_later levels.Answers From2 0 1 asks_levels later1 (omega arith)
 
+one6 : HasOne From6
+one6 = both_one pools.Answers stores.Answers 6 asks_pool last of_pools.one_answer of_stores.one_answer
+
 one5 : HasOne From5
-one5 = both_one nodes.Answers pools.Answers 5 asks_node last of_nodes.one_answer of_pools.one_answer
+one5 = both_one nodes.Answers From6 5 asks_node later5 of_nodes.one_answer one6
 
 one4 : HasOne From4
 one4 = both_one schedules.Answers From5 4 asks_schedule later4 of_schedules.one_answer one5
@@ -196,5 +237,64 @@ one1 : HasOne From1
 one1 = both_one levels.Answers From2 1 asks_levels later1 of_levels.one_answer one2
 
 -- no line asks two questions of different kinds, and each has one answer
-pub one_answer : (line a b : List ℕ) → Answers line a → Answers line b → a ≡ b
+pub one_answer : (line a b : List ℕ) → AnswersOnce line a → AnswersOnce line b → a ≡ b
 one_answer line a b = both_one signatures.Answers From1 0 asks_signature later0 of_signatures.one_answer one1 (words_of line) a b
+
+-- ---- a run
+
+abbrev letter : List (List ℕ) → ℕ
+letter [] = 0
+letter (word ∷ words) = first_letter word
+
+abbrev next_letter : List (List ℕ) → ℕ
+next_letter [] = 0
+next_letter (word ∷ words) = second_letter word
+
+-- words of a run are those of no other question: they begin with another letter, or go on with another one
+module _ (ws rest : List (List ℕ)) (is : ws ≡ codes "run" ∷ rest) where
+  other : (spelled : List (List ℕ)) (n : ℕ) → ws ≡ spelled → letter spelled ≡ n → 114 ≡ n
+  other spelled n e begins = sym (ap letter is) ∙ ap letter e ∙ begins
+
+  next_other : (spelled : List (List ℕ)) (n : ℕ) → ws ≡ spelled → next_letter spelled ≡ n → 117 ≡ n
+  next_other spelled n e goes = sym (ap next_letter is) ∙ ap next_letter e ∙ goes
+
+  no_signature : (q : signatures.Question) → ws ≡ signatures.spelled q → ⊥
+  no_signature (signatures.Verify key body sig) e = absurd (omega (arith, other (signatures.spelled (signatures.Verify key body sig)) 118 e refl))
+  no_signature (signatures.Sign s) e = absurd (omega (arith, other (signatures.spelled (signatures.Sign s)) 108 e refl))
+
+  no_levels : (q : levels.Question) → ws ≡ levels.spelled q → ⊥
+  no_levels (levels.Verify key body sig) e = absurd (omega (arith, other (levels.spelled (levels.Verify key body sig)) 118 e refl))
+  no_levels (levels.Sign s) e = absurd (omega (arith, other (levels.spelled (levels.Sign s)) 104 e refl))
+
+  no_frame : (q : frames.Question) → ws ≡ frames.spelled q → ⊥
+  no_frame (frames.OfFrame bytes) e = absurd (omega (arith, other (frames.spelled (frames.OfFrame bytes)) 102 e refl))
+  no_frame (frames.OfStatement bytes) e = absurd (omega (arith, other (frames.spelled (frames.OfStatement bytes)) 115 e refl))
+
+  no_kit : (q : kits.Question) → ws ≡ kits.spelled q → ⊥
+  no_kit (kits.OfKit bytes) e = absurd (omega (arith, other (kits.spelled (kits.OfKit bytes)) 107 e refl))
+
+  no_schedule : (q : schedules.Question) → ws ≡ schedules.spelled q → ⊥
+  no_schedule (schedules.OfSchedule bytes) e = absurd (omega (arith, other (schedules.spelled (schedules.OfSchedule bytes)) 115 e refl))
+
+  no_node : (q : nodes.Question) → ws ≡ nodes.spelled q → ⊥
+  no_node (nodes.OfJournal bytes) e = absurd (omega (arith, other (nodes.spelled (nodes.OfJournal bytes)) 106 e refl))
+  no_node (nodes.OfDatagram key bytes) e = absurd (omega (arith, other (nodes.spelled (nodes.OfDatagram key bytes)) 100 e refl))
+
+  no_pool : (q : pools.Question) → ws ≡ pools.spelled q → ⊥
+  no_pool (pools.OfPool view members counts frame) e = absurd (omega (arith, other (pools.spelled (pools.OfPool view members counts frame)) 112 e refl))
+  no_pool (pools.OfConvicted frame) e = absurd (omega (arith, other (pools.spelled (pools.OfConvicted frame)) 99 e refl))
+
+  no_store : (q : stores.Question) → ws ≡ stores.spelled q → ⊥
+  no_store (stores.OfApply payloads) e = absurd (omega (arith, other (stores.spelled (stores.OfApply payloads)) 97 e refl))
+  no_store (stores.OfReply bytes) e = absurd (omega (arith, next_other (stores.spelled (stores.OfReply bytes)) 101 e refl))
+  no_store (stores.OfState bytes) e = absurd (omega (arith, other (stores.spelled (stores.OfState bytes)) 115 e refl))
+
+pub run_alone : (line told : List ℕ) (rest : List (List ℕ)) → words_of line ≡ codes "run" ∷ rest → AnswersOnce line told → ⊥
+run_alone line told rest is (inl a) = no_signature (words_of line) rest is a.question a.asked
+run_alone line told rest is (inr (inl a)) = no_levels (words_of line) rest is a.question a.asked
+run_alone line told rest is (inr (inr (inl a))) = no_frame (words_of line) rest is a.question a.asked
+run_alone line told rest is (inr (inr (inr (inl a)))) = no_kit (words_of line) rest is a.question a.asked
+run_alone line told rest is (inr (inr (inr (inr (inl a))))) = no_schedule (words_of line) rest is a.question a.asked
+run_alone line told rest is (inr (inr (inr (inr (inr (inl a)))))) = no_node (words_of line) rest is a.question a.asked
+run_alone line told rest is (inr (inr (inr (inr (inr (inr (inl a))))))) = no_pool (words_of line) rest is a.question a.asked
+run_alone line told rest is (inr (inr (inr (inr (inr (inr (inr a))))))) = no_store (words_of line) rest is a.question a.asked

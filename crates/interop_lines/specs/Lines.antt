@@ -1,5 +1,5 @@
 -- What a line asks.
-use Rattle.std.specs.Prelude.{◌≡◌, ◌⊎◌, ℕ, List}
+use Rattle.std.specs.Prelude.{◌≡◌, ◌⊎◌, ℕ, List, ◌∷◌, codes}
 use Rattle.text_defs.specs.Words.{words_of}
 use Rattle.interop_signatures.specs.Signatures as signatures
 use Rattle.interop_levels.specs.Levels as levels
@@ -8,15 +8,24 @@ use Rattle.interop_kits.specs.Kits as kits
 use Rattle.interop_schedules.specs.Schedules as schedules
 use Rattle.interop_node.specs.Questions as nodes
 use Rattle.interop_pool.specs.Questions as pools
+use Rattle.interop_store.specs.Questions as stores
+use Rattle.interop_runs.specs.Runs as runs
+use Rattle.interop_runs.specs.Runs.{Runs}
 
--- the line's words are those of a question, and this is what is answered
-abbrev pub Answers : List ℕ → List ℕ → Type 0
-Answers line told =
+-- the line's words are those of a question that is about the line alone, and this is what is answered
+abbrev pub AnswersOnce : List ℕ → List ℕ → Type 0
+AnswersOnce line told =
     signatures.Answers (words_of line) told ⊎ levels.Answers (words_of line) told ⊎ frames.Answers (words_of line) told
     ⊎ kits.Answers (words_of line) told
     ⊎ schedules.Answers (words_of line) told ⊎ nodes.Answers (words_of line) told
-    ⊎ pools.Answers (words_of line) told
+    ⊎ pools.Answers (words_of line) told ⊎ stores.Answers (words_of line) told
 
--- no line has two answers
-abbrev pub OneAnswer : Type 0
-OneAnswer = (line a b : List ℕ) → Answers line a → Answers line b → a ≡ b
+-- the line's words are those of a question, one about the line alone or one about a run of the program, and this is what is answered, by what
+-- a run may come to
+abbrev pub Answers : Runs → List ℕ → List ℕ → Type 0
+Answers comes_to line told = AnswersOnce line told ⊎ runs.Answers comes_to (words_of line) told
+
+-- No line has two answers that are about it alone, and one that asks for a run has none of these.
+pub record OneAnswer : Type 0 where
+  pub one : (line a b : List ℕ) → AnswersOnce line a → AnswersOnce line b → a ≡ b
+  pub apart : (line told : List ℕ) (rest : List (List ℕ)) → words_of line ≡ codes "run" ∷ rest → ¬ AnswersOnce line told

@@ -6,6 +6,7 @@ use Rattle.rp_base.specs.Streams.{AppendsPrefix, Says}
 use Rattle.interop_lines.specs.Stops.{line_of}
 use Rattle.interop_lines.specs.declared.stops.Stop.{Stop}
 use Rattle.interop_lines.specs.declared.stops.Stop.TheVariants.{Line}
+use Rattle.interop_runs.specs.Runs.{Runs}
 use Rattle.interop_lines.specs.Lines.{Answers}
 
 -- no line feed stands in a line, and it isn't too long
@@ -18,17 +19,17 @@ abbrev pub ended : List ℕ → List ℕ
 ended line = line ++ codes "\n"
 
 -- So many lines, and what is written for them: the answer to each, on a line.
-pub data Served : ℕ → List ℕ → List ℕ → Type 0 where
-  Nothing : Served 0 [] []
-  OneMore : (n : ℕ) (input output line told : List ℕ) → Served n input output → IsLine line → Answers line told
-      → Served (suc n) (input ++ ended line) (output ++ ended told)
+pub data Served (R : Runs) : ℕ → List ℕ → List ℕ → Type 0 where
+  Nothing : Served R 0 [] []
+  OneMore : (n : ℕ) (input output line told : List ℕ) → Served R n input output → IsLine line → Answers R line told
+      → Served R (suc n) (input ++ ended line) (output ++ ended told)
 
 -- By what a source had left before and what it has left now, and by what a sink held before and holds now: so many lines
 -- were served, and these bytes were read after them.
-pub record HasServed (n : ℕ) (ahead : List ℕ) (before now old new : Option (List ℕ)) : Type 0 where
+pub record HasServed (R : Runs) (n : ℕ) (ahead : List ℕ) (before now old new : Option (List ℕ)) : Type 0 where
   pub input : List ℕ
   pub output : List ℕ
-  pub served : Served n input output
+  pub served : Served R n input output
   pub taken : Consumes before now (input ++ ahead)
   pub written : Appends old new output
 
@@ -37,32 +38,32 @@ abbrev pub HasNoLine : List ℕ → Type 0
 HasNoLine bytes = (line more : List ℕ) → bytes ≡ ended line ++ more → ¬ IsLine line
 
 -- The bytes, and whatever the source may have left, begin with a line that is no question, or with no line.
-abbrev pub HasNoQuestion : List ℕ → Option (List ℕ) → Type 0
-HasNoQuestion bytes now =
-    ((line more : List ℕ) × (bytes ≡ ended line ++ more) × IsLine line × ((told : List ℕ) → ¬ Answers line told))
+abbrev pub HasNoQuestion : Runs → List ℕ → Option (List ℕ) → Type 0
+HasNoQuestion R bytes now =
+    ((line more : List ℕ) × (bytes ≡ ended line ++ more) × IsLine line × ((told : List ℕ) → ¬ Answers R line told))
     ⊎ (HasNoLine bytes × (0 < length bytes) × ((1000000 < length bytes) ⊎ IsAtEnd now))
 
 -- all lines were served
-abbrev pub AllServed : Option (List ℕ) → Option (List ℕ) → Option (List ℕ) → Option (List ℕ) → Type 0
-AllServed before now old new = (n : ℕ) × HasServed n [] before now old new × IsAtEnd now
+abbrev pub AllServed : Runs → Option (List ℕ) → Option (List ℕ) → Option (List ℕ) → Option (List ℕ) → Type 0
+AllServed R before now old new = (n : ℕ) × HasServed R n [] before now old new × IsAtEnd now
 
 -- some lines were served, and the rest was not
-abbrev pub SomeServed : Option (List ℕ) → Option (List ℕ) → Option (List ℕ) → Option (List ℕ) → Type 0
-SomeServed before now old new = (n : ℕ) × (ahead : List ℕ) × HasServed n ahead before now old new
+abbrev pub SomeServed : Runs → Option (List ℕ) → Option (List ℕ) → Option (List ℕ) → Option (List ℕ) → Type 0
+SomeServed R before now old new = (n : ℕ) × (ahead : List ℕ) × HasServed R n ahead before now old new
 
 -- after some lines a prefix of the next one's answer was written
-abbrev pub ServedInPart : Option (List ℕ) → Option (List ℕ) → Option (List ℕ) → Option (List ℕ) → Type 0
-ServedInPart before now old new =
-    (mid : Option (List ℕ)) × SomeServed before now old mid
-    × ((line told : List ℕ) × Answers line told × AppendsPrefix mid new (ended told))
+abbrev pub ServedInPart : Runs → Option (List ℕ) → Option (List ℕ) → Option (List ℕ) → Option (List ℕ) → Type 0
+ServedInPart R before now old new =
+    (mid : Option (List ℕ)) × SomeServed R before now old mid
+    × ((line told : List ℕ) × Answers R line told × AppendsPrefix mid new (ended told))
 
 -- some lines were served, and then why the run stops was written: by the counts of the sink's faults before and now
-abbrev pub ServedAndSays : Stop → Option (List ℕ) → Option (List ℕ) → Option (List ℕ) → Option (List ℕ) → ℕ → ℕ → Type 0
-ServedAndSays stop before now old new faults faults' =
-    (mid : Option (List ℕ)) × SomeServed before now old mid × Says (line_of stop) mid new faults faults'
+abbrev pub ServedAndSays : Runs → Stop → Option (List ℕ) → Option (List ℕ) → Option (List ℕ) → Option (List ℕ) → ℕ → ℕ → Type 0
+ServedAndSays R stop before now old new faults faults' =
+    (mid : Option (List ℕ)) × SomeServed R before now old mid × Says (line_of stop) mid new faults faults'
 
 -- n lines were served, what follows is no question, and this was written
-abbrev pub Refused : Option (List ℕ) → Option (List ℕ) → Option (List ℕ) → Option (List ℕ) → ℕ → ℕ → Type 0
-Refused before now old new faults faults' =
-    (n : ℕ) × (ahead : List ℕ) × (mid : Option (List ℕ)) × HasServed n ahead before now old mid × HasNoQuestion ahead now
+abbrev pub Refused : Runs → Option (List ℕ) → Option (List ℕ) → Option (List ℕ) → Option (List ℕ) → ℕ → ℕ → Type 0
+Refused R before now old new faults faults' =
+    (n : ℕ) × (ahead : List ℕ) × (mid : Option (List ℕ)) × HasServed R n ahead before now old mid × HasNoQuestion R ahead now
     × Says (line_of (Line (suc n))) mid new faults faults'

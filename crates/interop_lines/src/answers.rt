@@ -6,8 +6,10 @@ use interop_kits::answer_kits;
 use interop_levels::answer_levels;
 use interop_node::answer_nodes;
 use interop_pool::answer_pools;
+use interop_runs::{Program, answer_runs};
 use interop_schedules::answer_schedules;
 use interop_signatures::answer_signatures;
+use interop_store::answer_stores;
 use interop_words::{LineFault, words_of};
 use std::alloc::Global;
 
@@ -26,12 +28,17 @@ use std::alloc::Global;
 /// | `journal HEX` | what the bytes say as a journal, whose header may be that of any group, processes and digest: `journal LIMIT`, by its magic 1 or 16, and for each entry before the first closed gate ` entry PROCESS EVENT SPENT` and its signatures, each behind a space; or `entry PLACE`, the place of an open gate behind which no whole entry and next gate stand; or `notajournal` (docs/FORMATS.md, «Journals»). EVENT is `submit HEX`, `frame FROM HEX`, `suspect P`, `join P`, `renew` or `tick`, and SPENT 0 or 1 |
 /// | `datagram KEY HEX` | what process 2 of the group 000102..0f opens of the bytes as a datagram, which shares the key of 32 bytes with process 1: `opened FROM FRAME`, or the word of their first fault (docs/FORMATS.md, «Datagrams»): `short`, `magic`, `othergroup`, `notforme`, `unknownpeer` or `badtag` |
 /// | `pool VIEW MEMBERS COUNTS FRAME` | what a process hears of the claims of a frame, one after the other, in the view of the number VIEW (0 to 1,023) and of MEMBERS, a byte each in rank order, after it has delivered as many messages of each member as its byte of COUNTS says, message l at place l (docs/FORMATS.md, «Questions of one line») |
+/// | `convicted HEX` | `convicted` and, each behind a space, the processes whom the claims of the frame convict, by rising number; or the word of the bytes' first fault as a frame |
+/// | `apply HEX HEX ..` | what a store that has no key answers to these payloads, one after the other: `applied`, each answer, `state` and the store's spelling after the last one (docs/FORMATS.md, «The store») |
+/// | `reply HEX` | what the bytes say as a reply: `reply SIGNER VIEW PLACE POSITION PAYLOAD ANSWER SIGNATURE`; or `noreply` |
+/// | `state HEX` | what the bytes say as a state record: `state SIGNER VIEW STATE SIGNATURE`, the store spelled again from what was read; or `nostate` |
+/// | `run WORDS INPUT JOURNAL FAILS COMING STOP` | what a run of the program comes to, over devices in memory (docs/FORMATS.md, «Questions of one line») |
 ///
 /// Words stand between single spaces. Bytes are in lower-case hexadecimal, or `-` where there are none; I has 16 bytes and
 /// SEED 32. Numbers are decimal, without sign or leading zero. `NoQuestion` comes exactly where the line is none of these.
-pub fn answer(alloc: Global, line: &[u8]) -> Result<Vec<u8>, LineFault>
-    ensures answers { IfOk result (λ told. Answers line.now told.items) }
-    ensures no_question { IsErrOf result LineFault.NoQuestion → (told : List ℕ) → ¬ Answers line.now told }
+pub fn answer<P: Program>(alloc: Global, program: &P, line: &[u8]) -> Result<Vec<u8>, LineFault>
+    ensures answers { IfOk result (λ told. Answers (P.comes_to program.now) line.now told.items) }
+    ensures no_question { IsErrOf result LineFault.NoQuestion → (told : List ℕ) → ¬ Answers (P.comes_to program.now) line.now told }
 {
     let words = words_of(alloc, line)?;
     match answer_signatures(alloc, &words) {
@@ -40,7 +47,15 @@ pub fn answer(alloc: Global, line: &[u8]) -> Result<Vec<u8>, LineFault>
                 Err(LineFault::NoQuestion) => match answer_kits(alloc, &words) {
                     Err(LineFault::NoQuestion) => match answer_schedules(alloc, &words) {
                         Err(LineFault::NoQuestion) => match answer_nodes(alloc, &words) {
-                            Err(LineFault::NoQuestion) => answer_pools(alloc, &words),
+                            Err(LineFault::NoQuestion) => match answer_pools(alloc, &words) {
+                                Err(LineFault::NoQuestion) => match answer_stores(alloc, &words) {
+                                    Err(LineFault::NoQuestion) => answer_runs(
+                                        alloc, program, &words,
+                                    ),
+                                    answered => answered,
+                                },
+                                answered => answered,
+                            },
                             answered => answered,
                         },
                         answered => answered,

@@ -9,10 +9,11 @@ mod serving;
 mod stops;
 
 pub use answers::answer;
+pub use interop_runs::{FailingDisk, FailingLink, Outside, Program};
 pub use interop_words::LineFault;
 pub use serving::interop;
 
-/// No line has two answers.
+/// No line has two answers, but for one that asks for a run of the program.
 pub fn one_answer()
     ensures { OneAnswer }
 {}

@@ -9,23 +9,33 @@ ghost use Rattle.interop_lines.specs.Serving.{AllServed, HasNoQuestion, HasServe
 use crate::answers::answer;
 use crate::line_reader::{Ahead, read_on};
 use crate::stops::Stop;
+use interop_runs::Program;
 use interop_words::LineFault;
 use rp_base::{Sink, Source, write_all};
 use std::alloc::Global;
 
 /// Writes the answer to a line, which is given without its line feed.
-fn answer_line<K: Sink>(alloc: Global, line: &[u8], number: u64, output: &mut K) -> Result<(), Stop>
+fn answer_line<K: Sink, P: Program>(
+    alloc: Global,
+    program: &P,
+    line: &[u8],
+    number: u64,
+    output: &mut K,
+) -> Result<(), Stop>
     ensures answered { OnOk result
-        ((told : List ℕ) × Answers line.now told × Appends (K.written output.old) (K.written output.new) (ended told)) }
+        ((told : List ℕ) × Answers (P.comes_to program.now) line.now told
+        × Appends (K.written output.old) (K.written output.new) (ended told)) }
     ensures steady { OnOk result (K.faults output.new ≡ K.faults output.old) }
-    ensures refused { (n : ℕ) → IsErrOf result (Stop.Line n) → (n ≡ number) × ((told : List ℕ) → ¬ Answers line.now told) }
+    ensures refused { (n : ℕ) → IsErrOf result (Stop.Line n) → (n ≡ number)
+        × ((told : List ℕ) → ¬ Answers (P.comes_to program.now) line.now told) }
     ensures part { IsErrOf result Stop.Write
-        → (told : List ℕ) × Answers line.now told × AppendsPrefix (K.written output.old) (K.written output.new) (ended told) }
+        → (told : List ℕ) × Answers (P.comes_to program.now) line.now told
+        × AppendsPrefix (K.written output.old) (K.written output.new) (ended told) }
     ensures failed { IsErrOf result Stop.Write → Rose (K.faults output.old) (K.faults output.new) }
     ensures untouched { IfErr result (λ stop. (stop ≡ Stop.Write) ⊎ (output.new ≡ output.old)) }
     ensures no_read { ¬ IsErrOf result Stop.Read }
 {
-    let mut told = match answer(alloc, line) {
+    let mut told = match answer(alloc, program, line) {
         Ok(told) => told,
         Err(LineFault::NoQuestion) => return Err(Stop::Line(number)),
         Err(LineFault::NoMemory) => return Err(Stop::NoMemory),
@@ -38,20 +48,26 @@ fn answer_line<K: Sink>(alloc: Global, line: &[u8], number: u64, output: &mut K)
 }
 
 /// Answers each line of the input, up to its end.
-fn answer_all<S: Source, K: Sink>(alloc: Global, input: &mut S, output: &mut K) -> Result<(), Stop>
-    ensures done { OnOk result (AllServed (S.left input.old) (S.left input.new) (K.written output.old) (K.written output.new)) }
+fn answer_all<S: Source, K: Sink, P: Program>(
+    alloc: Global,
+    program: &P,
+    input: &mut S,
+    output: &mut K,
+) -> Result<(), Stop>
+    ensures done { OnOk result (AllServed (P.comes_to program.now)
+        (S.left input.old) (S.left input.new) (K.written output.old) (K.written output.new)) }
     ensures steady { OnOk result
         ((S.faults input.new ≡ S.faults input.old) × (K.faults output.new ≡ K.faults output.old)) }
     ensures read { IsErrOf result Stop.Read → Rose (S.faults input.old) (S.faults input.new) }
     ensures part { IsErrOf result Stop.Write
-        → ServedInPart (S.left input.old) (S.left input.new) (K.written output.old) (K.written output.new) }
+        → ServedInPart (P.comes_to program.now) (S.left input.old) (S.left input.new) (K.written output.old) (K.written output.new) }
     ensures failed { IsErrOf result Stop.Write → Rose (K.faults output.old) (K.faults output.new) }
     ensures some { IfErr result (λ stop. (stop ≡ Stop.Write)
-        ⊎ SomeServed (S.left input.old) (S.left input.new) (K.written output.old) (K.written output.new)) }
+        ⊎ SomeServed (P.comes_to program.now) (S.left input.old) (S.left input.new) (K.written output.old) (K.written output.new)) }
     ensures calm { IfErr result (λ stop. (stop ≡ Stop.Write) ⊎ (K.faults output.new ≡ K.faults output.old)) }
     ensures refused { (number : ℕ) → IsErrOf result (Stop.Line number) → (n : ℕ) × (ahead : List ℕ) × (number ≡ suc n)
-        × HasServed n ahead (S.left input.old) (S.left input.new) (K.written output.old) (K.written output.new)
-        × HasNoQuestion ahead (S.left input.new) }
+        × HasServed (P.comes_to program.now) n ahead (S.left input.old) (S.left input.new) (K.written output.old) (K.written output.new)
+        × HasNoQuestion (P.comes_to program.now) ahead (S.left input.new) }
     ensures whole { (number : ℕ) → IsErrOf result (Stop.Line number) → S.faults input.new ≡ S.faults input.old }
 {
     let mut ahead = Ahead::new(alloc);
@@ -63,7 +79,7 @@ fn answer_all<S: Source, K: Sink>(alloc: Global, input: &mut S, output: &mut K) 
         let Some(end) = ahead.line() else {
             return Err(Stop::Line(number));
         };
-        answer_line(alloc, &ahead.bytes()[..end], number, output)?;
+        answer_line(alloc, program, &ahead.bytes()[..end], number, output)?;
         ahead.skip(end + 1);
     }
     Err(Stop::NoMemory)
@@ -85,8 +101,8 @@ fn tell<K: Sink>(alloc: Global, output: &mut K, stop: Stop) -> u8
     stop.status()
 }
 
-/// The whole program: answers each line of the input with a line of the output, in order, and answers the status that it
-/// ends with.
+/// The whole of `interop`: answers each line of the input with a line of the output, in order, and answers the status that it
+/// ends with. The lines `run ..` ask about runs of the program that is handed in.
 ///
 /// | Status | Written last | Comes |
 /// |---|---|---|
@@ -95,33 +111,40 @@ fn tell<K: Sink>(alloc: Global, output: &mut K, stop: Stop) -> u8
 /// | 3 | `stop 3 read` | only where a read failed |
 /// | 4 | a prefix of an answer | only where a write failed |
 /// | 7 | `stop 7 line N` | line N, counted from 1, is no question, or has no line feed or more than 1,000,000 bytes before it |
-pub fn interop<S: Source, K: Sink>(alloc: Global, input: &mut S, output: &mut K) -> u8
+pub fn interop<S: Source, K: Sink, P: Program>(
+    alloc: Global,
+    program: &P,
+    input: &mut S,
+    output: &mut K,
+) -> u8
     // 0: the input was read to its end, and each line was answered.
-    ensures done { result ≡ 0 → AllServed (S.left input.old) (S.left input.new) (K.written output.old) (K.written output.new) }
+    ensures done { result ≡ 0
+        → AllServed (P.comes_to program.now) (S.left input.old) (S.left input.new) (K.written output.old) (K.written output.new) }
     ensures steady { result ≡ 0
         → (S.faults input.new ≡ S.faults input.old) × (K.faults output.new ≡ K.faults output.old) }
 
     // 1: no memory is left; the lines before were answered.
-    ensures some { result ≡ 1 → SomeServed (S.left input.old) (S.left input.new) (K.written output.old) (K.written output.new) }
+    ensures some { result ≡ 1
+        → SomeServed (P.comes_to program.now) (S.left input.old) (S.left input.new) (K.written output.old) (K.written output.new) }
 
     // 3: only where the source failed; the lines before were answered.
     ensures read { result ≡ 3 → Rose (S.faults input.old) (S.faults input.new) }
-    ensures read_line { result ≡ 3 → ServedAndSays Stop.Read (S.left input.old) (S.left input.new)
+    ensures read_line { result ≡ 3 → ServedAndSays (P.comes_to program.now) Stop.Read (S.left input.old) (S.left input.new)
         (K.written output.old) (K.written output.new) (K.faults output.old) (K.faults output.new) }
 
     // 4: only where the sink failed; the lines before were answered, and one in part.
     ensures failed { result ≡ 4 → Rose (K.faults output.old) (K.faults output.new) }
     ensures part { result ≡ 4
-        → ServedInPart (S.left input.old) (S.left input.new) (K.written output.old) (K.written output.new) }
+        → ServedInPart (P.comes_to program.now) (S.left input.old) (S.left input.new) (K.written output.old) (K.written output.new) }
 
     // 7: only where a line is no question, and no read failed; the lines before were answered.
-    ensures refused { result ≡ 7 → Refused (S.left input.old) (S.left input.new)
+    ensures refused { result ≡ 7 → Refused (P.comes_to program.now) (S.left input.old) (S.left input.new)
         (K.written output.old) (K.written output.new) (K.faults output.old) (K.faults output.new) }
     ensures whole { result ≡ 7 → S.faults input.new ≡ S.faults input.old }
 
     ensures only { (result ≡ 0) ⊎ (result ≡ 1) ⊎ (result ≡ 3) ⊎ (result ≡ 4) ⊎ (result ≡ 7) }
 {
-    match answer_all(alloc, input, output) {
+    match answer_all(alloc, program, input, output) {
         Ok(()) => 0,
         Err(stop) => tell(alloc, output, stop),
     }

@@ -1,8 +1,19 @@
-use interop_lines::interop;
+use interop_lines::{Outside, Program, interop};
 use rp_base::{MemSink, MemSource, NoMemory};
 use std::alloc::{AllocError, Global};
 use std::test::Fail;
 use text_codec::push_hex;
+
+/// A program that does nothing, about whose runs is asked.
+struct Idle;
+
+impl Program for Idle {
+    ghost comes_to = { λ _ _ _ _ _. Unit {0} };
+
+    fn run(&self, _alloc: Global, _words: &[String], _outside: &mut Outside) -> u8 {
+        0
+    }
+}
 
 /// The status, and what was written, where these calls of the source and the sink fail.
 fn run(
@@ -13,7 +24,7 @@ fn run(
 ) -> Result<(u8, MemSink), AllocError> {
     let mut source = MemSource::new(input.to_vec(alloc)?, reads.to_vec(alloc)?);
     let mut sink = MemSink::new(alloc, writes.to_vec(alloc)?);
-    let status = interop(alloc, &mut source, &mut sink);
+    let status = interop(alloc, &Idle, &mut source, &mut sink);
     Ok((status, sink))
 }
 
@@ -40,6 +51,34 @@ fn each_line_is_answered_until_one_is_no_question(rt: HostRuntime) -> Result<(),
         (b"pool 0 0001 00 -\n", b"noview\n", 0),
         (b"pool 0 00 00 02\n", b"version\n", 0),
         (b"pool 1024 00 00 -\n", b"stop 7 line 1\n", 7),
+    ] {
+        let (status, sink) = run(rt.alloc(), input, &[], &[])?;
+        assert_eq!(rt; sink.bytes(), output);
+        assert_eq!(rt; status, ends);
+    }
+    Ok(())
+}
+
+/// What is asked is read to its last word; the program itself does nothing.
+#[test]
+fn questions_on_runs_are_read(rt: HostRuntime) -> Result<(), Fail> {
+    for (input, output, ends) in [
+        (b"run - - - - - -\n".as_slice(), b"0 - - -\n".as_slice(), 0),
+        (
+            b"run 6e6f64652061 00 0102 bind:1,send:2,recv:3,len:4,read:5,write:6,sync:7,source:8,sink:4294967295 0:-,65535:ff sync:1\n",
+            b"0 - 0102 -\n",
+            0,
+        ),
+        (b"run - - - - -\n", b"stop 7 line 1\n", 7),
+        (b"run - - - - - - -\n", b"stop 7 line 1\n", 7),
+        (b"run ff - - - - -\n", b"stop 7 line 1\n", 7),
+        (b"run - - - send:0 - -\n", b"stop 7 line 1\n", 7),
+        (b"run - - - send:1, - -\n", b"stop 7 line 1\n", 7),
+        (b"run - - - Send:1 - -\n", b"stop 7 line 1\n", 7),
+        (b"run - - - sink:4294967296 - -\n", b"stop 7 line 1\n", 7),
+        (b"run - - - - 65536:- -\n", b"stop 7 line 1\n", 7),
+        (b"run - - - - 1: -\n", b"stop 7 line 1\n", 7),
+        (b"run - - - - - read:1\n", b"stop 7 line 1\n", 7),
     ] {
         let (status, sink) = run(rt.alloc(), input, &[], &[])?;
         assert_eq!(rt; sink.bytes(), output);

@@ -1,5 +1,5 @@
-use Rattle.interop_lines.proofs.KindLaws.{one_answer}
+use Rattle.interop_lines.proofs.KindLaws.{one_answer, run_alone}
 use Rattle.interop_lines.proofs.one_answer.Goals as goal
 
 pub returns : goal.returns
-returns c = one_answer
+returns c = record { one = one_answer; apart = run_alone }

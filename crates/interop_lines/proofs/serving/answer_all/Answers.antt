@@ -10,8 +10,8 @@ loop-number-init g c = record {
   served = (
     0,
     refl,
-    subst (λ (t : List ℕ). HasServed 0 t (g.S.Source.left c.args.input.now) (g.S.Source.left c.args.input.now)
-        (g.K.Sink.written c.args.output.now) (g.K.Sink.written c.args.output.now)) (sym c.new-ahead.ensures) (none_yet _ _),
+    subst (λ (t : List ℕ). HasServed (g.P.Program.comes_to c.args.program.now) 0 t (g.S.Source.left c.args.input.now) (g.S.Source.left c.args.input.now)
+        (g.K.Sink.written c.args.output.now) (g.K.Sink.written c.args.output.now)) (sym c.new-ahead.ensures) (none_yet _ _ _),
   );
   read = refl;
   wrote = refl;
@@ -22,12 +22,12 @@ returns-in_err-read_on-clause-some g c =
     let p = err_from_is_err_and c.from_residual.result c.from_residual.ensures.1 in
     let before = c.loop-number.invariant.served in
     let read = c.in_err-read_on.ensures.taken in
-    rw p.1 (inr (before.0, _, read_more before.0 _ read.0 _ _ _ _ _ before.2 read.1))
+    rw p.1 (inr (before.0, _, read_more _ before.0 _ read.0 _ _ _ _ _ before.2 read.1))
 
 pub returns-in_default-clause-some : goal.returns-in_default-clause-some
 returns-in_default-clause-some g c =
     let before = c.loop-number.invariant.served in
-    inr (before.0, _, read_on before.0 _ c.read_on.new.ahead _ _ _ _ _ before.2 c.in_ok-read_on.ensures.read)
+    inr (before.0, _, read_on _ before.0 _ c.read_on.new.ahead _ _ _ _ _ before.2 c.in_ok-read_on.ensures.read)
 
 pub returns-in_default-clause-refused : goal.returns-in_default-clause-refused
 returns-in_default-clause-refused g c = λ number e.
@@ -37,33 +37,33 @@ returns-in_default-clause-refused g c = λ number e.
       before.0,
       c.read_on.new.ahead,
       same ∙ before.1,
-      read_on before.0 _ c.read_on.new.ahead _ _ _ _ _ before.2 c.in_ok-read_on.ensures.read,
-      no_line c.read_on.new.ahead _ (search rules) none c.in_ok-read_on.ensures.enough,
+      read_on _ before.0 _ c.read_on.new.ahead _ _ _ _ _ before.2 c.in_ok-read_on.ensures.read,
+      no_line _ c.read_on.new.ahead _ (search rules) none c.in_ok-read_on.ensures.enough,
     )
 
 pub returns-in_err-answer_line-clause-part : goal.returns-in_err-answer_line-clause-part
 returns-in_err-answer_line-clause-part g c = λ e.
     let p = err_from_is_err_and c.from_residual-in_err-answer_line.result c.from_residual-in_err-answer_line.ensures.1 in
     let before = c.loop-number.invariant.served in
-    let read = read_on before.0 _ c.read_on.new.ahead _ _ _ _ _ before.2 c.in_ok-read_on.ensures.read in
+    let read = read_on _ before.0 _ c.read_on.new.ahead _ _ _ _ _ before.2 c.in_ok-read_on.ensures.read in
     let part = c.in_err-answer_line.ensures.part (cc (p.1, p.2, e)) in
-    in_part before.0 _ (take c.in-Some.end c.bytes-in-loop-number.result.now) part.0 _ _ _ _ _ read part.1 part.2
+    in_part _ before.0 _ (take c.in-Some.end c.bytes-in-loop-number.result.now) part.0 _ _ _ _ _ read part.1 part.2
 
 pub returns-in_err-answer_line-clause-some : goal.returns-in_err-answer_line-clause-some
 returns-in_err-answer_line-clause-some g c =
     let p = err_from_is_err_and c.from_residual-in_err-answer_line.result c.from_residual-in_err-answer_line.ensures.1 in
     let before = c.loop-number.invariant.served in
-    let read = read_on before.0 _ c.read_on.new.ahead _ _ _ _ _ before.2 c.in_ok-read_on.ensures.read in
+    let read = read_on _ before.0 _ c.read_on.new.ahead _ _ _ _ _ before.2 c.in_ok-read_on.ensures.read in
     rw p.1 (elim c.in_err-answer_line.ensures.untouched [
       | inl write ↦ inl (cc (p.2, write))
-      | inr same ↦ inr (before.0, _, rewritten before.0 _ _ _ _ _ _ read (ap g.K.Sink.written same))
+      | inr same ↦ inr (before.0, _, rewritten _ before.0 _ _ _ _ _ _ read (ap g.K.Sink.written same))
     ])
 
 pub returns-in_err-answer_line-clause-refused : goal.returns-in_err-answer_line-clause-refused
 returns-in_err-answer_line-clause-refused g c = λ number e.
     let p = err_from_is_err_and c.from_residual-in_err-answer_line.result c.from_residual-in_err-answer_line.ensures.1 in
     let before = c.loop-number.invariant.served in
-    let read = read_on before.0 _ c.read_on.new.ahead _ _ _ _ _ before.2 c.in_ok-read_on.ensures.read in
+    let read = read_on _ before.0 _ c.read_on.new.ahead _ _ _ _ _ before.2 c.in_ok-read_on.ensures.read in
     let refused = c.in_err-answer_line.ensures.refused number (cc (p.1, p.2, e)) in
     let line = rw c.in-Some.is at c.line.ensures.line in
     elim c.in_err-answer_line.ensures.untouched [
@@ -72,7 +72,7 @@ returns-in_err-answer_line-clause-refused g c = λ number e.
         before.0,
         c.read_on.new.ahead,
         refused.0 ∙ before.1,
-        rewritten before.0 _ _ _ _ _ _ read (ap g.K.Sink.written same),
+        rewritten _ before.0 _ _ _ _ _ _ read (ap g.K.Sink.written same),
         inl (
           take c.in-Some.end c.read_on.new.ahead,
           drop (c.in-Some.end + 1) c.read_on.new.ahead,
@@ -86,15 +86,15 @@ returns-in_err-answer_line-clause-refused g c = λ number e.
 pub loop-number-preserved : goal.loop-number-preserved
 loop-number-preserved g c =
     let before = c.loop-number.invariant.served in
-    let read = read_on before.0 _ c.read_on.new.ahead _ _ _ _ _ before.2 c.in_ok-read_on.ensures.read in
+    let read = read_on _ before.0 _ c.read_on.new.ahead _ _ _ _ _ before.2 c.in_ok-read_on.ensures.read in
     let line = rw c.in-Some.is at c.line.ensures.line in
     let told = c.in_ok-answer_line.ensures.answered in
     let next : c.loop-number.number + 1 ≡ suc (suc before.0) = omega (arith, before.1) in
     let first : List ℕ = take c.in-Some.end c.read_on.new.ahead in
-    let answers : Answers first told.0 = rw c.bytes-in-loop-number.ensures at told.1 in
+    let answers : Answers _ first told.0 = rw c.bytes-in-loop-number.ensures at told.1 in
     let parts = line.1 ∙ ap (λ (t : List ℕ). ended first ++ t) (sym c.skip.ensures) in
     record {
-      served = (suc before.0, next, served_one_more before.0 _ first _ told.0 _ _ _ _ _ read line.0 parts answers told.2);
+      served = (suc before.0, next, served_one_more _ before.0 _ first _ told.0 _ _ _ _ _ read line.0 parts answers told.2);
       read = c.in_ok-read_on.ensures.steady ∙ c.loop-number.invariant.read;
       wrote = c.in_ok-answer_line.ensures.steady ∙ c.loop-number.invariant.wrote;
     }

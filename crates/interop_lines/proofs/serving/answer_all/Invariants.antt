@@ -6,7 +6,7 @@ use Rattle.interop_lines.proofs.serving.answer_all.Given as goal
 abbrev pub invariant-loop-number : goal.invariant-loop-number
 invariant-loop-number g l = record {
   served : (n : ℕ) × (l.number ≡ suc n)
-      × HasServed n l.ahead (g.S.Source.left l.fn.input) (g.S.Source.left l.input) (g.K.Sink.written l.fn.output)
+      × HasServed (g.P.Program.comes_to l.fn.program) n l.ahead (g.S.Source.left l.fn.input) (g.S.Source.left l.input) (g.K.Sink.written l.fn.output)
       (g.K.Sink.written l.output);
   read : g.S.Source.faults l.input ≡ g.S.Source.faults l.fn.input;
   wrote : g.K.Sink.faults l.output ≡ g.K.Sink.faults l.fn.output;

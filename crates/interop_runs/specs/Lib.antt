@@ -1,0 +1,5 @@
+pub mod Calls
+pub mod Devices
+pub mod Questions
+pub mod Telling
+pub mod Runs

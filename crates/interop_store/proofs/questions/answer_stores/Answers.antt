@@ -1,0 +1,40 @@
+use Rattle.std.proofs.Common.{ℕ, List, sym, subst, IfOk}
+use Rattle.interop_store.specs.Questions.{Answers}
+use Rattle.interop_node.proofs.QuestionLaws.{begun}
+use Rattle.interop_store.proofs.questions.answer_stores.Goals as goal
+
+pub returns-then-eq-clause-answers : goal.returns-then-eq-clause-answers
+returns-then-eq-clause-answers c =
+    let words = begun c.args.words.now c.in-Some.words.now c.in-Some.verb.now _ _ c.in-Some.ensures.cases.0 c.if-eq.ensures
+    c.as_slice.ensures in
+    subst (λ (ws : List (List ℕ)). IfOk c.apply.result (λ told. Answers ws told.items)) (sym words) c.apply.ensures.answers
+
+pub returns-then-eq-clause-no_question : goal.returns-then-eq-clause-no_question
+returns-then-eq-clause-no_question c = λ e told a.
+    let words = begun c.args.words.now c.in-Some.words.now c.in-Some.verb.now _ _ c.in-Some.ensures.cases.0 c.if-eq.ensures
+    c.as_slice.ensures in
+    c.apply.ensures.no_question e told (subst (λ (ws : List (List ℕ)). Answers ws told) words a)
+
+pub returns-then-eq-2-clause-answers : goal.returns-then-eq-2-clause-answers
+returns-then-eq-2-clause-answers c =
+    let words = begun c.args.words.now c.in-Some.words.now c.in-Some.verb.now _ _ c.in-Some.ensures.cases.0 c.if-eq-2.ensures
+    c.as_slice-else-eq.ensures in
+    subst (λ (ws : List (List ℕ)). IfOk c.reply.result (λ told. Answers ws told.items)) (sym words) c.reply.ensures.answers
+
+pub returns-then-eq-2-clause-no_question : goal.returns-then-eq-2-clause-no_question
+returns-then-eq-2-clause-no_question c = λ e told a.
+    let words = begun c.args.words.now c.in-Some.words.now c.in-Some.verb.now _ _ c.in-Some.ensures.cases.0 c.if-eq-2.ensures
+    c.as_slice-else-eq.ensures in
+    c.reply.ensures.no_question e told (subst (λ (ws : List (List ℕ)). Answers ws told) words a)
+
+pub returns-then-eq-3-clause-answers : goal.returns-then-eq-3-clause-answers
+returns-then-eq-3-clause-answers c =
+    let words = begun c.args.words.now c.in-Some.words.now c.in-Some.verb.now _ _ c.in-Some.ensures.cases.0 c.if-eq-3.ensures
+    c.as_slice-else-eq-2.ensures in
+    subst (λ (ws : List (List ℕ)). IfOk c.state.result (λ told. Answers ws told.items)) (sym words) c.state.ensures.answers
+
+pub returns-then-eq-3-clause-no_question : goal.returns-then-eq-3-clause-no_question
+returns-then-eq-3-clause-no_question c = λ e told a.
+    let words = begun c.args.words.now c.in-Some.words.now c.in-Some.verb.now _ _ c.in-Some.ensures.cases.0 c.if-eq-3.ensures
+    c.as_slice-else-eq-2.ensures in
+    c.state.ensures.no_question e told (subst (λ (ws : List (List ℕ)). Answers ws told) words a)
