@@ -1,18 +1,21 @@
 #!/bin/bash
 # Programs that must not compile: each makes or changes by itself what only its own crate may make, hands one phase of a view where another
-# is wanted, or goes on with a process whose turn is not in its journal. Beside them, programs that do the same as it is meant to be done, which must compile and run. Run by hand.
+# is wanted, or goes on with a process whose turn is not in its journal. Beside them, programs that do the same as it is meant to be done,
+# which must compile and run. What a proof alone refuses is a library that must not be proved; that wants the libraries below proved before,
+# as a run of the gate leaves them. Run by hand.
 #
 #     tools/misuse.sh
 #
-# prints a line for each, and ends with status 1 where a program of the first kind compiles, or fails for another reason, or where one
-# of the second kind fails.
+# prints a line for each, and ends with status 1 where a program of the first kind compiles, or a library of that kind is proved, or fails for
+# another reason, or where one of the second kind fails.
 set -u
 top=$(git rev-parse --show-toplevel)
 work=$(mktemp -d)
 trap 'rm -rf "$work"' EXIT
 git -C "$top" archive HEAD crates crates.txt HANDLES | tar -x -C "$work"
+echo 'misuse_audit: rp_base audit_core' >> "$work/crates.txt"
 echo 'misuse: rp_base stmt_codec view_table claim_index pool_values claim_pool view_phases rp_devices journal_rp member_core hosted_core chain_check' >> "$work/crates.txt"
-mkdir -p "$work/crates/misuse/src"
+mkdir -p "$work/crates/misuse/src" "$work/crates/misuse_audit/src"
 failed=0
 
 # tries PROGRAM: `said` is what the try said, and the status is its status
@@ -40,6 +43,35 @@ misuse() {
     else
         echo "NOT refused as it should be: $1"
         grep -m 3 'error\|run=' <<< "$said"
+        failed=1
+    fi
+}
+
+# checks LIBRARY: as `tries`, but its proofs are checked too, over the proved libraries below
+checks() {
+    printf '#![tactic(auto)]\n\n%s\n' "$1" > "$work/crates/misuse_audit/src/lib.rt"
+    said=$(cd "$work/crates/misuse_audit" && rt check 2>&1)
+}
+
+# proved WHAT LIBRARY: as it is meant
+proved() {
+    if checks "$2"; then
+        echo "proved: $1"
+    else
+        echo "NOT proved as it should be: $1"
+        grep -m 3 'error' <<< "$said"
+        failed=1
+    fi
+}
+
+# unproved WHAT LIBRARY SAID: it is refused, and this is said
+unproved() {
+    checks "$2"
+    if grep -qF "$3" <<< "$said"; then
+        echo "refused: $1"
+    else
+        echo "NOT refused as it should be: $1"
+        grep -m 3 'error' <<< "$said"
         failed=1
     fi
 }
@@ -318,5 +350,33 @@ fn forged(view: View) -> Chain {
 }
 
 fn main() {}'
+
+# ---- audits: what is asked of findings is a matter of proof, so these are checked
+
+unproved 'findings that no audit found' 'use audit_core::Findings;
+use rp_base::{Pid, PidSet};
+
+pub fn forged(findings: Findings, grounds: Vec<(Pid, PidSet)>) -> Findings {
+    Findings { grounds, ..findings }
+}' 'error[private'
+
+unproved 'the grounds of a process that is not known to be listed' 'use audit_core::Findings;
+use rp_base::{Pid, PidSet};
+
+pub fn grounds(findings: &Findings, p: Pid) -> PidSet {
+    findings.grounds(p)
+}' 'it is not proved that what `grounds` requires holds'
+
+proved 'the grounds of a listed process' 'ghost use Rattle.std.specs.Prelude.{Contains};
+ghost use Rattle.audit_core.specs.Found.{listed_in};
+
+use audit_core::Findings;
+use rp_base::{Pid, PidSet};
+
+pub fn grounds(findings: &Findings, p: Pid) -> PidSet
+    requires { Contains (listed_in findings.now) p }
+{
+    findings.grounds(p)
+}'
 
 exit $failed
