@@ -220,8 +220,8 @@ AREAS = {
     "a run shown": (348, 20, 2, "picture_defs story_words story_telling story_trace picture_labels story_picture story_cli story"),
     "beside other implementations": (
         348, 203, 2,
-        "interop_words interop_signatures interop_levels interop_frames interop_kits interop_schedules interop_node interop_pool interop_lines"
-        " interop",
+        "interop_words interop_signatures interop_levels interop_frames interop_kits interop_schedules interop_node interop_pool interop_store"
+        " interop_runs interop_lines interop",
     ),
     "schedules and stories": (
         348, 413, 2,
@@ -234,10 +234,10 @@ AREAS = {
     "kits and words": (676, 413, 2, "text_codec kit_file kit_lines kit_draft kit_reading kit_making command_line"),
     "signatures": (676, 622, 2, "sha256_lanes lms_chains lms_ots lms_tree lms_hss sig_scheme bench_parts"),
     "links and journals": (676, 777, 2, "link_defs auth_link journal_defs journal_disk journal_entries journal_rp"),
-    "a store": (1040, 20, 2, "store_defs store_laws following_laws store_rows store_records kv_service vote_client state_transfer store_words store_keys store_replies store_giving store_server"),
-    "chains of views, and guards": (1040, 289, 2, "chain_defs chain_text_defs chain_laws chain_rows chain_check chain_words guard_defs guard_laws guard_rows"),
-    "convictions and audits": (1040, 477, 2, "conviction_defs conviction_laws conviction audit_defs audit_laws evidence_laws findings_laws claim_firsts audit_claims audit_turns journal_steps audit_sources audit_walk audit_cast findings_json audit_core audit_input audit_words audit_rows"),
-    "nodes": (1040, 800, 2, "image_defs image_laws snapshot_defs snapshot_laws snapshot_rows snapshot_rp kept_images heard_images image_parts node_defs node_laws node_text node_keys node_hosts node_traces node_service opening_laws resume_laws script_laws letting_laws letter_laws node_input node_opening node_turns sealing_laws node_taking node_receiving node_script stop_laws node_loop node_rows"),
+    "a store": (1040, 20, 2, "store_defs store_laws following_laws store_rows store_records kv_service vote_client state_transfer store_words store_keys store_replies store_giving store_server store_asking store_service"),
+    "chains of views, and guards": (1040, 289, 2, "chain_defs chain_text_defs chain_laws chain_rows chain_check chain_words guard_defs guard_laws guard_rows guard_service witness_defs witness_laws witness_rows witness_words"),
+    "convictions and audits": (1040, 532, 2, "conviction_defs conviction_laws conviction audit_defs audit_laws evidence_laws findings_laws claim_firsts audit_claims audit_turns journal_steps audit_sources audit_walk audit_cast findings_json audit_core audit_input audit_words audit_rows"),
+    "nodes": (1040, 855, 2, "image_defs image_laws snapshot_defs snapshot_laws snapshot_rows snapshot_rp kept_images heard_images image_parts node_defs node_laws node_text node_keys node_hosts node_traces node_service opening_laws resume_laws script_laws letting_laws letter_laws node_input node_opening node_turns sealing_laws node_taking node_receiving node_script stop_laws node_loop node_rows"),
 }
 
 # The lines from each area to those that it uses, without those that others imply.
@@ -253,7 +253,7 @@ LINES = {
     ("what is heard", "frames and statements"): [(324, 823), (348, 823)],
     ("laws and rows", "definitions"): [(172, 1159), (172, 1195)],
     ("a run shown", "a replay"): [(348, 155), (324, 155)],
-    ("beside other implementations", "convictions and audits"): [(652, 369), (996, 369), (996, 490), (1040, 490)],
+    ("beside other implementations", "the program"): [(348, 230), (336, 230), (336, 60), (324, 60)],
     ("how fast", "a replay"): [(676, 40), (664, 40), (664, 8), (332, 8), (332, 150), (324, 150)],
     ("schedules and stories", "kits and words"): [(652, 486), (676, 486)],
     ("schedules and stories", "frames and statements"): [(500, 667), (500, 777)],
@@ -263,11 +263,11 @@ LINES = {
     ("kits and words", "signatures"): [(828, 559), (828, 622)],
     ("signatures", "the outside"): [(676, 690), (664, 690), (664, 1070), (652, 1070)],
     ("the outside", "definitions"): [(500, 1132), (500, 1195)],
-    ("a store", "a member"): [(1040, 120), (1032, 120), (1032, 602), (656, 602), (656, 700), (333, 700), (333, 500), (324, 500)],
-    ("a store", "kits and words"): [(1040, 100), (1004, 100), (1004, 460), (980, 460)],
-    ("nodes", "convictions and audits"): [(1192, 800), (1192, 785)],
-    ("chains of views, and guards", "nodes"): [(1344, 357), (1354, 357), (1354, 827), (1344, 827)],
-    ("convictions and audits", "a replay"): [(1040, 497), (1012, 497), (1012, 608), (662, 608), (662, 706), (330, 706), (330, 290), (324, 290)],
+    ("a store", "nodes"): [(1344, 120), (1364, 120), (1364, 902), (1344, 902)],
+    ("the program", "a store"): [(210, 20), (210, 6), (1029, 6), (1029, 80), (1040, 80)],
+    ("nodes", "convictions and audits"): [(1192, 855), (1192, 840)],
+    ("chains of views, and guards", "nodes"): [(1344, 357), (1354, 357), (1354, 882), (1344, 882)],
+    ("convictions and audits", "a replay"): [(1040, 552), (1012, 552), (1012, 608), (662, 608), (662, 706), (330, 706), (330, 290), (324, 290)],
 }
 
 

@@ -176,6 +176,43 @@ fn time_reading(
     Ok((read, ours, theirs))
 }
 
+// The microseconds of so many pairs of bare writes, each of a piece and of a byte.
+fn time_bare(rt: &(impl Files + Clock), alloc: Global, bytes: usize, times: u32) -> Result<u64> {
+    let piece = vec![in alloc; 5u8; bytes]?;
+    let mut file = fs::create(rt, BARE)?;
+    let mut at = 0u64;
+    let begun = Instant::now(rt)?;
+    for _ in 0..times {
+        bare(&mut file, at, &piece)?;
+        at = at.wrapping_add(bytes as u64);
+    }
+    let time = micros(begun.elapsed(rt)?);
+    let _ = fs::remove_file(rt, BARE);
+    Ok(time)
+}
+
+/// Makes two pairs of bare writes.
+pub(crate) fn bare_once(rt: &(impl Print + Files + Clock + AllocGlobal)) -> Result<()> {
+    time_bare(rt, rt.alloc(), 100, 2)?;
+    println!(rt; "2 pairs of bare writes of 100 bytes")?;
+    Ok(())
+}
+
+/// Prints the microseconds of pairs of bare writes of so many bytes, and so many of them, as the words say.
+pub(crate) fn bare_times(
+    rt: &(impl Print + Files + Clock + AllocGlobal),
+    words: &[String],
+) -> Result<()> {
+    let bytes: Option<u16> = words.first().and_then(|word| word.parse().ok());
+    let times = words.get(1).and_then(|word| word.parse().ok());
+    let (Some(bytes), Some(times)) = (bytes, times) else {
+        return Err(anyhow!("the words are a number of bytes and of times"));
+    };
+    let micros = time_bare(rt, rt.alloc(), bytes.into(), times)?;
+    println!(rt; "{times} pairs of bare writes of {bytes} bytes: {micros} us")?;
+    Ok(())
+}
+
 /// Takes in two turns and reads three entries.
 pub(crate) fn once(rt: &(impl Print + Files + Clock + AllocGlobal)) -> Result<()> {
     time_turns(rt, rt.alloc(), 2)?;

@@ -17,8 +17,8 @@ use std::process::ExitCode;
 const OTHER_WORD: u8 = 2;
 
 const WORDS: &str =
-    "lms, link, journal, frames GROUPS TIMES, schedules submits|ticks|copy PIECES, pool CLAIMS, core MEMBERS HUNDREDS, \
-    or replay FILE [times]";
+    "lms, link, journal, bare BYTES TIMES, frames GROUPS TIMES, schedules submits|ticks|copy PIECES, pool CLAIMS, core MEMBERS HUNDREDS, \
+     or replay FILE [times]";
 
 /// What is measured.
 #[derive(Clone, Copy)]
@@ -28,6 +28,7 @@ enum Measure {
     Schedules,
     Link,
     Journal,
+    Bare,
     Pool,
     Core,
     Replay,
@@ -42,6 +43,7 @@ impl Measure {
             "schedules" => Some(Measure::Schedules),
             "link" => Some(Measure::Link),
             "journal" => Some(Measure::Journal),
+            "bare" => Some(Measure::Bare),
             "pool" => Some(Measure::Pool),
             "core" => Some(Measure::Core),
             "replay" => Some(Measure::Replay),
@@ -57,6 +59,7 @@ impl Measure {
             Measure::Schedules => schedules::read(rt, words),
             Measure::Link => link::times(rt),
             Measure::Journal => journal::times(rt),
+            Measure::Bare => journal::bare_times(rt, words),
             Measure::Pool => pool_measures::times_of(rt, words),
             Measure::Core => cores::times_of(rt, words),
             Measure::Replay => replay::count_in(rt, words),
@@ -71,6 +74,7 @@ fn once(rt: &HostRuntime) -> Result<()> {
     schedules::once(rt)?;
     link::once(rt)?;
     journal::once(rt)?;
+    journal::bare_once(rt)?;
     pool_measures::once(rt)?;
     cores::once(rt)?;
     replay::once(rt)
