@@ -39,7 +39,7 @@ def opening(script):
     begun = time.monotonic()
     done = subprocess.run([program, "node", JOURNAL], input=kit + script, stdout=subprocess.PIPE, check=True)
     taken = time.monotonic() - begun
-    if done.stdout.count(b"deliver") != script.count(b"submit"):
+    if done.stdout.count(b"\ndeliver ") != script.count(b"submit"):
         raise SystemExit("not all was delivered")
     return taken, os.path.getsize(JOURNAL)
 
