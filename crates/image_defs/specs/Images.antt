@@ -2,6 +2,7 @@
 -- genesis and the values by which they were left.
 use Rattle.std.specs.Prelude.{◌≡◌, ℕ, Bool, List, [], ◌∷◌, length, map, Option, Some, None, slice_index_or}
 use Rattle.std.specs.Option.{option_map_or, unwrap_or}
+use Rattle.byte_defs.specs.Orders.{sorted}
 use Rattle.message_defs.specs.Updates.{Update, Renew, Value}
 use Rattle.message_defs.specs.Statements.{Statement, Ready, Claim}
 use Rattle.group_defs.specs.Views.{View, IsView, next_view}
@@ -23,11 +24,26 @@ pub record Image : Type 0 where
   -- what was heard in the view that was left last
   pub previous : List Claim
   pub heard : List Claim
+  -- by rising signer
   pub conflicts : List (Claim × Claim)
   -- of each view that was installed
   pub delivered : List (List Delivered)
   pub decision : Option (ℕ × Value)
   pub halted : Bool
+
+-- ---- conflicts
+
+-- a pair of claims that conflict goes by its signer
+abbrev pub conflict_key : Claim × Claim → List ℕ
+conflict_key e = e.0.signer ∷ []
+
+-- the pairs by rising signer
+abbrev pub by_signer : List (Claim × Claim) → List (Claim × Claim)
+by_signer pairs = sorted conflict_key pairs
+
+-- The process with its conflicts by rising signer. A process keeps them in the order in which it found them.
+abbrev pub in_order : Process → Process
+in_order p = record p { conflicts = by_signer p.conflicts }
 
 -- ---- the image of a process
 
@@ -53,7 +69,7 @@ image_of p = record {
   signed = p.signed;
   previous = option_map_or (λ h. h.heard) p.previous [];
   heard = p.pool.heard;
-  conflicts = p.conflicts;
+  conflicts = by_signer p.conflicts;
   delivered = deliveries_of p;
   decision = p.decision;
   halted = p.halted;
@@ -106,7 +122,7 @@ process_of s batch_limit i = record {
 
 -- ---- the law
 
--- the image of a process that started in a genesis view gives it back
+-- The image of a process that started in a genesis view gives it back with its conflicts by rising signer, and in everything else as it is.
 abbrev pub ProcessIsRestored : Type 0
 ProcessIsRestored = (s : Setting) (me batch_limit : ℕ) (turns : List Turn) → IsView s.genesis
-    → process_of s batch_limit (image_of (run s (start s me batch_limit) turns)) ≡ run s (start s me batch_limit) turns
+    → process_of s batch_limit (image_of (run s (start s me batch_limit) turns)) ≡ in_order (run s (start s me batch_limit) turns)

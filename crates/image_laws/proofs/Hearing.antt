@@ -32,6 +32,7 @@ use Rattle.safety_laws.proofs.OfTheView.{members-all, named}
 use Rattle.image_defs.specs.Kept.{AreHeard, WasHeard, as_before, last_delivered}
 use Rattle.image_laws.specs.Keeping.{HeardIsKept}
 use Rattle.image_laws.proofs.Taken.{came, Stayed, WasTaken}
+use Rattle.image_laws.proofs.BySigner.{Others}
 use Rattle.image_laws.proofs.Within.{may-within, within-stays}
 
 -- ---- a claim that is heard has passed all tests
@@ -294,11 +295,8 @@ conflict-tests false false false false false true conflict e = absurd cc
 conflict-tests false false false false false false true e = (refl, refl)
 conflict-tests false false false false false false false e = absurd cc
 
-abbrev IsPair : Setting → Claim × Claim → Type 0
+abbrev pub IsPair : Setting → Claim × Claim → Type 0
 IsPair s e = (e.0.signer ≡ e.1.signer) × Conflicts e.0 e.1 × (is_valid s e.0 ≡ true) × (is_valid s e.1 ≡ true)
-
-abbrev Others : Claim × Claim → Claim × Claim → Type 0
-Others e d = e.0.signer ≢ d.0.signer
 
 record HasPairs (s : Setting) (es : List (Claim × Claim)) : Type 0 where
   pub each : (e : Claim × Claim) → Mem e es → IsPair s e
@@ -370,7 +368,7 @@ hears-pairs s [] p ok pairs = pairs
 hears-pairs s (c ∷ cs) p ok pairs =
     let one = hears-one s p c (verdict s p c) refl ok pairs in hears-pairs s cs (hear s p c) one.0 one.1
 
-asks-pairs : (p : Process) (u : Update) → (perceives p u).conflicts ≡ p.conflicts
+pub asks-pairs : (p : Process) (u : Update) → (perceives p u).conflicts ≡ p.conflicts
 asks-pairs p u = go (is_perceived p (p.pool.view.number, u))
   where
     go : (b : Bool) → (if b then p else record p { perceived = put perceived_numbers (p.pool.view.number, u) p.perceived }).conflicts ≡ p.conflicts

@@ -8,7 +8,11 @@ pub mod Signing
 pub mod Within
 pub mod Hearing
 pub mod Rising
+pub mod BySigner
+pub mod Holding
+pub mod Alike
 pub mod Committing
 pub mod Leaving
 pub mod Placing
 pub mod Making
+pub mod Turning

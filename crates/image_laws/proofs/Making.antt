@@ -9,7 +9,7 @@ use Rattle.group_defs.specs.Family.{claims_in, handed_to}
 use Rattle.group_defs.specs.Events.{Turn, after, run}
 use Rattle.pool_laws.proofs.Members.{Mem, All-mem, mem-All, mem-append, mem-behind}
 use Rattle.safety_laws.proofs.Induction.{Keeps, AreFrom, after-keeps}
-use Rattle.image_defs.specs.Images.{image_of, process_of}
+use Rattle.image_defs.specs.Images.{image_of, process_of, by_signer, in_order}
 use Rattle.image_defs.specs.Kept.{IsKeptProcess}
 use Rattle.image_laws.specs.Keeping.{InRange, LeftFits, HeardFits, DecisionFits}
 use Rattle.image_laws.specs.Made.{Fits, RunsFit, ImagesAreKept}
@@ -18,7 +18,9 @@ use Rattle.image_laws.proofs.Leaving.{left_is_kept}
 use Rattle.image_laws.proofs.Placing.{all-deliveries, nothing-stands}
 use Rattle.message_defs.specs.Limits.{most_places}
 use Rattle.group_defs.specs.Accounts.{StandsByPlace}
-use Rattle.image_laws.proofs.Hearing.{heard_is_kept, heard-is, heard-was, is-heard, moved, moved-before, was-heard}
+use Rattle.image_laws.proofs.BySigner.{Others, each-by_signer, signers-up, up-pairs}
+use Rattle.pool_laws.proofs.Places.{all-pairs, pairs-all}
+use Rattle.image_laws.proofs.Hearing.{IsPair, heard_is_kept, heard-is, heard-was, is-heard, moved, moved-before, was-heard}
 use Rattle.image_laws.proofs.Signing.{signed_is_kept}
 use Rattle.image_laws.proofs.Placing.{placed_is_kept}
 use Rattle.image_laws.proofs.Deciding.{decision_is_kept}
@@ -127,17 +129,22 @@ lefts-fit s me limit turns view valid =
 
 -- ---- images
 
--- the image goes by nothing but the batch limit beyond the process
-kept-of : (s : Setting) (p : Process) → Fits s p → IsKeptProcess s (image_of p) (record p { batch_limit = 1 })
+-- the process that the image gives, with the batch limit that images are judged by
+abbrev given : Process → Process
+given p = record (in_order p) { batch_limit = 1 }
+
+-- the image goes by nothing but the batch limit and the order of conflicts beyond the process
+kept-of : (s : Setting) (p : Process) → Fits s p → IsKeptProcess s (image_of p) (given p)
 kept-of s p fits = record {
   left = fits.left.left;
   last = fits.left.last;
   none_before = fits.left.none_before;
-  heard = is-heard s (record p { batch_limit = 1 }) (moved s p (record p { batch_limit = 1 }) refl refl (heard-is s p fits.heard.heard));
-  was_heard = was-heard s (record p { batch_limit = 1 }) p.previous
-      (moved-before s p (record p { batch_limit = 1 }) refl refl (heard-was s p p.previous fits.heard.was_heard));
-  conflicts = fits.heard.conflicts;
-  one_each = fits.heard.one_each;
+  heard = is-heard s (given p) (moved s p (given p) refl refl (heard-is s p fits.heard.heard));
+  was_heard = was-heard s (given p) p.previous (moved-before s p (given p) refl refl (heard-was s p p.previous fits.heard.was_heard));
+  conflicts = mem-All (IsPair s) (by_signer p.conflicts)
+      (each-by_signer (IsPair s) p.conflicts (λ e m. All-mem (IsPair s) p.conflicts e fits.heard.conflicts m));
+  one_each = pairs-all Others (by_signer p.conflicts)
+      (up-pairs (by_signer p.conflicts) (signers-up p.conflicts (all-pairs Others p.conflicts fits.heard.one_each)));
   own = fits.signed.own;
   signed_once = fits.signed.once;
   heard_own = fits.signed.heard_own;
@@ -157,6 +164,6 @@ pub images_are_kept : ImagesAreKept
 images_are_kept s me limit turns view valid handed =
     let p : Process = run s (start s me limit) turns in
     let fits = runs_fit s (start s me limit) turns valid handed (starts-fit s me limit view) in
-    let same : process_of s 1 (image_of (run s (start s me limit) turns)) ≡ record (run s (start s me limit) turns) { batch_limit = 1 }
+    let same : process_of s 1 (image_of (run s (start s me limit) turns)) ≡ given (run s (start s me limit) turns)
     = ap (λ (q : Process). record q { batch_limit = 1 }) (process_is_restored s me limit turns view) in
     subst (IsKeptProcess s (image_of (run s (start s me limit) turns))) (sym same) (kept-of s (run s (start s me limit) turns) fits)

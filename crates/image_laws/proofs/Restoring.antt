@@ -1,4 +1,5 @@
--- The image of a process gives it back: its views follow from the values that its commit certificates tell.
+-- The image of a process gives it back with its conflicts by rising signer: its views follow from the values that its commit certificates
+-- tell.
 use Rattle.std.proofs.Common.{◌≡◌, ℕ, List, [], ◌∷◌, ◌++◌, length, map, true, refl, sym, ap, ◌∙◌, subst, Option, Some, None, inl, inr}
 use Rattle.std.specs.Prelude.{slice_index_or, is_none}
 use Rattle.std.specs.Option.{option_map_or}
@@ -15,7 +16,7 @@ use Rattle.pool_laws.proofs.Growing.{is_certified-stays}
 use Rattle.pool_laws.proofs.Tests.{and-first, none-is, none-some, option_or-is}
 use Rattle.safety_laws.proofs.Induction.{Keeps, run-keeps}
 use Rattle.safety_laws.proofs.Installed.{decided_by-is}
-use Rattle.image_defs.specs.Images.{LeftView, left_by, told_by, image_of, lefts_from, view_behind, previous_from, process_of, ProcessIsRestored}
+use Rattle.image_defs.specs.Images.{LeftView, left_by, told_by, image_of, lefts_from, view_behind, previous_from, process_of, in_order, ProcessIsRestored}
 use Rattle.image_laws.proofs.Certificates.{certificate-first}
 
 -- the views of these, by what their commit certificates tell
@@ -147,8 +148,8 @@ keeps s limit from = record {
   halts = λ p d decided member t. same s limit p _ refl refl refl refl refl (λ d c. c) t;
 }
 
--- what is told gives the process back
-gives-back : (s : Setting) (limit : ℕ) (p : Process) → IsTold s limit p → process_of s limit (image_of p) ≡ p
+-- what is told gives the process back, with its conflicts in order
+gives-back : (s : Setting) (limit : ℕ) (p : Process) → IsTold s limit p → process_of s limit (image_of p) ≡ in_order p
 gives-back s limit p t =
     let left = lefts-told s.genesis p.left p.pool.view (p.delivered ∷ []) t.told in
     let previous = previous-told s.genesis p.left p.pool.view p.previous t.told t.previous in
@@ -163,7 +164,7 @@ gives-back s limit p t =
     ∙ ap (λ ds. with-parts p.left p.previous p.pool.view ds) delivered
   where
     with-parts : List Left → Option Pool → View → List Delivered → Process
-    with-parts left previous view delivered = record p {
+    with-parts left previous view delivered = record (in_order p) {
       left = left;
       previous = previous;
       pool = record { view = view; heard = p.pool.heard };

@@ -10,7 +10,9 @@ use Rattle.node_defs.specs.Lines.{Stop, Ended, ReadFailed, WriteFailed, DiskFail
 use Rattle.node_defs.specs.Casts.{Cast, outcome_of, entry_for}
 use Rattle.node_defs.specs.Nodes.{Node, Leaving, Sends, Tells, Task, Take, Append, Flush, Say, Ask, Get, Word, Post, Mark, Answer, Done, Failed, Unremembered, Came, Broken, Said, Named, Digest, Change, Snapper, goes, ends, done_or, is_full, asks, after_step, after_get, after_task, after_leaving, after_line, after_read}
 use Rattle.node_defs.specs.Lives.{IsHosted}
+use Rattle.image_laws.specs.Alike.{IsAlike}
 use Rattle.resume_laws.specs.Resuming.{one_line_on}
+use Rattle.resume_laws.proofs.Turning.{outcome-alike, entry-alike}
 
 -- the node with these processes and entries, one line further on
 abbrev pub moved : (ℕ → Process) → List Entry → Node → Node
@@ -34,9 +36,9 @@ pub record Alike (c : Cast) (one other : Option Change) : Type 0 where
   pub same : other ≡ option_map later one
   pub hosted : ChangeHosted c one
 
--- the node m is n with other processes, of which the hosted ones are the same
+-- the node m is n with other processes, of which the hosted ones are alike
 module _ (c : Cast) (snap snap' : Snapper) (n : Node) (now : ℕ → Process) (kept : List Entry)
-    (agree : (p : ℕ) → IsTrue (has c.hosted p) → now p ≡ n.now p)
+    (agree : (p : ℕ) → IsTrue (has c.hosted p) → IsAlike (n.now p) (now p))
     (snaps : (digest : List ℕ) → snap' (moved now kept n) digest ≡ snap n digest) where
   abbrev m : Node
   m = moved now kept n
@@ -62,14 +64,18 @@ module _ (c : Cast) (snap snap' : Snapper) (n : Node) (now : ℕ → Process) (k
   done-alike why is (Named q) = none
   done-alike why is (Digest d) = none
 
-  -- by what the process is
-  step-same : (p : ℕ) (e : Event) (x : Process) (o : Option EventFault)
-      → after_step c (record m { now = λ q. x }) p e o ≡ later (after_step c (record n { now = λ q. x }) p e o)
-  step-same p e x (Some fault) = refl
-  step-same p e x None = go (is_full n.gate (entry_for c x e))
+  -- where the entries are the same
+  step-same : (p : ℕ) (e : Event) (o : Option EventFault) → entry_for c (now p) e ≡ entry_for c (n.now p) e
+      → after_step c m p e o ≡ later (after_step c n p e o)
+  step-same p e (Some fault) same = refl
+  step-same p e None same = ap (λ entry. if is_full n.gate entry then full m entry else goes m (Append p e ∷ [])) same
+      ∙ go (is_full n.gate (entry_for c (n.now p) e))
     where
-      go : (b : Bool) → (if b then ends m [] (Full (n.gate + 1) (length (entry_bytes (entry_for c x e)))) else goes m (Append p e ∷ []))
-          ≡ later (if b then ends n [] (Full (n.gate + 1) (length (entry_bytes (entry_for c x e)))) else goes n (Append p e ∷ []))
+      full : Node → Entry → Change
+      full x entry = ends x [] (Full (n.gate + 1) (length (entry_bytes entry)))
+
+      go : (b : Bool) → (if b then full m (entry_for c (n.now p) e) else goes m (Append p e ∷ []))
+          ≡ later (if b then full n (entry_for c (n.now p) e) else goes n (Append p e ∷ []))
       go true = refl
       go false = refl
 
@@ -85,8 +91,8 @@ module _ (c : Cast) (snap snap' : Snapper) (n : Node) (now : ℕ → Process) (k
   step-alike : (p : ℕ) (e : Event) → IsTrue (has c.hosted p) → Alike c (Some (after_step c n p e (outcome_of c (n.now p) e).verdict))
       (Some (after_step c m p e (outcome_of c (now p) e).verdict))
   step-alike p e h = record {
-    same = ap (λ x. Some (after_step c (record m { now = λ q. x }) p e (outcome_of c x e).verdict)) (agree p h)
-        ∙ ap Some (step-same p e (n.now p) (outcome_of c (n.now p) e).verdict);
+    same = ap (λ o. Some (after_step c m p e o.verdict)) (outcome-alike c (n.now p) (now p) (agree p h) e)
+        ∙ ap Some (step-same p e (outcome_of c (n.now p) e).verdict (entry-alike c (n.now p) (now p) (agree p h) e));
     hosted = step-quiet p e (outcome_of c (n.now p) e).verdict;
   }
 
@@ -112,7 +118,8 @@ module _ (c : Cast) (snap snap' : Snapper) (n : Node) (now : ℕ → Process) (k
   task-alike (Take p e) (Named k) h = none
   task-alike (Take p e) (Digest d) h = none
   task-alike (Append p e) Done h = record {
-    same = ap (λ x. Some (record (goes m (Flush ∷ asks p e (outcome_of c x e).notes)) { taken = Some (p, e) })) (agree p h);
+    same = ap (λ o. Some (record (goes m (Flush ∷ asks p e o.notes)) { taken = Some (p, e) }))
+        (outcome-alike c (n.now p) (now p) (agree p h) e);
     hosted = h;
   }
   task-alike (Append p e) Failed h = record { same = refl; hosted = tt }

@@ -1,5 +1,5 @@
 -- A node beside one that has read the first entries too: an answer, and any number of answers, leave them beside each other.
-use Rattle.std.proofs.Common.{◌≡◌, ℕ, ◌+◌, List, [], ◌∷◌, ◌++◌, length, refl, sym, ap, ◌∙◌, subst, Option, Some, None}
+use Rattle.std.proofs.Common.{◌≡◌, ℕ, ◌+◌, List, [], ◌∷◌, ◌++◌, length, Bool, true, false, refl, sym, ap, ◌∙◌, subst, Option, Some, None}
 use Rattle.std.specs.Prelude.{option_map, ◌==◌, if◌then◌else◌, IsTrue, flat_map}
 use Rattle.std.proofs.lemmas.List.{append_assoc}
 use Rattle.byte_defs.specs.Members.{has}
@@ -8,10 +8,12 @@ use Rattle.group_defs.specs.Events.{after}
 use Rattle.journal_defs.specs.Entries.{Event, Entry}
 use Rattle.journal_defs.specs.Journals.{record_bytes}
 use Rattle.node_defs.specs.Lines.{Stop, WriteFailed, DiskFailed, BindFailed}
-use Rattle.node_defs.specs.Casts.{Cast, live, outcome_of, entry_for}
+use Rattle.node_defs.specs.Casts.{Cast, live}
 use Rattle.node_defs.specs.Nodes.{Node, Opening, Bind, Greet, Serve, Finish, Leaving, Task, Answer, Done, Failed, Unremembered, Came, Broken, Said, Named, Digest, Change, Snapper, with_turn, new_entry, new_leaving, leaving_of, changed, if_fits, counts, by_tasks, by_leaving, opened_one, by_opening, by_answer, unless_stopped, answered}
 use Rattle.node_defs.specs.Lives.{AreHosted}
+use Rattle.image_laws.specs.Alike.{IsAlike}
 use Rattle.resume_laws.specs.Resuming.{one_line_on}
+use Rattle.resume_laws.proofs.Turning.{live-alike, outcome-alike, entry-alike}
 use Rattle.resume_laws.proofs.Alike.{moved, later, TurnHosted, ChangeHosted, Alike, task-alike, leaving-alike, read-alike}
 
 -- ---- the opening
@@ -98,26 +100,31 @@ gone-now n Stays p = refl
 pub record IsBeside (c : Cast) (es : List Entry) (n m : Node) : Type 0 where
   pub now : ℕ → Process
   pub kept : List Entry
-  pub agree : (p : ℕ) → IsTrue (has c.hosted p) → now p ≡ n.now p
+  pub agree : (p : ℕ) → IsTrue (has c.hosted p) → IsAlike (n.now p) (now p)
   pub parts : n.kept ≡ es ++ kept
   pub is : m ≡ moved now kept n
 
 module _ (c : Cast) (es : List Entry) (n : Node) (now : ℕ → Process) (kept : List Entry)
-    (agree : (p : ℕ) → IsTrue (has c.hosted p) → now p ≡ n.now p) (parts : n.kept ≡ es ++ kept) where
+    (agree : (p : ℕ) → IsTrue (has c.hosted p) → IsAlike (n.now p) (now p)) (parts : n.kept ≡ es ++ kept) where
   abbrev m : Node
   m = moved now kept n
 
-  one-turn : (t : Option (ℕ × Event)) (q : ℕ) → IsTrue (has c.hosted q) → with_turn c m t q ≡ with_turn c n t q
+  one-turn : (t : Option (ℕ × Event)) (q : ℕ) → IsTrue (has c.hosted q) → IsAlike (with_turn c n t q) (with_turn c m t q)
   one-turn None q h = agree q h
-  one-turn (Some t) q h = ap (λ (x : Process). if q == t.0 then after c.setting x (live c x t.1) else x) (agree q h)
+  one-turn (Some t) q h = go (q == t.0)
+    where
+      go : (b : Bool) → IsAlike (if b then after c.setting (n.now q) (live c (n.now q) t.1) else n.now q)
+          (if b then after c.setting (now q) (live c (now q) t.1) else now q)
+      go true = live-alike c (n.now q) (now q) (agree q h) t.1
+      go false = agree q h
 
   same-entry : (t : Option (ℕ × Event)) → TurnHosted c t → new_entry c m t ≡ new_entry c n t
   same-entry None h = refl
-  same-entry (Some t) h = ap (λ x. entry_for c x t.1 ∷ []) (agree t.0 h)
+  same-entry (Some t) h = ap (λ e. e ∷ []) (entry-alike c (n.now t.0) (now t.0) (agree t.0 h) t.1)
 
   same-leaving : (t : Option (ℕ × Event)) → TurnHosted c t → new_leaving c m t ≡ new_leaving c n t
   same-leaving None h = refl
-  same-leaving (Some t) h = ap (λ x. leaving_of t.0 (outcome_of c x t.1)) (agree t.0 h)
+  same-leaving (Some t) h = ap (leaving_of t.0) (outcome-alike c (n.now t.0) (now t.0) (agree t.0 h) t.1)
 
   changed-beside : (ls : List Leaving) (ts : List Task) (x : Change) → TurnHosted c x.taken
       → IsBeside c es (changed c n ls ts x) (changed c m ls ts (later x))
@@ -176,7 +183,8 @@ module _ (c : Cast) (es : List Entry) (n : Node) (now : ℕ → Process) (kept :
         record {
           now = now;
           kept = kept;
-          agree = λ p hosted. agree p hosted ∙ sym (ap (λ (x : Node). x.now p) (w.is n) ∙ gone-now n w.way p);
+          agree = λ p hosted. subst (λ x. IsAlike x (now p)) (sym (ap (λ (x : Node). x.now p) (w.is n) ∙ gone-now n w.way p))
+              (agree p hosted);
           parts = ap (λ (x : Node). x.kept) (w.is n) ∙ gone-kept n w.way ∙ parts;
           is = w.is m ∙ gone-moved now kept n w.way w.line ∙ ap (moved now kept) (sym (w.is n));
         }

@@ -14,7 +14,8 @@ use Rattle.group_defs.specs.Events.{after}
 use Rattle.journal_defs.specs.Entries.{Entry}
 use Rattle.image_defs.specs.Images.{Image, image_of, process_of}
 use Rattle.image_defs.specs.Spelling.{image_bytes}
-use Rattle.image_laws.proofs.Restoring.{process_is_restored}
+use Rattle.image_laws.specs.Alike.{IsAlike}
+use Rattle.image_laws.proofs.Turning.{restored_is_alike, images_are_same}
 use Rattle.node_defs.specs.Lines.{Stop, BadJournal, host_line}
 use Rattle.node_defs.specs.Casts.{Cast, Beginning, from_start, kept_turn, entries_of, taken_up, turns_from, may_have_written}
 use Rattle.node_defs.specs.Nodes.{Node, Bind, Greet, Serve, Finish, reads, reads_one, takes_up, at_first, entries_in, host_lines, openings, opens, breaks_at}
@@ -24,6 +25,7 @@ use Rattle.node_laws.proofs.Entries.{entries-append}
 use Rattle.node_laws.proofs.Openings.{opens_sound}
 use Rattle.opening_laws.proofs.EntriesRead.{each_reads_on}
 use Rattle.resume_laws.specs.Resuming.{IsSnapshotAfter, one_line_on, begun}
+use Rattle.resume_laws.proofs.Turning.{host-alike, kept-alike, may-alike}
 use Rattle.resume_laws.proofs.Alike.{moved}
 use Rattle.resume_laws.proofs.Answered.{IsBeside, SnapAlike}
 use Rattle.resume_laws.proofs.Readings.{reads-into, read-place, start-place, size}
@@ -45,7 +47,7 @@ abbrev pub CountsBefore : Cast → List Entry → Beginning → Type 0
 CountsBefore c es b = (p : ℕ) → IsTrue (has c.hosted p) → b.before p ≡ length (entries_of p es)
 
 module _ (c : Cast) (es : List Entry) (b : Beginning) (counts : CountsBefore c es b) (n : Node) (now : ℕ → Process) (kept : List Entry)
-    (agree : (p : ℕ) → IsTrue (has c.hosted p) → now p ≡ n.now p) (parts : n.kept ≡ es ++ kept) where
+    (agree : (p : ℕ) → IsTrue (has c.hosted p) → IsAlike (n.now p) (now p)) (parts : n.kept ≡ es ++ kept) where
   abbrev m : Node
   m = moved now kept n
 
@@ -61,7 +63,7 @@ module _ (c : Cast) (es : List Entry) (b : Beginning) (counts : CountsBefore c e
   hosts-same = flat-same (λ p. host_line (m.now p) (entries_in b m p)) (λ p. host_line (n.now p) (entries_in (from_start c) n p)) c.hosted
       (λ p there. (
       let h = has-mem c.hosted p there in
-      ap (λ k. host_line (m.now p) k) (count-same p h) ∙ ap (λ x. host_line x (entries_in (from_start c) n p)) (agree p h)
+      ap (λ k. host_line (m.now p) k) (count-same p h) ∙ host-alike c (n.now p) (now p) (agree p h) (entries_in (from_start c) n p)
       ))
 
   pub openings-same : openings c b m ≡ openings c (from_start c) n
@@ -75,7 +77,7 @@ module _ (c : Cast) (es : List Entry) (b : Beginning) (counts : CountsBefore c e
       (λ p there. (
       let h = has-mem c.hosted p there in
       ap (λ k. to_be_bytes w64 k ++ image_part (image_of (now p))) (count-same p h)
-      ∙ ap (λ (x : Process). to_be_bytes w64 (entries_in (from_start c) n p) ++ image_part (image_of x)) (agree p h)
+      ∙ ap (λ i. to_be_bytes w64 (entries_in (from_start c) n p) ++ image_part i) (images_are_same (n.now p) (now p) (agree p h))
       )))
     where
       image_part : Image → List ℕ
@@ -91,7 +93,7 @@ snap-alike c es b counts n m beside digest =
 
 module _ (c : Cast) (es : List Entry) where
   reads-beside : (fs : List Entry) (n : Node) (now : ℕ → Process) (kept : List Entry)
-      → ((p : ℕ) → IsTrue (has c.hosted p) → now p ≡ n.now p) → n.kept ≡ es ++ kept
+      → ((p : ℕ) → IsTrue (has c.hosted p) → IsAlike (n.now p) (now p)) → n.kept ≡ es ++ kept
       → IsBeside c es (reads c n fs) (reads c (moved now kept n) fs)
   unfolding reads
   reads-beside [] n now kept agree parts = record { now = now; kept = kept; agree = agree; parts = parts; is = refl }
@@ -105,11 +107,16 @@ module _ (c : Cast) (es : List Entry) where
         where
           hosted : (h : Bool) → has c.hosted e.process ≡ h
               → (if h then may_have_written c (now e.process) e else false) ≡ (if h then may_have_written c (n.now e.process) e else false)
-          hosted true is = ap (λ x. may_have_written c x e) (agree e.process is)
+          hosted true is = may-alike c (n.now e.process) (now e.process) (agree e.process is) e
           hosted false is = refl
 
-      one : (q : ℕ) → IsTrue (has c.hosted q) → (reads_one c (moved now kept n) e).now q ≡ (reads_one c n e).now q
-      one q h = ap (λ x. if q == e.process then after c.setting x (kept_turn x e) else x) (agree q h)
+      one : (q : ℕ) → IsTrue (has c.hosted q) → IsAlike ((reads_one c n e).now q) ((reads_one c (moved now kept n) e).now q)
+      one q h = go (q == e.process)
+        where
+          go : (b : Bool) → IsAlike (if b then after c.setting (n.now q) (kept_turn (n.now q) e) else n.now q)
+              (if b then after c.setting (now q) (kept_turn (now q) e) else now q)
+          go true = kept-alike c (n.now q) (now q) (agree q h) e
+          go false = agree q h
 
       by : (x y : Bool) → y ≡ x → IsBeside c es (reads c (reads_one c n e) fs) (reads c (reads_one c (moved now kept n) e) fs)
           → IsBeside c es (if x then reads c (reads_one c n e) fs else record n { stopped = Some (BadJournal n.gate) })
@@ -130,11 +137,13 @@ module _ (c : Cast) (s : Snapshot) (lines : ℕ) (es : List Entry) (view : IsVie
   o : IsOpened c (from_start c) es (opens c (from_start c) lines es)
   o = opens_sound c (from_start c) lines es fits
 
-  restored : (p : ℕ) → IsTrue (has c.hosted p) → (from_snapshot c s).from p ≡ first.now p
+  restored : (p : ℕ) → IsTrue (has c.hosted p) → IsAlike (first.now p) ((from_snapshot c s).from p)
   restored p h =
-      ap (process_of c.setting c.batch_limit) (is.images p h)
-      ∙ process_is_restored c.setting p c.batch_limit (turns_from c.setting ((from_start c).from p) (entries_of p es)) view
-      ∙ sym (o.sound.processes p ∙ ap (λ ds. taken_up c.setting ((from_start c).from p) (entries_of p ds)) o.kept)
+      subst (λ (x : Process). IsAlike x ((from_snapshot c s).from p))
+      (sym (o.sound.processes p ∙ ap (λ ds. taken_up c.setting ((from_start c).from p) (entries_of p ds)) o.kept))
+      (subst (λ (i : Image). IsAlike (taken_up c.setting ((from_start c).from p) (entries_of p es)) (process_of c.setting c.batch_limit i))
+      (sym (is.images p h))
+      (restored_is_alike c.setting p c.batch_limit (turns_from c.setting ((from_start c).from p) (entries_of p es)) view))
 
   place-same : first.gate ≡ s.place
   place-same = read-place (from_start c).place c (at_first (from_start c) lines) es (omega arith)

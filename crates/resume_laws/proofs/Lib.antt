@@ -1,4 +1,5 @@
 pub mod Readings
+pub mod Turning
 pub mod Alike
 pub mod Answered
 pub mod Begun
@@ -12,3 +13,4 @@ pub mod Said
 pub mod Heard
 pub mod Traces
 pub mod GivenBack
+pub mod Spelled

@@ -5,13 +5,15 @@ use Rattle.byte_defs.specs.Members.{has}
 use Rattle.group_defs.specs.Process.{Process}
 use Rattle.journal_defs.specs.Entries.{Entry}
 use Rattle.node_defs.specs.Lines.{Stop}
-use Rattle.node_defs.specs.Casts.{Cast, from_start, entry_for}
+use Rattle.node_defs.specs.Casts.{Cast, from_start}
 use Rattle.node_defs.specs.Nodes.{Node, Opening, Leaving, Task, Take, Append, Flush, Say, Ask, Get, Word, Post, Mark, Call, Appends, Rests, Answer, Snapper, call_of, call_of_opening, call_of_leaving, call_of_tasks, unless_stopped, answered, run, calls, reads, at_first, opens}
 use Rattle.node_defs.specs.Lives.{staged, staged_behind, staged_by, Found, leaves, leaves_by, IsOpened, AreHosted}
 use Rattle.node_defs.specs.Snapshots.{Snapshot, snap_line, from_snapshot}
 use Rattle.node_laws.proofs.Openings.{opens_sound}
 use Rattle.node_laws.proofs.Fitting.{Keeps, run-keeps, start-numbered}
 use Rattle.resume_laws.specs.Resuming.{one_line_on, IsResumed, after_these, begun, GoesAlike, ResumesAsNode}
+use Rattle.image_laws.specs.Alike.{IsAlike}
+use Rattle.resume_laws.proofs.Turning.{entry-alike}
 use Rattle.resume_laws.proofs.Alike.{moved}
 use Rattle.resume_laws.proofs.Answered.{IsBeside, SnapAlike, answered-beside}
 use Rattle.resume_laws.proofs.Readings.{reads-into}
@@ -21,14 +23,14 @@ use Rattle.resume_laws.proofs.Begun.{CountsBefore, snap-alike, counts-before, be
 -- ---- one moment
 
 module _ (c : Cast) (es : List Entry) (n : Node) (now : ℕ → Process) (kept : List Entry)
-    (agree : (p : ℕ) → IsTrue (has c.hosted p) → now p ≡ n.now p) (parts : n.kept ≡ es ++ kept) (hosted : AreHosted c n.tasks) where
+    (agree : (p : ℕ) → IsTrue (has c.hosted p) → IsAlike (n.now p) (now p)) (parts : n.kept ≡ es ++ kept) (hosted : AreHosted c n.tasks) where
   abbrev m : Node
   m = moved now kept n
 
   tasks-call : (ts : List Task) → AreHosted c ts → call_of_tasks c m ts ≡ call_of_tasks c n ts
   tasks-call [] h = refl
   tasks-call (Take p e ∷ ts) h = refl
-  tasks-call (Append p e ∷ ts) h = ap (λ x. Appends (entry_for c x e)) (agree p h.0)
+  tasks-call (Append p e ∷ ts) h = ap (λ entry. Appends entry) (entry-alike c (n.now p) (now p) (agree p h.0) e)
   tasks-call (Flush ∷ ts) h = refl
   tasks-call (Say text ∷ ts) h = refl
   tasks-call (Ask p e notes above ∷ ts) h = refl
@@ -58,7 +60,7 @@ module _ (c : Cast) (es : List Entry) (n : Node) (now : ℕ → Process) (kept :
   staged-by : (ts : List Task) → AreHosted c ts → staged_by c n ts ≡ staged_by c m ts
   staged-by [] h = refl
   staged-by (Take p e ∷ ts) h = refl
-  staged-by (Append p e ∷ ts) h = ap (λ x. Some (entry_for c x e)) (sym (agree p h.0))
+  staged-by (Append p e ∷ ts) h = ap (λ entry. Some entry) (sym (entry-alike c (n.now p) (now p) (agree p h.0) e))
   staged-by (Flush ∷ ts) h = refl
   staged-by (Say text ∷ ts) h = refl
   staged-by (Ask p e notes above ∷ ts) h = refl

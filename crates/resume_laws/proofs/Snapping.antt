@@ -6,6 +6,7 @@ use Rattle.group_defs.specs.Process.{Process}
 use Rattle.journal_defs.specs.Entries.{Event, Entry}
 use Rattle.journal_defs.specs.Journals.{up_to_gate}
 use Rattle.image_defs.specs.Images.{image_of}
+use Rattle.image_laws.proofs.Turning.{images_are_same}
 use Rattle.node_defs.specs.Casts.{Cast, from_start, entry_for, entries_of, taken_up, may_have_written}
 use Rattle.node_defs.specs.Nodes.{Node, Answer, run, opens}
 use Rattle.node_defs.specs.Lives.{FitsBehind, FitsFrom, IsSound, IsOpened, AreHosted, SignsValidly}
@@ -84,7 +85,7 @@ module _ (c : Cast) (valid : SignsValidly c) where
             ∙ ap (λ ds. length (entries_of p ds)) is.kept
             );
         images = λ p h. (
-            ap image_of (is.processes p h ∙ kept.sound.processes p)
+            images_are_same (node.now p) (m.now p) (is.processes p h) ∙ ap image_of (kept.sound.processes p)
             ∙ ap (λ ds. image_of (taken_up c.setting (from p) (entries_of p ds))) is.kept
             );
       };

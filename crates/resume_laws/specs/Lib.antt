@@ -3,3 +3,4 @@ pub mod Resuming
 pub mod Snapping
 pub mod Said
 pub mod Traces
+pub mod Spelled

@@ -5,6 +5,7 @@ use Rattle.group_defs.specs.Views.{IsView}
 use Rattle.journal_defs.specs.Entries.{Entry}
 use Rattle.journal_defs.specs.Journals.{up_to_gate}
 use Rattle.image_defs.specs.Images.{image_of}
+use Rattle.image_laws.specs.Alike.{IsAlike}
 use Rattle.node_defs.specs.Lines.{Stop, BadLine}
 use Rattle.node_defs.specs.Casts.{Cast, Beginning, from_start, entries_of, taken_up}
 use Rattle.node_defs.specs.Nodes.{Node, Call, Answer, opens, opens_broken, run, calls}
@@ -25,9 +26,11 @@ abbrev pub one_line_on : Stop → Stop
 one_line_on (BadLine n) = BadLine (n + 1)
 one_line_on why = why
 
--- The one is the other, but that it has read one more line of the input, and did not read the first entries of the journal.
+-- The one is the other, but that it has read one more line of the input, and did not read the first entries of the journal, and that its
+-- processes may keep their conflicts in another order.
 pub record IsResumed (c : Cast) (es : List Entry) (node resumed : Node) : Type 0 where
-  pub processes : (p : ℕ) → IsTrue (has c.hosted p) → resumed.now p ≡ node.now p
+  -- but for the order of their conflicts
+  pub processes : (p : ℕ) → IsTrue (has c.hosted p) → IsAlike (node.now p) (resumed.now p)
   pub kept : node.kept ≡ es ++ resumed.kept
   pub rest : resumed ≡ record node {
     now = resumed.now;

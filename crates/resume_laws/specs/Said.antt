@@ -20,6 +20,7 @@ use Rattle.text_defs.specs.Words.{words_of, line_feed, bytes_of}
 use Rattle.group_defs.specs.Views.{IsView}
 use Rattle.journal_defs.specs.Entries.{Entry}
 use Rattle.image_defs.specs.Images.{Image}
+use Rattle.image_laws.specs.Alike.{IsAlike}
 use Rattle.node_defs.specs.Casts.{Cast, Beginning, from_start, entries_of, taken_up}
 use Rattle.node_defs.specs.Nodes.{Node, entries_in}
 use Rattle.node_defs.specs.Snapshots.{Snapshot, snapshot_bytes, most_snapshot_bytes, snapshot_of, snap_line_of, snap_line, from_snapshot}
@@ -164,14 +165,15 @@ SnapsAreRead = (c : Cast) (s : Snapshot) → HasSpelling c s → LineIsRead c s
 
 -- ---- the node that the line gives back
 
--- the line of this node says a snapshot, by which each hosted process begins as it is now, with as many entries, and at the node's gate
+-- The line of this node says a snapshot, by which each hosted process begins as it is now, but for the order of its conflicts, with as many
+-- entries, and at the node's gate.
 pub record GivesBack (c : Cast) (b : Beginning) (n : Node) (digest : List ℕ) : Type 0 where
   pub line : List ℕ
   pub said : SnapSaid
   pub text : snap_line c b n digest ≡ line ++ line_feed ∷ []
   pub says : snap_said c.hosted line ≡ Some said
   pub header : said.header ≡ drop 4 c.header
-  pub processes : (p : ℕ) → IsTrue (has c.hosted p) → (from_snapshot c (snapshot_said said)).from p ≡ n.now p
+  pub processes : (p : ℕ) → IsTrue (has c.hosted p) → IsAlike (n.now p) ((from_snapshot c (snapshot_said said)).from p)
   pub before : (p : ℕ) → IsTrue (has c.hosted p) → (from_snapshot c (snapshot_said said)).before p ≡ entries_in b n p
   pub place : (from_snapshot c (snapshot_said said)).place ≡ n.gate
 

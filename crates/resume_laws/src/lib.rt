@@ -6,6 +6,7 @@ ghost use Rattle.resume_laws.specs.Refusing.{OpensExactly};
 ghost use Rattle.resume_laws.specs.Resuming.{ResumesAsNode};
 ghost use Rattle.resume_laws.specs.Said.{SnapsAreRead, SnapsGiveBack};
 ghost use Rattle.resume_laws.specs.Snapping.{SnapsAreAfter, SnapshotsAreTaken};
+ghost use Rattle.resume_laws.specs.Spelled.{ImagesAreSpelled};
 ghost use Rattle.resume_laws.specs.Traces.{ResumesTraceAlike};
 
 /// A node opens exactly where each entry of its journal fits; else it stops at the place of the first that does not.
@@ -38,7 +39,13 @@ pub fn snaps_are_read()
     ensures { SnapsAreRead }
 {}
 
-/// The line of a node's snapshot gives the node back: its processes, their counts of entries, and its place.
+/// The line of a node's snapshot gives the node back: its processes, but for the order of their conflicts, their counts of entries, and its
+/// place.
 pub fn snaps_give_back()
     ensures { SnapsGiveBack }
+{}
+
+/// The image of a process that a run made has a spelling where its parts are in range: its conflicts rise.
+pub fn images_are_spelled()
+    ensures { ImagesAreSpelled }
 {}

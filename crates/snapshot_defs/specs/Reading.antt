@@ -13,6 +13,7 @@ use Rattle.message_defs.specs.Reading.{statement_of, update_within}
 use Rattle.message_defs.specs.Reading as messages
 use Rattle.group_defs.specs.Process.{Delivered}
 use Rattle.image_defs.specs.Images.{LeftView, Image}
+pub use Rattle.image_defs.specs.Images.{conflict_key}
 use Rattle.snapshot_defs.specs.declared.Version.{Version}
 use Rattle.snapshot_defs.specs.declared.Version.TheVariants.{One, Two}
 use Rattle.snapshot_defs.specs.Steps.{Step, ◌&◌, made, tested, else_fault, times_at, counted_at, wide_at, number_to, field_at, text_to, list_at}
@@ -73,10 +74,6 @@ rises key (x ∷ y ∷ ys) = numbers_below (key x) (key y) && rises key (y ∷ y
 -- by view, then by update
 abbrev pub perceived_key : ℕ × Update → List ℕ
 perceived_key e = e.0 ∷ update_numbers e.1
-
--- by the first one's signer
-abbrev pub conflict_key : Claim × Claim → List ℕ
-conflict_key e = e.0.signer ∷ []
 
 -- a view's number and an update
 unfoldable pub perceived_at : List ℕ → Step (ℕ × Update)
