@@ -6,3 +6,4 @@ mod Back
 pub mod Stepped
 mod Absorbed
 pub mod Spelled
+mod Halting

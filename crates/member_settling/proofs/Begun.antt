@@ -1,12 +1,14 @@
 -- The state of a process that has installed a view.
-use Rattle.std.proofs.Common.{◌≡◌, ℕ, ◌+◌, ◌≤◌, List, [], ◌∷◌, ◌++◌, map, length, Option, Some, None, Bool, true, false, refl, sym, ap, ◌∙◌, subst, arith, inl, inr}
+use Rattle.std.proofs.Common.{◌≡◌, ℕ, ◌+◌, ◌≤◌, List, [], ◌∷◌, ◌++◌, map, drop, length, Option, Some, None, Bool, true, false, refl, sym, ap, ◌∙◌, subst, arith, inl, inr}
 use Rattle.std.specs.Prelude.{All, is_none, Result, Ok, Err, if◌then◌else◌, ◌==◌, nat_lt}
 use Rattle.std.specs.Result.{result_ok}
 use Rattle.std.proofs.lemmas.Bool.{cases_lt, eq-eqb, lt-ltb}
 use Rattle.byte_defs.specs.Choices.{first_that_holds}
-use Rattle.message_defs.specs.Limits.{last_number}
+use Rattle.message_defs.specs.Limits.{last_number, most_members}
 use Rattle.group_defs.proofs.FollowingViews.{next_is_view}
-use Rattle.std.proofs.lemmas.List.{map-append}
+use Rattle.std.proofs.lemmas.List.{append-nil, map-append}
+use Rattle.std.proofs.lemmas.List.Elements.{All-from_recursion, All-push, recursion_from_All}
+use Rattle.message_defs.specs.Spelling.{IsClaim}
 use Rattle.message_defs.specs.Statements.{Ready}
 use Rattle.message_defs.specs.Updates.{Update, Value}
 use Rattle.group_defs.specs.Views.{View, UpdateFault, ViewsSpent, IsView, update_faults, has_keys, next, next_fault, next_view}
@@ -23,6 +25,7 @@ use Rattle.member_settling.specs.Begun.{IsLast}
 use Rattle.member_settling.proofs.Real.{last}
 use Rattle.pool_laws.proofs.Members.{All-mem, mem-All}
 use Rattle.pool_laws.proofs.Tests.{and-first, none-is}
+use Rattle.member_state.proofs.Laws.{certificate-ranged}
 use Rattle.claim_index.specs.Kept.{empty_pool}
 use Rattle.own_place.specs.Owns.{Tells}
 use Rattle.member_state.specs.Parts.{has_update}
@@ -33,10 +36,11 @@ use Rattle.member_laws.specs.Telling.{Begins}
 use Rattle.member_laws.proofs.Lawful.{installing_is_lawful}
 use Rattle.member_laws.proofs.Telling.{installing_tells}
 use Rattle.member_state.specs.declared.state.ProcessState.{ProcessState}
-use Rattle.member_state.specs.States.{IsStateOf}
+use Rattle.member_state.specs.States.{IsStateOf, claims_of}
 use Rattle.member_settling.specs.Steps.{in_phase, IsLeaving}
 use Rattle.member_settling.proofs.Bounded.{installing-bounded}
 use Rattle.member_settling.proofs.Installing.{length-more, none-perceived, none-signed, numbered}
+use Rattle.member_settling.proofs.Lists.{certificate-few}
 
 -- ---- the view that follows
 
@@ -55,6 +59,9 @@ next-number v u none le = go (v.number == last_number) refl none
 
 -- ---- the state
 
+same-pool : (g h : defs.Pool) → (let o : Option defs.Pool = Some g in o) ≡ Some h → g ≡ h
+same-pool g h e = cc
+
 -- the parts of the state that begin the view, and those that keep the one before it, whose own messages delivered there are `mine`
 pub record HasBegun (v : View) (d : ℕ × Value) (mine : ℕ) (old new : ProcessState) : Type 0 where
   pub limit : new.batch_limit ≡ old.batch_limit
@@ -64,6 +71,8 @@ pub record HasBegun (v : View) (d : ℕ × Value) (mine : ℕ) (old new : Proces
       → IsIn new.phase p
   pub asked : (u : Update) → has_update new.perceived u ≡ false
   pub said : new.said.claims ≡ []
+  pub said_from : new.said_from ≡ 0
+  pub said_before : claims_of new.said_before.items ≡ claims_of old.said_before.items ++ drop old.said_from old.said.claims
   pub pairs : new.conflicts.pairs ≡ old.conflicts.pairs
   pub previous : new.archive.previous ≡ Some old.pool.pool
   pub commits : new.archive.commits ≡ old.archive.commits
@@ -144,11 +153,28 @@ module _ (s : Setting) (p : Process) (d : ℕ × Value) (old new : ProcessState)
     asked_for = later p.pool.view.number p.perceived ok.asked_for;
     halted_member = λ stops. absurd (let no : false ≡ true = sym leaving.runs ∙ stops in cc);
     halted_beyond = λ stops. absurd (let no : false ≡ true = sym leaving.runs ∙ stops in cc);
+    ranged = record {
+      pairs_ranged = ok.ranged.pairs_ranged;
+      commits_ranged = All-push (λ (l : Left). All IsClaim l.commit) p.left left-now ok.ranged.commits_ranged commit-ranged;
+      commits_few = All-push (λ (l : Left). length l.commit ≤ most_members) p.left left-now ok.ranged.commits_few
+          (let few = certificate-few p.pool (Ready p.pool.view.number d.0 d.1) in
+          let members = ok.lawful.pool.view.few in
+          omega (arith, few, members));
+      previous_ranged = λ h e. subst (λ (g : defs.Pool). All IsClaim g.heard) (same-pool p.pool h e) ok.lawful.pool.in_range;
+    };
     limit = ok.limit ∙ sym begun.limit;
     place = subst (λ h. Tells s q h new.own) (sym fresh) tells;
     phase = begun.phase q (sym is) (tells.number) leaving.runs refl (tells.signed.end ∙ begins.end);
     asked = λ u. none-perceived p.pool.view.number p u ok.asked_for ∙ sym (begun.asked u);
     said = none-signed p.pool.view.number p.signed ok.lawful.past ∙ sym begun.said;
+    signed = record {
+      few = (let from = begun.said_from in omega (arith, from));
+      whole =
+          ok.signed.whole
+          ∙ sym begun.said_before
+          ∙ sym (append-nil (claims_of new.said_before.items))
+          ∙ (λ i. claims_of new.said_before.items ++ drop (sym begun.said_from i) (sym begun.said i));
+    };
     pairs = ok.pairs ∙ sym begun.pairs;
     kept = record {
       numbers = numbered p.left left-now ok.number ok.kept.numbers;
@@ -164,6 +190,11 @@ module _ (s : Setting) (p : Process) (d : ℕ × Value) (old new : ProcessState)
 
       number : p.pool.view.number + 1 ≤ 1023
       number = next-number p.pool.view d.1.update none ok.lawful.number
+
+      commit-ranged : All IsClaim (certificate p.pool (Ready p.pool.view.number d.0 d.1))
+      commit-ranged = All-from_recursion IsClaim (certificate p.pool (Ready p.pool.view.number d.0 d.1))
+          (certificate-ranged p.pool (Ready p.pool.view.number d.0 d.1)
+          (recursion_from_All IsClaim p.pool.heard ok.lawful.pool.in_range))
 
       view : IsView (next_view p.pool.view d.1.update)
       view = next_is_view p.pool.view d.1.update none ok.lawful.pool.view

@@ -87,11 +87,13 @@ module _ (p : Process) (decision : Option (ℕ × Value)) (stops : Bool) where
     asked_for = ok.asked_for;
     halted_member = member;
     halted_beyond = beyond;
+    ranged = ok.ranged;
     limit = ok.limit;
     place = tells-so s st.pool.pool st.own ok.place;
     phase = is;
     asked = ok.asked;
     said = ok.said;
+    signed = ok.signed;
     pairs = ok.pairs;
     kept = keeps-so st.archive ok.kept;
     account = ok.account;

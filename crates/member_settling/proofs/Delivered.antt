@@ -86,11 +86,13 @@ module _ (p : Process) (ds : List defs.Delivered) where
     asked_for = ok.asked_for;
     halted_member = ok.halted_member;
     halted_beyond = λ stops d e. (let lt = ok.halted_beyond stops d e in let places = next.more in omega (arith, lt, places));
+    ranged = ok.ranged;
     limit = ok.limit;
     place = delivering_tells s p st.pool.pool st.own own next.batch ds next.some next.delivers more ok.place;
     phase = phase-so st.phase on ok.phase;
     asked = ok.asked;
     said = ok.said;
+    signed = ok.signed;
     pairs = ok.pairs;
     kept = record { numbers = ok.kept.numbers; previous = ok.kept.previous; commits = ok.kept.commits };
     account = tells;

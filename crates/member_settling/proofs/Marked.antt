@@ -17,6 +17,7 @@ use Rattle.accounts.specs.Marks.{TellsSince, without_last}
 use Rattle.accounts.proofs.Since.{more_delivered}
 use Rattle.member_state.specs.declared.marks.Before.{Before}
 use Rattle.member_state.specs.declared.left.LeftView.{LeftView}
+use Rattle.member_state.specs.declared.left.SaidBefore.{SaidBefore}
 use Rattle.member_state.specs.declared.state.ProcessState.{ProcessState}
 use Rattle.member_state.specs.Marks.{Stays, HasLeft, Since}
 use Rattle.member_settling.specs.Told.{HasMoreLast}
@@ -50,6 +51,8 @@ module _ (b : Before) (was now : ProcessState) (is : Stays b was now) where
     pool = is.pool;
     slots = is.slots;
     said = is.said;
+    said_from = is.said_from;
+    said_before = is.said_before;
     pairs = is.pairs;
     previous = is.previous;
     commits = is.commits;
@@ -71,6 +74,8 @@ module _ (b : Before) (was now : ProcessState) (is : Stays b was now) where
         pool = is.pool;
         slots = slots ∙ is.slots;
         said = is.said;
+        said_from = is.said_from;
+        said_before = is.said_before;
         pairs = is.pairs;
         previous = is.previous;
         commits = is.commits;
@@ -79,15 +84,22 @@ module _ (b : Before) (was now : ProcessState) (is : Stays b was now) where
         limit = is.limit;
       }
 
-  -- the pool, the archive and what is told are as they were
+  -- the pool, the archive, the lists of what was said before and what is told are as they were
   pub stays-same : (then_ : ProcessState) → then_.pool ≡ now.pool → then_.archive ≡ now.archive
-      → account then_.account ≡ account now.account
-      → then_ ≡ record now { pool = then_.pool; archive = then_.archive; account = then_.account } → Stays b was then_
-  stays-same then_ pool archive told rest = record {
+      → then_.said_before.items ≡ now.said_before.items → account then_.account ≡ account now.account
+      → then_ ≡ record now {
+        pool = then_.pool;
+        archive = then_.archive;
+        said_before = then_.said_before;
+        account = then_.account;
+      } → Stays b was then_
+  stays-same then_ pool archive before told rest = record {
     kept = is.kept;
     pool = ap (λ (h : Holding). h.marked) pool ∙ is.pool;
     slots = ap (λ (st : ProcessState). st.own.signed.marked) rest ∙ is.slots;
     said = ap (λ (st : ProcessState). st.said.marked) rest ∙ is.said;
+    said_from = ap (λ (st : ProcessState). st.said_from) rest ∙ is.said_from;
+    said_before = before ∙ is.said_before;
     pairs = ap (λ (st : ProcessState). st.conflicts.marked) rest ∙ is.pairs;
     previous = ap (λ (a : Archived). a.previous) archive ∙ is.previous;
     commits = ap (λ (a : Archived). a.commits) archive ∙ is.commits;
@@ -101,9 +113,11 @@ module _ (b : Before) (was now : ProcessState) (is : Stays b was now) where
 
 -- ---- behind the view of the mark
 
--- the pool and the commit certificate of the view that is left are kept, and the next view is put behind those of the account
+-- the pool of the view that is left is kept, its commit certificate, and what was said there, and the next view is put behind those of the
+-- account
 pub record Turns (v : View) (commit : List Signed) (older : Option Pool) (old new : ProcessState) : Type 0 where
-  pub left : new.left ≡ Some (record { signed = old.own.signed; said = old.said; older = older })
+  pub left : new.left ≡ Some (record { signed = old.own.signed; older = older })
+  pub said_before : new.said_before.items ≡ old.said_before.items ++ record { claims = old.said; from = old.said_from } ∷ []
   pub limit : new.batch_limit ≡ old.batch_limit
   pub pairs : new.conflicts.marked ≡ old.conflicts.marked
   pub previous : older ≡ old.archive.previous
@@ -118,12 +132,16 @@ pub record Turns (v : View) (commit : List Signed) (older : Option Pool) (old ne
 pub since-left : (b : Before) (was old new : ProcessState) (v : View) (commit : List Signed) (older : Option Pool)
     → Turns v commit older old new → Stays b was old → Since b was new
 since-left b was old new v commit older turns is =
-    let left : LeftView = record { signed = old.own.signed; said = old.said; older = older } in
+    let left : LeftView = record { signed = old.own.signed; older = older } in
+    let last : SaidBefore = record { claims = old.said; from = old.said_from } in
     let has : HasLeft b was left new = record {
       kept = is.kept;
       pool = turns.pool ∙ ap Some is.pool;
       slots = is.slots;
+      last = last;
       said = is.said;
+      said_from = is.said_from;
+      said_before = turns.said_before ∙ ap (λ (ls : List SaidBefore). ls ++ last ∷ []) is.said_before;
       pairs = turns.pairs ∙ is.pairs;
       previous = turns.previous ∙ is.previous;
       commits = ap (λ (cs : List (List Signed)). take (length cs - 1) cs) turns.commits ∙ but-last old.archive.commits commit ∙ is.commits;

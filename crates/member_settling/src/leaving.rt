@@ -1,8 +1,9 @@
 //! A decided view is left: the process waits for what is left below the cut, installs the next view, or halts beyond the cut.
-ghost use Rattle.std.specs.Prelude.{◌≡◌, ◌+◌, ◌≤◌, ◌++◌, None, false, List, ◌∷◌, [], length, map, count_by, ◌==◌, Some, OnOk, OnErr, IfOk};
+ghost use Rattle.std.specs.Prelude.{◌≡◌, ◌+◌, ◌<◌, ◌≤◌, ◌++◌, None, false, List, ◌∷◌, [], length, map, count_by, ◌==◌, Some, OnOk, OnErr, IfOk};
 ghost use Rattle.message_defs.specs.Statements.{Ready, ReadyAt};
 ghost use Rattle.message_defs.specs.Updates as plain;
 ghost use Rattle.std.specs.Result.{result_ok};
+ghost use Rattle.std.specs.Vec.{vec_capacity, vec_len};
 ghost use Rattle.group_defs.specs.Views as views;
 ghost use Rattle.group_defs.specs.Views.{next_view};
 ghost use Rattle.group_defs.specs.Process as defs;
@@ -28,7 +29,8 @@ ghost use Rattle.member_settling.specs.Begun.{IsLast, HasShortLast};
 use arrayvec::ArrayVec;
 use claim_pool::{Own, Pool};
 use member_state::{
-    Account, Before, ClaimList, Delivered, Displaced, LeftView, Perceived, ProcessState, begin_view,
+    Account, Before, ClaimList, Delivered, Displaced, LeftView, Perceived, ProcessState,
+    SaidBefore, begin_view,
 };
 use rp_base::{NoMemory, Pid, Update};
 use std::alloc::Global;
@@ -86,8 +88,8 @@ fn put_view(account: &mut Account, view: &View, alloc: Global) -> Result<(), NoM
     }
 }
 
-// Turns to the view, puts it behind those of the account, and keeps the pool and the commit certificate of the one that is left. The
-// pool that was kept before is handed out. Without memory, all of it is as before.
+// Turns to the view, puts it behind those of the account, and keeps the pool and the commit certificate of the one that is left, with room
+// for what was said there. The pool that was kept before is handed out. Without memory, all of it is as before.
 fn keep_left(
     state: &mut ProcessState,
     view: &View,
@@ -109,10 +111,18 @@ fn keep_left(
           views = (told state.old.account).views ++ view.now ∷ [];
           delivered = (told state.old.account).delivered ++ [] ∷ [];
         }) }
+    ensures room { OnOk result (vec_len state.new.said_before < vec_capacity state.new.said_before) }
+    ensures lists { state.new.said_before.items ≡ state.old.said_before.items }
     ensures same { OnErr result ((state.new.pool ≡ state.old.pool) × (state.new.archive ≡ state.old.archive)
         × (told state.new.account ≡ told state.old.account)) }
-    ensures rest { state.new ≡ record state.old { pool = state.new.pool; archive = state.new.archive; account = state.new.account } }
+    ensures rest { state.new ≡ record state.old {
+      pool = state.new.pool;
+      said_before = state.new.said_before;
+      archive = state.new.archive;
+      account = state.new.account;
+    } }
 {
+    state.said_before.reserve(1)?;
     let begun = Pool::new(alloc, view.clone()?)?;
     put_view(&mut state.account, view, alloc)?;
     match state
@@ -127,33 +137,58 @@ fn keep_left(
     }
 }
 
-// Begins the view: nothing is signed, delivered or asked for there. `mine` own messages more are of views before it. What was signed
-// and said in the view that is left is kept, and beside it the pool that was kept before.
+// Puts what was said in the view that is left behind what was said before it, for good. Nothing is said in the next one yet. It takes no
+// memory: there is room for one list.
+fn keep_said(
+    said_before: &mut Vec<SaidBefore>,
+    said: &mut ClaimList,
+    from: &mut usize,
+    alloc: Global,
+)
+    requires { vec_len said_before.old < vec_capacity said_before.old }
+    ensures kept { said_before.new.items ≡ said_before.old.items ++ record { claims = said.old; from = from.old } ∷ [] }
+    ensures begins { said.new.claims ≡ [] }
+    ensures none { from.new ≡ 0 }
+{
+    let claims = mem::replace(said, ClaimList::new(alloc));
+    let from = mem::replace(from, 0);
+    said_before.push_reserved(SaidBefore { claims, from });
+}
+
+// Begins the view: nothing is signed, delivered or asked for there. `mine` own messages more are of views before it. What was said in the
+// view that is left is kept for good; which slots were signed there, for the way back, and beside it the pool that was kept before.
 fn begin(state: &mut ProcessState, view: &View, mine: u16, older: Displaced, alloc: Global)
-    requires { state.old.own.earlier + mine ≤ 4294967295 }
+    requires mine { state.old.own.earlier + mine ≤ 4294967295 }
+    requires room { vec_len state.old.said_before < vec_capacity state.old.said_before }
     ensures own { Begins view.now state.old.own state.new.own mine }
     ensures asked { (u : plain.Update) → has_update state.new.perceived u ≡ false }
     ensures said { state.new.said.claims ≡ [] }
+    ensures from { state.new.said_from ≡ 0 }
+    ensures kept { state.new.said_before.items
+        ≡ state.old.said_before.items ++ record { claims = state.old.said; from = state.old.said_from } ∷ [] }
     ensures phase { (p : Process) → p.pool.view ≡ view.now → p.me ≡ state.old.own.me → p.halted ≡ false → p.decision ≡ None
         → is_ended p ≡ false → IsIn state.new.phase p }
-    ensures left { state.new.left ≡ Some (record { signed = state.old.own.signed; said = state.old.said; older = older }) }
+    ensures left { state.new.left ≡ Some (record { signed = state.old.own.signed; older = older }) }
     ensures rest { state.new ≡ record state.old {
       own = state.new.own;
       perceived = state.new.perceived;
       said = state.new.said;
+      said_from = state.new.said_from;
+      said_before = state.new.said_before;
       phase = state.new.phase;
       left = state.new.left;
     } }
 {
     state.phase = Phase::begin(view, state.own.me);
     state.perceived = Perceived::new();
-    let said = mem::replace(&mut state.said, ClaimList::new(alloc));
+    keep_said(
+        &mut state.said_before,
+        &mut state.said,
+        &mut state.said_from,
+        alloc,
+    );
     let signed = begin_view(&mut state.own, view, mine, alloc);
-    state.left = Some(LeftView {
-        signed,
-        said,
-        older,
-    });
+    state.left = Some(LeftView { signed, older });
 }
 
 // That the view is installed.

@@ -1,7 +1,8 @@
 -- The state of a process that has signed one statement more.
-use Rattle.std.proofs.Common.{◌≡◌, [], ◌∷◌, ◌++◌, Bool, true, Some, None, sym, ◌∙◌, ap, subst}
+use Rattle.std.proofs.Common.{◌≡◌, [], ◌∷◌, ◌++◌, arith, length, drop, Bool, true, Some, None, sym, ◌∙◌, ap, subst}
 use Rattle.std.specs.Prelude.{◌==◌, if◌then◌else◌}
 use Rattle.std.proofs.lemmas.Bool.{eq-eqb}
+use Rattle.std.proofs.lemmas.List.{append_assoc, drop-append-le, length-append}
 use Rattle.std.proofs.lemmas.List.Elements.{filter-append}
 use Rattle.message_defs.specs.Statements.{Statement, Claim, view_of, slot_of}
 use Rattle.message_defs.specs.Spelling.{IsClaim}
@@ -19,7 +20,7 @@ use Rattle.view_phases.specs.Phases.{IsIn}
 use Rattle.member_state.specs.Parts.{Keeps, has_update}
 use Rattle.accounts.specs.Views.{account}
 use Rattle.member_laws.proofs.Lawful.{signing_is_lawful}
-use Rattle.member_state.specs.States.{IsStateOf, signed_here}
+use Rattle.member_state.specs.States.{IsStateOf, IsSigned, claims_of, signed_here}
 use Rattle.member_state.specs.declared.state.ProcessState.{ProcessState}
 
 -- the claim stands behind those that were signed in the view
@@ -35,9 +36,28 @@ pub record Puts (p : Process) (c : Claim) (old new : ProcessState) : Type 0 wher
   pub limit : new.batch_limit ≡ old.batch_limit
   pub perceived : new.perceived ≡ old.perceived
   pub said : new.said.claims ≡ old.said.claims ++ c ∷ []
+  pub said_from : new.said_from ≡ old.said_from
+  pub said_before : new.said_before ≡ old.said_before
   pub conflicts : new.conflicts ≡ old.conflicts
   pub archive : new.archive ≡ old.archive
   pub account : new.account ≡ old.account
+
+-- the claim stands behind all that were signed
+signed-more : (p : Process) (c : Claim) (old new : ProcessState)
+    → IsSigned p.signed old.said_before.items old.said_from old.said.claims → Puts p c old new
+    → IsSigned (p.signed ++ c ∷ []) new.said_before.items new.said_from new.said.claims
+signed-more p c old new is puts = record {
+  few =
+      (let from = puts.said_from in
+      let long = ap length puts.said ∙ length-append old.said.claims (c ∷ []) in
+      let few = is.few in
+      omega (arith, from, long, few));
+  whole =
+      ap (λ cs. cs ++ c ∷ []) is.whole
+      ∙ append_assoc (claims_of old.said_before.items) (drop old.said_from old.said.claims) (c ∷ [])
+      ∙ ap (λ cs. claims_of old.said_before.items ++ cs) (sym (drop-append-le old.said_from old.said.claims (c ∷ []) is.few))
+      ∙ (λ i. claims_of (sym puts.said_before i).items ++ drop (sym puts.said_from i) (sym puts.said i));
+}
 
 -- so the state is that of the process which has signed it
 pub signed-state : (s : Setting) (signer : Signer) (p : Process) (st : Statement) (old new : ProcessState) → IsStateOf s p old
@@ -54,11 +74,13 @@ signed-state s signer p st old new is may undecided range puts tells phase = rec
   asked_for = is.asked_for;
   halted_member = is.halted_member;
   halted_beyond = is.halted_beyond;
+  ranged = is.ranged;
   limit = is.limit ∙ sym puts.limit;
   place = tells;
   phase = phase;
   asked = λ u. is.asked u ∙ ap (λ set. has_update set u) (sym puts.perceived);
   said = said-more s signer p st may ∙ ap (λ cs. cs ++ own_claim s signer p st ∷ []) is.said ∙ sym puts.said;
+  signed = signed-more p (own_claim s signer p st) old new is.signed puts;
   pairs = is.pairs ∙ ap (λ (cs : Pairing). cs.pairs) (sym puts.conflicts);
   kept = subst (λ a. Keeps a (signs s signer p st)) (sym puts.archive)
       (record { numbers = is.kept.numbers; previous = is.kept.previous; commits = is.kept.commits });

@@ -4,3 +4,4 @@ pub mod Ranges
 pub mod Entries
 mod Starting
 pub mod Marked
+pub mod Laws

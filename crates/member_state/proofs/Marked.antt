@@ -1,5 +1,5 @@
 -- A state whose parts are those of another is a state of the same process.
-use Rattle.std.proofs.Common.{◌≡◌, ◌∙◌, sym, ap, subst, Option, Some, None}
+use Rattle.std.proofs.Common.{◌≡◌, ◌∙◌, ◌≤◌, ◌++◌, length, drop, sym, ap, subst, Option, Some, None}
 use Rattle.std.specs.Option.{MatchOption}
 use Rattle.group_defs.specs.Process.{Setting, Pool, Process}
 use Rattle.own_place.specs.Owns.{Tells}
@@ -12,7 +12,7 @@ use Rattle.accounts.specs.Views.{account}
 use Rattle.member_state.specs.declared.marks.Before.{Before}
 use Rattle.member_state.specs.declared.left.LeftView.{LeftView}
 use Rattle.member_state.specs.declared.state.ProcessState.{ProcessState}
-use Rattle.member_state.specs.States.{IsStateOf}
+use Rattle.member_state.specs.States.{IsStateOf, claims_of}
 use Rattle.member_state.specs.Marks.{Stays, HasLeft}
 
 -- the parts of both keep the same
@@ -23,6 +23,8 @@ pub record AreSameParts (was now : ProcessState) : Type 0 where
   pub phase : now.phase ≡ was.phase
   pub asked : now.perceived ≡ was.perceived
   pub said : now.said.claims ≡ was.said.claims
+  pub said_from : now.said_from ≡ was.said_from
+  pub said_before : now.said_before.items ≡ was.said_before.items
   pub pairs : now.conflicts.pairs ≡ was.conflicts.pairs
   pub previous : now.archive.previous ≡ was.archive.previous
   pub commits : now.archive.commits ≡ was.archive.commits
@@ -39,11 +41,17 @@ same_state s p was now same is = record {
   asked_for = is.asked_for;
   halted_member = is.halted_member;
   halted_beyond = is.halted_beyond;
+  ranged = is.ranged;
   limit = is.limit ∙ sym same.limit;
   place = subst (λ (h : Pool). Tells s p h now.own) (sym same.pool) (same_tells was.own now.own same.own s p was.pool.pool is.place);
   phase = subst (λ (phase : Phase). IsIn phase p) (sym same.phase) is.phase;
   asked = subst (λ a. TellsPerceived a p) (sym same.asked) is.asked;
   said = is.said ∙ sym same.said;
+  signed = record {
+    few = subst (λ cs. now.said_from ≤ length cs) (sym same.said)
+        (subst (λ k. k ≤ length was.said.claims) (sym same.said_from) is.signed.few);
+    whole = is.signed.whole ∙ (λ i. claims_of (sym same.said_before i) ++ drop (sym same.said_from i) (sym same.said i));
+  };
   pairs = is.pairs ∙ sym same.pairs;
   kept = record {
     numbers = is.kept.numbers;
@@ -62,6 +70,8 @@ module _ (b : Before) (was now : ProcessState) (l : Option LeftView) where
     pool = is.pool;
     slots = is.slots;
     said = is.said;
+    said_from = is.said_from;
+    said_before = is.said_before;
     pairs = is.pairs;
     previous = is.previous;
     commits = is.commits;
@@ -74,7 +84,10 @@ module _ (b : Before) (was now : ProcessState) (l : Option LeftView) where
     kept = is.kept;
     pool = is.pool;
     slots = is.slots;
+    last = is.last;
     said = is.said;
+    said_from = is.said_from;
+    said_before = is.said_before;
     pairs = is.pairs;
     previous = is.previous;
     commits = is.commits;

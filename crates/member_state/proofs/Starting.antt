@@ -1,13 +1,13 @@
 -- The state of a process that starts.
-use Rattle.std.proofs.Common.{◌≡◌, ℕ, ◌+◌, ◌≤◌, List, [], Option, None, Some, true, false, refl, sym, ap, subst, ◌∙◌, arith}
+use Rattle.std.proofs.Common.{◌≡◌, ℕ, ◌+◌, ◌≤◌, List, [], ◌++◌, drop, length, Option, None, Some, true, false, refl, sym, ap, subst, ◌∙◌, arith}
 use Rattle.std.specs.Prelude.{All, AllPairs}
 use Rattle.std.proofs.lemmas.List.Elements.{All-nil}
-use Rattle.message_defs.specs.Limits.{most_messages, most_places}
+use Rattle.message_defs.specs.Limits.{most_members, most_messages, most_places}
 use Rattle.message_defs.specs.Statements.{Claim}
 use Rattle.message_defs.specs.Updates.{Update}
 use Rattle.group_defs.specs.Views.{View, IsView, is_member}
-use Rattle.message_defs.specs.Spelling.{IsViewNumber}
-use Rattle.group_defs.specs.Process.{Setting, Process, Left, start}
+use Rattle.message_defs.specs.Spelling.{IsClaim, IsViewNumber}
+use Rattle.group_defs.specs.Process.{Setting, Pool, Process, Left, start}
 use Rattle.group_defs.specs.Accounts.{account_of}
 use Rattle.own_place.specs.Words.{empty_pool}
 use Rattle.own_place.specs.Owns.{Tells}
@@ -17,7 +17,7 @@ use Rattle.accounts.specs.Views.{account}
 use Rattle.own_moves.specs.Lawful.{IsLawful}
 use Rattle.own_moves.proofs.Lawful.{start_is_lawful}
 use Rattle.member_state.specs.Bounds.{AreFew, IsBounded}
-use Rattle.member_state.specs.States.{IsStateOf}
+use Rattle.member_state.specs.States.{IsStateOf, claims_of}
 use Rattle.member_state.specs.declared.state.ProcessState.{ProcessState}
 
 -- the parts of a state that starts
@@ -28,6 +28,8 @@ pub record IsFirst (s : Setting) (p : Process) (st : ProcessState) : Type 0 wher
   pub phase : IsIn st.phase p
   pub asked : TellsPerceived st.perceived p
   pub said : st.said.claims ≡ []
+  pub said_from : st.said_from ≡ 0
+  pub said_before : st.said_before.items ≡ []
   pub pairs : st.conflicts.pairs ≡ []
   pub previous : st.archive.previous ≡ None
   pub commits : st.archive.commits ≡ []
@@ -55,11 +57,21 @@ starts s me limit st some few number view zero is = record {
   asked_for = All-nil (λ (e : ℕ × Update). e.0 ≤ s.genesis.number);
   halted_member = λ e. absurd cc;
   halted_beyond = λ e. absurd cc;
+  ranged = record {
+    pairs_ranged = All-nil (λ (pair : Claim × Claim). IsClaim pair.0 × IsClaim pair.1);
+    commits_ranged = All-nil (λ (l : Left). All IsClaim l.commit);
+    commits_few = All-nil (λ (l : Left). length l.commit ≤ most_members);
+    previous_ranged = λ (h : Pool) none. absurd cc;
+  };
   limit = is.limit;
   place = subst (λ h. Tells s (start s me limit) h st.own) (sym is.pool) is.place;
   phase = is.phase;
   asked = is.asked;
   said = sym is.said;
+  signed = record {
+    few = (let from = is.said_from in omega (arith, from));
+    whole = λ i. claims_of (sym is.said_before i) ++ drop (sym is.said_from i) (sym is.said i);
+  };
   pairs = sym is.pairs;
   kept = record { numbers = refl; previous = sym is.previous; commits = sym is.commits };
   account = is.account;

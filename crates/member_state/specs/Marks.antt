@@ -1,5 +1,5 @@
 -- A process's state since a mark.
-use Rattle.std.specs.Prelude.{◌≡◌, ◌-◌, List, length, take, Option, Some, None, IsSome, MatchOption}
+use Rattle.std.specs.Prelude.{◌≡◌, ◌-◌, List, [], ◌∷◌, ◌++◌, length, take, Option, Some, None, IsSome, MatchOption}
 use Rattle.group_defs.specs.Accounts as plain
 use Rattle.own_place.specs.Marks.{IsMarkOf}
 use Rattle.view_phases.specs.Marks.{marked}
@@ -7,6 +7,7 @@ use Rattle.accounts.specs.Views.{account}
 use Rattle.accounts.specs.Marks.{TellsSince, without_last}
 use Rattle.member_state.specs.declared.marks.Before.{Before}
 use Rattle.member_state.specs.declared.left.LeftView.{LeftView}
+use Rattle.member_state.specs.declared.left.SaidBefore.{SaidBefore}
 use Rattle.member_state.specs.declared.state.ProcessState.{ProcessState}
 
 -- the mark keeps of the state what its parts do not keep themselves
@@ -26,6 +27,8 @@ pub record Stays (b : Before) (was now : ProcessState) : Type 0 where
   pub pool : now.pool.marked ≡ was.pool.pool
   pub slots : now.own.signed.marked ≡ was.own.signed.slots
   pub said : now.said.marked ≡ was.said.claims
+  pub said_from : now.said_from ≡ was.said_from
+  pub said_before : now.said_before.items ≡ was.said_before.items
   pub pairs : now.conflicts.marked ≡ was.conflicts.pairs
   pub previous : now.archive.previous ≡ was.archive.previous
   pub commits : now.archive.commits ≡ was.archive.commits
@@ -38,7 +41,11 @@ pub record HasLeft (b : Before) (was : ProcessState) (left : LeftView) (now : Pr
   pub kept : IsKeptBy b was
   pub pool : now.archive.marked ≡ Some was.pool.pool
   pub slots : left.signed.marked ≡ was.own.signed.slots
-  pub said : left.said.marked ≡ was.said.claims
+  -- what was said there
+  pub last : SaidBefore
+  pub said : last.claims.marked ≡ was.said.claims
+  pub said_from : last.from ≡ was.said_from
+  pub said_before : now.said_before.items ≡ was.said_before.items ++ last ∷ []
   pub pairs : now.conflicts.marked ≡ was.conflicts.pairs
   pub previous : left.older ≡ was.archive.previous
   pub commits : take (length now.archive.commits - 1) now.archive.commits ≡ was.archive.commits

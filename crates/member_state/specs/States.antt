@@ -1,10 +1,13 @@
 -- Which process of the definitions a state is.
-use Rattle.std.specs.Prelude.{◌≡◌, ◌≢◌, ℕ, ◌<◌, ◌≤◌, ◌==◌, true, List, [], ◌∷◌, length, map, filter, find, All, AllPairs, Option, Some, None, option_and_then, if◌then◌else◌, IsTrue}
+use Rattle.std.specs.Prelude.{◌≡◌, ◌≢◌, ℕ, ◌<◌, ◌≤◌, ◌==◌, true, List, [], ◌∷◌, ◌++◌, length, map, drop, filter, find, All, AllPairs, Option, Some, None, option_and_then, if◌then◌else◌, IsTrue}
+use Rattle.std.specs.List.{flat_map}
 use Rattle.byte_defs.specs.Orders.{sorted}
+use Rattle.message_defs.specs.Limits.{most_members}
 use Rattle.message_defs.specs.Updates.{Value}
 use Rattle.message_defs.specs.Statements.{Claim, ReadyAt, view_of}
+use Rattle.message_defs.specs.Spelling.{IsClaim}
 use Rattle.group_defs.specs.Views.{View, is_member, is_possible}
-use Rattle.group_defs.specs.Process.{Setting, Process, keyed, places_in}
+use Rattle.group_defs.specs.Process.{Setting, Pool, Left, Process, keyed, places_in}
 use Rattle.group_defs.specs.Certified.{value_at}
 use Rattle.group_defs.specs.Accounts.{account_of}
 use Rattle.own_place.specs.Owns.{Tells}
@@ -14,11 +17,22 @@ use Rattle.reliable_mcast.specs.Archives.{Keeps}
 use Rattle.own_moves.specs.Lawful.{IsLawful}
 use Rattle.accounts.specs.Views.{account}
 use Rattle.member_state.specs.Bounds.{IsBounded}
+use Rattle.member_state.specs.declared.left.SaidBefore.{SaidBefore}
 use Rattle.member_state.specs.declared.state.ProcessState.{ProcessState}
 
 -- what the process signed in its current view, in order of signing
 abbrev pub signed_here : Process → List Claim
 signed_here p = filter (λ c. view_of c.statement == p.pool.view.number) p.signed
+
+-- the claims of these lists, one list after another, of each those that stand in no list before it
+abbrev pub claims_of : List SaidBefore → List Claim
+claims_of lists = flat_map (λ l. drop l.from l.claims.claims) lists
+
+-- All that was signed, in order of signing: the claims of these lists, and then what was said in the current view, but for the first so many,
+-- which stand in the lists too.
+pub record IsSigned (signed : List Claim) (before : List SaidBefore) (from : ℕ) (said : List Claim) : Type 0 where
+  pub few : from ≤ length said
+  pub whole : signed ≡ claims_of before ++ drop from said
 
 -- what is decided is a certified Ready's, and its update is possible
 pub record IsDecision (s : Setting) (p : Process) (d : ℕ × Value) : Type 0 where
@@ -30,10 +44,18 @@ pub record ArePairs (pairs : List (Claim × Claim)) : Type 0 where
   pub same : All (λ pair. pair.0.signer ≡ pair.1.signer) pairs
   pub once : AllPairs (λ a b. a.1.signer ≢ b.1.signer) pairs
 
+-- what is kept of others is in range: each claim of these conflicts, of the commit certificates of the views that were left, which have at
+-- most 16, and of the pool of the view before
+pub record AreRanged (pairs : List (Claim × Claim)) (left : List Left) (previous : Option Pool) : Type 0 where
+  pub pairs_ranged : All (λ pair. IsClaim pair.0 × IsClaim pair.1) pairs
+  pub commits_ranged : All (λ (l : Left). All IsClaim l.commit) left
+  pub commits_few : All (λ (l : Left). length l.commit ≤ most_members) left
+  pub previous_ranged : (h : Pool) → previous ≡ Some h → All IsClaim h.heard
+
 -- The state st is that of process p in this setting: each part of it keeps what is the process's. And of p holds what holds of
 -- every process that came to be by events: it is lawful and bounded, its view has as number how many views it left, what it
--- decided is certified, its conflicts are one pair of a signer, what it perceived is of views up to its own, and it has halted
--- only as a member, beyond its cut.
+-- decided is certified, its conflicts are one pair of a signer, what it perceived is of views up to its own, it has halted
+-- only as a member, beyond its cut, and what it keeps of others is in range.
 pub record IsStateOf (s : Setting) (p : Process) (st : ProcessState) : Type 0 where
   pub lawful : IsLawful p
   pub bounded : IsBounded p
@@ -44,11 +66,13 @@ pub record IsStateOf (s : Setting) (p : Process) (st : ProcessState) : Type 0 wh
   pub asked_for : All (λ e. e.0 ≤ p.pool.view.number) p.perceived
   pub halted_member : p.halted ≡ true → is_member p.pool.view p.me ≡ true
   pub halted_beyond : p.halted ≡ true → (d : ℕ × Value) → p.decision ≡ Some d → d.1.cut < places_in p.delivered
+  pub ranged : AreRanged p.conflicts p.left p.previous
   pub limit : p.batch_limit ≡ st.batch_limit
   pub place : Tells s p st.pool.pool st.own
   pub phase : IsIn st.phase p
   pub asked : TellsPerceived st.perceived p
   pub said : signed_here p ≡ st.said.claims
+  pub signed : IsSigned p.signed st.said_before.items st.said_from st.said.claims
   pub pairs : p.conflicts ≡ st.conflicts.pairs
   pub kept : Keeps st.archive p
   pub account : account_of p ≡ account st.account

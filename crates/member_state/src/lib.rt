@@ -8,9 +8,9 @@ mod state;
 
 pub use accounts::{Account, Delivered};
 pub use ending_rules::{Perceived, perceive};
-pub use left::LeftView;
+pub use left::{LeftView, SaidBefore};
 pub use marks::Before;
 pub use own_moves::{begin_view, deliver_batch};
 pub use reliable_mcast::{ClaimList, Conflicts, Displaced};
-pub use state::ProcessState;
+pub use state::{ProcessState, pair_at};
 pub use view_phases::{PhaseWord, counts_of};

@@ -1,15 +1,17 @@
 //! A process at a mark, to which it goes back where an event comes to nothing.
-ghost use Rattle.std.specs.Prelude.{◌≡◌, OnOk, None, MatchOption, true};
+ghost use Rattle.std.specs.Prelude.{◌≡◌, ◌++◌, ◌∷◌, [], List, OnOk, None, MatchOption, true};
 ghost use Rattle.group_defs.specs.Process.{Setting, Process};
 ghost use Rattle.view_phases.specs.Marks.{marked};
+ghost use Rattle.member_state.specs.declared.left.SaidBefore as lists;
 ghost use Rattle.member_state.specs.Marks.{MayAsk, Stays, HasLeft, Since};
 ghost use Rattle.member_state.specs.States.{IsStateOf};
 
-use crate::left::LeftView;
+use crate::left::{LeftView, SaidBefore};
 use crate::state::ProcessState;
 use accounts::AccountMark;
 use ending_rules::Perceived;
 use own_place::OwnMark;
+use reliable_mcast::ClaimList;
 use rp_base::NoMemory;
 use std::mem;
 use view_phases::PhaseMark;
@@ -38,6 +40,21 @@ impl Before {
     }
 }
 
+// Takes back what was said in the view that was left last.
+fn take_back(said_before: &mut Vec<SaidBefore>, said: &mut ClaimList, from: &mut usize)
+    ensures { (before : List lists.SaidBefore) (last : lists.SaidBefore) → said_before.old.items ≡ before ++ last ∷ []
+        → (said_before.new.items ≡ before) × (said.new ≡ last.claims) × (from.new ≡ last.from) }
+{
+    if let Some(last) = said_before.pop() {
+        let SaidBefore {
+            claims,
+            from: place,
+        } = last;
+        *said = claims;
+        *from = place;
+    }
+}
+
 impl ProcessState {
     /// Marks the process in `before`, so that it can be gone back to. `asks` says whether an update may be asked for until then.
     pub fn mark(&mut self, asks: bool, before: &mut Before) -> Result<(), NoMemory>
@@ -63,16 +80,12 @@ impl ProcessState {
         ensures stands { (b : Before) (was : ProcessState) → HasLeft b was left self.old → Stays b was self.new }
         ensures left { self.new.left ≡ self.old.left }
     {
-        let LeftView {
-            signed,
-            said,
-            older,
-        } = left;
+        let LeftView { signed, older } = left;
         if let Some(pool) = self.archive.take_back(older) {
             self.pool = pool;
         }
         self.own.signed = signed;
-        self.said = said;
+        take_back(&mut self.said_before, &mut self.said, &mut self.said_from);
         self.account.drop_last();
     }
 

@@ -8,7 +8,7 @@ ghost use Rattle.accounts.specs.Views.{account};
 ghost use Rattle.stmt_codec.specs.Views.{claim as claim_of};
 ghost use Rattle.member_state.specs.States.{ArePairs, IsStateOf, StartsWith, kept_of, signers_in, liars_of, halted_at};
 
-use crate::left::LeftView;
+use crate::left::{LeftView, SaidBefore};
 use accounts::Account;
 use ending_rules::Perceived;
 use own_moves::no_counts;
@@ -41,6 +41,12 @@ pub struct ProcessState {
     /// What the process has signed in its current view, in order of signing.
     pub said: ClaimList,
 
+    /// How many of the first of these claims stand in `said_before` too: none, but where the process began again in this view.
+    pub said_from: usize,
+
+    /// What it has signed in the views that it left, list after list.
+    pub said_before: Vec<SaidBefore>,
+
     /// The first two conflicting claims of each signer, over all views.
     pub conflicts: Conflicts,
 
@@ -64,6 +70,8 @@ impl Drop for ProcessState {
             phase,
             perceived: _,
             said,
+            said_from: _,
+            said_before,
             conflicts,
             archive,
             account,
@@ -73,6 +81,7 @@ impl Drop for ProcessState {
         mem::drop(pool);
         mem::drop(phase);
         mem::drop(said);
+        mem::drop(said_before);
         mem::drop(conflicts);
         mem::drop(archive);
         mem::drop(account);
@@ -127,8 +136,8 @@ fn copied(view: &View) -> View
     copy
 }
 
-// The pair at this place, the heard claim first.
-fn pair_at(conflicts: &Conflicts, place: usize) -> Option<(Claim<'_>, Claim<'_>)>
+/// The pair at this place, the heard claim first; None exactly where there are no more than so many.
+pub fn pair_at(conflicts: &Conflicts, place: usize) -> Option<(Claim<'_>, Claim<'_>)>
     ensures { option_map (λ pair. (claim_of pair.0, claim_of pair.1)) result ≡ slice_get conflicts.now.pairs place }
 {
     match (conflicts.heard_at(place), conflicts.other_at(place)) {
@@ -190,6 +199,8 @@ impl ProcessState {
             phase: Phase::begin(genesis, me),
             perceived: Perceived::new(),
             said: ClaimList::new(alloc),
+            said_from: 0,
+            said_before: Vec::new(alloc),
             conflicts: Conflicts::new(alloc),
             archive: Archive::new(alloc)?,
             account: first_account(alloc, copied(genesis), me)?,

@@ -4,6 +4,7 @@ use Rattle.std.specs.Prelude.{if◌then◌else◌, ◌&&◌, ◌==◌, is_some, 
 use Rattle.std.specs.List.{AllByRecursion, list_any}
 use Rattle.std.proofs.lemmas.Bool.{eqb-true, eq-eqb}
 use Rattle.std.proofs.lemmas.List.{append-nil}
+use Rattle.std.proofs.lemmas.List.Elements.{All-push}
 use Rattle.std.proofs.lemmas.List.Quantifiers.{all_pairs_push}
 use Rattle.byte_defs.specs.Choices.{first_that_holds}
 use Rattle.message_defs.specs.Spelling.{IsClaim}
@@ -134,6 +135,42 @@ hear-pairs s p c ones once = go (verdict s p c)
     go OutOfWindow = (ones, once)
     go Known = (ones, once)
     go Unsigned = (ones, once)
+
+-- both claims of each pair are in range
+abbrev pub AreInRange : List (Claim × Claim) → Type 0
+AreInRange pairs = All (λ pair. IsClaim pair.0 × IsClaim pair.1) pairs
+
+pub hear-in-range : (s : Setting) (p : Process) (c : Claim) → IsClaim c → All IsClaim p.pool.heard → AreInRange p.conflicts
+    → AreInRange (hear s p c).conflicts
+hear-in-range s p c range heard pairs = go (verdict s p c)
+  where
+    with-first : (o : Option Claim) → claim_on p.pool.heard c.signer (slot_of c.statement) ≡ o
+        → (let more : List (Claim × Claim) = p.conflicts ++ elim o [ None ↦ [] | Some first ↦ (first, c) ∷ [] ] in AreInRange more)
+    with-first None e = subst AreInRange (sym (append-nil p.conflicts)) pairs
+    with-first (Some first) e =
+        let there = (find-is (λ (d : Claim). (d.signer == c.signer)
+        && same_slot (slot_of d.statement) (slot_of c.statement)) p.pool.heard first e).0 in
+        All-push (λ (pair : Claim × Claim). IsClaim pair.0 × IsClaim pair.1) p.conflicts (first, c) pairs
+        (All-mem IsClaim p.pool.heard first heard there, range)
+
+    kept : (b : Bool) → (let more : List (Claim × Claim) = if b then p.conflicts
+        else p.conflicts ++ elim (claim_on p.pool.heard c.signer (slot_of c.statement)) [
+          | None ↦ []
+          | Some first ↦ (first, c)
+              ∷ []
+        ] in AreInRange more)
+    kept true = pairs
+    kept false = with-first (claim_on p.pool.heard c.signer (slot_of c.statement)) refl
+
+    go : (v : Verdict) → AreInRange (with_verdict v p c).conflicts
+    go Conflict = kept (list_any (λ (a : Claim × Claim). a.1.signer == c.signer) p.conflicts)
+    go Heard = pairs
+    go Old = pairs
+    go Early = pairs
+    go Stranger = pairs
+    go OutOfWindow = pairs
+    go Known = pairs
+    go Unsigned = pairs
 
 -- ---- several claims
 

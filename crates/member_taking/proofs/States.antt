@@ -28,7 +28,7 @@ use Rattle.accounts.specs.Views.{account as account_as}
 use Rattle.accounts.specs.declared.account.Account as code
 use Rattle.member_state.specs.declared.state.ProcessState.{ProcessState}
 use Rattle.member_state.specs.States.{IsStateOf, ArePairs}
-use Rattle.member_taking.proofs.Heard.{with_hearing, hear-changes, hear-value, hear-pairs, all-keep, all-change, all-length, AreOfOne, IsOnce}
+use Rattle.member_taking.proofs.Heard.{with_hearing, hear-changes, hear-value, hear-pairs, hear-in-range, all-keep, all-change, all-length, AreOfOne, IsOnce, AreInRange}
 pub use Rattle.member_state.proofs.Ranges.{claims-once}
 
 -- ---- hearing
@@ -99,9 +99,9 @@ module _ (s : Setting) (p : Process) (st : ProcessState) (is : IsStateOf s p st)
   with-hearing : (heard : List Claim) (pairs : List (Claim × Claim)) → IsLawful (with_hearing p heard pairs)
       → ((d : ℕ × Value) → p.decision ≡ Some d
       → value_at (record { view = p.pool.view; heard = heard }) (ReadyAt p.pool.view.number d.0) ≡ Some d.1) → ArePairs pairs
-      → (pool' : Holding) (conflicts' : Pairing) → record { view = p.pool.view; heard = heard } ≡ pool'.pool → pairs ≡ conflicts'.pairs
+      → AreInRange pairs → (pool' : Holding) (conflicts' : Pairing) → record { view = p.pool.view; heard = heard } ≡ pool'.pool → pairs ≡ conflicts'.pairs
       → IsStateOf s (with_hearing p heard pairs) (record st { pool = pool'; conflicts = conflicts' })
-  with-hearing heard pairs lawful certified each pool' conflicts' pool same = record {
+  with-hearing heard pairs lawful certified each range pool' conflicts' pool same = record {
     lawful = lawful;
     bounded = record { now = is.bounded.now; before = is.bounded.before; backlog = is.bounded.backlog };
     number = is.number;
@@ -111,6 +111,12 @@ module _ (s : Setting) (p : Process) (st : ProcessState) (is : IsStateOf s p st)
     asked_for = is.asked_for;
     halted_member = is.halted_member;
     halted_beyond = is.halted_beyond;
+    ranged = record {
+      pairs_ranged = range;
+      commits_ranged = is.ranged.commits_ranged;
+      commits_few = is.ranged.commits_few;
+      previous_ranged = is.ranged.previous_ranged;
+    };
     limit = is.limit;
     place = record {
       pool = pool;
@@ -131,6 +137,7 @@ module _ (s : Setting) (p : Process) (st : ProcessState) (is : IsStateOf s p st)
     phase = phase-stays st.phase p heard pairs is.phase;
     asked = is.asked;
     said = is.said;
+    signed = is.signed;
     pairs = same;
     kept = record { numbers = is.kept.numbers; previous = is.kept.previous; commits = is.kept.commits };
     account = is.account;
@@ -159,12 +166,15 @@ module _ (s : Setting) (p : Process) (st : ProcessState) (is : IsStateOf s p st)
       let changed : q ≡ with_hearing p q.pool.heard q.conflicts = all-change r p cs in
       let pairs = all-keep r (λ q. AreOfOne q.conflicts × IsOnce q.conflicts)
       (λ q c ok both. hear-pairs r q c both.0 both.1) p cs range (is.each.same, is.each.once) in
+      let lawful = all-keep r (λ q. IsLawful q × AreInRange q.conflicts)
+      (λ q c ok both. (hearing_is_lawful r q c ok both.0, hear-in-range r q c ok both.0.pool.in_range both.1)) p cs range
+      (is.lawful, is.ranged.pairs_ranged) in
       subst (λ q'. IsStateOf s q' (record st { pool = pool'; conflicts = conflicts' })) (sym changed)
       (with-hearing q.pool.heard q.conflicts
-      (subst IsLawful changed (all-keep r IsLawful (λ q c ok lawful. hearing_is_lawful r q c ok lawful) p cs range is.lawful))
+      (subst IsLawful changed lawful.0)
       (λ d e. subst (λ h. value_at h (ReadyAt p.pool.view.number d.0) ≡ Some d.1) (ap (λ (x : Process). x.pool) changed)
       (still-certified r cs range d.0 d.1 (is.decided d e).certified))
-      (record { same = pairs.0; once = pairs.1 })
+      (record { same = pairs.0; once = pairs.1 }) lawful.1
       pool' conflicts'
       (sym (ap (λ (x : Process). x.pool) changed) ∙ heard.pool) heard.pairs)
 
@@ -202,6 +212,7 @@ module _ (s : Setting) (p : Process) (st : ProcessState) (is : IsStateOf s p st)
         asked_for = all-put (λ (e : ℕ × Update). e.0 ≤ p.pool.view.number) (p.pool.view.number, u) p.perceived (omega arith) is.asked_for;
         halted_member = is.halted_member;
         halted_beyond = is.halted_beyond;
+        ranged = is.ranged;
         limit = is.limit;
         place = record {
           pool = is.place.pool;
@@ -222,6 +233,7 @@ module _ (s : Setting) (p : Process) (st : ProcessState) (is : IsStateOf s p st)
         phase = perceiving-phase st.phase p (put perceived_numbers (p.pool.view.number, u) p.perceived) is.phase;
         asked = subst (TellsPerceived set') so tells;
         said = is.said;
+        signed = is.signed;
         pairs = is.pairs;
         kept = record { numbers = is.kept.numbers; previous = is.kept.previous; commits = is.kept.commits };
         account = (λ i. record (is.account i) {

@@ -1,3 +1,4 @@
 pub mod Packing
 pub mod Answering
 pub mod Kept
+pub mod Laws

@@ -1,6 +1,7 @@
 //! Events for which memory runs out. In the gate none does; `rt try --test --fail-alloc 1..` has each allocation fail in turn.
 use crate::members::members::{after, try_one_member};
 use member_core::{Core, Event, EventVerdict};
+use member_image::image;
 use rp_base::{NoMemory, PlainScheme, PlainSigner};
 use std::process::Abort;
 
@@ -45,4 +46,7 @@ fn an_event_without_memory_leaves_the_process_as_it_was(rt: HostRuntime) {
 
     // As many as without a loss, by another program.
     assert!(rt; core.used() == 11);
+    if let Ok(image) = image(&core, rt.alloc()) {
+        assert!(rt; image.signed.len() == 11);
+    }
 }

@@ -1,4 +1,5 @@
 mod absorbed;
 mod alone;
+mod imaged;
 mod lost;
 mod members;

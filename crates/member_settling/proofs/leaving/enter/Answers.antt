@@ -1,4 +1,4 @@
-use Rattle.std.proofs.Common.{◌≡◌, ◌∙◌, ◌+◌, ◌≤◌, ℕ, Option, Some, sym, ap, subst}
+use Rattle.std.proofs.Common.{◌≡◌, ◌∙◌, ◌+◌, ◌≤◌, ◌++◌, ◌∷◌, [], ℕ, Option, Some, sym, ap, subst}
 use Rattle.std.proofs.Math.Logic.{∥∥₁_elim, ∥∥₁_map}
 use Rattle.std.proofs.Props.{props}
 use Rattle.message_defs.specs.Statements.{Ready}
@@ -11,17 +11,24 @@ use Rattle.accounts.specs.Views.{account}
 use Rattle.member_laws.specs.Telling.{Begins}
 use Rattle.view_phases.specs.Phases.{decision_of}
 use Rattle.member_state.specs.declared.left.LeftView.{LeftView}
+use Rattle.member_state.specs.declared.left.SaidBefore.{SaidBefore}
 use Rattle.member_state.specs.declared.state.ProcessState.{ProcessState}
+use Rattle.member_state.specs.States.{claims_of}
 use Rattle.member_state.proofs.Ranges.{claims-once}
 use Rattle.member_settling.specs.Steps.{in_phase}
 use Rattle.member_settling.proofs.Begun.{HasBegun, installs-state, installs-told, mine-is}
+use Rattle.member_settling.proofs.Lists.{one-more}
 use Rattle.member_settling.proofs.Marked.{since-here, since-left, stays-same}
 use Rattle.member_settling.proofs.Real.{before, certified, order, ranged, short-last}
 use Rattle.member_settling.proofs.leaving.enter.Goals as goal
 
 -- what is kept of the view that is left
 abbrev so : ProcessState → Option Pool → Option LeftView
-so st older = Some (record { signed = st.own.signed; said = st.said; older = older })
+so st older = Some (record { signed = st.own.signed; older = older })
+
+-- what was said there
+abbrev there : ProcessState → SaidBefore
+there st = record { claims = st.said; from = st.said_from }
 
 pub own_delivered-mine-requires : goal.own_delivered-mine-requires
 own_delivered-mine-requires c = ∥∥₁_map c.requires.can
@@ -40,8 +47,8 @@ pub keep_left-requires-clause-order : goal.keep_left-requires-clause-order
 keep_left-requires-clause-order c = ∥∥₁_elim c.requires.can (hlevel props)
     (λ can. order can.setting can.process (in_phase can.leaving.phase c.args.state.now) can.leaving.state)
 
-pub begin-requires : goal.begin-requires
-begin-requires c = ∥∥₁_elim c.requires.can (hlevel props) (λ can.
+pub begin-requires-clause-mine : goal.begin-requires-clause-mine
+begin-requires-clause-mine c = ∥∥₁_elim c.requires.can (hlevel props) (λ can.
     let old : ProcessState = in_phase can.leaving.phase c.args.state.now in
     let mine : c.own_delivered-mine.result
     ≡ delivered_from can.process.me can.process.delivered = mine-is can.setting can.process old c.own_delivered-mine.result
@@ -63,6 +70,10 @@ returns-clause-leaves c = λ s p leaving is.
       phase = λ p view me runs none ended. c.begin.ensures.phase p view (me ∙ c.begin.ensures.own.number) runs none ended;
       asked = c.begin.ensures.asked;
       said = c.begin.ensures.said;
+      said_from = c.begin.ensures.from;
+      said_before =
+          ap claims_of (c.begin.ensures.kept ∙ (λ i. c.keep_left.ensures.lists i ++ there (kept i) ∷ []))
+          ∙ one-more c.args.state.now.said_before.items (there c.args.state.now);
       pairs = ap (λ (st : ProcessState). st.conflicts.pairs) rest ∙ ap (λ (st : ProcessState). st.conflicts.pairs) kept;
       previous = ap (λ (st : ProcessState). st.archive.previous) rest ∙ c.in_ok-older.ensures.previous;
       commits = ap (λ (st : ProcessState). st.archive.commits) rest ∙ c.in_ok-older.ensures.commits;
@@ -83,7 +94,7 @@ pub returns-in_err-older-clause-since : goal.returns-in_err-older-clause-since
 returns-in_err-older-clause-since c b was is =
     let same = c.in_err-older.ensures.same in
     since-here b was c.keep_left.new.state
-    (stays-same b was c.args.state.now is c.keep_left.new.state same.0 same.1 same.2 c.keep_left.ensures.rest)
+    (stays-same b was c.args.state.now is c.keep_left.new.state same.0 same.1 c.keep_left.ensures.lists same.2 c.keep_left.ensures.rest)
     (ap (λ (st : ProcessState). st.left) c.keep_left.ensures.rest ∙ c.requires.here)
 
 pub returns-clause-since : goal.returns-clause-since
@@ -94,6 +105,7 @@ returns-clause-since c b was is =
     (all_signed (certificate c.args.state.now.pool.pool
     (Ready c.args.state.now.pool.pool.view.number c.args.decision.rank (value c.args.decision.value)))) c.in_ok-older.older
     (record {
+      said_before = c.begin.ensures.kept ∙ (λ i. c.keep_left.ensures.lists i ++ there (kept i) ∷ []);
       left = c.begin.ensures.left ∙ ap (λ (st : ProcessState). so st c.in_ok-older.older) kept;
       limit = ap (λ (st : ProcessState). st.batch_limit) rest ∙ ap (λ (st : ProcessState). st.batch_limit) kept;
       pairs = ap (λ (st : ProcessState). st.conflicts.marked) rest ∙ ap (λ (st : ProcessState). st.conflicts.marked) kept;
