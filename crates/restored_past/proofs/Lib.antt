@@ -1,0 +1,6 @@
+mod Rising
+mod Commits
+pub mod Certain
+mod Same
+mod Following
+mod Walked

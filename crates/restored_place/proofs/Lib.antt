@@ -1,0 +1,6 @@
+mod Counted
+mod Mapped
+mod Gathered
+mod Slots
+mod Ordered
+mod Standing
