@@ -15,9 +15,9 @@ use Rattle.node_laws.proofs.Openings.{opens_sound}
 use Rattle.node_traces.specs.Goes.{Outside, Goes}
 use Rattle.opening_laws.specs.Opening.{left_to_open}
 use Rattle.opening_laws.proofs.EntriesRead.{each_reads_on}
-use Rattle.node_hosts.specs.declared.hosts.Hosts.{Hosts}
-use Rattle.node_hosts.specs.declared.running.Running.{Running}
-use Rattle.node_hosts.specs.Nodes.{cast_in}
+use Rattle.node_service.specs.Hosts.{Hosts}
+use Rattle.node_service.specs.Hosts.{Running}
+use Rattle.node_service.specs.Hosts.{cast_in}
 use Rattle.node_opening.specs.declared.counts.Counts.{Counts}
 use Rattle.node_opening.specs.Holding.{HoldsAs}
 use Rattle.node_opening.specs.Opened.{HasOpened}

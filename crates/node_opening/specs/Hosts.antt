@@ -2,12 +2,5 @@
 pub use Rattle.signature_defs.specs.Schemes.{is_valid}
 pub use Rattle.sig_scheme.specs.declared.any_signer.AnySigner.{AnySigner}
 pub use Rattle.sig_scheme.specs.Signers.{used, total, signature}
-unfoldable pub use Rattle.node_hosts.specs.Cores.{IsCore}
-pub use Rattle.node_hosts.specs.Cores.{Hosted, Taken, Turn, IsOutcome, IsReal, TakesTurn, core_of, event, fault, hosted_in, signer_of, turn_of}
-pub use Rattle.node_hosts.specs.Places.{IsHost, IsHosted, IsPlace}
-pub use Rattle.node_hosts.specs.Hosts.{AreHosts, numbers_of, place_of}
-pub use Rattle.node_hosts.specs.Turns.{TakesLive}
-pub use Rattle.node_hosts.specs.Nodes.{IsAt, IsJournalOf, IsNode, cast_in}
-pub use Rattle.node_hosts.specs.declared.host.Host.{Host}
-pub use Rattle.node_hosts.specs.declared.hosts.Hosts.{Hosts}
-pub use Rattle.node_hosts.specs.declared.running.Running.{Running}
+unfoldable pub use Rattle.node_service.specs.Hosts.{IsCore}
+pub use Rattle.node_service.specs.Hosts.{Hosted, Taken, Turn, IsOutcome, IsReal, TakesTurn, core_of, event, fault, hosted_in, signer_of, turn_of, IsHost, IsHosted, IsPlace, AreHosts, numbers_of, place_of, TakesLive, IsAt, IsJournalOf, IsNode, cast_in, Host, Hosts, Running}

@@ -11,8 +11,8 @@ use Rattle.node_traces.specs.Outside.{LinkSeen, SinkSeen, SourceSeen}
 use Rattle.node_traces.specs.Service.{Asked}
 use Rattle.node_traces.specs.Goes.{Outside, Goes}
 use Rattle.opening_laws.specs.Opening.{StopsBy}
-use Rattle.node_hosts.specs.declared.running.Running.{Running}
-use Rattle.node_hosts.specs.Nodes.{IsNode, cast_in}
+use Rattle.node_service.specs.Hosts.{Running}
+use Rattle.node_service.specs.Hosts.{IsNode, cast_in}
 use Rattle.node_opening.specs.Holding.{HoldsAs}
 use Rattle.node_opening.specs.Reading.{Unread}
 

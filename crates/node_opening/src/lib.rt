@@ -11,10 +11,10 @@ mod reading;
 mod starting;
 mod stopping;
 
-pub use node_hosts::{
-    AnySigner, Event, EventFault, Host, Hosted, Hosts, Kit, LinkKeys, Running, Taken,
+pub use node_service::{
+    AnySigner, Event, EventFault, Host, Hosted, Hosts, Kit, LinkKeys, NoService, Note, Running,
+    Sending, Service, Taken,
 };
-pub use node_service::{NoService, Note, Sending, Service};
 pub use node_text::{LinkFault, Stop, push_drop, push_expel, push_fault, push_recv, push_refused};
 pub use opening::open;
 pub use stmt_codec::Outcome;

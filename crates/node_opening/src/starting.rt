@@ -14,7 +14,7 @@ ghost use Rattle.node_opening.specs.Reading.{Unread};
 
 use crate::stopping::stop_at;
 use journal_rp::{Header, Journal, Reading};
-use node_hosts::Kit;
+use node_service::Kit;
 use node_text::Stop;
 use rp_base::Disk;
 

@@ -5,7 +5,10 @@
 mod service;
 mod silent;
 
-pub use node_hosts::{AnySigner, Event, Hosted, Hosts, Kit};
+pub use node_hosts::{
+    AbsorbFault, AnySigner, Entry, Event, EventFault, Host, Hosted, Hosts, Kit, LinkKeys, Running,
+    Taken,
+};
 pub use service::Service;
 pub use silent::NoService;
 pub use stmt_codec::{Note, Sending};

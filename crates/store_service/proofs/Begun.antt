@@ -17,7 +17,7 @@ use Rattle.accounts.specs.declared.account.Account.{Account}
 use Rattle.stmt_codec.specs.declared.events.Delivered.{Delivered}
 use Rattle.node_service.specs.Histories.{Cast, Version, cast_of}
 use Rattle.node_service.specs.Words.{AreHosts, Core, IsCore, numbers_of}
-use Rattle.node_hosts.specs.declared.hosts.Hosts.{Hosts}
+use Rattle.node_service.specs.Hosts.{Hosts}
 use Rattle.store_server.specs.Places.{Secret, server_of}
 use Rattle.store_server.specs.Serving.{AreServers, IsServer, place_with}
 use Rattle.store_server.specs.declared.server.Server.{Server}

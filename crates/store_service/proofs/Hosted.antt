@@ -8,7 +8,7 @@ use Rattle.accounts.specs.Views.{account}
 use Rattle.accounts.specs.declared.account.Account.{Account}
 use Rattle.sig_scheme.specs.declared.any_signer.AnySigner.{AnySigner}
 use Rattle.sig_scheme.specs.Signers.{used}
-use Rattle.node_hosts.specs.Cores.{IsReal}
+use Rattle.node_service.specs.Hosts.{IsReal}
 use Rattle.node_service.specs.Histories.{Cast}
 use Rattle.node_service.specs.Words.{Core, Hosted, IsCore, IsHosted, core_of}
 use Rattle.store_service.proofs.Begun.{number-so, some-list, some-view}

@@ -2,7 +2,7 @@ use Rattle.std.proofs.Common.{◌≡◌, ◌++◌, ap, subst, ◌∙◌}
 use Rattle.std.specs.Prelude.{IsTrue}
 use Rattle.byte_defs.specs.Members.{has}
 use Rattle.rp_base.specs.PidsLeft.{pids_left}
-use Rattle.node_hosts.specs.Hosts.{numbers_of}
+use Rattle.node_service.specs.Hosts.{numbers_of}
 use Rattle.node_opening.proofs.Each.{all-told, is-one, lines_of, none-done, one-done, one-told}
 use Rattle.node_opening.proofs.greeting.host_lines.Goals as goal
 

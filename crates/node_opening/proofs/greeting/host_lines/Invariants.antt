@@ -3,7 +3,7 @@ use Rattle.kit_defs.specs.Kits.{Kit}
 use Rattle.group_defs.specs.Process.{Process}
 use Rattle.rp_base.specs.PidsLeft.{pids_left}
 use Rattle.node_defs.specs.Casts.{Cast}
-use Rattle.node_hosts.specs.Hosts.{AreHosts, numbers_of}
+use Rattle.node_service.specs.Hosts.{AreHosts, numbers_of}
 use Rattle.node_opening.proofs.Each.{IsAmong, lines_of}
 use Rattle.node_opening.proofs.greeting.host_lines.Given as goal
 
