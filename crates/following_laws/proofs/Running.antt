@@ -1,13 +1,13 @@
 -- Along a run a server follows its process, so what it signs is its process's.
-use Rattle.std.proofs.Common.{◌≡◌, ◌≢◌, ◌⊎◌, inl, inr, ℕ, suc, ◌<◌, List, [], ◌∷◌, ◌++◌, map, length, Option, Some, None, Bool, true, false, refl, sym, ap, ◌∙◌, subst, arith}
+use Rattle.std.proofs.Common.{◌≡◌, ◌≢◌, ◌⊎◌, inl, inr, ℕ, suc, ◌<◌, ◌≤◌, List, [], ◌∷◌, ◌++◌, map, length, Option, Some, None, Bool, true, false, refl, sym, ap, ◌∙◌, subst, arith}
 use Rattle.std.specs.Prelude.{if◌then◌else◌, ◌&&◌, ◌||◌, ◌==◌, nat_le, nat_lt, option_map, Contains}
 use Rattle.std.proofs.lemmas.Bool.{eqb-true, ltb-true}
 use Rattle.std.proofs.lemmas.List.{append_assoc}
 use Rattle.message_defs.specs.Statements.{Claim}
 use Rattle.group_defs.specs.Views.{View}
 use Rattle.group_defs.specs.Process.{Setting, Delivered, Process, start}
-use Rattle.group_defs.specs.Accounts.{Account, IsPrefixOf, account_of}
-use Rattle.group_defs.specs.Family.{Correct, end_of, ends, handed_to}
+use Rattle.group_defs.specs.Accounts.{Account, IsPrefixOf, account_of, group_of}
+use Rattle.group_defs.specs.Family.{Correct, accounts, end_of, ends, handed_to}
 use Rattle.group_defs.specs.Settle.{install}
 use Rattle.group_defs.specs.Events.{Delivers, Installs, Turn, after, note_if, outcome, run}
 use Rattle.pool_laws.proofs.Members.{All-mem, Contains-mem}
@@ -16,19 +16,21 @@ use Rattle.pool_laws.proofs.Tests.{and-first, and-second}
 use Rattle.safety_laws.proofs.GroupGrows.{run-append}
 use Rattle.safety_laws.proofs.Induction.{Keeps, run-keeps}
 use Rattle.safety_laws.proofs.Quorums.{in-ends}
-use Rattle.store_defs.specs.Stores.{Store, applied, store_bytes}
+use Rattle.store_defs.specs.Stores.{Store, applied, store_after, store_bytes}
 use Rattle.store_defs.specs.Records.{Reply, StateRecord, reply_body, state_body}
 use Rattle.store_defs.specs.Transfers.{Transfer, new_transfer, transfer_after}
-use Rattle.store_defs.specs.Holding.{Beginning, Gives, Replies, genesis, holds, payloads_of, store_at}
+use Rattle.store_defs.specs.Holding.{Beginning, Gives, Replies, genesis, holds, payloads_of, store_at, store_below}
 use Rattle.store_defs.specs.Serving.{Given, Grammar, Held, Known, NoState, NoStateLeaf, OfferWord, OtherView, Place, Ready, Server, Stranger, TakenSoFar, Unsigned, after_message, after_note, after_notes, after_offer, after_view, held, offer_word, position_at, server_of, signed_state, state_given, unsigned_state}
 use Rattle.store_defs.specs.Words.{Give, State, StateKey}
 use Rattle.store_defs.specs.Services.{worded}
 use Rattle.store_defs.specs.Laws.{Begins, Follows, MadeReply, MadeState, ServicePremises, Services, TookIn}
 use Rattle.store_laws.proofs.Following.{begins_following, turn_follows}
+use Rattle.store_laws.proofs.Holding as laws
+use Rattle.store_laws.proofs.Joining.{right}
 use Rattle.store_laws.proofs.Leaves.{one_reply_per_leaf, one_state_per_leaf}
 use Rattle.following_laws.specs.Laws.{Collects, FollowsOffers, OpensPlaces, with_offer}
-use Rattle.following_laws.specs.Runs.{Happens, Moment, RunGives, RunReplies, RunsGiveOnce, RunsReplyOnce, Says, ServedRun, Step, WritesReply, WritesState, after_step, begin, reached, turns_in}
-use Rattle.following_laws.proofs.Growing.{Extends, as-it-is, gives_stay, keeps, on-along, replies_stay}
+use Rattle.following_laws.specs.Runs.{Happens, Moment, RunGives, RunHolds, RunReplies, RunsGiveOnce, RunsReplyOnce, Says, ServedRun, Step, WritesReply, WritesState, after_step, begin, reached, turns_in}
+use Rattle.following_laws.proofs.Growing.{Extends, as-it-is, gives_stay, holds-is, keeps, on-along, replies_stay, store-is}
 use Rattle.following_laws.proofs.Turns.{TurnSo, turn-so}
 use Rattle.following_laws.proofs.Replying.{notes-more, quiet-stays, turn_opens_places, turn_replies}
 use Rattle.following_laws.proofs.Offering.{last-kept, offer_follows}
@@ -485,3 +487,58 @@ pub runs_give_once : RunsGiveOnce
 runs_give_once sv c q q' steps steps' it that group r r' premises in_ w w' view =
     run-state-once sv premises c in_ group r r' (run_gives sv c q steps it r premises.family.first w)
     (run_gives sv c q' steps' that r' premises.family.first w') view
+
+-- ---- the store of a server
+
+module _ (sv : Services) (c : Correct) (q : Place) (steps front rest : List Step) (it : ServedRun sv c q steps) (premises : ServicePremises sv)
+    (in_ : Contains sv.family.correct c) (parts : steps ≡ front ++ rest) where
+  abbrev first_view : sv.family.setting.genesis.number ≡ 0
+  first_view = premises.family.first
+
+  abbrev held_at : Moment
+  held_at = at sv c q steps it first_view front
+
+  serves_then : Serves sv q held_at
+  serves_then = serves-at sv c q steps it first_view front rest parts
+
+  abbrev from : Beginning
+  from = serves_then.beginning
+
+  abbrev number : ℕ
+  number = held_at.process.pool.view.number
+
+  abbrev at_end : Process
+  at_end = run sv.family.setting held_at.process (turns_in rest ++ it.later)
+
+  on : Extends held_at.process at_end
+  on = on-along sv.family.setting held_at.process (turns_in rest ++ it.later)
+
+  last : end_of sv.family.setting c ≡ at_end
+  last = end-is sv c q steps it first_view front rest parts
+
+  low : number ≤ length held_at.process.left
+  low = let same = serves_then.numbered in omega (arith, same)
+
+  begun-right : from.store ≡ store_below (group_of (accounts sv.family)) from.view
+  begun-right = right sv premises c (Contains-mem sv.family.correct c in_) from
+      (subst (λ (n : ℕ). Begins sv n from) (sym (ap (λ (p : Process). p.me) last ∙ on.me)) (begins sv held_at.process.me from serves_then.from))
+
+  store-right : (held_so : holds (account_of held_at.process) from number ≡ true)
+      → store_at (account_of held_at.process) from number ≡ store_below (group_of (accounts sv.family)) number
+  store-right held_so =
+      let begun = serves_then.follows.begun in
+      sym (store-is held_at.process at_end on from number low begun)
+      ∙ ap (λ (p : Process). store_at (account_of p) from number) (sym last)
+      ∙ laws.store-is sv.family premises.family c (Contains-mem sv.family.correct c in_) from begun-right number
+      (ap (λ (p : Process). holds (account_of p) from number) last ∙ holds-is held_at.process at_end on from number low begun ∙ held_so)
+
+  holds-right : (t : Store) → held_at.server.store ≡ Some t
+      → t ≡ store_after (store_below (group_of (accounts sv.family)) number) (payloads_of held_at.process.delivered)
+  holds-right t e =
+      let so = held-is (holds (account_of held_at.process) from number)
+      (store_after (store_at (account_of held_at.process) from number) (payloads_of held_at.process.delivered)) t
+      (sym serves_then.follows.store ∙ e) in
+      so.1 ∙ ap (λ (s : Store). store_after s (payloads_of held_at.process.delivered)) (store-right so.0)
+
+pub run_holds : RunHolds
+run_holds sv c q steps front rest it t premises in_ parts e = holds-right sv c q steps front rest it premises in_ parts t e

@@ -1,11 +1,12 @@
 -- A run of a server: the events of its process, each told to it, and the words that a script has for it.
-use Rattle.std.specs.Prelude.{◌≡◌, ℕ, nat_lt, if◌then◌else◌, List, [], ◌∷◌, ◌++◌, length, Contains}
+use Rattle.std.specs.Prelude.{◌≡◌, ℕ, nat_lt, if◌then◌else◌, List, [], ◌∷◌, ◌++◌, length, Contains, Some}
 use Rattle.group_defs.specs.Process.{Setting, Delivered, Process, start}
-use Rattle.group_defs.specs.Accounts.{IsPrefixOf}
-use Rattle.group_defs.specs.Family.{Correct, end_of}
+use Rattle.group_defs.specs.Accounts.{IsPrefixOf, group_of}
+use Rattle.group_defs.specs.Family.{Correct, accounts, end_of}
 use Rattle.group_defs.specs.Events.{Note, Delivers, Turn, after, outcome, run}
 use Rattle.store_defs.specs.Records.{Reply, StateRecord, reply_body, state_body}
-use Rattle.store_defs.specs.Holding.{payloads_of}
+use Rattle.store_defs.specs.Stores.{Store, store_after}
+use Rattle.store_defs.specs.Holding.{payloads_of, store_below}
 use Rattle.store_defs.specs.Serving.{Given, Place, Server, Signed, ToldReply, after_notes, server_of, state_given, told_of}
 use Rattle.store_defs.specs.Words.{Word, Give, State, StateKey}
 use Rattle.store_defs.specs.Services.{worded}
@@ -129,3 +130,12 @@ RunsGiveOnce = (sv : Services) (c : Correct) (q q' : Place) (steps steps' : List
     (that : ServedRun sv c q' steps') (group : List ℕ) (r r' : StateRecord) → ServicePremises sv → Contains sv.family.correct c
     → WritesState sv.family.setting q (first it) steps r → WritesState sv.family.setting q' (first that) steps' r' → r.view ≡ r'.view
     → state_body group r ≡ state_body group r'
+
+-- And at each moment of a run, where its server has a store, this is the store after the group's whole sequences of the views below its own, and
+-- after what the process has delivered in its view so far.
+abbrev pub RunHolds : Type 0
+RunHolds = (sv : Services) (c : Correct) (q : Place) (steps front rest : List Step) (it : ServedRun sv c q steps) (t : Store) → ServicePremises sv
+    → Contains sv.family.correct c → steps ≡ front ++ rest
+    → let m = reached sv.family.setting q (first it) front in
+    m.server.store ≡ Some t
+    → t ≡ store_after (store_below (group_of (accounts sv.family)) m.process.pool.view.number) (payloads_of m.process.delivered)

@@ -2,7 +2,7 @@
 #![tactic(auto)]
 
 ghost use Rattle.following_laws.specs.Laws.{GivesStay, OfferFollows, RepliesStay, TurnOpensPlaces, TurnReplies};
-ghost use Rattle.following_laws.specs.Runs.{RunGives, RunReplies, RunsGiveOnce, RunsReplyOnce};
+ghost use Rattle.following_laws.specs.Runs.{RunGives, RunHolds, RunReplies, RunsGiveOnce, RunsReplyOnce};
 
 // ---- a turn
 
@@ -55,4 +55,10 @@ pub fn runs_reply_once()
 /// So have states of a correct process for one view.
 pub fn runs_give_once()
     ensures { RunsGiveOnce }
+{}
+
+/// The store of a server, at each moment of a run, is the store after the group's whole sequences of the views below its own, and after what
+/// its process has delivered in its view.
+pub fn run_holds()
+    ensures { RunHolds }
 {}

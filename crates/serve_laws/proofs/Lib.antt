@@ -1,0 +1,5 @@
+pub mod Opened
+pub mod Changing
+pub mod Along
+pub mod Telling
+pub mod Served
