@@ -10,9 +10,9 @@ ghost use Rattle.audit_words.specs.Running.{HasFindings, HasNoFindings, Unfound}
 ghost use Rattle.store_asking.specs.Answers as answers;
 ghost use Rattle.store_asking.specs.Answers.{AnsweredInPart, AsksNothing};
 ghost use Rattle.command_line.specs.Commands.{KitOrder, Replay, Chain, Gen, Keygen, Node, Guard, Serve, Ask, Audit};
-ghost use Rattle.guard_service.specs.Answers.{AreGuards};
+ghost use Rattle.guarding_laws.specs.Laws.{AreOfGuards};
 ghost use Rattle.store_defs.specs.Words.{most_state_line_bytes};
-ghost use Rattle.store_service.specs.Service.{AreServed};
+ghost use Rattle.serve_laws.specs.Laws.{ServesStore};
 ghost use Rattle.node_defs.specs.Lives.{Found};
 ghost use Rattle.node_defs.specs.Nodes.{Snapper};
 ghost use Rattle.node_traces.specs.Seen.{link_seen, sink_seen, source_seen};
@@ -31,8 +31,8 @@ use command_line::{Command, listed_in, read_command};
 use node_loop::{NoService, host};
 use replay_words::{Stop, run_gen, run_keygen, run_replay, tell};
 use rp_base::{Disk, Link, Sink, Source};
+use serve_laws::Servers;
 use std::alloc::Global;
-use store_service::Servers;
 
 /// The name of the file that is a node's journal: the word after `node`, `guard` or `serve`, and empty where the words ask for none of
 /// these.
@@ -89,16 +89,19 @@ pub fn rampart<S: Source, K: Sink, D: Disk, L: Link>(
         (link_seen L.sent L.coming L.faults link.new) (sink_seen K.written K.faults output.new) disk.new result }
 
     // guard, whatever the status: the same, but that its service answered each of these calls as a guard does: after a frame it names whom the
-    // frame shows and its process may expel, and by a line of its own a process sends the others what convicts one.
+    // frame shows and its process may expel, and by a line of its own a process sends the others what convicts one. So each hosted process is a
+    // guard of the definitions: one that was it by the entries that the run found is it by those that the journal holds then.
     ensures ended_guard { (file : List ℕ) → Asks words.now (Guard file) → (snap : Snapper) (f : Found)
-        → HasEndedWith AreGuards D.seen D.may_leave D.moment D.left_since snap most_line_bytes f (source_seen S.left S.faults input.old)
+        → HasEndedWith AreOfGuards D.seen D.may_leave D.moment D.left_since snap most_line_bytes f (source_seen S.left S.faults input.old)
         (link_seen L.sent L.coming L.faults link.old) (sink_seen K.written K.faults output.old) disk.old (S.left input.new) (S.faults input.new)
         (link_seen L.sent L.coming L.faults link.new) (sink_seen K.written K.faults output.new) disk.new result }
 
     // serve, whatever the status: the same, but that its service answered each of these calls as the servers of a store do, of which each
-    // hosted process has one: they write a reply after each message, and answer lines of their own. And their lines may be longer.
+    // hosted process has one: they write a reply after each message, and answer lines of their own. And their lines may be longer. So of each
+    // process that is a correct one of a family the laws of the store hold (`StoreLaws`): a reply is the store's answer, a leaf signs one body,
+    // and a joiner has the store of the group.
     ensures ended_serve { (file : List ℕ) → Asks words.now (Serve file) → (snap : Snapper) (f : Found)
-        → HasEndedWith (AreServed None) D.seen D.may_leave D.moment D.left_since snap most_state_line_bytes f
+        → HasEndedWith ServesStore D.seen D.may_leave D.moment D.left_since snap most_state_line_bytes f
         (source_seen S.left S.faults input.old)
         (link_seen L.sent L.coming L.faults link.old) (sink_seen K.written K.faults output.old) disk.old (S.left input.new) (S.faults input.new)
         (link_seen L.sent L.coming L.faults link.new) (sink_seen K.written K.faults output.new) disk.new result }
@@ -282,7 +285,7 @@ pub fn rampart<S: Source, K: Sink, D: Disk, L: Link>(
             output,
             disk,
             link,
-            &mut guard_service::Guard,
+            &mut guarding_laws::Guard,
         ),
         Some(Command::Serve(_)) => host(alloc, input, output, disk, link, &mut Servers::new(alloc)),
         None => tell(output, Stop::Words),

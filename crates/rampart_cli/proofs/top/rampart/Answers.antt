@@ -5,10 +5,12 @@ use Rattle.replay_defs.specs.Reports.{report_of}
 use Rattle.command_line.specs.Commands.{KitOrder, Replay, Gen, Keygen, Node, Guard, Serve, Ask, Audit}
 use Rattle.rp_base.specs.Streams.{AppendsPrefix}
 use Rattle.node_loop.specs.Inputs.{most_line_bytes}
-use Rattle.guard_service.specs.Answers.{AreGuards}
+use Rattle.guarding_laws.proofs.Runs.{are_of_guards}
+use Rattle.guarding_laws.specs.Laws.{AreGuards, AreOfGuards}
 use Rattle.store_defs.specs.Words.{most_state_line_bytes}
-use Rattle.store_service.specs.Served.{HasServed}
-use Rattle.store_service.specs.Service.{AreServed}
+use Rattle.serve_laws.specs.Services.{HasServed}
+use Rattle.serve_laws.specs.Laws.{ServesStore}
+use Rattle.serve_laws.proofs.Served.{histories_serve}
 use Rattle.chain_laws.proofs.Told.{answer_tells_views}
 use Rattle.audit_words.specs.Running.{Found, FoundInPart, HasFindings, HasNoFindings, Unfound}
 use Rattle.node_traces.specs.Seen.{link_seen, sink_seen, source_seen}
@@ -139,7 +141,7 @@ returns-in-Some-Guard-clause-link g c = λ no_host. absurd (no_host (_, inr (inl
 
 pub returns-in-Some-Guard-clause-ended_guard : goal.returns-in-Some-Guard-clause-ended_guard
 returns-in-Some-Guard-clause-ended_guard g c = λ file asks snap f.
-    with_service AreGuards (λ _ h. AreGuards h) (λ _ h are. are) 70000 most_line_bytes guard_limit
+    with_service AreOfGuards (λ _ h. AreGuards h) (λ _ h are. are_of_guards h are) 70000 most_line_bytes guard_limit
     g.D.Disk.seen g.D.Disk.may_leave g.D.Disk.moment g.D.Disk.left_since snap f (source_seen g.S.Source.left g.S.Source.faults c.args.input.now)
     (link_seen g.L.Link.sent g.L.Link.coming g.L.Link.faults c.args.link.now) (sink_seen g.K.Sink.written g.K.Sink.faults c.args.output.now)
     c.args.disk.now (g.S.Source.left c.host-in-Some-Guard.new.input) (g.S.Source.faults c.host-in-Some-Guard.new.input)
@@ -186,7 +188,7 @@ returns-in-Some-Serve-clause-link g c = λ no_host. absurd (no_host (_, inr (inr
 
 pub returns-in-Some-Serve-clause-ended_serve : goal.returns-in-Some-Serve-clause-ended_serve
 returns-in-Some-Serve-clause-ended_serve g c = λ file asks snap f.
-    with_service (AreServed None) (λ v h. HasServed v h) (λ _ h are. are.answered) most_state_line_bytes most_state_line_bytes serve_limit
+    with_service ServesStore (λ v h. HasServed v h) (λ _ h are. histories_serve h are.answered) most_state_line_bytes most_state_line_bytes serve_limit
     g.D.Disk.seen g.D.Disk.may_leave g.D.Disk.moment g.D.Disk.left_since snap f (source_seen g.S.Source.left g.S.Source.faults c.args.input.now)
     (link_seen g.L.Link.sent g.L.Link.coming g.L.Link.faults c.args.link.now) (sink_seen g.K.Sink.written g.K.Sink.faults c.args.output.now)
     c.args.disk.now (g.S.Source.left c.host-in-Some-Serve.new.input) (g.S.Source.faults c.host-in-Some-Serve.new.input)
