@@ -9,6 +9,7 @@ mod orders;
 mod payloads;
 
 pub use commands::{Command, listed_in, payload_in, read_command};
+pub use listed::read_listed;
 pub use orders::KitOrder;
 
 /// The command that is read of words is the one whose words they are, in its ranges, and no other words give it.

@@ -28,7 +28,7 @@ fn rising(words: &[String]) -> Option<PidSet>
 }
 
 /// The processes whose numbers the words spell, one at least, by rising numbers up to 63; None exactly where the words are others.
-pub(crate) fn read_listed(words: &[String]) -> Option<PidSet>
+pub fn read_listed(words: &[String]) -> Option<PidSet>
     ensures { result ≡ listed_of (map string_bytes words.now) }
 {
     if words.is_empty() {

@@ -1,0 +1,86 @@
+-- A command is read of the words that spell it, and of no others.
+use Rattle.std.proofs.Common.{◌≡◌, ℕ, Bool, true, false, ◌==◌, List, [], ◌∷◌, length, map, codes, Option, Some, None, IfSome, option_map, refl, sym, ap, subst, ◌∙◌, arith}
+use Rattle.std.specs.Prelude.{if◌then◌else◌, ◌&&◌}
+use Rattle.std.specs.Fmt.{decimal}
+use Rattle.std.proofs.lemmas.Bool.{eqb-true}
+use Rattle.byte_defs.specs.Equality.{same_bytes}
+use Rattle.text_defs.proofs.Choosing.{if_some, map_some, some_is}
+use Rattle.text_defs.proofs.Tests.{and_true, word_is}
+use Rattle.command_line.specs.Commands.{AreListed, Audit}
+use Rattle.command_line.specs.Laws.{CommandIsSpelled}
+use Rattle.command_line.specs.Reading.{listed_of}
+use Rattle.witness_cli.specs.declared.commands.Command as code
+use Rattle.witness_cli.specs.declared.commands.Command.TheVariants as asked
+use Rattle.witness_cli.specs.Commands.{AsksBy, Command, Convict, Judge, command, command_of}
+
+module _ (law : CommandIsSpelled) where
+  -- the processes of an audit are read of the words that spell them, and of no others
+  tail-is : (xs ys : List (List ℕ)) → codes "audit" ∷ xs ≡ codes "audit" ∷ ys → xs ≡ ys
+  tail-is xs ys e = cc
+
+  listed-found : (words : List (List ℕ)) (listed : List ℕ) → listed_of words ≡ Some listed → (words ≡ map decimal listed) × AreListed listed
+  listed-found words listed e =
+      let asks = (law (codes "audit" ∷ words) (Audit listed)).0 (ap (option_map Audit) e) in
+      (tail-is words (map decimal listed) asks.spelled, asks.fits)
+
+  audit-is : (a b : List ℕ) → Audit a ≡ Audit b → a ≡ b
+  audit-is a b e = cc
+
+  listed-spelled : (listed : List ℕ) → AreListed listed → listed_of (map decimal listed) ≡ Some listed
+  listed-spelled listed are =
+      let e = (law (codes "audit" ∷ map decimal listed) (Audit listed)).1 (record { fits = are; spelled = refl }) in
+      let read = map_some Audit (listed_of (map decimal listed)) (Audit listed) e in
+      read.1 ∙ ap (λ (ps : List ℕ). let o : Option (List ℕ) = Some ps in o) (audit-is read.0 listed read.2)
+
+  empty-is : (xs : List (List ℕ)) → length xs ≡ 0 → xs ≡ []
+  empty-is [] e = refl
+  empty-is (x ∷ xs) e = absurd (omega (arith, e))
+
+  found : (words : List (List ℕ)) (c : Command) → command_of words ≡ Some c → AsksBy words c
+  found [] c e = absurd cc
+  found (word ∷ further) c e = of (same_bytes word (codes "convict")) refl e
+    where
+      judges : (if same_bytes word (codes "judge") && (length further == 0) then Some Judge else None) ≡ Some c → AsksBy (word ∷ further) c
+      judges e =
+          let tested = if_some (same_bytes word (codes "judge") && (length further == 0)) (Some Judge) c e in
+          let both = and_true (same_bytes word (codes "judge")) (length further == 0) tested.0 in
+          let none = empty-is further (eqb-true (length further) 0 both.1) in
+          subst (AsksBy (word ∷ further)) (some_is Judge c tested.1)
+          (record { fits = tt; spelled = λ i. word_is word (codes "judge") both.0 i ∷ none i })
+
+      of : (is : Bool) → same_bytes word (codes "convict") ≡ is
+          → (if is then option_map Convict (listed_of further) else
+          (if same_bytes word (codes "judge") && (length further == 0) then Some Judge else None)) ≡ Some c → AsksBy (word ∷ further) c
+      of true is e =
+          let read = map_some Convict (listed_of further) c e in
+          let listed = listed-found further read.0 read.1 in
+          subst (AsksBy (word ∷ further)) read.2
+          (record { fits = listed.1; spelled = λ i. word_is word (codes "convict") is i ∷ listed.0 i })
+      of false is e = judges e
+
+  spelled : (c : Command) (words : List (List ℕ)) → AsksBy words c → command_of words ≡ Some c
+  spelled (Convict listed) words asks = ap command_of asks.spelled ∙ ap (option_map Convict) (listed-spelled listed asks.fits)
+  spelled Judge words asks = ap command_of asks.spelled
+
+  -- ---- what a reader promises
+
+  pub asks-of : {C : Type 0} (view : C → Command) (words : List (List ℕ)) (o : Option C) → option_map view o ≡ command_of words
+      → IfSome o (λ c. AsksBy words (view c))
+  asks-of view words None e = tt
+  asks-of view words (Some c) e = found words (view c) (sym e)
+
+  pub asked-only : (words : List (List ℕ)) (o : Option Command) → o ≡ command_of words → (c : Command) → AsksBy words c → o ≡ Some c
+  asked-only words o e c asks = e ∙ spelled c words asks
+
+-- ---- what was asked is what was read
+
+pub never : {P : Type 0} (c : Command) → (let o : Option Command = None in o) ≡ Some c → P
+never c e = absurd cc
+
+convict-is : (l m : List ℕ) → Convict l ≡ Convict m → l ≡ m
+convict-is l m e = cc
+
+pub same-listed : (c : code.Command) (l m : List ℕ) → c ≡ asked.Convict l → option_map command (Some c) ≡ Some (Convict m) → l ≡ m
+same-listed c l m is e =
+    convict-is l m (some_is (Convict l) (Convict m)
+    (sym (ap (λ (x : code.Command). let o : Option Command = Some (command x) in o) is) ∙ e))

@@ -1,0 +1,53 @@
+use Rattle.std.proofs.Common.{ℕ, List, sym, subst}
+use Rattle.witness_cli.specs.Commands.{Convict, Judge}
+use Rattle.witness_words.specs.Running.{Convicted, ConvictedInPart, HasFindings, HasNoFindings, Unconvicted}
+use Rattle.witness_cli.proofs.Asking.{never, same-listed}
+use Rattle.witness_cli.proofs.top.witness.Goals as goal
+
+pub returns-in_default-clause-convicts : goal.returns-in_default-clause-convicts
+returns-in_default-clause-convicts g c = λ listed asks has calm calm_sink. never (Convict listed) (c.in_default.ensures.only (Convict listed) asks)
+
+pub returns-in_default-clause-convicts_not : goal.returns-in_default-clause-convicts_not
+returns-in_default-clause-convicts_not g c = λ listed status asks none calm. never (Convict listed) (c.in_default.ensures.only (Convict listed) asks)
+
+pub returns-in_default-clause-takes : goal.returns-in_default-clause-takes
+returns-in_default-clause-takes g c = λ asks has calm. never Judge (c.in_default.ensures.only Judge asks)
+
+pub returns-in_default-clause-takes_not : goal.returns-in_default-clause-takes_not
+returns-in_default-clause-takes_not g c = λ asks has calm. never Judge (c.in_default.ensures.only Judge asks)
+
+pub returns-in-Convict-clause-convicted : goal.returns-in-Convict-clause-convicted
+returns-in-Convict-clause-convicted g c = λ listed asks zero.
+    subst (λ (l : List ℕ). Convicted l (g.S.Source.left c.args.input.now) (g.S.Source.left c.convict.new.input)
+    (g.K.Sink.written c.args.output.now) (g.K.Sink.written c.convict.new.output))
+    (same-listed c.in-Some.command c.in-Convict.listed listed c.in-Convict.is (c.in-Some.ensures.only (Convict listed) asks))
+    (c.convict.ensures.convicted zero)
+
+pub returns-in-Convict-clause-part : goal.returns-in-Convict-clause-part
+returns-in-Convict-clause-part g c = λ listed asks four.
+    subst (λ (l : List ℕ). ConvictedInPart l (g.S.Source.left c.args.input.now) (g.S.Source.left c.convict.new.input)
+    (g.K.Sink.written c.args.output.now) (g.K.Sink.written c.convict.new.output))
+    (same-listed c.in-Some.command c.in-Convict.listed listed c.in-Convict.is (c.in-Some.ensures.only (Convict listed) asks))
+    (c.convict.ensures.part four)
+
+pub returns-in-Convict-clause-stops : goal.returns-in-Convict-clause-stops
+returns-in-Convict-clause-stops g c = λ listed asks which.
+    subst (λ (l : List ℕ). Unconvicted l c.convict.result (g.S.Source.left c.args.input.now) (g.S.Source.left c.convict.new.input)
+    (g.K.Sink.written c.args.output.now) (g.K.Sink.written c.convict.new.output)
+    (g.K.Sink.faults c.args.output.now) (g.K.Sink.faults c.convict.new.output))
+    (same-listed c.in-Some.command c.in-Convict.listed listed c.in-Convict.is (c.in-Some.ensures.only (Convict listed) asks))
+    (c.convict.ensures.stops which)
+
+pub returns-in-Convict-clause-convicts : goal.returns-in-Convict-clause-convicts
+returns-in-Convict-clause-convicts g c = λ listed asks has calm calm_sink.
+    c.convict.ensures.completes
+    (subst (λ (l : List ℕ). HasFindings l (g.S.Source.left c.args.input.now))
+    (sym (same-listed c.in-Some.command c.in-Convict.listed listed c.in-Convict.is (c.in-Some.ensures.only (Convict listed) asks))) has)
+    calm calm_sink
+
+pub returns-in-Convict-clause-convicts_not : goal.returns-in-Convict-clause-convicts_not
+returns-in-Convict-clause-convicts_not g c = λ listed status asks none calm.
+    c.convict.ensures.refuses status
+    (subst (λ (l : List ℕ). HasNoFindings l status (g.S.Source.left c.args.input.now))
+    (sym (same-listed c.in-Some.command c.in-Convict.listed listed c.in-Convict.is (c.in-Some.ensures.only (Convict listed) asks))) none)
+    calm

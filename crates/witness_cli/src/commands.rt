@@ -1,0 +1,41 @@
+//! What the words behind the program's name ask for.
+ghost use Rattle.std.specs.Prelude.{◌≡◌, ℕ, List, Some, IfSome, map, option_map, string_bytes};
+ghost use Rattle.witness_cli.specs.Commands as plain;
+ghost use Rattle.witness_cli.specs.Commands.{Asks, command, command_of as command_by};
+
+use command_line::{command_is_spelled, read_listed};
+use rp_base::PidSet;
+
+/// What the words ask for.
+#[derive(Clone, Copy)]
+pub(crate) enum Command {
+    /// Evidence against whom journals convict, with these processes taken as correct.
+    Convict(PidSet),
+
+    /// A verdict on evidence.
+    Judge,
+}
+
+fn of_words(words: &[String]) -> Option<Command>
+    ensures { option_map command result ≡ command_by (map string_bytes words.now) }
+{
+    let Some((word, further)) = words.split_first() else {
+        return None;
+    };
+    if word.as_bytes() == b"convict".as_slice() {
+        Some(Command::Convict(read_listed(further)?))
+    } else if word.as_bytes() == b"judge".as_slice() && further.is_empty() {
+        Some(Command::Judge)
+    } else {
+        None
+    }
+}
+
+/// The command that the words ask for; None exactly where they ask for none.
+pub(crate) fn command_of(words: &[String]) -> Option<Command>
+    ensures found { IfSome result (λ c. Asks words.now (command c)) }
+    ensures only { (c : plain.Command) → Asks words.now c → option_map command result ≡ Some c }
+{
+    command_is_spelled();
+    of_words(words)
+}

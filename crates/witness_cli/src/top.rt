@@ -1,0 +1,97 @@
+//! Each word to its end.
+ghost use Rattle.std.specs.Prelude.{◌≡◌, ◌≢◌, ◌↔◌, ◌⊎◌, ℕ, List, codes};
+ghost use Rattle.std.specs.Io.KnownBytes.{Keeps};
+ghost use Rattle.rp_base.specs.Causes.{Rose};
+ghost use Rattle.rp_base.specs.Streams.{Says};
+ghost use Rattle.witness_cli.specs.Commands.{AskAny, Asks, Convict, Judge};
+ghost use Rattle.witness_words.specs.Running.{Convicted, ConvictedInPart, HasFindings, HasNoFindings, IsRefused, IsTaken, Refused, Takes, Unconvicted};
+
+use crate::commands::{Command, command_of};
+use rp_base::{Sink, Source, write_all};
+use std::alloc::Global;
+use witness_words::{convict, judge};
+
+/// The status where the words are no command.
+const WORDS: u8 = 2;
+
+/// The whole program: `words` are those behind the program's name, and the answer is the status that it ends with. On standard error,
+/// `errors`, it tells that the words are none.
+pub fn witness<S: Source, K: Sink, E: Sink>(
+    alloc: Global,
+    words: &[String],
+    input: &mut S,
+    output: &mut K,
+    errors: &mut E,
+) -> u8
+    // convict, 0: the input was read to its end, and a line of evidence for each whom an audit of it convicts was written, and nothing else;
+    // `judge` takes these lines behind any kit of the same keys.
+    ensures convicted { (listed : List ℕ) → Asks words.now (Convict listed) → result ≡ 0
+        → Convicted listed (S.left input.old) (S.left input.new) (K.written output.old) (K.written output.new) }
+
+    // judge, 0: the input was read to its end, all evidence in it is taken, and nothing was written.
+    ensures taken { Asks words.now Judge → result ≡ 0 → Takes (S.left input.old) (S.left input.new) }
+    ensures mute { Asks words.now Judge → result ≡ 0 → Keeps (K.written output.old) (K.written output.new) }
+
+    // 0: nothing failed.
+    ensures steady { result ≡ 0
+        → (S.faults input.new ≡ S.faults input.old) × (K.faults output.new ≡ K.faults output.old) }
+
+    // 1: no memory is left, or judge has read 2^64 - 2 lines; nothing was written.
+    ensures silent { result ≡ 1 → Keeps (K.written output.old) (K.written output.new) }
+
+    // 2: exactly where the words are no command; nothing was read, and nothing written but the line that says so, on standard error.
+    ensures words { (result ≡ 2) ↔ (¬ AskAny words.now) }
+    ensures unread { result ≡ 2 → (input.new ≡ input.old) × (output.new ≡ output.old) }
+    ensures words_line { result ≡ 2 → Says (codes "stop 2 words\n")
+        (E.written errors.old) (E.written errors.new) (E.faults errors.old) (E.faults errors.new) }
+    ensures quiet { result ≢ 2 → errors.new ≡ errors.old }
+
+    // 3: only where the source failed.
+    ensures read { result ≡ 3 → Rose (S.faults input.old) (S.faults input.new) }
+    ensures read_line { result ≡ 3 → Says (codes "stop 3 read\n")
+        (K.written output.old) (K.written output.new) (K.faults output.old) (K.faults output.new) }
+
+    // 4: only by convict, where the sink failed; a prefix of the lines was written and nothing else.
+    ensures write { result ≡ 4 → Rose (K.faults output.old) (K.faults output.new) }
+    ensures part { (listed : List ℕ) → Asks words.now (Convict listed) → result ≡ 4
+        → ConvictedInPart listed (S.left input.old) (S.left input.new) (K.written output.old) (K.written output.new) }
+
+    // convict, 7 and 8: what was read has no findings, for a reason of this status, and the line that says why was written and nothing else.
+    ensures stops { (listed : List ℕ) → Asks words.now (Convict listed) → (result ≡ 7) ⊎ (result ≡ 8)
+        → Unconvicted listed result (S.left input.old) (S.left input.new)
+        (K.written output.old) (K.written output.new) (K.faults output.old) (K.faults output.new) }
+
+    // judge, 7: what was read is not taken, and the line that says why was written and nothing else.
+    ensures refused { Asks words.now Judge → result ≡ 7 → Refused (S.left input.old) (S.left input.new)
+        (K.written output.old) (K.written output.new) (K.faults output.old) (K.faults output.new) }
+
+    // 4, 7, 8: no read failed.
+    ensures whole { (result ≡ 4) ⊎ (result ≡ 7) ⊎ (result ≡ 8) → S.faults input.new ≡ S.faults input.old }
+
+    // convict: an input of which something is found gives 0, and one of which nothing is found the status of the reason, where memory is left
+    // and nothing failed.
+    ensures convicts { (listed : List ℕ) → Asks words.now (Convict listed) → HasFindings listed (S.left input.old)
+        → ¬ Rose (S.faults input.old) (S.faults input.new) → ¬ Rose (K.faults output.old) (K.faults output.new)
+        → (result ≡ 0) ⊎ (result ≡ 1) }
+    ensures convicts_not { (listed : List ℕ) (status : ℕ) → Asks words.now (Convict listed) → HasNoFindings listed status (S.left input.old)
+        → ¬ Rose (S.faults input.old) (S.faults input.new)
+        → (result ≡ status) ⊎ (result ≡ 1) }
+
+    // judge: an input of which all is taken gives 0, and another one 7, where memory is left and no read failed.
+    ensures takes { Asks words.now Judge → IsTaken (S.left input.old) → ¬ Rose (S.faults input.old) (S.faults input.new)
+        → (result ≡ 0) ⊎ (result ≡ 1) }
+    ensures takes_not { Asks words.now Judge → IsRefused (S.left input.old) → ¬ Rose (S.faults input.old) (S.faults input.new)
+        → (result ≡ 7) ⊎ (result ≡ 1) }
+
+    // No other status comes; 8 only by convict.
+    ensures only { (result ≡ 0) ⊎ (result ≡ 1) ⊎ (result ≡ 2) ⊎ (result ≡ 3) ⊎ (result ≡ 4) ⊎ (result ≡ 7) ⊎ (result ≡ 8) }
+{
+    let Some(command) = command_of(words) else {
+        let _ = write_all(errors, b"stop 2 words\n");
+        return WORDS;
+    };
+    match command {
+        Command::Convict(listed) => convict(alloc, listed, input, output),
+        Command::Judge => judge(alloc, input, output),
+    }
+}
