@@ -74,12 +74,12 @@ first-at {A} g a (suc n) r y none is le lt =
         apart-less : (m n : ℕ) → m ≤ n → (m ≡ n → ⊥) → m < n
         apart-less m n le other = omega (arith, le, other)
 
-rising-tail : (n : ℕ) (ns : List ℕ) → IsStrictlyIncreasing (n ∷ ns) → IsStrictlyIncreasing ns
+pub rising-tail : (n : ℕ) (ns : List ℕ) → IsStrictlyIncreasing (n ∷ ns) → IsStrictlyIncreasing ns
 rising-tail n ns up k lt =
     let next : suc k + 1 ≡ suc (k + 1) = omega arith in
     subst (λ j. slice_index ns k < slice_index (n ∷ ns) j) next (up (suc k) (omega (arith, lt)))
 
-rising-above : (n : ℕ) (ns : List ℕ) → IsStrictlyIncreasing (n ∷ ns) → (m : ℕ) → Mem m ns → n < m
+pub rising-above : (n : ℕ) (ns : List ℕ) → IsStrictlyIncreasing (n ∷ ns) → (m : ℕ) → Mem m ns → n < m
 rising-above n [] up m there = absurd there
 rising-above n (k ∷ ks) up m there =
     let first : n < k = up 0 (omega arith) in
@@ -196,7 +196,7 @@ module _ (s : Setting) (v : View) (l : LeftView) (view : IsView v) (is : IsLeft 
 
 -- ---- each view after the other
 
-follows : (s : Setting) (v : View) (l : LeftView) → IsView v → IsLeft s v l → IsView (next_view v l.value.update)
+pub follows : (s : Setting) (v : View) (l : LeftView) → IsView v → IsLeft s v l → IsView (next_view v l.value.update)
 follows s v l view is = next_is_view v l.value.update
     (none-is (next_fault v l.value.update) (and-first (is_none (next_fault v l.value.update)) (has_keys (keyed s) l.value.update) is.possible)) view
 

@@ -17,15 +17,15 @@ use Rattle.chain_laws.specs.Told.{AnswerTellsViews, IsEnd, IsQuoted, proofs_behi
 use Rattle.chain_laws.proofs.Agreeing.{chain_is_installed, chain_is_of_all, genesis_is_installed, genesis_is_of_all}
 
 -- the lines of these views, and an end
-record Tells (a : Answer) (views : List View) : Type 0 where
-  end : Answer
-  ends : IsEnd end
-  is : a ≡ behind (flat_map view_line views) end
+pub record Tells (a : Answer) (views : List View) : Type 0 where
+  pub end : Answer
+  pub ends : IsEnd end
+  pub is : a ≡ behind (flat_map view_line views) end
 
 stops : (words : List (List ℕ)) → Tells (stopped words) []
 stops words = record { end = stopped words; ends = inr (words, refl); is = refl }
 
-one-more : (v : View) (a : Answer) (views : List View) → Tells a views → Tells (behind (view_line v) a) (v ∷ views)
+pub one-more : (v : View) (a : Answer) (views : List View) → Tells a views → Tells (behind (view_line v) a) (v ∷ views)
 one-more v a views t = record {
   end = t.end;
   ends = t.ends;
@@ -34,7 +34,7 @@ one-more v a views t = record {
 }
 
 module _ (s : Setting) where
-  tells-at : (n : ℕ) (v : View) (parts : List (List ℕ)) → Tells (chain_at s n v parts) (views_shown s v (proofs_in parts))
+  pub tells-at : (n : ℕ) (v : View) (parts : List (List ℕ)) → Tells (chain_at s n v parts) (views_shown s v (proofs_in parts))
   unfolding chain_at views_shown proofs_in
   tells-at n v [] = record { end = done; ends = inl refl; is = refl }
   tells-at n v (rest ∷ []) = of (length rest == 0)
