@@ -1,0 +1,5 @@
+use Rattle.store_text_rows.proofs.Rows as laws
+use Rattle.store_text_rows.proofs.each_state.Goals as goal
+
+pub returns : goal.returns
+returns c = laws.each_state
