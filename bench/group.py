@@ -110,7 +110,7 @@ def told(name, seconds, count):
 
 def of_rampart(words):
     folder = tempfile.mkdtemp(prefix="bench-group-", dir=words.folder)
-    them = Group(argparse.Namespace(program=words.program, tick=1, folder=folder, seed=1, n=4, keys="plain:100000", direct=True, loss=0, twice=0, late=0))
+    them = Group(argparse.Namespace(program=words.program, tick=1, folder=folder, seed=1, n=4, keys="plain:100000", guards=False, direct=True, loss=0, twice=0, late=0))
     try:
         them.open()
         them.send(0, 1)

@@ -4,7 +4,7 @@
 # their bytes. The files lie in a folder of their own under the first word, or under the temporary folder. Run it from any folder,
 # with `rt` in the path.
 cd "$(dirname "$0")/../crates/bench" || exit 1
-rt run >/dev/null 2>&1 || { echo 'bench is not built' >&2; exit 1; }
+rt run <stdin >/dev/null 2>&1 || { echo 'bench is not built' >&2; exit 1; }
 program=$PWD/out/bench
 folder=$(mktemp -d "${1:-${TMPDIR:-/tmp}}/bench_journal.XXXXXX") && cd "$folder" || exit 1
 "$program" journal | awk '

@@ -7,7 +7,7 @@
 set -eu
 top=$(cd "$(dirname "$0")/.." && pwd)
 cd "$top/crates/bench"
-rt run >/dev/null 2>&1 || { echo 'bench is not built' >&2; exit 1; }
+rt run <stdin >/dev/null 2>&1 || { echo 'bench is not built' >&2; exit 1; }
 "$top/rampart" --prove
 folder=$(mktemp -d "${1:-${TMPDIR:-/tmp}}/bench_node.XXXXXX")
 trap 'rm -rf "$folder"' EXIT

@@ -7,7 +7,7 @@
 set -eu
 here=$(cd "$(dirname "$0")" && pwd)
 cd "$here/../crates/bench"
-rt run >/dev/null 2>&1 || { echo 'bench is not built' >&2; exit 1; }
+rt run <stdin >/dev/null 2>&1 || { echo 'bench is not built' >&2; exit 1; }
 PYTHONPATH=$here python3 - <<'PY'
 import subprocess
 

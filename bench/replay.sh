@@ -5,7 +5,7 @@
 set -eu
 top=$(cd "$(dirname "$0")/.." && pwd)
 cd "$top/crates/bench"
-rt run >/dev/null 2>&1 || { echo 'bench is not built' >&2; exit 1; }
+rt run <stdin >/dev/null 2>&1 || { echo 'bench is not built' >&2; exit 1; }
 work=$(mktemp -d)
 trap 'rm -rf "$work"' EXIT
 "$top/rampart" --prove

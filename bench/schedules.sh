@@ -3,7 +3,7 @@
 # the window and out of it, and millions of Ticks a minute; and how long `gen 1` takes. Run it from any folder, with `rt` in the path.
 top=$(cd "$(dirname "$0")/.." && pwd)
 cd "$top/crates/bench" || exit 1
-rt run >/dev/null 2>&1 || { echo 'bench is not built' >&2; exit 1; }
+rt run <stdin >/dev/null 2>&1 || { echo 'bench is not built' >&2; exit 1; }
 spent() { { time -p "$@" >/dev/null; } 2>&1 | awk '/^user|^sys/ { sum += $2 } END { print sum + 0.001 }'; }
 pieces=20000
 for what in submits copy; do

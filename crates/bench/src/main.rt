@@ -10,6 +10,7 @@ mod schedules;
 
 use anyhow::{Error, Result};
 use group_measures::{cores, replay};
+use net_edge::StdSource;
 use std::env;
 use std::process::ExitCode;
 
@@ -18,7 +19,7 @@ const OTHER_WORD: u8 = 2;
 
 const WORDS: &str =
     "lms, link, journal, bare BYTES TIMES, frames GROUPS TIMES, schedules submits|ticks|copy PIECES, pool CLAIMS, core MEMBERS HUNDREDS, \
-     or replay FILE [times]";
+     replay FILE [times], or audit [alone] over the input of `rampart audit`";
 
 /// What is measured.
 #[derive(Clone, Copy)]
@@ -32,6 +33,7 @@ enum Measure {
     Pool,
     Core,
     Replay,
+    Audit,
 }
 
 impl Measure {
@@ -47,6 +49,7 @@ impl Measure {
             "pool" => Some(Measure::Pool),
             "core" => Some(Measure::Core),
             "replay" => Some(Measure::Replay),
+            "audit" => Some(Measure::Audit),
             _ => None,
         }
     }
@@ -63,11 +66,12 @@ impl Measure {
             Measure::Pool => pool_measures::times_of(rt, words),
             Measure::Core => cores::times_of(rt, words),
             Measure::Replay => replay::count_in(rt, words),
+            Measure::Audit => audit_measures::times_of(rt, &mut StdSource::new(rt), words),
         }
     }
 }
 
-// Each once, in small.
+// Each once, in small. Standard input is that of an audit.
 fn once(rt: &HostRuntime) -> Result<()> {
     lms::once(rt)?;
     frames::once(rt)?;
@@ -77,7 +81,8 @@ fn once(rt: &HostRuntime) -> Result<()> {
     journal::bare_once(rt)?;
     pool_measures::once(rt)?;
     cores::once(rt)?;
-    replay::once(rt)
+    replay::once(rt)?;
+    audit_measures::once(rt, &mut StdSource::new(rt))
 }
 
 // The words behind the program's name.

@@ -11,8 +11,8 @@ claims-init c = λ s before own said e range valid saw.
 
 pub claims-preserved : goal.claims-preserved
 claims-preserved c = λ s before own said e range valid saw.
-    one-seen s before own said c.in-Some.claim (into_iter_items c.next.new.self) c.claims.all c.see_own.new.self range valid
-    (c.in_ok-see_own.ensures.seen s) (into_iter_items c.claims.left) c.in-Some.ensures.items (c.claims.invariant s before own said e range valid saw)
+    one-seen s before own said c.in-Some.claim (into_iter_items c.next.new.self) c.claims.all c.see_trimmed.new.all range valid
+    (c.in_ok-see_trimmed.ensures.seen s) (into_iter_items c.claims.left) c.in-Some.ensures.items (c.claims.invariant s before own said e range valid saw)
 
 pub returns : goal.returns
 returns c =
