@@ -28,6 +28,13 @@ fn text_of(alloc: Global, lines: &[&[u8]]) -> Result<Vec<u8>, AllocError> {
     Ok(text)
 }
 
+/// Why there is no kit at the front of an input, if there is none.
+fn fault_of(alloc: Global, text: Vec<u8>) -> Option<FrontFault> {
+    let mut input = MemSource::new(text, Vec::new(alloc));
+    let mut lines = Lines::new(alloc);
+    read_front(alloc, &mut lines, &mut input).err()
+}
+
 #[test]
 fn what_comes_after_go_is_left(rt: HostRuntime) -> Result<(), Fail> {
     let mut text = text_of(rt.alloc(), &LINES)?;
@@ -35,19 +42,16 @@ fn what_comes_after_go_is_left(rt: HostRuntime) -> Result<(), Fail> {
     let mut input = MemSource::new(text, Vec::new(rt.alloc()));
     let mut lines = Lines::new(rt.alloc());
     let front = read_front(rt.alloc(), &mut lines, &mut input)?;
-    assert_eq!(rt; front.go, 13);
-    assert_eq!(rt; front.kit.genesis().len(), 2);
-    assert_eq!(rt; lines.read(&mut input, 70_000)?, Next::Line);
-    assert_eq!(rt; lines.line(), b"0 tick".as_slice());
+    assert!(rt; front.go == 13 && front.kit.genesis().len() == 2);
+    let next = lines.read(&mut input, 70_000)?;
+    assert!(rt; next == Next::Line && lines.line() == b"0 tick".as_slice());
     Ok(())
 }
 
 #[test]
 fn no_kit_ends_without_go(rt: HostRuntime) -> Result<(), Fail> {
     let text = text_of(rt.alloc(), &LINES)?;
-    let mut input = MemSource::new(text, Vec::new(rt.alloc()));
-    let mut lines = Lines::new(rt.alloc());
-    let fault = read_front(rt.alloc(), &mut lines, &mut input).err();
+    let fault = fault_of(rt.alloc(), text);
     assert_eq!(rt; fault, Some(FrontFault::Kit(KitFault::Line { line: 13 })));
     Ok(())
 }
@@ -56,9 +60,7 @@ fn no_kit_ends_without_go(rt: HostRuntime) -> Result<(), Fail> {
 fn go_comes_after_the_last_line(rt: HostRuntime) -> Result<(), Fail> {
     let mut text = text_of(rt.alloc(), &LINES[..11])?;
     text.extend_from_slice(b"go\n")?;
-    let mut input = MemSource::new(text, Vec::new(rt.alloc()));
-    let mut lines = Lines::new(rt.alloc());
-    let fault = read_front(rt.alloc(), &mut lines, &mut input).err();
+    let fault = fault_of(rt.alloc(), text);
     assert_eq!(rt;
         fault,
         Some(FrontFault::Kit(KitFault::Missing { line: 12 }))

@@ -64,10 +64,13 @@ fn hosted_processes_open_what_others_sealed(rt: HostRuntime) -> Result<(), Fail>
     let kit = read_kit(rt.alloc(), KIT)?;
     let zero = link_keys(&kit, pid(0)?);
     let two = link_keys(&kit, pid(2)?);
-    assert_eq!(rt; sender(&zero, &ONE_TO_ZERO), Some(1));
-    assert_eq!(rt; sender(&zero, &TWO_TO_ZERO), Some(2));
-    assert_eq!(rt; sender(&two, &ONE_TO_TWO), Some(1));
-    assert_eq!(rt; sender(&two, &TWO_TO_ZERO), None);
+    let opened = [
+        sender(&zero, &ONE_TO_ZERO),
+        sender(&zero, &TWO_TO_ZERO),
+        sender(&two, &ONE_TO_TWO),
+        sender(&two, &TWO_TO_ZERO),
+    ];
+    assert!(rt; opened == [Some(1), Some(2), Some(1), None]);
     Ok(())
 }
 

@@ -1,6 +1,6 @@
 //! Kits, lines and journals that are none.
 use crate::data::{HOSTS, SCRIPT, TREES};
-use crate::runs::{answered, disk_of, joined};
+use crate::runs::{answered, disk_of, is_answered, is_answered_at_first, joined};
 use node_loop::{NoService, host};
 use rp_base::{MemSink, MemSource, NoDisk, NoLink, NoMemory};
 use rp_devices::MemLink;
@@ -63,15 +63,9 @@ fn a_line_that_is_none_ends_the_node(rt: HostRuntime) -> Result<(), Fail> {
         b"0 submit 6g\n",
         b"\n",
     ] {
-        let mut disk = disk_of(alloc, b"")?;
-        let mut link = MemLink::new(alloc, Vec::new(alloc));
         let script = joined(alloc, &[b"0 recv 1\n", line])?;
-        let (status, sink) = answered(alloc, &script, &mut disk, &mut link)?;
-        assert_eq!(rt;
-            sink.bytes(),
-            joined(alloc, &[HOSTS, b"recv 0 0\nstop 7 line 15\n"])?.as_slice()
-        );
-        assert_eq!(rt; status, 7);
+        let texts = [HOSTS, b"recv 0 0\nstop 7 line 15\n"];
+        assert!(rt; is_answered_at_first(alloc, &script, &[], &texts, 7)?);
     }
     Ok(())
 }
@@ -79,16 +73,18 @@ fn a_line_that_is_none_ends_the_node(rt: HostRuntime) -> Result<(), Fail> {
 /// A snapshot is not made yet: its line ends the node as one that is none.
 #[test]
 fn no_snapshot_is_made_yet(rt: HostRuntime) -> Result<(), Fail> {
-    let alloc = rt.alloc();
-    let mut disk = disk_of(alloc, b"")?;
-    let mut link = MemLink::new(alloc, Vec::new(alloc));
-    let (status, sink) = answered(alloc, b"snap\n", &mut disk, &mut link)?;
-    assert_eq!(rt;
-        sink.bytes(),
-        joined(alloc, &[HOSTS, b"stop 7 line 14\n"])?.as_slice()
-    );
-    assert_eq!(rt; status, 7);
+    let texts = [HOSTS, b"stop 7 line 14\n"];
+    assert!(rt; is_answered_at_first(rt.alloc(), b"snap\n", &[], &texts, 7)?);
     Ok(())
+}
+
+/// The journal of the script's node, with another byte at a place.
+fn changed(alloc: Global, journal: &[u8], at: usize) -> Result<Vec<u8>, NoMemory> {
+    let mut bytes = journal.to_vec(alloc)?;
+    if let Some(byte) = bytes.get_mut(at) {
+        *byte ^= 0x55;
+    }
+    Ok(bytes)
 }
 
 /// A file that is none, and a journal in which the byte at a place was changed.
@@ -102,14 +98,9 @@ fn a_journal_that_is_another_is_told_by_its_place(rt: HostRuntime) -> Result<(),
         (30, b"stop 8 journal 0 0\n".as_slice()),
         (100, b"stop 8 journal 0 60\n"),
     ] {
-        let mut bytes = Vec::new(alloc);
-        for (place, byte) in whole.bytes().iter().enumerate() {
-            bytes.push(if place == at { byte ^ 0x55 } else { *byte })?;
-        }
+        let bytes = changed(alloc, whole.bytes(), at)?;
         let mut disk = disk_of(alloc, &bytes)?;
-        let (status, sink) = answered(alloc, b"", &mut disk, &mut link)?;
-        assert_eq!(rt; sink.bytes(), told);
-        assert_eq!(rt; status, 8);
+        assert!(rt; is_answered(alloc, b"", &mut disk, &mut link, &[told], 8)?);
     }
     Ok(())
 }

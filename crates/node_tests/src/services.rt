@@ -93,38 +93,40 @@ fn served(alloc: Global, script: &[u8], names: bool) -> Result<(u8, MemSink), No
     Ok((status, sink))
 }
 
+/// Whether these texts, one after the other, are written of the kit and these lines, and the node ends so.
+fn is_served(
+    alloc: Global,
+    script: &[u8],
+    names: bool,
+    texts: &[&[u8]],
+    ended: u8,
+) -> Result<bool, NoMemory> {
+    let (status, sink) = served(alloc, script, names)?;
+    let told = joined(alloc, texts)?;
+    Ok(status == ended && sink.bytes() == told.as_slice())
+}
+
 /// What it says as it begins is after the lines of the hosts, and what it says of a note is after the note's line.
 #[test]
 fn what_the_service_says_is_written(rt: HostRuntime) -> Result<(), Fail> {
-    let alloc = rt.alloc();
-    let (status, sink) = served(alloc, SCRIPT, false)?;
-    let told = joined(
-        alloc,
-        &[
-            HOSTS,
-            b"begun\nrecv 1 1\nrecv 0 1\nrecv 1 1\ndeliver 0 0 0 0 0 6869\nnoted\nrecv 0 1\n",
-            b"deliver 1 0 0 0 0 6869\nnoted\nrecv 1 1\n",
-        ],
-    )?;
-    assert_eq!(rt; sink.bytes(), told.as_slice());
-    assert_eq!(rt; status, 0);
+    let texts = [
+        HOSTS,
+        b"begun\nrecv 1 1\nrecv 0 1\nrecv 1 1\ndeliver 0 0 0 0 0 6869\nnoted\nrecv 0 1\n",
+        b"deliver 1 0 0 0 0 6869\nnoted\nrecv 1 1\n",
+    ];
+    assert!(rt; is_served(rt.alloc(), SCRIPT, false, &texts, 0)?);
     Ok(())
 }
 
 /// Each has its line and is suspected, the one and then the other, though process 5 is no member.
 #[test]
 fn whom_the_service_names_is_suspected(rt: HostRuntime) -> Result<(), Fail> {
-    let alloc = rt.alloc();
-    let (status, sink) = served(alloc, b"0 submit 6869\n1 recv 8\n", true)?;
-    let told = joined(
-        alloc,
-        &[
-            HOSTS,
-            b"begun\nexpel 1 0\nexpel 1 5\nrefused 1 notmember\nrecv 1 1\n",
-        ],
-    )?;
-    assert_eq!(rt; sink.bytes(), told.as_slice());
-    assert_eq!(rt; status, 0);
+    let script = b"0 submit 6869\n1 recv 8\n";
+    let texts = [
+        HOSTS,
+        b"begun\nexpel 1 0\nexpel 1 5\nrefused 1 notmember\nrecv 1 1\n",
+    ];
+    assert!(rt; is_served(rt.alloc(), script, true, &texts, 0)?);
     Ok(())
 }
 
@@ -132,14 +134,10 @@ fn whom_the_service_names_is_suspected(rt: HostRuntime) -> Result<(), Fail> {
 #[test]
 fn a_line_for_the_service_is_answered(rt: HostRuntime) -> Result<(), Fail> {
     let alloc = rt.alloc();
+    let texts = [HOSTS, b"begun\nwell\nstop 7 line 15\n"];
     for line in [b"1 hello\n".as_slice(), b"1 \xff.\n", b"2 hello.\n"] {
         let script = joined(alloc, &[b"0 hello.\n", line])?;
-        let (status, sink) = served(alloc, &script, false)?;
-        assert_eq!(rt;
-            sink.bytes(),
-            joined(alloc, &[HOSTS, b"begun\nwell\nstop 7 line 15\n"])?.as_slice()
-        );
-        assert_eq!(rt; status, 7);
+        assert!(rt; is_served(alloc, &script, false, &texts, 7)?);
     }
     Ok(())
 }

@@ -1,6 +1,6 @@
 //! Calls that fail, and stops at each call of the disk.
 use crate::data::{AGAIN, HOSTS, KIT, SCRIPT};
-use crate::runs::{answered, disk_of, joined};
+use crate::runs::{answered, disk_of, is_answered, joined};
 use node_loop::{NoService, host};
 use rp_base::{MemSink, MemSource, NoMemory};
 use rp_devices::{Left, MemDisk, MemLink};
@@ -9,33 +9,34 @@ use std::test::Fail;
 
 const ONE_TURN: &[u8] = b"1 submit 61\n";
 
-/// The status and what was written, where calls of the link with these numbers fail.
-fn with_bad_link(alloc: Global, script: &[u8], failing: &[u64]) -> Result<(u8, MemSink), NoMemory> {
+/// Whether the kit and these lines are answered by these texts, and the node ends so, where one call of the link fails.
+fn is_answered_though(
+    alloc: Global,
+    script: &[u8],
+    call: u64,
+    texts: &[&[u8]],
+    ended: u8,
+) -> Result<bool, NoMemory> {
     let mut disk = disk_of(alloc, b"")?;
-    let mut link = MemLink::new(alloc, failing.to_vec(alloc)?);
-    answered(alloc, script, &mut disk, &mut link)
+    let mut link = MemLink::new(alloc, vec_of(alloc, &[call])?);
+    is_answered(alloc, script, &mut disk, &mut link, texts, ended)
 }
 
 /// The link's calls are two binds, and then a send or a receive.
 #[test]
 fn a_failed_call_of_the_link_has_its_line(rt: HostRuntime) -> Result<(), Fail> {
-    let alloc = rt.alloc();
-    for (script, call, told) in [
-        (ONE_TURN, 2, b"fault 1\n".as_slice()),
-        (b"0 recv 1\n", 2, b"fault 0\nrecv 0 0\n"),
+    for (script, told) in [
+        (ONE_TURN, b"fault 1\n".as_slice()),
+        (b"0 recv 1\n", b"fault 0\nrecv 0 0\n"),
     ] {
-        let (status, sink) = with_bad_link(alloc, script, &[call])?;
-        assert_eq!(rt; sink.bytes(), joined(alloc, &[HOSTS, told])?.as_slice());
-        assert_eq!(rt; status, 0);
+        assert!(rt; is_answered_though(rt.alloc(), script, 2, &[HOSTS, told], 0)?);
     }
     Ok(())
 }
 
 #[test]
 fn a_port_that_is_not_bound_ends_the_node(rt: HostRuntime) -> Result<(), Fail> {
-    let (status, sink) = with_bad_link(rt.alloc(), ONE_TURN, &[1])?;
-    assert_eq!(rt; sink.bytes(), b"stop 6 link\n".as_slice());
-    assert_eq!(rt; status, 6);
+    assert!(rt; is_answered_though(rt.alloc(), ONE_TURN, 1, &[b"stop 6 link\n"], 6)?);
     Ok(())
 }
 
@@ -43,6 +44,14 @@ fn a_port_that_is_not_bound_ends_the_node(rt: HostRuntime) -> Result<(), Fail> {
 fn is_told(alloc: Global, written: &[u8]) -> Result<bool, NoMemory> {
     let opened = joined(alloc, &[HOSTS, b"stop 5 disk\n"])?;
     Ok(written == b"stop 5 disk\n".as_slice() || written == opened.as_slice())
+}
+
+/// Whether a node whose disk fails at this call ends by it, and sends nothing.
+fn is_ended_by(alloc: Global, call: u64) -> Result<bool, NoMemory> {
+    let mut disk = MemDisk::new(alloc, Vec::new(alloc), vec_of(alloc, &[call])?)?;
+    let mut link = MemLink::new(alloc, Vec::new(alloc));
+    let (status, sink) = answered(alloc, ONE_TURN, &mut disk, &mut link)?;
+    Ok(status == 5 && link.sent().is_empty() && is_told(alloc, sink.bytes())?)
 }
 
 #[test]
@@ -54,13 +63,7 @@ fn any_failed_call_of_the_disk_ends_the_node_and_nothing_leaves(
     let mut link = MemLink::new(alloc, Vec::new(alloc));
     let _ = answered(alloc, ONE_TURN, &mut whole, &mut link)?;
     for call in 0..whole.calls() {
-        let failing = [call].to_vec(alloc)?;
-        let mut disk = MemDisk::new(alloc, Vec::new(alloc), failing)?;
-        let mut link = MemLink::new(alloc, Vec::new(alloc));
-        let (status, sink) = answered(alloc, ONE_TURN, &mut disk, &mut link)?;
-        assert_eq!(rt; status, 5);
-        assert!(rt; is_told(alloc, sink.bytes())?);
-        assert_eq!(rt; link.sent().len(), 0);
+        assert!(rt; is_ended_by(alloc, call)?, "{call}");
     }
     Ok(())
 }
@@ -109,39 +112,40 @@ fn a_stop_at_any_call_of_the_disk_keeps_what_left(rt: HostRuntime) -> Result<(),
     Ok(())
 }
 
+fn vec_of(alloc: Global, numbers: &[u64]) -> Result<Vec<u64>, NoMemory> {
+    Ok(numbers.to_vec(alloc)?)
+}
+
+/// Whether this is written of the script, and the node ends so, where reads and writes with these numbers fail.
+fn is_written(
+    alloc: Global,
+    reads: &[u64],
+    writes: &[u64],
+    written: &[u8],
+    ended: u8,
+) -> Result<bool, NoMemory> {
+    let input = joined(alloc, &[KIT, SCRIPT])?;
+    let mut source = MemSource::new(input, vec_of(alloc, reads)?);
+    let mut sink = MemSink::new(alloc, vec_of(alloc, writes)?);
+    let mut disk = disk_of(alloc, b"")?;
+    let mut link = MemLink::new(alloc, Vec::new(alloc));
+    let status = host(
+        alloc,
+        &mut source,
+        &mut sink,
+        &mut disk,
+        &mut link,
+        &mut NoService,
+    );
+    Ok(status == ended && sink.bytes() == written)
+}
+
 /// The first write is that of the lines of the hosts, the second that of the first `recv`.
 #[test]
 fn a_failed_stream_ends_the_node(rt: HostRuntime) -> Result<(), Fail> {
     let alloc = rt.alloc();
-    let input = joined(alloc, &[KIT, SCRIPT])?;
-    for (reads, writes, ended, written) in [
-        (
-            vec_of(alloc, &[0])?,
-            Vec::new(alloc),
-            3,
-            b"stop 3 read\n".as_slice(),
-        ),
-        (Vec::new(alloc), vec_of(alloc, &[0])?, 4, b""),
-        (Vec::new(alloc), vec_of(alloc, &[1])?, 4, HOSTS),
-    ] {
-        let mut source = MemSource::new(input.to_vec(alloc)?, reads);
-        let mut sink = MemSink::new(alloc, writes);
-        let mut disk = disk_of(alloc, b"")?;
-        let mut link = MemLink::new(alloc, Vec::new(alloc));
-        let status = host(
-            alloc,
-            &mut source,
-            &mut sink,
-            &mut disk,
-            &mut link,
-            &mut NoService,
-        );
-        assert_eq!(rt; status, ended);
-        assert_eq!(rt; sink.bytes(), written);
-    }
+    assert!(rt; is_written(alloc, &[0], &[], b"stop 3 read\n", 3)?);
+    assert!(rt; is_written(alloc, &[], &[0], b"", 4)?);
+    assert!(rt; is_written(alloc, &[], &[1], HOSTS, 4)?);
     Ok(())
-}
-
-fn vec_of(alloc: Global, numbers: &[u64]) -> Result<Vec<u64>, NoMemory> {
-    Ok(numbers.to_vec(alloc)?)
 }

@@ -102,8 +102,14 @@ fn answered(
     Ok((status, sink))
 }
 
+/// Whether this is written of an input, and the run ends so, where no call fails.
+fn is_answered(alloc: Global, input: &[u8], written: &[u8], ended: u8) -> Result<bool, AllocError> {
+    let (status, sink) = answered(alloc, input, [&[], &[]])?;
+    Ok(status == ended && sink.bytes() == written)
+}
+
 /// The kit, and these lines.
-fn behind_kit(alloc: Global, lines: &[&[u8]]) -> Result<Vec<u8>, AllocError> {
+fn after_kit(alloc: Global, lines: &[&[u8]]) -> Result<Vec<u8>, AllocError> {
     let mut input = KIT.to_vec(alloc)?;
     for line in lines {
         input.extend_from_slice(line)?;
@@ -113,36 +119,27 @@ fn behind_kit(alloc: Global, lines: &[&[u8]]) -> Result<Vec<u8>, AllocError> {
 
 #[test]
 fn each_proof_is_answered_by_its_view_or_its_fault(rt: HostRuntime) -> Result<(), Fail> {
-    let alloc = rt.alloc();
     for (lines, written, ended) in ANSWERED {
-        let (status, sink) = answered(alloc, &behind_kit(alloc, lines)?, [&[], &[]])?;
-        assert_eq!(rt; sink.bytes(), written);
-        assert_eq!(rt; status, ended);
+        let input = after_kit(rt.alloc(), lines)?;
+        assert!(rt; is_answered(rt.alloc(), &input, written, ended)?);
     }
     Ok(())
 }
 
 #[test]
 fn public_lines_of_a_kit_are_enough(rt: HostRuntime) -> Result<(), Fail> {
-    let (status, sink) = answered(rt.alloc(), OF_FOUR, [&[], &[]])?;
-    assert_eq!(rt;
-        sink.bytes(),
-        b"view 0 : 0 1 2 3\nview 1 : 0 1 2\nview 2 : 0 1 2 4\n".as_slice()
-    );
-    assert_eq!(rt; status, 0);
+    let written = b"view 0 : 0 1 2 3\nview 1 : 0 1 2\nview 2 : 0 1 2 4\n";
+    assert!(rt; is_answered(rt.alloc(), OF_FOUR, written, 0)?);
     Ok(())
 }
 
 #[test]
 fn a_fault_of_the_kit_ends_the_chain(rt: HostRuntime) -> Result<(), Fail> {
-    let alloc = rt.alloc();
     for (input, written) in [
         (b"".as_slice(), b"stop 7 line 1\n".as_slice()),
         (NO_GENESIS, b"stop 7 missing 6\n"),
     ] {
-        let (status, sink) = answered(alloc, input, [&[], &[]])?;
-        assert_eq!(rt; sink.bytes(), written);
-        assert_eq!(rt; status, 7);
+        assert!(rt; is_answered(rt.alloc(), input, written, 7)?);
     }
     Ok(())
 }
@@ -150,13 +147,13 @@ fn a_fault_of_the_kit_ends_the_chain(rt: HostRuntime) -> Result<(), Fail> {
 /// The first write is the line of the first view.
 #[test]
 fn what_was_written_before_a_failed_call_stays(rt: HostRuntime) -> Result<(), Fail> {
-    let alloc = rt.alloc();
-    let input = behind_kit(alloc, &[ADDED])?;
-    let (status, sink) = answered(alloc, &input, [&[], &[1]])?;
-    assert_eq!(rt; sink.bytes(), b"view 0 : 0\n".as_slice());
-    assert_eq!(rt; status, 4);
-    let (status, sink) = answered(alloc, &input, [&[0], &[]])?;
-    assert_eq!(rt; sink.bytes(), b"stop 3 read\n".as_slice());
-    assert_eq!(rt; status, 3);
+    let input = after_kit(rt.alloc(), &[ADDED])?;
+    for (failing, written, ended) in [
+        ([[].as_slice(), &[1]], b"view 0 : 0\n".as_slice(), 4),
+        ([&[0], &[]], b"stop 3 read\n", 3),
+    ] {
+        let (status, sink) = answered(rt.alloc(), &input, failing)?;
+        assert!(rt; status == ended && sink.bytes() == written);
+    }
     Ok(())
 }

@@ -28,6 +28,22 @@ fn run(
     Ok((status, sink))
 }
 
+/// Whether this is written of an input, and the run ends so, where these calls of the source and the sink fail.
+fn is_answered(
+    alloc: Global,
+    input: &[u8],
+    failing: [&[u64]; 2],
+    written: &[u8],
+    ended: u8,
+) -> Result<bool, AllocError> {
+    let [reads, writes] = failing;
+    let (status, sink) = run(alloc, input, reads, writes)?;
+    Ok(status == ended && sink.bytes() == written)
+}
+
+/// No call fails.
+const NONE: [&[u64]; 2] = [&[], &[]];
+
 #[test]
 fn each_line_is_answered_until_one_is_no_question(rt: HostRuntime) -> Result<(), Fail> {
     for (input, output, ends) in [
@@ -52,9 +68,7 @@ fn each_line_is_answered_until_one_is_no_question(rt: HostRuntime) -> Result<(),
         (b"pool 0 00 00 02\n", b"version\n", 0),
         (b"pool 1024 00 00 -\n", b"stop 7 line 1\n", 7),
     ] {
-        let (status, sink) = run(rt.alloc(), input, &[], &[])?;
-        assert_eq!(rt; sink.bytes(), output);
-        assert_eq!(rt; status, ends);
+        assert!(rt; is_answered(rt.alloc(), input, NONE, output, ends)?);
     }
     Ok(())
 }
@@ -80,9 +94,7 @@ fn questions_on_runs_are_read(rt: HostRuntime) -> Result<(), Fail> {
         (b"run - - - - 1: -\n", b"stop 7 line 1\n", 7),
         (b"run - - - - - read:1\n", b"stop 7 line 1\n", 7),
     ] {
-        let (status, sink) = run(rt.alloc(), input, &[], &[])?;
-        assert_eq!(rt; sink.bytes(), output);
-        assert_eq!(rt; status, ends);
+        assert!(rt; is_answered(rt.alloc(), input, NONE, output, ends)?);
     }
     Ok(())
 }
@@ -90,17 +102,14 @@ fn questions_on_runs_are_read(rt: HostRuntime) -> Result<(), Fail> {
 /// The first read gives the whole input, and the second one fails.
 #[test]
 fn a_read_that_fails_is_no_end(rt: HostRuntime) -> Result<(), Fail> {
-    let (status, sink) = run(rt.alloc(), b"verify lms - - -\n", &[1], &[])?;
-    assert_eq!(rt; sink.bytes(), b"false\nstop 3 read\n".as_slice());
-    assert_eq!(rt; status, 3);
+    let line = b"verify lms - - -\n";
+    assert!(rt; is_answered(rt.alloc(), line, [&[1], &[]], b"false\nstop 3 read\n", 3)?);
     Ok(())
 }
 
 #[test]
 fn a_write_that_fails_stops(rt: HostRuntime) -> Result<(), Fail> {
-    let (status, sink) = run(rt.alloc(), b"verify lms - - -\n", &[], &[0])?;
-    assert_eq!(rt; sink.bytes(), b"".as_slice());
-    assert_eq!(rt; status, 4);
+    assert!(rt; is_answered(rt.alloc(), b"verify lms - - -\n", [&[], &[0]], b"", 4)?);
     Ok(())
 }
 
@@ -136,9 +145,7 @@ fn kit_line(alloc: Global, text: &[u8]) -> Result<Vec<u8>, NoMemory> {
 #[test]
 fn a_kit_is_spelled_again(rt: HostRuntime) -> Result<(), Fail> {
     let line = kit_line(rt.alloc(), KIT)?;
-    let (status, sink) = run(rt.alloc(), &line, &[], &[])?;
-    assert_eq!(rt; sink.bytes(), line.as_slice());
-    assert_eq!(rt; status, 0);
+    assert!(rt; is_answered(rt.alloc(), &line, NONE, &line, 0)?);
     Ok(())
 }
 
@@ -156,9 +163,7 @@ fn faults_of_kits_are_told(rt: HostRuntime) -> Result<(), Fail> {
         ),
     ] {
         let line = kit_line(rt.alloc(), text)?;
-        let (status, sink) = run(rt.alloc(), &line, &[], &[])?;
-        assert_eq!(rt; sink.bytes(), told);
-        assert_eq!(rt; status, 0);
+        assert!(rt; is_answered(rt.alloc(), &line, NONE, told, 0)?);
     }
     Ok(())
 }

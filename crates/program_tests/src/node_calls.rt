@@ -127,32 +127,56 @@ fn answered<D: Disk, L: Link>(
     (status, sink)
 }
 
+/// Whether a node of these processes, on its kit and this script, ends well and says this.
+fn is_told(
+    alloc: Global,
+    hosts: &[&str],
+    script: &str,
+    disk: &mut MemDisk,
+    link: &mut MemLink,
+    told: &[u8],
+) -> Result<bool, Fail> {
+    let words = asked(alloc, &["node", FILE])?;
+    let input = input(alloc, PORTS, hosts, script)?;
+    let (status, sink) = answered(&words, alloc, input, disk, link);
+    Ok(status == 0 && sink.bytes() == told)
+}
+
 /// Each of two nodes has its own kit and journal, and none finds a process that runs: what they know is what the journals hold.
 #[test]
 fn two_nodes_deliver_though_they_are_stopped_after_each_line(rt: HostRuntime) -> Result<(), Fail> {
     let alloc = rt.alloc();
-    let words = asked(alloc, &["node", FILE])?;
     let mut link = MemLink::new(alloc, Vec::new(alloc));
     let mut first = MemDisk::new(alloc, Vec::new(alloc), Vec::new(alloc))?;
     let mut second = MemDisk::new(alloc, Vec::new(alloc), Vec::new(alloc))?;
     for (is_first, script, told) in LINES {
-        let (status, sink) = if is_first {
-            let input = input(alloc, PORTS, &[HOST_0], script)?;
-            answered(&words, alloc, input, &mut first, &mut link)
+        let is_said = if is_first {
+            is_told(alloc, &[HOST_0], script, &mut first, &mut link, told)?
         } else {
-            let input = input(alloc, PORTS, &[HOST_1], script)?;
-            answered(&words, alloc, input, &mut second, &mut link)
+            is_told(alloc, &[HOST_1], script, &mut second, &mut link, told)?
         };
-        assert_eq!(rt; sink.bytes(), told);
-        assert_eq!(rt; status, 0);
+        assert!(rt; is_said, "{script}");
     }
     Ok(())
+}
+
+/// Whether these words, on a kit with these hosts, end so and say this, and ask neither disk nor link.
+fn is_refused(
+    alloc: Global,
+    words: &[&str],
+    hosts: &[&str],
+    told: &[u8],
+    ended: u8,
+) -> Result<bool, Fail> {
+    let words = asked(alloc, words)?;
+    let input = input(alloc, PORTS, hosts, "")?;
+    let (status, sink) = answered(&words, alloc, input, &mut NoDisk::new(), &mut NoLink::new());
+    Ok(status == ended && sink.bytes() == told)
 }
 
 /// No kit, one of another's processes alone, and no word or two for the file: neither disk nor link is asked.
 #[test]
 fn no_node_is_opened_without_a_kit_or_a_file(rt: HostRuntime) -> Result<(), Fail> {
-    let alloc = rt.alloc();
     for (words, hosts, told, ended) in [
         (
             ["node", FILE].as_slice(),
@@ -169,28 +193,24 @@ fn no_node_is_opened_without_a_kit_or_a_file(rt: HostRuntime) -> Result<(), Fail
         (&["node"], &[HOST_0], b"stop 2 words\n", 2),
         (&["node", FILE, FILE], &[HOST_0], b"stop 2 words\n", 2),
     ] {
-        let words = asked(alloc, words)?;
-        let input = input(alloc, PORTS, hosts, "")?;
-        let (status, sink) = answered(&words, alloc, input, &mut NoDisk::new(), &mut NoLink::new());
-        assert_eq!(rt; sink.bytes(), told);
-        assert_eq!(rt; status, ended);
+        assert!(rt; is_refused(rt.alloc(), words, hosts, told, ended)?);
     }
     Ok(())
 }
 
+/// The status of a node of process 0 whose disk fails, and what it says.
+fn on_bad_disk(alloc: Global) -> Result<(u8, MemSink), Fail> {
+    let words = asked(alloc, &["node", FILE])?;
+    let input = input(alloc, PORTS, &[HOST_0], "0 submit 6869\n")?;
+    let mut disk = MemDisk::new(alloc, Vec::new(alloc), [0].to_vec(alloc)?)?;
+    let mut link = MemLink::new(alloc, Vec::new(alloc));
+    Ok(answered(&words, alloc, input, &mut disk, &mut link))
+}
+
 #[test]
 fn a_disk_that_fails_ends_a_node(rt: HostRuntime) -> Result<(), Fail> {
-    let alloc = rt.alloc();
-    let mut disk = MemDisk::new(alloc, Vec::new(alloc), [0].to_vec(alloc)?)?;
-    let (status, sink) = answered(
-        &asked(alloc, &["node", FILE])?,
-        alloc,
-        input(alloc, PORTS, &[HOST_0], "0 submit 6869\n")?,
-        &mut disk,
-        &mut MemLink::new(alloc, Vec::new(alloc)),
-    );
-    assert_eq!(rt; sink.bytes(), b"stop 5 disk\n".as_slice());
-    assert_eq!(rt; status, 5);
+    let (status, sink) = on_bad_disk(rt.alloc())?;
+    assert!(rt; status == 5 && sink.bytes() == b"stop 5 disk\n".as_slice());
     Ok(())
 }
 
@@ -226,6 +246,22 @@ fn script(alloc: Global) -> Result<String, Fail> {
     Ok(lines)
 }
 
+/// Whether what a node of both processes says on these ports, and when it is opened again, is what they deliver and know. None where a port
+/// is not free.
+fn delivers_and_knows(
+    rt: &HostRuntime,
+    ports: [u16; 2],
+    script: &str,
+) -> Result<Option<bool>, Fail> {
+    let (status, told) = on_system(rt, ports, script)?;
+    if status == 6 {
+        return Ok(None);
+    }
+    let (again, known) = on_system(rt, ports, "")?;
+    let said = [told.as_slice(), known.as_slice()];
+    Ok(Some([status, again] == [0, 0] && said == DELIVERED))
+}
+
 /// The file is in the folder in which the test runs. The ports are tried by twos until both are free.
 #[test]
 fn a_node_over_a_file_and_sockets_delivers_and_knows_again(rt: HostRuntime) -> Result<(), Fail> {
@@ -234,14 +270,10 @@ fn a_node_over_a_file_and_sockets_delivers_and_knows_again(rt: HostRuntime) -> R
     for step in 0..100u16 {
         let _ = fs::remove_file(&rt, FILE);
         let port = first + 2 * step;
-        let (status, told) = on_system(&rt, [port, port + 1], &script)?;
-        if status == 6 {
-            continue;
+        if let Some(is_well) = delivers_and_knows(&rt, [port, port + 1], &script)? {
+            assert!(rt; is_well);
+            break;
         }
-        let (again, known) = on_system(&rt, [port, port + 1], "")?;
-        assert_eq!(rt; [told.as_slice(), known.as_slice()], DELIVERED);
-        assert_eq!(rt; [status, again], [0, 0]);
-        break;
     }
     assert!(rt; fs::exists(&rt, FILE)?);
     fs::remove_file(&rt, FILE)?;

@@ -124,41 +124,45 @@ pub(crate) fn run(
     Ok((status, sink))
 }
 
+/// Whether this is written on these words, and the run ends so.
+pub(crate) fn is_answered(
+    alloc: Global,
+    words: &[&str],
+    input: &[u8],
+    written: &[u8],
+    ended: u8,
+) -> Result<bool, AllocError> {
+    let (status, sink) = run(alloc, &asked(alloc, words)?, input, &[])?;
+    Ok(status == ended && sink.bytes() == written)
+}
+
+/// The header of `ONE_MEMBER`, and these events after it.
+fn after_header(alloc: Global, events: &[u8]) -> Result<Vec<u8>, AllocError> {
+    let mut input = ONE_MEMBER[..62].to_vec(alloc)?;
+    input.extend_from_slice(events)?;
+    Ok(input)
+}
+
 #[test]
 fn a_schedule_gives_its_report(rt: HostRuntime) -> Result<(), Fail> {
     let alloc = rt.alloc();
-    let (status, sink) = run(alloc, &asked(alloc, &["replay"])?, &ONE_MEMBER, &[])?;
-    assert_eq!(rt; sink.bytes(), REPORT);
-    assert_eq!(rt; status, 0);
-    let (status, sink) = run(
-        alloc,
-        &asked(alloc, &["replay", "short"])?,
-        &ONE_MEMBER,
-        &[],
-    )?;
-    assert_eq!(rt; sink.bytes(), SHORT_REPORT);
-    assert_eq!(rt; status, 0);
+    assert!(rt; is_answered(alloc, &["replay"], &ONE_MEMBER, REPORT, 0)?);
+    assert!(rt; is_answered(alloc, &["replay", "short"], &ONE_MEMBER, SHORT_REPORT, 0)?);
     Ok(())
 }
 
 #[test]
 fn an_input_without_a_report_is_told_why(rt: HostRuntime) -> Result<(), Fail> {
     let alloc = rt.alloc();
-    let words = asked(alloc, &["replay"])?;
     for (events, line) in STOPPED {
-        let mut input = ONE_MEMBER[..62].to_vec(alloc)?;
-        input.extend_from_slice(events)?;
-        let (status, sink) = run(alloc, &words, &input, &[])?;
-        assert_eq!(rt; sink.bytes(), line);
-        assert_eq!(rt; status, 7);
+        let input = after_header(alloc, events)?;
+        assert!(rt; is_answered(alloc, &["replay"], &input, line, 7)?);
     }
     for (input, line) in [
         (b"".as_slice(), b"stop 7 short 0\n".as_slice()),
         (b"RPX1", b"stop 7 magic 0\n"),
     ] {
-        let (status, sink) = run(alloc, &asked(alloc, &["replay", "short"])?, input, &[])?;
-        assert_eq!(rt; sink.bytes(), line);
-        assert_eq!(rt; status, 7);
+        assert!(rt; is_answered(alloc, &["replay", "short"], input, line, 7)?);
     }
     Ok(())
 }
@@ -185,18 +189,16 @@ impl Source for Slow {
     }
 }
 
-/// The status, and what is written where the input comes so many bytes at a time.
-fn run_slowly(
+/// Whether this is written, and the run ends so, where the input comes so many bytes at a time.
+fn is_answered_slowly(
     alloc: Global,
     words: &[String],
-    input: &[u8],
+    bytes: Vec<u8>,
     most: usize,
-) -> Result<(u8, MemSink), AllocError> {
-    let mut source = Slow {
-        bytes: input.to_vec(alloc)?,
-        at: 0,
-        most,
-    };
+    written: &[u8],
+    ended: u8,
+) -> bool {
+    let mut source = Slow { bytes, at: 0, most };
     let mut sink = MemSink::new(alloc, Vec::new(alloc));
     let status = rampart(
         alloc,
@@ -206,7 +208,7 @@ fn run_slowly(
         &mut NoDisk::new(),
         &mut NoLink::new(),
     );
-    Ok((status, sink))
+    status == ended && sink.bytes() == written
 }
 
 #[test]
@@ -215,35 +217,34 @@ fn pieces_of_any_size_give_the_same_report(rt: HostRuntime) -> Result<(), Fail> 
     let (_, schedule) = run(alloc, &asked(alloc, &["gen", "1"])?, &[], &[])?;
     let words = asked(alloc, &["replay", "short"])?;
     for most in [1, 7, 4096] {
-        let (status, sink) = run_slowly(alloc, &words, schedule.bytes(), most)?;
-        assert_eq!(rt; sink.bytes(), LARGE_REPORT);
-        assert_eq!(rt; status, 0);
+        let bytes = schedule.bytes().to_vec(alloc)?;
+        assert!(rt;
+            is_answered_slowly(alloc, &words, bytes, most, LARGE_REPORT, 0),
+            "{most}"
+        );
     }
     Ok(())
 }
 
-/// A Pass of a frame that is not sent stops the run, and behind it stands a byte that is no tag.
+/// A Pass of a frame that is not sent stops the run, and after it is a byte that is no tag.
 #[test]
 fn a_fault_of_the_bytes_comes_first_for_every_cut(rt: HostRuntime) -> Result<(), Fail> {
     let alloc = rt.alloc();
     let words = asked(alloc, &["replay"])?;
-    let mut input = ONE_MEMBER[..62].to_vec(alloc)?;
-    input.extend_from_slice(b"\x03\x00\x00\x00\x00\x00\x0a")?;
     for most in 1..70 {
-        let (status, sink) = run_slowly(alloc, &words, &input, most)?;
-        assert_eq!(rt; sink.bytes(), b"stop 7 tag 68\n".as_slice());
-        assert_eq!(rt; status, 7);
+        let bytes = after_header(alloc, b"\x03\x00\x00\x00\x00\x00\x0a")?;
+        assert!(rt;
+            is_answered_slowly(alloc, &words, bytes, most, b"stop 7 tag 68\n", 7),
+            "{most}"
+        );
     }
     Ok(())
 }
 
 #[test]
 fn other_words_stop(rt: HostRuntime) -> Result<(), Fail> {
-    let alloc = rt.alloc();
     for words in [[].as_slice(), &["replays"], &["replay", "long"]] {
-        let (status, sink) = run(alloc, &asked(alloc, words)?, &ONE_MEMBER, &[])?;
-        assert_eq!(rt; sink.bytes(), b"stop 2 words\n".as_slice());
-        assert_eq!(rt; status, 2);
+        assert!(rt; is_answered(rt.alloc(), words, &ONE_MEMBER, b"stop 2 words\n", 2)?);
     }
     Ok(())
 }
@@ -253,8 +254,7 @@ fn other_words_stop(rt: HostRuntime) -> Result<(), Fail> {
 fn a_read_that_fails_is_no_end(rt: HostRuntime) -> Result<(), Fail> {
     let alloc = rt.alloc();
     let (status, sink) = run(alloc, &asked(alloc, &["replay"])?, &ONE_MEMBER, &[1])?;
-    assert_eq!(rt; sink.bytes(), b"stop 3 read\n".as_slice());
-    assert_eq!(rt; status, 3);
+    assert!(rt; status == 3 && sink.bytes() == b"stop 3 read\n".as_slice());
     Ok(())
 }
 
@@ -274,10 +274,8 @@ impl<K: Sink> Sink for Narrow<K> {
     }
 }
 
-/// The third call fails.
-#[test]
-fn a_write_that_fails_leaves_a_prefix(rt: HostRuntime) -> Result<(), Fail> {
-    let alloc = rt.alloc();
+/// The status where the third call of the output fails, and what was written.
+fn run_narrowly(alloc: Global) -> Result<(u8, MemSink), AllocError> {
     let mut source = MemSource::new(ONE_MEMBER.to_vec(alloc)?, Vec::new(alloc));
     let mut output = Narrow {
         sink: MemSink::new(alloc, [2].to_vec(alloc)?),
@@ -290,22 +288,24 @@ fn a_write_that_fails_leaves_a_prefix(rt: HostRuntime) -> Result<(), Fail> {
         &mut NoDisk::new(),
         &mut NoLink::new(),
     );
-    assert_eq!(rt; output.sink.bytes(), b"rampart report 1\neve".as_slice());
-    assert_eq!(rt; status, 4);
+    Ok((status, output.sink))
+}
+
+#[test]
+fn a_write_that_fails_leaves_a_prefix(rt: HostRuntime) -> Result<(), Fail> {
+    let (status, sink) = run_narrowly(rt.alloc())?;
+    assert!(rt; status == 4 && sink.bytes() == b"rampart report 1\neve".as_slice());
     Ok(())
 }
 
 #[test]
 fn a_kit_is_written_as_the_other_program_does(rt: HostRuntime) -> Result<(), Fail> {
-    let alloc = rt.alloc();
     for (words, written, ended) in [
         (KEYGEN.as_slice(), KIT, 0),
         (KEYGEN_OF_LEVELS.as_slice(), KIT_OF_LEVELS, 0),
         (&KEYGEN[..4], b"stop 2 words\n", 2),
     ] {
-        let (status, sink) = run(alloc, &asked(alloc, words)?, &[], &[])?;
-        assert_eq!(rt; sink.bytes(), written);
-        assert_eq!(rt; status, ended);
+        assert!(rt; is_answered(rt.alloc(), words, &[], written, ended)?);
     }
     Ok(())
 }

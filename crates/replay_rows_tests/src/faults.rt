@@ -1,9 +1,9 @@
-use crate::asking::fault;
+use crate::asking::{fault, is_fault};
 use crate::data::{
     FRAME_NOT_SENT, NO_BYTES, ONE_MEMBER, ONE_PLACE, SPENT_TREE, TAG_BEFORE_FRAME, THREE_SENDERS,
     THREE_SENDERS_ONE_LIAR, TWO_LEVELS, WRONG_MAGIC,
 };
-use replay_defs::{Fault, FaultKind};
+use replay_defs::FaultKind;
 use replay_run::ReplayFault;
 use std::alloc::Global;
 use std::test::Fail;
@@ -82,13 +82,8 @@ const NO_STATEMENTS: [&[u8]; 5] = [
     b"\x00\x09\x0c\x00\x00\x00\x00\x01\x00\x00\x00",
 ];
 
-/// A fault of the bytes.
-fn of_bytes(kind: FaultKind, place: usize) -> ReplayFault {
-    ReplayFault::Schedule(Fault { kind, place })
-}
-
-/// The header of a schedule, which has so many bytes, and other events behind it.
-fn behind(alloc: Global, schedule: &[u8], header: usize, events: &[u8]) -> Result<Vec<u8>, Fail> {
+/// The header of a schedule, which has so many bytes, and other events after it.
+fn after(alloc: Global, schedule: &[u8], header: usize, events: &[u8]) -> Result<Vec<u8>, Fail> {
     let mut bytes = schedule.to_vec(alloc)?;
     bytes.truncate(header);
     bytes.extend_from_slice(events)?;
@@ -97,35 +92,35 @@ fn behind(alloc: Global, schedule: &[u8], header: usize, events: &[u8]) -> Resul
 
 #[test]
 fn a_schedule_that_ends_within_a_field(rt: HostRuntime) -> Result<(), Fail> {
-    assert_eq!(rt; fault(rt.alloc(), NO_BYTES)?, of_bytes(FaultKind::Short, 0));
+    assert!(rt; is_fault(rt.alloc(), NO_BYTES, FaultKind::Short, 0)?);
     let mut place = 0;
     for len in 0..ONE_MEMBER.len() {
         if FIELDS.contains(&len) {
             place = len;
         }
         if len != 62 {
-            let front = behind(rt.alloc(), ONE_MEMBER, len, &[])?;
-            assert_eq!(rt;
-                fault(rt.alloc(), &front)?,
-                of_bytes(FaultKind::Short, place)
-            );
+            let front = after(rt.alloc(), ONE_MEMBER, len, &[])?;
+            assert!(rt; is_fault(rt.alloc(), &front, FaultKind::Short, place)?);
         }
     }
     Ok(())
 }
 
+/// The schedule with another byte at a place.
+fn changed(alloc: Global, schedule: &[u8], place: usize, value: u8) -> Result<Vec<u8>, Fail> {
+    let mut bytes = schedule.to_vec(alloc)?;
+    if let Some(byte) = bytes.get_mut(place) {
+        *byte = value;
+    }
+    Ok(bytes)
+}
+
 #[test]
 fn a_field_of_the_header_with_a_wrong_value(rt: HostRuntime) -> Result<(), Fail> {
-    assert_eq!(rt;
-        fault(rt.alloc(), WRONG_MAGIC)?,
-        of_bytes(FaultKind::Magic, 0)
-    );
+    assert!(rt; is_fault(rt.alloc(), WRONG_MAGIC, FaultKind::Magic, 0)?);
     for (schedule, place, value, kind) in CHANGED {
-        let mut bytes = schedule.to_vec(rt.alloc())?;
-        if let Some(byte) = bytes.get_mut(place) {
-            *byte = value;
-        }
-        assert_eq!(rt; fault(rt.alloc(), &bytes)?, of_bytes(kind, place));
+        let bytes = changed(rt.alloc(), schedule, place, value)?;
+        assert!(rt; is_fault(rt.alloc(), &bytes, kind, place)?);
     }
     Ok(())
 }
@@ -133,8 +128,8 @@ fn a_field_of_the_header_with_a_wrong_value(rt: HostRuntime) -> Result<(), Fail>
 #[test]
 fn a_field_of_an_event_with_a_wrong_value(rt: HostRuntime) -> Result<(), Fail> {
     for (events, kind, place) in ALONE {
-        let bytes = behind(rt.alloc(), ONE_MEMBER, 62, events)?;
-        assert_eq!(rt; fault(rt.alloc(), &bytes)?, of_bytes(kind, place));
+        let bytes = after(rt.alloc(), ONE_MEMBER, 62, events)?;
+        assert!(rt; is_fault(rt.alloc(), &bytes, kind, place)?);
     }
     Ok(())
 }
@@ -142,11 +137,8 @@ fn a_field_of_an_event_with_a_wrong_value(rt: HostRuntime) -> Result<(), Fail> {
 #[test]
 fn an_event_at_a_corrupt_process(rt: HostRuntime) -> Result<(), Fail> {
     for (events, place) in AT_THE_LIAR {
-        let bytes = behind(rt.alloc(), THREE_SENDERS_ONE_LIAR, 179, events)?;
-        assert_eq!(rt;
-            fault(rt.alloc(), &bytes)?,
-            of_bytes(FaultKind::Field, place)
-        );
+        let bytes = after(rt.alloc(), THREE_SENDERS_ONE_LIAR, 179, events)?;
+        assert!(rt; is_fault(rt.alloc(), &bytes, FaultKind::Field, place)?);
     }
     Ok(())
 }
@@ -154,56 +146,58 @@ fn an_event_at_a_corrupt_process(rt: HostRuntime) -> Result<(), Fail> {
 #[test]
 fn a_lie_that_is_no_statement(rt: HostRuntime) -> Result<(), Fail> {
     for statement in NO_STATEMENTS {
-        let mut bytes = behind(rt.alloc(), THREE_SENDERS_ONE_LIAR, 179, LIE)?;
+        let mut bytes = after(rt.alloc(), THREE_SENDERS_ONE_LIAR, 179, LIE)?;
         bytes.extend_from_slice(statement)?;
-        assert_eq!(rt; fault(rt.alloc(), &bytes)?, of_bytes(FaultKind::Field, 191));
+        assert!(rt; is_fault(rt.alloc(), &bytes, FaultKind::Field, 191)?);
     }
     Ok(())
+}
+
+/// The header of `ONE_MEMBER`, and so many Submits of the longest payload after it.
+fn with_submits(alloc: Global, count: u32) -> Result<Vec<u8>, Fail> {
+    let mut bytes = after(alloc, ONE_MEMBER, 62, &[])?;
+    for _ in 0..count {
+        bytes.extend_from_slice(&[1, 0, 0xff, 0xff])?;
+        bytes.extend_from_slice(&[0; 65_535])?;
+    }
+    Ok(bytes)
 }
 
 /// The last of 1,024 Submits passes the limit.
 #[test]
 fn more_bytes_than_a_schedule_may_have(rt: HostRuntime) -> Result<(), Fail> {
-    let mut bytes = behind(rt.alloc(), ONE_MEMBER, 62, &[])?;
-    for _ in 0..1024 {
-        bytes.extend_from_slice(&[1, 0, 0xff, 0xff])?;
-        bytes.extend_from_slice(&[0; 65_535])?;
-    }
-    assert_eq!(rt;
-        fault(rt.alloc(), &bytes)?,
-        of_bytes(FaultKind::TooLong, 67_108_864)
-    );
+    let bytes = with_submits(rt.alloc(), 1024)?;
+    assert!(rt; is_fault(rt.alloc(), &bytes, FaultKind::TooLong, 67_108_864)?);
     Ok(())
+}
+
+/// Whether a schedule has no report since its run passes on a frame that is not sent.
+fn is_not_sent(alloc: Global, schedule: &[u8], wanted: ReplayFault) -> Result<bool, Fail> {
+    Ok(fault(alloc, schedule)? == wanted)
 }
 
 /// The second schedule sends one frame in its first event, and passes on the next.
 #[test]
 fn a_frame_that_is_not_sent(rt: HostRuntime) -> Result<(), Fail> {
-    assert_eq!(rt;
-        fault(rt.alloc(), FRAME_NOT_SENT)?,
-        ReplayFault::NoSuchFrame {
-            event: 0,
-            frame: 0,
-            sent: 0
-        }
-    );
+    let none_sent = ReplayFault::NoSuchFrame {
+        event: 0,
+        frame: 0,
+        sent: 0,
+    };
+    assert!(rt; is_not_sent(rt.alloc(), FRAME_NOT_SENT, none_sent)?);
     let events = b"\x01\x00\x00\x01a\x03\x00\x00\x00\x01\x01";
-    assert_eq!(rt;
-        fault(rt.alloc(), &behind(rt.alloc(), THREE_SENDERS, 179, events)?)?,
-        ReplayFault::NoSuchFrame {
-            event: 1,
-            frame: 1,
-            sent: 1
-        }
-    );
+    let bytes = after(rt.alloc(), THREE_SENDERS, 179, events)?;
+    let one_sent = ReplayFault::NoSuchFrame {
+        event: 1,
+        frame: 1,
+        sent: 1,
+    };
+    assert!(rt; is_not_sent(rt.alloc(), &bytes, one_sent)?);
     Ok(())
 }
 
 #[test]
 fn a_fault_of_the_bytes_comes_before_one_of_the_run(rt: HostRuntime) -> Result<(), Fail> {
-    assert_eq!(rt;
-        fault(rt.alloc(), TAG_BEFORE_FRAME)?,
-        of_bytes(FaultKind::Tag, 68)
-    );
+    assert!(rt; is_fault(rt.alloc(), TAG_BEFORE_FRAME, FaultKind::Tag, 68)?);
     Ok(())
 }

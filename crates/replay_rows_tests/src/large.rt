@@ -1,7 +1,8 @@
-use crate::asking::report;
+use crate::asking::is_report;
 use crate::data::ONE_MEMBER;
 use schedule_file::write_schedule;
 use schedule_making::generate;
+use std::alloc::Global;
 use std::test::Fail;
 
 /// What another program, in Python, writes of the schedule that it makes from the number 1: the short report.
@@ -41,35 +42,42 @@ agree yes
 sound yes
 ";
 
+/// The schedule that is made from the number 1.
+fn made(alloc: Global) -> Result<Vec<u8>, Fail> {
+    let mut schedule = Vec::new(alloc);
+    write_schedule(&generate(alloc, 1)?, &mut schedule)?;
+    Ok(schedule)
+}
+
+/// The header of `ONE_MEMBER`, and these bytes after it, so many times.
+fn after_header(alloc: Global, events: &[u8], times: u32) -> Result<Vec<u8>, Fail> {
+    let mut schedule = ONE_MEMBER.to_vec(alloc)?;
+    schedule.truncate(62);
+    for _ in 0..times {
+        schedule.extend_from_slice(events)?;
+    }
+    Ok(schedule)
+}
+
 #[test]
 fn a_large_schedule(rt: HostRuntime) -> Result<(), Fail> {
-    let mut schedule = Vec::new(rt.alloc());
-    write_schedule(&generate(rt.alloc(), 1)?, &mut schedule)?;
-    let told = report(rt.alloc(), &schedule, true)?;
-    assert_eq!(rt; told.as_slice(), FROM_ONE);
+    let schedule = made(rt.alloc())?;
+    assert!(rt; is_report(rt.alloc(), &schedule, true, FROM_ONE)?);
     Ok(())
 }
 
 #[test]
 fn the_longest_payload_is_refused(rt: HostRuntime) -> Result<(), Fail> {
-    let mut schedule = ONE_MEMBER.to_vec(rt.alloc())?;
-    schedule.truncate(62);
-    schedule.extend_from_slice(&[1, 0, 0xff, 0xff])?;
+    let mut schedule = after_header(rt.alloc(), &[1, 0, 0xff, 0xff], 1)?;
     schedule.extend_from_slice(&[0; 65_535])?;
-    let told = report(rt.alloc(), &schedule, false)?;
-    assert_eq!(rt; told.as_slice(), LONGEST_PAYLOAD);
+    assert!(rt; is_report(rt.alloc(), &schedule, false, LONGEST_PAYLOAD)?);
     Ok(())
 }
 
 #[test]
 fn the_last_view_has_no_next(rt: HostRuntime) -> Result<(), Fail> {
-    let mut schedule = ONE_MEMBER.to_vec(rt.alloc())?;
-    schedule.truncate(62);
-    for _ in 0..1023 {
-        schedule.extend_from_slice(&[8, 0, 9, 0])?;
-    }
+    let mut schedule = after_header(rt.alloc(), &[8, 0, 9, 0], 1023)?;
     schedule.extend_from_slice(&[8, 0])?;
-    let told = report(rt.alloc(), &schedule, true)?;
-    assert_eq!(rt; told.as_slice(), ALL_VIEWS);
+    assert!(rt; is_report(rt.alloc(), &schedule, true, ALL_VIEWS)?);
     Ok(())
 }

@@ -1,4 +1,4 @@
-use crate::asking::report;
+use crate::asking::is_report;
 use crate::data::{
     CUT_BETWEEN_PLACES, CUT_BETWEEN_PLACES_REPORT, DEPUTY_ADOPTS_COMMIT,
     DEPUTY_ADOPTS_COMMIT_REPORT, DEPUTY_HIDES_READY, DEPUTY_HIDES_READY_REPORT, HOSTILE_FRAMES,
@@ -29,154 +29,181 @@ sound yes
 
 #[test]
 fn one_member(rt: HostRuntime) -> Result<(), Fail> {
-    let told = report(rt.alloc(), ONE_MEMBER, false)?;
-    assert_eq!(rt; told.as_slice(), ONE_MEMBER_REPORT);
+    assert!(rt; is_report(rt.alloc(), ONE_MEMBER, false, ONE_MEMBER_REPORT)?);
     Ok(())
 }
 
 #[test]
 fn no_events(rt: HostRuntime) -> Result<(), Fail> {
-    let told = report(rt.alloc(), NO_EVENTS, false)?;
-    assert_eq!(rt; told.as_slice(), NO_EVENTS_REPORT);
+    assert!(rt; is_report(rt.alloc(), NO_EVENTS, false, NO_EVENTS_REPORT)?);
     Ok(())
 }
 
 #[test]
 fn three_senders(rt: HostRuntime) -> Result<(), Fail> {
-    let told = report(rt.alloc(), THREE_SENDERS, false)?;
-    assert_eq!(rt; told.as_slice(), THREE_SENDERS_REPORT);
+    assert!(rt; is_report(rt.alloc(), THREE_SENDERS, false, THREE_SENDERS_REPORT)?);
     Ok(())
 }
 
 #[test]
 fn one_liar(rt: HostRuntime) -> Result<(), Fail> {
-    let told = report(rt.alloc(), ONE_LIAR, false)?;
-    assert_eq!(rt; told.as_slice(), ONE_LIAR_REPORT);
+    assert!(rt; is_report(rt.alloc(), ONE_LIAR, false, ONE_LIAR_REPORT)?);
     Ok(())
 }
 
 #[test]
 fn three_senders_one_liar(rt: HostRuntime) -> Result<(), Fail> {
-    let told = report(rt.alloc(), THREE_SENDERS_ONE_LIAR, false)?;
-    assert_eq!(rt; told.as_slice(), THREE_SENDERS_ONE_LIAR_REPORT);
+    assert!(rt;
+        is_report(
+            rt.alloc(),
+            THREE_SENDERS_ONE_LIAR,
+            false,
+            THREE_SENDERS_ONE_LIAR_REPORT
+        )?
+    );
     Ok(())
 }
 
 #[test]
 fn two_liars(rt: HostRuntime) -> Result<(), Fail> {
-    let told = report(rt.alloc(), TWO_LIARS, false)?;
-    assert_eq!(rt; told.as_slice(), TWO_LIARS_REPORT);
+    assert!(rt; is_report(rt.alloc(), TWO_LIARS, false, TWO_LIARS_REPORT)?);
     Ok(())
 }
 
 #[test]
 fn lost_frames_and_want(rt: HostRuntime) -> Result<(), Fail> {
-    let told = report(rt.alloc(), LOST_FRAMES_AND_WANT, false)?;
-    assert_eq!(rt; told.as_slice(), LOST_FRAMES_AND_WANT_REPORT);
+    assert!(rt;
+        is_report(
+            rt.alloc(),
+            LOST_FRAMES_AND_WANT,
+            false,
+            LOST_FRAMES_AND_WANT_REPORT
+        )?
+    );
     Ok(())
 }
 
 #[test]
 fn one_place(rt: HostRuntime) -> Result<(), Fail> {
-    let told = report(rt.alloc(), ONE_PLACE, false)?;
-    assert_eq!(rt; told.as_slice(), ONE_PLACE_REPORT);
+    assert!(rt; is_report(rt.alloc(), ONE_PLACE, false, ONE_PLACE_REPORT)?);
     Ok(())
 }
 
 #[test]
 fn three_places(rt: HostRuntime) -> Result<(), Fail> {
-    let told = report(rt.alloc(), THREE_PLACES, false)?;
-    assert_eq!(rt; told.as_slice(), THREE_PLACES_REPORT);
+    assert!(rt; is_report(rt.alloc(), THREE_PLACES, false, THREE_PLACES_REPORT)?);
     Ok(())
 }
 
 #[test]
 fn manager_renews(rt: HostRuntime) -> Result<(), Fail> {
-    let told = report(rt.alloc(), MANAGER_RENEWS, false)?;
-    assert_eq!(rt; told.as_slice(), MANAGER_RENEWS_REPORT);
+    assert!(rt; is_report(rt.alloc(), MANAGER_RENEWS, false, MANAGER_RENEWS_REPORT)?);
     Ok(())
 }
 
 #[test]
 fn cut_between_places(rt: HostRuntime) -> Result<(), Fail> {
-    let told = report(rt.alloc(), CUT_BETWEEN_PLACES, false)?;
-    assert_eq!(rt; told.as_slice(), CUT_BETWEEN_PLACES_REPORT);
+    assert!(rt;
+        is_report(
+            rt.alloc(),
+            CUT_BETWEEN_PLACES,
+            false,
+            CUT_BETWEEN_PLACES_REPORT
+        )?
+    );
     Ok(())
 }
 
 #[test]
 fn deputy_adopts_commit(rt: HostRuntime) -> Result<(), Fail> {
-    let told = report(rt.alloc(), DEPUTY_ADOPTS_COMMIT, false)?;
-    assert_eq!(rt; told.as_slice(), DEPUTY_ADOPTS_COMMIT_REPORT);
+    assert!(rt;
+        is_report(
+            rt.alloc(),
+            DEPUTY_ADOPTS_COMMIT,
+            false,
+            DEPUTY_ADOPTS_COMMIT_REPORT
+        )?
+    );
     Ok(())
 }
 
 #[test]
 fn deputy_hides_ready(rt: HostRuntime) -> Result<(), Fail> {
-    let told = report(rt.alloc(), DEPUTY_HIDES_READY, false)?;
-    assert_eq!(rt; told.as_slice(), DEPUTY_HIDES_READY_REPORT);
+    assert!(rt;
+        is_report(
+            rt.alloc(),
+            DEPUTY_HIDES_READY,
+            false,
+            DEPUTY_HIDES_READY_REPORT
+        )?
+    );
     Ok(())
 }
 
 #[test]
 fn removed_and_added_again(rt: HostRuntime) -> Result<(), Fail> {
-    let told = report(rt.alloc(), REMOVED_AND_ADDED_AGAIN, false)?;
-    assert_eq!(rt; told.as_slice(), REMOVED_AND_ADDED_AGAIN_REPORT);
+    assert!(rt;
+        is_report(
+            rt.alloc(),
+            REMOVED_AND_ADDED_AGAIN,
+            false,
+            REMOVED_AND_ADDED_AGAIN_REPORT
+        )?
+    );
     Ok(())
 }
 
 #[test]
 fn spent_key(rt: HostRuntime) -> Result<(), Fail> {
-    let told = report(rt.alloc(), SPENT_KEY, false)?;
-    assert_eq!(rt; told.as_slice(), SPENT_KEY_REPORT);
+    assert!(rt; is_report(rt.alloc(), SPENT_KEY, false, SPENT_KEY_REPORT)?);
     Ok(())
 }
 
 #[test]
 fn spent_tree(rt: HostRuntime) -> Result<(), Fail> {
-    let told = report(rt.alloc(), SPENT_TREE, false)?;
-    assert_eq!(rt; told.as_slice(), SPENT_TREE_REPORT);
+    assert!(rt; is_report(rt.alloc(), SPENT_TREE, false, SPENT_TREE_REPORT)?);
     Ok(())
 }
 
 #[test]
 fn two_levels(rt: HostRuntime) -> Result<(), Fail> {
-    let told = report(rt.alloc(), TWO_LEVELS, false)?;
-    assert_eq!(rt; told.as_slice(), TWO_LEVELS_REPORT);
+    assert!(rt; is_report(rt.alloc(), TWO_LEVELS, false, TWO_LEVELS_REPORT)?);
     Ok(())
 }
 
 #[test]
 fn hostile_frames(rt: HostRuntime) -> Result<(), Fail> {
-    let told = report(rt.alloc(), HOSTILE_FRAMES, false)?;
-    assert_eq!(rt; told.as_slice(), HOSTILE_FRAMES_REPORT);
+    assert!(rt; is_report(rt.alloc(), HOSTILE_FRAMES, false, HOSTILE_FRAMES_REPORT)?);
     Ok(())
 }
 
 #[test]
 fn signed_elsewhere(rt: HostRuntime) -> Result<(), Fail> {
-    let told = report(rt.alloc(), SIGNED_ELSEWHERE, false)?;
-    assert_eq!(rt; told.as_slice(), SIGNED_ELSEWHERE_REPORT);
+    assert!(rt; is_report(rt.alloc(), SIGNED_ELSEWHERE, false, SIGNED_ELSEWHERE_REPORT)?);
     Ok(())
 }
 
 #[test]
 fn long_payload_and_backlog(rt: HostRuntime) -> Result<(), Fail> {
-    let told = report(rt.alloc(), LONG_PAYLOAD_AND_BACKLOG, false)?;
-    assert_eq!(rt; told.as_slice(), LONG_PAYLOAD_AND_BACKLOG_REPORT);
+    assert!(rt;
+        is_report(
+            rt.alloc(),
+            LONG_PAYLOAD_AND_BACKLOG,
+            false,
+            LONG_PAYLOAD_AND_BACKLOG_REPORT
+        )?
+    );
     Ok(())
 }
 
 #[test]
 fn refused_requests(rt: HostRuntime) -> Result<(), Fail> {
-    let told = report(rt.alloc(), REFUSED_REQUESTS, false)?;
-    assert_eq!(rt; told.as_slice(), REFUSED_REQUESTS_REPORT);
+    assert!(rt; is_report(rt.alloc(), REFUSED_REQUESTS, false, REFUSED_REQUESTS_REPORT)?);
     Ok(())
 }
 
 #[test]
 fn the_short_report(rt: HostRuntime) -> Result<(), Fail> {
-    let told = report(rt.alloc(), THREE_SENDERS_ONE_LIAR, true)?;
-    assert_eq!(rt; told.as_slice(), SHORT_REPORT);
+    assert!(rt; is_report(rt.alloc(), THREE_SENDERS_ONE_LIAR, true, SHORT_REPORT)?);
     Ok(())
 }

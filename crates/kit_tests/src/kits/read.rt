@@ -91,16 +91,28 @@ fn joined(alloc: Global, parts: &[&[u8]]) -> Result<Vec<u8>, AllocError> {
     Ok(text)
 }
 
+// Whether the kit has the public lines of `PLAIN`.
+fn is_plain(kit: &Kit, member: Pid) -> bool {
+    kit.scheme() == AnyScheme::Plain
+        && kit.group().bytes()[0] == 0x83
+        && kit.genesis() == [member].as_slice()
+        && kit.port(member) == Some(47_000)
+}
+
+// Whether it hosts process 1 alone, and has its pair key with the member.
+fn hosts_one(kit: &Kit, member: Pid) -> bool {
+    let host = Pid::new(1).unwrap_or(member);
+    kit.hosted().mask() == 2
+        && kit.secret(member).is_none()
+        && kit.pair(member, member).is_none()
+        && kit.pair(host, member).map(|key| key[0]) == Some(0x58)
+}
+
 #[test]
 fn a_plain_kit_is_read(rt: HostRuntime) -> Result<(), Fail> {
     let kit = read_kit(rt.alloc(), PLAIN)?;
-    let member = Pid::default();
-    assert!(rt; kit.scheme() == AnyScheme::Plain && kit.group().bytes()[0] == 0x83);
-    assert_eq!(rt; kit.genesis(), [member].as_slice());
-    assert!(rt; kit.port(member) == Some(47_000) && kit.hosted().mask() == 2);
-    assert!(rt; kit.secret(member).is_none() && kit.pair(member, member).is_none());
-    let host = Pid::new(1).unwrap_or(member);
-    assert_eq!(rt; kit.pair(host, member).map(|key| key[0]), Some(0x58));
+    assert!(rt; is_plain(&kit, Pid::default()));
+    assert!(rt; hosts_one(&kit, Pid::default()));
     Ok(())
 }
 
@@ -118,21 +130,23 @@ fn a_kit_of_a_tree_is_read(rt: HostRuntime) -> Result<(), Fail> {
     Ok(())
 }
 
+// Why a text of these parts is no kit, if it is none.
+fn fault_of(alloc: Global, parts: &[&[u8]]) -> Result<Option<KitFault>, AllocError> {
+    let text = joined(alloc, parts)?;
+    Ok(read_kit(alloc, &text).err())
+}
+
 #[test]
 fn a_kit_of_levels_is_read_in_its_version_alone(rt: HostRuntime) -> Result<(), Fail> {
     let kit = read_kit(rt.alloc(), LEVELS)?;
-    assert_eq!(rt; kit.scheme(), AnyScheme::Hss);
-    assert!(rt; has_seed(&kit, Pid::default()));
+    assert!(rt; kit.scheme() == AnyScheme::Hss && has_seed(&kit, Pid::default()));
     for (version, rest, line) in [
         (b"rampart kit 1\n".as_slice(), &LEVELS[14..], 2),
         (b"rampart kit 2\n".as_slice(), &TREE[14..], 2),
         (b"rampart kit 3\n".as_slice(), &LEVELS[14..], 1),
     ] {
-        let text = joined(rt.alloc(), &[version, rest])?;
-        assert_eq!(rt;
-            read_kit(rt.alloc(), &text).err(),
-            Some(KitFault::Line { line })
-        );
+        let fault = fault_of(rt.alloc(), &[version, rest])?;
+        assert_eq!(rt; fault, Some(KitFault::Line { line }));
     }
     Ok(())
 }
@@ -142,64 +156,46 @@ fn byte(key: PublicKey, at: usize) -> u8 {
     key.as_bytes().get(at).copied().unwrap_or(0)
 }
 
+// The line of a secret whose public key is not the one on its key line, and of the key that it makes, and of the one that is listed, the byte
+// at this place. Zeros where the text has no such secret.
+fn mismatch(alloc: Global, parts: &[&[u8]], at: usize) -> Result<(usize, u8, u8), AllocError> {
+    match fault_of(alloc, parts)? {
+        Some(KitFault::KeyMismatch { line, made, listed }) => {
+            Ok((line, byte(made, at), byte(listed, at)))
+        }
+        _ => Ok((0, 0, 0)),
+    }
+}
+
 #[test]
 fn a_key_of_another_secret_is_told(rt: HostRuntime) -> Result<(), Fail> {
-    let text = joined(rt.alloc(), &[HEAD, GROUP, OTHER_KEY_0, REST])?;
-    let told = match read_kit(rt.alloc(), &text) {
-        Err(KitFault::KeyMismatch { line, made, listed }) => {
-            (line, byte(made, 55), byte(listed, 55))
-        }
-        _ => (0, 0, 0),
-    };
+    let told = mismatch(rt.alloc(), &[HEAD, GROUP, OTHER_KEY_0, REST], 55)?;
     assert_eq!(rt; told, (9, 0x0b, 0x0c));
     Ok(())
 }
 
 #[test]
 fn a_line_left_out_is_missing(rt: HostRuntime) -> Result<(), Fail> {
-    let text = joined(rt.alloc(), &[HEAD, KEY_0, REST])?;
-    assert_eq!(rt;
-        read_kit(rt.alloc(), &text).err(),
-        Some(KitFault::Missing { line: 3 })
-    );
+    let fault = fault_of(rt.alloc(), &[HEAD, KEY_0, REST])?;
+    assert_eq!(rt; fault, Some(KitFault::Missing { line: 3 }));
     Ok(())
 }
 
 #[test]
 fn a_line_that_stands_twice_is_repeated(rt: HostRuntime) -> Result<(), Fail> {
-    let text = joined(rt.alloc(), &[HEAD, GROUP, KEY_0, KEY_0, REST])?;
-    assert_eq!(rt;
-        read_kit(rt.alloc(), &text).err(),
-        Some(KitFault::Repeated { line: 5 })
-    );
+    let fault = fault_of(rt.alloc(), &[HEAD, GROUP, KEY_0, KEY_0, REST])?;
+    assert_eq!(rt; fault, Some(KitFault::Repeated { line: 5 }));
     Ok(())
 }
 
 #[test]
 fn faults_of_a_kit_of_levels_are_told(rt: HostRuntime) -> Result<(), Fail> {
-    let other = joined(
-        rt.alloc(),
-        &[LEVELS_HEAD, GROUP, LEVELS_OTHER_KEY_0, LEVELS_REST],
-    )?;
-    let told = match read_kit(rt.alloc(), &other) {
-        Err(KitFault::KeyMismatch { line, made, listed }) => {
-            (line, byte(made, 59), byte(listed, 59))
-        }
-        _ => (0, 0, 0),
-    };
+    let (head, key, rest) = (LEVELS_HEAD, LEVELS_KEY_0, LEVELS_REST);
+    let told = mismatch(rt.alloc(), &[head, GROUP, LEVELS_OTHER_KEY_0, rest], 59)?;
     assert_eq!(rt; told, (9, 0x0b, 0x0c));
-    let cut = joined(rt.alloc(), &[LEVELS_HEAD, LEVELS_KEY_0, LEVELS_REST])?;
-    assert_eq!(rt;
-        read_kit(rt.alloc(), &cut).err(),
-        Some(KitFault::Missing { line: 3 })
-    );
-    let twice = joined(
-        rt.alloc(),
-        &[LEVELS_HEAD, GROUP, LEVELS_KEY_0, LEVELS_KEY_0, LEVELS_REST],
-    )?;
-    assert_eq!(rt;
-        read_kit(rt.alloc(), &twice).err(),
-        Some(KitFault::Repeated { line: 5 })
-    );
+    let cut = fault_of(rt.alloc(), &[head, key, rest])?;
+    assert_eq!(rt; cut, Some(KitFault::Missing { line: 3 }));
+    let twice = fault_of(rt.alloc(), &[head, GROUP, key, key, rest])?;
+    assert_eq!(rt; twice, Some(KitFault::Repeated { line: 5 }));
     Ok(())
 }

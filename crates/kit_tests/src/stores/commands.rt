@@ -1,73 +1,72 @@
 //! What the store answers to each command, and its state.
 use kv_service::Store;
 use std::alloc::Global;
-use std::process::Abort;
 use std::test::Fail;
 
-// Carries out these payloads, one after the other, and holds each answer against the one beside it.
-fn all_answered(
-    rt: &impl Abort,
-    alloc: Global,
-    store: &mut Store,
-    rows: &[(&[u8], &[u8])],
-) -> Result<(), Fail> {
+// Whether the payloads, carried out one after the other, are answered as is said beside each.
+fn are_answered(alloc: Global, store: &mut Store, rows: &[(&[u8], &[u8])]) -> Result<bool, Fail> {
     let mut answer = Vec::new(alloc);
     for (payload, wanted) in rows {
         answer.clear();
         store.apply(alloc, payload, &mut answer)?;
-        assert_eq!(rt; answer.as_slice(), *wanted);
+        if answer.as_slice() != *wanted {
+            return Ok(false);
+        }
     }
-    Ok(())
+    Ok(true)
 }
+
+// Commands on what is there and what is not, and the answers to them.
+const FOUND: [(&[u8], &[u8]); 14] = [
+    (b"\0\0\0\0\0\0\0\x01\x02\x01a", b"\x02"),
+    (b"\0\0\0\0\0\0\0\x01\x01\x01b\0\x01x", b"\0"),
+    (b"\0\0\0\0\0\0\0\x01\x01\x01a\0\x01y", b"\0"),
+    (b"\0\0\0\0\0\0\0\x02\x02\x01a", b"\x01y"),
+    (b"\0\0\0\0\0\0\0\x02\x01\x01b\0\0", b"\0"),
+    (b"\0\0\0\0\0\0\0\x03\x02\x01b", b"\x01"),
+    (b"\0\0\0\0\0\0\0\x01\x04\x01a\0\x01x\0\x01z", b"\x05y"),
+    (b"\0\0\0\0\0\0\0\x01\x04\x01a\0\x01y\0\x01z", b"\0"),
+    (b"\0\0\0\0\0\0\0\x04\x02\x01a", b"\x01z"),
+    (b"\0\0\0\0\0\0\0\x01\x04\x01c\0\0\0\x01z", b"\x02"),
+    (b"\0\0\0\0\0\0\0\x01\x03\x01c", b"\x02"),
+    (b"\0\0\0\0\0\0\0\x01\x03\x01a", b"\0"),
+    (b"\0\0\0\0\0\0\0\x05\x02\x01a", b"\x02"),
+    (b"\0\0\0\0\0\0\0\x01\x01\x01b\0\x01x", b"\0"),
+];
+
+// Payloads that are no requests, or out of their ranges.
+const NO_REQUESTS: [(&[u8], &[u8]); 9] = [
+    (b"", b"\x03"),
+    (b"\0\0\0\0\0\0\0", b"\x03"),
+    (b"\0\0\0\0\0\0\0\0", b"\x03"),
+    (b"\0\0\0\0\0\0\0\x01\x05\x01a", b"\x03"),
+    (b"\0\0\0\0\0\0\0\x01\x02\0", b"\x03"),
+    (b"\0\0\0\0\0\0\0\x01\x02\x01a\0", b"\x03"),
+    (b"\0\0\0\0\0\0\0\x01\x01\x01a\0\x01", b"\x03"),
+    (
+        b"\0\0\0\0\0\0\0\x01\x02Akkkkkkkkkkkkkkkkkkkkkkkkkkkkkkkkkkkkkkkkkkkkkkkkkkkkkkkkkkkkkkkkk",
+        b"\x03",
+    ),
+    (b"\0\0\0\0\0\0\0\x01\x01\x01a\0\0\0", b"\x03"),
+];
+
+// Keys in another order than that of a state.
+const RISING: [(&[u8], &[u8]); 4] = [
+    (
+        b"\0\0\0\0\0\0\0\x01\x02@kkkkkkkkkkkkkkkkkkkkkkkkkkkkkkkkkkkkkkkkkkkkkkkkkkkkkkkkkkkkkkkk",
+        b"\x02",
+    ),
+    (b"\0\0\0\0\0\0\0\x01\x01\x02ab\0\x011", b"\0"),
+    (b"\0\0\0\0\0\0\0\x01\x01\x02aa\0\x012", b"\0"),
+    (b"\0\0\0\0\0\0\0\x01\x01\x01a\0\x013", b"\0"),
+];
 
 #[test]
 fn each_command_is_answered(rt: HostRuntime) -> Result<(), Fail> {
     let mut store = Store::new(rt.alloc());
-    let found = [
-        (
-            b"\0\0\0\0\0\0\0\x01\x02\x01a".as_slice(),
-            b"\x02".as_slice(),
-        ),
-        (b"\0\0\0\0\0\0\0\x01\x01\x01b\0\x01x", b"\0"),
-        (b"\0\0\0\0\0\0\0\x01\x01\x01a\0\x01y", b"\0"),
-        (b"\0\0\0\0\0\0\0\x02\x02\x01a", b"\x01y"),
-        (b"\0\0\0\0\0\0\0\x02\x01\x01b\0\0", b"\0"),
-        (b"\0\0\0\0\0\0\0\x03\x02\x01b", b"\x01"),
-        (b"\0\0\0\0\0\0\0\x01\x04\x01a\0\x01x\0\x01z", b"\x05y"),
-        (b"\0\0\0\0\0\0\0\x01\x04\x01a\0\x01y\0\x01z", b"\0"),
-        (b"\0\0\0\0\0\0\0\x04\x02\x01a", b"\x01z"),
-        (b"\0\0\0\0\0\0\0\x01\x04\x01c\0\0\0\x01z", b"\x02"),
-        (b"\0\0\0\0\0\0\0\x01\x03\x01c", b"\x02"),
-        (b"\0\0\0\0\0\0\0\x01\x03\x01a", b"\0"),
-        (b"\0\0\0\0\0\0\0\x05\x02\x01a", b"\x02"),
-        (b"\0\0\0\0\0\0\0\x01\x01\x01b\0\x01x", b"\0"),
-    ];
-    all_answered(&rt, rt.alloc(), &mut store, &found)?;
-    let no_requests = [
-        (b"".as_slice(), b"\x03".as_slice()),
-        (b"\0\0\0\0\0\0\0", b"\x03"),
-        (b"\0\0\0\0\0\0\0\0", b"\x03"),
-        (b"\0\0\0\0\0\0\0\x01\x05\x01a", b"\x03"),
-        (b"\0\0\0\0\0\0\0\x01\x02\0", b"\x03"),
-        (b"\0\0\0\0\0\0\0\x01\x02\x01a\0", b"\x03"),
-        (b"\0\0\0\0\0\0\0\x01\x01\x01a\0\x01", b"\x03"),
-        (
-            b"\0\0\0\0\0\0\0\x01\x02Akkkkkkkkkkkkkkkkkkkkkkkkkkkkkkkkkkkkkkkkkkkkkkkkkkkkkkkkkkkkkkkkk",
-            b"\x03",
-        ),
-        (b"\0\0\0\0\0\0\0\x01\x01\x01a\0\0\0", b"\x03"),
-    ];
-    all_answered(&rt, rt.alloc(), &mut store, &no_requests)?;
-    let rising = [
-        (
-            b"\0\0\0\0\0\0\0\x01\x02@kkkkkkkkkkkkkkkkkkkkkkkkkkkkkkkkkkkkkkkkkkkkkkkkkkkkkkkkkkkkkkkk".as_slice(),
-            b"\x02".as_slice(),
-        ),
-        (b"\0\0\0\0\0\0\0\x01\x01\x02ab\0\x011", b"\0"),
-        (b"\0\0\0\0\0\0\0\x01\x01\x02aa\0\x012", b"\0"),
-        (b"\0\0\0\0\0\0\0\x01\x01\x01a\0\x013", b"\0"),
-    ];
-    all_answered(&rt, rt.alloc(), &mut store, &rising)?;
+    assert!(rt; are_answered(rt.alloc(), &mut store, &FOUND)?);
+    assert!(rt; are_answered(rt.alloc(), &mut store, &NO_REQUESTS)?);
+    assert!(rt; are_answered(rt.alloc(), &mut store, &RISING)?);
     let mut state = Vec::new(rt.alloc());
     store.state_into(&mut state)?;
     let wanted = b"\0\x04\x01a\0\x013\x02aa\0\x012\x02ab\0\x011\x01b\0\x01x";

@@ -2,7 +2,6 @@
 use rp_base::{GroupId, PlainScheme, Scheme};
 use sig_scheme::Secret;
 use std::alloc::Global;
-use std::process::Abort;
 use std::test::Fail;
 use store_records::{
     Command, Pair, Pairs, is_store, push_reply, push_reply_body, push_state, push_state_body,
@@ -43,17 +42,19 @@ fn public_keys(alloc: Global) -> Result<(Vec<u8>, Vec<u8>), Fail> {
     ))
 }
 
+// Whether the key is the one that these digits spell.
+fn is_key(key: &[u8], digits: &[u8]) -> bool {
+    match bytes::<32>(digits) {
+        Some(wanted) => key == wanted.as_slice(),
+        None => false,
+    }
+}
+
 #[test]
 fn keys_of_replies_and_states_are_derived(rt: HostRuntime) -> Result<(), Fail> {
     let (reply_key, state_key) = public_keys(rt.alloc())?;
-    assert_eq!(rt;
-        Some(reply_key.as_slice()),
-        bytes::<32>(REPLY_KEY).as_ref().map(|k| k.as_slice())
-    );
-    assert_eq!(rt;
-        Some(state_key.as_slice()),
-        bytes::<32>(STATE_KEY).as_ref().map(|k| k.as_slice())
-    );
+    assert!(rt; is_key(&reply_key, REPLY_KEY));
+    assert!(rt; is_key(&state_key, STATE_KEY));
     Ok(())
 }
 
@@ -71,12 +72,10 @@ fn a_request_is_read(rt: HostRuntime) {
     assert!(rt; read_request(&set[..13]).is_none());
 }
 
-#[test]
-fn a_reply_is_read_spelled_and_signed(rt: HostRuntime) -> Result<(), Fail> {
-    let record = byte_list(rt.alloc(), REPLY)?;
-    let Some(reply) = read_reply(&record) else {
-        assert!(rt; false, "no reply");
-        return Ok(());
+// Whether the bytes are the reply of process 0, of view 0, place 0 and position 0, with the answer 0.
+fn is_first_reply(record: &[u8]) -> bool {
+    let Some(reply) = read_reply(record) else {
+        return false;
     };
     let numbers = [
         reply.view,
@@ -84,49 +83,86 @@ fn a_reply_is_read_spelled_and_signed(rt: HostRuntime) -> Result<(), Fail> {
         u16::from(reply.position),
         u16::from(reply.signer.get()),
     ];
-    assert_eq!(rt; numbers, [0, 0, 0, 0]);
-    assert_eq!(rt; reply.answer, b"\0".as_slice());
-    let mut spelled = Vec::new(rt.alloc());
+    numbers == [0; 4] && reply.answer == b"\0".as_slice()
+}
+
+// Whether a reply with these bytes is spelled so.
+fn is_spelled_reply(alloc: Global, record: &[u8]) -> Result<bool, Fail> {
+    let Some(reply) = read_reply(record) else {
+        return Ok(false);
+    };
+    let mut spelled = Vec::new(alloc);
     push_reply(&mut spelled, &reply)?;
-    assert_eq!(rt; spelled, record);
-    let mut body = Vec::new(rt.alloc());
+    Ok(spelled.as_slice() == record)
+}
+
+// Whether the reply with these bytes is signed.
+fn is_signed_reply(alloc: Global, record: &[u8]) -> Result<bool, Fail> {
+    let Some(reply) = read_reply(record) else {
+        return Ok(false);
+    };
+    let mut body = Vec::new(alloc);
     push_reply_body(&mut body, &group()?, &reply)?;
-    let (reply_key, _state_key) = public_keys(rt.alloc())?;
-    assert!(rt; PlainScheme.verify(&reply_key, &body, reply.signature));
+    let (reply_key, _state_key) = public_keys(alloc)?;
+    Ok(PlainScheme.verify(&reply_key, &body, reply.signature))
+}
+
+#[test]
+fn a_reply_is_read_spelled_and_signed(rt: HostRuntime) -> Result<(), Fail> {
+    let record = byte_list(rt.alloc(), REPLY)?;
+    assert!(rt; is_first_reply(&record));
+    assert!(rt; is_spelled_reply(rt.alloc(), &record)?);
+    assert!(rt; is_signed_reply(rt.alloc(), &record)?);
     assert!(rt; read_reply(&record[1..]).is_none());
     Ok(())
+}
+
+// Whether a state record with these bytes has this state, and is spelled so.
+fn is_spelled_state(alloc: Global, record: &[u8], state: &[u8]) -> Result<bool, Fail> {
+    let Some(given) = read_state(record) else {
+        return Ok(false);
+    };
+    let mut spelled = Vec::new(alloc);
+    push_state(&mut spelled, &given)?;
+    Ok(given.state == state && spelled.as_slice() == record)
+}
+
+// Whether the state record with these bytes is signed.
+fn is_signed_state(alloc: Global, record: &[u8]) -> Result<bool, Fail> {
+    let Some(given) = read_state(record) else {
+        return Ok(false);
+    };
+    let mut body = Vec::new(alloc);
+    push_state_body(&mut body, &group()?, &given)?;
+    let (_reply_key, state_key) = public_keys(alloc)?;
+    Ok(PlainScheme.verify(&state_key, &body, given.signature))
 }
 
 #[test]
 fn a_state_is_read_spelled_and_signed(rt: HostRuntime) -> Result<(), Fail> {
     let record = byte_list(rt.alloc(), STATE)?;
-    let Some(given) = read_state(&record) else {
-        assert!(rt; false, "no state");
-        return Ok(());
-    };
-    assert_eq!(rt; given.state, b"\0\x01\x01a\0\x01b".as_slice());
-    let mut spelled = Vec::new(rt.alloc());
-    push_state(&mut spelled, &given)?;
-    assert_eq!(rt; spelled, record);
-    let mut body = Vec::new(rt.alloc());
-    push_state_body(&mut body, &group()?, &given)?;
-    let (_reply_key, state_key) = public_keys(rt.alloc())?;
-    assert!(rt; PlainScheme.verify(&state_key, &body, given.signature));
+    assert!(rt; is_spelled_state(rt.alloc(), &record, b"\0\x01\x01a\0\x01b")?);
+    assert!(rt; is_signed_state(rt.alloc(), &record)?);
     assert!(rt; read_state(&record[1..]).is_none());
     Ok(())
+}
+
+// Whether the next pairs have these keys, and no pair is left then.
+fn are_left(pairs: &mut Pairs<'_>, keys: &[&[u8]]) -> bool {
+    for wanted in keys {
+        match pairs.next() {
+            Ok(Some(Pair { key, .. })) if key == *wanted => {}
+            _ => return false,
+        }
+    }
+    matches!(pairs.next(), Ok(None))
 }
 
 #[test]
 fn the_pairs_of_a_state_are_read(rt: HostRuntime) -> Result<(), Fail> {
     let state = b"\0\x02\x01a\0\x01b\x01b\0\0";
-    assert!(rt; is_store(state));
-    let Some(mut pairs) = Pairs::of(state) else {
-        assert!(rt; false, "no store");
-        return Ok(());
-    };
-    assert!(rt; matches!(pairs.next(), Ok(Some(Pair { key: b"a", .. }))));
-    assert!(rt; matches!(pairs.next(), Ok(Some(Pair { key: b"b", .. }))));
-    assert!(rt; matches!(pairs.next(), Ok(None)));
+    let mut pairs = Pairs::of(state).ok_or("no store")?;
+    assert!(rt; is_store(state) && are_left(&mut pairs, &[b"a", b"b"]));
     for no_store in [
         b"\0\x02\x01b\0\0\x01a\0\0".as_slice(),
         b"\0\x01\x01a\0\x02b",

@@ -45,6 +45,36 @@ fn run(
     Ok((status, sink, errors))
 }
 
+/// Whether the run of an input ends well, with no errors, and writes this.
+fn is_answered(
+    alloc: Global,
+    word: &str,
+    input: &[u8],
+    written: &[u8],
+) -> Result<bool, AllocError> {
+    let (status, sink, errors) = run(alloc, word, input, [&[], &[]])?;
+    Ok(status == 0 && errors.bytes().is_empty() && sink.bytes() == written)
+}
+
+/// Whether the run ends so, writes nothing, and says this and perhaps more as errors.
+fn is_told(
+    alloc: Global,
+    word: &str,
+    input: &[u8],
+    line: &[u8],
+    ended: u8,
+) -> Result<bool, AllocError> {
+    let (status, sink, errors) = run(alloc, word, input, [&[], &[]])?;
+    Ok(status == ended && sink.bytes().is_empty() && errors.bytes().starts_with(line))
+}
+
+/// These bytes one after the other.
+fn joined(alloc: Global, front: &[u8], rest: &[u8]) -> Result<Vec<u8>, AllocError> {
+    let mut bytes = front.to_vec(alloc)?;
+    bytes.extend_from_slice(rest)?;
+    Ok(bytes)
+}
+
 #[test]
 fn a_schedule_is_told_and_assembled(rt: HostRuntime) -> Result<(), Fail> {
     for (word, input, written) in [
@@ -52,71 +82,45 @@ fn a_schedule_is_told_and_assembled(rt: HostRuntime) -> Result<(), Fail> {
         ("assemble", STORY, BYTES),
         ("assemble", LOOSE, BYTES),
     ] {
-        let (status, sink, errors) = run(rt.alloc(), word, input, [&[], &[]])?;
-        assert_eq!(rt; status, 0);
-        assert_eq!(rt; sink.bytes(), written);
-        assert!(rt; errors.bytes().is_empty());
+        assert!(rt; is_answered(rt.alloc(), word, input, written)?);
     }
     Ok(())
 }
 
 #[test]
 fn what_happens_in_a_run_is_told(rt: HostRuntime) -> Result<(), Fail> {
-    let mut longer = SPENT_KEY.to_vec(rt.alloc())?;
-    longer.extend_from_slice(TOO_EARLY)?;
-    let mut trace = SPENT_TRACE.to_vec(rt.alloc())?;
-    trace.extend_from_slice(STOPPED_TRACE)?;
-    for (input, written) in [
-        (SPENT_KEY, SPENT_TRACE),
-        (longer.as_slice(), trace.as_slice()),
-    ] {
-        let (status, text, errors) = run(rt.alloc(), "run", input, [&[], &[]])?;
-        assert_eq!(rt; status, 0);
-        assert_eq!(rt; text.bytes(), written);
-        assert!(rt; errors.bytes().is_empty());
-    }
+    assert!(rt; is_answered(rt.alloc(), "run", SPENT_KEY, SPENT_TRACE)?);
+    let longer = joined(rt.alloc(), SPENT_KEY, TOO_EARLY)?;
+    let trace = joined(rt.alloc(), SPENT_TRACE, STOPPED_TRACE)?;
+    assert!(rt; is_answered(rt.alloc(), "run", &longer, &trace)?);
     Ok(())
 }
 
 #[test]
 fn a_fault_is_told_with_its_line(rt: HostRuntime) -> Result<(), Fail> {
-    for (behind, line) in FAULTS {
-        let mut input = FRONT.to_vec(rt.alloc())?;
-        input.extend_from_slice(behind)?;
-        let (status, bytes, errors) = run(rt.alloc(), "assemble", &input, [&[], &[]])?;
-        assert_eq!(rt; status, 5);
-        assert!(rt; bytes.bytes().is_empty());
-        assert!(rt; errors.bytes().starts_with(line));
+    for (after, line) in FAULTS {
+        let input = joined(rt.alloc(), FRONT, after)?;
+        assert!(rt; is_told(rt.alloc(), "assemble", &input, line, 5)?);
     }
     Ok(())
 }
 
 #[test]
 fn what_is_missing_at_the_end_is_told(rt: HostRuntime) -> Result<(), Fail> {
-    let (status, _bytes, errors) = run(rt.alloc(), "assemble", b"", [&[], &[]])?;
-    assert_eq!(rt; status, 5);
-    assert!(rt;
-        errors
-            .bytes()
-            .starts_with(b"line 1: expected group NAME SCHEME")
-    );
+    let line = b"line 1: expected group NAME SCHEME";
+    assert!(rt; is_told(rt.alloc(), "assemble", b"", line, 5)?);
     let (status, _text, errors) = run(rt.alloc(), "text", b"RPS4", [&[], &[]])?;
-    assert_eq!(rt; status, 7);
-    assert_eq!(rt; errors.bytes(), b"stop 7 magic 0\n".as_slice());
+    assert!(rt; status == 7 && errors.bytes() == b"stop 7 magic 0\n".as_slice());
     Ok(())
 }
 
 #[test]
 fn a_run_is_drawn(rt: HostRuntime) -> Result<(), Fail> {
-    let (status, picture, errors) = run(rt.alloc(), "draw", BYTES, [&[], &[]])?;
-    assert_eq!(rt; status, 0);
-    assert!(rt;
-        picture
-            .bytes()
-            .starts_with(b"<svg xmlns='http://www.w3.org/2000/svg' ")
-    );
-    assert!(rt; picture.bytes().ends_with(b"</svg>\n"));
-    assert!(rt; errors.bytes().is_empty());
+    let (status, sink, errors) = run(rt.alloc(), "draw", BYTES, [&[], &[]])?;
+    assert!(rt; status == 0 && errors.bytes().is_empty());
+    let picture = sink.bytes();
+    assert!(rt; picture.starts_with(b"<svg xmlns='http://www.w3.org/2000/svg' "));
+    assert!(rt; picture.ends_with(b"</svg>\n"));
     Ok(())
 }
 
@@ -133,9 +137,7 @@ fn other_words_and_failing_streams_have_their_statuses(rt: HostRuntime) -> Resul
         ("text", [&[], &[0]], 4, b""),
     ] {
         let (status, out, errors) = run(rt.alloc(), word, BYTES, failing)?;
-        assert_eq!(rt; status, ended);
-        assert!(rt; out.bytes().is_empty());
-        assert_eq!(rt; errors.bytes(), told);
+        assert!(rt; status == ended && out.bytes().is_empty() && errors.bytes() == told);
     }
     Ok(())
 }

@@ -47,14 +47,30 @@ fn shows(text: &[u8], part: &[u8]) -> bool {
     (0..text.len()).any(|at| text[at..].starts_with(part))
 }
 
+/// Whether the run of a story has this report.
+fn has_report(alloc: Global, text: &[u8], report: &[u8]) -> Result<bool, AllocError> {
+    let (assembled, schedule, _errors) = told(alloc, "assemble", text)?;
+    let (ended, written) = replayed(alloc, schedule.bytes())?;
+    Ok([assembled, ended] == [0, 0] && written.bytes() == report)
+}
+
+/// Whether the trace of the run of a story shows this part.
+fn has_shown(alloc: Global, text: &[u8], part: &[u8]) -> Result<bool, AllocError> {
+    let (assembled, schedule, _errors) = told(alloc, "assemble", text)?;
+    let (ended, trace, _errors) = told(alloc, "run", schedule.bytes())?;
+    Ok([assembled, ended] == [0, 0] && shows(trace.bytes(), part))
+}
+
+/// Whether a text is no story for what this line says.
+fn is_fault(alloc: Global, text: &[u8], line: &[u8]) -> Result<bool, AllocError> {
+    let (status, written, errors) = told(alloc, "assemble", text)?;
+    Ok(status == 5 && written.bytes().is_empty() && errors.bytes() == line)
+}
+
 #[test]
 fn each_story_has_the_report_that_is_shown(rt: HostRuntime) -> Result<(), Fail> {
     for (text, report) in REPORTS {
-        let (status, schedule, _errors) = told(rt.alloc(), "assemble", text)?;
-        assert_eq!(rt; status, 0);
-        let (status, written) = replayed(rt.alloc(), schedule.bytes())?;
-        assert_eq!(rt; status, 0);
-        assert_eq!(rt; written.bytes(), report);
+        assert!(rt; has_report(rt.alloc(), text, report)?);
     }
     Ok(())
 }
@@ -62,11 +78,7 @@ fn each_story_has_the_report_that_is_shown(rt: HostRuntime) -> Result<(), Fail> 
 #[test]
 fn what_is_shown_of_a_run_stands_in_its_trace(rt: HostRuntime) -> Result<(), Fail> {
     for (text, part) in TRACES {
-        let (status, schedule, _errors) = told(rt.alloc(), "assemble", text)?;
-        assert_eq!(rt; status, 0);
-        let (status, trace, _errors) = told(rt.alloc(), "run", schedule.bytes())?;
-        assert_eq!(rt; status, 0);
-        assert!(rt; shows(trace.bytes(), part));
+        assert!(rt; has_shown(rt.alloc(), text, part)?);
     }
     Ok(())
 }
@@ -74,10 +86,7 @@ fn what_is_shown_of_a_run_stands_in_its_trace(rt: HostRuntime) -> Result<(), Fai
 #[test]
 fn a_text_that_is_no_story_is_told_as_shown(rt: HostRuntime) -> Result<(), Fail> {
     for (text, line) in FAULTS {
-        let (status, written, errors) = told(rt.alloc(), "assemble", text)?;
-        assert_eq!(rt; status, 5);
-        assert!(rt; written.bytes().is_empty());
-        assert_eq!(rt; errors.bytes(), line);
+        assert!(rt; is_fault(rt.alloc(), text, line)?);
     }
     Ok(())
 }
