@@ -1,12 +1,13 @@
 #!/usr/bin/env python3
 """Runs a group of nodes, each a process of its own, over a network that loses, repeats and delays what they send.
 
-    python3 tools/group.py N [--keys PLAN] [--loss PART] [--twice PART] [--late PART] [--seed NUMBER] [--tick SECONDS]
+    python3 tools/group.py N [--guards] [--keys PLAN] [--loss PART] [--twice PART] [--late PART] [--seed NUMBER] [--tick SECONDS]
                              [--folder FOLDER] [--program PROGRAM] [--direct]
 
 N is the number of processes, 1 to 16, all of them members of view 0; PLAN is what `rampart keygen` takes for keys (plain:10000). Each node
 has a journal of its own, FOLDER/P.journal; without --folder they lie in a folder that goes at the end. What a node writes is shown as it
-comes, after its number. A word at the prompt, or a line of standard input:
+comes, after its number. With --guards the nodes are guards: one that holds evidence of a liar votes for a view without it. A word at the
+prompt, or a line of standard input:
 
     submit P TEXT    process P is given a message to send
     join P Q         P asks for Q as a member; suspect P Q, for a view without Q
@@ -14,8 +15,9 @@ comes, after its number. A word at the prompt, or a line of standard input:
     cut P Q          nothing passes between P and Q any more; heal mends all cuts
     lie P Q TEXT     Q is handed TEXT as P's last message, signed with P's key: P has then signed two texts under one number
     show             each node's view, members and deliveries, and what the network did
-    audit            what all journals say of their processes, and who is convicted by them, once the program has that word
-    wait SECONDS     for scripts
+    audit P ..       what all journals say, and who is convicted by them, where these processes are taken as correct (none named: all)
+    until P LINE     for scripts: waits until P, or each node that runs where P is `all`, has written this line, or a line that begins so,
+                     without the process's number after its first word (`until all view 1`); wait SECONDS
     quit             as the end of the input
 
 PART is a part of the datagrams, 0 to 1: those that are lost, those that come twice, and those that come late, and so out of order. The
@@ -50,6 +52,8 @@ import schedules
 TOP = pathlib.Path(__file__).resolve().parent.parent
 NEW_USER, NEW_NET = 0x10000000, 0x40000000
 ROOM = 65536
+# that a script waits for a line
+MOST_SECONDS = 60
 LIBC = ctypes.CDLL(None, use_errno=True)
 
 
@@ -239,7 +243,7 @@ class Node:
         # whether the node that was started last has opened its journal and its port
         self.is_open = False
         self.view, self.members, self.delivered, self.submitted = 0, "", 0, 0
-        self.texts = {}
+        self.texts, self.wrote = {}, []
 
     @property
     def runs(self):
@@ -248,7 +252,7 @@ class Node:
     def start(self):
         inside_of = self.group.network and self.group.network.processes[self.p].pid
         child = subprocess.Popen(
-            [self.group.program, "node", str(self.group.folder / f"{self.p}.journal")],
+            [self.group.program, self.group.word, str(self.group.folder / f"{self.p}.journal")],
             stdin=subprocess.PIPE, stdout=subprocess.PIPE, stderr=subprocess.STDOUT, text=True, bufsize=1,
             preexec_fn=(lambda: enter(inside_of)) if inside_of else None, start_new_session=True)
         self.asked = self.ticked = time.monotonic()
@@ -280,6 +284,7 @@ class Node:
             self.view, self.members, self.submitted = int(words[2]), line.partition(" : ")[2], 0
         elif words[0] == "deliver":
             self.delivered += 1
+        self.wrote.append(words[:1] + words[2:])
         self.group.say(self.p, line)
 
     def feed(self, now):
@@ -293,6 +298,9 @@ class Node:
             self.waits = True
             self.line("recv 64")
 
+    def has_written(self, words):
+        return any(line[: len(words)] == words for line in list(self.wrote))
+
     def kill(self):
         if self.runs:
             self.child.kill()
@@ -301,7 +309,7 @@ class Node:
 
 class Group:
     def __init__(self, words):
-        self.program, self.tick = words.program, words.tick
+        self.program, self.tick, self.word = words.program, words.tick, "guard" if words.guards else "node"
         self.lock = threading.Lock()
         seed = f"{words.seed:064x}"
         order = [self.program, "keygen", str(words.n), str(words.n), words.keys, seed]
@@ -400,24 +408,32 @@ class Group:
             counts = self.network.counts
             self.say("-", ", ".join(f"{counts[it]} {it}" for it in ("sent", "lost", "twice", "late", "cut")))
 
-    def audit(self):
-        data, listed = self.kit.without_secrets().encode(), []
+    def audit(self, *correct):
+        data, there = self.kit.without_secrets().encode(), []
         for p in self.nodes:
             try:
                 journal = (self.folder / f"{p}.journal").read_bytes()
             except FileNotFoundError:
                 # it has not run yet
                 continue
-            listed.append(p)
+            there.append(p)
             data += f"journal {len(journal)}\n".encode() + journal
-        words = [self.program, "audit", *map(str, listed)]
+        words = [self.program, "audit", *map(str, sorted(map(int, correct)) or there)]
         done = subprocess.run(words, input=data, capture_output=True, check=False)
         self.say("-", (done.stdout + done.stderr).decode().rstrip("\n"))
+
+    def until(self, p, *line):
+        until = time.monotonic() + MOST_SECONDS
+        waits = [it for it in self.nodes.values() if it.runs] if p == "all" else [self.nodes[int(p)]]
+        while not all(it.has_written(list(line)) for it in waits):
+            if time.monotonic() > until:
+                raise ValueError(f"not written in {MOST_SECONDS} seconds")
+            time.sleep(0.01)
 
     def wait(self, seconds):
         time.sleep(float(seconds))
 
-    WORDS = {"submit", "join", "suspect", "kill", "start", "cut", "heal", "lie", "show", "audit", "wait"}
+    WORDS = {"submit", "join", "suspect", "kill", "start", "cut", "heal", "lie", "show", "audit", "until", "wait"}
 
     def do(self, line):
         """Carries out a line; false at the end."""
@@ -446,7 +462,8 @@ def read_words():
     words.add_argument("--tick", type=float, default=0.5)
     words.add_argument("--folder")
     words.add_argument("--program", default=str(TOP / "rampart"))
-    words.add_argument("--direct", action="store_true")
+    for flag in ("guards", "direct"):
+        words.add_argument(f"--{flag}", action="store_true")
     return words.parse_args()
 
 

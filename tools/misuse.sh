@@ -14,7 +14,7 @@ work=$(mktemp -d)
 trap 'rm -rf "$work"' EXIT
 git -C "$top" archive HEAD crates crates.txt HANDLES | tar -x -C "$work"
 echo 'misuse_audit: rp_base audit_core' >> "$work/crates.txt"
-echo 'misuse: rp_base stmt_codec view_table claim_index pool_values claim_pool view_phases rp_devices journal_rp member_core hosted_core chain_check' >> "$work/crates.txt"
+echo 'misuse: rp_base stmt_codec view_table claim_index pool_values claim_pool view_phases rp_devices journal_rp member_core hosted_core chain_check store_records kv_service' >> "$work/crates.txt"
 mkdir -p "$work/crates/misuse/src" "$work/crates/misuse_audit/src"
 failed=0
 
@@ -350,6 +350,32 @@ fn forged(view: View) -> Chain {
 }
 
 fn main() {}'
+
+misuse 'a proof for a chain that is lent to be read' 'use chain_check::Chain;
+use rp_base::{GroupId, PlainScheme, Roster};
+
+fn on(chain: &Chain, roster: &Roster) {
+    let _shown = chain.advance(&PlainScheme, roster, &GroupId([0; 16]), b"");
+}
+
+fn main() {}' write-to-immutable
+
+misuse 'a store of pairs that need not rise' 'use kv_service::Store;
+use std::collections::BTreeMap;
+
+fn main(rt: HostRuntime) {
+    let _forged = Store { pairs: BTreeMap::new(rt.alloc()) };
+}' private-field
+
+misuse 'a reply that is kept longer than its bytes' 'use std::alloc::Global;
+use store_records::{Reply, read_reply};
+
+fn kept(alloc: Global) -> Option<Reply<'"'"'static>> {
+    let bytes = Vec::new(alloc);
+    read_reply(&bytes)
+}
+
+fn main() {}' borrow-e0515
 
 # ---- audits: what is asked of findings is a matter of proof, so these are checked
 

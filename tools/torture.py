@@ -108,7 +108,7 @@ class Run(group.Group):
         self.shows, self.heard, self.count = words.show, collections.defaultdict(list), collections.Counter()
         keys = "lms:5:4" if self.trees else "plain:100000"
         super().__init__(argparse.Namespace(
-            program=words.program, tick=TICK, folder=None, seed=number, n=self.n, keys=keys, direct=False,
+            program=words.program, guards=False, tick=TICK, folder=None, seed=number, n=self.n, keys=keys, direct=False,
             loss=self.draw.choice([0, 0.05, 0.2]), twice=self.draw.choice([0, 0.1]), late=self.draw.choice([0, 0.1, 0.3])))
         self.network.trees, self.network.liars = self.trees, self.liars
         self.given = collections.defaultdict(list)
