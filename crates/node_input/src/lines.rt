@@ -1,5 +1,5 @@
 //! The next line of the script.
-ghost use Rattle.std.specs.Prelude.{◌≡◌, ◌⊎◌, ◌+◌, List, Some, None, IfErr, IfOk, OnOk, ℕ};
+ghost use Rattle.std.specs.Prelude.{◌≡◌, ◌⊎◌, ◌+◌, ◌^◌, ◌<◌, List, Some, None, IfErr, IfOk, IsOk, OnOk, ℕ};
 ghost use Rattle.node_defs.specs.Scripts.{line_said};
 ghost use Rattle.node_text.specs.Views.{line as line_of, stop as stop_of};
 ghost use Rattle.node_traces.specs.Outside.{SourceSeen, SourceTook};
@@ -28,9 +28,10 @@ pub fn most_of_line(longest: usize) -> usize
 /// The number of the line that is so many lines after the line `go`, whose number is given. Lines are counted from 1.
 ///
 /// # Errors
-/// [`NoMemory`] where the number does not fit into 64 bits: no input has so many lines.
+/// [`NoMemory`] exactly where the number does not fit into 64 bits: no input has so many lines.
 pub fn number_after(go: usize, count: u32) -> Result<u64, NoMemory>
-    ensures { IfOk result (λ n. n ≡ go + count) }
+    ensures is { IfOk result (λ n. n ≡ go + count) }
+    ensures only { go + count < 2 ^ 64 → IsOk result }
 {
     (go as u64).checked_add(u64::from(count)).ok_or(NoMemory)
 }

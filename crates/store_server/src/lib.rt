@@ -1,5 +1,5 @@
 //! The server of one hosted process: it follows the process, answers the messages that it delivers, gives the state of its view, and takes
-//! states over (docs/FORMATS.md, «The store»). It is a call that no program makes yet.
+//! states over (docs/FORMATS.md, «The store»). The words `serve FILE` run one for each hosted process.
 #![tactic(auto)]
 
 mod beginning;
