@@ -4,5 +4,7 @@
 mod casting;
 
 pub use audit_sources::{AuditFault, Kit, Payload, Source, read_sources};
-pub use audit_walk::{Conviction, Firsts, Judge, Player, Walk, walk_journals};
+pub use audit_walk::{
+    Conviction, Core, Entry, Firsts, Judge, Outcome, Player, Walk, walk_journals,
+};
 pub use casting::cast;

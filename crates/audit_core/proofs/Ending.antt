@@ -1,14 +1,17 @@
 -- What an audit comes to, part by part.
-use Rattle.std.proofs.Common.{◌≡◌, ℕ, List, [], Result, Ok, Err, ap, ◌∙◌}
+use Rattle.std.proofs.Common.{◌≡◌, ℕ, List, [], ◌∷◌, map, Result, Ok, Err, inl, inr, refl, ap, ◌∙◌}
 use Rattle.byte_defs.specs.Fields.{◌>>=◌}
-use Rattle.group_defs.specs.Process.{Setting}
+use Rattle.group_defs.specs.Process.{Setting, start}
+use Rattle.group_defs.specs.Events.{run}
+use Rattle.group_defs.specs.Family.{ends}
+use Rattle.pool_laws.proofs.Members.{Mem}
 use Rattle.kit_defs.specs.Kits.{Kit}
 use Rattle.audit_defs.specs.Sources.{Source, steps_of}
-use Rattle.audit_defs.specs.Players.{Player, setting_of}
+use Rattle.audit_defs.specs.Players.{Player, family_of, setting_of}
 use Rattle.audit_defs.specs.Audits.{Audited, AuditFault, Known, audited, audited_in, cast_of, goes_through, sources_of}
 use Rattle.audit_laws.proofs.OfListed.{Holds, cast-begins, start-holds, through-holds}
 use Rattle.audit_cast.specs.Turns.{Walk}
-use Rattle.audit_core.specs.Ends.{Ended, audited_by}
+use Rattle.audit_core.specs.Ends.{Ended, HasCome, audited_by}
 
 module _ (s : Setting) (sources : List Source) (listed : List ℕ) where
   -- all steps, from these processes as they start
@@ -46,3 +49,23 @@ module _ (kit : Kit) (listed : List ℕ) (journals : List (List ℕ)) where
   pub headers-refused : (f : AuditFault) → sources_of kit journals ≡ Err f → audited kit listed journals ≡ Err f
   unfolding audited
   headers-refused f is = ap (λ r. r >>= λ sources. audited_in (setting_of kit) sources listed) is
+
+-- ---- what is at the end
+
+-- the processes are those of the family, as they end
+ends-are : (s : Setting) (cs : List Player) → ((c : Player) → Mem c cs → c.now ≡ run s (start s c.me c.batch_limit) c.turns)
+    → map (λ (c : Player). c.now) cs ≡ ends (family_of s cs)
+ends-are s [] runs = refl
+ends-are s (c ∷ cs) runs = λ i. runs c (inl refl) i ∷ ends-are s cs (λ d m. runs d (inr m)) i
+
+pub has-come : (kit : Kit) (listed : List ℕ) (journals : List (List ℕ)) (sources : List Source) → sources_of kit journals ≡ Ok sources → (w : Walk)
+    → Ended (setting_of kit) sources listed w → (a : Audited) × (audited kit listed journals ≡ Ok a) × HasCome a w
+has-come kit listed journals sources is w e = (
+  audited_by (setting_of kit) e.known,
+  of-sources kit listed journals sources is ∙ ended (setting_of kit) sources listed e.players e.known e.cast e.ends,
+  record {
+    players = e.known.players;
+    each = e.walk.players;
+    ends = ends-are (setting_of kit) e.known.players (holds-at (setting_of kit) sources listed w e).runs;
+  },
+)

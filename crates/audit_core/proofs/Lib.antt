@@ -1,5 +1,6 @@
 mod Answered
 mod Ending
+pub mod OfListed
 mod Players
 mod Rising
 mod Sparing

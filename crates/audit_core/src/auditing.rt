@@ -1,12 +1,13 @@
 //! An audit.
-ghost use Rattle.std.specs.Prelude.{◌≡◌, IfErr, IfOk, Ok, All, Contains, map, true};
+ghost use Rattle.std.specs.Prelude.{◌≡◌, List, IfErr, IfOk, Ok, All, Contains, map, true};
 ghost use Rattle.kit_defs.specs.Kits.{IsKit};
+ghost use Rattle.audit_defs.specs.Sources as plain;
 ghost use Rattle.audit_defs.specs.Players.{setting_of};
-ghost use Rattle.audit_defs.specs.Audits.{Audited, audited, audited_in};
+ghost use Rattle.audit_defs.specs.Audits.{Audited, audited, audited_in, sources_of};
 ghost use Rattle.audit_defs.specs.Laws.{FirstGiveLast};
 ghost use Rattle.journal_steps.specs.Views.{source as source_of};
 ghost use Rattle.audit_sources.specs.Faults.{Tells};
-ghost use Rattle.audit_core.specs.Ends.{Ended};
+ghost use Rattle.audit_core.specs.Ends.{Ended, HasCome};
 ghost use Rattle.audit_core.specs.Found.{IsFound, listed_in};
 
 use crate::answers::findings_of;
@@ -45,6 +46,34 @@ fn walk_of<'a>(
     }
 }
 
+/// Walks over the journals of processes of a group, each up to its closed gate: the processes of `correct` start, and each takes its entries.
+///
+/// # Errors
+/// As of [`audit`].
+pub fn walk_all<'a>(
+    alloc: Global,
+    kit: &Kit,
+    correct: PidSet,
+    journals: &'a [Payload],
+) -> Result<Walk<'a>, AuditFault>
+    requires kit { IsKit kit.now }
+    ensures ended { IfOk result (λ w. (sources : List plain.Source) × (sources_of kit.now journals.now ≡ Ok sources)
+        × Ended (setting_of kit.now) sources correct w) }
+
+    // The processes are as they are at the end of what the audit finds out, in the same order.
+    ensures come { IfOk result (λ w. (a : Audited) × (audited kit.now correct journals.now ≡ Ok a) × HasCome a w) }
+    ensures refused { IfErr result (λ fault. Tells fault (audited kit.now correct journals.now)) }
+{
+    let sources = match read_sources(alloc, kit, journals) {
+        Ok(sources) => sources,
+        Err(fault) => return Err(fault),
+    };
+    match walk_of(alloc, kit, correct, &sources) {
+        Ok(walk) => Ok(walk),
+        Err(fault) => Err(fault),
+    }
+}
+
 /// Audits the journals of processes of a group: the processes of `correct` are taken as correct, and all others as corrupt. Each journal is
 /// read up to its closed gate. What the correct ones' entries say gives a family, of which the findings tell; and whom the claims convict
 /// that were handed to them or are their own words.
@@ -70,11 +99,7 @@ pub fn audit(
     ensures spared { IfOk result (λ f. f.told.honest ≡ true → All (λ t. ¬ Contains correct t.process) f.told.convicted) }
 {
     let _ = correct.mask(); // for the proof: the numbers of a set rise
-    let sources = match read_sources(alloc, kit, journals) {
-        Ok(sources) => sources,
-        Err(fault) => return Err(fault),
-    };
-    let walk = match walk_of(alloc, kit, correct, &sources) {
+    let walk = match walk_all(alloc, kit, correct, journals) {
         Ok(walk) => walk,
         Err(fault) => return Err(fault),
     };

@@ -9,7 +9,7 @@ mod findings;
 mod listed;
 
 pub use accounts::Account;
-pub use audit_cast::{AuditFault, Kit, Payload};
-pub use auditing::audit;
+pub use audit_cast::{AuditFault, Core, Entry, Kit, Outcome, Payload, Player, Walk};
+pub use auditing::{audit, walk_all};
 pub use findings::Findings;
 pub use findings_json::Conviction;

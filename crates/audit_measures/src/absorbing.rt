@@ -1,9 +1,9 @@
 //! The entries of journals, taken alone.
+use audit_core::{Core, Entry, Outcome};
 use audit_input::{Input, Kit};
 use bench_parts::Work;
 use journal_steps::{Source, Steps};
 use kit_file::roster_of;
-use member_core::{Core, Entry, Outcome};
 use rp_base::{Count, Pid};
 use sig_scheme::AnyScheme;
 use std::alloc::Global;

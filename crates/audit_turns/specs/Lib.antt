@@ -1,3 +1,4 @@
 pub mod Players
 pub mod Walks
 pub mod Cores
+pub mod Judges

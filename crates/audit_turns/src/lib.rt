@@ -5,6 +5,6 @@ mod player;
 mod walk;
 
 pub use audit_claims::{Conviction, Firsts, Judge};
-pub use member_core::{AbsorbFault, Account, Entry};
+pub use member_core::{AbsorbFault, Account, Core, Entry, Outcome};
 pub use player::Player;
 pub use walk::Walk;

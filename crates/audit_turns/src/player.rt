@@ -10,10 +10,11 @@ ghost use Rattle.accounts.specs.Views.{account};
 ghost use Rattle.conviction_defs.specs.Convictions.{convicted};
 ghost use Rattle.journal_entries.specs.Views.{entry as entry_of, event as plain_event};
 ghost use Rattle.claim_firsts.specs.Seen.{Saw};
-ghost use Rattle.claim_hearing.specs.Hearing.{Shares};
+ghost use Rattle.audit_claims.specs.Judges.{Shares};
 ghost use Rattle.member_core.specs.Cores as cores;
 ghost use Rattle.audit_defs.specs.Players as audit;
 ghost use Rattle.audit_defs.specs.Players.{claims_of, event_of, is_written, turn_of, with_turn};
+ghost use Rattle.rp_base.specs.Signer.{count_used};
 ghost use Rattle.audit_turns.specs.Players.{IsPlayer, begun, is_taken, number_of};
 
 use audit_claims::{Firsts, Judge, Known, see_frame, see_signed};
@@ -71,6 +72,13 @@ impl<'a> Player<'a> {
         ensures { result ≡ number_of self.now }
     {
         self.core.me()
+    }
+
+    /// The process itself, as it is after the entries that it took.
+    pub fn core(&self) -> &Core<Count>
+        ensures { (s : Setting) (c : audit.Player) → IsPlayer s c self.now → cores.IsCore count_used s c.now result.now }
+    {
+        &self.core
     }
 
     /// What the process tells of itself.

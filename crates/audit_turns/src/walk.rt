@@ -4,7 +4,7 @@ ghost use Rattle.std.specs.List.{position_from};
 ghost use Rattle.message_defs.specs.Statements as plain;
 ghost use Rattle.group_defs.specs.Process.{Setting};
 ghost use Rattle.journal_entries.specs.Views.{entry as entry_of};
-ghost use Rattle.claim_hearing.specs.Hearing.{Shares};
+ghost use Rattle.audit_claims.specs.Judges.{Shares};
 ghost use Rattle.audit_defs.specs.Players.{Taken, taking};
 ghost use Rattle.audit_defs.specs.Audits.{Known};
 ghost use Rattle.audit_turns.specs.Players.{IsPlayer, begun, number_of};

@@ -3,7 +3,7 @@ ghost use Rattle.std.specs.Prelude.{◌≡◌, ◌∷◌, ◌<◌, [], List, Res
 ghost use Rattle.message_defs.specs.Statements as plain;
 ghost use Rattle.group_defs.specs.Process.{Setting};
 ghost use Rattle.journal_entries.specs.Views.{entry as entry_of};
-ghost use Rattle.claim_hearing.specs.Hearing.{Shares};
+ghost use Rattle.audit_turns.specs.Judges.{Shares};
 ghost use Rattle.audit_defs.specs.Sources.{Step, Takes, steps_in, steps_of};
 ghost use Rattle.audit_defs.specs.Audits as audits;
 ghost use Rattle.audit_defs.specs.Audits.{Known, goes_through};

@@ -4,5 +4,5 @@
 mod journals;
 
 pub use audit_sources::{AuditFault, Source};
-pub use audit_turns::{Conviction, Firsts, Judge, Player, Walk};
+pub use audit_turns::{Conviction, Core, Entry, Firsts, Judge, Outcome, Player, Walk};
 pub use journals::{walk_journal, walk_journals};

@@ -1,7 +1,7 @@
 use Rattle.std.proofs.Common.{[], map, sym, ap}
 use Rattle.signature_defs.specs.Schemes.{is_valid}
 use Rattle.sig_scheme.specs.Views.{scheme}
-use Rattle.claim_hearing.specs.Hearing.{Shares}
+use Rattle.audit_cast.specs.Judges.{Shares}
 use Rattle.audit_defs.specs.Players.{setting_of}
 use Rattle.journal_steps.specs.Views.{source}
 use Rattle.audit_sources.proofs.Telling.{tells-so}

@@ -1,7 +1,7 @@
 use Rattle.std.proofs.Common.{List, length}
 use Rattle.message_defs.specs.Statements.{Claim}
 use Rattle.group_defs.specs.Process.{Setting}
-use Rattle.claim_hearing.specs.Hearing.{Shares}
+use Rattle.audit_turns.specs.Judges.{Shares}
 use Rattle.audit_defs.specs.Sources.{steps_in}
 use Rattle.audit_defs.specs.Audits.{Known, goes_through}
 use Rattle.journal_steps.specs.Views.{source, steps_left}

@@ -1,0 +1,2 @@
+-- What those that check claims share with a setting: in the words of the crate below, passed on.
+pub use Rattle.audit_turns.specs.Judges.{Shares}
