@@ -54,16 +54,17 @@ never_zero Read e = omega (arith, e)
 never_zero Write e = omega (arith, e)
 never_zero (Input fault) e = omega (arith, high_status fault 0 e)
 
+-- the run stops for this reason
+pub err_is : {T : Type 0} (x y : Stop) → (let r : Result T Stop = Err x in r) ≡ Err y → x ≡ y
+err_is x y same = cc
+
 -- the run stops for another reason than a failed read
 pub read_is_three : {T : Type 0} (stop : Stop) (result : ℕ) → (result ≢ 1 → result ≡ status_of stop) → (result ≡ 4) ⊎ (result ≡ 7) ⊎ (result ≡ 8)
     → (let r : Result T Stop = Err stop in r) ≡ Err Read → ⊥
 read_is_three {T} stop result status which e = of which
   where
-    is : (x y : Stop) → (let r : Result T Stop = Err x in r) ≡ Err y → x ≡ y
-    is x y same = cc
-
     three : result ≢ 1 → result ≡ 3
-    three other = status other ∙ ap status_of (is stop Read e)
+    three other = status other ∙ ap status_of (err_is stop Read e)
 
     of : (result ≡ 4) ⊎ (result ≡ 7) ⊎ (result ≡ 8) → ⊥
     of (inl four) = let other : result ≢ 1 = λ one. omega (arith, four, one) in omega (arith, four, three other)

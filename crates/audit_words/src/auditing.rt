@@ -44,19 +44,45 @@ fn give<K: Sink>(output: &mut K, line: &[u8]) -> u8
     }
 }
 
-// Writes the line that says why an audit stops, and answers its status, or 1 where there is no memory for the line. A fault meanwhile leaves
-// the status as it is.
+// Writes the line of a stop, and answers its status. A fault meanwhile leaves the status as it is.
+fn say<K: Sink>(output: &mut K, stop: Stop, line: &[u8]) -> u8
+    requires { line.now ≡ line_of stop }
+    ensures status { result ≡ status_of stop }
+    ensures line { Says (line_of stop)
+        (K.written output.old) (K.written output.new) (K.faults output.old) (K.faults output.new) }
+{
+    let _ = write_all(output, line);
+    stop.status()
+}
+
+// The same of a fault of the input: 1 where there is no memory for its line.
+fn tell_fault<K: Sink>(alloc: Global, output: &mut K, fault: Fault) -> u8
+    ensures silent { result ≡ 1 → Keeps (K.written output.old) (K.written output.new) }
+    ensures status { result ≢ 1 → result ≡ status_of (Stop.Input fault) }
+    ensures line { result ≢ 1 → Says (line_of (Stop.Input fault))
+        (K.written output.old) (K.written output.new) (K.faults output.old) (K.faults output.new) }
+{
+    let Ok(line) = fault.line(alloc) else {
+        return Stop::NoMemory.status();
+    };
+    say(output, Stop::Input(fault), &line)
+}
+
+// Writes the line that says why an audit stops, and answers its status, or 1 where there is no memory for the line. That a read failed
+// takes no memory to say.
 fn tell<K: Sink>(alloc: Global, output: &mut K, stop: Stop) -> u8
     ensures silent { result ≡ 1 → Keeps (K.written output.old) (K.written output.new) }
     ensures status { result ≢ 1 → result ≡ status_of stop }
+    ensures read { stop ≡ Stop.Read → result ≡ 3 }
     ensures line { result ≢ 1 → Says (line_of stop)
         (K.written output.old) (K.written output.new) (K.faults output.old) (K.faults output.new) }
 {
-    let Ok(line) = stop.line(alloc) else {
-        return Stop::NoMemory.status();
-    };
-    let _ = write_all(output, &line);
-    stop.status()
+    match stop {
+        Stop::NoMemory => stop.status(),
+        Stop::Read => say(output, stop, b"stop 3 read\n"),
+        Stop::Write => say(output, stop, b""),
+        Stop::Input(fault) => tell_fault(alloc, output, fault),
+    }
 }
 
 /// The word `audit`: reads a kit up to the line `go`, and then journals, with these processes taken as correct, and all others as corrupt. It
@@ -65,8 +91,8 @@ fn tell<K: Sink>(alloc: Global, output: &mut K, stop: Stop) -> u8
 /// | Status | Written | Comes |
 /// |---|---|---|
 /// | 0 | the line of the findings | the input was read to its end |
-/// | 1 | nothing | no memory is left |
-/// | 3 | `stop 3 read` | only where a read failed |
+/// | 1 | nothing | no memory is left, and no read failed |
+/// | 3 | `stop 3 read` | exactly where a read failed |
 /// | 4 | a prefix of the line of the findings | only where a write failed |
 /// | 7 | `stop 7 ..` with the number of a line, counted from 1 | the line has this fault |
 /// | 7 | `stop 7 unhosted ..` or `stop 7 doubled ..` | no journal hosts this listed process, or two do |
@@ -81,10 +107,11 @@ pub fn run_audit<S: Source, K: Sink>(
     ensures audited { result ≡ 0 → Found listed (S.left input.old) (S.left input.new) (K.written output.old) (K.written output.new) }
     ensures steady { result ≡ 0 → (S.faults input.new ≡ S.faults input.old) × (K.faults output.new ≡ K.faults output.old) }
 
-    // 1: no memory is left, and nothing was written.
+    // 1: no memory is left, and nothing was written, and no read failed.
     ensures silent { result ≡ 1 → Keeps (K.written output.old) (K.written output.new) }
+    ensures unhindered { result ≡ 1 → S.faults input.new ≡ S.faults input.old }
 
-    // 3: only where the source failed.
+    // 3: only where the source failed; and by the clauses of the other statuses none of them comes where it did.
     ensures read { result ≡ 3 → Rose (S.faults input.old) (S.faults input.new) }
     ensures read_line { result ≡ 3 → Says (codes "stop 3 read\n")
         (K.written output.old) (K.written output.new) (K.faults output.old) (K.faults output.new) }

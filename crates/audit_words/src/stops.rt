@@ -3,7 +3,7 @@ ghost use Rattle.std.specs.Prelude.{◌≡◌, ◌++◌, ◌∷◌, [], codes, I
 ghost use Rattle.std.specs.Fmt.{decimal};
 ghost use Rattle.text_defs.specs.Words.{space, line_feed};
 ghost use Rattle.audit_defs.specs.Findings.{stop_line};
-ghost use Rattle.audit_words.specs.Stops.{line_of, of_audit, of_front, of_kit, status_of, why_of};
+ghost use Rattle.audit_words.specs.Stops.{of_audit, of_front, of_kit, status_of, why_of};
 ghost use Rattle.audit_words.specs.declared.stops.Stop.TheVariants as stops;
 
 use audit_core::AuditFault;
@@ -153,14 +153,6 @@ fn fault_line(alloc: Global, fault: Fault) -> Result<Vec<u8>, NoMemory>
     }
 }
 
-fn ended_line(alloc: Global, fault: Fault) -> Result<Vec<u8>, NoMemory>
-    ensures { IfOk result (λ text. text.items ≡ stop_line (why_of fault)) }
-{
-    let mut text = fault_line(alloc, fault)?;
-    text.push(b'\n')?;
-    Ok(text)
-}
-
 // The status of a fault of the input: 8 where a journal is refused.
 fn fault_status(fault: Fault) -> u8
     ensures { result ≡ status_of (stops.Input fault) }
@@ -176,6 +168,20 @@ fn fault_status(fault: Fault) -> u8
     }
 }
 
+impl Fault {
+    /// The line that says so.
+    ///
+    /// # Errors
+    /// [`NoMemory`].
+    pub(crate) fn line(self, alloc: Global) -> Result<Vec<u8>, NoMemory>
+        ensures { IfOk result (λ text. text.items ≡ stop_line (why_of self)) }
+    {
+        let mut text = fault_line(alloc, self)?;
+        text.push(b'\n')?;
+        Ok(text)
+    }
+}
+
 impl Stop {
     /// The status that the program ends with.
     pub(crate) fn status(self) -> u8
@@ -186,20 +192,6 @@ impl Stop {
             Stop::Read => 3,
             Stop::Write => 4,
             Stop::Input(fault) => fault_status(fault),
-        }
-    }
-
-    /// The line that says so, empty where none is written.
-    ///
-    /// # Errors
-    /// [`NoMemory`], which does not come where no line is written.
-    pub(crate) fn line(self, alloc: Global) -> Result<Vec<u8>, NoMemory>
-        ensures { IfOk result (λ text. text.items ≡ line_of self) }
-    {
-        match self {
-            Stop::NoMemory | Stop::Write => Ok(Vec::new(alloc)),
-            Stop::Read => Ok(b"stop 3 read\n".to_vec(alloc)?),
-            Stop::Input(fault) => ended_line(alloc, fault),
         }
     }
 }

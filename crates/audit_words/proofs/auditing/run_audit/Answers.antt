@@ -1,9 +1,10 @@
 use Rattle.std.proofs.Common.{◌≢◌, Err, inl, inr, sym, ap, subst, ◌∙◌, arith}
 use Rattle.rp_base.specs.Streams.{Says}
 use Rattle.audit_words.specs.declared.stops.Stop.{Stop}
+use Rattle.audit_words.specs.declared.stops.Stop.TheVariants.{Read}
 use Rattle.audit_words.specs.Stops.{line_of}
 use Rattle.audit_words.proofs.Runs.{found, found_in_part}
-use Rattle.audit_words.proofs.Statuses.{at_read, at_write, never_stops, never_zero, only_these, read_is_three, some_found, stops, stops_so}
+use Rattle.audit_words.proofs.Statuses.{at_read, at_write, err_is, never_stops, never_zero, only_these, read_is_three, some_found, stops, stops_so}
 use Rattle.audit_words.proofs.auditing.run_audit.Goals as goal
 
 pub returns-in-Ok-clause-audited : goal.returns-in-Ok-clause-audited
@@ -70,6 +71,12 @@ returns-in-Err-clause-part g c = λ four.
 pub returns-in-Err-clause-whole : goal.returns-in-Err-clause-whole
 returns-in-Err-clause-whole g c = λ which. elim c.in-Err.ensures.steady [
   | inl bad ↦ absurd (read_is_three c.in-Err.stop c.tell.result c.tell.ensures.status which bad)
+  | inr same ↦ same
+]
+
+pub returns-in-Err-clause-unhindered : goal.returns-in-Err-clause-unhindered
+returns-in-Err-clause-unhindered g c = λ one. elim c.in-Err.ensures.steady [
+  | inl bad ↦ absurd (let three = c.tell.ensures.read (err_is c.in-Err.stop Read bad) in omega (arith, one, three))
   | inr same ↦ same
 ]
 
