@@ -1,17 +1,18 @@
 -- A command is read of the words that spell it, and of no others.
-use Rattle.std.proofs.Common.{◌≡◌, ℕ, Bool, true, false, ◌==◌, List, [], ◌∷◌, length, map, codes, Option, Some, None, IfSome, option_map, refl, sym, ap, subst, ◌∙◌, arith}
+use Rattle.std.proofs.Common.{◌≡◌, ◌≤◌, ℕ, Bool, true, false, ◌==◌, List, [], ◌∷◌, length, map, codes, Option, Some, None, IfSome, option_map, refl, sym, ap, subst, ◌∙◌, arith}
 use Rattle.std.specs.Prelude.{if◌then◌else◌, ◌&&◌}
 use Rattle.std.specs.Fmt.{decimal}
 use Rattle.std.proofs.lemmas.Bool.{eqb-true}
 use Rattle.byte_defs.specs.Equality.{same_bytes}
 use Rattle.text_defs.proofs.Choosing.{if_some, map_some, some_is}
+use Rattle.text_defs.proofs.Numbers.{number_within_found, number_within_spelled}
 use Rattle.text_defs.proofs.Tests.{and_true, word_is}
 use Rattle.command_line.specs.Commands.{AreListed, Audit}
 use Rattle.command_line.specs.Laws.{CommandIsSpelled}
 use Rattle.command_line.specs.Reading.{listed_of}
 use Rattle.witness_cli.specs.declared.commands.Command as code
 use Rattle.witness_cli.specs.declared.commands.Command.TheVariants as asked
-use Rattle.witness_cli.specs.Commands.{AsksBy, Command, Convict, Judge, command, command_of}
+use Rattle.witness_cli.specs.Commands.{AsksBy, Command, Convict, Judge, Proofs, command, command_of, one_process}
 
 module _ (law : CommandIsSpelled) where
   -- the processes of an audit are read of the words that spell them, and of no others
@@ -36,6 +37,13 @@ module _ (law : CommandIsSpelled) where
   empty-is [] e = refl
   empty-is (x ∷ xs) e = absurd (omega (arith, e))
 
+  process-found : (words : List (List ℕ)) (p : ℕ) → one_process words ≡ Some p → (words ≡ decimal p ∷ []) × (p ≤ 63)
+  process-found [] p e = absurd cc
+  process-found (word ∷ []) p e =
+      let is = number_within_found 0 63 word p e in
+      (ap (λ (w : List ℕ). w ∷ []) is.0, is.2)
+  process-found (word ∷ next ∷ words) p e = absurd cc
+
   found : (words : List (List ℕ)) (c : Command) → command_of words ≡ Some c → AsksBy words c
   found [] c e = absurd cc
   found (word ∷ further) c e = of (same_bytes word (codes "convict")) refl e
@@ -48,18 +56,34 @@ module _ (law : CommandIsSpelled) where
           subst (AsksBy (word ∷ further)) (some_is Judge c tested.1)
           (record { fits = tt; spelled = λ i. word_is word (codes "judge") both.0 i ∷ none i })
 
+      proves : (is : Bool) → same_bytes word (codes "proofs") ≡ is
+          → (if is then option_map Proofs (one_process further) else
+          (if same_bytes word (codes "judge") && (length further == 0) then Some Judge else None)) ≡ Some c → AsksBy (word ∷ further) c
+      proves true is e =
+          let read = map_some Proofs (one_process further) c e in
+          let one = process-found further read.0 read.1 in
+          subst (AsksBy (word ∷ further)) read.2
+          (record { fits = one.1; spelled = λ i. word_is word (codes "proofs") is i ∷ one.0 i })
+      proves false is e = judges e
+
+      others : Option Command
+      others = if same_bytes word (codes "proofs") then option_map Proofs (one_process further) else
+          (if same_bytes word (codes "judge") && (length further == 0) then Some Judge else None)
+
       of : (is : Bool) → same_bytes word (codes "convict") ≡ is
           → (if is then option_map Convict (listed_of further) else
-          (if same_bytes word (codes "judge") && (length further == 0) then Some Judge else None)) ≡ Some c → AsksBy (word ∷ further) c
+          others) ≡ Some c → AsksBy (word ∷ further) c
       of true is e =
           let read = map_some Convict (listed_of further) c e in
           let listed = listed-found further read.0 read.1 in
           subst (AsksBy (word ∷ further)) read.2
           (record { fits = listed.1; spelled = λ i. word_is word (codes "convict") is i ∷ listed.0 i })
-      of false is e = judges e
+      of false is e = proves (same_bytes word (codes "proofs")) refl e
 
   spelled : (c : Command) (words : List (List ℕ)) → AsksBy words c → command_of words ≡ Some c
   spelled (Convict listed) words asks = ap command_of asks.spelled ∙ ap (option_map Convict) (listed-spelled listed asks.fits)
+  spelled (Proofs p) words asks = ap command_of asks.spelled
+      ∙ ap (option_map Proofs) (number_within_spelled 0 63 p (omega arith) asks.fits (let few = asks.fits in omega (arith, few)))
   spelled Judge words asks = ap command_of asks.spelled
 
   -- ---- what a reader promises
@@ -83,4 +107,12 @@ convict-is l m e = cc
 pub same-listed : (c : code.Command) (l m : List ℕ) → c ≡ asked.Convict l → option_map command (Some c) ≡ Some (Convict m) → l ≡ m
 same-listed c l m is e =
     convict-is l m (some_is (Convict l) (Convict m)
+    (sym (ap (λ (x : code.Command). let o : Option Command = Some (command x) in o) is) ∙ e))
+
+proofs-is : (p q : ℕ) → Proofs p ≡ Proofs q → p ≡ q
+proofs-is p q e = cc
+
+pub same-process : (c : code.Command) (p q : ℕ) → c ≡ asked.Proofs p → option_map command (Some c) ≡ Some (Proofs q) → p ≡ q
+same-process c p q is e =
+    proofs-is p q (some_is (Proofs p) (Proofs q)
     (sym (ap (λ (x : code.Command). let o : Option Command = Some (command x) in o) is) ∙ e))

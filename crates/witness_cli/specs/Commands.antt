@@ -1,11 +1,14 @@
 -- The words that ask for something.
 --   convict P P ..     the kit and the journals that are read give evidence against whom they convict; these processes are taken as correct:
 --                      one at least, by rising numbers up to 63
+--   proofs P           the kit and the journals that are read give proofs of the views that this process left: a number up to 63
 --   judge              the kit and the evidence that are read are judged
-use Rattle.std.specs.Prelude.{◌≡◌, ℕ, ◌==◌, ◌&&◌, if◌then◌else◌, List, [], ◌∷◌, length, map, codes, Option, Some, None, option_map, String, string_bytes}
+use Rattle.std.specs.Prelude.{◌≡◌, ℕ, ◌≤◌, ◌==◌, ◌&&◌, if◌then◌else◌, List, [], ◌∷◌, length, map, codes, Option, Some, None, option_map, String, string_bytes}
 use Rattle.std.specs.declared.alloc.Global.{Global}
 use Rattle.std.specs.Fmt.{decimal}
 use Rattle.byte_defs.specs.Equality.{same_bytes}
+use Rattle.text_defs.specs.Words.{process_of}
+use Rattle.message_defs.specs.Limits.{last_process}
 use Rattle.command_line.specs.Commands.{AreListed}
 use Rattle.command_line.specs.Reading.{listed_of}
 use Rattle.witness_cli.specs.declared.commands.Command as code
@@ -15,21 +18,26 @@ use Rattle.witness_cli.specs.declared.commands.Command.TheVariants as asked
 pub data Command : Type 0 where
   -- evidence, with these processes taken as correct
   Convict : (listed : List ℕ) → Command
+  -- proofs of the views that this process left
+  Proofs : (process : ℕ) → Command
   -- a verdict on evidence
   Judge : Command
 
 -- as the code has it
 abbrev pub command : code.Command → Command
 command (asked.Convict listed) = Convict listed
+command (asked.Proofs p) = Proofs p
 command asked.Judge = Judge
 
 abbrev pub command_words : Command → List (List ℕ)
 command_words (Convict listed) = codes "convict" ∷ map decimal listed
+command_words (Proofs p) = codes "proofs" ∷ decimal p ∷ []
 command_words Judge = codes "judge" ∷ []
 
--- the processes of a `convict` are some that an audit can take as correct
+-- the processes of a `convict` are some that an audit can take as correct, and that of a `proofs` is one
 abbrev pub IsCommand : Command → Type 0
 IsCommand (Convict listed) = AreListed listed
+IsCommand (Proofs p) = p ≤ last_process
 IsCommand Judge = Unit {0}
 
 -- the words are those of the command
@@ -46,9 +54,15 @@ AskAny words = (command : Command) × Asks words command
 
 -- ---- word by word
 
+-- the process of a word, where it is the only one
+abbrev pub one_process : List (List ℕ) → Option ℕ
+one_process (word ∷ []) = process_of word
+one_process _ = None
+
 -- the command that the words ask for
 abbrev pub command_of : List (List ℕ) → Option Command
 command_of [] = None
 command_of (word ∷ further) =
     if same_bytes word (codes "convict") then option_map Convict (listed_of further) else
-    (if same_bytes word (codes "judge") && (length further == 0) then Some Judge else None)
+    (if same_bytes word (codes "proofs") then option_map Proofs (one_process further) else
+    (if same_bytes word (codes "judge") && (length further == 0) then Some Judge else None))

@@ -4,7 +4,8 @@ ghost use Rattle.witness_cli.specs.Commands as plain;
 ghost use Rattle.witness_cli.specs.Commands.{Asks, command, command_of as command_by};
 
 use command_line::{command_is_spelled, read_listed};
-use rp_base::PidSet;
+use rp_base::{Pid, PidSet};
+use text_codec::process;
 
 /// What the words ask for.
 #[derive(Clone, Copy)]
@@ -12,8 +13,22 @@ pub(crate) enum Command {
     /// Evidence against whom journals convict, with these processes taken as correct.
     Convict(PidSet),
 
+    /// Proofs of the views that this process left, of its journal.
+    Proofs(Pid),
+
     /// A verdict on evidence.
     Judge,
+}
+
+// The process of a word, where it is the only one.
+fn one_process(words: &[String]) -> Option<Pid>
+    ensures { result ≡ plain.one_process (map string_bytes words.now) }
+{
+    match words {
+        [] => None,
+        [word] => process(word.as_bytes()),
+        [_, _, ..] => None,
+    }
 }
 
 fn of_words(words: &[String]) -> Option<Command>
@@ -24,6 +39,8 @@ fn of_words(words: &[String]) -> Option<Command>
     };
     if word.as_bytes() == b"convict".as_slice() {
         Some(Command::Convict(read_listed(further)?))
+    } else if word.as_bytes() == b"proofs".as_slice() {
+        Some(Command::Proofs(one_process(further)?))
     } else if word.as_bytes() == b"judge".as_slice() && further.is_empty() {
         Some(Command::Judge)
     } else {

@@ -1,15 +1,15 @@
 //! Each word to its end.
-ghost use Rattle.std.specs.Prelude.{◌≡◌, ◌≢◌, ◌↔◌, ◌⊎◌, ℕ, List, codes};
+ghost use Rattle.std.specs.Prelude.{◌≡◌, ◌≢◌, ◌↔◌, ◌⊎◌, ℕ, List, [], ◌∷◌, codes};
 ghost use Rattle.std.specs.Io.KnownBytes.{Keeps};
 ghost use Rattle.rp_base.specs.Causes.{Rose};
 ghost use Rattle.rp_base.specs.Streams.{Says};
-ghost use Rattle.witness_cli.specs.Commands.{AskAny, Asks, Convict, Judge};
-ghost use Rattle.witness_words.specs.Running.{Convicted, ConvictedInPart, HasFindings, HasNoFindings, IsRefused, IsTaken, Refused, Takes, Unconvicted};
+ghost use Rattle.witness_cli.specs.Commands.{AskAny, Asks, Convict, Judge, Proofs};
+ghost use Rattle.witness_words.specs.Running.{Convicted, ConvictedInPart, HasFindings, HasNoFindings, IsRefused, IsTaken, Proved, ProvedInPart, Refused, Takes, Unconvicted};
 
 use crate::commands::{Command, command_of};
 use rp_base::{Sink, Source, write_all};
 use std::alloc::Global;
-use witness_words::{convict, judge};
+use witness_words::{convict, judge, proofs};
 
 /// The status where the words are no command.
 const WORDS: u8 = 2;
@@ -27,6 +27,11 @@ pub fn witness<S: Source, K: Sink, E: Sink>(
     // `judge` takes these lines behind any kit of the same keys.
     ensures convicted { (listed : List ℕ) → Asks words.now (Convict listed) → result ≡ 0
         → Convicted listed (S.left input.old) (S.left input.new) (K.written output.old) (K.written output.new) }
+
+    // proofs, 0: the input was read to its end, and a line for each view that the process left was written, and nothing else; `chain` takes
+    // those lines that are not large after any kit of the same keys.
+    ensures proved { (p : ℕ) → Asks words.now (Proofs p) → result ≡ 0
+        → Proved p (S.left input.old) (S.left input.new) (K.written output.old) (K.written output.new) }
 
     // judge, 0: the input was read to its end, all evidence in it is taken, and nothing was written.
     ensures taken { Asks words.now Judge → result ≡ 0 → Takes (S.left input.old) (S.left input.new) }
@@ -51,14 +56,22 @@ pub fn witness<S: Source, K: Sink, E: Sink>(
     ensures read_line { result ≡ 3 → Says (codes "stop 3 read\n")
         (K.written output.old) (K.written output.new) (K.faults output.old) (K.faults output.new) }
 
-    // 4: only by convict, where the sink failed; a prefix of the lines was written and nothing else.
+    // 4: only by convict and proofs, where the sink failed; a prefix of the lines was written and nothing else.
     ensures write { result ≡ 4 → Rose (K.faults output.old) (K.faults output.new) }
     ensures part { (listed : List ℕ) → Asks words.now (Convict listed) → result ≡ 4
         → ConvictedInPart listed (S.left input.old) (S.left input.new) (K.written output.old) (K.written output.new) }
 
+    ensures proved_in_part { (p : ℕ) → Asks words.now (Proofs p) → result ≡ 4
+        → ProvedInPart p (S.left input.old) (S.left input.new) (K.written output.old) (K.written output.new) }
+
     // convict, 7 and 8: what was read has no findings, for a reason of this status, and the line that says why was written and nothing else.
     ensures stops { (listed : List ℕ) → Asks words.now (Convict listed) → (result ≡ 7) ⊎ (result ≡ 8)
         → Unconvicted listed result (S.left input.old) (S.left input.new)
+        (K.written output.old) (K.written output.new) (K.faults output.old) (K.faults output.new) }
+
+    // proofs, 7 and 8: an audit of the process has no findings, and it is as by convict.
+    ensures proves_nothing { (p : ℕ) → Asks words.now (Proofs p) → (result ≡ 7) ⊎ (result ≡ 8)
+        → Unconvicted (p ∷ []) result (S.left input.old) (S.left input.new)
         (K.written output.old) (K.written output.new) (K.faults output.old) (K.faults output.new) }
 
     // judge, 7: what was read is not taken, and the line that says why was written and nothing else.
@@ -77,13 +90,22 @@ pub fn witness<S: Source, K: Sink, E: Sink>(
         → ¬ Rose (S.faults input.old) (S.faults input.new)
         → (result ≡ status) ⊎ (result ≡ 1) }
 
+    // proofs: an input in which an audit of the process finds something gives 0, and another one the status of the reason, where memory is
+    // left and nothing failed.
+    ensures proves { (p : ℕ) → Asks words.now (Proofs p) → HasFindings (p ∷ []) (S.left input.old)
+        → ¬ Rose (S.faults input.old) (S.faults input.new) → ¬ Rose (K.faults output.old) (K.faults output.new)
+        → (result ≡ 0) ⊎ (result ≡ 1) }
+    ensures proves_not { (p status : ℕ) → Asks words.now (Proofs p) → HasNoFindings (p ∷ []) status (S.left input.old)
+        → ¬ Rose (S.faults input.old) (S.faults input.new)
+        → (result ≡ status) ⊎ (result ≡ 1) }
+
     // judge: an input of which all is taken gives 0, and another one 7, where memory is left and no read failed.
     ensures takes { Asks words.now Judge → IsTaken (S.left input.old) → ¬ Rose (S.faults input.old) (S.faults input.new)
         → (result ≡ 0) ⊎ (result ≡ 1) }
     ensures takes_not { Asks words.now Judge → IsRefused (S.left input.old) → ¬ Rose (S.faults input.old) (S.faults input.new)
         → (result ≡ 7) ⊎ (result ≡ 1) }
 
-    // No other status comes; 8 only by convict.
+    // No other status comes; 8 only by convict and proofs.
     ensures only { (result ≡ 0) ⊎ (result ≡ 1) ⊎ (result ≡ 2) ⊎ (result ≡ 3) ⊎ (result ≡ 4) ⊎ (result ≡ 7) ⊎ (result ≡ 8) }
 {
     let Some(command) = command_of(words) else {
@@ -92,6 +114,7 @@ pub fn witness<S: Source, K: Sink, E: Sink>(
     };
     match command {
         Command::Convict(listed) => convict(alloc, listed, input, output),
+        Command::Proofs(p) => proofs(alloc, p, input, output),
         Command::Judge => judge(alloc, input, output),
     }
 }

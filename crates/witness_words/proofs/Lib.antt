@@ -3,3 +3,4 @@ pub mod Lines
 pub mod Steps
 pub mod Judged
 pub mod Statuses
+pub mod Proved

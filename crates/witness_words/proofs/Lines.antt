@@ -26,14 +26,14 @@ use Rattle.audit_defs.specs.Findings.{told_of}
 use Rattle.audit_defs.specs.Inputs.{Input, input_of}
 use Rattle.findings_json.specs.declared.findings.Conviction.{Conviction}
 use Rattle.findings_json.specs.Views.{told}
-use Rattle.audit_core.specs.Found as core
-use Rattle.audit_core.specs.Found.{Evidence, evidence, evidence_of}
+use Rattle.proof_lines.specs.Audits as core
+use Rattle.proof_lines.specs.Audits.{Evidence, evidence, evidence_of}
 use Rattle.witness_defs.specs.Lines as lines
 use Rattle.witness_defs.specs.Lines.{convicted_by, line_with_feed}
 use Rattle.witness_defs.specs.Judging.{is_taken, judged}
 use Rattle.witness_defs.specs.Laws.{IsSpelled}
 use Rattle.witness_laws.proofs.Spelled.{lines_are_taken}
-use Rattle.audit_laws.proofs.OfListed.{audit_is_of_listed}
+use Rattle.proof_lines.proofs.OfListed.{audit_is_of_listed}
 use Rattle.audit_defs.specs.Players.{setting_of}
 use Rattle.witness_words.specs.Seen.{CanTravel, HasOneSigner, bundle_of, conviction_line, draft_of, evidence_with, line_with, travels}
 use Rattle.witness_words.specs.Running.{Audits, Convicted, ConvictedInPart, JudgeTakes, text_of}

@@ -1,6 +1,6 @@
 -- What a run of `witness` has read and written: by what a source had left before and has left now, what a sink held before and holds now,
 -- and the counts of the sink's faults before and now. Of a stream that does not tell what it holds, nothing is said by it.
-use Rattle.std.specs.Prelude.{◌≡◌, ℕ, List, [], ◌++◌, map, Option, Ok, Err, IsOk, IsErr, IsSomeAnd}
+use Rattle.std.specs.Prelude.{◌≡◌, ℕ, List, [], ◌∷◌, ◌++◌, map, Option, Ok, Err, IsOk, IsErr, IsSomeAnd}
 use Rattle.std.specs.Io.KnownBytes.{Appends}
 use Rattle.rp_base.specs.Streams.{AppendsPrefix, Says}
 use Rattle.line_input.specs.Places.{Ends, Settles}
@@ -11,6 +11,8 @@ use Rattle.audit_defs.specs.Players.{setting_of}
 use Rattle.witness_defs.specs.Lines.{convicted_by, evidence_of, evidence_text}
 use Rattle.witness_defs.specs.Judging as defs
 use Rattle.witness_defs.specs.Judging.{Judged, Refusal, judged, refusal_line}
+use Rattle.proof_defs.specs.Lines.{proofs_text}
+use Rattle.proof_lines.specs.Taken.{ChainTakes}
 
 -- ---- convict
 
@@ -58,6 +60,19 @@ HasFindings listed left = IsSomeAnd left (λ bytes. IsOk (audit_of listed bytes)
 -- it finds nothing, for a reason of this status
 abbrev pub HasNoFindings : List ℕ → ℕ → Option (List ℕ) → Type 0
 HasNoFindings listed status left = IsSomeAnd left (λ bytes. (why : NoFindings) × (audit_of listed bytes ≡ Err why) × (status_of why ≡ status))
+
+-- ---- proofs
+
+-- An audit of this one process was made. The lines of the views that it left were written, and nothing else; and `chain` takes them.
+pub record Proved (p : ℕ) (before now old new : Option (List ℕ)) : Type 0 where
+  pub audits : Audits (p ∷ []) before now
+  pub wrote : Appends old new (proofs_text audits.audited)
+  pub taken : ChainTakes audits.audited
+
+-- a prefix of them was written, and nothing else
+pub record ProvedInPart (p : ℕ) (before now old new : Option (List ℕ)) : Type 0 where
+  pub audits : Audits (p ∷ []) before now
+  pub wrote : AppendsPrefix old new (proofs_text audits.audited)
 
 -- ---- judge
 

@@ -1,19 +1,19 @@
 //! Evidence from journals.
 ghost use Rattle.std.specs.Prelude.{◌≡◌, ◌⊎◌, ℕ, IfOk, IsErrOf, codes};
-ghost use Rattle.std.specs.Io.KnownBytes.{Appends, Keeps};
+ghost use Rattle.std.specs.Io.KnownBytes.{Keeps};
 ghost use Rattle.rp_base.specs.Causes.{Rose};
-ghost use Rattle.rp_base.specs.Streams.{AppendsPrefix, Says};
+ghost use Rattle.rp_base.specs.Streams.{Says};
 ghost use Rattle.audit_defs.specs.Findings as findings;
 ghost use Rattle.audit_defs.specs.Findings.{stop_line};
 ghost use Rattle.witness_words.specs.Stops.{fault_line, fault_status};
 ghost use Rattle.witness_words.specs.Running.{Audits, Convicted, ConvictedInPart, HasFindings, HasNoFindings, JudgeTakes, Unconvicted, Unread, text_of};
 
 use crate::stops::{Fault, Stop};
-use crate::telling::tell;
+use crate::telling::{give, tell};
 use crate::writing::evidence_text;
-use audit_core::audit;
 use audit_input::read_input;
-use rp_base::{PidSet, Sink, Source, write_all};
+use proof_lines::audit;
+use rp_base::{PidSet, Sink, Source};
 use std::alloc::Global;
 
 // Reads the input to its end, and makes the lines of those whom an audit of it convicts, with these processes taken as correct. Nothing is
@@ -31,20 +31,6 @@ fn convict_all<S: Source>(alloc: Global, listed: PidSet, input: &mut S) -> Resul
     let found = audit(alloc, &seen.kit, listed, &seen.journals)?;
     let text = evidence_text(alloc, &seen.kit, found.convicted())?;
     Ok(text)
-}
-
-// Writes the lines, and answers the status: 0, or 4 where a write failed.
-fn give<K: Sink>(output: &mut K, text: &[u8]) -> u8
-    ensures done { result ≡ 0 → Appends (K.written output.old) (K.written output.new) text.now }
-    ensures steady { result ≡ 0 → K.faults output.new ≡ K.faults output.old }
-    ensures write { result ≡ 4 → Rose (K.faults output.old) (K.faults output.new) }
-    ensures part { result ≡ 4 → AppendsPrefix (K.written output.old) (K.written output.new) text.now }
-    ensures only { (result ≡ 0) ⊎ (result ≡ 4) }
-{
-    match write_all(output, text) {
-        Ok(()) => 0,
-        Err(_) => Stop::Write.status(),
-    }
 }
 
 /// The words `convict P ..`: reads a kit up to the line `go`, and then journals, with these processes taken as correct, and all others as

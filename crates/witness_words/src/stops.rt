@@ -5,7 +5,7 @@ ghost use Rattle.text_defs.specs.Words.{space, line_feed};
 ghost use Rattle.witness_words.specs.Stops.{fault_line, fault_status as status_in, line_of, of_audit, of_front, of_input, of_kit, status_of};
 ghost use Rattle.witness_words.specs.declared.stops.Stop.TheVariants as stops;
 
-use audit_core::AuditFault;
+use audit_sources::AuditFault;
 use kit_reading::{FrontFault, InputFault, KitFault};
 use rp_base::NoMemory;
 use std::alloc::Global;
@@ -207,7 +207,7 @@ impl Stop {
     /// The line that says so, empty where none is written.
     ///
     /// # Errors
-    /// [`NoMemory`], which does not come where no line is written.
+    /// [`NoMemory`] where room for the line is refused.
     pub(crate) fn line(self, alloc: Global) -> Result<Vec<u8>, NoMemory>
         ensures { IfOk result (λ text. text.items ≡ line_of self) }
     {

@@ -8,8 +8,9 @@ ghost use Rattle.stmt_codec.specs.Views.{signed};
 ghost use Rattle.witness_words.specs.Seen.{CanTravel, HasOneSigner, IsShort, conviction_line, draft_of, evidence_head, line_with};
 
 use crate::judging::is_taken;
-use audit_core::{Conviction, Kit};
+use findings_json::Conviction;
 use frame_codec::{BUNDLE, FRAME_BYTES, FrameWriter, SIGNATURE_BYTES};
+use kit_reading::Kit;
 use rp_base::{NoMemory, Pid};
 use std::alloc::Global;
 use stmt_codec::{OwnClaim, STATEMENT_BYTES};

@@ -1,0 +1,4 @@
+pub mod Wanted
+pub mod Lefts
+pub mod Taken
+pub mod OfListed
