@@ -1,8 +1,7 @@
-ghost use Rattle.std.specs.Prelude.{◌≡◌, ◌<◌, ◌≤◌, ◌^◌, ◌++◌, ◌∷◌, length, IsOk, OnOk};
+ghost use Rattle.std.specs.Prelude.{◌≡◌, ◌++◌, ◌∷◌, IsOk, OnOk};
 ghost use Rattle.byte_defs.specs.Fields.{text};
 ghost use Rattle.byte_defs.specs.Reads.{Makes};
 ghost use Rattle.image_defs.specs.Spelling.{claim_bytes};
-ghost use Rattle.message_defs.specs.Limits.{most_signature_bytes};
 ghost use Rattle.message_defs.specs.Reading.{statement_of};
 ghost use Rattle.snapshot_defs.specs.Reading.{claim_at};
 ghost use Rattle.snapshot_rp.specs.Claims.{kept};
@@ -63,8 +62,6 @@ fn push_parts(
     statement: &[u8],
     signature: &[u8],
 ) -> Result<(), NoMemory>
-    requires said { length statement.now < 2 ^ 16 }
-    requires signed { length signature.now < 2 ^ 16 }
     ensures { OnOk result (out.new.items ≡ out.old.items ++ signer ∷ (text statement.now ++ text signature.now)) }
 {
     out.push(signer.get())?;
@@ -78,8 +75,7 @@ fn push_kept(
     statement: &[u8],
     signature: &[u8],
 ) -> Result<(), NoMemory>
-    requires said { IsOk (statement_of statement.now) }
-    requires signed { length signature.now ≤ most_signature_bytes }
+    requires { IsOk (statement_of statement.now) }
     ensures { OnOk result (out.new.items ≡ out.old.items ++ claim_bytes (kept signer statement.now signature.now)) }
 {
     push_parts(out, signer, statement, signature)

@@ -4,12 +4,12 @@ ghost use Rattle.std.specs.List.{flat_map};
 ghost use Rattle.std.specs.Int.{w32};
 ghost use Rattle.byte_defs.specs.Reads.{Makes};
 ghost use Rattle.image_defs.specs.Spelling.{list_bytes};
-ghost use Rattle.snapshot_defs.specs.Ranges.{EachFrom, IsListOf};
 ghost use Rattle.snapshot_defs.specs.Steps.{times_at, list_at};
 ghost use Rattle.snapshot_rp.specs.Faults.{left_of};
 
 use crate::cursor::Cursor;
 use crate::fault::ReadError;
+use crate::pushing::push_long;
 use rp_base::NoMemory;
 use snapshot_defs::Version;
 use std::alloc::Global;
@@ -40,14 +40,10 @@ pub(crate) trait Entry: Drop + Sized {
     /// How an entry is written, in version 2.
     ghost spell: { Plain → List ℕ };
 
-    /// What can be written.
-    ghost Fits: { Plain → Type 0 };
-
     fn read(reading: Reading, cursor: &mut Cursor<'_>, position: usize) -> Result<Self, ReadError>
         ensures { Makes left_of (λ x. (plain x, cursor.new.rest.now)) result (step reading.version position cursor.old.rest.now) };
 
     fn append_to(&self, out: &mut Vec<u8>) -> Result<(), NoMemory>
-        requires { Fits (plain self.now) }
         ensures { OnOk result (out.new.items ≡ out.old.items ++ spell (plain self.now)) };
 }
 
@@ -81,7 +77,6 @@ pub(crate) fn list<T: Entry>(reading: Reading, cursor: &mut Cursor<'_>) -> Resul
 
 /// Appends the entries.
 pub(crate) fn push_each<T: Entry>(out: &mut Vec<u8>, items: &[T]) -> Result<(), NoMemory>
-    requires { EachFrom (λ k. T.Fits) 0 (map T.plain items.now) }
     ensures { OnOk result (out.new.items ≡ out.old.items ++ flat_map T.spell (map T.plain items.now)) }
 {
     'items: for item in items {
@@ -92,9 +87,8 @@ pub(crate) fn push_each<T: Entry>(out: &mut Vec<u8>, items: &[T]) -> Result<(), 
 
 /// Appends a list: its length in four bytes, and its entries.
 pub(crate) fn push_list<T: Entry>(out: &mut Vec<u8>, items: &[T]) -> Result<(), NoMemory>
-    requires { IsListOf (λ k. T.Fits) (map T.plain items.now) }
     ensures { OnOk result (out.new.items ≡ out.old.items ++ list_bytes T.spell (map T.plain items.now)) }
 {
-    out.extend_from_slice(&(items.len() as u32).to_be_bytes())?;
+    push_long(out, items.len())?;
     push_each(out, items)
 }

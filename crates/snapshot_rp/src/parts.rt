@@ -24,7 +24,6 @@ impl Entry for KeptClaim {
     ghost use Rattle.message_defs.specs.Statements.{Claim};
     ghost use Rattle.snapshot_defs.specs.Reading.{claim_at};
     ghost use Rattle.image_defs.specs.Spelling.{claim_bytes};
-    ghost use Rattle.message_defs.specs.Spelling.{IsClaim};
 
     ghost Plain = { Claim };
 
@@ -33,8 +32,6 @@ impl Entry for KeptClaim {
     ghost step = { λ v k bytes. claim_at bytes };
 
     ghost spell = { claim_bytes };
-
-    ghost Fits = { λ c. IsClaim c };
 
     fn read(
         reading: Reading,
@@ -53,7 +50,6 @@ impl Entry for (KeptClaim, KeptClaim) {
     ghost use Rattle.message_defs.specs.Statements.{Claim};
     ghost use Rattle.snapshot_defs.specs.Reading.{conflict_at};
     ghost use Rattle.image_defs.specs.Spelling.{conflict_bytes};
-    ghost use Rattle.snapshot_defs.specs.Ranges.{IsConflict};
 
     ghost Plain = { Claim × Claim };
 
@@ -62,8 +58,6 @@ impl Entry for (KeptClaim, KeptClaim) {
     ghost step = { λ v k bytes. conflict_at bytes };
 
     ghost spell = { conflict_bytes };
-
-    ghost Fits = { IsConflict };
 
     #[tactic(auto, unfolding(snapshot_defs::specs::Reading::conflict_at))]
     fn read(
@@ -87,7 +81,6 @@ impl Entry for LeftView {
     ghost use Rattle.snapshot_defs.specs.Reading.{left_at};
     ghost use Rattle.snapshot_rp.specs.Views.{left_view};
     ghost use Rattle.image_defs.specs.Spelling.{left_bytes};
-    ghost use Rattle.snapshot_defs.specs.Ranges.{IsLeftView};
 
     ghost Plain = { images.LeftView };
 
@@ -96,8 +89,6 @@ impl Entry for LeftView {
     ghost step = { λ v k bytes. left_at bytes };
 
     ghost spell = { left_bytes };
-
-    ghost Fits = { IsLeftView };
 
     #[tactic(auto, unfolding(snapshot_defs::specs::Reading::left_at))]
     fn read(
@@ -128,7 +119,6 @@ impl Entry for (u16, Update) {
     ghost use Rattle.snapshot_defs.specs.Reading.{perceived_at};
     ghost use Rattle.snapshot_rp.specs.Views.{perceived};
     ghost use Rattle.image_defs.specs.Spelling.{perceived_bytes};
-    ghost use Rattle.snapshot_defs.specs.Ranges.{IsPerceived};
 
     ghost Plain = { ℕ × updates.Update };
 
@@ -137,8 +127,6 @@ impl Entry for (u16, Update) {
     ghost step = { λ v k bytes. perceived_at bytes };
 
     ghost spell = { perceived_bytes };
-
-    ghost Fits = { IsPerceived };
 
     #[tactic(auto, unfolding(snapshot_defs::specs::Reading::perceived_at))]
     fn read(
@@ -162,7 +150,6 @@ impl Entry for Payload {
     ghost use Rattle.message_defs.specs.Limits.{most_payload_bytes};
     ghost use Rattle.snapshot_defs.specs.Steps.{text_to};
     ghost use Rattle.byte_defs.specs.Fields.{text};
-    ghost use Rattle.snapshot_defs.specs.Ranges.{IsPayload};
 
     ghost Plain = { List ℕ };
 
@@ -171,8 +158,6 @@ impl Entry for Payload {
     ghost step = { λ v k bytes. text_to most_payload_bytes bytes };
 
     ghost spell = { text };
-
-    ghost Fits = { IsPayload };
 
     fn read(
         reading: Reading,
@@ -192,8 +177,6 @@ impl Entry for Delivered {
     ghost use Rattle.snapshot_defs.specs.Reading.{delivered_at};
     ghost use Rattle.snapshot_rp.specs.Views.{delivered};
     ghost use Rattle.image_defs.specs.Spelling.{delivered_bytes};
-    ghost use Rattle.snapshot_defs.specs.declared.Version.TheVariants.{Two};
-    ghost use Rattle.snapshot_defs.specs.Ranges.{IsDeliveredAt};
 
     ghost Plain = { processes.Delivered };
 
@@ -202,8 +185,6 @@ impl Entry for Delivered {
     ghost step = { λ v k bytes. delivered_at v k bytes };
 
     ghost spell = { delivered_bytes };
-
-    ghost Fits = { IsDeliveredAt Two 0 };
 
     #[tactic(auto, unfolding(snapshot_defs::specs::Reading::delivered_at, snapshot_defs::specs::Reading::message_at))]
     fn read(
@@ -237,8 +218,6 @@ impl Entry for Vec<Delivered> {
     ghost use Rattle.snapshot_defs.specs.Reading.{view_at};
     ghost use Rattle.snapshot_rp.specs.Views.{delivered};
     ghost use Rattle.image_defs.specs.Spelling.{list_bytes, delivered_bytes};
-    ghost use Rattle.snapshot_defs.specs.declared.Version.TheVariants.{Two};
-    ghost use Rattle.snapshot_defs.specs.Ranges.{IsListOf, IsDeliveredAt};
 
     ghost Plain = { List processes.Delivered };
 
@@ -247,8 +226,6 @@ impl Entry for Vec<Delivered> {
     ghost step = { λ v k bytes. view_at v bytes };
 
     ghost spell = { list_bytes delivered_bytes };
-
-    ghost Fits = { IsListOf (IsDeliveredAt Two) };
 
     #[tactic(auto, unfolding(snapshot_defs::specs::Reading::view_at))]
     fn read(

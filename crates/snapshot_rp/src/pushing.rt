@@ -1,6 +1,6 @@
 //! Fields of an image, appended one after another.
-ghost use Rattle.std.specs.Prelude.{◌≡◌, ◌<◌, ◌^◌, ◌++◌, ◌∷◌, length, OnOk};
-ghost use Rattle.byte_defs.specs.Fields.{two_bytes, text};
+ghost use Rattle.std.specs.Prelude.{◌≡◌, ◌++◌, ◌∷◌, OnOk};
+ghost use Rattle.byte_defs.specs.Fields.{two_bytes, four_bytes, text};
 ghost use Rattle.message_defs.specs.Updates.{update_numbers};
 ghost use Rattle.message_defs.specs.Spelling.{value_bytes, ready_bytes};
 ghost use Rattle.rp_base.specs.Views.{update as update_of, value as value_of};
@@ -16,12 +16,43 @@ pub(crate) fn push_short(out: &mut Vec<u8>, n: u16) -> Result<(), NoMemory>
     Ok(())
 }
 
+// The last two of its bytes.
+fn last_two(len: usize) -> [u8; 2]
+    ensures { result ≡ two_bytes len }
+{
+    let [_, _, _, _, _, _, high, low] = (len as u64).to_be_bytes();
+    [high, low]
+}
+
+// The last four of its bytes.
+fn last_four(len: usize) -> [u8; 4]
+    ensures { result ≡ four_bytes len }
+{
+    let [_, _, _, _, highest, high, low, lowest] = (len as u64).to_be_bytes();
+    [highest, high, low, lowest]
+}
+
+/// A length in two bytes: its last ones.
+pub(crate) fn push_length(out: &mut Vec<u8>, len: usize) -> Result<(), NoMemory>
+    ensures { OnOk result (out.new.items ≡ out.old.items ++ two_bytes len) }
+{
+    out.extend_from_slice(&last_two(len))?;
+    Ok(())
+}
+
+/// A length in four bytes: its last ones.
+pub(crate) fn push_long(out: &mut Vec<u8>, len: usize) -> Result<(), NoMemory>
+    ensures { OnOk result (out.new.items ≡ out.old.items ++ four_bytes len) }
+{
+    out.extend_from_slice(&last_four(len))?;
+    Ok(())
+}
+
 /// Two bytes of length, and the bytes.
 pub(crate) fn push_text(out: &mut Vec<u8>, bytes: &[u8]) -> Result<(), NoMemory>
-    requires { length bytes.now < 2 ^ 16 }
     ensures { OnOk result (out.new.items ≡ out.old.items ++ text bytes.now) }
 {
-    out.extend_from_slice(&(bytes.len() as u16).to_be_bytes())?;
+    push_length(out, bytes.len())?;
     out.extend_from_slice(bytes)?;
     Ok(())
 }

@@ -1,24 +1,23 @@
 //! The bytes of an image, in version 2.
-ghost use Rattle.std.specs.Prelude.{◌≡◌, ◌++◌, IfOk, OnOk, OnErr};
+ghost use Rattle.std.specs.Prelude.{◌≡◌, ◌≤◌, ◌+◌, ◌++◌, length, IfOk, OnOk, OnErr};
+ghost use Rattle.message_defs.specs.Limits.{last_process};
 ghost use Rattle.image_defs.specs.Spelling.{image_bytes};
-ghost use Rattle.snapshot_defs.specs.Ranges.{IsImage};
 ghost use Rattle.snapshot_defs.specs.Spelling.{told_bytes, claimed_bytes, settled_bytes, spelled};
 ghost use Rattle.snapshot_defs.specs.declared.Version.TheVariants.{Two};
 ghost use Rattle.snapshot_rp.specs.Views.{image as image_of};
 
 use crate::entries::{push_each, push_list};
 use crate::image::Image;
-use crate::pushing::{push_decision, push_short};
+use crate::pushing::{push_decision, push_length};
 use rp_base::NoMemory;
 use std::alloc::Global;
 
 // The own number, the views that were left, the perceived pairs and the accepted payloads.
 fn push_told(out: &mut Vec<u8>, image: &Image) -> Result<(), NoMemory>
-    requires { IsImage Two (image_of image.now) }
     ensures { OnOk result (out.new.items ≡ out.old.items ++ told_bytes (image_of image.now)) }
 {
     out.push(image.me.get())?;
-    push_short(out, image.left.len() as u16)?;
+    push_length(out, image.left.len())?;
     push_each(out, image.left.as_slice())?;
     push_list(out, image.perceived.as_slice())?;
     push_list(out, image.accepted.as_slice())
@@ -26,7 +25,7 @@ fn push_told(out: &mut Vec<u8>, image: &Image) -> Result<(), NoMemory>
 
 // The signed claims, those that were heard before, those that are heard, and the conflicts.
 fn push_claimed(out: &mut Vec<u8>, image: &Image) -> Result<(), NoMemory>
-    requires { IsImage Two (image_of image.now) }
+    requires { length (image_of image.now).conflicts ≤ last_process + 1 }
     ensures { OnOk result (out.new.items ≡ out.old.items ++ claimed_bytes (image_of image.now)) }
 {
     push_list(out, image.signed.as_slice())?;
@@ -38,7 +37,6 @@ fn push_claimed(out: &mut Vec<u8>, image: &Image) -> Result<(), NoMemory>
 
 // What was delivered in each view, the decision, and whether the process has halted.
 fn push_settled(out: &mut Vec<u8>, image: &Image) -> Result<(), NoMemory>
-    requires { IsImage Two (image_of image.now) }
     ensures { OnOk result (out.new.items ≡ out.old.items ++ settled_bytes Two (image_of image.now)) }
 {
     push_each(out, image.delivered.as_slice())?;
@@ -49,7 +47,7 @@ fn push_settled(out: &mut Vec<u8>, image: &Image) -> Result<(), NoMemory>
 
 #[tactic(auto, unfolding(snapshot_defs::specs::Spelling::spelled))]
 fn image_text(alloc: Global, image: &Image) -> Result<Vec<u8>, NoMemory>
-    requires { IsImage Two (image_of image.now) }
+    requires { length (image_of image.now).conflicts ≤ last_process + 1 }
     ensures { IfOk result (λ bytes. bytes.items ≡ spelled Two (image_of image.now)) }
 {
     let mut out = Vec::new(alloc);
@@ -59,14 +57,15 @@ fn image_text(alloc: Global, image: &Image) -> Result<Vec<u8>, NoMemory>
     Ok(out)
 }
 
-/// Appends the bytes of an image in version 2. The image must have a spelling: `IsImage` says which ranges its numbers have, how many
-/// entries a list may have, and that its perceived pairs and its conflicts rise.
+/// Appends the bytes of an image in version 2: of any image with at most 64 conflicts, one of each process. A list whose length does not fit
+/// its field has the last bytes of that length. Whoever reads the bytes finds the image again where it has a spelling: `IsImage` says which
+/// ranges its numbers have, how many entries a list may have, and that its perceived pairs and its conflicts rise.
 ///
 /// # Errors
 /// [`NoMemory`] where room for the bytes is refused; nothing is appended then.
 #[tactic(auto, using(snapshot_laws::proofs::Versions::written_is_second))]
 pub fn write_snapshot(image: &Image, out: &mut Vec<u8>) -> Result<(), NoMemory>
-    requires { IsImage Two (image_of image.now) }
+    requires { length (image_of image.now).conflicts ≤ last_process + 1 }
     ensures written { OnOk result (out.new.items ≡ out.old.items ++ image_bytes (image_of image.now)) }
     ensures unchanged { OnErr result (out.new.items ≡ out.old.items) }
 {

@@ -1,4 +1,0 @@
-use Rattle.snapshot_rp.proofs.parts.VecDeliveredEntry.append_to.Goals as goal
-
-pub push_list-requires : goal.push_list-requires
-push_list-requires c = rw c.as_slice.ensures.value c.requires
