@@ -3,7 +3,7 @@ ghost use Rattle.std.specs.Prelude.{◌≡◌, ◌≢◌, ◌==◌, ◌++◌, �
 ghost use Rattle.message_defs.specs.Spelling.{IsClaim};
 ghost use Rattle.message_defs.specs.Statements as plain;
 ghost use Rattle.stmt_codec.specs.Views.{stmt, claim as claim_of};
-ghost use Rattle.claim_index.specs.Kept.{claim_bytes};
+ghost use Rattle.claim_pool.specs.Kept.{claim_bytes};
 ghost use Rattle.claim_lists.specs.Pairs.{with_pair};
 ghost use Rattle.image_parts.specs.Walks.{with_said, with_all_said, with_pairs};
 
@@ -32,8 +32,8 @@ fn view_of(statement: &Statement<'_>) -> u16
     }
 }
 
-// How many bytes the claim's statement and signature have.
-fn bytes_of(claim: &Claim<'_>) -> usize
+/// How many bytes the claim's statement and signature have.
+pub fn bytes_of(claim: &Claim<'_>) -> usize
     requires { IsClaim (claim_of claim.now) }
     ensures { result ≡ claim_bytes (claim_of claim.now) }
 {
@@ -48,6 +48,37 @@ fn put(claims: &mut ClaimList, claim: &Claim<'_>) -> Result<(), NoMemory>
     claims.reserve(1, bytes_of(claim))?;
     claims.push(claim);
     Ok(())
+}
+
+// The same, with the claim as an image has it.
+fn put_kept(claims: &mut ClaimList, kept: &KeptClaim) -> Result<(), NoMemory>
+    ensures { OnOk result (claims.new.claims ≡ claims.old.claims ++ kept.now ∷ []) }
+{
+    let Claim {
+        signer,
+        statement,
+        signature,
+    } = kept.claim();
+
+    // The type is named, since the checker is not told of it here otherwise.
+    let statement: Statement<'_> = statement;
+    let claim = Claim {
+        signer,
+        statement,
+        signature,
+    };
+    put(claims, &claim)
+}
+
+/// The claims, in order.
+pub fn claims_of(alloc: Global, kept: &[KeptClaim]) -> Result<ClaimList, NoMemory>
+    ensures { IfOk result (λ list. list.claims ≡ kept.now) }
+{
+    let mut list = ClaimList::new(alloc);
+    for one in kept {
+        put_kept(&mut list, one)?;
+    }
+    Ok(list)
 }
 
 // Puts the claim behind the others, where it is of the view of this number.
@@ -106,7 +137,7 @@ fn keep_other(
         signature,
     } = kept.claim();
 
-    // The type is named, since the checker is not told of it here otherwise.
+    // As in `put_kept`.
     let statement: Statement<'_> = statement;
     let other = Claim {
         signer,
@@ -126,7 +157,7 @@ fn keep_pair(conflicts: &mut Conflicts, kept: &KeptClaim, other: &KeptClaim) -> 
         signature,
     } = kept.claim();
 
-    // As in `keep_other`.
+    // As in `put_kept`.
     let statement: Statement<'_> = statement;
     let heard = Claim {
         signer,

@@ -4,3 +4,4 @@ mod Read
 mod Parts
 mod Phases
 mod Putting
+mod Real

@@ -1,12 +1,11 @@
 -- Lists of what was signed, copied list by list.
-use Rattle.std.proofs.Common.{◌≡◌, ℕ, suc, ◌+◌, ◌<◌, ◌≤◌, List, ◌++◌, length, drop, get_or, sym, ap, ◌∙◌, subst}
+use Rattle.std.proofs.Common.{◌≡◌, ℕ, ◌+◌, ◌<◌, ◌≤◌, List, ◌++◌, length, drop, get_or, sym, ap, ◌∙◌, subst}
 use Rattle.std.specs.List.{AllByRecursion}
 use Rattle.std.proofs.lemmas.List.{append-nil, append_assoc}
 use Rattle.message_defs.specs.Statements.{Claim}
 use Rattle.message_defs.specs.Spelling.{IsClaim}
 use Rattle.sent_claims.proofs.Walks.{drop-at, drop-past}
-use Rattle.member_state.specs.declared.left.SaidBefore.{SaidBefore}
-use Rattle.member_state.specs.States.{claims_of}
+use Rattle.member_restoring.specs.States.{SaidBefore, claims_of}
 use Rattle.member_image.proofs.Walks.{all-parts}
 
 module _ (lists : List SaidBefore) (i : ℕ) where

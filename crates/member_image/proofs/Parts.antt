@@ -1,5 +1,5 @@
 -- What is known of the parts of a state of some process.
-use Rattle.std.proofs.Common.{◌≡◌, List, length, drop, map, Some, sym, ap, ◌∙◌, subst}
+use Rattle.std.proofs.Common.{◌≡◌, List, drop, map, Some, sym, ap, ◌∙◌, subst}
 use Rattle.std.specs.List.{AllByRecursion, AllByRecursion-prop}
 use Rattle.std.proofs.Props.{props}
 use Rattle.std.proofs.lemmas.List.Elements.{recursion_from_All}
@@ -7,11 +7,9 @@ use Rattle.message_defs.specs.Statements.{Claim}
 use Rattle.message_defs.specs.Spelling.{IsClaim}
 use Rattle.message_defs.specs.Packing.{Signed}
 use Rattle.group_defs.specs.Process.{Setting, Pool, Left, Process}
-use Rattle.image_defs.specs.Images.{LeftView, left_by}
-use Rattle.member_state.specs.Parts.{IsRanged, all_signed}
-use Rattle.member_state.specs.declared.state.ProcessState.{ProcessState}
-use Rattle.member_state.specs.States.{IsStateOf, claims_of}
-use Rattle.member_state.proofs.Ranges.{claims-once, statement-once}
+use Rattle.image_defs.specs.Images.{left_by}
+use Rattle.member_restoring.specs.States.{IsRanged, IsStateOf, ProcessState, claims_of}
+use Rattle.member_restoring.proofs.Ranges.{claims-once, statement-once}
 use Rattle.member_image.specs.Commits.{claims_as}
 use Rattle.member_image.specs.Ranges.{ArePairsRanged, IsCommit}
 use Rattle.member_image.proofs.Walks.{all-parts}

@@ -1,5 +1,5 @@
 -- What a phase tells of a process.
-use Rattle.std.proofs.Common.{◌≡◌, None, true, false, refl}
+use Rattle.std.proofs.Common.{◌≡◌, None, false, refl}
 use Rattle.group_defs.specs.Process.{Process}
 use Rattle.group_defs.specs.Settle as defs
 use Rattle.view_phases.specs.declared.phases.DecidedView.{DecidedView as Decided}

@@ -7,14 +7,14 @@ use Rattle.std.proofs.lemmas.List.Elements.{All-head, All-tail, recursion_from_A
 use Rattle.message_defs.specs.declared.FrameFault.{FrameFault}
 use Rattle.message_defs.specs.Limits.{most_members}
 use Rattle.message_defs.specs.Statements.{Statement, Claim}
-use Rattle.message_defs.specs.Spelling.{IsClaim, IsStatement, spelling}
+use Rattle.message_defs.specs.Spelling.{IsClaim, IsStatement}
 use Rattle.message_defs.specs.Packing.{Signed, signed_of}
 use Rattle.group_defs.specs.Process.{Left}
 use Rattle.image_defs.specs.Images.{LeftView, left_by}
 use Rattle.stmt_codec.proofs.Grammar.{spelling_again}
 use Rattle.pool_laws.proofs.Places.{get-some}
 use Rattle.sent_claims.proofs.Walks.{all-get, drop-get, get-map}
-use Rattle.member_state.specs.Parts.{all_signed}
+use Rattle.member_restoring.specs.States.{all_signed}
 use Rattle.snapshot_rp.specs.Claims.{statement_or_end}
 use Rattle.member_image.specs.Commits.{claim_as, claims_as, commit_at}
 use Rattle.member_image.specs.Ranges.{IsCommit}

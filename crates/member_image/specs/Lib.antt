@@ -1,3 +1,4 @@
 pub mod Commits
 pub mod Pairs
 pub mod Ranges
+pub mod Restored

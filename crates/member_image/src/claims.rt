@@ -7,13 +7,11 @@ ghost use Rattle.message_defs.specs.Spelling.{IsClaim};
 ghost use Rattle.group_defs.specs.Process as defs;
 ghost use Rattle.image_defs.specs.Images.{by_signer, conflict_key};
 ghost use Rattle.stmt_codec.specs.Views.{claim as claim_of};
-ghost use Rattle.member_state.specs.Parts.{IsRanged};
+ghost use Rattle.member_restoring.specs.States.{IsRanged};
 ghost use Rattle.member_image.specs.Pairs.{first_above};
 ghost use Rattle.member_image.specs.Ranges.{ArePairsRanged};
 
-use claim_pool::Pool;
-use member_state::{Conflicts, pair_at};
-use reliable_mcast::Archive;
+use member_restoring::{Archive, Conflicts, Pool, pair_at};
 use rp_base::{NoMemory, Pid};
 use snapshot_rp::KeptClaim;
 use std::alloc::Global;

@@ -11,7 +11,7 @@ ghost use Rattle.member_image.specs.Commits.{claims_as, commit_at};
 ghost use Rattle.member_image.specs.Ranges.{IsCommit};
 
 use crate::claims::keep;
-use reliable_mcast::Archive;
+use member_restoring::Archive;
 use rp_base::{NoMemory, Update, Value};
 use snapshot_rp::{KeptClaim, LeftView};
 use std::alloc::Global;

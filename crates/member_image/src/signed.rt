@@ -3,10 +3,10 @@ ghost use Rattle.std.specs.Prelude.{◌≡◌, ◌++◌, drop, slice_get, option
 ghost use Rattle.std.specs.List.{AllByRecursion};
 ghost use Rattle.message_defs.specs.Spelling.{IsClaim};
 ghost use Rattle.group_defs.specs.Process.{Setting, Process};
-ghost use Rattle.member_state.specs.States.{IsReal, IsStateOf, claims_of};
+ghost use Rattle.member_restoring.specs.States.{IsReal, IsStateOf, claims_of};
 
 use crate::claims::keep;
-use member_state::{ClaimList, ProcessState, SaidBefore};
+use member_restoring::{ClaimList, ProcessState, SaidBefore};
 use rp_base::NoMemory;
 use snapshot_rp::KeptClaim;
 use std::alloc::Global;

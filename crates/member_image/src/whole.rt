@@ -2,7 +2,7 @@ ghost use Rattle.std.specs.Prelude.{◌≡◌, IfOk};
 ghost use Rattle.group_defs.specs.Process.{Setting, Process};
 ghost use Rattle.image_defs.specs.Images.{image_of};
 ghost use Rattle.snapshot_rp.specs.Views.{image as image_as};
-ghost use Rattle.member_state.specs.States.{IsReal, IsStateOf};
+ghost use Rattle.member_restoring.specs.States.{IsReal, IsStateOf};
 ghost use Rattle.member_core.specs.Cores.{IsCore};
 
 use crate::claims::{conflicts_in, heard_before, heard_in};
@@ -10,7 +10,7 @@ use crate::left::left_views;
 use crate::signed::signed_in;
 use crate::told::{decision_in, is_halted, told_in};
 use member_core::Core;
-use member_state::ProcessState;
+use member_restoring::ProcessState;
 use rp_base::{NoMemory, Tally};
 use snapshot_rp::Image;
 use std::alloc::Global;

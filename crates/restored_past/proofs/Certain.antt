@@ -12,7 +12,7 @@ use Rattle.rule_laws.proofs.Certified.{backer}
 use Rattle.pool_laws.proofs.Grown.{is-certified}
 use Rattle.pool_laws.proofs.Members.{Mem, mem-map}
 use Rattle.reliable_mcast.specs.Certificates.{IsRanged}
-use Rattle.claim_pool.specs.Verdicts.{with_own}
+use Rattle.image_parts.specs.Heard.{with_own}
 use Rattle.restored_past.specs.Hearing.{with_all}
 
 pub value_certain : (h : Pool) → IsView h.view → (rank : ℕ) (v : Value) → IsTrue (is_certified h (Ready h.view.number rank v))

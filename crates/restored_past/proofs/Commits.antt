@@ -19,7 +19,7 @@ use Rattle.pool_laws.proofs.Slots.{is-same_slot, is-same_statement}
 use Rattle.pool_laws.proofs.Tests.{and-first, both-true}
 use Rattle.image_laws.proofs.Certificates.{claim-of, said}
 use Rattle.image_laws.proofs.Rising.{Up, sorted-up, filter-apart, distinct-apart}
-use Rattle.claim_pool.specs.Verdicts.{with_own}
+use Rattle.image_parts.specs.Heard.{with_own}
 use Rattle.restored_past.specs.Hearing.{with_all}
 use Rattle.restored_past.proofs.Rising.{rises-up, same-up, take-whole}
 

@@ -2,7 +2,7 @@
 use Rattle.std.specs.Prelude.{List, [], ◌∷◌}
 use Rattle.message_defs.specs.Statements.{Claim}
 use Rattle.group_defs.specs.Process.{Pool}
-use Rattle.claim_pool.specs.Verdicts.{with_own}
+use Rattle.image_parts.specs.Heard.{with_own}
 
 -- the claims one after the other, each where none of its signer on its slot is heard
 abbrev pub with_all : Pool → List Claim → Pool

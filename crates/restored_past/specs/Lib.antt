@@ -1,3 +1,4 @@
 pub mod Hearing
 pub mod Keeping
 pub mod Installed
+pub mod Parts

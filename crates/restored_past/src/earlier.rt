@@ -15,8 +15,7 @@ ghost use Rattle.snapshot_rp.specs.Views.{left_view};
 ghost use Rattle.restored_past.specs.Hearing.{with_all};
 ghost use Rattle.restored_past.specs.Keeping.{KeepsOne};
 
-use crate::claims::bytes_of;
-use image_parts::{Pool, is_certified};
+use image_parts::{Pool, bytes_of, is_certified};
 use reliable_mcast::Archive;
 use rp_base::NoMemory;
 use snapshot_rp::{KeptClaim, LeftView};

@@ -1,5 +1,5 @@
 use crate::members::members::{after, one_by_journal, one_member};
-use member_core::{AbsorbFault, Core, Entry, Event, Outcome, OwnClaim};
+use member_image::{AbsorbFault, Core, Entry, Event, Outcome, OwnClaim};
 use rp_base::{Count, NoMemory, Pid, PlainScheme, PlainSigner};
 use std::alloc::Global;
 use std::process::Abort;
@@ -67,8 +67,8 @@ fn absorbed(
     core.absorb(&PlainScheme, &entry)
 }
 
-// Ends the test where not the same came of an event.
-fn assert_same_outcome(
+/// Ends the test where not the same came of an event.
+pub fn assert_same_outcome(
     rt: &(impl AllocGlobal + Abort),
     live: &Outcome,
     again: &Outcome,

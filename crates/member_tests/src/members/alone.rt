@@ -1,5 +1,5 @@
 use crate::members::members::{after, one_member};
-use member_core::{Core, Event, EventFault, EventVerdict, Note};
+use member_image::{Core, Event, EventFault, EventVerdict, Note};
 use rp_base::{Pid, PlainSigner};
 use std::process::Abort;
 

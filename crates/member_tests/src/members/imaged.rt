@@ -1,7 +1,6 @@
 //! The image of a process that has left a view.
 use crate::members::members::{after, one_member};
-use member_core::Event;
-use member_image::image;
+use member_image::{Event, image};
 
 /// It delivers a message in view 0, leaves it, and delivers one in view 1. Its image has what it signed in both, as much as by another program.
 #[test]

@@ -1,7 +1,6 @@
 //! Events for which memory runs out. In the gate none does; `rt try --test --fail-alloc 1..` has each allocation fail in turn.
 use crate::members::members::{after, try_one_member};
-use member_core::{Core, Event, EventVerdict};
-use member_image::image;
+use member_image::{Core, Event, EventVerdict, image};
 use rp_base::{NoMemory, PlainScheme, PlainSigner};
 use std::process::Abort;
 

@@ -1,8 +1,9 @@
 //! Process 0 alone in its view, with a key of its own or known by its journal.
 ghost use Rattle.std.specs.Prelude.{◌≡◌};
 
-use member_core::{Core, Event, Outcome};
+use member_image::{Core, Event, Outcome, RestoreFault, restore};
 use rp_base::{Count, GroupId, NoMemory, Pid, PlainScheme, PlainSigner, Roster, Tally};
+use snapshot_rp::{Version, read_snapshot};
 use std::alloc::Global;
 use std::process::Abort;
 use view_table::View;
@@ -31,7 +32,7 @@ fn alone<G: Tally + Drop>(alloc: Global, signer: G) -> Result<Core<G>, NoMemory>
 
 /// Process 0 alone, whose key signs so many statements.
 pub fn try_one_member(alloc: Global, total: u32) -> Result<Core<PlainSigner>, NoMemory> {
-    alone(alloc, PlainSigner::new(KEY, total))
+    alone(alloc, key(total))
 }
 
 /// The same, in a test that has the memory.
@@ -42,6 +43,39 @@ pub fn one_member(rt: &(impl AllocGlobal + Abort), total: u32) -> Core<PlainSign
 /// Process 0 alone, for someone who has its journal and not its key.
 pub fn one_by_journal(rt: &(impl AllocGlobal + Abort), total: u32) -> Core<Count> {
     alone(rt.alloc(), Count::new(total)).expect(rt, "memory")
+}
+
+/// Its key, which signs so many statements.
+pub fn key(total: u32) -> PlainSigner
+    ensures used { result.used ≡ 0 }
+    ensures total { result.total ≡ total }
+{
+    PlainSigner::new(KEY, total)
+}
+
+/// Process 0 alone as it begins again, with this key, from the image that the bytes spell.
+pub fn one_again(
+    alloc: Global,
+    bytes: &[u8],
+    signer: PlainSigner,
+) -> Result<Core<PlainSigner>, RestoreFault> {
+    let me = Pid::new(0).unwrap();
+    let (Some(genesis), Ok(roster)) = (View::new(0, &[me]), roster(alloc)) else {
+        return Err(RestoreFault::NoMemory);
+    };
+    match read_snapshot(alloc, Version::Two, bytes) {
+        Ok(image) => restore(
+            alloc,
+            &PlainScheme,
+            GROUP,
+            roster,
+            genesis,
+            image,
+            signer,
+            1,
+        ),
+        Err(_) => Err(RestoreFault::NoMemory),
+    }
 }
 
 /// What came of the event, which the process has taken.

@@ -3,3 +3,4 @@ mod alone;
 mod imaged;
 mod lost;
 mod members;
+mod restored;

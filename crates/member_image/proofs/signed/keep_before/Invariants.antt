@@ -1,7 +1,7 @@
 use Rattle.std.proofs.Common.{◌≡◌, ◌++◌, drop}
 use Rattle.std.specs.List.{AllByRecursion}
 use Rattle.message_defs.specs.Spelling.{IsClaim}
-use Rattle.member_state.specs.States.{claims_of}
+use Rattle.member_restoring.specs.States.{claims_of}
 use Rattle.member_image.proofs.signed.keep_before.Given as goal
 
 abbrev pub invariant-lists : goal.invariant-lists

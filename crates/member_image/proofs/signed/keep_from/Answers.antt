@@ -1,4 +1,4 @@
-use Rattle.std.proofs.Common.{◌++◌, refl, drop, arith}
+use Rattle.std.proofs.Common.{refl, arith}
 use Rattle.message_defs.specs.Spelling.{IsClaim}
 use Rattle.member_image.proofs.Walks.{all-rest, at-end, one-more}
 use Rattle.member_image.proofs.signed.keep_from.Goals as goal

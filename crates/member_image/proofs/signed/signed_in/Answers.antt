@@ -2,8 +2,8 @@ use Rattle.std.proofs.Common.{◌++◌, drop, sym, ap, ◌∙◌, subst}
 use Rattle.std.specs.List.{AllByRecursion}
 use Rattle.std.proofs.Math.Logic.{∥∥₁_elim}
 use Rattle.message_defs.specs.Spelling.{IsClaim}
-use Rattle.member_state.specs.States.{claims_of}
-use Rattle.member_state.proofs.Ranges.{claims-once}
+use Rattle.member_restoring.specs.States.{claims_of}
+use Rattle.member_restoring.proofs.Ranges.{claims-once}
 use Rattle.member_image.proofs.Parts.{signed-parts}
 use Rattle.member_image.proofs.signed.signed_in.Goals as goal
 

@@ -1,5 +1,5 @@
 use Rattle.std.proofs.Common.{◌≡◌, ◌++◌, drop, take}
-use Rattle.restored_past.proofs.claims.claims_of.Given as goal
+use Rattle.image_parts.proofs.claims.claims_of.Given as goal
 
 abbrev pub invariant-loop-one : goal.invariant-loop-one
 invariant-loop-one l = l.list.claims ≡ take l.one-index l.kept
