@@ -271,7 +271,10 @@ function choose(name) {
 async function open() {
     if (location.hash === '' || location.hash === '#') return choose(parts.first);
     const value = await held();
-    if (value !== null) return put(value, 'From the link.');
+    if (value !== null) {
+        part('example').value = '';
+        return put(value, 'From the link.');
+    }
     if (story.value === '') await choose(parts.first);
     part('about').textContent = 'The link holds no story.';
 }
@@ -287,6 +290,8 @@ story.addEventListener('input', () => {
     number();
     faulty = 0;
     band();
+    // So that the example can be chosen again.
+    part('example').value = '';
     clearTimeout(later);
     later = setTimeout(run, 10);
 });

@@ -328,6 +328,8 @@ def lights(t):
     t.value("document.querySelector('#words [data-event=\"5\"]').click()")
     t.holds("a click on words lights their event", t.value("lit()") == "5")
     t.holds("a click on the picture lights its event", t.value("clicked(1)") == ["1", True])
+    t.type("# changed\n")
+    t.holds("an example that was changed can be chosen again", t.value("document.getElementById('example').value") == "")
 
 
 def links(t):
@@ -336,6 +338,7 @@ def links(t):
     link = t.value("rampart.linked()")
     t.open(link)
     t.holds("a link brings its story back", t.value("document.getElementById('story').value") == text)
+    t.holds("it is none of the examples", t.value("document.getElementById('example').value") == "")
     t.type(text.replace("é", ""))
     t.open(t.value("rampart.linked()"))
     t.holds("the story of a link runs", "event 1: " in t.text_of("words"))
