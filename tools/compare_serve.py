@@ -13,9 +13,11 @@ receives, and states that are given and offered to who joined, some of them old,
 whole output, the status, and of `interop` the journal and what was sent.
 
 Then RESTARTS scripts of keys of trees, of which the run is stopped after each line and begins again on its journal; and by `interop` some
-runs are cut off at a write or a sync of the disk, and the next one begins with one of three images of it. Each reply of ours must be signed
-with the leaf whose number is how many messages its process delivered before, in all these runs; and no leaf with which another body was
-signed. A body is kept by its leaf over all runs of a script.
+runs are cut off at a write or a sync of the disk, and the next one begins with one of three images of it. In every other script a process
+joins and takes the store over: the keys and the states that are offered to it are said in one run, which is stopped after each of the states
+and begins again, and then goes on with what is delivered next. Half of these have plain keys, whose runs are short enough for `interop`. Each
+reply of ours must be signed with the leaf whose number is how many messages its process delivered before, and each state with that of its
+view's number, in all these runs; and no leaf with which another body was signed. A body is kept by its leaf over all runs of a script.
 
 Each difference is printed, and at the end how often each line came. The status is 1 where anything differs.
 """
@@ -147,11 +149,13 @@ class Rampart:
 class Drawing:
     """A script, line by line: the other implementation's node is given each line, and what it answers is used by the next."""
 
+    rosters = [2, 3, 3, 4, 4, 4]
+
     def __init__(self, number, theirs, plans):
         self.draw, self.theirs = random.Random(number), theirs
         self.requests = Requests(self.draw)
-        plan, roster = self.draw.choice(plans), self.draw.choice([2, 3, 3, 4, 4, 4])
-        members = roster - 1 if self.often(0.5) else self.draw.randint(1, roster)
+        plan, roster = self.draw.choice(plans), self.draw.choice(self.rosters)
+        members = self.members_of(roster)
         self.kit = theirs.kits.make_kit(members, roster, plan, bytes([number % (256 if plan[0] == "plain" else 5)]) * 32)
         if plan[0] == "plain" and self.often(0.2):
             # one process's keys make few signatures, of replies too
@@ -165,6 +169,10 @@ class Drawing:
         for line in self.host.out:
             if line.startswith("statekey "):
                 self.keys[int(line.split(" ")[1])] = line.split(" ")[2]
+
+    def members_of(self, roster):
+        """How many of so many processes are members at the start."""
+        return roster - 1 if self.often(0.5) else self.draw.randint(1, roster)
 
     def often(self, part):
         return self.draw.random() < part
@@ -308,6 +316,93 @@ class Drawing:
             self.odd()
         return self.lines
 
+    def runs(self):
+        """The lines of each run, where it is stopped after each line."""
+        return [[line] for line in self.lines]
+
+
+class Joining(Drawing):
+    """A script in which the process that is outside joins, and takes the store over from states that the others give. As a run hands in the
+    keys that it takes states by, the lines from the keys on are said in one run."""
+
+    rosters = [2, 3, 4, 4, 4, 4]
+
+    def __init__(self, number, theirs):
+        # of trees the runs are soon longer than `interop` reads; plain signatures don't show their leaf, which is then the one that is wanted
+        super().__init__(number, theirs, [("plain", 1000) if number % 4 == 1 else ("hss", 2, 5, 3)])
+        self.joiner, self.taking = self.roster[-1], []
+
+    def members_of(self, roster):
+        return roster - 1
+
+    def view(self):
+        return self.host.cores[self.joiner].view
+
+    def until(self, holds):
+        """Rounds until that holds, with a tick of everyone after those that bring nothing."""
+        for _ in range(12):
+            self.rounds(6)
+            if holds():
+                return
+            for p in self.roster:
+                self.say("%d tick" % p)
+
+    def installed(self):
+        views = [self.host.cores[p].view.number for p in self.roster]
+        return self.view().rank_of(self.joiner) is not None and len(set(views)) == 1
+
+    def asks(self):
+        for _ in range(self.draw.choice([1, 2, 3])):
+            self.say("%d submit %s" % (self.draw.choice(self.roster), word(self.requests.payload())))
+        self.rounds(self.draw.choice([2, 4, 6]))
+
+    def takes_over(self):
+        """The keys, a state of each other member and others between them, and what is delivered after it; all in one run."""
+        begun, ends = len(self.lines), []
+        for p in self.roster:
+            self.say("%d statekey %d %s" % (self.joiner, p, self.keys[p]))
+        givers = [p for p in self.roster if p != self.joiner]
+        self.draw.shuffle(givers)
+        for p in givers:
+            self.give(p)
+            if self.often(0.2):
+                self.say("%d state %s" % (self.joiner, self.draw.choice([self.damaged, lambda r: self.forged(p)])(self.given[-1])))
+                ends.append(len(self.lines))
+            self.say("%d state %s" % (self.joiner, self.given[-1]))
+            ends.append(len(self.lines))
+        for _ in range(self.draw.choice([0, 1, 1, 2])):
+            self.asks()
+        self.taking.append((begun, ends, len(self.lines)))
+
+    def script(self):
+        self.asks()
+        for p in self.roster[:-1]:
+            self.say("%d join %d" % (p, self.joiner))
+        self.until(self.installed)
+        for _ in range(self.draw.choice([2, 3, 4])):
+            what = self.draw.random()
+            if what < 0.6:
+                self.takes_over()
+            elif what < 0.8:
+                for p in self.roster:
+                    self.say("%d renew" % p)
+                self.until(self.installed)
+            else:
+                self.give(self.joiner)
+            self.asks()
+        self.takes_over()
+        self.asks()
+        return self.lines
+
+    def runs(self):
+        """A line each; where the joiner takes the store over, a run that is stopped after each of the states, and one that goes on."""
+        runs, at = [], 0
+        for begun, ends, ended in self.taking:
+            runs += [[line] for line in self.lines[at:begun]]
+            runs += [self.lines[begun:end] for end in ends] + [self.lines[begun:ended]]
+            at = ended
+        return runs + [[line] for line in self.lines[at:]]
+
 
 def said(lines):
     return "".join(line + "\n" for line in lines).encode("latin-1")
@@ -366,12 +461,13 @@ def compare_runs(theirs, first, count, program, reached):
 
 
 class Leaves:
-    """Which body each leaf of each process signed, over all runs."""
+    """Which body each leaf of each process signed, over all runs: of its replies, and of its states."""
 
     def __init__(self, drawing):
         self.drawing, self.bodies, self.delivered, self.wrong = drawing, {}, collections.Counter(), 0
         store = drawing.theirs.store
-        self.keys = {p: store.derived_signer(drawing.kit.secrets[p], b"RPR1") for p in drawing.roster}
+        self.keys = {(kind, p): store.derived_signer(drawing.kit.secrets[p], kind) for kind in (b"RPR1", b"RPT1") for p in drawing.roster}
+        self.took, self.taken = set(), collections.Counter()
 
     def tell(self, number, what):
         self.wrong += 1
@@ -379,6 +475,7 @@ class Leaves:
 
     def see(self, number, out):
         """The lines of a run: it begins with what each process has delivered, and each delivery has a reply."""
+        self.took.clear()
         for line in out.decode().splitlines():
             words = line.split(" ")
             if words[0] == "host":
@@ -387,33 +484,52 @@ class Leaves:
                 self.delivered[int(words[1])] += 1
             elif words[0] == "reply" and words[2] not in ("none", "spent"):
                 self.reply(number, int(words[1]), bytes.fromhex(words[2]))
+            elif words[0] == "state" and words[2] == "ready":
+                self.took.add(int(words[1]))
+                self.taken["taken over"] += 1
+            elif words[0] == "state" and len(words) == 3 and words[2] not in ("none", "spent"):
+                self.state(number, int(words[1]), bytes.fromhex(words[2]))
 
     def reply(self, number, p, record):
-        store = self.drawing.theirs.store
-        signature = store.read_reply(record)[6]
-        body = b"RPR1" + self.drawing.kit.group + record[:-2 - len(signature)]
-        wanted = self.delivered[p] - 1
-        signed = lambda leaf: signature == store.sign_with_leaf(self.keys[p], leaf, body)
-        leaves = [wanted] if signed(wanted) else [leaf for leaf in range(FEW_LEAVES) if signed(leaf)]
+        signature = self.drawing.theirs.store.read_reply(record)[6]
+        self.signed(number, b"RPR1", p, self.delivered[p] - 1, record[:-2 - len(signature)], signature)
+        if p in self.took:
+            self.taken["replies by who took it over"] += 1
+
+    def state(self, number, p, record):
+        _, view, _, signature = self.drawing.theirs.store.read_state(record)
+        self.signed(number, b"RPT1", p, view, record[:-2 - len(signature)], signature)
+        if p in self.took:
+            self.taken["states by who took it over"] += 1
+
+    def signed(self, number, kind, p, wanted, fields, signature):
+        """What is signed with the leaf that is wanted, and with no other."""
+        sign, key, body = self.drawing.theirs.store.sign_with_leaf, self.keys[kind, p], kind + self.drawing.kit.group + fields
+        by = lambda leaf: signature == sign(key, leaf, body)
+        leaves = [wanted] if by(wanted) else [leaf for leaf in range(FEW_LEAVES) if by(leaf)]
         if leaves != [wanted]:
-            self.tell(number, "a reply of process %d is signed with leaf %s, not with %d" % (p, leaves or "none", wanted))
+            self.tell(number, "what process %d signs is signed with leaf %s, not with %d" % (p, leaves or "none", wanted))
         for leaf in leaves:
-            if self.bodies.setdefault((p, leaf), body) != body:
+            if self.bodies.setdefault((kind, p, leaf), body) != body:
                 self.tell(number, "leaf %d of process %d has signed two bodies" % (leaf, p))
 
 
 def compare_restarts(theirs, first, count, program, reached):
-    """Runs that are stopped after each line, and begin again on what is left."""
+    """Runs that are stopped after each line, and begin again on what is left; every other script has a process that takes the store over."""
     wrong = runs = cut_off = 0
+    taken = collections.Counter()
     for number in range(first, first + count):
-        drawing = Drawing(number, theirs, TREES)
-        lines, leaves, draw = drawing.script(), Leaves(drawing), random.Random(number)
+        drawing = Joining(number, theirs) if number % 2 else Drawing(number, theirs, TREES)
+        drawing.script()
+        leaves, draw = Leaves(drawing), random.Random(number)
+        # what is lost ends many a change of view, so most of those scripts lose little
+        often = 0.02 if number % 2 and draw.random() < 0.7 else 0.15
         journal, coming, ours_journal = b"", [], b""
-        for line in lines:
+        for lines in drawing.runs():
             cut = None
-            if (program is None or program.in_memory) and draw.random() < 0.15:
+            if (program is None or program.in_memory) and draw.random() < often:
                 cut = (draw.choice(["write", "sync"]), draw.choice([1, 2, 3, 4, draw.randint(1, 30)]))
-            data = drawing.front + said([line])
+            data = drawing.front + said(lines)
             wanted, left = theirs.serve(data, journal, coming, cut)
             mine = program.serve(data, ours_journal, coming, cut) if program else wanted
             if mine is None:
@@ -425,10 +541,10 @@ def compare_restarts(theirs, first, count, program, reached):
             image = draw.randrange(len(wanted.kept))
             journal, ours_journal = wanted.kept[image], mine.kept[min(image, len(mine.kept) - 1)]
             coming = left if program is None or program.in_memory else []
-            if draw.random() < 0.1:
+            if draw.random() < often * 2 / 3:
                 coming = [d for d in coming if draw.random() < 0.7]
-        wrong += leaves.wrong
-    print("%d runs, %d cut off" % (runs, cut_off))
+        wrong, taken = wrong + leaves.wrong, taken + leaves.taken
+    print("%d runs, %d cut off%s" % (runs, cut_off, "".join(", %s %d" % item for item in sorted(taken.items()))))
     return wrong
 
 

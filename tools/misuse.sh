@@ -14,7 +14,7 @@ work=$(mktemp -d)
 trap 'rm -rf "$work"' EXIT
 git -C "$top" archive HEAD crates crates.txt HANDLES | tar -x -C "$work"
 echo 'misuse_audit: rp_base audit_core' >> "$work/crates.txt"
-echo 'misuse: rp_base stmt_codec view_table claim_index pool_values claim_pool view_phases rp_devices journal_rp member_core hosted_core chain_check store_records kv_service' >> "$work/crates.txt"
+echo 'misuse: rp_base stmt_codec view_table claim_index pool_values claim_pool view_phases rp_devices journal_rp member_core hosted_core node_turns chain_check store_records kv_service' >> "$work/crates.txt"
 mkdir -p "$work/crates/misuse/src" "$work/crates/misuse_audit/src"
 failed=0
 
@@ -303,6 +303,96 @@ fn early(journal: Journal<Reading>, disk: &mut MemDisk, turn: Turn<Unsynced, Hos
 }
 
 fn main() {}' unknown-method
+
+misuse 'a turn that is let out by a node before it is in the journal' 'use node_turns::{AnySigner, Hosted, NoService, Speaker, let_out};
+use journal_rp::{Turn, Unsynced};
+use rp_devices::{MemDisk, MemLink};
+use std::alloc::Global;
+
+fn early(
+    alloc: Global,
+    turn: &Turn<Unsynced, Hosted<AnySigner>>,
+    speaker: &Speaker<'"'"'_>,
+    disk: &MemDisk,
+    link: &mut MemLink,
+    room: &mut [u8],
+    text: &mut Vec<u8>,
+) {
+    let _out = let_out(alloc, turn, speaker, disk, link, room, text, &mut NoService);
+}
+
+fn main() {}' mismatched-types
+
+misuse 'two turns from one append' 'use hosted_core::Hosted;
+use journal_rp::{Journal, Synced, Turn, Unsynced, Writing};
+use rp_base::PlainSigner;
+use rp_devices::MemDisk;
+
+type Next = Turn<Unsynced, Hosted<PlainSigner>>;
+type Kept = Turn<Synced, Hosted<PlainSigner>>;
+
+fn two(journal: Journal<Writing>, disk: &mut MemDisk, turn: Next) -> Option<(Kept, Kept)> {
+    match journal.append(disk, turn) {
+        Ok((_journal, kept)) => Some((kept, kept)),
+        Err(_) => None,
+    }
+}
+
+fn main() {}' borrow-e0382
+
+misuse 'a turn that is appended twice' 'use hosted_core::Hosted;
+use journal_rp::{Journal, Turn, Unsynced, Writing};
+use rp_base::PlainSigner;
+use rp_devices::MemDisk;
+
+fn again(journal: Journal<Writing>, disk: &mut MemDisk, turn: Turn<Unsynced, Hosted<PlainSigner>>) {
+    if let Ok((journal, _kept)) = journal.append(disk, turn) {
+        let _again = journal.append(disk, turn);
+    }
+}
+
+fn main() {}' borrow-e0382
+
+misuse 'a journal that takes in turns, and was not finished' 'use journal_rp::{Journal, Reading, Writing};
+
+fn unfinished(journal: Journal<Reading>) -> Journal<Writing> {
+    journal
+}
+
+fn main() {}' mismatched-types
+
+misuse 'an event that was refused, and is appended' 'use hosted_core::{Hosted, Taken};
+use journal_rp::{Journal, Writing};
+use member_core::Event;
+use rp_base::{PlainScheme, PlainSigner};
+use rp_devices::MemDisk;
+use std::alloc::Global;
+
+fn appends(hosted: Hosted<PlainSigner>, alloc: Global, journal: Journal<Writing>, disk: &mut MemDisk) {
+    if let Ok(Taken::Refused(refused, _)) = hosted.take(alloc, &PlainScheme, &Event::Tick) {
+        let _appended = journal.append(disk, refused);
+    }
+}
+
+fn main() {}' mismatched-types
+
+use 'a turn that is let out by a node' 'use node_turns::{AnySigner, Hosted, NoService, Speaker, Synced, Turn, let_out};
+use rp_devices::{MemDisk, MemLink};
+use std::alloc::Global;
+
+fn lets_out(
+    alloc: Global,
+    turn: &Turn<Synced, Hosted<AnySigner>>,
+    speaker: &Speaker<'"'"'_>,
+    disk: &MemDisk,
+    link: &mut MemLink,
+    room: &mut [u8],
+    text: &mut Vec<u8>,
+) {
+    let _out = let_out(alloc, turn, speaker, disk, link, room, text, &mut NoService);
+}
+
+fn main() {}'
 
 use 'a turn that is taken, appended, sent and taken back from' 'use hosted_core::{Hosted, Taken};
 use journal_rp::{Journal, Writing};

@@ -234,15 +234,15 @@ AREAS = {
     "kits and words": (676, 413, 2, "text_codec kit_file kit_lines kit_draft kit_reading kit_making command_line"),
     "signatures": (676, 622, 2, "sha256_lanes lms_chains lms_ots lms_tree lms_hss sig_scheme bench_parts"),
     "links and journals": (676, 777, 2, "link_defs auth_link journal_defs journal_disk journal_entries journal_rp"),
-    "a store": (1040, 20, 2, "store_defs store_laws following_laws store_rows store_records kv_service vote_client state_transfer store_words store_keys store_replies store_giving store_server store_asking store_service serve_laws store_text_defs store_text_laws store_text_rows"),
-    "chains of views, and guards": (1040, 343, 2, "chain_defs chain_text_defs chain_laws chain_rows chain_check chain_words guard_defs guard_laws guard_rows guard_service guarding_laws proof_defs proof_laws witness_defs witness_laws witness_rows witness_words witness_cli witness"),
-    "convictions and audits": (1040, 666, 2, "conviction_defs conviction_laws conviction audit_defs audit_laws evidence_laws findings_laws claim_firsts audit_claims audit_turns journal_steps audit_sources audit_walk audit_cast findings_json audit_core audit_input audit_words audit_rows"),
-    "nodes": (1040, 989, 2, "image_defs image_laws snapshot_defs snapshot_laws snapshot_rows snapshot_rp kept_images heard_images image_parts restored_place restored_past member_image node_defs node_laws node_text node_keys node_hosts node_traces node_service opening_laws resume_laws script_laws letting_laws letter_laws node_input node_opening node_turns sealing_laws node_taking node_receiving node_script stop_laws node_loop node_rows"),
+    "a store": (1040, 20, 2, "store_defs store_laws following_laws store_rows store_records kv_service vote_client state_transfer store_words store_keys store_replies store_giving store_server store_asking store_service serve_laws taking_laws store_text_defs store_text_laws store_text_rows store_wording"),
+    "chains of views, and guards": (1040, 370, 2, "chain_defs chain_text_defs chain_laws chain_rows chain_check chain_words guard_defs guard_laws guard_rows guard_service guarding_laws proof_defs proof_laws proof_rows proof_lines witness_defs witness_laws witness_rows witness_words witness_cli witness"),
+    "convictions and audits": (1040, 720, 2, "conviction_defs conviction_laws conviction audit_defs audit_laws evidence_laws findings_laws claim_firsts audit_claims audit_turns journal_steps audit_sources audit_walk audit_cast findings_json audit_core audit_input audit_words audit_rows"),
+    "nodes": (1040, 1043, 2, "image_defs image_laws snapshot_defs snapshot_laws snapshot_rows snapshot_rp kept_images heard_images image_parts restored_place restored_past member_restoring member_image node_defs node_snapshots node_laws node_text node_keys node_hosts node_traces node_service opening_laws resume_laws script_laws letting_laws letter_laws node_input node_opening node_turns sealing_laws node_taking node_receiving node_script stop_laws node_loop node_rows"),
 }
 
 # The lines from each area to those that it uses, without those that others imply.
 LINES = {
-    ("the program", "chains of views, and guards"): [(200, 20), (200, 13), (1022, 13), (1022, 383), (1040, 383)],
+    ("the program", "chains of views, and guards"): [(200, 20), (200, 13), (1022, 13), (1022, 410), (1040, 410)],
     ("the program", "a run shown"): [(324, 60), (348, 60)],
     ("a replay", "a member"): [(172, 321), (172, 405)],
     ("a replay", "schedules and stories"): [(250, 321), (250, 394), (430, 394), (430, 413)],
@@ -254,7 +254,7 @@ LINES = {
     ("laws and rows", "definitions"): [(172, 1159), (172, 1195)],
     ("a run shown", "a replay"): [(348, 155), (324, 155)],
     ("beside other implementations", "the program"): [(348, 230), (336, 230), (336, 60), (324, 60)],
-    ("how fast", "convictions and audits"): [(980, 60), (1004, 60), (1004, 720), (1040, 720)],
+    ("how fast", "convictions and audits"): [(980, 60), (1004, 60), (1004, 774), (1040, 774)],
     ("schedules and stories", "kits and words"): [(652, 486), (676, 486)],
     ("schedules and stories", "frames and statements"): [(500, 667), (500, 777)],
     ("schedules and stories", "laws and rows"): [(348, 510), (336, 510), (336, 1070), (324, 1070)],
@@ -263,10 +263,10 @@ LINES = {
     ("kits and words", "signatures"): [(828, 559), (828, 622)],
     ("signatures", "the outside"): [(676, 690), (664, 690), (664, 1070), (652, 1070)],
     ("the outside", "definitions"): [(500, 1132), (500, 1195)],
-    ("a store", "nodes"): [(1344, 120), (1364, 120), (1364, 1036), (1344, 1036)],
-    ("nodes", "convictions and audits"): [(1192, 989), (1192, 974)],
-    ("chains of views, and guards", "a store"): [(1192, 343), (1192, 328)],
-    ("convictions and audits", "a replay"): [(1040, 686), (1012, 686), (1012, 608), (662, 608), (662, 706), (330, 706), (330, 290), (324, 290)],
+    ("a store", "nodes"): [(1344, 120), (1364, 120), (1364, 1090), (1344, 1090)],
+    ("nodes", "convictions and audits"): [(1192, 1043), (1192, 1028)],
+    ("chains of views, and guards", "a store"): [(1192, 370), (1192, 355)],
+    ("convictions and audits", "a replay"): [(1040, 740), (1012, 740), (1012, 608), (662, 608), (662, 706), (330, 706), (330, 290), (324, 290)],
 }
 
 
@@ -294,7 +294,7 @@ def crates_picture():
     """The crates by areas: each area stands above those that it uses; lines that others imply are left out."""
     crates = {name: below for name, below in read_crates().items() if not name.endswith("_tests")}
     check_areas(crates)
-    p = Picture(1364, 1500, "The crates and what uses what")
+    p = Picture(1372, 1600, "The crates and what uses what")
     for points in LINES.values():
         p.arrow(points)
     for area, (x, y, across, names) in AREAS.items():
@@ -308,7 +308,7 @@ def crates_picture():
             left, top = x + 8 + step * (i % across), y + 32 + 27 * (i // across)
             p.parts.append(f'<rect x="{left:g}" y="{top}" width="{step - 4:g}" height="23" rx="4" class="{kind}"/>')
             p.text(left + (step - 4) / 2, top + 16, name)
-    p.text(20, 1486, "Green: definitions. Yellow: laws and rows. Blue: code. In an area no crate uses one that comes after it. Lines that others imply are left out.", "small", "start")
+    p.text(20, 1586, "Green: definitions. Yellow: laws and rows. Blue: code. In an area no crate uses one that comes after it. Lines that others imply are left out.", "small", "start")
     p.write("crates")
 
 
