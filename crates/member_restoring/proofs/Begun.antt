@@ -1,18 +1,16 @@
 -- The state of a process that begins again, by what is known once all was asked for.
-use Rattle.std.proofs.Common.{◌≡◌, ◌≢◌, ℕ, ◌+◌, ◌≤◌, List, length, refl, sym, ap, ◌∙◌, subst}
-use Rattle.std.specs.Prelude.{All, AllPairs, IsTrue}
-use Rattle.message_defs.specs.Limits.{most_messages}
+use Rattle.std.proofs.Common.{◌≡◌, ℕ, ◌+◌, ◌≤◌, List, length, refl, sym, ap, ◌∙◌, subst}
+use Rattle.std.specs.Prelude.{All, IsTrue}
 use Rattle.message_defs.specs.Statements.{Claim, view_of}
-use Rattle.message_defs.specs.Spelling.{IsViewNumber}
-use Rattle.group_defs.specs.Views.{View, IsView}
+use Rattle.group_defs.specs.Views.{View}
 use Rattle.group_defs.specs.Process.{Setting}
 use Rattle.group_defs.specs.Hearing.{is_valid}
-use Rattle.image_defs.specs.Images.{Image, LeftView, process_of, view_behind}
+use Rattle.image_defs.specs.Images.{Image, process_of, view_behind}
 use Rattle.image_defs.specs.Kept.{IsKept}
-use Rattle.kept_images.specs.Facts.{StandByPlace}
+use Rattle.restored_present.specs.Left.{IsLeftSo, StandByPlace, installed_from}
 use Rattle.pool_laws.proofs.Members.{All-mem, mem-All}
-use Rattle.restored_past.specs.Installed.{installed_from}
-use Rattle.member_restoring.specs.Parts.{IsLeftSo, IsOf, IsPresentSo, IsToldSo}
+use Rattle.restored_present.specs.Parts.{IsPresentSo, IsToldSo}
+use Rattle.member_restoring.specs.Parts.{IsOf}
 use Rattle.member_restoring.proofs.Kept.{kept-is}
 use Rattle.member_restoring.proofs.Lists.{lists-are, views-are}
 

@@ -1,17 +1,12 @@
 -- The parts of an image that are asked for one by one make it kept, and a kept image has them.
-use Rattle.std.proofs.Common.{◌≡◌, ◌≢◌, ℕ, ◌+◌, ◌-◌, ◌≤◌, List, [], ◌∷◌, length, map, refl, sym, ap, ◌∙◌, subst, Some, arith}
-use Rattle.std.specs.Prelude.{◌↔◌, sum, All, IsTrue}
+use Rattle.std.proofs.Common.{◌≡◌, ◌+◌, List, [], ◌∷◌, length, refl, arith}
 use Rattle.std.specs.List.{sum_by}
-use Rattle.message_defs.specs.Updates.{Update, Value}
-use Rattle.message_defs.specs.Statements.{Claim, view_of}
-use Rattle.group_defs.specs.Views.{View, is_member, is_possible}
-use Rattle.group_defs.specs.Process.{Setting, Process, Left, Delivered, keyed, places_in, earlier, delivered_from}
-use Rattle.group_defs.specs.Hearing.{is_valid}
+use Rattle.group_defs.specs.Views.{View}
+use Rattle.group_defs.specs.Process.{Setting, Process, Delivered, earlier, delivered_from}
 use Rattle.image_defs.specs.Images.{Image, LeftView, lefts_from, process_of, view_behind}
 use Rattle.image_defs.specs.Kept.{IsKept}
-use Rattle.kept_images.specs.Facts.{StandByPlace}
-use Rattle.pool_laws.proofs.Members.{mem-All, All-mem}
-use Rattle.member_restoring.specs.Parts.{IsLeftSo, IsToldSo, IsPresentSo}
+use Rattle.restored_present.specs.Left.{IsLeftSo, StandByPlace}
+use Rattle.restored_present.specs.Parts.{IsToldSo, IsPresentSo}
 use Rattle.member_restoring.proofs.Lists.{own-are}
 
 module _ (s : Setting) (i : Image) (lists : length i.delivered ≡ length i.left + 1) where

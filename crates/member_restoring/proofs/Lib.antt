@@ -1,11 +1,8 @@
 mod Lists
 mod Kept
 mod Whole
-mod Last
-mod Judged
-mod Ends
 mod Outcomes
-mod Phased
-mod Current
 mod Begun
+mod Real
+mod Limited
 pub mod Ranges

@@ -1,24 +1,16 @@
 -- The views that an image's process left, one after the other.
-use Rattle.std.proofs.Common.{◌≡◌, ℕ, zero, suc, ◌+◌, ◌*◌, ◌-◌, ◌≤◌, ◌<◌, List, [], ◌∷◌, ◌++◌, length, map, refl, sym, ap, ◌∙◌, subst, arith, inl, inr}
+use Rattle.std.proofs.Common.{◌≡◌, ℕ, suc, ◌+◌, List, [], ◌∷◌, ◌++◌, length, map, refl, ap, subst, arith, inl, inr}
 use Rattle.std.specs.Prelude.{slice_index_or, sum, All}
-use Rattle.std.specs.List.{AllByRecursion, sum_by, flat_map, range_with_len}
-use Rattle.std.proofs.lemmas.List.FromFn.{length-range_with_len}
-use Rattle.std.proofs.lemmas.List.Concat.{length-flat_map}
+use Rattle.std.specs.List.{sum_by, range_with_len}
 use Rattle.std.proofs.lemmas.List.Elements.{All-head, All-tail}
-use Rattle.std.proofs.lemmas.List.Sums.{sum_by-cons, sum_by-le}
-use Rattle.message_defs.specs.Limits.{most_messages, most_places}
-use Rattle.message_defs.specs.Statements.{Claim}
+use Rattle.std.proofs.lemmas.List.Sums.{sum_by-cons}
 use Rattle.message_defs.specs.Packing.{Signed}
 use Rattle.group_defs.specs.Views.{View, next_view}
-use Rattle.group_defs.specs.Process.{Delivered, Left, delivered_from, places_in}
-use Rattle.group_defs.specs.Accounts.{StandsByPlace, at_place}
-use Rattle.image_defs.specs.Images.{LeftView, first_list, other_lists, lefts_from, view_behind}
-use Rattle.member_state.specs.Bounds.{AreFew}
-use Rattle.pool_laws.proofs.Members.{Mem, mem-All, All-mem}
-use Rattle.pool_laws.proofs.Places.{mem-range}
-use Rattle.member_state.specs.Parts.{all_signed}
-use Rattle.restored_past.specs.Installed.{installed_from}
-use Rattle.snapshot_defs.specs.Ranges.{EachFrom}
+use Rattle.group_defs.specs.Process.{Delivered, Left, delivered_from}
+use Rattle.image_defs.specs.Images.{LeftView, other_lists, lefts_from, view_behind}
+use Rattle.pool_laws.proofs.Members.{mem-All, All-mem}
+use Rattle.restored_present.specs.Left.{installed_from}
+use Rattle.restored_present.specs.Members.{all_signed}
 
 -- ---- numbers
 
@@ -84,40 +76,3 @@ all-left P v (l ∷ ls) (d ∷ ds) many all =
       ]),
       rest.1,
     )
-
--- at most 16 messages at each place
-pub few-of : (ds : List Delivered) → StandsByPlace ds → places_in ds ≤ most_places → AreFew ds
-few-of ds by few =
-    let each = mem-All (λ k. length (at_place k ds) ≤ 16) (range_with_len 0 (places_in ds))
-    (λ k m. (by.batches k (let at = mem-range 0 (places_in ds) k m in omega (arith, at))).1) in
-    let all = sum_by-le (λ k. length (at_place k ds)) 16 (range_with_len 0 (places_in ds)) each in
-    let long = length-flat_map (λ k. at_place k ds) (range_with_len 0 (places_in ds)) in
-    let whole = ap (λ (es : List Delivered). length es) by.together in
-    let many = length-range_with_len 0 (places_in ds) in
-    record { places = few; messages = omega (arith, all, long, whole, many) }
-
--- ---- ranges
-
-pub each-all : {A : Type 0} (P : A → Type 0) (k : ℕ) (xs : List A) → EachFrom (λ j x. P x) k xs → All P xs
-each-all P k [] each = λ j d far. absurd (omega (arith, far))
-each-all P k (x ∷ xs) each = mem-All P (x ∷ xs) (λ y m. elim m [
-  | inl is ↦ subst P is each.0
-  | inr later ↦ All-mem P xs y (each-all P (k + 1) xs each.1) later
-])
-
--- ---- the last list, and those before it
-
-pub at-last : {A : Type 0} (xs : List A) (y d : A) → slice_index_or (xs ++ y ∷ []) (length xs) d ≡ y
-at-last [] y d = refl
-at-last (x ∷ xs) y d = at-last xs y d
-
-pub earlier-are : (me : ℕ) (v : View) (ls : List LeftView) (xs : List (List Delivered)) (y : List Delivered) → length xs ≡ length ls
-    → sum (map (λ (x : Left). delivered_from me x.delivered) (lefts_from v ls (xs ++ y ∷ []))) ≡ sum_by (λ es. delivered_from me es) xs
-earlier-are me v [] [] y many = refl
-earlier-are me v [] (x ∷ xs) y many = absurd (omega (arith, many))
-earlier-are me v (l ∷ ls) [] y many = absurd (omega (arith, many))
-earlier-are me v (l ∷ ls) (x ∷ xs) y many =
-    let rest = earlier-are me (next_view v l.value.update) ls xs y (omega (arith, many)) in
-    let one = sum_by-cons (λ es. delivered_from me es) x xs in
-    let head = sum_by-cons (λ (n : ℕ). n) (delivered_from me x) (map (λ (x : Left). delivered_from me x.delivered) (lefts_from (next_view v l.value.update) ls (xs ++ y ∷ []))) in
-    omega (arith, rest, one, head)

@@ -1,2 +1,2 @@
--- Ranges of what a state keeps: laws of the crate below, passed on.
-pub use Rattle.member_state.proofs.Ranges.{claims-once, statement-once}
+-- That claims in their ranges are so in one way alone: lemmas of the crate below, passed on.
+pub use Rattle.restored_present.proofs.Below.{claims-once, statement-once}

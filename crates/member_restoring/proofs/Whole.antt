@@ -1,36 +1,32 @@
 -- The state of a process whose image is kept.
-use Rattle.std.proofs.Common.{◌≡◌, ◌≢◌, ℕ, zero, suc, ◌+◌, ◌-◌, ◌<◌, ◌≤◌, List, [], ◌∷◌, ◌++◌, length, map, drop, Bool, true, false, Option, Some, None, refl, sym, ap, ◌∙◌, subst, inl, inr, arith}
-use Rattle.std.specs.Prelude.{◌==◌, ◌||◌, not, filter, is_none, All, AllPairs, IsTrue, IsFalse}
-use Rattle.std.specs.List.{AllByRecursion, list_any, flat_map, range_with_len}
+use Rattle.std.proofs.Common.{◌≡◌, ◌≢◌, ℕ, zero, suc, ◌<◌, ◌≤◌, List, [], ◌∷◌, ◌++◌, length, drop, Bool, true, false, Some, refl, sym, ap, ◌∙◌, subst, inl, inr, arith}
+use Rattle.std.specs.Prelude.{◌||◌, not, is_none, All, IsTrue, IsFalse}
+use Rattle.std.specs.List.{list_any, range_with_len}
 use Rattle.std.proofs.lemmas.Bool.{both_ways}
 use Rattle.std.proofs.lemmas.List.{append-nil}
-use Rattle.message_defs.specs.Limits.{most_members, most_messages, most_places, last_process}
+use Rattle.message_defs.specs.Limits.{most_members, most_messages, most_places}
 use Rattle.message_defs.specs.Updates.{Update, Value}
 use Rattle.message_defs.specs.Statements.{Message, Claim, Conflicts, view_of, messages_of}
 use Rattle.message_defs.specs.Spelling.{IsClaim, IsUpdate, IsViewNumber}
 use Rattle.group_defs.specs.Views.{View, IsView, is_member, is_possible, quorum, has_keys, next_fault, next_view}
 use Rattle.group_defs.proofs.FollowingViews.{next_is_view}
 use Rattle.group_defs.specs.Process.{Setting, Pool, Process, Left, Delivered, keyed, places_in}
-use Rattle.group_defs.specs.Accounts.{StandsByPlace, account_of}
+use Rattle.group_defs.specs.Accounts.{StandsByPlace}
 use Rattle.group_defs.specs.Hearing.{is_strange, is_valid}
 use Rattle.group_defs.specs.Laws.{IsOfView}
-use Rattle.image_defs.specs.Images.{Image, LeftView, lefts_from, other_lists, previous_from, process_of, view_behind}
-use Rattle.image_defs.specs.Kept.{AreHeard, AreLeft, IsLeft, IsKept}
-use Rattle.own_place.specs.Owns.{Tells}
+use Rattle.image_defs.specs.Images.{Image, LeftView, lefts_from, other_lists, previous_from, process_of}
+use Rattle.image_defs.specs.Kept.{AreLeft, IsLeft, IsKept}
+use Rattle.restored_present.specs.Members.{AreFew, IsBounded, Keeps, Tells}
 use Rattle.pool_laws.proofs.Members.{Mem, mem-All, All-mem, mem-list_any}
 use Rattle.pool_laws.proofs.Places.{all-pairs, pairs-all, slice_get-mem}
 use Rattle.pool_laws.proofs.Tests.{and-first, none-is, some-same}
-use Rattle.member_state.specs.Bounds.{AreFew, IsBounded}
-use Rattle.member_state.specs.Parts.{Keeps, account}
-use Rattle.member_state.specs.Perceiving.{TellsPerceived}
-use Rattle.member_state.specs.Phases.{IsIn}
-use Rattle.member_state.specs.States.{IsStateOf, ArePairs, AreRanged, IsDecision, IsSigned, claims_of, signed_here}
-use Rattle.member_state.specs.declared.state.ProcessState.{ProcessState}
-use Rattle.restored_past.proofs.Certain.{value_certain}
+use Rattle.restored_present.specs.Members.{ArePairs, AreRanged, IsStateOf, ProcessState, claims_of}
+use Rattle.restored_present.proofs.Below.{each-all, few-of, value_certain}
 use Rattle.snapshot_defs.specs.Ranges.{IsConflict, IsImage, IsLeftView, IsPerceived}
 use Rattle.snapshot_defs.specs.declared.Version.TheVariants.{Two}
-use Rattle.member_restoring.specs.Parts.{HasPast, HasParts}
-use Rattle.member_restoring.proofs.Lists.{number-behind, how-many-left, numbers-are, commits-are, views-are, lists-are, own-are, all-left, few-of, each-all}
+use Rattle.restored_present.specs.Left.{HasPast}
+use Rattle.member_restoring.specs.Parts.{HasParts}
+use Rattle.member_restoring.proofs.Lists.{number-behind, how-many-left, numbers-are, commits-are, all-left}
 
 -- the view that follows is one
 follows : {s : Setting} (v : View) (l : LeftView) → IsView v → IsLeft s v l → IsView (next_view v l.value.update)

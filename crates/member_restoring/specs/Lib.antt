@@ -1,3 +1,4 @@
 pub mod Parts
 pub mod Judged
 pub mod States
+pub mod Restored

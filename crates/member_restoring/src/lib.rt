@@ -1,11 +1,16 @@
-//! What a member that begins again keeps: an image is judged, and the state of its process made of it (docs/FORMATS.md, «Images»).
+//! A member that begins again: an image is judged, and its process made of it, with the signer that it goes on with (docs/FORMATS.md,
+//! «Images»).
 #![tactic(auto)]
 
-mod past;
-mod present;
+mod fault;
+mod judging;
+mod restored;
 mod state;
-mod told;
 
-pub use member_state::{ClaimList, Conflicts, ProcessState, SaidBefore, pair_at};
-pub use restored_past::{Archive, Judge, Pool};
+pub use fault::RestoreFault;
+pub use judging::judge;
+pub use restored::Restored;
+pub use restored_present::{
+    Archive, ClaimList, Conflicts, Judge, Pool, ProcessState, SaidBefore, pair_at,
+};
 pub use state::state_of;

@@ -7,20 +7,17 @@ ghost use Rattle.image_defs.specs.Kept.{IsKept};
 ghost use Rattle.snapshot_defs.specs.Ranges.{IsImage};
 ghost use Rattle.snapshot_defs.specs.declared.Version.TheVariants.{Two};
 ghost use Rattle.snapshot_rp.specs.Views.{image as image_as};
-ghost use Rattle.member_state.specs.States.{IsStateOf, claims_of as all_of};
-ghost use Rattle.member_state.specs.Parts.{account};
-ghost use Rattle.claim_hearing.specs.Hearing.{Shares};
-ghost use Rattle.kept_images.specs.Facts.{StandByPlace};
+ghost use Rattle.restored_present.specs.Members.{IsStateOf, account, claims_of as all_of};
+ghost use Rattle.restored_present.specs.Left.{HasPast, Shares, StandByPlace};
 ghost use Rattle.view_table.specs.Views.{IsNumberedView};
 ghost use Rattle.member_restoring.specs.Judged.{Judges};
-ghost use Rattle.member_restoring.specs.Parts.{HasParts, HasPast, HasPresent, IsOf, IsPresentSo};
+ghost use Rattle.restored_present.specs.Parts.{HasPresent, IsPresentSo};
+ghost use Rattle.member_restoring.specs.Parts.{HasParts, IsOf};
 
-use crate::past::{Left, left_in};
-use crate::present::{Present, present_in};
-use crate::told::is_told;
-use kept_images::stand_by_place;
-use member_state::{Account, ProcessState, SaidBefore};
-use restored_past::{Judge, asked_in, claims_of, conflicts_of, installed, said_in};
+use restored_present::{
+    Account, Judge, Left, Present, ProcessState, SaidBefore, asked_in, claims_of, conflicts_of,
+    installed, is_told, left_in, present_in, said_in, stand_by_place,
+};
 use rp_base::{NoMemory, Scheme};
 use snapshot_rp::{Image, KeptClaim};
 use std::alloc::Global;

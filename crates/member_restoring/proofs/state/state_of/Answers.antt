@@ -1,13 +1,12 @@
-use Rattle.std.proofs.Common.{◌≡◌, ◌∙◌, ◌≤◌, map, true, false, refl, sym, ap, subst}
+use Rattle.std.proofs.Common.{◌≡◌, ◌∙◌, map, true, false, refl, sym, ap, subst}
 use Rattle.std.specs.Prelude.{is_some, IfSome, IsTrue}
 use Rattle.message_defs.specs.Spelling.{IsViewNumber}
 use Rattle.group_defs.specs.Views.{View, IsView}
 use Rattle.image_defs.specs.Images.{process_of, view_behind}
 use Rattle.image_defs.specs.Kept.{AreLeft, IsKept}
-use Rattle.kept_images.specs.Facts.{StandByPlace}
-use Rattle.restored_past.specs.Installed.{installed_from}
+use Rattle.restored_present.specs.Left.{HasPast, IsLeftSo, StandByPlace, installed_from}
 use Rattle.snapshot_rp.specs.Views.{delivered, left_view, image as image_as}
-use Rattle.member_restoring.specs.Parts.{HasPast, HasPresent, IsLeftSo, IsPresentSo, IsToldSo}
+use Rattle.restored_present.specs.Parts.{HasPresent, IsPresentSo, IsToldSo}
 use Rattle.member_restoring.proofs.Kept.{left-so, present-so, stand-so, told-so}
 use Rattle.member_restoring.proofs.Outcomes.{none-so, some-so}
 use Rattle.member_restoring.proofs.Begun.{kept-so, of-so, own-so}

@@ -1,0 +1,5 @@
+pub mod Judged
+pub mod Parts
+pub mod Facts
+pub mod Members
+pub mod Phases

@@ -1,0 +1,4 @@
+mod Judged
+mod Phased
+mod Current
+pub mod Below

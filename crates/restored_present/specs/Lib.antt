@@ -1,0 +1,4 @@
+pub mod Parts
+pub mod Left
+pub mod Members
+pub mod Phases

@@ -1,0 +1,13 @@
+//! The view in which an image's process is: what an image says of it is judged, and made what a member that begins again keeps of it
+//! (docs/FORMATS.md, «Images»).
+#![tactic(auto)]
+
+mod present;
+mod told;
+
+pub use present::{Present, present_in};
+pub use restored_left::{
+    Account, Archive, ClaimList, Conflicts, Judge, Left, Pool, ProcessState, SaidBefore, asked_in,
+    claims_of, conflicts_of, installed, left_in, pair_at, said_in, stand_by_place,
+};
+pub use told::is_told;
