@@ -1,7 +1,0 @@
-mod Walks
-mod Lists
-mod Read
-mod Parts
-mod Phases
-mod Putting
-mod Real

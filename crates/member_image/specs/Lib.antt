@@ -1,4 +1,0 @@
-pub mod Commits
-pub mod Pairs
-pub mod Ranges
-pub mod Restored

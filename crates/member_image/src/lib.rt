@@ -2,17 +2,12 @@
 //! (docs/FORMATS.md, «Images»).
 #![tactic(auto)]
 
-mod claims;
-mod fault;
-mod left;
 mod restoring;
-mod signed;
-mod told;
 mod whole;
 
-pub use fault::RestoreFault;
 pub use member_core::{
-    AbsorbFault, Core, Entry, Event, EventFault, EventVerdict, Note, Outcome, OwnClaim,
+    AbsorbFault, Core, Entry, Event, EventFault, EventVerdict, Note, Outcome, OwnClaim, PhaseWord,
 };
-pub use restoring::restore;
+pub use member_restoring::{RestoreFault, Restored, judge};
+pub use restoring::{begin, restore};
 pub use whole::image;

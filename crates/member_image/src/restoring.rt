@@ -1,59 +1,42 @@
 //! A member that begins again from an image.
-ghost use Rattle.std.specs.Prelude.{◌≡◌, ◌↔◌, ◌≤◌, None, length, is_some, IfOk, IfSome, IsOkUnless, IsTrue};
-ghost use Rattle.group_defs.specs.Process.{Setting, Process, all_kinds};
-ghost use Rattle.image_defs.specs.Images.{process_of};
-ghost use Rattle.image_defs.specs.Kept.{IsKept};
+ghost use Rattle.std.specs.Prelude.{◌≡◌, ◌≤◌, ℕ, length, IfOk, IsOkUnless};
+ghost use Rattle.group_defs.specs.Process.{Setting};
+ghost use Rattle.image_defs.specs.Images.{Image as PlainImage, process_of};
 ghost use Rattle.snapshot_rp.specs.Views.{image as image_as};
-ghost use Rattle.member_restoring.specs.States.{IsImage, IsReal, IsStateOf, Two};
+ghost use Rattle.member_restoring.specs.States.{IsImage, Two};
 ghost use Rattle.member_core.specs.Cores.{IsCore, signer_of};
 ghost use Rattle.member_restoring.specs.Judged.{Judges};
-ghost use Rattle.member_image.specs.Restored.{IsRestorable};
+ghost use Rattle.member_restoring.specs.Restored.{IsRestorable, IsRestored, signer_in};
 
-use crate::fault::RestoreFault;
 use member_core::Core;
-use member_restoring::{Judge, ProcessState, state_of};
-use rp_base::{GroupId, Roster, Scheme, Tally};
+use member_restoring::{RestoreFault, Restored, judge};
+use rp_base::{GroupId, NoMemory, Roster, Scheme, Tally};
 use snapshot_rp::Image;
 use std::alloc::Global;
 use view_table::View;
 
-// Whether the signer has made no more signatures than so many, and can make so many.
-fn can_have_made<G: Tally>(signer: &G, made: usize) -> bool
-    ensures { IsTrue result ↔ ((G.used signer.now ≤ made) × (made ≤ G.total signer.now)) }
-{
-    signer.used() as usize <= made && made <= signer.total() as usize
-}
-
-// The core of this state, where there is one, whose signer then counts so many signatures.
-fn begin<G: Tally + Drop>(
+/// The process that was judged, as a core. An own Order has at most `batch_limit` messages, 1 to 16.
+///
+/// # Errors
+/// [`NoMemory`]; the process is dropped then.
+pub fn begin<G: Tally + Drop>(
     alloc: Global,
-    group: GroupId,
-    roster: Roster,
-    state: Option<ProcessState>,
-    signer: G,
-    made: u32,
-) -> Result<Core<G>, RestoreFault>
-    requires from { G.used signer ≤ made }
-    requires within { made ≤ G.total signer }
-    requires real { IfSome state (λ st. IsReal st) }
-    requires here { IfSome state (λ st. st.left ≡ None) }
-    ensures is { (s : Setting) (p : Process) → s.group ≡ group → s.roster ≡ roster → s.signs ≡ all_kinds → length p.signed ≡ made
-        → IfSome state (IsStateOf s p) → IfOk result (IsCore G.used s p) }
-    ensures some { IsTrue (is_some state) → IsOkUnless result RestoreFault.NoMemory }
-    ensures only { IfOk result (λ c. IsTrue (is_some state)) }
-    ensures used { IfOk result (λ c. G.used (signer_of c) ≡ made) }
-    ensures total { IfOk result (λ c. G.total (signer_of c) ≡ G.total signer) }
-    ensures key { IfOk result (λ c. G.same_key signer (signer_of c)) }
+    restored: Restored<G>,
+    batch_limit: u8,
+) -> Result<Core<G>, NoMemory>
+    requires some { 1 ≤ batch_limit }
+    requires few { batch_limit ≤ 16 }
+    ensures is { (s : Setting) (before : ℕ) (i : PlainImage) → IsRestored G.used s before i restored
+        → IfOk result (IsCore G.used s (process_of s batch_limit i)) }
+    ensures signer { IfOk result (λ c. signer_of c ≡ signer_in restored) }
 {
-    let Some(state) = state else {
-        return Err(RestoreFault::NotKept);
-    };
-    let mut signer = signer;
-    signer.skip_to(made);
-    match Core::of_state(alloc, group, roster, state, signer) {
-        Ok(core) => Ok(core),
-        Err(_) => Err(RestoreFault::NoMemory),
-    }
+    let Restored {
+        group,
+        roster,
+        state,
+        signer,
+    } = restored.with_limit(batch_limit);
+    Core::of_state(alloc, group, roster, state, signer)
 }
 
 /// The process of this image, in the group of this roster, whose genesis view has the number 0. An own Order has at most `batch_limit`
@@ -96,17 +79,9 @@ pub fn restore<G: Tally + Drop, V: Scheme>(
     ensures total { IfOk result (λ c. G.total (signer_of c) ≡ G.total signer) }
     ensures key { IfOk result (λ c. G.same_key signer (signer_of c)) }
 {
-    let made = image.signed.as_slice().len();
-    if !can_have_made(&signer, made) {
-        return Err(RestoreFault::NotKept);
-    }
-    let judge = Judge {
-        scheme,
-        roster: &roster,
-        group: &group,
-    };
-    match state_of(alloc, &judge, genesis, image, batch_limit) {
-        Ok(state) => begin(alloc, group, roster, state, signer, made as u32),
-        Err(_) => Err(RestoreFault::NoMemory),
+    let restored = judge(alloc, scheme, group, roster, genesis, image, signer)?;
+    match begin(alloc, restored, batch_limit) {
+        Ok(core) => Ok(core),
+        Err(NoMemory) => Err(RestoreFault::NoMemory),
     }
 }

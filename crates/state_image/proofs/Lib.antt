@@ -1,0 +1,6 @@
+mod Walks
+mod Lists
+mod Read
+mod Parts
+mod Phases
+mod Putting

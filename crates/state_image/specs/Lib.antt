@@ -1,0 +1,4 @@
+pub mod Commits
+pub mod Pairs
+pub mod Ranges
+pub mod States

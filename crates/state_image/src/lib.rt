@@ -1,0 +1,12 @@
+//! The image of a member's state: everything of which the member begins again, copied out of it (docs/FORMATS.md, «Images»).
+#![tactic(auto)]
+
+mod claims;
+mod left;
+mod signed;
+mod told;
+mod whole;
+
+pub use member_state::ProcessState;
+pub use snapshot_rp::Image;
+pub use whole::image_in;
