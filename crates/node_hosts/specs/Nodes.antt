@@ -10,6 +10,7 @@ use Rattle.node_defs.specs.Nodes.{Node, Task}
 use Rattle.node_defs.specs.Lives.{IsSound}
 use Rattle.node_hosts.specs.declared.running.Running.{Running}
 use Rattle.node_hosts.specs.Hosts.{AreHosts}
+use Rattle.node_hosts.specs.Counts.{AreCountsOf}
 
 -- who takes part in it: by its kit, and by the kind of its journal
 abbrev pub cast_in : Running → Cast
@@ -32,9 +33,10 @@ pub record IsJournalOf (c : Cast) (n : Node) (journal : Journal Writing) (seen :
   pub rest : IfSome seen (λ file. HasRest seen may_leave c.header n.kept n.gate)
 
 -- This is node n, at these tasks, which began with a new journal or with the entries of one: each hosted process is what its entries make of
--- it.
+-- it, and its entries are counted.
 pub record IsNode (seen : Option (List ℕ)) (may_leave : List ℕ → Type 0) (r : Running) (n : Node) (tasks : List Task) : Type 0 where
   pub at : IsAt n tasks
   pub hosts : AreHosts (cast_in r) r.kit.now n.now None r.hosts
   pub journal : IsJournalOf (cast_in r) n r.journal seen may_leave
   pub sound : IsSound (cast_in r) (from_start (cast_in r)).from n
+  pub counts : AreCountsOf n r.counts

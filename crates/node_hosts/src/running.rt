@@ -1,11 +1,13 @@
 //! A node between two calls.
 ghost use Rattle.kit_defs.specs.Kits.{IsKit};
 
+use crate::counts::Counts;
 use crate::hosts::Hosts;
 use journal_rp::{Journal, Writing};
 use node_keys::Kit;
 
-/// A node between two calls: its kit, the processes that it hosts, and its journal, which takes in turns.
+/// A node between two calls: its kit, the processes that it hosts, its journal, which takes in turns, and how many entries of each process
+/// that has.
 #[derive(Drop)]
 pub struct Running<'a> {
     /// Of whom the group consists, and which of them are hosted here.
@@ -16,5 +18,8 @@ pub struct Running<'a> {
 
     /// The journal of all of them.
     pub journal: Journal<Writing>,
+
+    /// How many entries of each process it has.
+    pub counts: Counts,
     pub ghost valid: { ∥ IsKit kit.now ∥₁ },
 }

@@ -17,8 +17,10 @@ use Rattle.stop_laws.specs.Binds.{IsSilent}
 use Rattle.stop_laws.proofs.Binding.{binds_first}
 use Rattle.stop_laws.proofs.Rested.{ends-so}
 use Rattle.node_script.specs.Inputs.{HasNoKit}
-use Rattle.node_script.specs.Words.{Unopened, reading, opening, outside, Unread, no_memory, no_disk, no_header, no_entry}
-use Rattle.node_loop.specs.Runs.{HasRun, HasStopped, no_kit, not_opened, no_snapshot, opened_on, ran}
+use Rattle.node_opening.specs.Opened.{Unopened, reading, opening}
+use Rattle.node_opening.specs.Reading.{Unread, no_memory, no_disk, no_header, no_entry}
+use Rattle.node_script.specs.Words.{outside}
+use Rattle.node_loop.specs.Runs.{HasRun, HasStopped, no_kit, not_opened, opened_on, ran, snaps_of}
 
 -- ---- of a node that opens
 
@@ -80,10 +82,6 @@ still-by : (why this : Stop) (before now : ℕ) → ByCount (Some why) this befo
 still-by why this before now (inl rose) other = let same : why ≡ this = cc in absurd (other same)
 still-by why this before now (inr still) other = still.1
 
-none-by : (this : Stop) (before now : ℕ) → ByCount None this before now → now ≡ before
-none-by this before now (inl rose) = absurd cc
-none-by this before now (inr still) = still.1
-
 by-causes : (why : Stop) (x y : Outside) → HasCauses (Some why) x y → (why ≡ BindFailed → IsSilent x y)
     → Counted why x.source.faults y.source.faults x.sink y.sink x.link y.link
 by-causes why x y causes silent = record {
@@ -93,17 +91,6 @@ by-causes why x y causes silent = record {
   no_write = still-by why WriteFailed _ _ causes.written;
   bound = λ e. causes.bound (ap (λ (w : Stop). Some w) e);
   untold = λ e. ((silent e).sent, (silent e).sink);
-}
-
--- of one that has not stopped, where it ends as at a line that is none
-by-none : (number : ℕ) (x y : Outside) → HasCauses None x y → Counted (BadLine number) x.source.faults y.source.faults x.sink y.sink x.link y.link
-by-none number x y causes = record {
-  read = λ e. absurd cc;
-  no_read = λ other. none-by ReadFailed _ _ causes.read;
-  written = λ e. absurd cc;
-  no_write = λ other. none-by WriteFailed _ _ causes.written;
-  bound = λ e. absurd cc;
-  untold = λ e. absurd cc;
 }
 
 -- nothing was called that fails
@@ -171,16 +158,16 @@ by-source why a b c d sink sink_now link link_now before after counted =
     (subst (λ (m : ℕ). Counted why b m sink sink_now link link_now) after counted)
 
 module _ {D : Type 0} (seen : D → Option (List ℕ)) (may_leave : D → List ℕ → Type 0) (moment : D → ℕ)
-    (left_since : D → ℕ → List ℕ → Type 0) (snap : Snapper) (most : ℕ) (f : Found) (k : SourceSeen) (link : LinkSeen) (sink : SinkSeen) (old : D)
+    (left_since : D → ℕ → List ℕ → Type 0) (most : ℕ) (f : Found) (k : SourceSeen) (link : LinkSeen) (sink : SinkSeen) (old : D)
     (left : Option (List ℕ)) (faults : ℕ) (link_now : LinkSeen) (sink_now : SinkSeen) (new : D) (h i : List Asked) where
-  pub counted : (why : Stop) → HasStopped seen may_leave moment left_since snap most f k link sink old left faults link_now sink_now new h i why
+  pub counted : (why : Stop) → HasStopped seen may_leave moment left_since most f k link sink old left faults link_now sink_now new h i why
       → Counted why k.faults faults sink sink_now link link_now
   counted _ (no_kit why none links sinks disks same) =
       subst (λ (l : LinkSeen). Counted why k.faults faults sink sink_now link l) (sym links)
       (subst (λ (s : SinkSeen). Counted why k.faults faults sink s link link) (sym sinks) (no-kit k faults sink link why none))
   counted _ (not_opened why ahead read) =
       by-source why k.faults read.source.faults read.source.faults faults sink sink_now link link_now read.has.steady read.holds.0.count
-      (not-opened read.kit snap most read.go (seen old) (outside link sink read.source h) (outside link_now sink_now read.source i) why
+      (not-opened read.kit read.holds.1.snap most read.go (seen old) (outside link sink read.source h) (outside link_now sink_now read.source i) why
       read.holds.1.unopened)
   counted _ (ran why ahead can read) =
       let m = read.holds.source in
@@ -191,16 +178,6 @@ module _ {D : Type 0} (seen : D → Option (List ℕ)) (may_leave : D → List �
       by-source why k.faults read.source.faults m.faults faults sink sink_now link link_now read.has.steady read.holds.seen.count
       (by-causes why x y
       (subst (λ (s : Option Stop). HasCauses s x y) read.holds.holds.1
-      (goes-causes read.kit run.version snap most read.go run.entries last x y run.goes))
-      (λ e. goes-silent read.kit run.version snap most read.go run.entries last x y run.goes
+      (goes-causes read.kit run.version (snaps_of (seen old) read.kit run.version) most read.go run.entries last x y run.goes))
+      (λ e. goes-silent read.kit run.version (snaps_of (seen old) read.kit run.version) most read.go run.entries last x y run.goes
       (read.holds.holds.1 ∙ ap (λ (w : Stop). Some w) e)))
-  counted _ (no_snapshot number ahead read) =
-      let m = read.holds.source in
-      let last = read.holds.holds.0 in
-      let run = read.holds.holds.3 in
-      let x = outside link sink read.source h in
-      let y = outside link_now sink_now m i in
-      by-source (BadLine number) k.faults read.source.faults m.faults faults sink sink_now link link_now read.has.steady read.holds.seen.count
-      (by-none number x y
-      (subst (λ (s : Option Stop). HasCauses s x y) read.holds.holds.1.runs
-      (goes-causes read.kit run.version snap most read.go run.entries last x y run.goes)))

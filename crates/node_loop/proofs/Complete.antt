@@ -9,20 +9,23 @@ use Rattle.node_defs.specs.Scripts.{most_lines}
 use Rattle.node_defs.specs.Casts.{Cast, cast_of, from_start, hosted_by}
 use Rattle.node_defs.specs.Lines.{Stop, Ended, NoMemory, ReadFailed, WriteFailed, DiskFailed, BindFailed, BadKit, BadLine, BadSnap, BadJournal, Full, status_of}
 use Rattle.node_defs.specs.Lives.{Found}
-use Rattle.node_defs.specs.Nodes.{Node, Mark, Snapper, at_first, reads, reads_one, takes_up}
+use Rattle.node_defs.specs.Nodes.{Node, Snapper, at_first, reads, reads_one, takes_up}
 use Rattle.node_laws.proofs.Openings.{opens_sound}
 use Rattle.node_traces.specs.Outside.{LinkSeen, SinkSeen, SourceSeen}
 use Rattle.node_traces.specs.Service.{Asked}
 use Rattle.node_traces.specs.Goes.{Outside, Goes}
 use Rattle.node_script.specs.Inputs.{BeginsWith, HasKit, HasNoKit, node_front}
-use Rattle.node_script.specs.Words.{HoldsAs, Unopened, reading, opening, outside, Unread, no_memory, no_disk, no_header, no_entry}
+use Rattle.node_opening.specs.Holding.{HoldsAs}
+use Rattle.node_opening.specs.Opened.{Unopened, reading, opening}
+use Rattle.node_opening.specs.Reading.{Unread, no_memory, no_disk, no_header, no_entry}
+use Rattle.node_script.specs.Words.{outside}
 use Rattle.stop_laws.specs.Scripts.{CarriesOut, IsScript}
 use Rattle.stop_laws.specs.Stops.{CanStop, CanHaveStopped}
 use Rattle.stop_laws.proofs.Carried.{script_is_carried_out}
 use Rattle.stop_laws.proofs.Stopping.{stops_only_so}
 use Rattle.node_loop.specs.Ended.{EndsWith}
 use Rattle.node_loop.specs.Inputs.{IsInOrder, IsJournalOf}
-use Rattle.node_loop.specs.Runs.{HasRun, HasStopped, no_kit, not_opened, no_snapshot, opened_on, ran}
+use Rattle.node_loop.specs.Runs.{HasRun, HasStopped, no_kit, not_opened, opened_on, ran, snaps_of}
 use Rattle.node_loop.proofs.InOrder.{fits-there, no-place, not-other}
 
 -- a stop for no fault of kit, script, snapshot or journal
@@ -95,7 +98,7 @@ module _ (kit : Kit) (snap : Snapper) (most : ℕ) (go : ℕ) (file : List ℕ) 
       }
 
   stops-fine : (last : Node) (why : Stop) → last.stopped ≡ Some why → Ends last → IsNoFault why
-  stops-fine last why is end = no-fault why (subst CanHaveStopped is end.can) (λ number e. absurd (end.carries.no_line number
+  stops-fine last why is end = no-fault why (subst CanHaveStopped is end.can) (λ number e. absurd (end.carries number
       (is ∙ ap (λ (w : Stop). Some w) e)))
 
   unread-fine : (why : Stop) → Unread kit go (Some file) why → IsNoFault why
@@ -123,7 +126,7 @@ no-kit-fine most left steady faults bytes file (BadJournal place) is order none 
 no-kit-fine most left steady faults bytes file _ is order none = tt
 
 module _ {D : Type 0} (seen : D → Option (List ℕ)) (may_leave : D → List ℕ → Type 0) (moment : D → ℕ)
-    (left_since : D → ℕ → List ℕ → Type 0) (snap : Snapper) (most : ℕ) (f : Found) (k : SourceSeen) (link : LinkSeen) (sink : SinkSeen) (old : D)
+    (left_since : D → ℕ → List ℕ → Type 0) (most : ℕ) (f : Found) (k : SourceSeen) (link : LinkSeen) (sink : SinkSeen) (old : D)
     (left : Option (List ℕ)) (faults : ℕ) (link_now : LinkSeen) (sink_now : SinkSeen) (new : D) (h i : List Asked) (bytes file : List ℕ)
     (tells : k.left ≡ Some bytes) (holds : seen old ≡ Some file) (order : IsInOrder most bytes file) where
   kit-there : (kit : Kit) (go : ℕ) (l : SourceSeen) → HasKit k kit go l → InOrder most kit l.left file
@@ -131,26 +134,23 @@ module _ {D : Type 0} (seen : D → Option (List ℕ)) (may_leave : D → List �
       after-kit most bytes file kit go l.left order (subst (λ (o : Option (List ℕ)). BeginsWith o kit go l.left) tells has.begins)
 
   run-ends : (kit : Kit) (go : ℕ) (l m : SourceSeen) (last : Node) → HasKit k kit go l
-      → HasRun seen may_leave moment left_since kit snap most f go (outside link sink l h) old last (outside link_now sink_now m i) new
+      → HasRun seen may_leave moment left_since kit most f go (outside link sink l h) old last (outside link_now sink_now m i) new
       → Ends last
-  run-ends kit go l m last has run = ends kit snap most go file (outside link sink l h) (kit-there kit go l has) run.version run.entries last
+  run-ends kit go l m last has run = ends kit (snaps_of (seen old) kit run.version) most go file (outside link sink l h) (kit-there kit go l has) run.version run.entries last
       (outside link_now sink_now m i) (subst (HoldsAs kit run.version run.entries) holds run.holds) run.goes
 
-  pub in-order : (why : Stop) → HasStopped seen may_leave moment left_since snap most f k link sink old left faults link_now sink_now new h i why
+  pub in-order : (why : Stop) → HasStopped seen may_leave moment left_since most f k link sink old left faults link_now sink_now new h i why
       → IsNoFault why
   in-order _ (no_kit why none links sinks disks same) = no-kit-fine most k.left k.faults faults bytes file why tells order none
   in-order _ (not_opened why ahead read) =
       let l = read.source in
       let x = outside link sink l h in
       let y = outside link_now sink_now l i in
-      unopened-fine read.kit snap most read.go file x (kit-there read.kit read.go l read.has) why y
-      (subst (λ (o : Option (List ℕ)). Unopened read.kit snap most read.go o x y why) holds read.holds.1.unopened)
+      unopened-fine read.kit read.holds.1.snap most read.go file x (kit-there read.kit read.go l read.has) why y
+      (subst (λ (o : Option (List ℕ)). Unopened read.kit read.holds.1.snap most read.go o x y why) holds read.holds.1.unopened)
   in-order _ (ran why ahead can read) =
       let end = run-ends read.kit read.go read.source read.holds.source read.holds.holds.0 read.has read.holds.holds.2 in
-      no-fault why can (λ number e. absurd (end.carries.no_line number (read.holds.holds.1 ∙ ap (λ (w : Stop). Some w) e)))
-  in-order _ (no_snapshot number ahead read) =
-      let end = run-ends read.kit read.go read.source read.holds.source read.holds.holds.0 read.has read.holds.holds.3 in
-      absurd (end.carries.no_mark [] read.holds.holds.1.tasks)
+      no-fault why can (λ number e. absurd (end.carries number (read.holds.holds.1 ∙ ap (λ (w : Stop). Some w) e)))
 
 -- ---- the status
 

@@ -4,7 +4,6 @@ use Rattle.std.specs.Prelude.{IsSomeAnd}
 use Rattle.rp_base.specs.Causes.{Rose}
 use Rattle.node_defs.specs.Lines.{Stop, Ended, WriteFailed, stop_line}
 use Rattle.node_defs.specs.Lives.{Found}
-use Rattle.node_defs.specs.Nodes.{Snapper}
 use Rattle.node_traces.specs.Outside.{LinkSeen, SinkSeen, SourceSeen}
 use Rattle.node_traces.specs.Service.{Asked}
 use Rattle.node_script.specs.Words.{StopsByDisk}
@@ -57,12 +56,12 @@ module _ (why : Stop) (status faults now : ℕ) (sink before new : SinkSeen) (li
 
 -- what is in order is so of what is reported
 module _ {D : Type 0} (seen : D → Option (List ℕ)) (may_leave : D → List ℕ → Type 0) (moment : D → ℕ)
-    (left_since : D → ℕ → List ℕ → Type 0) (snap : Snapper) (most : ℕ) (f : Found) (k : SourceSeen) (link : LinkSeen) (sink : SinkSeen) (old : D)
+    (left_since : D → ℕ → List ℕ → Type 0) (most : ℕ) (f : Found) (k : SourceSeen) (link : LinkSeen) (sink : SinkSeen) (old : D)
     (left : Option (List ℕ)) (faults : ℕ) (link_now : LinkSeen) (sink_now : SinkSeen) (new : D) (h i : List Asked) (why : Stop)
-    (run : HasStopped seen may_leave moment left_since snap most f k link sink old left faults link_now sink_now new h i why) where
+    (run : HasStopped seen may_leave moment left_since most f k link sink old left faults link_now sink_now new h i why) where
   by-disk : (bytes : List ℕ) (o : Option (List ℕ)) → k.left ≡ Some bytes → seen old ≡ o → IsSomeAnd o (IsInOrder most bytes) → IsNoFault why
   by-disk bytes None tells holds order = absurd order
-  by-disk bytes (Some file) tells holds order = in-order seen may_leave moment left_since snap most f k link sink old left faults link_now
+  by-disk bytes (Some file) tells holds order = in-order seen may_leave moment left_since most f k link sink old left faults link_now
       sink_now new h i bytes file tells holds order why run
 
   by-input : (o : Option (List ℕ)) → k.left ≡ o → TellInOrder most o (seen old) → IsNoFault why

@@ -11,7 +11,7 @@ use Rattle.journal_rp.specs.Headers.{IsJournal}
 use Rattle.node_defs.specs.Casts.{cast_of, from_start}
 use Rattle.node_defs.specs.Lives.{FitsFrom}
 use Rattle.opening_laws.specs.Reading.{BreaksReading}
-use Rattle.node_script.specs.Words.{HoldsAs, IsNew, IsOther, header_in}
+use Rattle.node_opening.specs.Holding.{HoldsAs, IsNew, IsOther, header_in}
 use Rattle.stop_laws.proofs.Whole.{journal_is_read}
 use Rattle.node_loop.specs.Inputs.{IsJournalOf}
 

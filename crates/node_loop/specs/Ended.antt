@@ -2,7 +2,6 @@
 use Rattle.std.specs.Prelude.{◌≡◌, ◌⊎◌, ℕ, List, [], ◌∷◌, Option}
 use Rattle.node_defs.specs.Lines.{Stop, status_of, stop_line}
 use Rattle.node_defs.specs.Lives.{Found}
-use Rattle.node_defs.specs.Nodes.{Snapper}
 use Rattle.node_traces.specs.Service.{Asked}
 use Rattle.node_traces.specs.Outside.{LinkSeen, SinkSeen, SinkWrote, SinkFailed, SourceSeen}
 pub use Rattle.node_script.specs.Service.{AreNothing}
@@ -20,18 +19,18 @@ EndsWith why status old new = ((status ≡ status_of why) × SaysLast (stop_line
 
 -- The run has ended, and the program ends with this status.
 pub record HasEnded {D : Type 0} (seen : D → Option (List ℕ)) (may_leave : D → List ℕ → Type 0) (moment : D → ℕ)
-    (left_since : D → ℕ → List ℕ → Type 0) (snap : Snapper) (most : ℕ) (f : Found) (k : SourceSeen) (link : LinkSeen) (sink : SinkSeen) (old : D)
+    (left_since : D → ℕ → List ℕ → Type 0) (most : ℕ) (f : Found) (k : SourceSeen) (link : LinkSeen) (sink : SinkSeen) (old : D)
     (left : Option (List ℕ)) (faults : ℕ) (link_now : LinkSeen) (sink_now : SinkSeen) (new : D) (h i : List Asked) (status : ℕ) : Type 0 where
   pub why : Stop
   -- the output before the last line
   pub before : SinkSeen
-  pub run : HasStopped seen may_leave moment left_since snap most f k link sink old left faults link_now before new h i why
+  pub run : HasStopped seen may_leave moment left_since most f k link sink old left faults link_now before new h i why
   pub ends : EndsWith why status before sink_now
 
 -- The same of a node without a service: whatever the service was asked in the run, nothing was answered.
 pub record HasEndedAlone {D : Type 0} (seen : D → Option (List ℕ)) (may_leave : D → List ℕ → Type 0) (moment : D → ℕ)
-    (left_since : D → ℕ → List ℕ → Type 0) (snap : Snapper) (f : Found) (k : SourceSeen) (link : LinkSeen) (sink : SinkSeen) (old : D)
+    (left_since : D → ℕ → List ℕ → Type 0) (f : Found) (k : SourceSeen) (link : LinkSeen) (sink : SinkSeen) (old : D)
     (left : Option (List ℕ)) (faults : ℕ) (link_now : LinkSeen) (sink_now : SinkSeen) (new : D) (status : ℕ) : Type 0 where
   pub asked : List Asked
   pub nothing : AreNothing asked
-  pub ended : HasEnded seen may_leave moment left_since snap most_line_bytes f k link sink old left faults link_now sink_now new [] asked status
+  pub ended : HasEnded seen may_leave moment left_since most_line_bytes f k link sink old left faults link_now sink_now new [] asked status

@@ -10,7 +10,8 @@ use Rattle.node_defs.specs.Casts.{cast_of, from_start, hosted_by}
 use Rattle.node_defs.specs.Lives.{FitsFrom}
 use Rattle.node_script.specs.Inputs.{node_front}
 use Rattle.stop_laws.specs.Scripts.{IsScript}
-pub use Rattle.node_script.specs.Sources.{most_line_bytes, line_limit}
+unfoldable pub use Rattle.node_script.specs.Sources.{most_line_bytes}
+pub use Rattle.node_script.specs.Sources.{line_limit}
 
 -- a journal of this kit's node: each of its entries a hosted process may have written where it is
 pub record IsJournalOf (kit : Kit) (file : List ℕ) : Type 0 where

@@ -1,27 +1,32 @@
 -- The run of a node, from its kit to its stop, by what input, link, output and disk were before it and are after it.
-use Rattle.std.specs.Prelude.{◌≡◌, ◌⊎◌, ℕ, List, [], ◌∷◌, Option, Some, IsSome}
+use Rattle.std.specs.Prelude.{◌≡◌, ◌⊎◌, ℕ, List, [], Option, Some, IsSome, is_some}
 use Rattle.kit_defs.specs.Kits.{Kit}
 use Rattle.journal_defs.specs.declared.Version.{Version}
 use Rattle.journal_defs.specs.Entries.{Entry}
 use Rattle.journal_defs.specs.Crashes.{Stands}
 use Rattle.journal_disk.specs.Disks.{HasRest, LeavesOnly, LeavesStaged}
 use Rattle.node_defs.specs.Casts.{Cast, cast_of, from_start}
-use Rattle.node_defs.specs.Lines.{Stop, BadLine}
+use Rattle.node_defs.specs.Lines.{Stop}
 use Rattle.node_defs.specs.Lives.{Found}
-use Rattle.node_defs.specs.Nodes.{Node, Answer, Mark, Snapper, opens}
+use Rattle.node_defs.specs.Nodes.{Node, Answer, Snapper, opens}
 use Rattle.node_traces.specs.Outside.{LinkSeen, SinkSeen, SourceSeen}
 use Rattle.node_traces.specs.Service.{Asked}
 use Rattle.node_traces.specs.Goes.{Outside, Goes}
 use Rattle.node_traces.specs.Stops.{LeftBy}
-use Rattle.node_script.specs.Words.{IsAt}
+use Rattle.node_opening.specs.Holding.{HoldsAs}
+use Rattle.node_opening.specs.Opened.{Unopened}
 use Rattle.node_script.specs.Inputs.{HasKit, HasNoKit}
 use Rattle.node_script.specs.Sources.{IsSeen, SeenAs}
-use Rattle.node_script.specs.Words.{HoldsAs, Unopened, outside}
+use Rattle.node_script.specs.Words.{outside, snapper}
 use Rattle.stop_laws.specs.Stops.{CanStop}
 
 -- the node of this kit, opened on a journal of this kind with these entries; the line `go` of the kit has this number
 abbrev pub opened_on : Kit → Version → ℕ → List Entry → Node
 opened_on kit version go es = opens (cast_of kit version) (from_start (cast_of kit version)) go es
+
+-- how the node makes the lines of its snapshots, by whether its disk tells what it holds
+abbrev pub snaps_of : Option (List ℕ) → Kit → Version → Snapper
+snaps_of held kit version = snapper (is_some held) (cast_of kit version)
 
 -- The image reads as what the run found, with the entry that every image had staged or without it; or as what a stop after some front of the
 -- answers leaves.
@@ -41,24 +46,26 @@ pub record LeavesOnceOpened {D : Type 0} (seen : D → Option (List ℕ)) (may_l
 -- before, and y is what they are then. What a crash leaves at any moment is what was found, or what a stop leaves; and what the next run
 -- finds is the entries that are kept, perhaps with one more that was staged. `f.sure` is what this run found.
 pub record HasRun {D : Type 0} (seen : D → Option (List ℕ)) (may_leave : D → List ℕ → Type 0) (moment : D → ℕ)
-    (left_since : D → ℕ → List ℕ → Type 0) (kit : Kit) (snap : Snapper) (most : ℕ) (f : Found) (go : ℕ) (x : Outside) (old : D) (last : Node)
+    (left_since : D → ℕ → List ℕ → Type 0) (kit : Kit) (most : ℕ) (f : Found) (go : ℕ) (x : Outside) (old : D) (last : Node)
     (y : Outside) (new : D) : Type 0 where
   pub version : Version
   pub entries : List Entry
   pub holds : HoldsAs kit version entries (seen old)
-  pub goes : Goes (cast_of kit version) snap most (opened_on kit version go entries) x last y
+  pub goes : Goes (cast_of kit version) (snaps_of (seen old) kit version) most (opened_on kit version go entries) x last y
   pub leaves : IsSome (seen old) → Stands (cast_of kit version).header f.sure (may_leave old)
       → LeavesOnly moment left_since old new
-      (MayBeLeft (cast_of kit version) snap f (opened_on kit version go entries) goes.answers (may_leave old))
-  pub once_opened : IsSome (seen old) → LeavesOnceOpened seen may_leave moment left_since (cast_of kit version) snap f
+      (MayBeLeft (cast_of kit version) (snaps_of (seen old) kit version) f (opened_on kit version go entries) goes.answers (may_leave old))
+  pub once_opened : IsSome (seen old) → LeavesOnceOpened seen may_leave moment left_since (cast_of kit version) (snaps_of (seen old) kit version) f
       (opened_on kit version go entries) goes.answers new
   pub finds : IsSome (seen old) → Stands (cast_of kit version).header last.kept (may_leave new)
 
 -- The node has not opened, and this is why. Its journal is as it was found: at every moment a crash leaves what the run found, with the
 -- staged entry or without it, and the next run finds it again.
 pub record HasNotOpened {D : Type 0} (seen : D → Option (List ℕ)) (may_leave : D → List ℕ → Type 0) (moment : D → ℕ)
-    (left_since : D → ℕ → List ℕ → Type 0) (kit : Kit) (snap : Snapper) (most : ℕ) (f : Found) (go : ℕ) (x : Outside) (old : D) (why : Stop)
+    (left_since : D → ℕ → List ℕ → Type 0) (kit : Kit) (most : ℕ) (f : Found) (go : ℕ) (x : Outside) (old : D) (why : Stop)
     (y : Outside) (new : D) : Type 0 where
+  -- it has written no snapshot, however it makes one
+  pub snap : Snapper
   pub unopened : Unopened kit snap most go (seen old) x y why
   pub leaves : (version : Version) → IsSome (seen old) → Stands (cast_of kit version).header f.sure (may_leave old)
       → LeavesOnly moment left_since old new (LeavesStaged (cast_of kit version).header f.sure (may_leave old))
@@ -74,20 +81,15 @@ pub record HasRead (k : SourceSeen) (P : Kit → ℕ → SourceSeen → Type 0) 
   pub holds : P kit go source
 
 -- The run of a node has ended so, whose lines have at most so many bytes and whose service had the one history and has the other now. There
--- was no kit, and nothing else was touched; or the node of the kit has not opened; or it ran, and stopped; or it ran up to a line that asks
--- for a snapshot, which is not made yet, and ended there as at a line that is none.
+-- was no kit, and nothing else was touched; or the node of the kit has not opened; or it ran, and stopped.
 pub data HasStopped {D : Type 0} (seen : D → Option (List ℕ)) (may_leave : D → List ℕ → Type 0) (moment : D → ℕ)
-    (left_since : D → ℕ → List ℕ → Type 0) (snap : Snapper) (most : ℕ) (f : Found) (k : SourceSeen) (link : LinkSeen) (sink : SinkSeen) (old : D)
+    (left_since : D → ℕ → List ℕ → Type 0) (most : ℕ) (f : Found) (k : SourceSeen) (link : LinkSeen) (sink : SinkSeen) (old : D)
     (left : Option (List ℕ)) (faults : ℕ) (link_now : LinkSeen) (sink_now : SinkSeen) (new : D) (h i : List Asked) : Stop → Type 0 where
   no_kit : (why : Stop) → HasNoKit k faults why → link_now ≡ link → sink_now ≡ sink → new ≡ old → i ≡ h
-      → HasStopped seen may_leave moment left_since snap most f k link sink old left faults link_now sink_now new h i why
+      → HasStopped seen may_leave moment left_since most f k link sink old left faults link_now sink_now new h i why
   not_opened : (why : Stop) (ahead : List ℕ) → HasRead k (λ kit go l. IsSeen l ahead left faults
-      × HasNotOpened seen may_leave moment left_since kit snap most f go (outside link sink l h) old why (outside link_now sink_now l i) new)
-      → HasStopped seen may_leave moment left_since snap most f k link sink old left faults link_now sink_now new h i why
+      × HasNotOpened seen may_leave moment left_since kit most f go (outside link sink l h) old why (outside link_now sink_now l i) new)
+      → HasStopped seen may_leave moment left_since most f k link sink old left faults link_now sink_now new h i why
   ran : (why : Stop) (ahead : List ℕ) → CanStop why → HasRead k (λ kit go l. SeenAs (λ m. (last : Node) × (last.stopped ≡ Some why)
-      × HasRun seen may_leave moment left_since kit snap most f go (outside link sink l h) old last (outside link_now sink_now m i) new) ahead left faults)
-      → HasStopped seen may_leave moment left_since snap most f k link sink old left faults link_now sink_now new h i why
-  no_snapshot : (number : ℕ) (ahead : List ℕ) → HasRead k (λ kit go l. SeenAs (λ m. (last : Node) × IsAt last (Mark ∷ [])
-      × (last.lines ≡ number)
-      × HasRun seen may_leave moment left_since kit snap most f go (outside link sink l h) old last (outside link_now sink_now m i) new) ahead left faults)
-      → HasStopped seen may_leave moment left_since snap most f k link sink old left faults link_now sink_now new h i (BadLine number)
+      × HasRun seen may_leave moment left_since kit most f go (outside link sink l h) old last (outside link_now sink_now m i) new) ahead left faults)
+      → HasStopped seen may_leave moment left_since most f k link sink old left faults link_now sink_now new h i why

@@ -3,7 +3,6 @@ ghost use Rattle.std.specs.Prelude.{◌≡◌, ◌≢◌, ◌⊎◌, [], ℕ, Li
 ghost use Rattle.kit_defs.specs.Kits.{IsKit};
 ghost use Rattle.rp_base.specs.Causes.{Rose};
 ghost use Rattle.node_defs.specs.Lives.{Found};
-ghost use Rattle.node_defs.specs.Nodes.{Snapper};
 ghost use Rattle.node_traces.specs.Outside.{SourceSeen};
 ghost use Rattle.node_traces.specs.Seen.{link_seen, sink_seen, source_seen};
 ghost use Rattle.node_traces.specs.Service.{Asked, HeardBy};
@@ -16,7 +15,8 @@ ghost use Rattle.node_loop.specs.Inputs.{TellInOrder};
 ghost use Rattle.node_loop.specs.Runs.{HasStopped};
 
 use crate::last_lines::tell;
-use node_script::{Front, Kit, Lines, Service, Stop, most_of_line, open, read_kit, run_script};
+use node_opening::open;
+use node_script::{Front, Kit, Lines, Service, Stop, most_of_line, read_kit, run_script};
 use rp_base::{Disk, Link, Sink, Source};
 use std::alloc::Global;
 
@@ -34,9 +34,9 @@ fn run_node<S: Source, K: Sink, D: Disk, L: Link, V: Service>(
     service: &mut V,
 ) -> Stop
     requires { IsKit kit.now }
-    ensures stops { (snap : Snapper) (f : Found) (k l : SourceSeen) (h : List Asked) → V.heard service.old h → HasKit k kit.now go l
+    ensures stops { (f : Found) (k l : SourceSeen) (h : List Asked) → V.heard service.old h → HasKit k kit.now go l
         → IsSeen l lines.old.ahead (S.left input.old) (S.faults input.old)
-        → HeardBy V.heard service.new (λ i. HasStopped D.seen D.may_leave D.moment D.left_since snap
+        → HeardBy V.heard service.new (λ i. HasStopped D.seen D.may_leave D.moment D.left_since
         (line_limit (V.longest_line service.old)) f k
         (link_seen L.sent L.coming L.faults link.old) (sink_seen K.written K.faults output.old) disk.old (S.left input.new) (S.faults input.new)
         (link_seen L.sent L.coming L.faults link.new) (sink_seen K.written K.faults output.new) disk.new h i (stop_of result)) }
@@ -61,8 +61,8 @@ fn run<S: Source, K: Sink, D: Disk, L: Link, V: Service>(
     link: &mut L,
     service: &mut V,
 ) -> Stop
-    ensures stops { (snap : Snapper) (f : Found) (h : List Asked) → V.heard service.old h
-        → HeardBy V.heard service.new (λ i. HasStopped D.seen D.may_leave D.moment D.left_since snap
+    ensures stops { (f : Found) (h : List Asked) → V.heard service.old h
+        → HeardBy V.heard service.new (λ i. HasStopped D.seen D.may_leave D.moment D.left_since
         (line_limit (V.longest_line service.old)) f (source_seen S.left S.faults input.old)
         (link_seen L.sent L.coming L.faults link.old) (sink_seen K.written K.faults output.old) disk.old (S.left input.new) (S.faults input.new)
         (link_seen L.sent L.coming L.faults link.new) (sink_seen K.written K.faults output.new) disk.new h i (stop_of result)) }
@@ -89,7 +89,7 @@ fn run<S: Source, K: Sink, D: Disk, L: Link, V: Service>(
 /// | 4 | a front of some lines | only where a write failed |
 /// | 5 | `stop 5 disk` | only where a call of the disk failed |
 /// | 6 | `stop 6 link` | only where a bind failed |
-/// | 7 | `stop 7 ..` with the number of a line, counted from 1 | the line has this fault, or is none of the script; `snap` is none yet |
+/// | 7 | `stop 7 ..` with the number of a line, counted from 1 | the line has this fault, or is none of the script |
 /// | 8 | `stop 8 journal 0 PLACE` | the journal is another node's, or what it has at this place is no entry of this one |
 /// | 9 | `stop 9 full LENGTH ENTRY` | the journal has no room for an entry |
 ///
@@ -105,8 +105,8 @@ pub fn host<S: Source, K: Sink, D: Disk, L: Link, V: Service>(
 ) -> u8
     // Whatever the status: what was done is a run of the node of the definitions, up to a stop with this status, and then the stop's line. And
     // what a call of the service answered in this run is the service's own: the run lengthens whatever history it had to one that it has.
-    ensures ended { (snap : Snapper) (f : Found) (h : List Asked) → V.heard service.old h
-        → HeardBy V.heard service.new (λ i. HasEnded D.seen D.may_leave D.moment D.left_since snap
+    ensures ended { (f : Found) (h : List Asked) → V.heard service.old h
+        → HeardBy V.heard service.new (λ i. HasEnded D.seen D.may_leave D.moment D.left_since
         (line_limit (V.longest_line service.old)) f (source_seen S.left S.faults input.old)
         (link_seen L.sent L.coming L.faults link.old) (sink_seen K.written K.faults output.old) disk.old (S.left input.new) (S.faults input.new)
         (link_seen L.sent L.coming L.faults link.new) (sink_seen K.written K.faults output.new) disk.new h i result) }

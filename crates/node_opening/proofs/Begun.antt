@@ -7,10 +7,7 @@ use Rattle.journal_defs.specs.declared.Version.TheVariants.{One, Two}
 use Rattle.journal_defs.specs.Journals.{StandsBefore, batch_limit}
 use Rattle.node_defs.specs.Casts.{cast_of, from_start}
 use Rattle.node_defs.specs.Nodes.{reads}
-use Rattle.node_service.specs.Hosts.{Hosts}
-use Rattle.node_service.specs.Hosts.{AreHosts}
-use Rattle.node_opening.specs.declared.counts.Counts.{Counts}
-use Rattle.node_opening.specs.Counts.{count_in}
+use Rattle.node_service.specs.Hosts.{Hosts, AreHosts, Counts, count_in}
 use Rattle.node_opening.specs.Reading.{HasRead}
 
 pub nothing-read : (kit : Kit) (v : Version) (lines : ℕ) (seen : Option (List ℕ)) (gate : ℕ) (hosts : Hosts) (counts : Counts)

@@ -1,37 +1,13 @@
--- Hosted processes, one after the other by rising number.
-use Rattle.std.proofs.Common.{◌≡◌, ℕ, List, [], ◌∷◌, ◌++◌, refl, sym, ap, subst, append_assoc, inl, ◌∙◌}
-use Rattle.std.specs.Prelude.{◌==◌, IsTrue}
+-- The ports and the lines of hosted processes, one after the other by rising number.
+use Rattle.std.proofs.Common.{◌≡◌, ℕ, List, [], ◌∷◌, ◌++◌, sym, ap, subst, append_assoc, ◌∙◌}
 use Rattle.std.specs.List.{flat_map}
-use Rattle.std.proofs.lemmas.Bool.{eq-eqb}
 use Rattle.std.proofs.lemmas.List.{append-nil}
-use Rattle.pool_laws.proofs.Members.{mem-behind, mem-list_any}
-use Rattle.byte_defs.specs.Members.{has}
 use Rattle.group_defs.specs.Process.{Process}
 use Rattle.node_defs.specs.Lines.{host_line}
 use Rattle.node_traces.specs.Outside.{LinkSeen, LinkFailed}
 use Rattle.opening_laws.specs.Opening.{FailsAtOne}
-use Rattle.node_opening.specs.declared.counts.Counts.{Counts}
-use Rattle.node_opening.specs.Counts.{count_in}
-
--- of these, some are done and the others are left
-pub record IsAmong (all left : List ℕ) : Type 0 where
-  pub done : List ℕ
-  pub splits : all ≡ done ++ left
-
-pub none-done : (all left : List ℕ) → left ≡ all → IsAmong all left
-none-done all left same = record { done = []; splits = sym same }
-
-pub one-done : (all left old : List ℕ) (p : ℕ) → old ≡ p ∷ left → IsAmong all old → IsAmong all left
-one-done all left old p steps among = record {
-  done = among.done ++ p ∷ [];
-  splits = among.splits ∙ ap (λ ps. among.done ++ ps) steps ∙ sym (append_assoc among.done (p ∷ []) left);
-}
-
--- the next one is one of them
-pub is-one : (all left old : List ℕ) (p : ℕ) → old ≡ p ∷ left → IsAmong all old → IsTrue (has all p)
-is-one all left old p steps among =
-    subst (λ ps. IsTrue (has ps p)) (sym (among.splits ∙ ap (λ ps. among.done ++ ps) steps))
-    (mem-list_any (λ q. q == p) (among.done ++ p ∷ left) p (mem-behind among.done (p ∷ left) p (inl refl)) (eq-eqb p p refl))
+use Rattle.node_service.specs.Hosts.{Counts, count_in}
+use Rattle.node_service.proofs.Among.{IsAmong}
 
 -- ---- their ports
 

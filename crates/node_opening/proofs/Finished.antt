@@ -1,5 +1,5 @@
 -- A node whose journal was read and then finished.
-use Rattle.std.proofs.Common.{◌≡◌, ℕ, Bool, true, false, List, [], ◌∷◌, Option, None, Some, refl, sym, subst}
+use Rattle.std.proofs.Common.{◌≡◌, ℕ, ◌<◌, Bool, true, false, List, [], ◌∷◌, length, Option, None, Some, refl, sym, ap, subst, ◌∙◌}
 use Rattle.std.specs.Prelude.{if◌then◌else◌, IfSome, IsSome}
 use Rattle.kit_defs.specs.Kits.{Kit}
 use Rattle.journal_defs.specs.declared.Version.{Version}
@@ -9,16 +9,13 @@ use Rattle.journal_defs.proofs.Gates.{closed_gate_ends}
 use Rattle.journal_disk.specs.Disks.{EndsAt, HasLength, HasRest, StaysUntold}
 use Rattle.journal_rp.specs.Stages.{gate_of, len_of, version_of}
 use Rattle.node_defs.specs.Lines.{BadJournal}
-use Rattle.node_defs.specs.Casts.{Cast, cast_of, from_start}
+use Rattle.node_defs.specs.Casts.{Cast, cast_of, entries_of, from_start}
 use Rattle.node_defs.specs.Nodes.{Node, Finish, Snapper, at_first, opens, reads, reads_one, takes_up}
 use Rattle.node_laws.proofs.Openings.{opens_sound}
 use Rattle.node_traces.specs.Goes.{Outside, Goes}
 use Rattle.opening_laws.specs.Opening.{left_to_open}
 use Rattle.opening_laws.proofs.EntriesRead.{each_reads_on}
-use Rattle.node_service.specs.Hosts.{Hosts}
-use Rattle.node_service.specs.Hosts.{Running}
-use Rattle.node_service.specs.Hosts.{cast_in}
-use Rattle.node_opening.specs.declared.counts.Counts.{Counts}
+use Rattle.node_service.specs.Hosts.{Hosts, Running, cast_in, Counts, count_in}
 use Rattle.node_opening.specs.Holding.{HoldsAs}
 use Rattle.node_opening.specs.Opened.{HasOpened}
 use Rattle.node_opening.specs.Reading.{HasReadAll, node_after}
@@ -91,9 +88,10 @@ pub record IsReady (kit : Kit) (v : Version) (snap : Snapper) (most lines : ℕ)
       (left_to_open (opens (cast_of kit v) (from_start (cast_of kit v)) lines all.entries) (Finish ∷ [])) y
 
 module _ (r : Running) (snap : Snapper) (most lines : ℕ) (held seen new : Option (List ℕ)) (may_leave : List ℕ → Type 0) (x y : Outside)
-    (counts : Counts) (untold : StaysUntold seen new) (length : HasLength new (len_of r.journal)) (told : IsSome held → IsSome seen) where
+    (few : (p : ℕ) → count_in r.counts p < gate_of r.journal) (untold : StaysUntold seen new) (long : HasLength new (len_of r.journal))
+    (told : IsSome held → IsSome seen) where
   opened-at : ((head : List ℕ) (fs : List Entry) → EndsAt seen head fs (gate_of r.journal) → HasRest new may_leave head fs (gate_of r.journal))
-      → IsReady r.kit.now (version_of r.journal) snap most lines held seen x y (gate_of r.journal) r.hosts counts
+      → IsReady r.kit.now (version_of r.journal) snap most lines held seen x y (gate_of r.journal) r.hosts r.counts
       → HasOpened r snap most lines held x y new may_leave
   opened-at ok ready =
       let c = cast_in r in
@@ -120,12 +118,16 @@ module _ (r : Running) (snap : Snapper) (most lines : ℕ) (held seen new : Opti
           hosts = read.hosts_are;
           journal = record {
             gate = read.gate_is;
-            length = length;
+            length = long;
             rest = subst (λ k. IfSome new (λ file. HasRest new may_leave c.header n.kept k)) (sym read.gate_is)
                 (subst (λ (ks : List Entry). IfSome new (λ file. HasRest new may_leave c.header ks (gate_of r.journal))) (sym kept)
                 (rests-at seen new may_leave (gate_of r.journal) ok c.header es untold read.stands ready.all.closed));
           };
           sound = record { processes = sound.processes; out = sound.out; finished = λ some. refl };
+          counts = record {
+            each = λ p. read.counted p ∙ ap (λ (ks : List Entry). length (entries_of p ks)) (sym kept);
+            few = λ p. subst (λ (k : ℕ). count_in r.counts p < k) (sym read.gate_is) (few p);
+          };
         };
         read = idle.lines;
         script = idle.script;
@@ -135,8 +137,8 @@ module _ (r : Running) (snap : Snapper) (most lines : ℕ) (held seen new : Opti
   -- the journal that is written is where it was as it was read
   pub opened : (v : Version) (gate : ℕ) → version_of r.journal ≡ v → gate_of r.journal ≡ gate
       → ((head : List ℕ) (fs : List Entry) → EndsAt seen head fs gate → HasRest new may_leave head fs gate)
-      → IsReady r.kit.now v snap most lines held seen x y gate r.hosts counts → HasOpened r snap most lines held x y new may_leave
+      → IsReady r.kit.now v snap most lines held seen x y gate r.hosts r.counts → HasOpened r snap most lines held x y new may_leave
   opened v gate kind place ok ready = opened-at
       (subst (λ k. (head : List ℕ) (fs : List Entry) → EndsAt seen head fs k → HasRest new may_leave head fs k) (sym place) ok)
-      (subst (λ (w : Version). IsReady r.kit.now w snap most lines held seen x y (gate_of r.journal) r.hosts counts) (sym kind)
-      (subst (λ k. IsReady r.kit.now v snap most lines held seen x y k r.hosts counts) (sym place) ready))
+      (subst (λ (w : Version). IsReady r.kit.now w snap most lines held seen x y (gate_of r.journal) r.hosts r.counts) (sym kind)
+      (subst (λ k. IsReady r.kit.now v snap most lines held seen x y k r.hosts r.counts) (sym place) ready))

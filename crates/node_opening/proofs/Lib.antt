@@ -2,10 +2,8 @@ pub mod Begun
 pub mod Each
 pub mod Finished
 pub mod Held
-pub mod Laws
 pub mod Lines
 pub mod Moments
 pub mod Presented
-pub mod Stopped
 pub mod TakenUp
 pub mod Whole

@@ -14,7 +14,8 @@ use Rattle.opening_laws.specs.Opening.{HasToOpen, FailsAtOne, StopsBy, binds, le
 use Rattle.opening_laws.proofs.Opened.{opens_in_order}
 use Rattle.node_service.specs.Answers.{Tells}
 use Rattle.node_opening.specs.Holding.{HoldsAs}
-use Rattle.node_opening.specs.Opened.{Unopened, reading, opening, outside}
+use Rattle.node_opening.specs.Opened.{Unopened, reading, opening}
+use Rattle.node_service.specs.Outside.{outside}
 use Rattle.node_opening.specs.Reading.{Unread}
 
 -- what is to be done after the binds

@@ -16,8 +16,7 @@ use Rattle.node_defs.specs.Lines.{Stop}
 use Rattle.node_defs.specs.Casts.{Cast, cast_of, from_start}
 use Rattle.node_defs.specs.Nodes.{Node}
 use Rattle.opening_laws.specs.Reading.{BreaksReading, IsBadAt}
-use Rattle.node_service.specs.Hosts.{Hosts}
-use Rattle.node_opening.specs.declared.counts.Counts.{Counts}
+use Rattle.node_service.specs.Hosts.{Hosts, Counts}
 use Rattle.node_opening.specs.Holding.{HoldsAs, IsBegun}
 use Rattle.node_opening.specs.Reading.{node_after, BreaksOff, lacks_memory, disk_failed, breaks, HasReadAll, HasReadJournal, Unread, no_memory, no_disk, no_entry}
 

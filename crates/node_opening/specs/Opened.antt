@@ -7,17 +7,11 @@ use Rattle.journal_rp.specs.Stages.{version_of}
 use Rattle.node_defs.specs.Lines.{Stop}
 use Rattle.node_defs.specs.Casts.{cast_of, from_start}
 use Rattle.node_defs.specs.Nodes.{Node, Snapper, opens}
-use Rattle.node_traces.specs.Outside.{LinkSeen, SinkSeen, SourceSeen}
-use Rattle.node_traces.specs.Service.{Asked}
 use Rattle.node_traces.specs.Goes.{Outside, Goes}
 use Rattle.opening_laws.specs.Opening.{StopsBy}
-use Rattle.node_service.specs.Hosts.{Running}
-use Rattle.node_service.specs.Hosts.{IsNode, cast_in}
+use Rattle.node_service.specs.Hosts.{Running, IsNode, cast_in}
 use Rattle.node_opening.specs.Holding.{HoldsAs}
 use Rattle.node_opening.specs.Reading.{Unread}
-
-abbrev pub outside : LinkSeen → SinkSeen → SourceSeen → List Asked → Outside
-outside link sink source service = record { link = link; sink = sink; source = source; service = service }
 
 -- The node opens on a journal with these entries, which the disk held, and all that is to be done before its first line was done: x is link,
 -- output, input and the service's history before it, and y after it. `seen` and `may_leave` are of the disk after it.

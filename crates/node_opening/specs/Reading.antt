@@ -9,10 +9,7 @@ use Rattle.node_defs.specs.Casts.{Cast, cast_of, from_start, entries_of}
 use Rattle.node_defs.specs.Nodes.{Node, takes_up}
 use Rattle.node_defs.specs.Lives.{FitsFrom}
 use Rattle.opening_laws.specs.Reading.{after_reading, BreaksReading}
-use Rattle.node_service.specs.Hosts.{Hosts}
-use Rattle.node_service.specs.Hosts.{AreHosts}
-use Rattle.node_opening.specs.declared.counts.Counts.{Counts}
-use Rattle.node_opening.specs.Counts.{count_in}
+use Rattle.node_service.specs.Hosts.{Hosts, AreHosts, Counts, count_in}
 use Rattle.node_opening.specs.Holding.{HoldsAs, IsOther}
 
 -- the node that has read these entries from the start of its journal

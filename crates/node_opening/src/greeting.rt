@@ -7,11 +7,9 @@ ghost use Rattle.group_defs.specs.Process.{Process};
 ghost use Rattle.node_defs.specs.Lines.{host_line};
 ghost use Rattle.node_defs.specs.Casts.{Cast};
 ghost use Rattle.node_service.specs.Hosts.{AreHosts};
-ghost use Rattle.node_opening.specs.Counts.{count_in};
+ghost use Rattle.node_service.specs.Hosts.{count_in};
 
-use crate::counts::Counts;
-use node_service::Hosts;
-use node_text::push_host;
+use node_service::{Counts, Hosts, push_host};
 use rp_base::{NoMemory, Pid};
 use std::alloc::Global;
 

@@ -10,16 +10,15 @@ ghost use Rattle.node_defs.specs.Nodes.{Snapper};
 ghost use Rattle.node_traces.specs.Outside.{SourceSeen};
 ghost use Rattle.node_traces.specs.Seen.{link_seen, sink_seen};
 ghost use Rattle.node_traces.specs.Service.{Asked, HeardBy};
-ghost use Rattle.node_text.specs.Views.{stop as stop_of};
-ghost use Rattle.node_opening.specs.Causes.{HasDiskCause};
-ghost use Rattle.node_opening.specs.Opened.{HasOpened, Unopened, outside};
+ghost use Rattle.node_service.specs.Lines.{stop as stop_of};
+ghost use Rattle.node_service.specs.Causes.{HasDiskCause};
+ghost use Rattle.node_opening.specs.Opened.{HasOpened, Unopened};
+ghost use Rattle.node_service.specs.Outside.{outside};
 
 use crate::greeting::host_lines;
 use crate::presenting::present;
 use crate::reading::read_journal;
-use crate::stopping::stop_at;
-use node_service::{Kit, Running, Service};
-use node_text::Stop;
+use node_service::{Kit, Running, Service, Stop, stop_at};
 use rp_base::{Disk, Link, Sink};
 use std::alloc::Global;
 
@@ -82,6 +81,7 @@ pub fn open<'a, D: Disk, L: Link, K: Sink, V: Service>(
             kit,
             hosts: readers.hosts,
             journal,
+            counts: readers.counts,
         }),
         Err(fault) => Err(stop_at(fault)),
     }

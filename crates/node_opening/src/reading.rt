@@ -10,17 +10,14 @@ ghost use Rattle.journal_rp.specs.Stages.{gate_of, len_of, version_of};
 ghost use Rattle.node_defs.specs.Casts.{cast_of};
 ghost use Rattle.node_defs.specs.Nodes.{Node, reads_one, takes_up};
 ghost use Rattle.node_service.specs.Hosts.{AreHosts};
-ghost use Rattle.node_text.specs.Views.{stop as stop_of};
-ghost use Rattle.node_opening.specs.Causes.{HasDiskCause};
-ghost use Rattle.node_opening.specs.Counts.{count_in};
+ghost use Rattle.node_service.specs.Lines.{stop as stop_of};
+ghost use Rattle.node_service.specs.Causes.{HasDiskCause};
+ghost use Rattle.node_service.specs.Hosts.{count_in};
 ghost use Rattle.node_opening.specs.Reading.{BreaksOff, HasRead, HasReadAll, HasReadJournal, HasReadOn, RefusesEntry, Unread};
 
-use crate::counts::Counts;
 use crate::starting::begin;
-use crate::stopping::stop_at;
 use journal_rp::{EntryBytes, Journal, Reading};
-use node_service::{AbsorbFault, Entry, Event, Hosts, Kit};
-use node_text::Stop;
+use node_service::{AbsorbFault, Counts, Entry, Event, Hosts, Kit, Stop, stop_at};
 use rp_base::Disk;
 use std::alloc::Global;
 
@@ -126,6 +123,7 @@ fn take_all<D: Disk>(
     ensures breaks { (version : Version) (lines : ℕ) → let c = cast_of kit.now version in
         HasRead c kit.now lines (D.seen disk.old) [] (gate_of journal.old) hosts.old counts.old
         → IfErr result (λ why. BreaksOff c lines (D.seen disk.old) (stop_of why)) }
+    ensures few { OnOk result ((p : ℕ) → count_in counts.new p < gate_of journal.new) }
     ensures as_left { HasLength (D.seen disk.new) (len_of journal.new) }
     ensures kind { version_of journal.new ≡ version_of journal.old }
     ensures disk { OnlyReads D.seen D.may_leave D.moment D.left_since disk.old disk.new }
@@ -140,6 +138,7 @@ pub(crate) fn read_journal<D: Disk>(alloc: Global, kit: &Kit, disk: &mut D) -> R
     requires { IsKit kit.now }
     ensures reads { (lines : ℕ) → IfOk result (λ r. HasReadJournal kit.now (version_of r.journal) lines (D.seen disk.old) (D.seen disk.new)
         (gate_of r.journal) r.hosts r.counts) }
+    ensures few { IfOk result (λ r. (p : ℕ) → count_in r.counts p < gate_of r.journal) }
     ensures length { IfOk result (λ r. HasLength (D.seen disk.new) (len_of r.journal)) }
     ensures tells { OnOk result (IsSome (D.seen disk.old) → IsSome (D.seen disk.new)) }
     ensures untold { OnOk result (StaysUntold (D.seen disk.old) (D.seen disk.new)) }

@@ -1,2 +1,2 @@
 -- Which node a running one is, in the words of the crates below, passed on.
-pub use Rattle.node_taking.specs.Hosts.{AreHosts, Host, Hosts, IsAt, IsHost, IsHosted, IsJournalOf, IsNode, IsPlace, Running, cast_in, numbers_of, place_of, IsFromOther}
+pub use Rattle.node_taking.specs.Hosts.{AreHosts, Host, Hosts, IsAt, IsHost, IsHosted, IsJournalOf, IsNode, AreCountsOf, Counts, count_in, IsPlace, Running, cast_in, numbers_of, place_of, IsFromOther}

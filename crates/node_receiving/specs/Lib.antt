@@ -1,6 +1,5 @@
 pub mod Events
 pub mod Hosts
-pub mod Opened
 pub mod Receiving
 pub mod Stops
 pub mod Taking

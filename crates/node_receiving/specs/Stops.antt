@@ -1,2 +1,2 @@
 -- Why a node ends, in the words of the crates below, passed on.
-pub use Rattle.node_taking.specs.Stops.{stop, Stop, Ended, NoMemory, ReadFailed, WriteFailed, DiskFailed, BindFailed, BadKit, BadLine, BadSnap, BadJournal, Full, StopsByDisk}
+pub use Rattle.node_taking.specs.Stops.{stop, Stop, Ended, NoMemory, ReadFailed, WriteFailed, DiskFailed, BindFailed, BadKit, BadLine, BadSnap, BadJournal, Full, StopsByDisk, stop_of_fault}

@@ -9,8 +9,8 @@ mod taking;
 mod telling;
 
 pub use node_taking::{
-    AnySigner, Event, Hosted, Hosts, Kit, NoService, Note, Running, Sending, Service, Speaker,
-    Stop, let_frames_out, open, say, take,
+    AnySigner, Counts, Event, Host, Hosted, Hosts, Kit, NoService, Note, Running, Sending, Service,
+    Speaker, Stop, let_frames_out, say, stop_at, take,
 };
 pub use receiving::receive;
 pub use rooms::Rooms;

@@ -13,8 +13,8 @@ use Rattle.node_traces.specs.Went.{Went}
 use Rattle.script_laws.specs.Script.{EachReads, HasToDo, IsNoLine, StopsWith, with_line}
 use Rattle.script_laws.proofs.Reading.{reads_in_order}
 use Rattle.node_input.specs.Reads.{Asks, AsksNone, EndsAfter, TakesBad, TakesNone}
-use Rattle.node_receiving.specs.Taking.{StopsSo, outside}
-use Rattle.node_receiving.proofs.Still.{Rests, still, stops-still}
+use Rattle.node_snapping.specs.Taking.{StopsSo, outside}
+use Rattle.node_snapping.proofs.Handed.{Rests, still, stops-still}
 
 module _ {D : Type 0} (seen : D → Option (List ℕ)) (may_leave : D → List ℕ → Type 0) (moment : D → ℕ)
     (left_since : D → ℕ → List ℕ → Type 0) (only_now : (d : D) (image : List ℕ) → left_since d (moment d) image

@@ -1,6 +1,6 @@
 -- What a line asks of a process.
-use Rattle.std.proofs.Common.{◌≡◌, ◌⊎◌, inl, ℕ, List, [], ◌∷◌, Result, Ok, Err, ap, subst, sym, ◌∙◌}
-use Rattle.std.specs.Prelude.{IfErr, IsTrue}
+use Rattle.std.proofs.Common.{◌≡◌, ℕ, List, [], ◌∷◌, Result, Ok, Err, ap, subst, sym, ◌∙◌}
+use Rattle.std.specs.Prelude.{IfErr, IfOk, IsTrue}
 use Rattle.std.specs.Str.{is_utf8}
 use Rattle.journal_defs.specs.Entries.{Event}
 use Rattle.node_defs.specs.Casts as casts
@@ -11,7 +11,7 @@ use Rattle.node_traces.specs.Service.{Asked, HeardBy}
 use Rattle.node_input.specs.Texts.{Handed}
 use Rattle.node_input.specs.Events as events
 use Rattle.node_input.specs.Texts.{Said, Hand, Receive, Other, handed as handed_of, said as said_of}
-use Rattle.node_receiving.specs.Hosts.{IsFromOther}
+use Rattle.node_snapping.specs.Hosts.{IsFromOther}
 
 -- none is a frame
 from-other : (me : ℕ) (event : Handed) → IsFromOther me (casts.handed (handed_of event))
@@ -41,8 +41,15 @@ asks-service me line said is = ap (λ (s : Said). tasks_of_line line (plain.Of m
 pub is-text : (line : List ℕ) (said : Said) → said ≡ Other → IsRange line (said_of said) → IsTrue (is_utf8 line)
 is-text line said is range = subst (λ (s : Said). IsRange line (said_of s)) is range
 
--- where it stops, it stops so or otherwise
-pub stops-or : {A E V : Type 0} (heard : V → List Asked → Type 0) (service : V) (r : Result A E) (P Q : E → List Asked → Type 0)
-    → IfErr r (λ why. HeardBy heard service (P why)) → IfErr r (λ why. HeardBy heard service (λ i. P why i ⊎ Q why i))
-stops-or heard service (Ok a) P Q is = tt
-stops-or heard service (Err why) P Q is = record { history = is.history; has = is.has; holds = inl is.holds }
+-- ---- a line of which the service is not told
+
+-- what holds of a history that the service has
+pub unheard-ok : {A E V : Type 0} (heard : V → List Asked → Type 0) (service : V) (h : List Asked) → heard service h → (r : Result A E)
+    (P : A → List Asked → Type 0) → IfOk r (λ x. P x h) → IfOk r (λ x. HeardBy heard service (P x))
+unheard-ok heard service h has (Ok x) P is = record { history = h; has = has; holds = is }
+unheard-ok heard service h has (Err why) P is = tt
+
+pub unheard-err : {A E V : Type 0} (heard : V → List Asked → Type 0) (service : V) (h : List Asked) → heard service h → (r : Result A E)
+    (P : E → List Asked → Type 0) → IfErr r (λ why. P why h) → IfErr r (λ why. HeardBy heard service (P why))
+unheard-err heard service h has (Ok x) P is = tt
+unheard-err heard service h has (Err why) P is = record { history = h; has = has; holds = is }

@@ -1,25 +1,24 @@
 -- A line of the script that was read, carried out.
-use Rattle.std.proofs.Common.{◌≡◌, ◌⊎◌, inl, inr, ℕ, ◌+◌, List, [], ◌∷◌, Option, Result, Ok, Err, refl, sym, ap, subst, ◌∙◌}
+use Rattle.std.proofs.Common.{◌≡◌, ℕ, ◌+◌, List, [], Option, Result, Ok, Err, refl, sym, ◌∙◌}
 use Rattle.std.specs.Prelude.{◌≢◌, IfErr, IfOk}
 use Rattle.node_defs.specs.Casts.{Cast}
-use Rattle.node_defs.specs.Lines.{Stop, BadLine}
+use Rattle.node_defs.specs.Lines.{Stop}
 use Rattle.node_defs.specs.Lives.{Found}
-use Rattle.node_defs.specs.Nodes.{Node, Task, Mark, Snapper, tasks_of_line}
+use Rattle.node_defs.specs.Nodes.{Node, Task, Snapper, tasks_of_line}
 use Rattle.node_defs.specs.Scripts.{Line, most_lines}
 use Rattle.node_traces.specs.Outside.{LinkSeen, SinkSeen, SourceSeen}
 use Rattle.node_traces.specs.Service.{Asked, HeardBy}
 use Rattle.node_traces.specs.Goes.{Outside, Goes}
 use Rattle.node_traces.specs.Went.{Went}
-use Rattle.node_traces.proofs.Going.{nothing_goes}
 use Rattle.script_laws.specs.Script.{HasToDo, StopsWith, with_line}
 use Rattle.node_input.specs.Reads.{Asks}
 use Rattle.node_input.specs.Sources.{SeenAs}
-use Rattle.node_receiving.specs.Stops.{stop as stop_of, Stop as Why}
-use Rattle.node_receiving.specs.Hosts.{Running, IsAt, IsNode, cast_in, numbers_of}
-use Rattle.node_receiving.specs.Taking.{GoesOnTo, StopsSo, outside}
-use Rattle.node_receiving.proofs.Still.{if-told, rest-stands, still, told}
-use Rattle.node_script.specs.Ends.{IsUnbuilt, ReadsOn, ScriptEnds, StopsUnbuilt}
-use Rattle.node_script.proofs.Joined.{carried-on, stops-later}
+use Rattle.node_snapping.specs.Stops.{stop as stop_of, Stop as Why}
+use Rattle.node_snapping.specs.Hosts.{Running, IsAt, IsNode, cast_in, numbers_of}
+use Rattle.node_snapping.specs.Taking.{GoesOnTo, StopsSo, outside}
+use Rattle.node_snapping.proofs.Handed.{still, stops-after}
+use Rattle.node_script.specs.Ends.{ReadsOn}
+use Rattle.node_script.proofs.Joined.{carried-on}
 use Rattle.node_script.proofs.Answered.{asks-on, stops-so}
 
 pub to-do : (n : Node) (ts : List Task) → IsAt n ts → HasToDo n ts
@@ -33,6 +32,7 @@ with-line-is seen may_leave r n ts is = record {
   hosts = is.hosts;
   journal = record { gate = is.journal.gate; length = is.journal.length; rest = is.journal.rest };
   sound = record { processes = is.sound.processes; out = is.sound.out; finished = is.sound.finished };
+  counts = record { each = is.counts.each; few = is.counts.few };
 }
 
 -- one that has done what it had to
@@ -43,6 +43,7 @@ done-is seen may_leave r n ts is = record {
   hosts = is.hosts;
   journal = record { gate = is.journal.gate; length = is.journal.length; rest = is.journal.rest };
   sound = record { processes = is.sound.processes; out = is.sound.out; finished = is.sound.finished };
+  counts = record { each = is.counts.each; few = is.counts.few };
 }
 
 module _ {D : Type 0} (seen : D → Option (List ℕ)) (may_leave : D → List ℕ → Type 0) (moment : D → ℕ)
@@ -81,37 +82,6 @@ module _ {D : Type 0} (seen : D → Option (List ℕ)) (may_leave : D → List �
           is.at.opened is.journal.rest stops.holds;
     }
 
-  -- ---- a line that asks for a snapshot
-
-  at-snap : (n : Node) (x : Outside) (d : D) → IsNode (seen d) (may_leave d) r n (Mark ∷ [])
-      → StopsUnbuilt seen may_leave moment left_since c snap most f n x d (BadLine n.lines) x d
-  at-snap n x d is = record {
-    node = n;
-    went = still seen may_leave moment left_since only_now c snap most f n n x x d is.at.opened is.journal.rest
-        (nothing_goes c snap most n x);
-    asked = is.at;
-    told = refl;
-    stands = if-told (seen d) (λ some. rest-stands (seen d) (may_leave d) c.header n.kept n.gate (told (seen d) is.journal.rest some));
-  }
-
-  unbuilt : (n : Node) (x y : Outside) (old new : D) (line : List ℕ) (said : Line) (number : ℕ) (why : Stop)
-      → IsNode (seen old) (may_leave old) r n (tasks_of_line line said) → n.lines ≡ number → IsUnbuilt said number x old why y new
-      → StopsUnbuilt seen may_leave moment left_since c snap most f n x old why y new
-  unbuilt n x y old new line said number why is same so =
-      let mark = subst (λ (s : Line). IsNode (seen old) (may_leave old) r n (tasks_of_line line s)) so.asked is in
-      let here = subst (λ (w : Stop). StopsUnbuilt seen may_leave moment left_since c snap most f n x old w x old)
-      (ap BadLine same ∙ sym so.told) (at-snap n x old mark) in
-      let outer = subst (λ (z : Outside). StopsUnbuilt seen may_leave moment left_since c snap most f n x old why z old)
-      (sym so.outside) here in
-      subst (λ (d : D). StopsUnbuilt seen may_leave moment left_since c snap most f n x old why y d) (sym so.disk) outer
-
-  ends-so : (n : Node) (x y : Outside) (old new : D) (line : List ℕ) (said : Line) (number : ℕ) (why : Stop)
-      → IsNode (seen old) (may_leave old) r n (tasks_of_line line said) → n.lines ≡ number
-      → StopsSo seen may_leave moment left_since c snap most f n x old why y new ⊎ IsUnbuilt said number x old why y new
-      → ScriptEnds seen may_leave moment left_since c snap most f n x old why y new
-  ends-so n x y old new line said number why is same (inl stops) = inl stops
-  ends-so n x y old new line said number why is same (inr so) = inr (unbuilt n x y old new line said number why is same so)
-
   -- ---- the next line
 
   module _ (n : Node) (l m : LinkSeen) (s t : SinkSeen) (k : SourceSeen) (h : List Asked) (old new : D) (hosted : List ℕ) (number : ℕ)
@@ -135,21 +105,19 @@ module _ {D : Type 0} (seen : D → Option (List ℕ)) (may_leave : D → List �
     line-on i r' carried = record {
       source = way.source;
       seen = way.seen;
-      holds = carried-on seen may_leave moment left_since only_now snap most f c n (outside l s k h) (outside l s way.source h)
+      holds = carried-on seen may_leave moment left_since only_now (λ k. snap) most f c n (outside l s k h) (outside l s way.source h)
           (outside m t way.source i) old old new then-at r' reads-it refl refl carried;
     }
 
     line-stops : (i : List Asked) (why : Stop)
         → StopsSo seen may_leave moment left_since c snap most f then-at (outside l s way.source h) old why (outside m t way.source i) new
-        ⊎ IsUnbuilt said number (outside l s way.source h) old why (outside m t way.source i) new
-        → SeenAs (λ o. ScriptEnds seen may_leave moment left_since c snap most f n (outside l s k h) old why (outside m t o i) new) ahead left
+        → SeenAs (λ o. StopsSo seen may_leave moment left_since c snap most f n (outside l s k h) old why (outside m t o i) new) ahead left
         faults
     line-stops i why stops = record {
       source = way.source;
       seen = way.seen;
-      holds = stops-later seen may_leave moment left_since only_now snap most f c n (outside l s k h) (outside l s way.source h)
-          (outside m t way.source i) old old new then-at why reads-it
-          (ends-so then-at (outside l s way.source h) (outside m t way.source i) old new line said number why at-is (sym next) stops);
+      holds = stops-after seen may_leave moment left_since only_now c snap most f n then-at (outside l s k h) (outside l s way.source h)
+          (outside m t way.source i) old old new why reads-it stops;
     }
 
     -- by what the code answers
@@ -168,8 +136,8 @@ module _ {D : Type 0} (seen : D → Option (List ℕ)) (may_leave : D → List �
       pub line-stopped : (result : Result Running Why) → ((o : SourceSeen) (w : Node)
           → IsNode (seen old) (may_leave old) r w (tasks_of_line line said) → w.lines ≡ number
           → IfErr result (λ why. HeardBy heard service (λ i. StopsSo seen may_leave moment left_since c snap most f w (outside l s o h) old
-          (stop_of why) (outside m t o i) new ⊎ IsUnbuilt said number (outside l s o h) old (stop_of why) (outside m t o i) new)))
-          → IfErr result (λ why. HeardBy heard service (λ i. (all : List ℕ) × SeenAs (λ o. ScriptEnds seen may_leave moment left_since c snap
+          (stop_of why) (outside m t o i) new)))
+          → IfErr result (λ why. HeardBy heard service (λ i. (all : List ℕ) × SeenAs (λ o. StopsSo seen may_leave moment left_since c snap
           most f n (outside l s k h) old (stop_of why) (outside m t o i) new) all left faults))
       line-stopped (Ok r') carries = tt
       line-stopped (Err why) carries =

@@ -1,5 +1,5 @@
 -- How a script goes on line by line, and how it ends.
-use Rattle.std.proofs.Common.{◌≡◌, inl, ℕ, ◌+◌, ◌<◌, List, [], Option, None, refl, subst, ◌∙◌, arith}
+use Rattle.std.proofs.Common.{◌≡◌, ℕ, ◌+◌, ◌<◌, List, [], Option, None, refl, subst, ◌∙◌, arith}
 use Rattle.std.specs.Prelude.{◌≢◌}
 use Rattle.node_defs.specs.Casts.{Cast}
 use Rattle.node_defs.specs.Lines.{Stop, NoMemory}
@@ -11,11 +11,12 @@ use Rattle.node_traces.specs.Service.{Asked}
 use Rattle.node_traces.specs.Goes.{Outside}
 use Rattle.node_input.specs.Reads.{AsksNone, EndsAfter}
 use Rattle.node_input.specs.Sources.{IsSeen, SeenAs}
-use Rattle.node_receiving.specs.Hosts.{Running, IsNode, cast_in, numbers_of}
-use Rattle.node_receiving.specs.Taking.{HasNode, outside}
-use Rattle.node_script.specs.Ends.{ReadsOn, ScriptEnds}
+use Rattle.node_snapping.specs.Hosts.{Running, IsNode, cast_in, numbers_of}
+use Rattle.node_snapping.specs.Taking.{HasNode, StopsSo, outside}
+use Rattle.node_snapping.proofs.Handed.{stops-after}
+use Rattle.node_script.specs.Ends.{ReadsOn}
 use Rattle.node_script.proofs.Carried.{to-do}
-use Rattle.node_script.proofs.Joined.{reads-more, stops-later}
+use Rattle.node_script.proofs.Joined.{reads-more}
 use Rattle.node_script.proofs.Answered.{asks-none, ends-after, forgets}
 
 -- fewer lines than the script may have
@@ -35,6 +36,7 @@ at-line-is seen may_leave r n ts lines script is = record {
   hosts = is.hosts;
   journal = record { gate = is.journal.gate; length = is.journal.length; rest = is.journal.rest };
   sound = record { processes = is.sound.processes; out = is.sound.out; finished = is.sound.finished };
+  counts = record { each = is.counts.each; few = is.counts.few };
 }
 
 abbrev pub untold : ℕ → SourceSeen
@@ -45,10 +47,10 @@ untold-is ahead left faults = record { bytes = tt; count = refl }
 
 module _ {D : Type 0} (seen : D → Option (List ℕ)) (may_leave : D → List ℕ → Type 0) (moment : D → ℕ)
     (left_since : D → ℕ → List ℕ → Type 0) (only_now : (d : D) (image : List ℕ) → left_since d (moment d) image → may_leave d image)
-    (snap : Snapper) (most : ℕ) (f : Found) (ahead : List ℕ) (left : Option (List ℕ)) (faults : ℕ) where
+    (snaps : Cast → Snapper) (most : ℕ) (f : Found) (ahead : List ℕ) (left : Option (List ℕ)) (faults : ℕ) where
   -- the running node is a node of the definitions still
   pub has-node : (c : Cast) (n : Node) (x : Outside) (l : LinkSeen) (s : SinkSeen) (old new : D) (count : ℕ) (r : Running)
-      (i : List Asked) → SeenAs (λ o. ReadsOn seen may_leave moment left_since c snap most f n x old count
+      (i : List Asked) → SeenAs (λ o. ReadsOn seen may_leave moment left_since c (snaps c) most f n x old count
       (outside l s o i) new r) ahead left faults
       → HasNode (seen new) (may_leave new) r
   has-node c n x l s old new count r i on = record { node = on.holds.node; tasks = []; is = on.holds.is }
@@ -58,7 +60,7 @@ module _ {D : Type 0} (seen : D → Option (List ℕ)) (may_leave : D → List �
   module _ (r : Running) (n : Node) (l : LinkSeen) (s : SinkSeen) (k : SourceSeen) (h : List Asked) (d : D) (is : IsNode (seen d) (may_leave d) r n []) where
     -- The script ends so, and the input was seen so then.
     abbrev EndsHere : Stop → SourceSeen → Type 0
-    EndsHere why o = ScriptEnds seen may_leave moment left_since (cast_in r) snap most f n (outside l s k h) d why
+    EndsHere why o = StopsSo seen may_leave moment left_since (cast_in r) (snaps (cast_in r)) most f n (outside l s k h) d why
         (outside l s o h) d
 
     pub forgets-here : IsSeen k ahead left faults → (all : List ℕ) × SeenAs (EndsHere NoMemory) all left faults
@@ -67,7 +69,7 @@ module _ {D : Type 0} (seen : D → Option (List ℕ)) (may_leave : D → List �
       record {
         source = k;
         seen = here;
-        holds = inl (forgets seen may_leave moment left_since only_now (cast_in r) snap most f n l s k h d (to-do n [] is.at) is.journal.rest);
+        holds = (forgets seen may_leave moment left_since only_now (cast_in r) (snaps (cast_in r)) most f n l s k h d (to-do n [] is.at) is.journal.rest);
       },
     )
 
@@ -76,7 +78,7 @@ module _ {D : Type 0} (seen : D → Option (List ℕ)) (may_leave : D → List �
     asked-none hosted number why same next way = record {
       source = way.source;
       seen = way.seen;
-      holds = inl (asks-none seen may_leave moment left_since only_now (cast_in r) snap most f n l s k h d
+      holds = (asks-none seen may_leave moment left_since only_now (cast_in r) (snaps (cast_in r)) most f n l s k h d
           (to-do n [] is.at) is.journal.rest hosted
           number way.source why (same ∙ is.hosts.numbers) next way.holds);
     }
@@ -86,7 +88,7 @@ module _ {D : Type 0} (seen : D → Option (List ℕ)) (may_leave : D → List �
     ended-after number why many next way = record {
       source = way.source;
       seen = way.seen;
-      holds = inl (ends-after seen may_leave moment left_since only_now (cast_in r) snap most f n l s k h d
+      holds = (ends-after seen may_leave moment left_since only_now (cast_in r) (snaps (cast_in r)) most f n l s k h d
           (to-do n [] is.at) is.journal.rest number
           way.source why many next way.holds);
     }
@@ -95,42 +97,41 @@ module _ {D : Type 0} (seen : D → Option (List ℕ)) (may_leave : D → List �
 
   module _ (c : Cast) (n : Node) (x : Outside) (l m : LinkSeen) (s t : SinkSeen) (k : SourceSeen) (h i : List Asked) (old mid new : D)
       (count : ℕ) (r : Running)
-      (first : ReadsOn seen may_leave moment left_since c snap most f n x old count (outside l s k h) mid r) where
+      (first : ReadsOn seen may_leave moment left_since c (snaps c) most f n x old count (outside l s k h) mid r) where
     pub then-more : (r' : Running) (more : ℕ)
-        → SeenAs (λ o. ReadsOn seen may_leave moment left_since (cast_in r) snap most f first.node (outside l s k h) mid more
+        → SeenAs (λ o. ReadsOn seen may_leave moment left_since (cast_in r) (snaps (cast_in r)) most f first.node (outside l s k h) mid more
         (outside m t o i) new r') ahead left faults
-        → SeenAs (λ o. ReadsOn seen may_leave moment left_since c snap most f n x old (count + more) (outside m t o i) new r') ahead left
+        → SeenAs (λ o. ReadsOn seen may_leave moment left_since c (snaps c) most f n x old (count + more) (outside m t o i) new r') ahead left
         faults
     then-more r' more next = record {
       source = next.source;
       seen = next.seen;
-      holds = reads-more seen may_leave moment left_since only_now snap most f c n x (outside l s k h)
+      holds = reads-more seen may_leave moment left_since only_now snaps most f c n x (outside l s k h)
           (outside m t next.source i) old mid
           new r r' count more first next.holds;
     }
 
     pub then-stops : (why : Stop)
-        → SeenAs (λ o. ScriptEnds seen may_leave moment left_since (cast_in r) snap most f first.node (outside l s k h) mid why
+        → SeenAs (λ o. StopsSo seen may_leave moment left_since (cast_in r) (snaps (cast_in r)) most f first.node (outside l s k h) mid why
         (outside m t o i) new) ahead left faults
-        → SeenAs (λ o. ScriptEnds seen may_leave moment left_since c snap most f n x old why (outside m t o i) new) ahead left faults
+        → SeenAs (λ o. StopsSo seen may_leave moment left_since c (snaps c) most f n x old why (outside m t o i) new) ahead left faults
     then-stops why next =
-        let end = subst (λ (d : Cast). ScriptEnds seen may_leave moment left_since d snap most f first.node
+        let end = subst (λ (d : Cast). StopsSo seen may_leave moment left_since d (snaps d) most f first.node
         (outside l s k h) mid why
         (outside m t next.source i) new) first.cast next.holds in
         record {
           source = next.source;
           seen = next.seen;
-          holds = stops-later seen may_leave moment left_since only_now snap most f c n x (outside l s k h)
-              (outside m t next.source i) old
-              mid new first.node why first.went end;
+          holds = stops-after seen may_leave moment left_since only_now c (snaps c) most f n first.node x (outside l s k h)
+              (outside m t next.source i) old mid new why first.went end;
         }
 
   -- the last line that a script may have, and then one too many
   pub ends-at-last : (c : Cast) (n : Node) (x : Outside) (l : LinkSeen) (s : SinkSeen) (h : List Asked) (old new : D) (r : Running) (go : ℕ)
       (why : Stop) (k : SourceSeen) → n.lines ≡ go → n.script ≡ 0
-      → ReadsOn seen may_leave moment left_since c snap most f n x old most_lines (outside l s k h) new r
+      → ReadsOn seen may_leave moment left_since c (snaps c) most f n x old most_lines (outside l s k h) new r
       → SeenAs (λ o. EndsAfter most (go + most_lines + 1) k o why) ahead left faults
-      → SeenAs (λ o. ScriptEnds seen may_leave moment left_since c snap most f n x old why (outside l s o h) new) ahead left faults
+      → SeenAs (λ o. StopsSo seen may_leave moment left_since c (snaps c) most f n x old why (outside l s o h) new) ahead left faults
   ends-at-last c n x l s h old new r go why k lines script first way =
       let many : first.node.script ≡ most_lines = omega (arith, first.script, script) in
       let next : go + most_lines + 1 ≡ first.node.lines + 1 = omega (arith, first.lines, lines) in

@@ -4,5 +4,3 @@ mod Carried
 mod Ending
 mod NoDisk
 mod Asked
-mod Served
-mod Heard

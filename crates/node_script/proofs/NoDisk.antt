@@ -3,7 +3,7 @@ use Rattle.std.proofs.Common.{◌≡◌, inl, inr, ℕ, List, refl}
 use Rattle.node_defs.specs.Lines.{Stop, DiskFailed}
 use Rattle.node_traces.specs.Outside.{SourceSeen}
 use Rattle.node_input.specs.Reads.{AsksNone, EndsAfter, TakesBad, TakesNone}
-use Rattle.node_receiving.specs.Stops.{stop as stop_of, Stop as Why, StopsByDisk}
+use Rattle.node_snapping.specs.Stops.{stop as stop_of, Stop as Why, StopsByDisk}
 use Rattle.node_script.specs.Ends.{HasStopCause}
 
 no-disk : (count : ℕ) (why : Stop) → (why ≡ DiskFailed → ⊥) → StopsByDisk count count why

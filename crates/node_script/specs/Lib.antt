@@ -2,5 +2,4 @@ pub mod Ends
 pub mod Words
 pub mod Sources
 pub mod Inputs
-pub mod Serving
 pub mod Service

@@ -1,5 +1,5 @@
 //! What a line of the script asks for, carried out.
-ghost use Rattle.std.specs.Prelude.{◌≡◌, ◌⊎◌, [], ◌∷◌, ℕ, List, IfErr, IfOk, IsTrue};
+ghost use Rattle.std.specs.Prelude.{◌≡◌, [], ◌∷◌, ℕ, Bool, List, IfErr, IfOk, IsSome, IsTrue};
 ghost use Rattle.byte_defs.specs.Members.{has};
 ghost use Rattle.node_defs.specs.Lives.{Found};
 ghost use Rattle.node_defs.specs.Nodes.{Node, Snapper, Task, tasks_of_line};
@@ -8,15 +8,14 @@ ghost use Rattle.node_traces.specs.Outside.{SourceSeen};
 ghost use Rattle.node_traces.specs.Seen.{link_seen, sink_seen};
 ghost use Rattle.node_traces.specs.Service.{Asked, HeardBy};
 ghost use Rattle.node_input.specs.Texts.{line as line_of, said as said_of};
-ghost use Rattle.node_receiving.specs.Stops.{stop as stop_of};
+ghost use Rattle.node_snapping.specs.Stops.{stop as stop_of};
 ghost use Rattle.node_input.specs.Reads.{IsFor, IsRange};
-ghost use Rattle.node_receiving.specs.Hosts.{IsNode, cast_in, numbers_of};
-ghost use Rattle.node_receiving.specs.Taking.{GoesOnTo, HasDiskCause, HasNode, StopsSo, outside};
-ghost use Rattle.node_script.specs.Ends.{IsUnbuilt};
+ghost use Rattle.node_snapping.specs.Hosts.{IsNode, cast_in, numbers_of};
+ghost use Rattle.node_snapping.specs.Taking.{GoesOnTo, HasDiskCause, HasNode, StopsSo, outside};
+ghost use Rattle.node_snapping.specs.Snapping.{snapper};
 
-use crate::serving::serve;
 use node_input::{Line, Said, Stop};
-use node_receiving::{Rooms, Running, Service, receive, take};
+use node_snapping::{Rooms, Running, Service, receive, serve, snap, take};
 use rp_base::{Disk, Link, Pid, Sink};
 use std::alloc::Global;
 
@@ -92,10 +91,10 @@ fn ask<'a, D: Disk, L: Link, K: Sink, V: Service>(
 }
 
 /// Carries out one line of the script, which has this number and these bytes: a process takes an event, or receives datagrams, or the service
-/// answers the line. `snap` ends the node, since no node makes a snapshot yet.
+/// answers the line; or the line of the node's snapshot is written.
 ///
 /// # Errors
-/// The node ends: `BadLine` for a line that the service has none of, and for `snap`; else as `take`, `receive` and `serve` say.
+/// The node ends: `BadLine` for a line that the service has none of; else as `take`, `receive`, `serve` and `snap` say.
 pub fn carry_out<'a, D: Disk, L: Link, K: Sink, V: Service>(
     alloc: Global,
     running: Running<'a>,
@@ -111,20 +110,22 @@ pub fn carry_out<'a, D: Disk, L: Link, K: Sink, V: Service>(
     requires node { HasNode (D.seen disk.old) (D.may_leave disk.old) running }
     requires asks { IsFor (numbers_of running.hosts) line.now (line_of said) }
 
-    // A node that has read this line does what it asks, and then has nothing to do.
-    ensures goes_on { (snap : Snapper) (most : ℕ) (f : Found) (source : SourceSeen) (h : List Asked) (n : Node)
-        → V.heard service.old h → IsNode (D.seen disk.old) (D.may_leave disk.old) running.entry n (tasks_of_line line.now (line_of said)) → n.lines ≡ number
-        → IfOk result (λ r. HeardBy V.heard service.new (λ i. GoesOnTo D.seen D.may_leave D.moment D.left_since (cast_in running.entry) snap most f n
+    // A node that has read this line does what it asks, and then has nothing to do. `told` says that the disk tells what it holds: then
+    // the digest in the line of a snapshot is the journal's.
+    ensures goes_on { (told : Bool) (most : ℕ) (f : Found) (source : SourceSeen) (h : List Asked) (n : Node)
+        → (IsTrue told → IsSome (D.seen disk.old)) → V.heard service.old h
+        → IsNode (D.seen disk.old) (D.may_leave disk.old) running.entry n (tasks_of_line line.now (line_of said)) → n.lines ≡ number
+        → IfOk result (λ r. HeardBy V.heard service.new (λ i. GoesOnTo D.seen D.may_leave D.moment D.left_since (cast_in running.entry)
+        (snapper told (cast_in running.entry)) most f n
         (outside (link_seen L.sent L.coming L.faults link.old) (sink_seen K.written K.faults output.old) source h) disk.old []
         (outside (link_seen L.sent L.coming L.faults link.new) (sink_seen K.written K.faults output.new) source i) disk.new r)) }
 
-    // Or it stops, after some calls and their answers; at `snap` before the first of them.
-    ensures stops { (snap : Snapper) (most : ℕ) (f : Found) (source : SourceSeen) (h : List Asked) (n : Node)
-        → V.heard service.old h → IsNode (D.seen disk.old) (D.may_leave disk.old) running.entry n (tasks_of_line line.now (line_of said)) → n.lines ≡ number
-        → IfErr result (λ why. HeardBy V.heard service.new (λ i. StopsSo D.seen D.may_leave D.moment D.left_since (cast_in running.entry) snap most f n
-        (outside (link_seen L.sent L.coming L.faults link.old) (sink_seen K.written K.faults output.old) source h) disk.old (stop_of why)
-        (outside (link_seen L.sent L.coming L.faults link.new) (sink_seen K.written K.faults output.new) source i) disk.new
-        ⊎ IsUnbuilt (line_of said) number
+    // Or it stops, after some calls and their answers.
+    ensures stops { (told : Bool) (most : ℕ) (f : Found) (source : SourceSeen) (h : List Asked) (n : Node)
+        → (IsTrue told → IsSome (D.seen disk.old)) → V.heard service.old h
+        → IsNode (D.seen disk.old) (D.may_leave disk.old) running.entry n (tasks_of_line line.now (line_of said)) → n.lines ≡ number
+        → IfErr result (λ why. HeardBy V.heard service.new (λ i. StopsSo D.seen D.may_leave D.moment D.left_since (cast_in running.entry)
+        (snapper told (cast_in running.entry)) most f n
         (outside (link_seen L.sent L.coming L.faults link.old) (sink_seen K.written K.faults output.old) source h) disk.old (stop_of why)
         (outside (link_seen L.sent L.coming L.faults link.new) (sink_seen K.written K.faults output.new) source i) disk.new)) }
     ensures cause { HasDiskCause (D.faults disk.old) (D.faults disk.new) result }
@@ -133,6 +134,6 @@ pub fn carry_out<'a, D: Disk, L: Link, K: Sink, V: Service>(
         Line::Of { process, said } => ask(
             alloc, running, process, said, line, number, disk, link, output, rooms, service,
         ),
-        Line::Snap => Err(Stop::BadLine(number)),
+        Line::Snap => snap(alloc, running, disk, output),
     }
 }

@@ -4,11 +4,10 @@
 mod carrying;
 mod reading;
 mod running;
-mod serving;
 
 pub use carrying::carry_out;
 pub use node_input::{Front, Kit, Line, Lines, Said, Source, Stop, most_of_line, read_kit};
-pub use node_receiving::{
-    AnySigner, Event, Hosted, Hosts, NoService, Note, Rooms, Running, Sending, Service, open,
+pub use node_snapping::{
+    AnySigner, Event, Hosted, Hosts, NoService, Note, Rooms, Running, Sending, Service,
 };
 pub use running::run_script;

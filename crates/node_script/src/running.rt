@@ -1,20 +1,21 @@
 //! The script of a node, from its first line to the node's end.
-ghost use Rattle.std.specs.Prelude.{◌≡◌, [], ℕ, List, IfErr, IfOk};
+ghost use Rattle.std.specs.Prelude.{◌≡◌, [], ℕ, Bool, List, IfErr, IfOk, IsSome, IsTrue};
 ghost use Rattle.node_defs.specs.Lives.{Found};
-ghost use Rattle.node_defs.specs.Nodes.{Node, Snapper};
+ghost use Rattle.node_defs.specs.Nodes.{Node};
 ghost use Rattle.node_defs.specs.Scripts.{most_lines};
 ghost use Rattle.node_traces.specs.Outside.{SourceSeen};
 ghost use Rattle.node_traces.specs.Seen.{link_seen, sink_seen};
 ghost use Rattle.node_traces.specs.Service.{Asked, HeardBy};
-ghost use Rattle.node_receiving.specs.Stops.{stop as stop_of};
+ghost use Rattle.node_snapping.specs.Stops.{stop as stop_of};
 ghost use Rattle.node_input.specs.Sources.{IsSeen, SeenAs};
-ghost use Rattle.node_receiving.specs.Hosts.{IsNode, cast_in};
-ghost use Rattle.node_receiving.specs.Taking.{HasDiskCause, HasNode, outside};
-ghost use Rattle.node_script.specs.Ends.{HasStopCause, ReadsOn, ScriptEnds};
+ghost use Rattle.node_snapping.specs.Hosts.{IsNode, cast_in};
+ghost use Rattle.node_snapping.specs.Taking.{HasDiskCause, HasNode, StopsSo, outside};
+ghost use Rattle.node_snapping.specs.Snapping.{snapper};
+ghost use Rattle.node_script.specs.Ends.{HasStopCause, ReadsOn};
 
 use crate::reading::{MOST_LINES, end_at_last, next_line};
 use node_input::{Lines, Source, Stop};
-use node_receiving::{Rooms, Running, Service};
+use node_snapping::{Rooms, Running, Service};
 use rp_base::{Disk, Link, NoMemory, Sink};
 use std::alloc::Global;
 
@@ -33,18 +34,21 @@ fn each_line<'a, S: Source, D: Disk, L: Link, K: Sink, V: Service>(
     service: &mut V,
 ) -> Result<Running<'a>, Stop>
     requires node { HasNode (D.seen disk.old) (D.may_leave disk.old) running }
-    ensures goes_on { (snap : Snapper) (f : Found) (k : SourceSeen) (h : List Asked) (n : Node)
-        → V.heard service.old h → IsSeen k lines.old.ahead (S.left input.old) (S.faults input.old)
+    ensures goes_on { (told : Bool) (f : Found) (k : SourceSeen) (h : List Asked) (n : Node)
+        → (IsTrue told → IsSome (D.seen disk.old)) → V.heard service.old h
+        → IsSeen k lines.old.ahead (S.left input.old) (S.faults input.old)
         → IsNode (D.seen disk.old) (D.may_leave disk.old) running.entry n [] → n.lines ≡ go → n.script ≡ 0
-        → IfOk result (λ r. HeardBy V.heard service.new (λ i. SeenAs (λ l. ReadsOn D.seen D.may_leave D.moment D.left_since (cast_in running.entry) snap most f n
+        → IfOk result (λ r. HeardBy V.heard service.new (λ i. SeenAs (λ l. ReadsOn D.seen D.may_leave D.moment D.left_since
+        (cast_in running.entry) (snapper told (cast_in running.entry)) most f n
         (outside (link_seen L.sent L.coming L.faults link.old) (sink_seen K.written K.faults output.old) k h) disk.old most_lines
         (outside (link_seen L.sent L.coming L.faults link.new) (sink_seen K.written K.faults output.new) l i) disk.new r)
         lines.new.ahead (S.left input.new) (S.faults input.new))) }
-    ensures stops { (snap : Snapper) (f : Found) (k : SourceSeen) (h : List Asked) (n : Node)
-        → V.heard service.old h → IsSeen k lines.old.ahead (S.left input.old) (S.faults input.old)
+    ensures stops { (told : Bool) (f : Found) (k : SourceSeen) (h : List Asked) (n : Node)
+        → (IsTrue told → IsSome (D.seen disk.old)) → V.heard service.old h
+        → IsSeen k lines.old.ahead (S.left input.old) (S.faults input.old)
         → IsNode (D.seen disk.old) (D.may_leave disk.old) running.entry n [] → n.lines ≡ go → n.script ≡ 0
-        → IfErr result (λ why. HeardBy V.heard service.new (λ i. (ahead : List ℕ) × SeenAs (λ l. ScriptEnds D.seen D.may_leave D.moment D.left_since (cast_in running.entry)
-        snap most f n
+        → IfErr result (λ why. HeardBy V.heard service.new (λ i. (ahead : List ℕ) × SeenAs (λ l.
+        StopsSo D.seen D.may_leave D.moment D.left_since (cast_in running.entry) (snapper told (cast_in running.entry)) most f n
         (outside (link_seen L.sent L.coming L.faults link.old) (sink_seen K.written K.faults output.old) k h) disk.old (stop_of why)
         (outside (link_seen L.sent L.coming L.faults link.new) (sink_seen K.written K.faults output.new) l i) disk.new)
         ahead (S.left input.new) (S.faults input.new))) }
@@ -77,11 +81,12 @@ fn run_within<'a, S: Source, D: Disk, L: Link, K: Sink, V: Service>(
     service: &mut V,
 ) -> Stop
     requires node { HasNode (D.seen disk.old) (D.may_leave disk.old) running }
-    ensures ends { (snap : Snapper) (f : Found) (k : SourceSeen) (h : List Asked) (n : Node)
-        → V.heard service.old h → IsSeen k lines.old.ahead (S.left input.old) (S.faults input.old)
+    ensures ends { (told : Bool) (f : Found) (k : SourceSeen) (h : List Asked) (n : Node)
+        → (IsTrue told → IsSome (D.seen disk.old)) → V.heard service.old h
+        → IsSeen k lines.old.ahead (S.left input.old) (S.faults input.old)
         → IsNode (D.seen disk.old) (D.may_leave disk.old) running.entry n [] → n.lines ≡ go → n.script ≡ 0
-        → HeardBy V.heard service.new (λ i. (ahead : List ℕ) × SeenAs (λ l. ScriptEnds D.seen D.may_leave D.moment D.left_since (cast_in running.entry)
-        snap most f n
+        → HeardBy V.heard service.new (λ i. (ahead : List ℕ) × SeenAs (λ l.
+        StopsSo D.seen D.may_leave D.moment D.left_since (cast_in running.entry) (snapper told (cast_in running.entry)) most f n
         (outside (link_seen L.sent L.coming L.faults link.old) (sink_seen K.written K.faults output.old) k h) disk.old (stop_of result)
         (outside (link_seen L.sent L.coming L.faults link.new) (sink_seen K.written K.faults output.new) l i) disk.new)
         ahead (S.left input.new) (S.faults input.new)) }
@@ -96,8 +101,8 @@ fn run_within<'a, S: Source, D: Disk, L: Link, K: Sink, V: Service>(
 }
 
 /// Reads the script line by line and carries it out, until the node ends; it answers why. The line `go` of the kit has the number that is
-/// given, and nothing after it is taken yet. A script has at most 1,000,000 lines, each of at most so many bytes. The memory for a datagram, and for what is sealed, is
-/// taken once, before the first line.
+/// given, and nothing after it is taken yet. A script has at most 1,000,000 lines, each of at most so many bytes. The memory for a datagram,
+/// and for what is sealed, is taken once, before the first line.
 pub fn run_script<'a, S: Source, D: Disk, L: Link, K: Sink, V: Service>(
     alloc: Global,
     running: Running<'a>,
@@ -112,13 +117,14 @@ pub fn run_script<'a, S: Source, D: Disk, L: Link, K: Sink, V: Service>(
 ) -> Stop
     requires node { HasNode (D.seen disk.old) (D.may_leave disk.old) running }
 
-    // The node of the definitions goes on, line by line, to this stop, or to a line that asks for a snapshot, at which it stops so. Its
-    // calls did this to input, link, output and disk.
-    ensures ends { (snap : Snapper) (f : Found) (k : SourceSeen) (h : List Asked) (n : Node)
-        → V.heard service.old h → IsSeen k lines.old.ahead (S.left input.old) (S.faults input.old)
+    // The node of the definitions goes on, line by line, to this stop. Its calls did this to input, link, output and disk. `told` says that
+    // the disk tells what it holds: then the digest in the line of a snapshot is the journal's.
+    ensures ends { (told : Bool) (f : Found) (k : SourceSeen) (h : List Asked) (n : Node)
+        → (IsTrue told → IsSome (D.seen disk.old)) → V.heard service.old h
+        → IsSeen k lines.old.ahead (S.left input.old) (S.faults input.old)
         → IsNode (D.seen disk.old) (D.may_leave disk.old) running.entry n [] → n.lines ≡ go → n.script ≡ 0
-        → HeardBy V.heard service.new (λ i. (ahead : List ℕ) × SeenAs (λ l. ScriptEnds D.seen D.may_leave D.moment D.left_since (cast_in running.entry)
-        snap most f n
+        → HeardBy V.heard service.new (λ i. (ahead : List ℕ) × SeenAs (λ l.
+        StopsSo D.seen D.may_leave D.moment D.left_since (cast_in running.entry) (snapper told (cast_in running.entry)) most f n
         (outside (link_seen L.sent L.coming L.faults link.old) (sink_seen K.written K.faults output.old) k h) disk.old (stop_of result)
         (outside (link_seen L.sent L.coming L.faults link.new) (sink_seen K.written K.faults output.new) l i) disk.new)
         ahead (S.left input.new) (S.faults input.new)) }

@@ -1,2 +1,5 @@
+pub mod Among
 pub mod Laws
 pub mod Nothing
+pub mod Lines
+pub mod Stopped

@@ -1,6 +1,10 @@
 pub mod Answers
+pub mod Causes
+pub mod Events
 pub mod Histories
 pub mod Hosts
 pub mod Kits
+pub mod Lines
+pub mod Outside
 pub mod Silent
 pub mod Words

@@ -1,14 +1,20 @@
 //! The service of a node: what a node asks of the program that is built on it, and what that answers (docs/FORMATS.md, «Nodes»). A node is
-//! generic over it; [`NoService`] is that of a node without one.
+//! generic over it; [`NoService`] is that of a node without one. And how a node stops where its journal fails.
 #![tactic(auto)]
 
 mod service;
 mod silent;
+mod stopping;
 
 pub use node_hosts::{
-    AbsorbFault, AnySigner, Entry, Event, EventFault, Host, Hosted, Hosts, Kit, LinkKeys, Running,
-    Taken,
+    AbsorbFault, AnySigner, Counts, Entry, Event, EventFault, Host, Hosted, Hosts, Kit, LinkKeys,
+    Running, Taken,
+};
+pub use node_text::{
+    LinkFault, Stop, push_drop, push_expel, push_fault, push_host, push_note, push_recv,
+    push_refused,
 };
 pub use service::Service;
 pub use silent::NoService;
-pub use stmt_codec::{Note, Sending};
+pub use stmt_codec::{Note, Outcome, Sending};
+pub use stopping::stop_at;

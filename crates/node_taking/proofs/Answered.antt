@@ -8,8 +8,8 @@ use Rattle.node_traces.specs.Service.{Asked, HeardBy}
 use Rattle.letting_laws.specs.Letting.{edge, HasBegun}
 use Rattle.letting_laws.proofs.Joined.{begun-with}
 use Rattle.sealing_laws.specs.Letters.{LetsTurnOut}
-use Rattle.node_opening.specs.Stops.{Stop as Why}
-use Rattle.node_opening.specs.Stops as whys
+use Rattle.sealing_laws.specs.Running.{Stop as Why}
+use Rattle.sealing_laws.specs.Running as whys
 use Rattle.node_taking.specs.Taking.{HasDiskCause}
 use Rattle.node_taking.specs.Telling.{Says, TellsTurn}
 

@@ -9,8 +9,8 @@ use Rattle.node_traces.specs.Service.{Asked}
 use Rattle.node_traces.specs.Goes.{Outside, Goes}
 use Rattle.node_traces.proofs.Going.{parts_go_on}
 use Rattle.node_traces.proofs.Quiet.{no-memory, runs-out}
-use Rattle.node_opening.specs.Stops.{stop as stop_of, Stop as Why}
-use Rattle.node_opening.specs.Stops as whys
+use Rattle.sealing_laws.specs.Running.{stop as stop_of, Stop as Why}
+use Rattle.sealing_laws.specs.Running as whys
 use Rattle.node_taking.specs.Taking.{outside}
 use Rattle.node_taking.specs.Keeping.{at}
 use Rattle.node_taking.specs.Telling.{Says}

@@ -15,9 +15,8 @@ use Rattle.node_defs.specs.Lives.{Found}
 use Rattle.node_defs.specs.Nodes.{Node, Snapper, Task, Take, Say, Ask, Answer, Done, Named, Asks, asks}
 use Rattle.node_traces.specs.Outside.{SinkSeen, SinkWrote, SourceSeen}
 use Rattle.node_traces.specs.Service.{Asked, HeardBy, one_asked}
-use Rattle.node_opening.specs.Events.{event as event_of, Event as CodeEvent}
-use Rattle.node_opening.specs.Hosts.{AreHosts, IsNode, Running, cast_in}
-use Rattle.node_opening.specs.Stops.{stop as stop_of, Stop as Why}
+use Rattle.sealing_laws.specs.Events.{event as event_of, Event as CodeEvent}
+use Rattle.sealing_laws.specs.Running.{AreHosts, IsNode, Running, cast_in, stop as stop_of, Stop as Why}
 use Rattle.sealing_laws.specs.Service.{IsAbove, note}
 use Rattle.node_taking.specs.Asking.{left_to_ask}
 use Rattle.node_taking.specs.Taking.{GoesOnTo, HasNode, StopsSo, outside}

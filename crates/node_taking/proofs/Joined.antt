@@ -10,7 +10,7 @@ use Rattle.node_traces.specs.Goes.{Outside, Goes}
 use Rattle.node_traces.specs.Went.{Went}
 use Rattle.node_traces.proofs.Going.{nothing_goes}
 use Rattle.node_traces.proofs.Went.{went_on}
-use Rattle.node_opening.specs.Hosts.{IsNode, Running, cast_in, numbers_of}
+use Rattle.sealing_laws.specs.Running.{IsNode, Running, cast_in, numbers_of}
 use Rattle.node_taking.specs.Keeping.{at}
 use Rattle.node_taking.specs.Taking.{GoesOnTo, StopsSo}
 use Rattle.node_taking.proofs.Machine.{at-so}
@@ -25,7 +25,7 @@ with-tasks seen may_leave r n ts us is = is-now r r seen may_leave n us refl is.
   processes = is.sound.processes;
   out = λ l there. is.sound.out l (subst (λ ls. Contains ls l) (sym is.at.leaving) there);
   finished = λ some. refl;
-})
+}) (record { each = is.counts.each; few = is.counts.few })
 
 -- a process stays hosted
 pub still-hosted : (seen : Option (List ℕ)) (may_leave : List ℕ → Type 0) (c : Cast) (r : Running) (n : Node) (ts : List Task) (p : ℕ)
@@ -72,7 +72,8 @@ module _ {D : Type 0} (seen : D → Option (List ℕ)) (may_leave : D → List �
       record {
         node = at n us;
         went = went;
-        is = is-now r r (seen d) (may_leave d) n us refl is.hosts is.journal (sound-on c snap most n (at n us) x y went.goes is.sound);
+        is = is-now r r (seen d) (may_leave d) n us refl is.hosts is.journal (sound-on c snap most n (at n us) x y went.goes is.sound)
+            (record { each = is.counts.each; few = is.counts.few });
         cast = refl;
         lines = refl;
         script = refl;

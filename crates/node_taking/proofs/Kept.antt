@@ -1,7 +1,7 @@
 -- The append of a turn's entry, in the node's words.
 use Rattle.std.proofs.Common.{◌≡◌, inl, inr, ℕ, ◌+◌, ◌-◌, ◌<◌, ◌^◌, Bool, true, false, List, [], ◌∷◌, ◌++◌, length, Option, None, Some, Result, Err, refl, sym, ap, subst, ◌∙◌, arith, length-append}
 use Rattle.std.specs.Prelude.{flat_map, is_some, nat_lt, IsSome}
-use Rattle.std.proofs.lemmas.Bool.{lt-ltb, ltb-true}
+use Rattle.std.proofs.lemmas.Bool.{lt-ltb, ltb-false, ltb-true}
 use Rattle.std.proofs.lemmas.List.{append-nil}
 use Rattle.byte_defs.specs.Fields.{four_bytes}
 use Rattle.journal_defs.specs.Entries.{Event, Entry, IsEntry, entry_bytes}
@@ -15,7 +15,7 @@ use Rattle.journal_rp.specs.declared.fault.JournalFault.{JournalFault}
 use Rattle.journal_rp.specs.declared.fault.JournalFault.TheVariants as faults
 use Rattle.journal_rp.specs.Stages.{gate_of, len_of}
 use Rattle.journal_rp.specs.Answers.{HasCauses, IfFull, IsFull, of_append}
-use Rattle.node_opening.proofs.Laws.{verdict-is}
+use Rattle.sealing_laws.proofs.Passed.{verdict-is}
 use Rattle.node_defs.specs.Casts.{Cast, entry_for, live, outcome_of}
 use Rattle.node_defs.specs.Lines as lines
 use Rattle.node_defs.specs.Lines.{DiskFailed}
@@ -26,8 +26,7 @@ use Rattle.node_traces.specs.Stops.{LeftBy}
 use Rattle.node_traces.specs.Goes.{Outside}
 use Rattle.node_traces.specs.Went.{Went}
 use Rattle.node_traces.proofs.Went.{went_on}
-use Rattle.node_opening.specs.Hosts.{IsAt, IsJournalOf}
-use Rattle.node_opening.specs.Causes.{stop_of_fault}
+use Rattle.sealing_laws.specs.Running.{IsAt, IsJournalOf, stop_of_fault}
 use Rattle.node_taking.specs.Taking.{StopsSo}
 use Rattle.node_taking.specs.Turns.{IsTurnOf}
 use Rattle.node_taking.specs.Keeping.{at, grown, letting, Keeps}
@@ -52,6 +51,14 @@ room-is limit a b same fits = go (nat_lt limit a) refl
     go : (t : Bool) → nat_lt limit a ≡ t → nat_lt limit a ≡ false
     go true e = absurd (fits (subst (λ k. limit < k) same (ltb-true limit a e)))
     go false e = e
+
+-- where it fits, the gate is below the limit
+pub fits-below : (limit gate more : ℕ) → (limit < gate + 1 + more → ⊥) → gate < limit
+fits-below limit gate more fits = go (nat_lt limit (gate + 1 + more)) refl
+  where
+    go : (t : Bool) → nat_lt limit (gate + 1 + more) ≡ t → gate < limit
+    go true e = absurd (fits (ltb-true limit (gate + 1 + more) e))
+    go false e = let le = ltb-false limit (gate + 1 + more) e in omega (arith, le)
 
 tells-before : (old new : Option (List ℕ)) → StaysUntold old new → IsSome new → IsSome old
 tells-before None new untold some = sym (ap is_some untold) ∙ some

@@ -7,7 +7,7 @@ use Rattle.node_defs.specs.Lives.{Found, fresh}
 use Rattle.node_defs.specs.Nodes.{Node, Task, Snapper}
 use Rattle.node_traces.specs.Outside.{LinkSeen, SinkSeen, SourceSeen}
 use Rattle.node_traces.specs.Service.{Asked, HeardBy}
-use Rattle.node_opening.specs.Hosts.{IsNode, Running, cast_in, numbers_of}
+use Rattle.sealing_laws.specs.Running.{IsNode, Running, cast_in, numbers_of}
 use Rattle.node_taking.specs.Keeping.{at}
 use Rattle.node_taking.specs.Taking.{GoesOnTo, HasNode, StopsSo, outside}
 use Rattle.node_taking.proofs.Joined.{on-and-on, on-and-stops, on-nothing, still-hosted, with-tasks}

@@ -5,7 +5,7 @@ use Rattle.byte_defs.specs.Members.{has}
 use Rattle.kit_defs.specs.Kits.{Kit}
 use Rattle.group_defs.specs.Process.{Process}
 use Rattle.node_defs.specs.Casts.{Cast, cast_of}
-use Rattle.node_opening.specs.Hosts.{AreHosts, Host, Hosts, IsHost, IsPlace, numbers_of}
+use Rattle.sealing_laws.specs.Running.{AreHosts, Host, Hosts, IsHost, IsPlace, numbers_of}
 use Rattle.node_taking.specs.Turns.{HasHosts}
 
 nobody : (p : ℕ) → (let o : Option ℕ = None in o) ≢ Some p

@@ -13,3 +13,4 @@ pub mod Joined
 pub mod Leads
 pub mod Expelled
 pub mod Handed
+mod Counted

@@ -10,7 +10,7 @@ use Rattle.node_defs.specs.Nodes.{Node, Task, Take, Append, Say, Call, Steps, Ap
 use Rattle.node_traces.specs.Goes.{Outside, Goes, Does}
 use Rattle.node_traces.proofs.Going.{one_answer_goes}
 use Rattle.node_traces.proofs.Service.{asks-none}
-use Rattle.node_opening.specs.Hosts.{IsAt}
+use Rattle.sealing_laws.specs.Running.{IsAt}
 use Rattle.node_taking.specs.Keeping.{at, letting}
 
 pub at-so : (n : Node) (ts : List Task) → IsAt n ts → n ≡ at n ts

@@ -4,10 +4,10 @@ use Rattle.std.specs.Prelude.{IsTrue}
 use Rattle.byte_defs.specs.Members.{has}
 use Rattle.kit_defs.specs.Kits.{Kit}
 use Rattle.group_defs.specs.Process.{Process}
-use Rattle.node_opening.specs.Events.{event as plain_event, Event}
-use Rattle.node_opening.specs.Hosts.{AnySigner, used, total, signature, Taken, IsCore, event as event_of, signer_of, turn_of, core_of, TakesTurn, hosted_in, Host, Hosts, AreHosts, numbers_of, IsHost, IsPlace, TakesLive}
+use Rattle.sealing_laws.specs.Events.{event as plain_event, Event}
+use Rattle.sealing_laws.specs.Running.{AnySigner, used, total, signature, Taken, IsCore, event as event_of, signer_of, turn_of, core_of, TakesTurn, hosted_in, Host, Hosts, AreHosts, numbers_of, IsHost, IsPlace, TakesLive}
 use Rattle.node_defs.specs.Casts.{Cast, cast_of}
-use Rattle.node_opening.proofs.Laws.{takes-live}
+use Rattle.sealing_laws.proofs.Passed.{takes-live}
 use Rattle.node_taking.specs.Turns.{HasHosts}
 
 -- what `take_out` says

@@ -31,7 +31,7 @@ if-told (Some x) p = p refl
 abbrev pub Rests : Option (List ℕ) → (List ℕ → Type 0) → Cast → Node → Type 0
 Rests seen may_leave c n = IfSome seen (λ file. HasRest seen may_leave c.header n.kept n.gate)
 
-at-rest : (seen : Option (List ℕ)) (may_leave : List ℕ → Type 0) (head : List ℕ) (es : List Entry) (gate : ℕ)
+pub at-rest : (seen : Option (List ℕ)) (may_leave : List ℕ → Type 0) (head : List ℕ) (es : List Entry) (gate : ℕ)
     → HasRest seen may_leave head es gate → (image : List ℕ) → may_leave image → IsImageOf head image es
 at-rest seen may_leave head es gate is image left =
     subst (λ (b : List ℕ). IsImageOf head b es) (sym (is.only image left)) (at_rest_is_image head es is.file is.each is.rest)

@@ -14,8 +14,8 @@ use Rattle.node_traces.specs.Goes.{Goes}
 use Rattle.node_traces.proofs.Going.{parts_go_on}
 use Rattle.letting_laws.specs.Letting.{Fits, asked, edge, failed_by, told_by, HasBegun, LetOut, LetsFirstOut}
 use Rattle.letting_laws.proofs.Machine.{each_lets_out}
-use Rattle.node_opening.specs.Stops.{stop as stop_of, Stop as Why}
-use Rattle.node_opening.specs.Stops as whys
+use Rattle.sealing_laws.specs.Running.{stop as stop_of, Stop as Why}
+use Rattle.sealing_laws.specs.Running as whys
 use Rattle.node_taking.specs.Taking.{outside}
 use Rattle.node_taking.specs.Keeping.{at, grown, letting}
 use Rattle.node_taking.specs.Telling.{Tells as Told, TellsTurn}

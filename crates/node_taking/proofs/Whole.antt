@@ -4,7 +4,8 @@ use Rattle.group_defs.specs.Events.{EventFault, refusal}
 use Rattle.journal_defs.specs.Entries.{Event}
 use Rattle.journal_rp.specs.declared.journal.Journal.{Journal}
 use Rattle.journal_rp.specs.declared.journal.Writing.{Writing}
-use Rattle.node_opening.proofs.Laws.{verdict-is, stays_sound}
+use Rattle.node_laws.proofs.Soundness.{stays_sound}
+use Rattle.sealing_laws.proofs.Passed.{verdict-is}
 use Rattle.node_defs.specs.Casts.{Cast, from_start, handed, live, outcome_of}
 use Rattle.node_defs.specs.Lines.{Stop, NoMemory, refused_line}
 use Rattle.node_defs.specs.Lives.{Found, IsSound}
@@ -15,7 +16,7 @@ use Rattle.node_traces.specs.Goes.{Outside, Goes}
 use Rattle.node_traces.specs.Went.{Went}
 use Rattle.node_traces.proofs.Going.{parts_go_on}
 use Rattle.node_traces.proofs.Went.{went_on}
-use Rattle.node_opening.specs.Hosts.{Running, AreHosts, IsJournalOf, IsNode, cast_in}
+use Rattle.sealing_laws.specs.Running.{Running, AreCountsOf, AreHosts, IsJournalOf, IsNode, cast_in}
 use Rattle.node_taking.specs.Taking.{outside, GoesOnTo, StopsSo}
 use Rattle.node_taking.specs.Keeping.{at, grown, letting, Keeps}
 use Rattle.node_taking.specs.Telling.{Tells}
@@ -33,13 +34,14 @@ sound-on c snap most n m x y goes sound = subst (λ (k : Node). IsSound c (from_
 -- what the running node is now, of the same cast
 pub is-now : (r r' : Running) (seen : Option (List ℕ)) (may_leave : List ℕ → Type 0) (m : Node) (ts : List Task) → cast_in r' ≡ cast_in r
     → AreHosts (cast_in r) r'.kit.now m.now None r'.hosts → IsJournalOf (cast_in r) m r'.journal seen may_leave
-    → IsSound (cast_in r) (from_start (cast_in r)).from (at m ts) → IsNode seen may_leave r' (at m ts) ts
-is-now r r' seen may_leave m ts same hosts journal sound = record {
+    → IsSound (cast_in r) (from_start (cast_in r)).from (at m ts) → AreCountsOf m r'.counts → IsNode seen may_leave r' (at m ts) ts
+is-now r r' seen may_leave m ts same hosts journal sound counts = record {
   at = record { runs = refl; opened = refl; leaving = refl; tasks = refl; text = refl; late = refl };
   hosts = subst (λ (c : Cast). AreHosts c r'.kit.now m.now None r'.hosts) (sym same) hosts;
   journal = let so = subst (λ (c : Cast). IsJournalOf c m r'.journal seen may_leave) (sym same) journal in
       record { gate = so.gate; length = so.length; rest = so.rest };
   sound = subst (λ (c : Cast). IsSound c (from_start c).from (at m ts)) (sym same) sound;
+  counts = record { each = counts.each; few = counts.few };
 }
 
 module _ {D : Type 0} (seen : D → Option (List ℕ)) (may_leave : D → List ℕ → Type 0) (moment : D → ℕ)
@@ -72,9 +74,9 @@ module _ {D : Type 0} (seen : D → Option (List ℕ)) (may_leave : D → List �
           (steps-does c most n p e ts (outside l s o h))
 
       pub refused-on : (r' : Running) → cast_in r' ≡ c → AreHosts c r'.kit.now n.now None r'.hosts
-          → IsJournalOf c n r'.journal (seen d) (may_leave d) → SinkWrote s t (refused_line p fault)
+          → IsJournalOf c n r'.journal (seen d) (may_leave d) → AreCountsOf n r'.counts → SinkWrote s t (refused_line p fault)
           → GoesOnTo seen may_leave moment left_since c snap most f n (outside l s o h) d ts (outside l t o h) d r'
-      refused-on r' same hosts journal wrote =
+      refused-on r' same hosts journal counts wrote =
           let whole = parts_go_on c snap most (at n (Take p e ∷ ts)) (at n (Say (refused_line p fault) ∷ ts)) (at n ts) (outside l s o h)
           (outside l s o h) (outside l t o h) refused-first (says-on c snap most n (refused_line p fault) ts l s t o h wrote) in
           let went = subst (λ (m : Node). Went seen moment left_since c snap most f m (outside l s o h) d (at n ts) (outside l t o h) d)
@@ -85,7 +87,7 @@ module _ {D : Type 0} (seen : D → Option (List ℕ)) (may_leave : D → List �
             node = at n ts;
             went = went;
             is = is-now r r' (seen d) (may_leave d) n ts same hosts journal
-                (sound-on c snap most n (at n ts) (outside l s o h) (outside l t o h) went.goes is.sound);
+                (sound-on c snap most n (at n ts) (outside l s o h) (outside l t o h) went.goes is.sound) counts;
             cast = same;
             lines = refl;
             script = refl;
@@ -112,9 +114,10 @@ module _ {D : Type 0} (seen : D → Option (List ℕ)) (may_leave : D → List �
 
       pub taken-on : (r' : Running) (us : List Task) → us ≡ others → cast_in r' ≡ c → AreHosts c r'.kit.now (grown c n p e).now None r'.hosts
           → Keeps seen may_leave moment left_since c snap most f n p e ts (outside k s o h) old new r'.journal
+          → AreCountsOf (grown c n p e) r'.counts
           → Tells c (grown c n p e).now (leaving_of p (outcome_of c (n.now p) e)) k l h g (SinkWrote s t)
           → GoesOnTo seen may_leave moment left_since c snap most f n (outside k s o h) old us (outside l t o g) new r'
-      taken-on r' us left same hosts keeps tells =
+      taken-on r' us left same hosts keeps counts tells =
           let went = went_on seen moment left_since c snap most f n (letting c n p e ts) (at (grown c n p e) others) (outside k s o h)
           (outside k s o h) (outside l t o g) old new new keeps.went
           (still seen may_leave moment left_since only_now c snap most f (letting c n p e ts) (at (grown c n p e) others) (outside k s o h)
@@ -123,7 +126,7 @@ module _ {D : Type 0} (seen : D → Option (List ℕ)) (may_leave : D → List �
             node = at (grown c n p e) others;
             went = went;
             is = is-now r r' (seen new) (may_leave new) (grown c n p e) others same hosts keeps.journal
-                (sound-on c snap most n (at (grown c n p e) others) (outside k s o h) (outside l t o g) went.goes is.sound);
+                (sound-on c snap most n (at (grown c n p e) others) (outside k s o h) (outside l t o g) went.goes is.sound) counts;
             cast = same;
             lines = refl;
             script = refl;

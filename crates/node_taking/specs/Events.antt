@@ -1,2 +1,2 @@
 -- An event of a process, in the words of the crates below, passed on.
-pub use Rattle.node_opening.specs.Events.{event, Event}
+pub use Rattle.sealing_laws.specs.Events.{event, Event}

@@ -12,7 +12,7 @@ use Rattle.node_defs.specs.Lives.{Found}
 use Rattle.node_defs.specs.Nodes.{Node, Task, Flush, Snapper, asks, leaving_of, new_entry, with_turn}
 use Rattle.node_traces.specs.Goes.{Outside}
 use Rattle.node_traces.specs.Went.{Went}
-use Rattle.node_opening.specs.Hosts.{IsJournalOf}
+use Rattle.sealing_laws.specs.Running.{IsJournalOf}
 use Rattle.node_taking.specs.declared.stepping.Away.{Away}
 
 -- the node, open and running, with nothing that waits, at these tasks

@@ -2,7 +2,6 @@ pub mod Asking
 pub mod Events
 pub mod Hosts
 pub mod Keeping
-pub mod Opened
 pub mod Stops
 pub mod Taking
 pub mod Telling

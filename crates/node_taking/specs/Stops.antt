@@ -1,3 +1,2 @@
 -- Why a node ends, in the words of the crates below, passed on.
-pub use Rattle.node_opening.specs.Stops.{stop, Stop, Ended, NoMemory, ReadFailed, WriteFailed, DiskFailed, BindFailed, BadKit, BadLine, BadSnap, BadJournal, Full}
-pub use Rattle.node_opening.specs.Causes.{StopsByDisk}
+pub use Rattle.sealing_laws.specs.Running.{stop, Stop, Ended, NoMemory, ReadFailed, WriteFailed, DiskFailed, BindFailed, BadKit, BadLine, BadSnap, BadJournal, Full, StopsByDisk, stop_of_fault}

@@ -7,9 +7,8 @@ use Rattle.node_defs.specs.Lives.{Found}
 use Rattle.node_defs.specs.Nodes.{Node, Task, Snapper}
 use Rattle.node_traces.specs.Goes.{Outside}
 use Rattle.node_traces.specs.Went.{Went, WentToStop}
-use Rattle.node_opening.specs.Hosts.{Running, IsNode, cast_in}
-pub use Rattle.node_opening.specs.Causes.{HasDiskCause}
-pub use Rattle.node_opening.specs.Opened.{outside}
+use Rattle.sealing_laws.specs.Running.{Running, IsNode, cast_in}
+pub use Rattle.sealing_laws.specs.Running.{HasDiskCause, outside}
 
 -- some node of the definitions, at some tasks, is this running one
 pub record HasNode (seen : Option (List ℕ)) (may_leave : List ℕ → Type 0) (r : Running) : Type 0 where

@@ -7,7 +7,7 @@ use Rattle.node_traces.specs.Outside.{LinkSeen, SinkSeen, SinkWrote, SinkFailed}
 use Rattle.node_traces.specs.Service.{Asked}
 use Rattle.letting_laws.specs.Letting.{HasBegun}
 use Rattle.sealing_laws.specs.Letters.{LetsTurnOut}
-use Rattle.node_opening.specs.Stops.{Stop, NoMemory, WriteFailed}
+use Rattle.sealing_laws.specs.Running.{Stop, NoMemory, WriteFailed}
 
 -- the text was written; or the output failed, which took a front of it; or there was no memory for it
 abbrev pub Says : {T : Type 0} → Result T Stop → List ℕ → SinkSeen → SinkSeen → Type 0

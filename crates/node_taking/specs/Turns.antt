@@ -8,7 +8,7 @@ use Rattle.journal_defs.specs.Entries.{Event, IsEntry}
 use Rattle.journal_defs.specs.Crashes.{staged}
 use Rattle.auth_link.specs.Keys.{known}
 use Rattle.node_defs.specs.Casts.{Cast, cast_of, entry_for, handed, known_of}
-use Rattle.node_opening.specs.Hosts.{Hosts, AreHosts, TakesLive, fault as fault_of, Turn}
+use Rattle.sealing_laws.specs.Running.{Hosts, AreHosts, TakesLive, fault as fault_of, Turn}
 use Rattle.node_taking.specs.declared.stepping.Away.{Away}
 use Rattle.node_taking.specs.declared.stepping.Fate.{Fate}
 use Rattle.node_taking.specs.declared.stepping.Fate.TheVariants as fates

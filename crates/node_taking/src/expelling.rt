@@ -1,7 +1,7 @@
 //! Whom the service names after a turn on a frame, and the event as a whole.
 ghost use Rattle.std.specs.Prelude.{◌≤◌, [], ◌∷◌, ◌++◌, ℕ, List, length, map, None, IfOk, IfErr, IfSome, IsTrue};
 ghost use Rattle.byte_defs.specs.Members.{has};
-ghost use Rattle.node_opening.specs.Events.{event as event_of};
+ghost use Rattle.sealing_laws.specs.Events.{event as event_of};
 ghost use Rattle.group_defs.specs.Process.{Process};
 ghost use Rattle.journal_defs.specs.declared.Version.{Version};
 ghost use Rattle.journal_defs.specs.Entries.{Suspect};
@@ -12,8 +12,8 @@ ghost use Rattle.node_defs.specs.Nodes.{Node, Snapper, Task, Take, Say, Ask, Ask
 ghost use Rattle.node_traces.specs.Outside.{SourceSeen};
 ghost use Rattle.node_traces.specs.Seen.{link_seen, sink_seen};
 ghost use Rattle.node_traces.specs.Service.{Asked, HeardBy, one_asked};
-ghost use Rattle.node_opening.specs.Hosts.{AreHosts, numbers_of, IsNode, cast_in};
-ghost use Rattle.node_opening.specs.Stops.{stop as stop_of};
+ghost use Rattle.sealing_laws.specs.Running.{AreHosts, numbers_of, IsNode, cast_in};
+ghost use Rattle.sealing_laws.specs.Running.{stop as stop_of};
 ghost use Rattle.sealing_laws.specs.Letters.{IsFromOther};
 ghost use Rattle.sealing_laws.specs.Service.{IsAbove, named_by, note as note_of};
 ghost use Rattle.node_taking.specs.Turns.{HasHosts};
@@ -21,8 +21,8 @@ ghost use Rattle.node_taking.specs.Taking.{outside, HasNode, HasDiskCause, GoesO
 
 use crate::taking::{After, take_turn};
 use crate::telling::say_expel;
-use node_opening::{Event, Note, Running, Service, Stop};
 use rp_base::{Disk, Link, Pid, Sink};
+use sealing_laws::{Event, Note, Running, Service, Stop};
 use std::alloc::Global;
 
 // Whom the service has this process suspect next, above the one that it named last.

@@ -1,23 +1,23 @@
 //! The turn's entry, appended to the journal.
-ghost use Rattle.std.specs.Prelude.{◌≡◌, ◌∷◌, ℕ, List, IfOk, IfErr};
+ghost use Rattle.std.specs.Prelude.{◌≡◌, ◌<◌, ◌^◌, ◌∷◌, ℕ, List, IfOk, IfErr};
 ghost use Rattle.journal_defs.specs.Entries.{Event};
 ghost use Rattle.journal_disk.specs.Disks.{HasLength};
-ghost use Rattle.journal_rp.specs.Stages.{len_of, version_of};
+ghost use Rattle.journal_rp.specs.Stages.{gate_of, len_of, version_of};
 ghost use Rattle.journal_rp.specs.Turns.{staged_of};
 ghost use Rattle.node_defs.specs.Casts.{Cast};
 ghost use Rattle.node_defs.specs.Lives.{Found};
 ghost use Rattle.node_defs.specs.Nodes.{Node, Snapper, Task, Take};
 ghost use Rattle.node_traces.specs.Goes.{Outside};
-ghost use Rattle.node_opening.specs.Hosts.{IsAt, IsJournalOf};
-ghost use Rattle.node_opening.specs.Stops.{stop as stop_of};
+ghost use Rattle.sealing_laws.specs.Running.{IsAt, IsJournalOf};
+ghost use Rattle.sealing_laws.specs.Running.{stop as stop_of};
 ghost use Rattle.node_taking.specs.Taking.{HasDiskCause, StopsSo};
 ghost use Rattle.node_taking.specs.Turns.{IsTurnOf};
 ghost use Rattle.node_taking.specs.Keeping.{IsSameTurn, Keeps};
 
 use crate::stepping::Away;
 use journal_rp::{Journal, Synced, Unsynced, Writing};
-use node_opening::{Stop, stop_at};
 use rp_base::Disk;
+use sealing_laws::{Stop, stop_at};
 
 /// Appends the entry of a turn to the journal. With it the turn is in the journal for good.
 ///
@@ -39,6 +39,7 @@ pub(crate) fn keep<D: Disk>(
         → IfErr result (λ why. StopsSo D.seen D.may_leave D.moment D.left_since c snap most f n x disk.old (stop_of why) x disk.new) }
     ensures same { IfOk result (λ r. IsSameTurn away r.1) }
     ensures kind { IfOk result (λ r. version_of r.0 ≡ version_of journal) }
+    ensures room { IfOk result (λ r. gate_of journal < 2 ^ 30) }
     ensures cause { HasDiskCause (D.faults disk.old) (D.faults disk.new) result }
 {
     let Away { turn, keys, port } = away;

@@ -8,9 +8,9 @@ mod taking;
 mod telling;
 
 pub use expelling::take;
-pub use node_opening::{
-    AnySigner, Event, Host, Hosted, Hosts, Kit, LinkFault, LinkKeys, NoService, Note, Running,
-    Sending, Service, Stop, open, push_drop, push_fault, push_recv,
+pub use sealing_laws::{
+    AnySigner, Counts, Event, Host, Hosted, Hosts, Kit, LinkFault, LinkKeys, NoService, Note,
+    Running, SEALED_BYTES, Sending, Service, Speaker, Stop, let_frames_out, push_drop, push_fault,
+    push_recv, stop_at,
 };
-pub use sealing_laws::{SEALED_BYTES, Speaker, let_frames_out};
 pub use telling::say;

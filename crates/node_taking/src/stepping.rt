@@ -3,14 +3,14 @@ ghost use Rattle.std.specs.Prelude.{ℕ, IfOk, IsTrue, None};
 ghost use Rattle.byte_defs.specs.Members.{has};
 ghost use Rattle.journal_defs.specs.declared.Version.{Version};
 ghost use Rattle.group_defs.specs.Process.{Process};
-ghost use Rattle.node_opening.specs.Events.{event as event_of};
+ghost use Rattle.sealing_laws.specs.Events.{event as event_of};
 ghost use Rattle.node_defs.specs.Casts.{cast_of};
-ghost use Rattle.node_opening.specs.Hosts.{AreHosts, numbers_of};
+ghost use Rattle.sealing_laws.specs.Running.{AreHosts, numbers_of};
 ghost use Rattle.node_taking.specs.Turns.{HasHosts, StepsTo};
 
 use journal_rp::{Turn, Unsynced};
-use node_opening::{AnySigner, Event, EventFault, Host, Hosted, Hosts, Kit, LinkKeys, Taken};
 use rp_base::{NoMemory, Pid};
+use sealing_laws::{AnySigner, Event, EventFault, Host, Hosted, Hosts, Kit, LinkKeys, Taken};
 use std::alloc::Global;
 
 /// A turn of a hosted process, which is away with it, and what the process speaks with.

@@ -1,15 +1,15 @@
 //! One event, from whoever hands it over to what goes out of its turn.
 ghost use Rattle.std.specs.Prelude.{◌≤◌, ◌∷◌, ◌++◌, ℕ, List, length, IfOk, IfErr, IsTrue};
 ghost use Rattle.byte_defs.specs.Members.{has};
-ghost use Rattle.node_opening.specs.Events.{event as event_of};
+ghost use Rattle.sealing_laws.specs.Events.{event as event_of};
 ghost use Rattle.node_defs.specs.Casts.{handed};
 ghost use Rattle.node_defs.specs.Lives.{Found};
 ghost use Rattle.node_defs.specs.Nodes.{Node, Snapper, Task, Take};
 ghost use Rattle.node_traces.specs.Outside.{SourceSeen};
 ghost use Rattle.node_traces.specs.Seen.{link_seen, sink_seen};
 ghost use Rattle.node_traces.specs.Service.{Asked, HeardBy};
-ghost use Rattle.node_opening.specs.Hosts.{numbers_of, IsNode, cast_in};
-ghost use Rattle.node_opening.specs.Stops.{stop as stop_of};
+ghost use Rattle.sealing_laws.specs.Running.{numbers_of, IsNode, cast_in};
+ghost use Rattle.sealing_laws.specs.Running.{stop as stop_of};
 ghost use Rattle.sealing_laws.specs.Letters.{IsFromOther};
 ghost use Rattle.node_taking.specs.Asking.{left_to_ask};
 ghost use Rattle.node_taking.specs.Taking.{outside, HasNode, HasDiskCause, GoesOnTo, StopsSo};
@@ -17,8 +17,8 @@ ghost use Rattle.node_taking.specs.Taking.{outside, HasNode, HasDiskCause, GoesO
 use crate::keeping::keep;
 use crate::stepping::{Away, Fate, step};
 use crate::telling::{say_refused, tell};
-use node_opening::{Event, Host, Outcome, Running, Service, Stop};
 use rp_base::{Disk, Link, Pid, Sink};
+use sealing_laws::{Event, Host, Outcome, Running, Service, Stop};
 use std::alloc::Global;
 
 /// The node after an event.
@@ -73,8 +73,10 @@ pub(crate) fn take_turn<'a, D: Disk, L: Link, K: Sink, V: Service>(
         kit,
         hosts,
         journal,
+        counts,
     } = running;
     let mut hosts = hosts;
+    let mut counts = counts;
     match step(alloc, kit, &mut hosts, me, event)? {
         Fate::Refused(fault) => {
             say_refused(alloc, me, fault, output)?;
@@ -83,6 +85,7 @@ pub(crate) fn take_turn<'a, D: Disk, L: Link, K: Sink, V: Service>(
                     kit,
                     hosts,
                     journal,
+                    counts,
                 },
                 outcome: None,
             })
@@ -97,11 +100,13 @@ pub(crate) fn take_turn<'a, D: Disk, L: Link, K: Sink, V: Service>(
                 keys,
                 port,
             });
+            counts.count(me);
             Ok(After {
                 running: Running {
                     kit,
                     hosts,
                     journal,
+                    counts,
                 },
                 outcome: Some(outcome),
             })

@@ -10,16 +10,15 @@ ghost use Rattle.node_defs.specs.Lines.{expel_line, refused_line};
 ghost use Rattle.node_defs.specs.Nodes.{leaving_of};
 ghost use Rattle.node_traces.specs.Seen.{link_seen, sink_seen};
 ghost use Rattle.node_traces.specs.Service.{Asked, HeardBy};
-ghost use Rattle.node_opening.specs.Hosts.{IsHosted, IsOutcome, fault as fault_of};
+ghost use Rattle.sealing_laws.specs.Running.{IsHosted, IsOutcome, fault as fault_of};
 ghost use Rattle.sealing_laws.specs.Letters.{IsLast, IsSealable, letters_in};
 ghost use Rattle.node_taking.specs.Taking.{HasDiskCause};
 ghost use Rattle.node_taking.specs.Telling.{Says, TellsTurn};
 
 use crate::stepping::Away;
 use journal_rp::Synced;
-use node_opening::{EventFault, Kit, Service, Stop, push_expel, push_refused};
 use rp_base::{Disk, Failed, Link, Pid, Sink, write_all};
-use sealing_laws::{Speaker, let_out};
+use sealing_laws::{EventFault, Kit, Service, Speaker, Stop, let_out, push_expel, push_refused};
 use std::alloc::Global;
 
 /// Writes the text.

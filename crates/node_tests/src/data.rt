@@ -34,6 +34,13 @@ host 1 view 0 delivered 0 entries 0
 pub const DELIVERED: &[u8] =
     b"recv 1 1\nrecv 0 1\nrecv 1 1\ndeliver 0 0 0 0 0 6869\nrecv 0 1\ndeliver 1 0 0 0 0 6869\nrecv 1 1\n";
 
+/// The line of its snapshot then.
+pub const SNAP: &[u8] =
+    b"snap 52504e326f289d5b5aa425dc2f365877e4cf8595000000000000000390bfcb0f0fe0dac819cccb817ca6c26c17fbefebfe48540ca3ee9d\
+    3b81749767000000000000003c467cb5435f06f7bd6cb64c11a1264605745568d1333ed203364261c3f6e9679800000000000000000000\
+    001e00000000000000000000000000000000000000000000000000000000000000000000000000000000001e0100000000000000000000\
+    00000000000000000000000000000000000000\n";
+
 /// How the node begins again after so many turns of the script.
 pub const AGAIN: [&[u8]; 7] = [
     b"host 0 view 0 delivered 0 entries 0\nhost 1 view 0 delivered 0 entries 0\n",

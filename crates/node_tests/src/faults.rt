@@ -70,14 +70,6 @@ fn a_line_that_is_none_ends_the_node(rt: HostRuntime) -> Result<(), Fail> {
     Ok(())
 }
 
-/// A snapshot is not made yet: its line ends the node as one that is none.
-#[test]
-fn no_snapshot_is_made_yet(rt: HostRuntime) -> Result<(), Fail> {
-    let texts = [HOSTS, b"stop 7 line 14\n"];
-    assert!(rt; is_answered_at_first(rt.alloc(), b"snap\n", &[], &texts, 7)?);
-    Ok(())
-}
-
 /// The journal of the script's node, with another byte at a place.
 fn changed(alloc: Global, journal: &[u8], at: usize) -> Result<Vec<u8>, NoMemory> {
     let mut bytes = journal.to_vec(alloc)?;

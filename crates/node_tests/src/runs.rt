@@ -1,5 +1,5 @@
 //! Runs in which nothing stops the node before its input ends.
-use crate::data::{AGAIN, DATAGRAMS, DELIVERED, HOSTS, KIT, SCRIPT};
+use crate::data::{AGAIN, DATAGRAMS, DELIVERED, HOSTS, KIT, SCRIPT, SNAP};
 use node_loop::{NoService, host};
 use rp_base::{Link, MemSink, MemSource, NoMemory};
 use rp_devices::{MemDisk, MemLink};
@@ -78,6 +78,14 @@ fn what_one_submits_both_deliver_and_know_again(rt: HostRuntime) -> Result<(), F
 
     let mut again = disk_of(alloc, disk.bytes())?;
     assert!(rt; is_answered(alloc, b"", &mut again, &mut link, &[AGAIN[6]], 0)?);
+    Ok(())
+}
+
+/// Its images are those of two processes that have done nothing.
+#[test]
+fn a_snapshot_is_written_between_other_lines(rt: HostRuntime) -> Result<(), Fail> {
+    let texts = [HOSTS, SNAP, b"recv 0 0\n"];
+    assert!(rt; is_answered_at_first(rt.alloc(), b"snap\n0 recv 1\n", &[], &texts, 0)?);
     Ok(())
 }
 

@@ -7,7 +7,7 @@ use Rattle.std.proofs.lemmas.List.{append-nil, append_assoc, map-append, take_al
 use Rattle.group_defs.specs.Process.{Process}
 use Rattle.pool_laws.proofs.Members.{Mem, All-mem, mem-All, mem-map, mem-behind, mem-flat_map, index-mem}
 use Rattle.stmt_codec.specs.declared.events.Sending.{Sending}
-use Rattle.node_text.specs.Outcomes.{frame_to}
+use Rattle.node_service.specs.Lines.{frame_to}
 use Rattle.rp_base.specs.Causes.{HasCause}
 use Rattle.rp_base.specs.Links.{Sends as LinkSends}
 use Rattle.link_defs.specs.Datagrams.{Known, sealed}

@@ -10,8 +10,7 @@ use Rattle.group_defs.specs.Events as defs
 use Rattle.stmt_codec.specs.declared.events.Outcome.{Outcome}
 use Rattle.stmt_codec.specs.declared.events.Sending.{Sending}
 use Rattle.stmt_codec.specs.declared.events.Note.{Note}
-use Rattle.node_text.specs.Outcomes.{frame_to, frames_to, IsOutcome}
-use Rattle.node_text.specs.Told.{note}
+use Rattle.node_service.specs.Lines.{frame_to, frames_to, IsOutcome, note}
 use Rattle.node_defs.specs.Casts.{Cast, letters_of}
 use Rattle.node_defs.specs.Nodes.{Leaving, Tells, leaving_of}
 use Rattle.node_traces.specs.Outside.{LinkSeen}

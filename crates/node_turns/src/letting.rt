@@ -4,7 +4,7 @@ ghost use Rattle.group_defs.specs.Process.{Process};
 ghost use Rattle.group_defs.specs.Events.{Outcome};
 ghost use Rattle.journal_defs.specs.declared.Version.{Version};
 ghost use Rattle.journal_rp.specs.Turns.{outcome_of, process_of, staged_of};
-ghost use Rattle.node_text.specs.Outcomes.{IsOutcome};
+ghost use Rattle.node_service.specs.Lines.{IsOutcome};
 ghost use Rattle.node_defs.specs.Casts.{cast_of};
 ghost use Rattle.node_defs.specs.Nodes.{leaving_of};
 ghost use Rattle.node_service.specs.Words.{IsHosted};

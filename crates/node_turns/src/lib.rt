@@ -10,6 +10,10 @@ mod speaker;
 pub use journal_rp::{Synced, Turn};
 pub use letting::let_out;
 pub use node_keys::{Kit, LinkKeys};
-pub use node_service::{AnySigner, Event, Hosted, Hosts, NoService, Note, Sending, Service};
+pub use node_service::{
+    AnySigner, Counts, Event, EventFault, Host, Hosted, Hosts, LinkFault, NoService, Note, Outcome,
+    Running, Sending, Service, Stop, Taken, push_drop, push_expel, push_fault, push_recv,
+    push_refused, stop_at,
+};
 pub use sending::{SEALED_BYTES, let_frames_out};
 pub use speaker::Speaker;

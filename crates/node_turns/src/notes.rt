@@ -3,14 +3,13 @@ ghost use Rattle.std.specs.Prelude.{◌≡◌, ◌∷◌, [], ℕ, List, OnOk, O
 ghost use Rattle.group_defs.specs.Process.{Process};
 ghost use Rattle.node_defs.specs.Casts.{Cast};
 ghost use Rattle.node_service.specs.Words.{IsHosted};
-ghost use Rattle.node_text.specs.Words.{GoesOn};
+ghost use Rattle.node_service.specs.Lines.{GoesOn};
 ghost use Rattle.node_traces.specs.Outside.{LinkSeen};
 ghost use Rattle.node_traces.specs.Service.{Asked, HeardBy};
 ghost use Rattle.letting_laws.specs.Letting.{edge, HasBegun, LetOut};
 ghost use Rattle.node_turns.specs.Letters.{TellsNotes, tells_of};
 
-use node_service::{AnySigner, Hosted, Service};
-use node_text::push_note;
+use node_service::{AnySigner, Hosted, Service, push_note};
 use rp_base::{NoMemory, Pid};
 use stmt_codec::Note;
 

@@ -6,13 +6,13 @@ ghost use Rattle.node_defs.specs.Casts.{cast_of};
 ghost use Rattle.node_defs.specs.Nodes.{SendsTo};
 ghost use Rattle.node_traces.specs.Outside.{LinkStep};
 ghost use Rattle.node_traces.specs.Service.{Asked};
-ghost use Rattle.node_text.specs.Outcomes.{frame_to};
+ghost use Rattle.node_service.specs.Lines.{frame_to};
 ghost use Rattle.letting_laws.specs.Letting.{edge, LetOut, HasBegun};
 ghost use Rattle.node_turns.specs.Letters.{IsSealable, letters_in, letters_to, sends_of, answer_of, link_seen};
 
 use crate::speaker::Speaker;
 use auth_link::{FRAME_BYTES, SEAL_BYTES, seal_into};
-use node_text::push_fault;
+use node_service::push_fault;
 use rp_base::{Failed, Link, NoMemory, Pid};
 use stmt_codec::Sending;
 

@@ -1,7 +1,6 @@
 -- How a node with a service has ended.
 use Rattle.std.specs.Prelude.{ℕ, List, [], Option}
 use Rattle.node_defs.specs.Lives.{Found}
-use Rattle.node_defs.specs.Nodes.{Snapper}
 use Rattle.node_traces.specs.Outside.{LinkSeen, SinkSeen, SourceSeen}
 use Rattle.node_traces.specs.Service.{Asked}
 use Rattle.node_loop.specs.Ended.{HasEnded}
@@ -9,9 +8,9 @@ use Rattle.node_loop.specs.Ended.{HasEnded}
 -- The run of a node has ended, whose lines have at most so many bytes, and the program ends with this status. Of all that the service was asked
 -- in the run, and of its answers, this holds.
 pub record HasEndedWith (Are : List Asked → Type 0) {D : Type 0} (seen : D → Option (List ℕ)) (may_leave : D → List ℕ → Type 0)
-    (moment : D → ℕ) (left_since : D → ℕ → List ℕ → Type 0) (snap : Snapper) (most : ℕ) (f : Found) (k : SourceSeen) (link : LinkSeen)
+    (moment : D → ℕ) (left_since : D → ℕ → List ℕ → Type 0) (most : ℕ) (f : Found) (k : SourceSeen) (link : LinkSeen)
     (sink : SinkSeen) (old : D) (left : Option (List ℕ)) (faults : ℕ) (link_now : LinkSeen) (sink_now : SinkSeen) (new : D) (status : ℕ)
     : Type 0 where
   pub asked : List Asked
   pub are : Are asked
-  pub ended : HasEnded seen may_leave moment left_since snap most f k link sink old left faults link_now sink_now new [] asked status
+  pub ended : HasEnded seen may_leave moment left_since most f k link sink old left faults link_now sink_now new [] asked status

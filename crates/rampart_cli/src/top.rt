@@ -14,7 +14,6 @@ ghost use Rattle.guarding_laws.specs.Laws.{AreOfGuards};
 ghost use Rattle.store_defs.specs.Words.{most_state_line_bytes};
 ghost use Rattle.serve_laws.specs.Laws.{ServesStore};
 ghost use Rattle.node_defs.specs.Lives.{Found};
-ghost use Rattle.node_defs.specs.Nodes.{Snapper};
 ghost use Rattle.node_traces.specs.Seen.{link_seen, sink_seen, source_seen};
 ghost use Rattle.node_loop.specs.Ended.{HasEndedAlone, SaysLast};
 ghost use Rattle.node_loop.specs.Inputs.{TellInOrder, most_line_bytes};
@@ -83,16 +82,16 @@ pub fn rampart<S: Source, K: Sink, D: Disk, L: Link>(
 
     // node, whatever the status: what was done is a run of the node of the definitions, up to a stop with this status, and then the stop's
     // line. Whatever its service was asked was answered with nothing: it says nothing, names nobody and has no line.
-    ensures ended { (file : List ℕ) → Asks words.now (Node file) → (snap : Snapper) (f : Found)
-        → HasEndedAlone D.seen D.may_leave D.moment D.left_since snap f (source_seen S.left S.faults input.old)
+    ensures ended { (file : List ℕ) → Asks words.now (Node file) → (f : Found)
+        → HasEndedAlone D.seen D.may_leave D.moment D.left_since f (source_seen S.left S.faults input.old)
         (link_seen L.sent L.coming L.faults link.old) (sink_seen K.written K.faults output.old) disk.old (S.left input.new) (S.faults input.new)
         (link_seen L.sent L.coming L.faults link.new) (sink_seen K.written K.faults output.new) disk.new result }
 
     // guard, whatever the status: the same, but that its service answered each of these calls as a guard does: after a frame it names whom the
     // frame shows and its process may expel, and by a line of its own a process sends the others what convicts one. So each hosted process is a
     // guard of the definitions: one that was it by the entries that the run found is it by those that the journal holds then.
-    ensures ended_guard { (file : List ℕ) → Asks words.now (Guard file) → (snap : Snapper) (f : Found)
-        → HasEndedWith AreOfGuards D.seen D.may_leave D.moment D.left_since snap most_line_bytes f (source_seen S.left S.faults input.old)
+    ensures ended_guard { (file : List ℕ) → Asks words.now (Guard file) → (f : Found)
+        → HasEndedWith AreOfGuards D.seen D.may_leave D.moment D.left_since most_line_bytes f (source_seen S.left S.faults input.old)
         (link_seen L.sent L.coming L.faults link.old) (sink_seen K.written K.faults output.old) disk.old (S.left input.new) (S.faults input.new)
         (link_seen L.sent L.coming L.faults link.new) (sink_seen K.written K.faults output.new) disk.new result }
 
@@ -100,8 +99,8 @@ pub fn rampart<S: Source, K: Sink, D: Disk, L: Link>(
     // hosted process has one: they write a reply after each message, and answer lines of their own. And their lines may be longer. So of each
     // process that is a correct one of a family the laws of the store hold (`StoreLaws`): a reply is the store's answer, a leaf signs one body,
     // and a joiner has the store of the group.
-    ensures ended_serve { (file : List ℕ) → Asks words.now (Serve file) → (snap : Snapper) (f : Found)
-        → HasEndedWith ServesStore D.seen D.may_leave D.moment D.left_since snap most_state_line_bytes f
+    ensures ended_serve { (file : List ℕ) → Asks words.now (Serve file) → (f : Found)
+        → HasEndedWith ServesStore D.seen D.may_leave D.moment D.left_since most_state_line_bytes f
         (source_seen S.left S.faults input.old)
         (link_seen L.sent L.coming L.faults link.old) (sink_seen K.written K.faults output.old) disk.old (S.left input.new) (S.faults input.new)
         (link_seen L.sent L.coming L.faults link.new) (sink_seen K.written K.faults output.new) disk.new result }

@@ -1,2 +1,3 @@
 mod InRange
 pub mod Sealed
+pub mod Passed

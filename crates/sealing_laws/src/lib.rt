@@ -4,8 +4,9 @@
 ghost use Rattle.sealing_laws.specs.Sealing.{LettersCanBeSealed, SendsCanBeSealed, TurnsCanBeSealed};
 
 pub use node_turns::{
-    AnySigner, Event, Hosted, NoService, Note, SEALED_BYTES, Sending, Service, Speaker, Synced,
-    let_frames_out, let_out,
+    AnySigner, Counts, Event, EventFault, Host, Hosted, Hosts, Kit, LinkFault, LinkKeys, NoService,
+    Note, Outcome, Running, SEALED_BYTES, Sending, Service, Speaker, Stop, Synced, Taken,
+    let_frames_out, let_out, push_drop, push_expel, push_fault, push_recv, push_refused, stop_at,
 };
 
 /// A hosted process shares a key with whom each letter of a turn goes to, and no frame is too long.

@@ -1,10 +1,10 @@
 -- A script in the node's own words, over a part of a run.
-use Rattle.std.proofs.Common.{◌≡◌, ◌≢◌, ℕ, suc, zero, ◌+◌, ◌==◌, List, [], ◌∷◌, Option, Some, None, refl, sym, subst}
+use Rattle.std.proofs.Common.{◌≡◌, ℕ, suc, zero, ◌+◌, ◌==◌, List, [], ◌∷◌, Option, Some, None, refl, sym, subst}
 use Rattle.std.proofs.lemmas.Bool.{ne_eqb}
 use Rattle.node_defs.specs.Scripts.{line_said, most_lines}
 use Rattle.node_defs.specs.Lines.{Stop}
 use Rattle.node_defs.specs.Casts.{Cast, outcome_of}
-use Rattle.node_defs.specs.Nodes.{Node, Opening, Bind, Greet, Serve, Finish, Leaving, Sends, Tells, Task, Take, Append, Flush, Say, Ask, Get, Word, Post, Mark, Answer, Done, Failed, Unremembered, Came, Broken, Said, Named, Snapper, after_task, after_leaving, after_read, call_of, answered, run, calls}
+use Rattle.node_defs.specs.Nodes.{Node, Opening, Bind, Greet, Serve, Finish, Leaving, Sends, Tells, Task, Take, Append, Flush, Say, Ask, Get, Word, Post, Mark, Answer, Done, Failed, Unremembered, Came, Broken, Said, Named, Digest, Snapper, after_task, after_leaving, after_read, call_of, answered, run, calls}
 use Rattle.node_traces.specs.Ways.{Through}
 use Rattle.node_traces.specs.Outside.{SourceSeen, SourceStep, SourceAnswered}
 use Rattle.stop_laws.proofs.Rested.{at, ends-so, nothing-more}
@@ -83,7 +83,9 @@ module _ (c : Cast) (snap : Snapper) (most : ℕ) (n : Node) (s t : SourceSeen) 
   by-task (Post p q frame) ts Done step own more = still _ runs-on own.1 step more
   by-task (Post p q frame) ts Failed step own more = still _ runs-on own.1 step more
   by-task (Post p q frame) ts _ step own more = still _ runs-on own step more
-  by-task Mark ts a step own more = absurd own.0
+  by-task Mark ts (Digest digest) step own more = still _ runs-on (tt, own.1) step more
+  by-task Mark ts Failed step own more = still _ (λ number e. absurd cc) own.1 step more
+  by-task Mark ts _ step own more = still _ runs-on own step more
 
   same-left : (script : ℕ) → t.left ≡ s.left → GoesOn most c.hosted script s.left → GoesOn most c.hosted script t.left
   same-left script same more = subst (GoesOn most c.hosted script) (sym same) more
@@ -96,7 +98,7 @@ module _ (c : Cast) (snap : Snapper) (most : ℕ) (n : Node) (s t : SourceSeen) 
   by-read Broken step own more = absurd (broken-not most c.hosted n.script s.left more step.broken)
   by-read (Came line) step own more =
       let took = took-own most c.hosted n.script s.left t.left line more step.taken in
-      let is = own-line (at n [] [] []) line (n.script == most_lines) (line_said c.hosted line) took.process took.said
+      let is = own-line (at n [] [] []) line (n.script == most_lines) (line_said c.hosted line) took.said
       (ne_eqb n.script most_lines took.room) took.says took.own in
       record { stopped = is.0; tasks = own-append _ [] is.1 tt; script = took.script }
   by-read _ step own more = still _ runs-on own step more
@@ -131,9 +133,6 @@ module _ (c : Cast) (snap : Snapper) (most : ℕ) where
           subst (λ (w : Node). Own c most w t.left) (sym (ends-so c snap why m more is))
           (subst (λ (x : SourceSeen). Own c most m x.left) same now)
 
-no-mark : (ts us : List Task) → AreOwn ts → ts ≢ Mark ∷ us
-no-mark ts us own = λ is. absurd (subst AreOwn is own).0
-
 pub script_is_carried_out : ScriptIsCarriedOut
 script_is_carried_out c snap most n m x y room bytes went runs idle fits left script =
     let own = whole c snap most went.answers n x.source y.source runs (record {
@@ -142,4 +141,4 @@ script_is_carried_out c snap most n m x y room bytes went runs idle fits left sc
       script = subst (GoesOn most c.hosted n.script) (sym left) (room, fits, script);
     }) went.source in
     let end = subst (λ (w : Node). Own c most w y.source.left) (sym went.becomes) own in
-    record { no_line = end.stopped; no_mark = λ ts is. no-mark m.tasks ts end.tasks is }
+    end.stopped

@@ -1,22 +1,20 @@
 -- What is left of a script in the node's own words, answer by answer.
-use Rattle.std.proofs.Common.{◌≡◌, ◌≢◌, ℕ, suc, zero, ◌+◌, ◌≤◌, Bool, true, false, if◌then◌else◌, List, [], ◌∷◌, ◌++◌, length, Option, Some, None, Result, Ok, Err, sym, ap, subst, arith, ◌∙◌}
+use Rattle.std.proofs.Common.{◌≡◌, ◌≢◌, ℕ, suc, zero, ◌+◌, ◌≤◌, Bool, true, false, if◌then◌else◌, List, [], ◌∷◌, ◌++◌, length, Option, Some, None, Result, Ok, Err, refl, sym, ap, subst, arith, ◌∙◌}
 use Rattle.link_defs.specs.declared.LinkFault.{LinkFault}
 use Rattle.group_defs.specs.Events.{EventFault, Note}
 use Rattle.journal_defs.specs.Entries.{Event, Submit, Frame, Suspect, Join, Renew, Tick, entry_bytes}
 use Rattle.input_defs.specs.Lines.{line_within}
 use Rattle.node_defs.specs.Scripts.{Line, Of, Snap, Hand, Receive, Other, line_said, most_lines}
-use Rattle.node_defs.specs.Scripts as scripts
 use Rattle.node_defs.specs.Lines.{Stop, BadLine, Full}
 use Rattle.node_defs.specs.Casts.{Cast, entry_for}
-use Rattle.node_defs.specs.Nodes.{Node, Call, Binds, Task, Append, Word, Mark, Unremembered, ends, goes, asks, is_full, after_step, after_came, more_gets, after_line}
+use Rattle.node_defs.specs.Nodes.{Node, Call, Binds, Task, Append, Word, Unremembered, ends, goes, asks, is_full, after_step, after_came, more_gets, after_line}
 use Rattle.node_traces.specs.Outside as outside
 use Rattle.node_traces.specs.Outside.{SourceSeen, SourceStep, LineTaken}
-use Rattle.stop_laws.specs.Scripts.{IsScript, begins, over}
+use Rattle.stop_laws.specs.Scripts.{IsOwnLine, IsScript, begins, over}
 
 -- a task that comes of the node's own words
 abbrev pub IsOwn : Task → Type 0
 IsOwn (Word p l) = ⊥
-IsOwn Mark = ⊥
 IsOwn _ = Unit {0}
 
 abbrev pub AreOwn : List Task → Type 0
@@ -73,15 +71,17 @@ own-step c n p e None = of (is_full n.gate (entry_for c (n.now p) e))
     of false = (runs-on, (tt, tt))
 
 -- what a line in the node's own words asks for
-pub own-line : (n : Node) (first : List ℕ) (many : Bool) (told : Option Line) (p : ℕ) (said : scripts.Said) → many ≡ false → told ≡ Some (Of p said)
-    → said ≢ Other → NoLine (if many then ends n [] (BadLine (n.lines + 1)) else after_line n first told).stop
+pub own-line : (n : Node) (first : List ℕ) (many : Bool) (told : Option Line) (said : Line) → many ≡ false → told ≡ Some said
+    → IsOwnLine said → NoLine (if many then ends n [] (BadLine (n.lines + 1)) else after_line n first told).stop
     × AreOwn (if many then ends n [] (BadLine (n.lines + 1)) else after_line n first told).before
-own-line n first true told p said few is own = absurd cc
-own-line n first false None p said few is own = absurd cc
-own-line n first false (Some Snap) p said few is own = absurd cc
-own-line n first false (Some (Of q (Hand e))) p said few is own = (runs-on, (tt, tt))
-own-line n first false (Some (Of q (Receive most))) p said few is own = (runs-on, (tt, tt))
-own-line n first false (Some (Of q Other)) p said few is own = absurd (own cc)
+own-line n first true told said few is own = absurd cc
+own-line n first false None said few is own = absurd cc
+own-line n first false (Some Snap) said few is own = (runs-on, (tt, tt))
+own-line n first false (Some (Of q (Hand e))) said few is own = (runs-on, (tt, tt))
+own-line n first false (Some (Of q (Receive most))) said few is own = (runs-on, (tt, tt))
+own-line n first false (Some (Of q Other)) said few is own =
+    let same : Of q Other ≡ said = cc in
+    absurd (subst IsOwnLine (sym same) own refl)
 
 -- ---- the input
 
@@ -96,7 +96,7 @@ broken-not most hosted script (Some bytes) goes_on broken = of bytes goes_on.2 b
   where
     of : {room : ℕ} (bytes : List ℕ) → IsScript most hosted room bytes → outside.NoLine most (Some bytes) → ⊥
     of _ (over room) broken = absurd (omega (arith, broken.1))
-    of _ (begins room bytes first rest p said is says own more) broken =
+    of _ (begins room bytes first rest said is says own more) broken =
         let differ : (let o : Option (List ℕ × List ℕ) = None in o) ≡ Some (first, rest) = sym broken.0 ∙ is in absurd cc
 
 same-line : (a b : List ℕ × List ℕ) → Some a ≡ Some b → a ≡ b
@@ -105,10 +105,9 @@ same-line a b e = cc
 -- a line of it was taken
 pub record TookOwn (most : ℕ) (hosted : List ℕ) (count : ℕ) (left : Option (List ℕ)) (first : List ℕ) : Type 0 where
   pub room : count ≢ most_lines
-  pub process : ℕ
-  pub said : scripts.Said
-  pub says : line_said hosted first ≡ Some (Of process said)
-  pub own : said ≢ Other
+  pub said : Line
+  pub says : line_said hosted first ≡ Some said
+  pub own : IsOwnLine said
   pub script : GoesOn most hosted (count + 1) left
 
 pub took-own : (most : ℕ) (hosted : List ℕ) (script : ℕ) (left new : Option (List ℕ)) (first : List ℕ) → GoesOn most hosted script left
@@ -120,16 +119,15 @@ took-own most hosted script (Some old) (Some new) first goes_on took = of goes_o
     of : (room : ℕ) (bytes : List ℕ) → IsScript most hosted room bytes → script + room ≤ most_lines → line_within most bytes ≡ Some (first, new)
         → TookOwn most hosted script (Some new) first
     of _ _ (over room) fits took = let never : (let o : Option (List ℕ × List ℕ) = None in o) ≡ Some (first, new) = took in absurd cc
-    of _ _ (begins less bytes first' rest p said is says own more) fits took =
+    of _ _ (begins less bytes first' rest said is says own more) fits took =
         let both : (let o : Option (List ℕ × List ℕ) = Some (first', rest) in o) ≡ Some (first, new) = sym is ∙ took in
         let alike = same-line (first', rest) (first, new) both in
         let same : first' ≡ first = ap (λ (l : List ℕ × List ℕ). l.0) alike in
         let after : rest ≡ new = ap (λ (l : List ℕ × List ℕ). l.1) alike in
         record {
           room = λ e. absurd (omega (arith, fits, e));
-          process = p;
           said = said;
-          says = subst (λ (l : List ℕ). line_said hosted l ≡ Some (Of p said)) same says;
+          says = subst (λ (l : List ℕ). line_said hosted l ≡ Some said) same says;
           own = own;
           script = (less, omega (arith, fits), subst (IsScript most hosted less) after more);
         }

@@ -1,6 +1,4 @@
-use Rattle.std.proofs.Common.{[]}
 use Rattle.node_defs.specs.Lives.{fresh}
-use Rattle.node_defs.specs.Nodes.{Snapper}
 use Rattle.node_traces.specs.Seen.{link_seen, sink_seen, source_seen}
 use Rattle.node_script.specs.Words.{stop as stop_of}
 use Rattle.node_loop.proofs.Causes.{counted}
@@ -10,8 +8,8 @@ use Rattle.node_loop.proofs.Statuses.{disk-by, no-disk-by, rose-by-disk, still-b
 use Rattle.node_loop.proofs.hosting.host.Goals as goal
 
 pub returns-clause-ended : goal.returns-clause-ended
-returns-clause-ended g c = λ snap f h has.
-    let run = c.run-stop.ensures.stops snap f h has in
+returns-clause-ended g c = λ f h has.
+    let run = c.run-stop.ensures.stops f h has in
     record {
       history = run.history;
       has = run.has;
@@ -25,7 +23,6 @@ returns-clause-ended g c = λ snap f h has.
 
 pub returns-clause-steady : goal.returns-clause-steady
 returns-clause-steady g c =
-    let nobody : Snapper = λ m digest. [] in
     let why = stop_of c.run-stop.result in
     let k = source_seen g.S.Source.left g.S.Source.faults c.args.input.now in
     let l = link_seen g.L.Link.sent g.L.Link.coming g.L.Link.faults c.args.link.now in
@@ -36,14 +33,13 @@ returns-clause-steady g c =
     let left = g.S.Source.left c.run-stop.new.input in
     let faults = g.S.Source.faults c.run-stop.new.input in
     let begun = g.V.Service.begun c.args.service.now in
-    let run = c.run-stop.ensures.stops nobody fresh begun.history begun.has in
-    let counts = counted g.D.Disk.seen g.D.Disk.may_leave g.D.Disk.moment g.D.Disk.left_since nobody _ fresh k l s c.args.disk.now left faults m t
+    let run = c.run-stop.ensures.stops fresh begun.history begun.has in
+    let counts = counted g.D.Disk.seen g.D.Disk.may_leave g.D.Disk.moment g.D.Disk.left_since _ fresh k l s c.args.disk.now left faults m t
     c.run-stop.new.disk begun.history run.history why run.holds in
     ends-steady why c.tell.result k.faults faults s t u l m counts c.tell.ensures
 
 pub returns-clause-read : goal.returns-clause-read
 returns-clause-read g c =
-    let nobody : Snapper = λ m digest. [] in
     let why = stop_of c.run-stop.result in
     let k = source_seen g.S.Source.left g.S.Source.faults c.args.input.now in
     let l = link_seen g.L.Link.sent g.L.Link.coming g.L.Link.faults c.args.link.now in
@@ -54,14 +50,13 @@ returns-clause-read g c =
     let left = g.S.Source.left c.run-stop.new.input in
     let faults = g.S.Source.faults c.run-stop.new.input in
     let begun = g.V.Service.begun c.args.service.now in
-    let run = c.run-stop.ensures.stops nobody fresh begun.history begun.has in
-    let counts = counted g.D.Disk.seen g.D.Disk.may_leave g.D.Disk.moment g.D.Disk.left_since nobody _ fresh k l s c.args.disk.now left faults m t
+    let run = c.run-stop.ensures.stops fresh begun.history begun.has in
+    let counts = counted g.D.Disk.seen g.D.Disk.may_leave g.D.Disk.moment g.D.Disk.left_since _ fresh k l s c.args.disk.now left faults m t
     c.run-stop.new.disk begun.history run.history why run.holds in
     ends-read why c.tell.result k.faults faults s t u l m counts c.tell.ensures
 
 pub returns-clause-written : goal.returns-clause-written
 returns-clause-written g c =
-    let nobody : Snapper = λ m digest. [] in
     let why = stop_of c.run-stop.result in
     let k = source_seen g.S.Source.left g.S.Source.faults c.args.input.now in
     let l = link_seen g.L.Link.sent g.L.Link.coming g.L.Link.faults c.args.link.now in
@@ -72,14 +67,13 @@ returns-clause-written g c =
     let left = g.S.Source.left c.run-stop.new.input in
     let faults = g.S.Source.faults c.run-stop.new.input in
     let begun = g.V.Service.begun c.args.service.now in
-    let run = c.run-stop.ensures.stops nobody fresh begun.history begun.has in
-    let counts = counted g.D.Disk.seen g.D.Disk.may_leave g.D.Disk.moment g.D.Disk.left_since nobody _ fresh k l s c.args.disk.now left faults m t
+    let run = c.run-stop.ensures.stops fresh begun.history begun.has in
+    let counts = counted g.D.Disk.seen g.D.Disk.may_leave g.D.Disk.moment g.D.Disk.left_since _ fresh k l s c.args.disk.now left faults m t
     c.run-stop.new.disk begun.history run.history why run.holds in
     ends-written why c.tell.result k.faults faults s t u l m counts c.tell.ensures
 
 pub returns-clause-bound : goal.returns-clause-bound
 returns-clause-bound g c =
-    let nobody : Snapper = λ m digest. [] in
     let why = stop_of c.run-stop.result in
     let k = source_seen g.S.Source.left g.S.Source.faults c.args.input.now in
     let l = link_seen g.L.Link.sent g.L.Link.coming g.L.Link.faults c.args.link.now in
@@ -90,14 +84,13 @@ returns-clause-bound g c =
     let left = g.S.Source.left c.run-stop.new.input in
     let faults = g.S.Source.faults c.run-stop.new.input in
     let begun = g.V.Service.begun c.args.service.now in
-    let run = c.run-stop.ensures.stops nobody fresh begun.history begun.has in
-    let counts = counted g.D.Disk.seen g.D.Disk.may_leave g.D.Disk.moment g.D.Disk.left_since nobody _ fresh k l s c.args.disk.now left faults m t
+    let run = c.run-stop.ensures.stops fresh begun.history begun.has in
+    let counts = counted g.D.Disk.seen g.D.Disk.may_leave g.D.Disk.moment g.D.Disk.left_since _ fresh k l s c.args.disk.now left faults m t
     c.run-stop.new.disk begun.history run.history why run.holds in
     ends-bound why c.tell.result k.faults faults s t u l m counts c.tell.ensures
 
 pub returns-clause-untold : goal.returns-clause-untold
 returns-clause-untold g c =
-    let nobody : Snapper = λ m digest. [] in
     let why = stop_of c.run-stop.result in
     let k = source_seen g.S.Source.left g.S.Source.faults c.args.input.now in
     let l = link_seen g.L.Link.sent g.L.Link.coming g.L.Link.faults c.args.link.now in
@@ -108,14 +101,13 @@ returns-clause-untold g c =
     let left = g.S.Source.left c.run-stop.new.input in
     let faults = g.S.Source.faults c.run-stop.new.input in
     let begun = g.V.Service.begun c.args.service.now in
-    let run = c.run-stop.ensures.stops nobody fresh begun.history begun.has in
-    let counts = counted g.D.Disk.seen g.D.Disk.may_leave g.D.Disk.moment g.D.Disk.left_since nobody _ fresh k l s c.args.disk.now left faults m t
+    let run = c.run-stop.ensures.stops fresh begun.history begun.has in
+    let counts = counted g.D.Disk.seen g.D.Disk.may_leave g.D.Disk.moment g.D.Disk.left_since _ fresh k l s c.args.disk.now left faults m t
     c.run-stop.new.disk begun.history run.history why run.holds in
     ends-untold why c.tell.result k.faults faults s t u l m counts c.tell.ensures
 
 pub returns-clause-no_read : goal.returns-clause-no_read
 returns-clause-no_read g c =
-    let nobody : Snapper = λ m digest. [] in
     let why = stop_of c.run-stop.result in
     let k = source_seen g.S.Source.left g.S.Source.faults c.args.input.now in
     let l = link_seen g.L.Link.sent g.L.Link.coming g.L.Link.faults c.args.link.now in
@@ -126,14 +118,13 @@ returns-clause-no_read g c =
     let left = g.S.Source.left c.run-stop.new.input in
     let faults = g.S.Source.faults c.run-stop.new.input in
     let begun = g.V.Service.begun c.args.service.now in
-    let run = c.run-stop.ensures.stops nobody fresh begun.history begun.has in
-    let counts = counted g.D.Disk.seen g.D.Disk.may_leave g.D.Disk.moment g.D.Disk.left_since nobody _ fresh k l s c.args.disk.now left faults m t
+    let run = c.run-stop.ensures.stops fresh begun.history begun.has in
+    let counts = counted g.D.Disk.seen g.D.Disk.may_leave g.D.Disk.moment g.D.Disk.left_since _ fresh k l s c.args.disk.now left faults m t
     c.run-stop.new.disk begun.history run.history why run.holds in
     ends-unread why c.tell.result k.faults faults s t u l m counts c.tell.ensures
 
 pub returns-clause-completes : goal.returns-clause-completes
 returns-clause-completes g c =
-    let nobody : Snapper = λ m digest. [] in
     let why = stop_of c.run-stop.result in
     let k = source_seen g.S.Source.left g.S.Source.faults c.args.input.now in
     let l = link_seen g.L.Link.sent g.L.Link.coming g.L.Link.faults c.args.link.now in
@@ -144,12 +135,12 @@ returns-clause-completes g c =
     let left = g.S.Source.left c.run-stop.new.input in
     let faults = g.S.Source.faults c.run-stop.new.input in
     let begun = g.V.Service.begun c.args.service.now in
-    let run = c.run-stop.ensures.stops nobody fresh begun.history begun.has in
-    let counts = counted g.D.Disk.seen g.D.Disk.may_leave g.D.Disk.moment g.D.Disk.left_since nobody _ fresh k l s c.args.disk.now left faults m t
+    let run = c.run-stop.ensures.stops fresh begun.history begun.has in
+    let counts = counted g.D.Disk.seen g.D.Disk.may_leave g.D.Disk.moment g.D.Disk.left_since _ fresh k l s c.args.disk.now left faults m t
     c.run-stop.new.disk begun.history run.history why run.holds in
     λ order. ends-fine why c.tell.result k.faults faults s t u l m counts c.tell.ensures
     (g.D.Disk.faults c.args.disk.now) (g.D.Disk.faults c.run-stop.new.disk) c.run-stop.ensures.cause
-    (told-in-order g.D.Disk.seen g.D.Disk.may_leave g.D.Disk.moment g.D.Disk.left_since nobody _ fresh k l s c.args.disk.now left faults m t
+    (told-in-order g.D.Disk.seen g.D.Disk.may_leave g.D.Disk.moment g.D.Disk.left_since _ fresh k l s c.args.disk.now left faults m t
     c.run-stop.new.disk begun.history run.history why run.holds order)
 
 pub returns-clause-kept : goal.returns-clause-kept

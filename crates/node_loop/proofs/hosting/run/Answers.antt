@@ -11,13 +11,13 @@ pub read_kit-requires : goal.read_kit-requires
 read_kit-requires g c = λ i. (c.new-lines.ensures i).ahead
 
 pub returns-in-Ok-clause-stops : goal.returns-in-Ok-clause-stops
-returns-in-Ok-clause-stops g c = λ snap f h has.
+returns-in-Ok-clause-stops g c = λ f h has.
     let k : SourceSeen = source_seen g.S.Source.left g.S.Source.faults c.args.input.now in
     let found = c.in-Ok.ensures.found k (record { bytes = Consumes-nil (g.S.Source.left c.args.input.now); count = refl }) in
-    c.run_node.ensures.stops snap f k found.source h has found.holds found.seen
+    c.run_node.ensures.stops f k found.source h has found.holds found.seen
 
 pub returns-clause-stops : goal.returns-clause-stops
-returns-clause-stops g c = λ snap f h has.
+returns-clause-stops g c = λ f h has.
     let k : SourceSeen = source_seen g.S.Source.left g.S.Source.faults c.args.input.now in
     record {
       history = h;

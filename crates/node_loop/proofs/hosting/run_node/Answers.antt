@@ -1,10 +1,10 @@
 use Rattle.std.proofs.Common.{[], None, subst}
+use Rattle.std.specs.Prelude.{is_some}
 use Rattle.node_defs.specs.Nodes.{Snapper}
 use Rattle.node_traces.specs.Outside.{SourceSeen}
 use Rattle.node_traces.specs.Seen.{link_seen, sink_seen}
-use Rattle.node_script.specs.Words.{stop as stop_of}
+use Rattle.node_script.specs.Words.{StopsByDisk, cast_in, snapper, stop as stop_of}
 use Rattle.node_script.specs.Sources.{line_limit}
-use Rattle.node_script.specs.Words.{StopsByDisk}
 use Rattle.node_loop.specs.Runs.{not_opened}
 use Rattle.node_loop.proofs.Limits.{at-limit}
 use Rattle.node_loop.proofs.Joined.{whole}
@@ -19,12 +19,14 @@ run_script-requires g c =
     record { node = record { node = opened.node; tasks = []; is = opened.is } }
 
 pub returns-in-Ok-clause-stops : goal.returns-in-Ok-clause-stops
-returns-in-Ok-clause-stops g c = λ snap f k l h has kit seen.
+returns-in-Ok-clause-stops g c = λ f k l h has kit seen.
+    let told = is_some (g.D.Disk.seen c.args.disk.now) in
+    let snap = snapper told (cast_in c.in-Ok.running) in
     let most = c.most_of_line-most.result in
     let on = c.in-Ok.ensures.opens snap most c.args.go l h has in
     let opened = on.holds in
-    let ends = c.run_script.ensures.ends snap f l on.history opened.node on.has seen opened.is opened.read opened.script in
-    at-limit g.D.Disk.seen g.D.Disk.may_leave g.D.Disk.moment g.D.Disk.left_since snap f k
+    let ends = c.run_script.ensures.ends told f l on.history opened.node (λ some. opened.tells some) on.has seen opened.is opened.read opened.script in
+    at-limit g.D.Disk.seen g.D.Disk.may_leave g.D.Disk.moment g.D.Disk.left_since f k
     (link_seen g.L.Link.sent g.L.Link.coming g.L.Link.faults c.args.link.now)
     (link_seen g.L.Link.sent g.L.Link.coming g.L.Link.faults c.run_script.new.link)
     (sink_seen g.K.Sink.written g.K.Sink.faults c.args.output.now) (sink_seen g.K.Sink.written g.K.Sink.faults c.run_script.new.output)
@@ -33,7 +35,7 @@ returns-in-Ok-clause-stops g c = λ snap f k l h has kit seen.
     c.most_of_line-most.ensures c.longest.ensures (record {
       history = ends.history;
       has = ends.has;
-      holds = whole g.D.Disk.seen g.D.Disk.may_leave g.D.Disk.moment g.D.Disk.left_since c.in-Ok.running snap most f c.args.go k l
+      holds = whole g.D.Disk.seen g.D.Disk.may_leave g.D.Disk.moment g.D.Disk.left_since c.in-Ok.running most f c.args.go k l
           (link_seen g.L.Link.sent g.L.Link.coming g.L.Link.faults c.args.link.now)
           (link_seen g.L.Link.sent g.L.Link.coming g.L.Link.faults c.open.new.link)
           (link_seen g.L.Link.sent g.L.Link.coming g.L.Link.faults c.run_script.new.link)
@@ -48,9 +50,10 @@ returns-in-Ok-clause-cause g c = subst (λ k. StopsByDisk k (g.D.Disk.faults c.r
     c.in-Ok.ensures.cause c.run_script.ensures.cause
 
 pub returns-in-Err-clause-stops : goal.returns-in-Err-clause-stops
-returns-in-Err-clause-stops g c = λ snap f k l h has kit seen.
+returns-in-Err-clause-stops g c = λ f k l h has kit seen.
+    let nobody : Snapper = λ m digest. [] in
     let most = line_limit (g.V.Service.longest_line c.args.service.now) in
-    let stops = c.in-Err.ensures.stops snap most c.args.go l h has in
+    let stops = c.in-Err.ensures.stops nobody most c.args.go l h has in
     record {
       history = stops.history;
       has = stops.has;
@@ -62,6 +65,7 @@ returns-in-Err-clause-stops g c = λ snap f k l h has kit seen.
         holds = (
           seen,
           record {
+            snap = nobody;
             unopened = stops.holds;
             leaves = λ version some stands. c.open.ensures.moments version f.sure some stands;
             finds = λ version some stands. c.open.ensures.stands version f.sure some stands;

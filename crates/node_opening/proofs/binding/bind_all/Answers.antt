@@ -3,7 +3,8 @@ use Rattle.std.proofs.lemmas.Result.{err_from_is_err_and}
 use Rattle.rp_base.specs.PidsLeft.{pids_left}
 use Rattle.node_traces.specs.Seen.{link_seen}
 use Rattle.node_service.specs.Hosts.{numbers_of}
-use Rattle.node_opening.proofs.Each.{fails-at, none-done, one-done}
+use Rattle.node_service.proofs.Among.{none-done, one-done}
+use Rattle.node_opening.proofs.Each.{fails-at}
 use Rattle.node_opening.proofs.binding.bind_all.Goals as goal
 
 pub ports-init : goal.ports-init

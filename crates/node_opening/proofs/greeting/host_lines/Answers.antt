@@ -3,7 +3,8 @@ use Rattle.std.specs.Prelude.{IsTrue}
 use Rattle.byte_defs.specs.Members.{has}
 use Rattle.rp_base.specs.PidsLeft.{pids_left}
 use Rattle.node_service.specs.Hosts.{numbers_of}
-use Rattle.node_opening.proofs.Each.{all-told, is-one, lines_of, none-done, one-done, one-told}
+use Rattle.node_service.proofs.Among.{is-one, none-done, one-done}
+use Rattle.node_opening.proofs.Each.{all-told, lines_of, one-told}
 use Rattle.node_opening.proofs.greeting.host_lines.Goals as goal
 
 pub hosts-init : goal.hosts-init

@@ -4,7 +4,8 @@ use Rattle.group_defs.specs.Process.{Process}
 use Rattle.rp_base.specs.PidsLeft.{pids_left}
 use Rattle.node_defs.specs.Casts.{Cast}
 use Rattle.node_service.specs.Hosts.{AreHosts, numbers_of}
-use Rattle.node_opening.proofs.Each.{IsAmong, lines_of}
+use Rattle.node_service.proofs.Among.{IsAmong}
+use Rattle.node_opening.proofs.Each.{lines_of}
 use Rattle.node_opening.proofs.greeting.host_lines.Given as goal
 
 -- the lines so far, and those of the processes that are left

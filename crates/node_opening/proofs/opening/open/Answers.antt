@@ -1,4 +1,4 @@
-use Rattle.std.proofs.Common.{sym, subst, ◌∙◌}
+use Rattle.std.proofs.Common.{ℕ, ◌<◌, sym, subst, ◌∙◌}
 use Rattle.std.proofs.lemmas.Result.{err_from_is_err_and}
 use Rattle.journal_rp.specs.declared.journal.Journal.{Journal}
 use Rattle.journal_rp.specs.declared.journal.Writing.{Writing}
@@ -7,14 +7,16 @@ use Rattle.node_defs.specs.Lines.{DiskFailed, NoMemory}
 use Rattle.node_defs.specs.Casts.{cast_of, from_start}
 use Rattle.node_defs.specs.Nodes.{opens}
 use Rattle.node_traces.specs.Seen.{link_seen, sink_seen}
-use Rattle.node_text.specs.Views.{stop}
-use Rattle.node_opening.specs.Opened.{Unopened, opening, outside}
+use Rattle.node_service.specs.Hosts.{count_in}
+use Rattle.node_service.specs.Lines.{stop}
+use Rattle.node_opening.specs.Opened.{Unopened, opening}
+use Rattle.node_service.specs.Outside.{outside}
 use Rattle.node_opening.specs.Reading.{no_memory, node_after}
 use Rattle.node_opening.proofs.Finished.{ends-at, opened}
 use Rattle.node_opening.proofs.Lines.{to-open}
 use Rattle.node_opening.proofs.Moments.{finish-moments, finish-stands, read-moments, read-stands}
 use Rattle.node_opening.proofs.Presented.{not-finished, unopened, unread}
-use Rattle.node_opening.proofs.Stopped.{by-disk, by-no-disk}
+use Rattle.node_service.proofs.Stopped.{by-disk, by-no-disk}
 use Rattle.node_opening.proofs.opening.open.Goals as goal
 
 pub returns-in_err-readers-clause-stops : goal.returns-in_err-readers-clause-stops
@@ -110,7 +112,8 @@ returns-in-Ok-clause-opens g c = λ snap most lines source h has.
           (sink_seen g.K.Sink.written g.K.Sink.faults c.args.output.now) source h)
           (outside (link_seen g.L.Link.sent g.L.Link.coming g.L.Link.faults c.present.new.link)
           (sink_seen g.K.Sink.written g.K.Sink.faults c.present.new.output) source told.history)
-          c.in_ok-readers.readers.counts c.in-Ok.ensures.untold c.in-Ok.ensures.length c.in_ok-readers.ensures.tells v gate
+          (λ p. subst (λ (k : ℕ). count_in c.in_ok-readers.readers.counts p < k) (sym c.in-Ok.ensures.place.0) (c.in_ok-readers.ensures.few p))
+          c.in-Ok.ensures.untold c.in-Ok.ensures.length c.in_ok-readers.ensures.tells v gate
           c.in-Ok.ensures.place.1 c.in-Ok.ensures.place.0 c.in-Ok.ensures.ok
           (record { all = journal.all; holds = journal.holds; goes = told.holds });
     }

@@ -5,7 +5,7 @@ use Rattle.node_defs.specs.Nodes.{Serve, Finish}
 use Rattle.node_traces.specs.Seen.{link_seen, sink_seen}
 use Rattle.opening_laws.specs.Opening.{left_to_open}
 use Rattle.node_service.specs.Hosts.{numbers_of}
-use Rattle.node_text.specs.Views.{stop}
+use Rattle.node_service.specs.Lines.{stop}
 use Rattle.node_opening.proofs.Presented.{not-bound, not-told, presents, presents-part}
 use Rattle.node_opening.proofs.presenting.present.Goals as goal
 

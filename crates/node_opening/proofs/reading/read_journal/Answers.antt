@@ -1,7 +1,7 @@
 use Rattle.std.proofs.Common.{sym}
 use Rattle.std.proofs.lemmas.Result.{err_from_is_err_and}
 use Rattle.journal_rp.specs.Stages.{gate_of, version_of}
-use Rattle.node_text.specs.Views.{stop}
+use Rattle.node_service.specs.Lines.{stop}
 use Rattle.node_opening.specs.Reading.{no_memory}
 use Rattle.node_opening.proofs.Begun.{nothing-read}
 use Rattle.node_opening.proofs.Whole.{read-so, unread-by}

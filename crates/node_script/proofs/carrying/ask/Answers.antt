@@ -3,9 +3,9 @@ use Rattle.std.proofs.lemmas.Result.{err_from_is_err_and}
 use Rattle.journal_rp.specs.Stages.{version_of}
 use Rattle.node_defs.specs.Nodes.{Task}
 use Rattle.node_traces.specs.Seen.{link_seen, sink_seen}
-use Rattle.node_receiving.specs.Hosts.{IsNode}
-use Rattle.node_receiving.specs.Stops.{stop as stop_of}
-use Rattle.node_receiving.proofs.Handed.{has-hosts}
+use Rattle.node_snapping.specs.Hosts.{IsNode}
+use Rattle.node_snapping.specs.Stops.{stop as stop_of}
+use Rattle.node_snapping.proofs.Handed.{has-hosts}
 use Rattle.node_script.proofs.Asked.{asks-service, hands, is-text, other-so, receives}
 use Rattle.node_script.proofs.Carried.{served-on, served-to-stop}
 use Rattle.node_script.proofs.carrying.ask.Goals as goal

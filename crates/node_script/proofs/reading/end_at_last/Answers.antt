@@ -2,7 +2,7 @@ use Rattle.std.proofs.Common.{◌≡◌, ◌+◌, inl, ℕ, refl, subst, arith}
 use Rattle.node_defs.specs.Scripts.{most_lines}
 use Rattle.node_input.specs.Reads.{EndsAfter}
 use Rattle.node_input.specs.Sources.{SeenAs}
-use Rattle.node_receiving.specs.Stops.{stop as stop_of}
+use Rattle.node_snapping.specs.Stops.{stop as stop_of}
 use Rattle.node_script.proofs.reading.end_at_last.Goals as goal
 
 pub returns-in-Ok : goal.returns-in-Ok

@@ -1,15 +1,16 @@
 use Rattle.std.proofs.Common.{ℕ, subst}
 use Rattle.node_traces.specs.Seen.{link_seen, sink_seen}
-use Rattle.node_receiving.specs.Stops.{stop as stop_of}
-use Rattle.node_receiving.specs.Hosts.{cast_in}
+use Rattle.node_snapping.specs.Stops.{stop as stop_of}
+use Rattle.node_snapping.specs.Hosts.{cast_in}
 use Rattle.node_script.specs.Ends.{HasStopCause}
+use Rattle.node_snapping.specs.Snapping.{snapper}
 use Rattle.node_script.proofs.Ending.{ends-at-last, untold, untold-is}
 use Rattle.node_script.proofs.NoDisk.{ended-cause}
 use Rattle.node_script.proofs.running.run_within.Goals as goal
 
 pub returns-in-Ok-clause-ends : goal.returns-in-Ok-clause-ends
-returns-in-Ok-clause-ends g c = λ snap f k h n has seen is lines script.
-    let on = c.in-Ok.ensures.goes_on snap f k h n has seen is lines script in
+returns-in-Ok-clause-ends g c = λ told f k h n some has seen is lines script.
+    let on = c.in-Ok.ensures.goes_on told f k h n some has seen is lines script in
     let so = on.holds in
     record {
       history = on.history;
@@ -17,7 +18,7 @@ returns-in-Ok-clause-ends g c = λ snap f k h n has seen is lines script.
       holds = (
         _,
         ends-at-last g.D.Disk.seen g.D.Disk.may_leave g.D.Disk.moment g.D.Disk.left_since (λ d image left. g.D.Disk.only_now d image left)
-            snap c.args.most f _ _ _
+            (snapper told) c.args.most f _ _ _
             (cast_in c.args.running) n _
             (link_seen g.L.Link.sent g.L.Link.coming g.L.Link.faults c.each_line.new.link)
             (sink_seen g.K.Sink.written g.K.Sink.faults c.each_line.new.output) on.history c.args.disk.now c.each_line.new.disk c.in-Ok._node

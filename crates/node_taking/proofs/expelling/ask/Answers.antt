@@ -1,6 +1,6 @@
 use Rattle.std.proofs.Common.{[], ◌++◌, map, subst}
 use Rattle.node_traces.specs.Seen.{link_seen, sink_seen}
-use Rattle.node_opening.specs.Hosts.{IsNode}
+use Rattle.sealing_laws.specs.Running.{IsNode}
 use Rattle.sealing_laws.specs.Service.{note as note_of}
 use Rattle.node_taking.proofs.Expelled.{asked-of-frame, asked-of-none}
 use Rattle.node_taking.proofs.Leads.{around, leads-nowhere}

@@ -4,7 +4,7 @@ use Rattle.journal_defs.specs.Entries.{Suspect}
 use Rattle.node_defs.specs.Lines.{expel_line}
 use Rattle.node_defs.specs.Nodes.{Take}
 use Rattle.node_traces.specs.Seen.{link_seen, sink_seen}
-use Rattle.node_opening.specs.Stops.{stop as stop_of}
+use Rattle.sealing_laws.specs.Running.{stop as stop_of}
 use Rattle.node_taking.proofs.Expelled.{expel-stops, expels, says-to-stop}
 use Rattle.node_taking.proofs.Leads.{around}
 use Rattle.node_taking.proofs.expelling.expel.Goals as goal

@@ -1,8 +1,8 @@
 use Rattle.std.proofs.Common.{ℕ, ◌≤◌, [], ◌∷◌, None, Some, map, refl, sym, subst, ◌∙◌}
 use Rattle.node_defs.specs.Nodes.{Ask}
 use Rattle.node_traces.specs.Seen.{link_seen, sink_seen}
-use Rattle.node_opening.specs.Events.{event as event_of}
-use Rattle.node_opening.specs.Stops.{stop as stop_of}
+use Rattle.sealing_laws.specs.Events.{event as event_of}
+use Rattle.sealing_laws.specs.Running.{stop as stop_of}
 use Rattle.sealing_laws.specs.Service.{note as note_of}
 use Rattle.node_taking.specs.Stops.{StopsByDisk}
 use Rattle.node_taking.proofs.Expelled.{all-named, fewer-left, has-hosts, named-more, named-to-stop}

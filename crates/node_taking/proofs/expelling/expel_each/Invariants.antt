@@ -2,8 +2,8 @@ use Rattle.std.proofs.Common.{◌≡◌, ◌≤◌, length, map}
 use Rattle.std.specs.Prelude.{IsTrue}
 use Rattle.byte_defs.specs.Members.{has}
 use Rattle.node_traces.specs.Seen.{link_seen, sink_seen}
-use Rattle.node_opening.specs.Events.{event as event_of}
-use Rattle.node_opening.specs.Hosts.{numbers_of}
+use Rattle.sealing_laws.specs.Events.{event as event_of}
+use Rattle.sealing_laws.specs.Running.{numbers_of}
 use Rattle.sealing_laws.specs.Service.{note as note_of}
 use Rattle.node_taking.specs.Taking.{HasNode}
 use Rattle.node_taking.proofs.Expelled.{NamedSoFar, numbers_left}

@@ -2,7 +2,7 @@ use Rattle.std.proofs.Common.{ℕ, [], ◌∷◌, subst}
 use Rattle.std.proofs.lemmas.Result.{err_from_is_err_and}
 use Rattle.node_defs.specs.Nodes.{Take}
 use Rattle.node_traces.specs.Seen.{link_seen, sink_seen}
-use Rattle.node_opening.specs.Events.{event as event_of}
+use Rattle.sealing_laws.specs.Events.{event as event_of}
 use Rattle.node_taking.specs.Asking.{left_to_ask}
 use Rattle.node_taking.specs.Taking.{HasDiskCause}
 use Rattle.node_taking.proofs.Expelled.{goes-on-asked, refused-alone, stops-asked}

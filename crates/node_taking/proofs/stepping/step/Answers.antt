@@ -1,6 +1,6 @@
 use Rattle.std.proofs.Common.{refl, sym, ap, subst}
-use Rattle.node_opening.specs.Hosts.{is_valid, Taken, AnySigner, TakesLive}
-use Rattle.node_opening.specs.Events.{event as event_of}
+use Rattle.sealing_laws.specs.Running.{is_valid, Taken, AnySigner, TakesLive}
+use Rattle.sealing_laws.specs.Events.{event as event_of}
 use Rattle.node_defs.specs.Casts.{cast_of}
 use Rattle.node_taking.proofs.Stepped.{not-missing, taken-so}
 use Rattle.node_taking.proofs.stepping.step.Goals as goal

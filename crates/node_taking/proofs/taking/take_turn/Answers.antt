@@ -1,22 +1,22 @@
 use Rattle.std.proofs.Common.{ℕ, [], ◌∷◌, None, refl, sym, ap, subst, ◌∙◌}
 use Rattle.std.proofs.lemmas.Result.{err_from_is_err_and}
-use Rattle.node_opening.specs.Events.{event as event_of}
-use Rattle.journal_rp.specs.Stages.{version_of}
+use Rattle.sealing_laws.specs.Events.{event as event_of}
+use Rattle.journal_rp.specs.Stages.{gate_of, version_of}
 use Rattle.auth_link.specs.Keys.{known}
-use Rattle.node_opening.specs.Hosts.{AnySigner, used, Hosted, IsOutcome, fault as fault_of, IsReal, cast_in}
+use Rattle.sealing_laws.specs.Running.{AnySigner, used, Hosted, IsOutcome, fault as fault_of, IsReal, cast_in, stop as stop_of}
 use Rattle.node_defs.specs.Casts.{cast_of, outcome_of}
 use Rattle.node_defs.specs.Lines.{refused_line}
 use Rattle.node_defs.specs.Lives.{fresh}
 use Rattle.node_defs.specs.Nodes.{Node, Snapper, Take}
 use Rattle.node_traces.specs.Outside.{SourceSeen}
 use Rattle.node_traces.specs.Seen.{link_seen, sink_seen}
-use Rattle.node_opening.specs.Stops.{stop as stop_of}
 use Rattle.node_taking.specs.Stops.{StopsByDisk}
 use Rattle.node_taking.specs.declared.stepping.Fate.{Fate}
 use Rattle.node_taking.specs.Taking.{outside}
 use Rattle.node_taking.specs.Turns.{StepsTo}
 use Rattle.node_taking.specs.Keeping.{at, grown}
 use Rattle.node_taking.proofs.Away.{all-back, among, asked-so, back-so, grown-so, last-so, real-so, sealable-so, turn-of}
+use Rattle.node_taking.proofs.Counted.{counts-grown, room-to-count}
 use Rattle.node_taking.proofs.Ends.{says-stops}
 use Rattle.node_taking.proofs.Told.{tells-stops}
 use Rattle.node_taking.proofs.Whole.{refused-on, refused-stops, step-forgets, taken-on, taken-stops}
@@ -155,6 +155,12 @@ invariant_of-put_back g c =
           (sym (c.into_parts-process.ensures.process ∙ c.in_ok-journal-in-Taken.ensures.same.process)) (real-so k c.args.me _ _ steps.1.takes.0);
     }
 
+pub count-requires : goal.count-requires
+count-requires g c =
+    let was = c.requires.node.is in
+    room-to-count c.requires.node.node c.args.running.counts c.args.me (gate_of c.args.running.journal) was.counts was.journal.gate
+    c.in_ok-journal-in-Taken.ensures.room
+
 pub returns-in_ok-say_refused-in-Refused-clause-goes_on : goal.returns-in_ok-say_refused-in-Refused-clause-goes_on
 returns-in_ok-say_refused-in-Refused-clause-goes_on g c = λ snap most f source h n ts has is.
     let k = cast_in c.args.running in
@@ -168,7 +174,7 @@ returns-in_ok-say_refused-in-Refused-clause-goes_on g c = λ snap most f source 
           (λ d image left. g.D.Disk.only_now d image left) snap most f c.args.running n c.args.me e ts (fault_of c.in-Refused.fault)
           (link_seen g.L.Link.sent g.L.Link.coming g.L.Link.faults c.args.link.now)
           (sink_seen g.K.Sink.written g.K.Sink.faults c.args.output.now)
-          (sink_seen g.K.Sink.written g.K.Sink.faults c.say_refused.new.output) source h c.args.disk.now is steps.1 _ refl steps.0 is.journal
+          (sink_seen g.K.Sink.written g.K.Sink.faults c.say_refused.new.output) source h c.args.disk.now is steps.1 _ refl steps.0 is.journal is.counts
           c.in_ok-say_refused-in-Refused.ensures;
     }
 
@@ -199,5 +205,6 @@ returns-in_ok-tell-in-Taken-clause-goes_on g c = λ snap most f source h n ts ha
           (all-back k kit n c.args.me e c.step.new.hosts c.put_back.new.self _ (λ now after q. c.put_back.ensures k kit now after q) steps.0
           (among k kit n.now None c.args.running.hosts c.args.me is.hosts c.requires.hosted)
           (back-so k kit n c.args.me e c.in-Taken.away c.in_ok-journal-in-Taken.away _ steps.1 same c.into_parts-process.ensures.process refl refl))
-          keeps told.holds;
+          keeps
+          (counts-grown k n c.args.me e c.args.running.counts _ is.sound is.counts c.count.ensures) told.holds;
     }

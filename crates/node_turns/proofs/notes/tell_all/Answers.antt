@@ -1,4 +1,4 @@
-use Rattle.node_text.proofs.Written.{goes_on-more}
+use Rattle.node_service.proofs.Lines.{goes_on-more}
 use Rattle.node_turns.proofs.Sent.{on-err}
 use Rattle.node_turns.proofs.Told.{heard-all, heard-notes}
 use Rattle.node_turns.proofs.notes.tell_all.Goals as goal

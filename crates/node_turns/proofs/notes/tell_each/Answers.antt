@@ -1,6 +1,6 @@
 use Rattle.std.proofs.Common.{arith, refl}
 use Rattle.letting_laws.proofs.Joined.{let-nothing}
-use Rattle.node_text.proofs.Written.{goes_on-more, goes_on-same}
+use Rattle.node_service.proofs.Lines.{goes_on-more, goes_on-same}
 use Rattle.node_turns.proofs.Sent.{on-err}
 use Rattle.node_turns.proofs.Told.{notes-ended, notes-step, notes-stop}
 use Rattle.node_turns.proofs.notes.tell_each.Goals as goal

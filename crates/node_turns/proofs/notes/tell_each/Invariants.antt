@@ -1,6 +1,6 @@
 use Rattle.std.proofs.Common.{ℕ, List, [], take}
 use Rattle.group_defs.specs.Process.{Process}
-use Rattle.node_text.specs.Words.{GoesOn}
+use Rattle.node_service.specs.Lines.{GoesOn}
 use Rattle.node_defs.specs.Casts.{Cast}
 use Rattle.node_traces.specs.Outside.{LinkSeen}
 use Rattle.node_traces.specs.Service.{Asked, HeardBy}

@@ -1,8 +1,8 @@
 use Rattle.std.proofs.Common.{[], ◌∷◌}
 use Rattle.std.proofs.lemmas.Result.{on_err_weaker, on_ok_weaker}
 use Rattle.node_defs.specs.Lines.{note_line}
-use Rattle.node_text.specs.Told.{note}
-use Rattle.node_text.proofs.Written.{goes_on-more, goes_on-same}
+use Rattle.node_service.specs.Lines.{note}
+use Rattle.node_service.proofs.Lines.{goes_on-more, goes_on-same}
 use Rattle.node_turns.specs.Letters.{tells_of}
 use Rattle.node_turns.proofs.Sent.{on-err}
 use Rattle.node_turns.proofs.Told.{told-by, untold-by}

@@ -1,5 +1,5 @@
 use Rattle.std.proofs.Common.{◌≡◌, length, take}
-use Rattle.node_text.proofs.Written.{rewound}
+use Rattle.node_service.proofs.Lines.{rewound}
 use Rattle.node_turns.proofs.notes.tell_notes.Goals as goal
 
 pub returns-in-Err-clause-unchanged : goal.returns-in-Err-clause-unchanged

@@ -98,7 +98,7 @@ pub returns-in-Some-Chain-clause-views : goal.returns-in-Some-Chain-clause-views
 returns-in-Some-Chain-clause-views g c = λ asks read taken. answer_tells_views read
 
 pub returns-in-None-clause-ended : goal.returns-in-None-clause-ended
-returns-in-None-clause-ended g c = λ file asks snap f. absurd (no_command _ (c.in-None.ensures.only (Node file) asks))
+returns-in-None-clause-ended g c = λ file asks f. absurd (no_command _ (c.in-None.ensures.only (Node file) asks))
 
 pub returns-in-None-clause-hosts : goal.returns-in-None-clause-hosts
 returns-in-None-clause-hosts g c = λ file asks order calm calm_sink calm_disk. absurd (no_command _ (c.in-None.ensures.only (Node file) asks))
@@ -140,13 +140,13 @@ pub returns-in-Some-Guard-clause-link : goal.returns-in-Some-Guard-clause-link
 returns-in-Some-Guard-clause-link g c = λ no_host. absurd (no_host (_, inr (inl (rw c.in-Some-Guard.field-0-is at c.in-Some-Guard.ensures.found))))
 
 pub returns-in-Some-Guard-clause-ended_guard : goal.returns-in-Some-Guard-clause-ended_guard
-returns-in-Some-Guard-clause-ended_guard g c = λ file asks snap f.
+returns-in-Some-Guard-clause-ended_guard g c = λ file asks f.
     with_service AreOfGuards (λ _ h. AreGuards h) (λ _ h are. are_of_guards h are) 70000 most_line_bytes guard_limit
-    g.D.Disk.seen g.D.Disk.may_leave g.D.Disk.moment g.D.Disk.left_since snap f (source_seen g.S.Source.left g.S.Source.faults c.args.input.now)
+    g.D.Disk.seen g.D.Disk.may_leave g.D.Disk.moment g.D.Disk.left_since f (source_seen g.S.Source.left g.S.Source.faults c.args.input.now)
     (link_seen g.L.Link.sent g.L.Link.coming g.L.Link.faults c.args.link.now) (sink_seen g.K.Sink.written g.K.Sink.faults c.args.output.now)
     c.args.disk.now (g.S.Source.left c.host-in-Some-Guard.new.input) (g.S.Source.faults c.host-in-Some-Guard.new.input)
     (link_seen g.L.Link.sent g.L.Link.coming g.L.Link.faults c.host-in-Some-Guard.new.link) (sink_seen g.K.Sink.written g.K.Sink.faults c.host-in-Some-Guard.new.output)
-    c.host-in-Some-Guard.new.disk c.host-in-Some-Guard.result c.host-in-Some-Guard.new.service (c.host-in-Some-Guard.ensures.ended snap f [] tt)
+    c.host-in-Some-Guard.new.disk c.host-in-Some-Guard.result c.host-in-Some-Guard.new.service (c.host-in-Some-Guard.ensures.ended f [] tt)
 
 pub returns-in-Some-Guard-clause-hosts_guard : goal.returns-in-Some-Guard-clause-hosts_guard
 returns-in-Some-Guard-clause-hosts_guard g c = λ file asks order.
@@ -187,13 +187,13 @@ pub returns-in-Some-Serve-clause-link : goal.returns-in-Some-Serve-clause-link
 returns-in-Some-Serve-clause-link g c = λ no_host. absurd (no_host (_, inr (inr (rw c.in-Some-Serve.field-0-is at c.in-Some-Serve.ensures.found))))
 
 pub returns-in-Some-Serve-clause-ended_serve : goal.returns-in-Some-Serve-clause-ended_serve
-returns-in-Some-Serve-clause-ended_serve g c = λ file asks snap f.
+returns-in-Some-Serve-clause-ended_serve g c = λ file asks f.
     with_service ServesStore (λ v h. HasServed v h) (λ _ h are. histories_serve h are.answered) most_state_line_bytes most_state_line_bytes serve_limit
-    g.D.Disk.seen g.D.Disk.may_leave g.D.Disk.moment g.D.Disk.left_since snap f (source_seen g.S.Source.left g.S.Source.faults c.args.input.now)
+    g.D.Disk.seen g.D.Disk.may_leave g.D.Disk.moment g.D.Disk.left_since f (source_seen g.S.Source.left g.S.Source.faults c.args.input.now)
     (link_seen g.L.Link.sent g.L.Link.coming g.L.Link.faults c.args.link.now) (sink_seen g.K.Sink.written g.K.Sink.faults c.args.output.now)
     c.args.disk.now (g.S.Source.left c.host-in-Some-Serve.new.input) (g.S.Source.faults c.host-in-Some-Serve.new.input)
     (link_seen g.L.Link.sent g.L.Link.coming g.L.Link.faults c.host-in-Some-Serve.new.link) (sink_seen g.K.Sink.written g.K.Sink.faults c.host-in-Some-Serve.new.output)
-    c.host-in-Some-Serve.new.disk c.host-in-Some-Serve.result c.host-in-Some-Serve.new.service (c.host-in-Some-Serve.ensures.ended snap f []
+    c.host-in-Some-Serve.new.disk c.host-in-Some-Serve.result c.host-in-Some-Serve.new.service (c.host-in-Some-Serve.ensures.ended f []
     (record { answered = tt; servers = λ kept. tt }))
 
 pub returns-in-Some-Serve-clause-hosts_serve : goal.returns-in-Some-Serve-clause-hosts_serve
@@ -201,24 +201,24 @@ returns-in-Some-Serve-clause-hosts_serve g c = λ file asks order.
     c.host-in-Some-Serve.ensures.completes (in_order most_state_line_bytes most_state_line_bytes serve_limit (g.S.Source.left c.args.input.now) (g.D.Disk.seen c.args.disk.now) order)
 
 pub returns-in-None-clause-ended_guard : goal.returns-in-None-clause-ended_guard
-returns-in-None-clause-ended_guard g c = λ file asks snap f. absurd (no_command _ (c.in-None.ensures.only (Guard file) asks))
+returns-in-None-clause-ended_guard g c = λ file asks f. absurd (no_command _ (c.in-None.ensures.only (Guard file) asks))
 
 pub returns-in-None-clause-hosts_guard : goal.returns-in-None-clause-hosts_guard
 returns-in-None-clause-hosts_guard g c = λ file asks order calm calm_sink calm_disk. absurd (no_command _ (c.in-None.ensures.only (Guard file) asks))
 
 pub returns-in-None-clause-ended_serve : goal.returns-in-None-clause-ended_serve
-returns-in-None-clause-ended_serve g c = λ file asks snap f. absurd (no_command _ (c.in-None.ensures.only (Serve file) asks))
+returns-in-None-clause-ended_serve g c = λ file asks f. absurd (no_command _ (c.in-None.ensures.only (Serve file) asks))
 
 pub returns-in-None-clause-hosts_serve : goal.returns-in-None-clause-hosts_serve
 returns-in-None-clause-hosts_serve g c = λ file asks order calm calm_sink calm_disk. absurd (no_command _ (c.in-None.ensures.only (Serve file) asks))
 
 pub returns-in-Some-Node-clause-ended : goal.returns-in-Some-Node-clause-ended
-returns-in-Some-Node-clause-ended g c = λ file asks snap f.
-    alone g.D.Disk.seen g.D.Disk.may_leave g.D.Disk.moment g.D.Disk.left_since snap f (source_seen g.S.Source.left g.S.Source.faults c.args.input.now)
+returns-in-Some-Node-clause-ended g c = λ file asks f.
+    alone g.D.Disk.seen g.D.Disk.may_leave g.D.Disk.moment g.D.Disk.left_since f (source_seen g.S.Source.left g.S.Source.faults c.args.input.now)
     (link_seen g.L.Link.sent g.L.Link.coming g.L.Link.faults c.args.link.now) (sink_seen g.K.Sink.written g.K.Sink.faults c.args.output.now)
     c.args.disk.now (g.S.Source.left c.host.new.input) (g.S.Source.faults c.host.new.input)
     (link_seen g.L.Link.sent g.L.Link.coming g.L.Link.faults c.host.new.link) (sink_seen g.K.Sink.written g.K.Sink.faults c.host.new.output)
-    c.host.new.disk c.host.result c.host.new.service (c.host.ensures.ended snap f [] tt)
+    c.host.new.disk c.host.result c.host.new.service (c.host.ensures.ended f [] tt)
 
 pub returns-in-Some-Node-clause-hosts : goal.returns-in-Some-Node-clause-hosts
 returns-in-Some-Node-clause-hosts g c = λ file asks order.

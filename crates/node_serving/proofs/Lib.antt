@@ -1,0 +1,3 @@
+mod Served
+mod Heard
+pub mod Handed

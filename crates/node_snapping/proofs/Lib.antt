@@ -1,0 +1,5 @@
+pub mod Handed
+mod Marked
+mod Each
+mod Read
+mod Written

@@ -1,0 +1,2 @@
+-- The service of a node, in the words of the crates below, passed on.
+pub use Rattle.node_serving.specs.Service.{AreNothing, CanBeSent, HasNone, IsAbove, SaysTo, letters_in, named_by, note}
