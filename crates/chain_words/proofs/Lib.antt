@@ -1,7 +1,6 @@
-pub mod Parts
 pub mod Steps
 pub mod Taken
-pub mod Runs
 pub mod Kits
+pub mod Runs
 pub mod Statuses
 pub mod Written

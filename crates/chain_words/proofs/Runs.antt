@@ -1,103 +1,38 @@
 -- From place to place.
 use Rattle.std.proofs.Common.{◌≡◌, inl, inr, ℕ, ◌+◌, List, [], ◌++◌, Option, Result, Ok, Err, refl, sym, ap, subst, ◌∙◌, append_assoc}
 use Rattle.std.specs.Io.KnownBytes.{Appends, Consumes}
-use Rattle.std.proofs.KnownBytes.{Appends-nil, Consumes-trans}
+use Rattle.std.proofs.KnownBytes.{Appends-nil, Appends-trans, Consumes-nil, Consumes-trans}
 use Rattle.std.proofs.lemmas.List.{append-nil}
 use Rattle.kit_defs.specs.Kits.{Kit}
-use Rattle.kit_defs.specs.KitReading as kits
+use Rattle.kit_defs.specs.KitReading.{KitFault}
 use Rattle.input_defs.specs.Fronts.{Front, front_of}
-use Rattle.kit_reading.specs.Fronts.{Begins, HasFault}
+use Rattle.line_input.proofs.Places.{ends_more, leads_more, settles_more}
+use Rattle.kit_reading.specs.Fronts.{Begins}
 use Rattle.group_defs.specs.Views.{View}
 use Rattle.rp_base.specs.Streams.{AppendsPrefix}
 use Rattle.chain_text_defs.specs.Chains.{Answer, behind, chain_from, chain_of, done, kit_words, setting_of, stopped, view_line}
-use Rattle.chain_words.specs.Places.{Ends, Place, ReadsMore, Settles, Shows, answer_at, place}
-use Rattle.chain_words.specs.Running.{Answered, Faulty, SomeShown, ShownInPart, Stands}
-use Rattle.front_laws.proofs.Fronts.{fronts_go_on}
+use Rattle.chain_words.specs.Places.{Ends, Leads, Place, ReadsMore, Settles, answer_at, place}
+use Rattle.chain_words.specs.Running.{AnsweredBy, FaultyBy, ShownBy, ShownInPartBy, SomeShown, SomeShownBy, ShownInPart, Stands, StandsBy}
+use Rattle.chain_words.proofs.Kits.{answer_by, kit_leads}
 
 -- the same lines before it
-behind_both : (a b : List ℕ) (x : Answer) → behind a (behind b x) ≡ behind (a ++ b) x
+pub behind_both : (a b : List ℕ) (x : Answer) → behind a (behind b x) ≡ behind (a ++ b) x
 behind_both a b x = ap (λ (t : List ℕ). let y : Answer = record x { written = t } in y) (sym (append_assoc a b x.written))
 
 -- ---- behind a kit
 
--- the answer by what the input begins with
-abbrev answer_by : Result Front kits.KitFault → Answer
-answer_by (Err fault) = stopped (kit_words fault)
-answer_by (Ok f) = chain_from f
-
-opened : (bytes : List ℕ) → chain_of bytes ≡ answer_by (front_of bytes)
+pub opened : (bytes : List ℕ) → chain_of bytes ≡ answer_by chain_from (front_of bytes)
 unfolding chain_of
 opened bytes = of (front_of bytes)
   where
-    of : (r : Result Front kits.KitFault) → (elim r [ Err fault ↦ stopped (kit_words fault) | Ok f ↦ chain_from f ]) ≡ answer_by r
+    of : (r : Result Front KitFault) → (elim r [ Err fault ↦ stopped (kit_words fault) | Ok f ↦ chain_from f ]) ≡ answer_by chain_from r
     of (Err fault) = refl
     of (Ok f) = refl
 
 -- a kit begins the input: the line of its first view is written, and the lines behind `go` follow
 pub begun : (before now : Option (List ℕ)) (kit : Kit) (go : ℕ) (left : List ℕ) → Begins before now [] kit go left
     → Stands before now (view_line (setting_of kit).genesis) (place kit (go + 1) (setting_of kit).genesis left)
-begun before now kit go left b = record {
-  read = b.read.0;
-  taken = b.read.1;
-  is = λ rest.
-      let more = fronts_go_on b.bytes rest (record { kit = kit; line = go + 1; rest = left }) b.is in
-      ap (λ (t : List ℕ). chain_of (t ++ rest)) (sym b.read.2) ∙ opened (b.bytes ++ rest) ∙ ap answer_by more;
-}
-
--- a kit with a fault
-pub no_kit : (before now : Option (List ℕ)) (fault : kits.KitFault) → HasFault before now [] fault
-    → Settles chain_of before now (behind [] (stopped (kit_words fault)))
-no_kit before now fault h = record {
-  read = h.read.0;
-  taken = h.read.1;
-  is = elim h.is [
-    | inl each ↦ inl (λ rest. ap (λ (t : List ℕ). chain_of (t ++ rest)) (sym h.read.2) ∙ opened (h.bytes ++ rest) ∙ ap answer_by (each rest))
-    | inr over ↦ inr (over.0, ap chain_of (sym h.read.2) ∙ opened h.bytes ∙ ap answer_by over.1)
-  ];
-}
-
--- ---- one more line
-
-module _ (before mid now : Option (List ℕ)) (lines : List ℕ) (p : Place) (stands : Stands before mid lines p) where
-  further : (read rest : List ℕ) → chain_of ((stands.read ++ read) ++ rest) ≡ behind lines (answer_at p (read ++ rest))
-  further read rest = ap chain_of (append_assoc stands.read read rest) ∙ stands.is (read ++ rest)
-
-  all_taken : (read : List ℕ) → Consumes mid now read → Consumes before now (stands.read ++ read)
-  all_taken read taken = Consumes-trans before mid now stands.read read stands.taken taken
-
-  pub stands_more : (q : Place) → Shows mid now p q → Stands before now (lines ++ view_line q.view) q
-  stands_more q shows = record {
-    read = stands.read ++ shows.read;
-    taken = all_taken shows.read shows.taken;
-    is = λ rest. further shows.read rest ∙ ap (behind lines) (shows.is rest) ∙ behind_both lines (view_line q.view) (answer_at q rest);
-  }
-
-  pub settles_more : (a : Answer) → Settles (answer_at p) mid now a → Settles chain_of before now (behind lines a)
-  settles_more a s = record {
-    read = stands.read ++ s.read;
-    taken = all_taken s.read s.taken;
-    is = elim s.is [
-      | inl each ↦ inl (λ rest. further s.read rest ∙ ap (behind lines) (each rest))
-      | inr over ↦ inr (over.0, stands.is s.read ∙ ap (behind lines) over.1)
-    ];
-  }
-
-  pub ends_more : Ends (answer_at p) mid now done → Ends chain_of before now (record { written = lines; status = 0 })
-  ends_more e = record {
-    read = stands.read ++ e.read;
-    taken = all_taken e.read e.taken;
-    ended = e.ended;
-    is = stands.is e.read ∙ ap (behind lines) e.is ∙ (λ i. let a : Answer = record { written = append-nil lines i; status = 0 } in a);
-  }
-
-  -- the place is the same, with more ahead
-  pub reads_more : (read : List ℕ) → Consumes mid now read
-      → Stands before now lines (place p.kit p.number p.view (p.ahead ++ read))
-  reads_more read taken = record {
-    read = stands.read ++ read;
-    taken = all_taken read taken;
-    is = λ rest. further read rest ∙ ap (λ (t : List ℕ). behind lines (answer_at (place p.kit p.number p.view []) t)) (sym (append_assoc p.ahead read rest));
-  }
+begun before now kit go left b = kit_leads chain_of chain_from opened before now kit go left [] refl b
 
 -- ---- the first view
 
@@ -131,49 +66,126 @@ module _ (before now : Option (List ℕ)) (kit : Kit) (go : ℕ) (left ahead : L
   }
 
 -- nothing was written yet
-pub none_shown : (before now old new : Option (List ℕ)) → new ≡ old → SomeShown before now old new
-none_shown before now old new e = record {
+pub none_shown : (answer : List ℕ → Answer) (before now old new : Option (List ℕ)) → new ≡ old → SomeShownBy answer before now old new
+none_shown answer before now old new e = record {
   lines = [];
   are = inl refl;
   wrote = subst (λ (t : Option (List ℕ)). Appends old t []) (sym e) (Appends-nil old);
 }
 
--- ---- behind some lines
+-- ---- from a place on
 
-module _ (before mid now old m : Option (List ℕ)) (lines : List ℕ) (p : Place) (stands : Stands before mid lines p)
-    (wrote : Appends old m lines) where
-  written_again : (new : Option (List ℕ)) → new ≡ m → Appends old new lines
-  written_again new e = subst (λ (t : Option (List ℕ)). Appends old t lines) (sym e) wrote
+-- nothing was read behind it
+pub stands_there : (before : Option (List ℕ)) (p : Place) → StandsBy (answer_at p) before before [] p
+stands_there before p = record { read = []; taken = Consumes-nil before; is = λ rest. refl }
 
-  pub some_shown : (new : Option (List ℕ)) → ReadsMore mid now → new ≡ m → SomeShown before now old new
-  some_shown new more e = record {
-    lines = lines;
-    are = inr (place p.kit p.number p.view (p.ahead ++ more.0), reads_more before mid now lines p stands more.0 more.1);
-    wrote = written_again new e;
-  }
+-- and nothing was written
+pub shown_there : (before old : Option (List ℕ)) (p : Place) → ShownBy (answer_at p) before before old old
+shown_there before old p = record { lines = []; place = p; stands = stands_there before p; wrote = Appends-nil old }
 
-  pub next_in_part : (new : Option (List ℕ)) (q : Place) → Shows mid now p q → AppendsPrefix m new (view_line q.view)
-      → ShownInPart before now old new
-  next_in_part new q shows part = record {
-    mid = m;
-    lines = lines;
-    place = q;
-    stands = stands_more before mid now lines p stands q shows;
-    wrote = wrote;
-    part = part;
-  }
+-- More was read, and the answer goes on behind these lines as another one.
+module _ (answer then : List ℕ → Answer) (before mid now : Option (List ℕ)) (lines : List ℕ)
+    (leads : Leads answer before mid (λ rest. behind lines (then rest))) where
+  pub stands_then : (more : List ℕ) (q : Place) → StandsBy then mid now more q → StandsBy answer before now (lines ++ more) q
+  stands_then more q there =
+      let both = leads_more answer then (behind lines) before mid now leads (λ rest. behind more (answer_at q rest)) there in
+      record {
+        read = both.read;
+        taken = both.taken;
+        is = λ rest. both.is rest ∙ behind_both lines more (answer_at q rest);
+      }
 
-  pub next_faulty : (new : Option (List ℕ)) (words : List (List ℕ)) → Settles (answer_at p) mid now (stopped words) → new ≡ m
-      → Faulty words before now old new
-  next_faulty new words settles e = record {
-    lines = lines;
-    is = settles_more before mid now lines p stands (stopped words) settles;
-    wrote = written_again new e;
-  }
+  pub settles_then : (a : Answer) → Settles then mid now a → Settles answer before now (behind lines a)
+  settles_then a s = settles_more answer then (behind lines) before mid now leads a s
 
-  pub all_answered : (new : Option (List ℕ)) → Ends (answer_at p) mid now done → new ≡ m → Answered before now old new
-  all_answered new ends e = record {
-    lines = lines;
-    all = ends_more before mid now lines p stands ends;
-    wrote = written_again new e;
-  }
+  pub ends_then : (a : Answer) → Ends then mid now a → Ends answer before now (behind lines a)
+  ends_then a e = ends_more answer then (behind lines) before mid now leads a e
+
+  -- and these lines were written
+  module _ (old m : Option (List ℕ)) (wrote : Appends old m lines) (new : Option (List ℕ)) where
+    pub next_in_part : (q : Place) → StandsBy then mid now (view_line q.view) q → AppendsPrefix m new (view_line q.view)
+        → ShownInPartBy answer before now old new
+    next_in_part q shows part = record {
+      mid = m;
+      lines = lines;
+      place = q;
+      stands = stands_then (view_line q.view) q shows;
+      wrote = wrote;
+      part = part;
+    }
+
+    pub next_faulty : (words : List (List ℕ)) → Settles then mid now (stopped words) → new ≡ m → FaultyBy answer words before now old new
+    next_faulty words settles e = record {
+      lines = lines;
+      is = settles_then (stopped words) settles;
+      wrote = subst (λ (t : Option (List ℕ)). Appends old t lines) (sym e) wrote;
+    }
+
+    pub all_answered : Ends then mid now done → new ≡ m → AnsweredBy answer before now old new
+    all_answered ends e = record {
+      lines = lines;
+      all = subst (λ (t : List ℕ). let a : Answer = record { written = t; status = 0 } in Ends answer before now a) (append-nil lines)
+          (ends_then done ends);
+      wrote = subst (λ (t : Option (List ℕ)). Appends old t lines) (sym e) wrote;
+    }
+
+    -- ---- and then a run of the other answer
+
+    pub answered_then : AnsweredBy then mid now m new → AnsweredBy answer before now old new
+    answered_then a = record {
+      lines = lines ++ a.lines;
+      all = ends_then (record { written = a.lines; status = 0 }) a.all;
+      wrote = Appends-trans old m new lines a.lines wrote a.wrote;
+    }
+
+    pub shown_then : ShownBy then mid now m new → ShownBy answer before now old new
+    shown_then a = record {
+      lines = lines ++ a.lines;
+      place = a.place;
+      stands = stands_then a.lines a.place a.stands;
+      wrote = Appends-trans old m new lines a.lines wrote a.wrote;
+    }
+
+    pub in_part_then : ShownInPartBy then mid now m new → ShownInPartBy answer before now old new
+    in_part_then a = record {
+      mid = a.mid;
+      lines = lines ++ a.lines;
+      place = a.place;
+      stands = subst (λ (t : List ℕ). StandsBy answer before now t a.place) (sym (append_assoc lines a.lines (view_line a.place.view)))
+          (stands_then (a.lines ++ view_line a.place.view) a.place a.stands);
+      wrote = Appends-trans old m a.mid lines a.lines wrote a.wrote;
+      part = a.part;
+    }
+
+    pub faulty_then : (words : List (List ℕ)) → FaultyBy then words mid now m new → FaultyBy answer words before now old new
+    faulty_then words a = record {
+      lines = lines ++ a.lines;
+      is = subst (Settles answer before now) (behind_both lines a.lines (stopped words))
+          (settles_then (behind a.lines (stopped words)) a.is);
+      wrote = Appends-trans old m new lines a.lines wrote a.wrote;
+    }
+
+-- More was read behind a place, and it is the same, with more ahead.
+module _ (answer : List ℕ → Answer) (before mid now : Option (List ℕ)) (lines : List ℕ) (p : Place) (stands : StandsBy answer before mid lines p)
+  where
+    reads_more : (read : List ℕ) → Consumes mid now read → StandsBy answer before now lines (place p.kit p.number p.view (p.ahead ++ read))
+    reads_more read taken = record {
+      read = stands.read ++ read;
+      taken = Consumes-trans before mid now stands.read read stands.taken taken;
+      is = λ rest. ap answer (append_assoc stands.read read rest) ∙ stands.is (read ++ rest)
+          ∙ ap (λ (t : List ℕ). behind lines (answer_at (place p.kit p.number p.view []) t)) (sym (append_assoc p.ahead read rest));
+    }
+
+    pub next_shown : (old m : Option (List ℕ)) → Appends old m lines → (new : Option (List ℕ)) → ReadsMore mid now → new ≡ m
+        → ShownBy answer before now old new
+    next_shown old m wrote new more e = record {
+      lines = lines;
+      place = place p.kit p.number p.view (p.ahead ++ more.0);
+      stands = reads_more more.0 more.1;
+      wrote = subst (λ (t : Option (List ℕ)). Appends old t lines) (sym e) wrote;
+    }
+
+-- of what was shown up to a place something was shown
+pub some_of : (answer : List ℕ → Answer) (before now old new : Option (List ℕ)) → ShownBy answer before now old new
+    → SomeShownBy answer before now old new
+some_of answer before now old new s = record { lines = s.lines; are = inr (s.place, s.stands); wrote = s.wrote }

@@ -4,12 +4,12 @@ use Rattle.std.proofs.KnownBytes.{Appends-trans}
 use Rattle.std.proofs.lemmas.List.{append-nil}
 use Rattle.std.specs.Io.KnownBytes.{Appends}
 use Rattle.rp_base.specs.Streams.{Says}
-use Rattle.chain_text_defs.specs.Chains.{stopped, view_line}
+use Rattle.chain_text_defs.specs.Chains.{Answer, stopped, view_line}
 use Rattle.chain_words.specs.declared.stops.Fault.{Fault}
 use Rattle.chain_words.specs.declared.stops.Stop.{Stop}
 use Rattle.chain_words.specs.declared.stops.Stop.TheVariants.{NoMemory, Read, Write, Input}
 use Rattle.chain_words.specs.Stops.{line_of, status_of, words_of}
-use Rattle.chain_words.specs.Running.{Faulty, Refused, ShownInPart}
+use Rattle.chain_words.specs.Running.{FaultyBy, RefusedBy, ShownInPartBy}
 
 pub at_write : (stop : Stop) → status_of stop ≡ 4 → stop ≡ Write
 at_write NoMemory e = absurd (omega arith)
@@ -24,7 +24,7 @@ at_input Write e = absurd (omega arith)
 at_input (Input fault) e = (fault, refl)
 
 -- where nothing is said, what was written stays
-says_nothing : (a b c : Option (List ℕ)) (bytes : List ℕ) (f f' : ℕ) → Appends a b bytes → Says [] b c f f' → Appends a c bytes
+pub says_nothing : (a b c : Option (List ℕ)) (bytes : List ℕ) (f f' : ℕ) → Appends a b bytes → Says [] b c f f' → Appends a c bytes
 says_nothing a b c bytes f f' wrote (inl said) = rw (← append-nil bytes) (Appends-trans a b c bytes [] wrote said.0)
 says_nothing a b c bytes f f' wrote (inr said) = rw (← append-nil bytes)
     (Appends-trans a b c bytes [] wrote (subst (Appends b c) (take-nothing said.0.0) said.0.2))
@@ -33,9 +33,9 @@ says_nothing a b c bytes f f' wrote (inr said) = rw (← append-nil bytes)
     take-nothing zero = refl
     take-nothing (suc n) = refl
 
-pub part_stays : (stop : Stop) (before now old mid new : Option (List ℕ)) (f f' : ℕ) → stop ≡ Write → ShownInPart before now old mid
-    → Says (line_of stop) mid new f f' → ShownInPart before now old new
-part_stays stop before now old mid new f f' is p said =
+pub part_stays : (answer : List ℕ → Answer) (stop : Stop) (before now old mid new : Option (List ℕ)) (f f' : ℕ) → stop ≡ Write
+    → ShownInPartBy answer before now old mid → Says (line_of stop) mid new f f' → ShownInPartBy answer before now old new
+part_stays answer stop before now old mid new f f' is p said =
     let silent : Says [] mid new f f' = subst (λ (s : Stop). Says (line_of s) mid new f f') is said in
     record {
       mid = p.mid;
@@ -46,14 +46,14 @@ part_stays stop before now old mid new f f' is p said =
       part = (p.part.0, p.part.1, says_nothing p.mid mid new (take p.part.0 (view_line p.place.view)) f f' p.part.2 silent);
     }
 
-pub refused_so : (stop : Stop) (fault : Fault) (before now old mid new : Option (List ℕ)) (f f' f'' : ℕ) → stop ≡ Input fault
-    → Faulty (words_of fault) before now old mid → (stop ≡ Write) ⊎ (f' ≡ f) → Says (line_of stop) mid new f' f''
-    → Refused before now old new f f''
-refused_so stop fault before now old mid new f f' f'' e faulty (inl write) said = absurd (not-write (sym e ∙ write))
+pub refused_so : (answer : List ℕ → Answer) (stop : Stop) (fault : Fault) (before now old mid new : Option (List ℕ)) (f f' f'' : ℕ)
+    → stop ≡ Input fault → FaultyBy answer (words_of fault) before now old mid → (stop ≡ Write) ⊎ (f' ≡ f) → Says (line_of stop) mid new f' f''
+    → RefusedBy answer before now old new f f''
+refused_so answer stop fault before now old mid new f f' f'' e faulty (inl write) said = absurd (not-write (sym e ∙ write))
   where
     not-write : Input fault ≡ Write → ⊥
     not-write is = absurd cc
-refused_so stop fault before now old mid new f f' f'' e faulty (inr same) said = record {
+refused_so answer stop fault before now old mid new f f' f'' e faulty (inr same) said = record {
   mid = mid;
   words = words_of fault;
   faulty = faulty;

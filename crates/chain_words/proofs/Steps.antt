@@ -1,7 +1,6 @@
 -- One line of proofs, and the answer from there on.
-use Rattle.std.proofs.Common.{◌≡◌, inl, inr, ℕ, ◌+◌, ◌<◌, ◌==◌, Bool, true, false, List, [], ◌∷◌, ◌++◌, length, codes, Option, None, Some, Result, Ok, Err, refl, sym, ap, ◌∙◌, append_assoc, arith, length-append}
+use Rattle.std.proofs.Common.{◌≡◌, inl, inr, ℕ, ◌+◌, ◌<◌, ◌==◌, Bool, true, false, List, [], ◌∷◌, ◌++◌, length, Option, None, Some, Result, Ok, Err, refl, sym, ap, ◌∙◌, append_assoc, arith, length-append}
 use Rattle.std.specs.Prelude.{if◌then◌else◌}
-use Rattle.std.specs.Fmt.{decimal}
 use Rattle.std.proofs.lemmas.Bool.{eqb-true, le-leb}
 use Rattle.text_defs.specs.Words.{parts_of}
 use Rattle.kit_defs.specs.Kits.{Kit}
@@ -15,16 +14,12 @@ use Rattle.chain_text_defs.specs.Chains.{Answer, behind, chain_at, done, most_pr
 use Rattle.line_input.specs.Taking.{Answered, ReadOn, Taken}
 use Rattle.line_input.specs.declared.lines.Next.{Next}
 use Rattle.line_input.specs.declared.lines.Next.TheVariants as nexts
-use Rattle.chain_words.specs.Lines.{frame_shows, line_shows, view_or_words}
+use Rattle.chain_words.specs.Lines.{frame_shows, line_shows, no_line, view_or_words}
 use Rattle.chain_words.specs.Places.{Ends, ReadsMore, Settles, Shows, answer_at, place}
-use Rattle.chain_words.proofs.Parts.{one_part, parts_by_line, parts_some}
-
--- the words of a line that is none
-abbrev no_line : ℕ → List (List ℕ)
-no_line n = codes "line" ∷ decimal n ∷ []
+use Rattle.line_laws.proofs.Parts.{one_part, parts_by_line, parts_some}
 
 -- the answer goes on behind what a line shows
-abbrev goes_on : Setting → ℕ → List (List ℕ) → Result View (List (List ℕ)) → Answer
+abbrev pub goes_on : Setting → ℕ → List (List ℕ) → Result View (List (List ℕ)) → Answer
 goes_on s n parts (Err words) = stopped words
 goes_on s n parts (Ok w) = behind (view_line w) (chain_at s (n + 1) w parts)
 
@@ -36,7 +31,7 @@ no_proof line long = rw (le-leb (most_proof_line + 1) (length line) (omega arith
 -- ---- a line, and a further part
 
 module _ (s : Setting) (n : ℕ) (v : View) where
-  part_answered : (line next : List ℕ) (more : List (List ℕ))
+  pub part_answered : (line next : List ℕ) (more : List (List ℕ))
       → chain_at s n v (line ∷ next ∷ more) ≡ goes_on s n (next ∷ more) (line_shows s n v line)
   unfolding chain_at
   part_answered line next more = of (proof_in line)
@@ -69,10 +64,10 @@ module _ (s : Setting) (n : ℕ) (v : View) where
       ∙ part_answered line some.0 some.1
       ∙ ap (λ (ps : List (List ℕ)). goes_on s n ps (line_shows s n v line)) (sym some.2)
 
-  too_long : (line : List ℕ) → most_proof_line < length line → line_shows s n v line ≡ Err (no_line n)
+  pub too_long : (line : List ℕ) → most_proof_line < length line → line_shows s n v line ≡ Err (no_line n)
   too_long line long = ap (frame_shows s n v) (no_proof line long)
 
-  some_left : (bytes : List ℕ) → 0 < length bytes → chain_at s n v (bytes ∷ []) ≡ stopped (no_line n)
+  pub some_left : (bytes : List ℕ) → 0 < length bytes → chain_at s n v (bytes ∷ []) ≡ stopped (no_line n)
   unfolding chain_at
   some_left bytes some = of (length bytes == 0) refl
     where
@@ -89,7 +84,7 @@ module _ (s : Setting) (n : ℕ) (v : View) where
         ∙ ap (goes_on s n (parts_of found.0.1)) (too_long found.0.0 found.2)
   ]
 
-  nothing_left : chain_at s n v (parts_of []) ≡ done
+  pub nothing_left : chain_at s n v (parts_of []) ≡ done
   unfolding chain_at
   nothing_left = refl
 

@@ -1,6 +1,8 @@
--- What one proof line shows.
-use Rattle.std.specs.Prelude.{ℕ, List, [], ◌∷◌, codes, Option, Some, None, option_and_then, Result, Ok, Err}
+-- What a line shows, and what is taken of what comes next of an input.
+use Rattle.std.specs.Prelude.{ℕ, Bool, true, false, List, [], ◌∷◌, codes, Option, Some, None, option_and_then, Result, Ok, Err}
 use Rattle.std.specs.Fmt.{decimal}
+use Rattle.line_input.specs.declared.lines.Next.{Next}
+use Rattle.line_input.specs.declared.lines.Next.TheVariants as nexts
 use Rattle.group_defs.specs.Views.{View}
 use Rattle.group_defs.specs.Process.{Setting}
 use Rattle.chain_defs.specs.declared.ChainFault.{ChainFault}
@@ -29,3 +31,26 @@ frame_shows s n v (Some bytes) = view_or_words n (advance s v bytes)
 -- what a line shows
 abbrev pub line_shows : Setting → ℕ → View → List ℕ → Result View (List (List ℕ))
 line_shows s n v line = frame_shows s n v (proof_in line)
+
+-- ---- what comes next
+
+-- the words of the line of this number, which is none
+abbrev pub no_line : ℕ → List (List ℕ)
+no_line n = codes "line" ∷ decimal n ∷ []
+
+-- a view more, where there is one
+abbrev pub one_more : Result View (List (List ℕ)) → Result (Option View) (List (List ℕ))
+one_more (Ok w) = Ok (Some w)
+one_more (Err words) = Err words
+
+-- What is taken of what comes next after a view, where the next line has this number: the view that the line shows, or none where the input
+-- has ended.
+abbrev pub taken : Setting → ℕ → View → Next → List ℕ → Result (Option View) (List (List ℕ))
+taken s n v nexts.Line line = one_more (line_shows s n v line)
+taken s n v nexts.Broken line = Err (no_line n)
+taken s n v nexts.End line = Ok None
+
+-- the view, where it was taken
+abbrev pub if_taken : View → Bool → Option View
+if_taken v true = Some v
+if_taken v false = None

@@ -1,6 +1,7 @@
 -- Places of an input, and how the answer to it goes on from one, by what a source had left before and has left now.
-use Rattle.std.specs.Prelude.{◌≡◌, ◌⊎◌, ℕ, List, ◌++◌, Option}
-use Rattle.std.specs.Io.KnownBytes.{Consumes, IsAtEnd}
+use Rattle.std.specs.Prelude.{ℕ, List, ◌++◌, Option}
+use Rattle.std.specs.Io.KnownBytes.{Consumes}
+pub use Rattle.line_input.specs.Places.{Ends, Leads, Settles}
 use Rattle.text_defs.specs.Words.{parts_of}
 use Rattle.kit_defs.specs.Kits.{Kit}
 use Rattle.group_defs.specs.Views.{View}
@@ -19,25 +20,6 @@ place kit number view ahead = record { kit = kit; number = number; view = view; 
 -- the answer from there on to these further bytes
 abbrev pub answer_at : Place → List ℕ → Answer
 answer_at p more = chain_at (setting_of p.kit) p.number p.view (parts_of (p.ahead ++ more))
-
--- Bytes were read, and whatever comes after them, the answer goes on so.
-pub record Leads (answer : List ℕ → Answer) (before now : Option (List ℕ)) (goes_on : List ℕ → Answer) : Type 0 where
-  pub read : List ℕ
-  pub taken : Consumes before now read
-  pub is : (rest : List ℕ) → answer (read ++ rest) ≡ goes_on rest
-
--- Bytes were read to which this is the answer, whatever comes after them, or as the input ends with them.
-pub record Settles (answer : List ℕ → Answer) (before now : Option (List ℕ)) (a : Answer) : Type 0 where
-  pub read : List ℕ
-  pub taken : Consumes before now read
-  pub is : ((rest : List ℕ) → answer (read ++ rest) ≡ a) ⊎ (IsAtEnd now × (answer read ≡ a))
-
--- Bytes were read up to the input's end, and this is the answer to them.
-pub record Ends (answer : List ℕ → Answer) (before now : Option (List ℕ)) (a : Answer) : Type 0 where
-  pub read : List ℕ
-  pub taken : Consumes before now read
-  pub ended : IsAtEnd now
-  pub is : answer read ≡ a
 
 -- From one place bytes were read up to another one, which is behind one view more.
 abbrev pub Shows : Option (List ℕ) → Option (List ℕ) → Place → Place → Type 0

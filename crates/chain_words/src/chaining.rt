@@ -9,9 +9,9 @@ ghost use Rattle.group_defs.specs.Views.{View as PlainView};
 ghost use Rattle.chain_text_defs.specs.Chains as plain;
 ghost use Rattle.chain_text_defs.specs.Chains.{behind, done, setting_of, stopped};
 ghost use Rattle.chain_words.specs.Stops.{input_words, line_of, status_of, words_of};
-ghost use Rattle.chain_words.specs.Lines.{line_shows};
+ghost use Rattle.chain_words.specs.Lines.{if_taken, line_shows, taken};
 ghost use Rattle.chain_words.specs.Places.{Ends, ReadsMore, Settles, Shows, answer_at, place};
-ghost use Rattle.chain_words.specs.Running.{Answered, Faulty, HasStatus, Refused, ShownAndSays, ShownInPart, SomeShown, Stands};
+ghost use Rattle.chain_words.specs.Running.{Answered, AnsweredBy, Faulty, FaultyBy, HasStatus, Refused, ShownAndSays, ShownBy, ShownInPart, ShownInPartBy, SomeShown, Stands};
 
 use crate::proof_lines::{MOST_PROOF_LINE, proof_in};
 use crate::stops::{Fault, Stop};
@@ -22,8 +22,8 @@ use rp_base::{Sink, Source, write_all};
 use std::alloc::Global;
 use view_table::View;
 
-// The first view of a kit.
-fn genesis_of(kit: &Kit) -> View
+/// The first view of a kit.
+pub fn genesis_of(kit: &Kit) -> View
     requires { IsKit kit.now }
     ensures { result ≡ (setting_of kit.now).genesis }
 {
@@ -33,8 +33,12 @@ fn genesis_of(kit: &Kit) -> View
     view
 }
 
-// Writes the line of a view.
-fn write_view<K: Sink>(alloc: Global, view: &View, output: &mut K) -> Result<(), Stop>
+/// Writes the line of a view.
+///
+/// # Errors
+/// `Write` where the sink failed, and then a prefix of the line may be written; `NoMemory` where there is no room for the line, and then nothing
+/// is.
+pub fn write_view<K: Sink>(alloc: Global, view: &View, output: &mut K) -> Result<(), Stop>
     ensures wrote { OnOk result (Appends (K.written output.old) (K.written output.new) (plain.view_line view.now)) }
     ensures steady { OnOk result (K.faults output.new ≡ K.faults output.old) }
     ensures part { IsErrOf result Stop.Write → AppendsPrefix (K.written output.old) (K.written output.new) (plain.view_line view.now) }
@@ -70,6 +74,43 @@ fn shown_by(
     }
 }
 
+/// Takes what comes next of an input, where the next line has this number and is given without its line feed, and writes the line of the view
+/// that it shows. Answers whether there was a line; if not, nothing is written.
+///
+/// # Errors
+/// `Input` with the fault of the line, or of the input's end in it; `Write` where the sink failed; `NoMemory`, but only at a line.
+pub fn take<K: Sink>(
+    alloc: Global,
+    kit: &Kit,
+    chain: &mut Chain,
+    number: usize,
+    next: Next,
+    line: &[u8],
+    output: &mut K,
+) -> Result<bool, Stop>
+    ensures shown { Makes input_words (λ more. if_taken chain.new more) result (taken (setting_of kit.now) number chain.old next line.now) }
+    ensures wrote { result ≡ Ok true → Appends (K.written output.old) (K.written output.new) (plain.view_line chain.new) }
+    ensures silent { result ≡ Ok false → output.new ≡ output.old }
+    ensures steady { OnOk result (K.faults output.new ≡ K.faults output.old) }
+    ensures failed { IsErrOf result Stop.Write → Rose (K.faults output.old) (K.faults output.new) }
+    ensures last { IsErrOf result Stop.Write → taken (setting_of kit.now) number chain.old next line.now ≡ Ok (Some chain.new) }
+    ensures part { IsErrOf result Stop.Write
+        → AppendsPrefix (K.written output.old) (K.written output.new) (plain.view_line chain.new) }
+    ensures untouched { IfErr result (λ stop. (stop ≡ Stop.Write) ⊎ (output.new ≡ output.old)) }
+    ensures no_room { IsErrOf result Stop.NoMemory → next ≡ Next.Line }
+    ensures no_read { ¬ IsErrOf result Stop.Read }
+{
+    match next {
+        Next::End => Ok(false),
+        Next::Broken => Err(Stop::Input(Fault::Line(number))),
+        Next::Line => {
+            let view = shown_by(alloc, kit, chain, number, line)?;
+            write_view(alloc, &view, output)?;
+            Ok(true)
+        }
+    }
+}
+
 // Takes the next line, which has this number, and writes the view that it shows. Answers whether there was a line: at the input's end
 // nothing is written.
 fn step<S: Source, K: Sink>(
@@ -101,23 +142,59 @@ fn step<S: Source, K: Sink>(
     ensures untouched { IfErr result (λ stop. (stop ≡ Stop.Write) ⊎ (output.new ≡ output.old)) }
     ensures whole { IfErr result (λ stop. (stop ≡ Stop.Read) ⊎ (S.faults input.new ≡ S.faults input.old)) }
 {
-    match lines.read(input, MOST_PROOF_LINE)? {
-        Next::End => Ok(false),
-        Next::Broken => Err(Stop::Input(Fault::Line(number))),
-        Next::Line => {
-            let view = shown_by(alloc, kit, chain, number, lines.line())?;
-            write_view(alloc, &view, output)?;
-            Ok(true)
-        }
-    }
+    let next = lines.read(input, MOST_PROOF_LINE)?;
+    take(alloc, kit, chain, number, next, lines.line(), output)
 }
 
-// The number of the line behind the line of this number.
-fn number_behind(line: usize) -> Result<usize, Stop>
+/// The number of the line after the line of this number.
+///
+/// # Errors
+/// `NoMemory` where it does not fit into 64 bits: no input has so many lines.
+pub fn number_behind(line: usize) -> Result<usize, Stop>
     ensures next { IfOk result (λ n. n ≡ line + 1) }
     ensures only { IfErr result (λ stop. stop ≡ Stop.NoMemory) }
 {
     line.checked_add(1).ok_or(Stop::NoMemory)
+}
+
+/// Answers an input from a place in a chain on to its end: the chain has the view that was shown last, and the lines come that follow the one of
+/// this number. Each is to be a proof, and the line of the view that it shows is written.
+///
+/// # Errors
+/// `Read` only where a read failed, `Write` only where a write did; `Input` with the fault of the first line that shows no view; `NoMemory`. The
+/// lines before were written.
+pub fn answer_rest<S: Source, K: Sink>(
+    alloc: Global,
+    kit: &Kit,
+    chain: Chain,
+    last: usize,
+    lines: &mut Lines,
+    input: &mut S,
+    output: &mut K,
+) -> Result<(), Stop>
+    ensures done { OnOk result (AnsweredBy (answer_at (place kit.now (last + 1) chain lines.old.ahead))
+        (S.left input.old) (S.left input.new) (K.written output.old) (K.written output.new)) }
+    ensures steady { OnOk result ((S.faults input.new ≡ S.faults input.old) × (K.faults output.new ≡ K.faults output.old)) }
+    ensures read { IsErrOf result Stop.Read → Rose (S.faults input.old) (S.faults input.new) }
+    ensures failed { IsErrOf result Stop.Write → Rose (K.faults output.old) (K.faults output.new) }
+    ensures part { IsErrOf result Stop.Write → ShownInPartBy (answer_at (place kit.now (last + 1) chain lines.old.ahead))
+        (S.left input.old) (S.left input.new) (K.written output.old) (K.written output.new) }
+    ensures some { IfErr result (λ stop. (stop ≡ Stop.Write) ⊎ ShownBy (answer_at (place kit.now (last + 1) chain lines.old.ahead))
+        (S.left input.old) (S.left input.new) (K.written output.old) (K.written output.new)) }
+    ensures calm { IfErr result (λ stop. (stop ≡ Stop.Write) ⊎ (K.faults output.new ≡ K.faults output.old)) }
+    ensures refused { (fault : Fault) → IsErrOf result (Stop.Input fault)
+        → FaultyBy (answer_at (place kit.now (last + 1) chain lines.old.ahead)) (words_of fault)
+        (S.left input.old) (S.left input.new) (K.written output.old) (K.written output.new) }
+    ensures whole { IfErr result (λ stop. (stop ≡ Stop.Read) ⊎ (S.faults input.new ≡ S.faults input.old)) }
+{
+    let mut chain = chain;
+    let first = number_behind(last)?;
+    'proofs: for number in first..usize::MAX {
+        if !step(alloc, kit, &mut chain, number, lines, input, output)? {
+            return Ok(());
+        }
+    }
+    Err(Stop::NoMemory)
 }
 
 // Answers an input up to its end, and writes the line of each view.
@@ -143,21 +220,15 @@ fn answer_input<S: Source, K: Sink>(
     let front = read_front(alloc, &mut lines, input)?;
     let genesis = genesis_of(&front.kit);
     write_view(alloc, &genesis, output)?;
-    let first = number_behind(front.go)?;
-    let mut chain = Chain::new(genesis);
-    'proofs: for number in first..usize::MAX {
-        if !step(
-            alloc, &front.kit, &mut chain, number, &mut lines, input, output,
-        )? {
-            return Ok(());
-        }
-    }
-    Err(Stop::NoMemory)
+    let chain = Chain::new(genesis);
+    answer_rest(
+        alloc, &front.kit, chain, front.go, &mut lines, input, output,
+    )
 }
 
-// Writes the line that says why a run stops, and answers its status, or 1 where there is no memory for the line. A fault meanwhile leaves
-// the status as it is.
-fn tell<K: Sink>(alloc: Global, output: &mut K, stop: Stop) -> u8
+/// Writes the line that says why a run stops, and answers its status, or 1 where there is no memory for the line. A fault meanwhile leaves
+/// the status as it is.
+pub fn tell<K: Sink>(alloc: Global, output: &mut K, stop: Stop) -> u8
     ensures silent { result ≡ 1 → Keeps (K.written output.old) (K.written output.new) }
     ensures status { result ≢ 1 → result ≡ status_of stop }
     ensures write { stop ≡ Stop.Write → result ≡ 4 }

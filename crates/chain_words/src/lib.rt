@@ -6,5 +6,9 @@ mod proof_lines;
 mod stops;
 mod view_lines;
 
-pub use chaining::chain;
+pub use chain_check::Chain;
+pub use chaining::{answer_rest, chain, genesis_of, number_behind, take, tell, write_view};
+pub use kit_reading::{Kit, Lines, Next, read_front};
+pub use proof_lines::MOST_PROOF_LINE;
 pub use rp_base::{Sink, Source};
+pub use stops::{Fault, Stop};

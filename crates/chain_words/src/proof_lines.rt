@@ -12,7 +12,7 @@ use std::alloc::Global;
 use text_codec::Parts as Words;
 
 /// The most bytes of a line: those of a line with a frame of 61,000 bytes.
-pub(crate) const MOST_PROOF_LINE: usize = 122_006;
+pub const MOST_PROOF_LINE: usize = 122_006;
 
 fn has_upper_case(word: &[u8]) -> bool
     ensures { result ≡ list_any is_upper_case word.now }

@@ -15,7 +15,7 @@ use text_codec::push_number;
 
 /// What of the input stops a chain. Lines are counted from 1, over the whole input.
 #[derive(Clone, Copy)]
-pub(crate) enum Fault {
+pub enum Fault {
     /// The line is none of a kit, or is no proof line, or the input ends in it or before the line `go`.
     Line(usize),
 
@@ -34,7 +34,7 @@ pub(crate) enum Fault {
 
 /// Why a chain stops before the input's end.
 #[derive(Clone, Copy)]
-pub(crate) enum Stop {
+pub enum Stop {
     /// No memory is left.
     NoMemory,
 

@@ -37,6 +37,15 @@ fn input_of(alloc: Global, more: &[&[u8]]) -> Result<Vec<u8>, AllocError> {
     Ok(text)
 }
 
+// What the word `chain` of the program `witness` writes of the kit and these lines, and its status. Reads and writes with these numbers fail.
+fn begun(alloc: Global, more: &[&[u8]], failing: [&[u64]; 2]) -> Result<(MemSink, u8), AllocError> {
+    let [reads, writes] = failing;
+    let mut source = MemSource::new(input_of(alloc, more)?, reads.to_vec(alloc)?);
+    let mut sink = MemSink::new(alloc, writes.to_vec(alloc)?);
+    let ended = witness_chain::chain(alloc, &mut source, &mut sink);
+    Ok((sink, ended))
+}
+
 // Ends the test where the answer to the kit and these lines is another, or its status. Reads and writes with these numbers fail.
 fn assert_answered(
     rt: &impl Abort,
@@ -87,4 +96,51 @@ fn a_stream_that_fails_ends_the_chain(rt: HostRuntime) -> Result<(), Fail> {
     let alloc = rt.alloc();
     assert_answered(&rt, alloc, &[PROOF], [&[], &[1]], b"view 0 : 0\n", 4)?;
     assert_answered(&rt, alloc, &[PROOF], [&[0], &[]], b"stop 3 read\n", 3)
+}
+
+const NO_PROOF: &[u8] = b"view 0 : 0\nstop 7 line 14\n";
+
+/// What follows the kit, and the answer to both where a chain may begin at the line of a view.
+const BEGUN: [(&[&[u8]], &[u8], u8); 9] = [
+    (&[], b"view 0 : 0\n", 0),
+    (&[PROOF], b"view 0 : 0\nview 1 : 0 1\n", 0),
+    (&[b"view 0 : 0\n", PROOF], b"view 0 : 0\nview 1 : 0 1\n", 0),
+    (&[b"view 1 : 1 0\n"], b"view 1 : 1 0\n", 0),
+    (
+        &[b"view 7 : 1 0\n", PROOF],
+        b"view 7 : 1 0\nstop 7 few 15 0\n",
+        7,
+    ),
+    (&[b"view 1 : 0 2\n", PROOF], NO_PROOF, 7),
+    (&[b"view 1024 : 0\n"], NO_PROOF, 7),
+    (&[b"view 0 : 0"], NO_PROOF, 7),
+    (
+        &[PROOF, b"view 1 : 0 1\n"],
+        b"view 0 : 0\nview 1 : 0 1\nstop 7 line 15\n",
+        7,
+    ),
+];
+
+#[test]
+fn a_chain_begins_at_the_line_of_a_view(rt: HostRuntime) -> Result<(), Fail> {
+    for (more, wanted, status) in BEGUN {
+        let (sink, ended) = begun(rt.alloc(), more, NONE)?;
+        assert!(rt; sink.bytes() == wanted && ended == status);
+    }
+    Ok(())
+}
+
+#[test]
+fn a_stream_that_fails_ends_a_chain_from_a_view(rt: HostRuntime) -> Result<(), Fail> {
+    let view = b"view 1 : 0 1\n".as_slice();
+    for (more, failing, wanted, status) in [
+        ([view].as_slice(), [[].as_slice(), &[0]], b"".as_slice(), 4),
+        (&[], [&[], &[0]], b"", 4),
+        (&[PROOF], [&[], &[1]], b"view 0 : 0\n", 4),
+        (&[view], [&[0], &[]], b"stop 3 read\n", 3),
+    ] {
+        let (sink, ended) = begun(rt.alloc(), more, failing)?;
+        assert!(rt; sink.bytes() == wanted && ended == status);
+    }
+    Ok(())
 }

@@ -36,4 +36,4 @@ two_views_travel = record { written = refl; shown = refl; large = refl }
 
 pub starts_are_read : StartsAreRead
 unfolding opened
-starts_are_read = record { begun = refl; refused = refl; none = refl }
+starts_are_read = record { whole = refl; begun = refl; refused = refl; none = refl; late = refl; turned = refl; sixteen = refl; seventeen = refl }

@@ -1,13 +1,13 @@
 -- Rows of proofs from a journal. A signature is valid where it has no byte.
-use Rattle.std.specs.Prelude.{◌≡◌, ℕ, ◌==◌, List, [], ◌∷◌, ◌++◌, length, map, codes, Option, None}
+use Rattle.std.specs.Prelude.{◌≡◌, ℕ, ◌==◌, List, [], ◌∷◌, ◌++◌, length, map, codes, Some, None}
+use Rattle.std.specs.List.{range_with_len}
 use Rattle.text_defs.specs.Words.{parts_of}
 use Rattle.message_defs.specs.Updates.{Renew, Value}
-use Rattle.message_defs.specs.Statements.{Ack, Claim, End, Ready, Statement}
+use Rattle.message_defs.specs.Statements.{Ack, End, Ready, Statement}
 use Rattle.message_defs.specs.Claims.{Claims}
-use Rattle.group_defs.specs.Views.{View}
-use Rattle.group_defs.specs.Process.{Left, Process, Setting, all_kinds, start, views_of}
+use Rattle.group_defs.specs.Process.{Process, Setting, all_kinds, start}
 use Rattle.group_defs.specs.Events.{Event, Hand, Join, RenewView, Tick, Turn, run}
-use Rattle.chain_text_defs.specs.Chains.{Answer, chain_at}
+use Rattle.chain_text_defs.specs.Chains.{chain_at}
 use Rattle.proof_defs.specs.Lines.{lines_of, proof_line}
 use Rattle.proof_defs.specs.Starts.{start_in, started_at}
 
@@ -62,12 +62,29 @@ no_starts =
     -- a member without a key, one that is named twice, none, and a number beyond the last
     codes "view 1 : 0 2" ∷ codes "view 1 : 0 0" ∷ codes "view 1 :" ∷ codes "view 1024 : 0"
     -- no number of a view, another word, a further blank
-    ∷ codes "view 01 : 0" ∷ codes "views 1 : 0" ∷ codes "view 1 : 0 " ∷ []
+    ∷ codes "view 01 : 0" ∷ codes "views 1 : 0" ∷ codes "view 1 : 0 "
+    -- 2^64 + 1, and a process with a number of two bytes
+    ∷ codes "view 18446744073709551617 : 0" ∷ codes "view 1 : 256" ∷ []
+
+-- seventeen processes with keys
+abbrev pub many : Setting
+many = record alone { roster = map (λ p. (p, [])) (range_with_len 0 17) }
 
 pub record StartsAreRead : Type 0 where
+  -- without such a line a chain begins with the first view
+  pub whole : started_at alone 9 (parts_of (first_line ++ second_line))
+      ≡ record { written = codes "view 0 : 0\nview 1 : 0 1\nview 2 : 0 1\n"; status = 0 }
   -- the second line shows the view after the one that is told first
   pub begun : started_at alone 9 (parts_of (codes "view 1 : 0 1\n" ++ second_line))
       ≡ record { written = codes "view 1 : 0 1\nview 2 : 0 1\n"; status = 0 }
   pub refused : started_at alone 9 (parts_of (codes "view 1 : 0 2\n" ++ second_line))
       ≡ record { written = codes "view 0 : 0\nstop 7 line 9\n"; status = 7 }
   pub none : map (start_in alone) no_starts ≡ map (λ line. None) no_starts
+  -- the line of a view after a proof
+  pub late : started_at alone 9 (parts_of (first_line ++ codes "view 1 : 0 1\n"))
+      ≡ record { written = codes "view 0 : 0\nview 1 : 0 1\nstop 7 line 10\n"; status = 7 }
+  -- members in another order, as many as there may be, and one more
+  pub turned : start_in alone (codes "view 1023 : 1 0") ≡ Some (record { number = 1023; members = 1 ∷ 0 ∷ [] })
+  pub sixteen : start_in many (codes "view 2 : 0 1 2 3 4 5 6 7 8 9 10 11 12 13 14 16")
+      ≡ Some (record { number = 2; members = range_with_len 0 15 ++ 16 ∷ [] })
+  pub seventeen : start_in many (codes "view 2 : 0 1 2 3 4 5 6 7 8 9 10 11 12 13 14 15 16") ≡ None

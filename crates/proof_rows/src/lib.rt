@@ -8,7 +8,8 @@ pub fn two_views_travel()
     ensures { TwoViewsTravel }
 {}
 
-/// A chain begins at the view of a line, and not where a member has no key, is named twice or is none, or the number is too great.
+/// A chain begins at the view of a line, with its members in any order, and not where a member has no key, is named twice or is none, there are
+/// seventeen, or the number is too great; and the line is none after a proof.
 pub fn starts_are_read()
     ensures { StartsAreRead }
 {}

@@ -1,6 +1,4 @@
-mod Parts
-mod LinesRead
-mod Members
+mod LineFaults
 mod Keys
 mod Questions
 mod Told

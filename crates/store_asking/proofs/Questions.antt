@@ -18,8 +18,8 @@ use Rattle.line_input.specs.declared.lines.Next.{Next}
 use Rattle.line_input.specs.declared.lines.Next.TheVariants as nexts
 use Rattle.store_asking.specs.Lines.{PlainSaid, Key, Of, said_by, with_key}
 use Rattle.store_asking.specs.Places.{KeyPlace, key_place, question_at, question_behind, replies_at, with_replies}
-use Rattle.store_asking.proofs.Parts.{parts_some}
-use Rattle.store_asking.proofs.LinesRead.{input_ends, is_short, line_leads, no_line_settles, read_more}
+use Rattle.line_laws.proofs.Parts.{parts_some}
+use Rattle.line_laws.proofs.Read.{input_ends, is_short, line_leads, no_line_settles, read_more}
 
 -- ---- the words of a line
 

@@ -17,9 +17,9 @@ use Rattle.line_input.specs.declared.lines.Next.{Next}
 use Rattle.line_input.specs.declared.lines.Next.TheVariants as nexts
 use Rattle.store_asking.specs.Lines.{line_voted, reply_in, told_by, vote_with, voted}
 use Rattle.store_asking.specs.Places.{vote_at, vote_by, vote_place}
-use Rattle.store_asking.proofs.Parts.{parts_some}
+use Rattle.line_laws.proofs.Parts.{parts_some}
 use Rattle.store_asking.proofs.Told.{reply_is_told, reply_told}
-use Rattle.store_asking.proofs.LinesRead.{input_ends, is_short, line_leads, no_line_settles}
+use Rattle.line_laws.proofs.Read.{input_ends, is_short, line_leads, no_line_settles}
 use Rattle.store_asking.proofs.Questions.{long_words, short_words}
 
 abbrev Words : Type 0

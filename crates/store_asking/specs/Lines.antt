@@ -63,10 +63,6 @@ abbrev pub IsAbove : List ℕ → PlainSaid → Type 0
 IsAbove told (Key process key) = are_below told process ≡ true
 IsAbove told (Of view) = Unit {0}
 
--- the members that the words name: 1 to 16 different processes
-abbrev pub members_within : List (List ℕ) → Option (List ℕ)
-members_within words = if nat_le 1 (length words) && nat_le (length words) most_members then members_by [] words else None
-
 -- the only word, where there is just one
 abbrev pub only_word : List (List ℕ) → Option (List ℕ)
 only_word (word ∷ []) = Some word

@@ -8,7 +8,6 @@ mod question;
 mod replies;
 mod said;
 mod stops;
-mod views;
 mod words;
 
 pub use asking::ask;

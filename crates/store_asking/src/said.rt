@@ -7,13 +7,13 @@ ghost use Rattle.sig_scheme.specs.Views.{scheme as scheme_in};
 ghost use Rattle.store_defs.specs.Asking as plain;
 ghost use Rattle.store_asking.specs.Lines.{IsAbove, IsNext, are_below, key_above, said, said_by, with_key};
 
-use crate::views::view_by;
 use crate::words::last_word;
 use rp_base::{Pid, PidSet, Roster};
 use sig_scheme::{AnyScheme, PublicKey};
 use store_words::{key_in, listed_process};
 use text_codec::Parts as Words;
 use view_table::View;
+use view_words::view_by;
 
 /// What a line says that stands before the replies.
 #[derive(Drop)]

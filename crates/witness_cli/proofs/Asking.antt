@@ -1,18 +1,18 @@
 -- A command is read of the words that spell it, and of no others.
 use Rattle.std.proofs.Common.{◌≡◌, ◌≤◌, ℕ, Bool, true, false, ◌==◌, List, [], ◌∷◌, length, map, codes, Option, Some, None, IfSome, option_map, refl, sym, ap, subst, ◌∙◌, arith}
-use Rattle.std.specs.Prelude.{if◌then◌else◌, ◌&&◌}
+use Rattle.std.specs.Prelude.{if◌then◌else◌}
 use Rattle.std.specs.Fmt.{decimal}
 use Rattle.std.proofs.lemmas.Bool.{eqb-true}
 use Rattle.byte_defs.specs.Equality.{same_bytes}
 use Rattle.text_defs.proofs.Choosing.{if_some, map_some, some_is}
 use Rattle.text_defs.proofs.Numbers.{number_within_found, number_within_spelled}
-use Rattle.text_defs.proofs.Tests.{and_true, word_is}
+use Rattle.text_defs.proofs.Tests.{word_is}
 use Rattle.command_line.specs.Commands.{AreListed, Audit}
 use Rattle.command_line.specs.Laws.{CommandIsSpelled}
 use Rattle.command_line.specs.Reading.{listed_of}
 use Rattle.witness_cli.specs.declared.commands.Command as code
 use Rattle.witness_cli.specs.declared.commands.Command.TheVariants as asked
-use Rattle.witness_cli.specs.Commands.{AsksBy, Command, Convict, Judge, Proofs, command, command_of, one_process}
+use Rattle.witness_cli.specs.Commands.{AsksBy, Chain, Command, Convict, Judge, Proofs, alone_of, command, command_of, one_process}
 
 module _ (law : CommandIsSpelled) where
   -- the processes of an audit are read of the words that spell them, and of no others
@@ -44,31 +44,43 @@ module _ (law : CommandIsSpelled) where
       (ap (λ (w : List ℕ). w ∷ []) is.0, is.2)
   process-found (word ∷ next ∷ words) p e = absurd cc
 
+  alone-found : (word : List ℕ) (further : List (List ℕ)) (c : Command) → further ≡ [] → alone_of word ≡ Some c → AsksBy (word ∷ further) c
+  alone-found word further c none e = judges (same_bytes word (codes "judge")) refl e
+    where
+      chains : (is : Bool) → same_bytes word (codes "chain") ≡ is → (if is then Some Chain else None) ≡ Some c → AsksBy (word ∷ further) c
+      chains true is e = subst (AsksBy (word ∷ further)) (some_is Chain c e)
+          (record { fits = tt; spelled = λ i. word_is word (codes "chain") is i ∷ none i })
+      chains false is e = absurd cc
+
+      judges : (is : Bool) → same_bytes word (codes "judge") ≡ is
+          → (if is then Some Judge else (if same_bytes word (codes "chain") then Some Chain else None)) ≡ Some c → AsksBy (word ∷ further) c
+      judges true is e = subst (AsksBy (word ∷ further)) (some_is Judge c e)
+          (record { fits = tt; spelled = λ i. word_is word (codes "judge") is i ∷ none i })
+      judges false is e = chains (same_bytes word (codes "chain")) refl e
+
   found : (words : List (List ℕ)) (c : Command) → command_of words ≡ Some c → AsksBy words c
   found [] c e = absurd cc
   found (word ∷ further) c e = of (same_bytes word (codes "convict")) refl e
     where
-      judges : (if same_bytes word (codes "judge") && (length further == 0) then Some Judge else None) ≡ Some c → AsksBy (word ∷ further) c
-      judges e =
-          let tested = if_some (same_bytes word (codes "judge") && (length further == 0)) (Some Judge) c e in
-          let both = and_true (same_bytes word (codes "judge")) (length further == 0) tested.0 in
-          let none = empty-is further (eqb-true (length further) 0 both.1) in
-          subst (AsksBy (word ∷ further)) (some_is Judge c tested.1)
-          (record { fits = tt; spelled = λ i. word_is word (codes "judge") both.0 i ∷ none i })
+      by-alone : Option Command
+      by-alone = if length further == 0 then alone_of word else None
+
+      alones : by-alone ≡ Some c → AsksBy (word ∷ further) c
+      alones e =
+          let tested = if_some (length further == 0) (alone_of word) c e in
+          alone-found word further c (empty-is further (eqb-true (length further) 0 tested.0)) tested.1
 
       proves : (is : Bool) → same_bytes word (codes "proofs") ≡ is
-          → (if is then option_map Proofs (one_process further) else
-          (if same_bytes word (codes "judge") && (length further == 0) then Some Judge else None)) ≡ Some c → AsksBy (word ∷ further) c
+          → (if is then option_map Proofs (one_process further) else by-alone) ≡ Some c → AsksBy (word ∷ further) c
       proves true is e =
           let read = map_some Proofs (one_process further) c e in
           let one = process-found further read.0 read.1 in
           subst (AsksBy (word ∷ further)) read.2
           (record { fits = one.1; spelled = λ i. word_is word (codes "proofs") is i ∷ one.0 i })
-      proves false is e = judges e
+      proves false is e = alones e
 
       others : Option Command
-      others = if same_bytes word (codes "proofs") then option_map Proofs (one_process further) else
-          (if same_bytes word (codes "judge") && (length further == 0) then Some Judge else None)
+      others = if same_bytes word (codes "proofs") then option_map Proofs (one_process further) else by-alone
 
       of : (is : Bool) → same_bytes word (codes "convict") ≡ is
           → (if is then option_map Convict (listed_of further) else
@@ -85,6 +97,7 @@ module _ (law : CommandIsSpelled) where
   spelled (Proofs p) words asks = ap command_of asks.spelled
       ∙ ap (option_map Proofs) (number_within_spelled 0 63 p (omega arith) asks.fits (let few = asks.fits in omega (arith, few)))
   spelled Judge words asks = ap command_of asks.spelled
+  spelled Chain words asks = ap command_of asks.spelled
 
   -- ---- what a reader promises
 

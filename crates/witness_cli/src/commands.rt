@@ -18,6 +18,9 @@ pub(crate) enum Command {
 
     /// A verdict on evidence.
     Judge,
+
+    /// The views that proofs show, from any view on.
+    Chain,
 }
 
 // The process of a word, where it is the only one.
@@ -31,6 +34,19 @@ fn one_process(words: &[String]) -> Option<Pid>
     }
 }
 
+// The command of a word that has none behind it.
+fn alone(word: &[u8]) -> Option<Command>
+    ensures { option_map command result ≡ plain.alone_of word.now }
+{
+    if word == b"judge".as_slice() {
+        Some(Command::Judge)
+    } else if word == b"chain".as_slice() {
+        Some(Command::Chain)
+    } else {
+        None
+    }
+}
+
 fn of_words(words: &[String]) -> Option<Command>
     ensures { option_map command result ≡ command_by (map string_bytes words.now) }
 {
@@ -41,8 +57,8 @@ fn of_words(words: &[String]) -> Option<Command>
         Some(Command::Convict(read_listed(further)?))
     } else if word.as_bytes() == b"proofs".as_slice() {
         Some(Command::Proofs(one_process(further)?))
-    } else if word.as_bytes() == b"judge".as_slice() && further.is_empty() {
-        Some(Command::Judge)
+    } else if further.is_empty() {
+        alone(word.as_bytes())
     } else {
         None
     }

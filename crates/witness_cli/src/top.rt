@@ -1,14 +1,16 @@
 //! Each word to its end.
 ghost use Rattle.std.specs.Prelude.{◌≡◌, ◌≢◌, ◌↔◌, ◌⊎◌, ℕ, List, [], ◌∷◌, codes};
-ghost use Rattle.std.specs.Io.KnownBytes.{Keeps};
+ghost use Rattle.std.specs.Io.KnownBytes.{Consumes, Keeps};
 ghost use Rattle.rp_base.specs.Causes.{Rose};
 ghost use Rattle.rp_base.specs.Streams.{Says};
-ghost use Rattle.witness_cli.specs.Commands.{AskAny, Asks, Convict, Judge, Proofs};
+ghost use Rattle.witness_chain.specs.Running.{AnswerTellsFrom, Answered, HasStatus, InPart, LinesWritten, Refused as RefusedChain, ShownAndSays};
+ghost use Rattle.witness_cli.specs.Commands.{AskAny, Asks, Chain, Convict, Judge, Proofs};
 ghost use Rattle.witness_words.specs.Running.{Convicted, ConvictedInPart, HasFindings, HasNoFindings, IsRefused, IsTaken, Proved, ProvedInPart, Refused, Takes, Unconvicted};
 
 use crate::commands::{Command, command_of};
 use rp_base::{Sink, Source, write_all};
 use std::alloc::Global;
+use witness_chain::chain;
 use witness_words::{convict, judge, proofs};
 
 /// The status where the words are no command.
@@ -37,12 +39,19 @@ pub fn witness<S: Source, K: Sink, E: Sink>(
     ensures taken { Asks words.now Judge → result ≡ 0 → Takes (S.left input.old) (S.left input.new) }
     ensures mute { Asks words.now Judge → result ≡ 0 → Keeps (K.written output.old) (K.written output.new) }
 
+    // chain, 0: the input was read to its end, each proof in it shows a view, and the lines of the views from the first one on were written, and
+    // nothing else.
+    ensures chained { Asks words.now Chain → result ≡ 0
+        → Answered (S.left input.old) (S.left input.new) (K.written output.old) (K.written output.new) }
+
     // 0: nothing failed.
     ensures steady { result ≡ 0
         → (S.faults input.new ≡ S.faults input.old) × (K.faults output.new ≡ K.faults output.old) }
 
-    // 1: no memory is left, or judge has read 2^64 - 2 lines; nothing was written.
-    ensures silent { result ≡ 1 → Keeps (K.written output.old) (K.written output.new) }
+    // 1: no memory is left, or judge or chain has read 2^64 - 2 lines; nothing was written, but by chain the lines of views.
+    ensures silent { ¬ Asks words.now Chain → result ≡ 1 → Keeps (K.written output.old) (K.written output.new) }
+    ensures some { Asks words.now Chain → result ≡ 1
+        → LinesWritten (S.left input.old) (S.left input.new) (K.written output.old) (K.written output.new) }
 
     // 2: exactly where the words are no command; nothing was read, and nothing written but the line that says so, on standard error.
     ensures words { (result ≡ 2) ↔ (¬ AskAny words.now) }
@@ -51,18 +60,24 @@ pub fn witness<S: Source, K: Sink, E: Sink>(
         (E.written errors.old) (E.written errors.new) (E.faults errors.old) (E.faults errors.new) }
     ensures quiet { result ≢ 2 → errors.new ≡ errors.old }
 
-    // 3: only where the source failed.
+    // 3: only where the source failed. The line that says so was written and nothing else, but by chain the lines of views before it.
     ensures read { result ≡ 3 → Rose (S.faults input.old) (S.faults input.new) }
-    ensures read_line { result ≡ 3 → Says (codes "stop 3 read\n")
+    ensures read_line { ¬ Asks words.now Chain → result ≡ 3 → Says (codes "stop 3 read\n")
+        (K.written output.old) (K.written output.new) (K.faults output.old) (K.faults output.new) }
+    ensures read_behind_views { Asks words.now Chain → result ≡ 3
+        → ShownAndSays (codes "stop 3 read\n") (S.left input.old) (S.left input.new)
         (K.written output.old) (K.written output.new) (K.faults output.old) (K.faults output.new) }
 
-    // 4: only by convict and proofs, where the sink failed; a prefix of the lines was written and nothing else.
+    // 4: not by judge, and only where the sink failed; a prefix of the lines was written and nothing else.
     ensures write { result ≡ 4 → Rose (K.faults output.old) (K.faults output.new) }
     ensures part { (listed : List ℕ) → Asks words.now (Convict listed) → result ≡ 4
         → ConvictedInPart listed (S.left input.old) (S.left input.new) (K.written output.old) (K.written output.new) }
 
     ensures proved_in_part { (p : ℕ) → Asks words.now (Proofs p) → result ≡ 4
         → ProvedInPart p (S.left input.old) (S.left input.new) (K.written output.old) (K.written output.new) }
+
+    ensures part_of_chain { Asks words.now Chain → result ≡ 4
+        → InPart (S.left input.old) (S.left input.new) (K.written output.old) (K.written output.new) }
 
     // convict, 7 and 8: what was read has no findings, for a reason of this status, and the line that says why was written and nothing else.
     ensures stops { (listed : List ℕ) → Asks words.now (Convict listed) → (result ≡ 7) ⊎ (result ≡ 8)
@@ -76,6 +91,10 @@ pub fn witness<S: Source, K: Sink, E: Sink>(
 
     // judge, 7: what was read is not taken, and the line that says why was written and nothing else.
     ensures refused { Asks words.now Judge → result ≡ 7 → Refused (S.left input.old) (S.left input.new)
+        (K.written output.old) (K.written output.new) (K.faults output.old) (K.faults output.new) }
+
+    // chain, 7: what was read has a fault, and the lines of the views before the fault were written, and then its own.
+    ensures fault { Asks words.now Chain → result ≡ 7 → RefusedChain (S.left input.old) (S.left input.new)
         (K.written output.old) (K.written output.new) (K.faults output.old) (K.faults output.new) }
 
     // 4, 7, 8: no read failed.
@@ -105,6 +124,22 @@ pub fn witness<S: Source, K: Sink, E: Sink>(
     ensures takes_not { Asks words.now Judge → IsRefused (S.left input.old) → ¬ Rose (S.faults input.old) (S.faults input.new)
         → (result ≡ 7) ⊎ (result ≡ 1) }
 
+    // chain: an input whose answer has status 0 gives 0, and one whose answer has status 7 gives 7, where memory is left and nothing failed.
+    // No status but 0, 1, 3, 4 and 7 comes.
+    ensures shows { Asks words.now Chain → HasStatus 0 (S.left input.old)
+        → ¬ Rose (S.faults input.old) (S.faults input.new) → ¬ Rose (K.faults output.old) (K.faults output.new)
+        → (result ≡ 0) ⊎ (result ≡ 1) }
+    ensures breaks { Asks words.now Chain → HasStatus 7 (S.left input.old)
+        → ¬ Rose (S.faults input.old) (S.faults input.new) → ¬ Rose (K.faults output.old) (K.faults output.new)
+        → (result ≡ 7) ⊎ (result ≡ 1) }
+    ensures only_shown { Asks words.now Chain
+        → (result ≡ 0) ⊎ (result ≡ 1) ⊎ (result ≡ 3) ⊎ (result ≡ 4) ⊎ (result ≡ 7) }
+
+    // chain, whatever the status: of the answer to what was read, of which all or the beginning was written. Where a kit was read, it is the
+    // line of each view of a chain and at most one line more; and these are the views of the group where the first one is, and the proofs quote
+    // its correct processes truly.
+    ensures views { Asks words.now Chain → (read : List ℕ) → Consumes (S.left input.old) (S.left input.new) read → AnswerTellsFrom read }
+
     // No other status comes; 8 only by convict and proofs.
     ensures only { (result ≡ 0) ⊎ (result ≡ 1) ⊎ (result ≡ 2) ⊎ (result ≡ 3) ⊎ (result ≡ 4) ⊎ (result ≡ 7) ⊎ (result ≡ 8) }
 {
@@ -116,5 +151,6 @@ pub fn witness<S: Source, K: Sink, E: Sink>(
         Command::Convict(listed) => convict(alloc, listed, input, output),
         Command::Proofs(p) => proofs(alloc, p, input, output),
         Command::Judge => judge(alloc, input, output),
+        Command::Chain => chain(alloc, input, output),
     }
 }

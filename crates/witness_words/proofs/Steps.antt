@@ -14,7 +14,7 @@ use Rattle.line_input.specs.Places.{Ends, Leads, Settles}
 use Rattle.line_input.specs.Taking.{Answered, Taken}
 use Rattle.line_input.specs.declared.lines.Next.{Next}
 use Rattle.line_input.specs.declared.lines.Next.TheVariants as nexts
-use Rattle.chain_words.proofs.Parts.{one_part, parts_by_line, parts_some}
+use Rattle.line_laws.proofs.Parts.{one_part, parts_by_line, parts_some}
 use Rattle.audit_defs.specs.Players.{setting_of}
 use Rattle.witness_defs.specs.Lines.{Evidence, evidence_in, most_evidence_line}
 use Rattle.witness_defs.specs.Judging.{NoInput, NotTaken, Refusal, is_taken, judged_at}

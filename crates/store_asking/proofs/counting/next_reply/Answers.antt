@@ -4,7 +4,7 @@ use Rattle.std.proofs.lemmas.Result.{err_from_is_err_and}
 use Rattle.kit_reading.specs.Faults.{fault_of}
 use Rattle.store_asking.specs.Counts.{place_of}
 use Rattle.store_asking.specs.Places.{vote_at}
-use Rattle.store_asking.proofs.LinesRead.{line_fault_is}
+use Rattle.store_asking.proofs.LineFaults.{line_fault_is}
 use Rattle.store_asking.proofs.Votes.{broken, counted, ended, may_come, none_left, uncounted_if}
 use Rattle.store_asking.proofs.counting.next_reply.Goals as goal
 

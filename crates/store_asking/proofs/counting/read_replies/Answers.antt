@@ -4,7 +4,8 @@ use Rattle.store_defs.specs.Asking.{most_replies}
 use Rattle.kit_reading.specs.Fronts.{front_fault}
 use Rattle.store_asking.specs.Counts.{place_of}
 use Rattle.store_asking.specs.Places.{vote_at, vote_place}
-use Rattle.store_asking.proofs.LinesRead.{ends_then, nothing_read, read_more, settles_if}
+use Rattle.store_asking.proofs.LineFaults.{settles_if}
+use Rattle.line_laws.proofs.Read.{ends_then, nothing_read, read_more}
 use Rattle.store_asking.proofs.counting.read_replies.Goals as goal
 
 pub replies-init : goal.replies-init

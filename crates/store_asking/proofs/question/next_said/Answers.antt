@@ -1,7 +1,7 @@
 use Rattle.sig_scheme.specs.Views.{scheme as scheme_in}
 use Rattle.store_asking.specs.Lines.{said}
 use Rattle.store_asking.specs.Places.{key_place, question_at}
-use Rattle.store_asking.proofs.LinesRead.{line_fault_is}
+use Rattle.store_asking.proofs.LineFaults.{line_fault_is}
 use Rattle.store_asking.proofs.Questions.{broken, ended, said_in_kit, says, says_none}
 use Rattle.store_asking.proofs.question.next_said.Goals as goal
 

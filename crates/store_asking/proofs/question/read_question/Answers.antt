@@ -4,7 +4,8 @@ use Rattle.line_input.specs.Places.{Leads}
 use Rattle.kit_reading.specs.Fronts.{front_fault}
 use Rattle.store_asking.specs.Lines.{Key, said}
 use Rattle.store_asking.specs.Places.{key_place, question_at}
-use Rattle.store_asking.proofs.LinesRead.{nothing_read, settles_if}
+use Rattle.store_asking.proofs.LineFaults.{settles_if}
+use Rattle.line_laws.proofs.Read.{nothing_read}
 use Rattle.store_asking.proofs.Questions.{more_keys, the_view}
 use Rattle.store_asking.proofs.question.read_question.Goals as goal
 

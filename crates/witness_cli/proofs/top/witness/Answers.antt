@@ -1,5 +1,5 @@
 use Rattle.std.proofs.Common.{ℕ, List, [], ◌∷◌, sym, subst}
-use Rattle.witness_cli.specs.Commands.{Convict, Judge, Proofs}
+use Rattle.witness_cli.specs.Commands.{Chain, Convict, Judge, Proofs}
 use Rattle.witness_words.specs.Running.{Convicted, ConvictedInPart, HasFindings, HasNoFindings, Proved, ProvedInPart, Unconvicted}
 use Rattle.witness_cli.proofs.Asking.{never, same-listed, same-process}
 use Rattle.witness_cli.proofs.top.witness.Goals as goal
@@ -21,6 +21,18 @@ returns-in_default-clause-takes g c = λ asks has calm. never Judge (c.in_defaul
 
 pub returns-in_default-clause-takes_not : goal.returns-in_default-clause-takes_not
 returns-in_default-clause-takes_not g c = λ asks has calm. never Judge (c.in_default.ensures.only Judge asks)
+
+pub returns-in_default-clause-shows : goal.returns-in_default-clause-shows
+returns-in_default-clause-shows g c = λ asks has calm calm_sink. never Chain (c.in_default.ensures.only Chain asks)
+
+pub returns-in_default-clause-breaks : goal.returns-in_default-clause-breaks
+returns-in_default-clause-breaks g c = λ asks has calm calm_sink. never Chain (c.in_default.ensures.only Chain asks)
+
+pub returns-in_default-clause-only_shown : goal.returns-in_default-clause-only_shown
+returns-in_default-clause-only_shown g c = λ asks. never Chain (c.in_default.ensures.only Chain asks)
+
+pub returns-in_default-clause-views : goal.returns-in_default-clause-views
+returns-in_default-clause-views g c = λ asks read taken. never Chain (c.in_default.ensures.only Chain asks)
 
 pub returns-in-Convict-clause-convicted : goal.returns-in-Convict-clause-convicted
 returns-in-Convict-clause-convicted g c = λ listed asks zero.

@@ -10,7 +10,7 @@ use Rattle.text_defs.specs.Words.{number_within, process_of}
 use Rattle.kit_defs.specs.KitReading.{members_by}
 use Rattle.view_table.specs.Views.{as_view, IsNumberedView}
 use Rattle.store_defs.specs.Asking.{view_of_words}
-use Rattle.store_asking.specs.Lines.{members_within}
+use Rattle.view_words.specs.Members.{members_within}
 
 pub one_more : (before : List ℕ) (left : List (List ℕ)) (word : List ℕ) (words : List (List ℕ)) (p : ℕ) (all : Option (List ℕ))
     → left ≡ word ∷ words → process_of word ≡ Some p → has before p ≡ false → members_by before left ≡ all

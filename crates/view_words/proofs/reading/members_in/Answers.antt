@@ -2,9 +2,9 @@ use Rattle.std.proofs.Common.{sym, ap, ◌∙◌, length, length-append, ◌∷�
 use Rattle.std.proofs.lemmas.Bool.{eqb-true, eqb-false}
 use Rattle.text_codec.specs.Views.{parts_left}
 use Rattle.kit_defs.proofs.Lists.{distinct_push}
-use Rattle.store_asking.proofs.Members.{one_more, names_none, names_again, names_too_many, names_all}
-use Rattle.store_asking.proofs.views.members_in.Goals as goal
-use Rattle.store_asking.proofs.views.members_in.Goals.{then-is_among-via-then-is_among, then-is_among-via-else-is_among+then-is_full}
+use Rattle.view_words.proofs.Members.{one_more, names_none, names_again, names_too_many, names_all}
+use Rattle.view_words.proofs.reading.members_in.Goals as goal
+use Rattle.view_words.proofs.reading.members_in.Goals.{then-is_among-via-then-is_among, then-is_among-via-else-is_among+then-is_full}
 
 pub returns-in_err-member-clause-members : goal.returns-in_err-member-clause-members
 returns-in_err-member-clause-members c =

@@ -1,13 +1,8 @@
 -- A line that is read, to any answer that goes by the parts of the bytes.
-use Rattle.std.proofs.Common.{◌≡◌, inl, inr, ℕ, ◌+◌, ◌<◌, ◌≤◌, Bool, true, false, List, [], ◌∷◌, ◌++◌, length, Option, None, Some, Result, Err, refl, sym, ap, subst, ◌∙◌, append_assoc, arith, length-append}
-use Rattle.std.specs.Prelude.{IfSome, if◌then◌else◌, nat_le, option_and_then}
+use Rattle.std.proofs.Common.{◌≡◌, inl, inr, ℕ, ◌<◌, ◌≤◌, Bool, true, false, List, [], ◌∷◌, ◌++◌, length, Option, None, Some, refl, sym, ap, ◌∙◌, append_assoc, arith, length-append}
+use Rattle.std.specs.Prelude.{if◌then◌else◌, nat_le, option_and_then}
 use Rattle.std.proofs.lemmas.Bool.{leb-true}
 use Rattle.text_defs.specs.Words.{parts_of}
-use Rattle.kit_defs.specs.KitReading.{KitFault, Line}
-use Rattle.kit_reading.specs.Fronts.{front_fault}
-use Rattle.kit_reading.specs.declared.fronts.FrontFault.{FrontFault}
-use Rattle.kit_reading.specs.declared.fronts.FrontFault.TheVariants as fronts
-use Rattle.kit_reading.specs.declared.faults.KitFault.TheVariants as faults
 use Rattle.input_defs.specs.Lines.{if_short, line_at, line_within}
 use Rattle.input_defs.proofs.FirstLines.{line_stays, no_short_line, none_longer, short_is_first}
 use Rattle.line_input.specs.Places.{Ends, Leads, Settles}
@@ -15,7 +10,7 @@ use Rattle.line_input.specs.Taking.{Answered, Taken}
 use Rattle.line_input.specs.declared.lines.Next.TheVariants as nexts
 use Rattle.line_input.proofs.Places.{ends_more, leads_more, settles_more}
 use Rattle.std.proofs.KnownBytes.{Consumes-nil}
-use Rattle.store_asking.proofs.Parts.{one_part, parts_by_line, parts_some}
+use Rattle.line_laws.proofs.Parts.{one_part, parts_by_line, parts_some}
 
 -- a line that is within a limit has no more bytes
 pub is_short : (most : ℕ) (bytes line rest : List ℕ) → line_within most bytes ≡ Some (line, rest) → length line ≤ most
@@ -100,17 +95,3 @@ settles_then first later x before mid now a b = settles_more first later (λ y. 
 pub ends_then : {A : Type 0} (first later : List ℕ → A) (x : A) (before mid now : Option (List ℕ)) → Leads first before mid later
     → Ends later mid now x → Ends first before now x
 ends_then first later x before mid now a b = ends_more first later (λ y. y) before mid now a x b
-
--- ---- by the fault that a call answers
-
-pub settles_if : {X : Type 0} (first : List ℕ → Result X KitFault) (later : List ℕ → Result X KitFault) (before mid now : Option (List ℕ))
-    (o : Option KitFault) → Leads first before mid later → IfSome o (λ f. Settles later mid now (Err f))
-    → IfSome o (λ f. Settles first before now (Err f))
-settles_if first later before mid now None a h = tt
-settles_if first later before mid now (Some f) a h = settles_then first later (Err f) before mid now a h
-
--- the fault of a line that is none
-pub line_fault_is : {X : Type 0} (answer : List ℕ → Result X KitFault) (before now : Option (List ℕ)) (n : ℕ) (e : FrontFault)
-    → e ≡ fronts.Kit (faults.Line n) → Settles answer before now (Err (Line n)) → IfSome (front_fault e) (λ f. Settles answer before now (Err f))
-line_fault_is answer before now n e is h =
-    subst (λ (x : FrontFault). IfSome (front_fault x) (λ f. Settles answer before now (Err f))) (sym is) h

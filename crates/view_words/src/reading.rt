@@ -1,9 +1,9 @@
-//! The words of a view.
+//! The words of a view, as they are read.
 ghost use Rattle.std.specs.Prelude.{◌≡◌, ◌==◌, IfSome, option_map, AllPairs, ◌≢◌, ◌≤◌, length};
 ghost use Rattle.std.specs.List.{list_any};
 ghost use Rattle.text_codec.specs.Views.{parts_left};
 ghost use Rattle.store_defs.specs.Asking as plain;
-ghost use Rattle.store_asking.specs.Lines.{members_within};
+ghost use Rattle.view_words.specs.Members.{members_within};
 
 use arrayvec::ArrayVec;
 use rp_base::Pid;
@@ -53,8 +53,9 @@ fn numbered_view(word: &[u8], words: Words<'_>) -> Option<View>
     View::new(number as u16, &members)
 }
 
-/// The view that the words behind `view` say; None exactly where they say none.
-pub(crate) fn view_by(mut words: Words<'_>) -> Option<View>
+/// The view that the words after `view` say: its number, 0 to 1,023, a colon, and 1 to 16 different processes in rank order. None exactly where
+/// they say none.
+pub fn view_by(mut words: Words<'_>) -> Option<View>
     ensures { result ≡ plain.view_by (parts_left words.entry) }
 {
     let number = words.next()?;

@@ -2,7 +2,7 @@ use Rattle.std.proofs.Common.{◌≡◌, ◌≢◌, ◌+◌, ◌≤◌, [], leng
 use Rattle.std.specs.Prelude.{AllPairs}
 use Rattle.text_codec.specs.Views.{parts_left}
 use Rattle.kit_defs.specs.KitReading.{members_by}
-use Rattle.store_asking.proofs.views.members_in.Given as goal
+use Rattle.view_words.proofs.reading.members_in.Given as goal
 
 abbrev pub invariant-members : goal.invariant-members
 invariant-members l = record {

@@ -1,0 +1,4 @@
+mod Keyed
+mod Short
+mod Begun
+mod Statuses
