@@ -6,4 +6,5 @@ mod statements_said;
 mod tokens;
 mod writing;
 
+pub use tokens::{Token, push_behind};
 pub use writing::push_story;

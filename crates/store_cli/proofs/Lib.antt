@@ -1,0 +1,4 @@
+pub mod OneWord
+pub mod Lines
+pub mod Runs
+pub mod Statuses
