@@ -13,6 +13,7 @@ import os
 import pathlib
 import queue
 import shutil
+import signal
 import socket
 import statistics
 import subprocess
@@ -108,8 +109,7 @@ def told(name, seconds, count):
     return f"{name}: median {ms[0]:.1f} ms, p99 {ms[1]:.1f} ms, {count * len(seconds) / sum(seconds):.0f} messages a second"
 
 
-def of_rampart(words):
-    folder = tempfile.mkdtemp(prefix="bench-group-", dir=words.folder)
+def of_rampart(words, folder):
     them = Group(argparse.Namespace(program=words.program, tick=1, folder=folder, seed=1, n=4, keys="plain:100000", guards=False, direct=True, loss=0, twice=0, late=0))
     try:
         them.open()
@@ -123,7 +123,6 @@ def of_rampart(words):
             print(f"rampart, {told(name, seconds, count)}; limit {1000 * limit:.1f} ms ({turns:.1f} turns), {statistics.median(seconds) / limit:.2f} times", flush=True)
     finally:
         them.close()
-        shutil.rmtree(folder, ignore_errors=True)
 
 
 # ---- etcd
@@ -142,11 +141,13 @@ def free_ports(count):
 class Etcd:
     """Three members on the loopback, each with its data in a folder of its own."""
 
-    def __init__(self, folder):
+    def __init__(self):
+        self.clients, self.members = [], []
+
+    def start(self, folder):
         ports = free_ports(6)
         self.clients = ports[:3]
         peers = ",".join(f"m{at}=http://127.0.0.1:{ports[3 + at]}" for at in range(3))
-        self.members = []
         for at in range(3):
             own, peer = f"http://127.0.0.1:{ports[at]}", f"http://127.0.0.1:{ports[3 + at]}"
             self.members.append(subprocess.Popen(
@@ -186,10 +187,10 @@ def timed(call, *words):
     return time.perf_counter() - begun
 
 
-def of_etcd(words):
-    folder = tempfile.mkdtemp(prefix="bench-etcd-", dir=words.folder)
-    them = Etcd(folder)
+def of_etcd(words, folder):
+    them = Etcd()
     try:
+        them.start(folder)
         them.wait()
         to = them.connection()
         print(f"etcd, {told('one at a time', [timed(them.put, to, at) for at in range(words.messages)], 1)}", flush=True)
@@ -209,7 +210,12 @@ def of_etcd(words):
         print(f"etcd, {BATCH} clients at once: {count / (time.perf_counter() - begun):.0f} messages a second", flush=True)
     finally:
         them.close()
-        shutil.rmtree(folder, ignore_errors=True)
+
+
+def within(measure, words):
+    """A measure, in a folder of its own that goes at the end."""
+    with tempfile.TemporaryDirectory(prefix="bench-group-", dir=words.folder, ignore_cleanup_errors=True) as folder:
+        measure(words, folder)
 
 
 def main():
@@ -218,12 +224,16 @@ def main():
     words.add_argument("--folder", help="where journals lie: on the disk that is to be measured")
     words.add_argument("--messages", type=int, default=400)
     words = words.parse_args()
-    of_rampart(words)
+    signal.signal(signal.SIGTERM, lambda *_: sys.exit(143))
+    within(of_rampart, words)
     if shutil.which("etcd"):
-        of_etcd(words)
+        within(of_etcd, words)
     else:
         print("etcd is not installed")
 
 
 if __name__ == "__main__":
-    main()
+    try:
+        main()
+    except KeyboardInterrupt:
+        sys.exit(130)

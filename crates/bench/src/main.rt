@@ -19,7 +19,7 @@ const OTHER_WORD: u8 = 2;
 
 const WORDS: &str =
     "lms, link, journal, bare BYTES TIMES, frames GROUPS TIMES, schedules submits|ticks|copy PIECES, pool CLAIMS, core MEMBERS HUNDREDS, \
-     replay FILE [times], or audit [alone] over the input of `rampart audit`";
+     replay FILE [times], store [get|set|remove|exchange TIMES], chain, or audit [alone] over the input of `rampart audit`";
 
 /// What is measured.
 #[derive(Clone, Copy)]
@@ -34,6 +34,8 @@ enum Measure {
     Core,
     Replay,
     Audit,
+    Store,
+    Chain,
 }
 
 impl Measure {
@@ -50,6 +52,8 @@ impl Measure {
             "core" => Some(Measure::Core),
             "replay" => Some(Measure::Replay),
             "audit" => Some(Measure::Audit),
+            "store" => Some(Measure::Store),
+            "chain" => Some(Measure::Chain),
             _ => None,
         }
     }
@@ -67,6 +71,8 @@ impl Measure {
             Measure::Core => cores::times_of(rt, words),
             Measure::Replay => replay::count_in(rt, words),
             Measure::Audit => audit_measures::times_of(rt, &mut StdSource::new(rt), words),
+            Measure::Store => store_measures::times_of(rt, words),
+            Measure::Chain => chain_measures::print_times(rt),
         }
     }
 }
@@ -82,6 +88,8 @@ fn once(rt: &HostRuntime) -> Result<()> {
     pool_measures::once(rt)?;
     cores::once(rt)?;
     replay::once(rt)?;
+    store_measures::once(rt)?;
+    chain_measures::once(rt)?;
     audit_measures::once(rt, &mut StdSource::new(rt))
 }
 
