@@ -1,7 +1,8 @@
 -- What a frame shows, as the code has it.
-use Rattle.std.specs.Prelude.{ℕ, ◌+◌, Bool, ◌==◌, ◌&&◌, ◌||◌, List, [], Option, Some, None}
+use Rattle.std.specs.Prelude.{◌≡◌, ℕ, ◌+◌, Bool, ◌==◌, ◌&&◌, ◌||◌, List, [], Option, Some, None}
 use Rattle.std.specs.List.{list_any}
 use Rattle.byte_defs.specs.Choices.{is_some_and}
+use Rattle.byte_defs.specs.Members.{has}
 use Rattle.message_defs.specs.Claims as plain
 use Rattle.message_defs.specs.Statements.{Claim}
 use Rattle.group_defs.specs.Process.{Setting, Process}
@@ -21,6 +22,14 @@ is_called n q = is_some_and (liar_of (note n)) (λ liar. liar == q)
 abbrev pub claims_shown : Option FrameView → List Claim
 claims_shown None = []
 claims_shown (Some frame) = given (plain.claims_of (frame_view frame))
+
+-- q makes one of these claims
+abbrev pub makes_one : List Claim → ℕ → Bool
+makes_one claims q = list_any (λ c. c.signer == q) claims
+
+-- these are all who make claims in the frame
+abbrev pub AreSigners : List ℕ → Option FrameView → Type 0
+AreSigners ps frame = (q : ℕ) → has ps q ≡ makes_one (claims_shown frame) q
 
 -- a note calls q a liar, or the frame convicts it
 abbrev pub is_shown : Setting → Option FrameView → List Note → ℕ → Bool

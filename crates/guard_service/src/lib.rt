@@ -7,6 +7,7 @@ mod evidence;
 mod guard;
 mod packing;
 mod ranges;
+mod signers;
 mod words;
 
 ghost use Rattle.guard_service.specs.Laws.{AccusationsAreWhole};
