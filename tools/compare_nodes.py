@@ -12,7 +12,8 @@ before, late, lost or twice, and hostile ones, of processes that lie and of stra
 two openings a journal may be damaged, be that of another node, or get an entry that its process cannot have written. In an opening calls
 of the link, the disk, the input and the output fail, and some are cut off at a write or a sync of the disk; the next one then begins with
 one of three images of the disk. Compared are the status, all that was written, the journal or the three images, and all datagrams that
-were sent. Ours are the answers of the program `interop` to `run WORDS INPUT JOURNAL FAILS COMING STOP`.
+were sent. In the scripts of every third number `snap` is between other lines. Ours are the answers of the program `interop` to
+`run WORDS INPUT JOURNAL FAILS COMING STOP`.
 
 Where the length or a read of the disk is to fail, the other one may have made fewer or more such calls up to the same place: then ours must
 be one of its answers where some such call fails, or none. Each difference is printed, and at the end how many openings there were, how they
@@ -278,6 +279,9 @@ class Drawing(audits.Drawing):
             if self.often(0.5):
                 rounds = self.draw.choice([1, 3, 6, 10])
                 lines += ["%d recv %d" % (q, self.draw.choice([8, 20])) for _ in range(rounds) for q in node.hosted]
+        if self.number % 3 == 0:
+            for _ in range(self.draw.choice([1, 1, 1, 2, 3])):
+                lines.insert(self.draw.randrange(len(lines) + 1), "snap")
         if self.often(0.04):
             lines.insert(self.draw.randrange(len(lines) + 1), self.odd_line(node.hosted[0]))
         text = "".join(line + "\n" for line in lines).encode("latin-1")
@@ -424,7 +428,7 @@ class Reached:
             words = line.split(" ")
             if words[0] in ("drop", "refused"):
                 self.lines[words[0] + " " + words[2]] += 1
-            elif words[0] in ("deliver", "view", "liar", "spent", "halted", "fault", "recv", "host"):
+            elif words[0] in ("deliver", "view", "liar", "spent", "halted", "fault", "recv", "host", "snap"):
                 self.lines[words[0]] += 1
         for kind, _ in opening.fails:
             self.kinds["failing " + kind] += 1

@@ -468,8 +468,8 @@ def read_words():
 
 
 def main():
-    group = Group(read_words())
     signal.signal(signal.SIGTERM, lambda *_: sys.exit(143))
+    group = Group(read_words())
     try:
         group.open()
         for line in sys.stdin:

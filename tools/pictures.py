@@ -229,15 +229,16 @@ AREAS = {
         " story_defs story_laws story_lines story_statements story_headers story_events story_reading story_writing",
     ),
     "frames and statements": (348, 777, 2, "byte_fields frame_codec statements stmt_codec"),
-    "the outside": (348, 1013, 2, "rp_base rp_devices line_input net_edge file_disk udp_link"),
-    "how fast": (676, 20, 2, "pool_measures group_measures audit_measures bench"),
+    "the outside": (348, 1013, 2, "rp_base rp_devices line_input line_laws net_edge file_disk udp_link"),
+    "how fast": (676, 20, 2, "pool_measures group_measures audit_measures store_measures chain_measures bench"),
     "kits and words": (676, 413, 2, "text_codec kit_file kit_lines kit_draft kit_reading kit_making command_line"),
     "signatures": (676, 622, 2, "sha256_lanes lms_chains lms_ots lms_tree lms_hss sig_scheme bench_parts"),
     "links and journals": (676, 777, 2, "link_defs auth_link journal_defs journal_disk journal_entries journal_rp"),
-    "a store": (1040, 20, 2, "store_defs store_laws following_laws store_rows store_records kv_service vote_client state_transfer store_words store_keys store_replies store_giving store_server store_asking store_service serve_laws taking_laws store_text_defs store_text_laws store_text_rows store_wording"),
-    "chains of views, and guards": (1040, 370, 2, "chain_defs chain_text_defs chain_laws chain_rows chain_check chain_words guard_defs guard_laws guard_rows guard_service guarding_laws proof_defs proof_laws proof_rows proof_lines witness_defs witness_laws witness_rows witness_words witness_cli witness"),
+    "a store": (1040, 20, 2, "store_defs store_laws following_laws store_rows store_records kv_service vote_client state_transfer view_words store_words store_keys store_replies store_giving store_server store_asking store_service serve_laws taking_laws"),
+    "a store in words": (676, 150, 2, "store_text_defs store_text_laws store_text_rows store_wording store_telling store_cli store"),
+    "chains of views, and guards": (1040, 370, 2, "chain_defs chain_text_defs chain_laws chain_rows chain_check chain_words guard_defs guard_laws guard_rows guard_service guarding_laws proof_defs proof_laws proof_rows proof_lines witness_defs witness_laws witness_rows witness_words witness_chain witness_cli witness"),
     "convictions and audits": (1040, 720, 2, "conviction_defs conviction_laws conviction audit_defs audit_laws evidence_laws findings_laws claim_firsts audit_claims audit_turns journal_steps audit_sources audit_walk audit_cast findings_json audit_core audit_input audit_words audit_rows"),
-    "nodes": (1040, 1043, 2, "image_defs image_laws snapshot_defs snapshot_laws snapshot_rows snapshot_rp kept_images heard_images image_parts restored_place restored_past member_restoring member_image node_defs node_snapshots node_laws node_text node_keys node_hosts node_traces node_service opening_laws resume_laws script_laws letting_laws letter_laws node_input node_opening node_turns sealing_laws node_taking node_receiving node_script stop_laws node_loop node_rows"),
+    "nodes": (1040, 1043, 2, "image_defs image_laws snapshot_defs snapshot_laws snapshot_rows snapshot_rp kept_images heard_images image_parts restored_place restored_past restored_left restored_present member_restoring state_image member_image node_defs node_snapshots node_laws node_text node_keys node_hosts node_traces node_service opening_laws resume_laws script_laws letting_laws letter_laws node_input node_opening node_turns sealing_laws node_taking node_receiving node_serving node_snapping node_script stop_laws node_loop node_rows"),
 }
 
 # The lines from each area to those that it uses, without those that others imply.
@@ -254,7 +255,7 @@ LINES = {
     ("laws and rows", "definitions"): [(172, 1159), (172, 1195)],
     ("a run shown", "a replay"): [(348, 155), (324, 155)],
     ("beside other implementations", "the program"): [(348, 230), (336, 230), (336, 60), (324, 60)],
-    ("how fast", "convictions and audits"): [(980, 60), (1004, 60), (1004, 774), (1040, 774)],
+    ("how fast", "chains of views, and guards"): [(980, 60), (1004, 60), (1004, 430), (1040, 430)],
     ("schedules and stories", "kits and words"): [(652, 486), (676, 486)],
     ("schedules and stories", "frames and statements"): [(500, 667), (500, 777)],
     ("schedules and stories", "laws and rows"): [(348, 510), (336, 510), (336, 1070), (324, 1070)],
@@ -265,7 +266,8 @@ LINES = {
     ("the outside", "definitions"): [(500, 1132), (500, 1195)],
     ("a store", "nodes"): [(1344, 120), (1364, 120), (1364, 1090), (1344, 1090)],
     ("nodes", "convictions and audits"): [(1192, 1043), (1192, 1028)],
-    ("chains of views, and guards", "a store"): [(1192, 370), (1192, 355)],
+    ("a store in words", "a store"): [(980, 223), (1040, 223)],
+    ("chains of views, and guards", "a store"): [(1192, 370), (1192, 274)],
     ("convictions and audits", "a replay"): [(1040, 740), (1012, 740), (1012, 608), (662, 608), (662, 706), (330, 706), (330, 290), (324, 290)],
 }
 

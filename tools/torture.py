@@ -4,18 +4,19 @@
     python3 tools/torture.py NUMBER COUNT [--program PROGRAM] [--show] [--plant FAULT]
 
 One run of each number from NUMBER on: a group of 4 to 7 nodes (tools/group.py), over a network that loses, repeats and delays; with plain
-keys or trees; nodes are killed at any time and started again on their journals; cuts that heal; at most f liars, of whom some members are
-handed other texts than the rest; suspicions and joins of so many members that views change. At last the network is whole, all nodes run,
-and time goes on. Then
+keys or trees; nodes are killed at any time and started again on their journals, of which what comes after the closed gate is cut
+anywhere, as a crash may leave it that comes while an entry is written; cuts that heal; at most f liars, of whom some members are handed
+other texts than the rest, who for a while send nothing to some of them, or send again what they sent long ago; suspicions and joins of so
+many members that views change. At last the network is whole, all nodes run, and time goes on. Then
 
 - no correct process has signed two texts for one slot, nor two bodies with one leaf, in any datagram that a node sent;
 - what the nodes wrote agrees: one message for a view, place, sender and number, each delivered once by a node, in rising order;
 - an audit of all journals says `honest`, `agree` and `sound`, and convicts nobody but liars;
-- what a journal holds is at least what its node wrote.
+- what a journal holds is at least what its node wrote, and has all signatures that its node sent: at each start, and at the end.
 
-Where members were removed until liars were more than f of a view, the audit says that the run is not bounded, and agreement is not asked for.
-What a correct member that stayed was given to send, and was not delivered by all that stayed within 100 ticks, is counted and is no fault:
-nothing promises progress. A run that breaks a rule is printed with its number; the status is 1 then.
+Where members were removed until liars were more than f of a view, the audit says that the run is not bounded, and agreement is not asked
+for. What a correct member that stayed was given to send, and was not delivered by all that stayed within 100 ticks, is counted and is no
+fault: nothing promises progress. A run that breaks a rule is printed with its number; the status is 1 then.
 
 --plant makes a fault, to show that it is seen: `forget`, a node that is started again lacks the last entry of its journal, as one would
 that sends before it syncs; `anew`, it begins with no journal; `skip`, the audit is not handed the journal of one correct process.
@@ -24,6 +25,7 @@ import argparse
 import collections
 import json
 import random
+import signal
 import subprocess
 import sys
 import time
@@ -67,11 +69,18 @@ class Watch(group.Network):
     def __init__(self, ports, parts, seed):
         super().__init__(ports, parts, seed)
         self.slots, self.leaves, self.faults, self.trees = {}, {}, [], False
-        self.liars = set()
+        self.liars, self.withheld, self.old, self.sent = set(), set(), [], collections.defaultdict(set)
 
     def take(self, p, q, datagram):
         for signer, statement, signature in claims_in(datagram[22:-32]):
             self.look(signer, statement, signature)
+            if signer == p:
+                self.sent[p].add(signature)
+        if p in self.liars:
+            self.old.append((q, datagram))
+        if (p, q) in self.withheld:
+            self.counts["withheld"] += 1
+            return
         super().take(p, q, datagram)
 
     def look(self, signer, statement, signature):
@@ -88,12 +97,27 @@ class Watch(group.Network):
                 self.faults.append(f"{signer} signed two texts with leaf {leaf[1].hex()}")
 
 
-def last_entry(journal):
-    """Where the last entry of a journal begins, if it has one."""
-    last, at = None, HEADER
-    while journal[at : at + 1] == b"\1":
-        last, at = at, at + 5 + int.from_bytes(journal[at + 1 : at + 5], "big")
-    return last
+def gates(journal):
+    """Where the gates of a journal are, the closed one last."""
+    found = [HEADER]
+    while journal[found[-1] : found[-1] + 1] == b"\1":
+        found.append(found[-1] + 5 + int.from_bytes(journal[found[-1] + 1 : found[-1] + 5], "big"))
+    return found
+
+
+def signatures_in(journal):
+    """The signatures of a journal's entries. An entry is a process, an event, a byte, how many they are, and each after its length."""
+    found = gates(journal)
+    for begin, end in zip(found, found[1:]):
+        entry = journal[begin + 5 : end]
+        # a payload, or a frame after its sender, has its length before it; a process, or nothing, is after another event's number
+        text = {1: 2, 2: 3}.get(entry[1])
+        at = text + 2 + int.from_bytes(entry[text : text + 2], "big") if text else 3 if entry[1] in (6, 7) else 2
+        at += 3
+        while at < len(entry):
+            size = int.from_bytes(entry[at : at + 2], "big")
+            yield entry[at + 2 : at + 2 + size]
+            at += 2 + size
 
 
 class Run(group.Group):
@@ -127,12 +151,30 @@ class Run(group.Group):
 
     def start(self, p):
         path = self.folder / f"{p}.journal"
-        if self.plant in ("forget", "anew") and path.exists():
-            journal = path.read_bytes()
-            last = last_entry(journal) if self.plant == "forget" else 0
-            if last is not None:
-                path.write_bytes(journal[:last] + b"\0" if last else b"")
+        if path.exists():
+            self.leave(path, path.read_bytes())
+            self.network.faults += self.lost(p)
         super().start(p)
+
+    def lost(self, p):
+        """What a correct node sent, and its journal lacks."""
+        if p in self.liars:
+            return []
+        count = len(self.network.sent[p].difference(signatures_in((self.folder / f"{p}.journal").read_bytes())))
+        return [f"the journal of {p} lacks {count} signatures that its node sent"] if count else []
+
+    def leave(self, path, journal):
+        """What a crash, or a planted fault, leaves of a journal."""
+        found = gates(journal)
+        if self.plant == "anew":
+            path.write_bytes(b"")
+        elif self.plant == "forget" and len(found) > 1:
+            path.write_bytes(journal[: found[-2]] + b"\0")
+        elif self.plant is None and len(found) > 1:
+            # of an entry that is written, with the gate after it, any front may be there; here it is the last one once more
+            entry = journal[found[-2] + 1 : found[-1]] + b"\0"
+            path.write_bytes(journal[: found[-1] + 1] + entry[: self.draw.randrange(len(entry) + 1)])
+            self.count["torn"] += 1
 
     def running(self):
         return [p for p, it in self.nodes.items() if it.runs]
@@ -167,14 +209,24 @@ class Run(group.Group):
                     getattr(self, word)(p, q)
         elif what == "lie" and self.liars:
             p = self.draw.choice(sorted(self.liars))
-            if self.nodes[p].submitted:
-                self.count["lies"] += 1
-                self.lie(p, self.draw.choice([q for q in self.nodes if q != p]), f"another {number}")
+            self.lie_to(p, self.draw.choice([q for q in self.nodes if q != p]), f"another {number}")
         time.sleep(self.draw.choice([0, 0.02, 0.2]))
+
+    def lie_to(self, p, q, text):
+        how = self.draw.choice(["another", "another", "withheld", "old"])
+        if how == "another" and self.nodes[p].submitted:
+            self.count["lies"] += 1
+            self.lie(p, q, text)
+        elif how == "withheld":
+            self.network.withheld.add((p, q))
+        elif how == "old" and self.network.old:
+            self.count["old"] += 1
+            self.network.hand_in(*self.draw.choice(self.network.old))
 
     def settle(self):
         """The network is whole, all run, and time goes on until nothing is missing, or for so many ticks."""
         self.heal()
+        self.network.withheld.clear()
         self.network.parts = {"loss": 0, "twice": 0, "late": 0}
         for p, it in self.nodes.items():
             if not it.runs:
@@ -238,6 +290,7 @@ class Run(group.Group):
             if self.plant == "skip" and p == min(self.nodes.keys() - self.liars):
                 continue
             journal = (self.folder / f"{p}.journal").read_bytes()
+            yield from self.lost(p)
             data += f"journal {len(journal)}\n".encode() + journal
         correct = [p for p in self.nodes if p not in self.liars]
         done = subprocess.run([self.program, "audit", *map(str, correct)], input=data, capture_output=True, check=False)
@@ -274,6 +327,7 @@ def one(number, words, counts):
     finally:
         run.close()
     counts.update(run.count)
+    counts.update(withheld=run.network.counts["withheld"], leaves=len(run.network.leaves))
     for fault in faults:
         print(f"{number}: {fault}", flush=True)
     return bool(faults)
@@ -287,13 +341,18 @@ def main():
     words.add_argument("--show", action="store_true")
     words.add_argument("--plant", choices=["forget", "anew", "skip"])
     words = words.parse_args()
+    signal.signal(signal.SIGTERM, lambda *_: sys.exit(143))
     counts, wrong = collections.Counter(), 0
     for number in range(words.number, words.number + words.runs):
         wrong += one(number, words, counts)
-    told = ("kills", "starts", "cuts", "lies", "deliver", "view", "liar", "refused", "spent", "convicted", "late runs", "unbounded", "unaudited")
+    told = ("kills", "starts", "torn", "cuts", "lies", "old", "withheld", "leaves", "deliver", "view", "liar", "refused", "spent",
+            "convicted", "late runs", "unbounded", "unaudited")
     print(f"{words.runs} runs, {wrong} wrong; {', '.join(f'{counts[it]} {it}' for it in told)}")
     sys.exit(1 if wrong else 0)
 
 
 if __name__ == "__main__":
-    main()
+    try:
+        main()
+    except KeyboardInterrupt:
+        sys.exit(130)

@@ -1,7 +1,7 @@
 #!/usr/bin/env python3
 """Runs pages of docs as their reader does, and holds what is written against what they show.
 
-    python3 tools/tutorial.py            runs TUTORIAL and EVIDENCE; the status is 1 where anything differs
+    python3 tools/tutorial.py            runs TUTORIAL, EVIDENCE and STORE; the status is 1 where anything differs
     python3 tools/tutorial.py PAGE       runs this one of them
     python3 tools/tutorial.py write      writes the tutorial's stories and what is shown of them for the gate's tests (crates/program_tests)
 
@@ -15,12 +15,15 @@ import signal
 import subprocess
 import sys
 import tempfile
+import time
 
 TOP = pathlib.Path(__file__).resolve().parent.parent
-PAGES = ("TUTORIAL", "EVIDENCE")
-PROGRAMS = ("story", "rampart", "witness")
+PAGES = ("TUTORIAL", "EVIDENCE", "STORE")
+PROGRAMS = ("story", "rampart", "witness", "store")
 # that a command may take
 MOST_SECONDS = 300
+# that what is left of one may take to put away what it made
+LAST_SECONDS = 10
 DATA = TOP / "crates" / "program_tests" / "src" / "tutorial" / "data.rt"
 
 
@@ -50,43 +53,72 @@ def steps(page):
             yield "file", re.search(r"`(\w+\.(?:story|lines))`", before).group(1), block[0] + "\n" + text
 
 
-def said(command, folder, groups):
+def is_left(child):
+    """Whether anything of the command's process group runs."""
+    child.poll()
+    try:
+        os.killpg(child.pid, 0)
+        return True
+    except ProcessLookupError:
+        return False
+
+
+def end(children):
+    """Ends what runs of these commands. Each may put away what it made."""
+    for how in (signal.SIGTERM, signal.SIGKILL):
+        until = time.monotonic() + LAST_SECONDS
+        for it in filter(is_left, children):
+            with contextlib.suppress(ProcessLookupError):
+                os.killpg(it.pid, how)
+        while any(map(is_left, children)) and time.monotonic() < until:
+            time.sleep(0.05)
+
+
+def said(command, folder, children):
     """Runs a command in a process group of its own, and returns what it wrote to standard output and to standard error."""
     child = subprocess.Popen(
         ["bash", "-c", command], cwd=folder, stdout=subprocess.PIPE, stderr=subprocess.PIPE, text=True, start_new_session=True)
-    groups.append(child.pid)
+    children.append(child)
     try:
-        return child.communicate(timeout=MOST_SECONDS)
+        told = child.communicate(timeout=MOST_SECONDS)
     except subprocess.TimeoutExpired:
         return "", f"not ended in {MOST_SECONDS} seconds\n"
+    if not is_left(child):
+        children.remove(child)
+    return told
 
 
-def run(page):
-    """Runs the commands of the page in a folder of their own, and returns how many of them wrote something else than it shows."""
-    differ, groups = 0, []
-    with tempfile.TemporaryDirectory() as folder:
-        for name in (*PROGRAMS, "tools", "examples"):
-            (pathlib.Path(folder) / name).symlink_to(TOP / name)
-        for what, name, text in steps(page):
-            if what == "file":
-                (pathlib.Path(folder) / name).write_text(text)
-                continue
-            output, errors = said(name, folder, groups)
-            told = "".join(line + "\n" for line in errors.splitlines() if not re.match(rf"({'|'.join(PROGRAMS)}): ", line))
-            if output + told != text:
-                differ += 1
-                print(f"{page} differs: {name}\n{output}{told}")
-        for it in groups:
-            # what it left running in the background
-            with contextlib.suppress(ProcessLookupError):
-                os.killpg(it, signal.SIGKILL)
+def run(page, folder, children):
+    """Runs the commands of the page in this folder, and returns how many of them wrote something else than it shows."""
+    differ = 0
+    for name in (*PROGRAMS, "tools", "examples"):
+        (pathlib.Path(folder) / name).symlink_to(TOP / name)
+    for what, name, text in steps(page):
+        if what == "file":
+            (pathlib.Path(folder) / name).write_text(text)
+            continue
+        output, errors = said(name, folder, children)
+        told = "".join(line + "\n" for line in errors.splitlines() if not re.match(rf"({'|'.join(PROGRAMS)}): ", line))
+        if output + told != text:
+            differ += 1
+            print(f"{page} differs: {name}\n{output}{told}")
     return differ
+
+
+def run_alone(page):
+    """The same, in a folder of its own. Whatever ends it, no process and no file is left."""
+    children = []
+    with tempfile.TemporaryDirectory() as folder:
+        try:
+            return run(page, folder, children)
+        finally:
+            end(children)
 
 
 def run_all(pages):
     for program in PROGRAMS:
         subprocess.run([str(TOP / program), "--prove"], check=True)
-    differ = sum(run(page) for page in pages)
+    differ = sum(run_alone(page) for page in pages)
     print(f"{differ} differ")
     return 1 if differ else 0
 
@@ -121,4 +153,8 @@ def write():
 
 
 if __name__ == "__main__":
-    sys.exit(write() if sys.argv[1:] == ["write"] else run_all(sys.argv[1:] or PAGES))
+    signal.signal(signal.SIGTERM, lambda *_: sys.exit(143))
+    try:
+        sys.exit(write() if sys.argv[1:] == ["write"] else run_all(sys.argv[1:] or PAGES))
+    except KeyboardInterrupt:
+        sys.exit(130)
