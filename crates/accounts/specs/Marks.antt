@@ -1,4 +1,4 @@
--- What an account told at a mark.
+-- What an account had at a mark.
 use Rattle.std.specs.Prelude.{◌≡◌, ◌-◌, ◌≤◌, ◌++◌, ◌∷◌, [], Bool, List, length, map, take, if◌then◌else◌}
 use Rattle.std.specs.Option.{MatchOption}
 use Rattle.group_defs.specs.Process as defs
@@ -6,7 +6,7 @@ use Rattle.group_defs.specs.Accounts.{Account}
 use Rattle.accounts.specs.declared.mark.AccountMark.{AccountMark}
 use Rattle.accounts.specs.Views.{perceived}
 
--- The account told `was` at the mark, and tells `now` since then: in the current view more may be delivered, more may be accepted, and
+-- The account was `was` at the mark, and is `now` since then: in the current view more may be delivered, more may be accepted, and
 -- where the mark keeps what was perceived, that may have changed.
 pub record TellsSince (m : AccountMark) (was now : Account) : Type 0 where
   pub number : now.me ≡ was.me

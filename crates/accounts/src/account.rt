@@ -3,13 +3,13 @@ use std::mem;
 use stmt_codec::{Delivered, Payload};
 use view_table::View;
 
-/// What a process tells of itself. The definitions' account of it, the word `account` of the specs says.
+/// What a process reports of itself. The word `account` of the specs gives the definitions' account of it.
 #[derive(Debug)]
 pub struct Account {
     /// The own number.
     pub me: Pid,
 
-    /// The views that it installed, the current one last. They are numbered as they stand, from 0 on.
+    /// The views that it installed, the current one last. They are numbered in this order, from 0 on.
     pub views: Vec<View>,
 
     /// For each of these views, what it delivered there, in order.

@@ -1,4 +1,4 @@
-//! Copies of what processes tell of themselves, so that they stand in a row.
+//! Copies of what processes report of themselves, so that they lie in a row.
 ghost use Rattle.std.specs.Prelude.{◌≡◌, map, IfOk};
 ghost use Rattle.accounts.specs.Views.{account, delivery};
 
@@ -67,7 +67,7 @@ fn copy_views(alloc: Global, views: &[View]) -> Result<Vec<View>, NoMemory>
     Ok(copies)
 }
 
-/// A copy of what a process tells of itself.
+/// A copy of what a process reports of itself.
 pub fn copy_account(alloc: Global, told: &Account) -> Result<Account, NoMemory>
     ensures { IfOk result (λ copy. account copy ≡ account told.now) }
 {

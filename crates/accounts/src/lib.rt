@@ -1,4 +1,4 @@
-//! What a process tells of itself: the views that it installed, what it delivered in each, what it accepted, and the updates
+//! What a process reports of itself: the views that it installed, what it delivered in each, what it accepted, and the updates
 //! that it perceived (docs/PROMISES.md). Reports and the questions of a group read nothing else of it.
 #![tactic(auto)]
 

@@ -9,7 +9,7 @@ use crate::account::Account;
 use rp_base::{NoMemory, Update};
 use stmt_codec::Delivered;
 
-/// What an account told at a mark: how much was delivered in the current view and how much was accepted, and the updates that were
+/// What an account had at a mark: how much was delivered in the current view and how much was accepted, and the updates that were
 /// perceived, where others may come.
 #[derive(Drop)]
 pub struct AccountMark {
@@ -29,7 +29,7 @@ fn count_last(lists: &[Vec<Delivered>]) -> usize
     }
 }
 
-// Forgets what was delivered in the current view behind the first so many.
+// Forgets what was delivered in the current view after the first `count`.
 fn cut_last(lists: &mut Vec<Vec<Delivered>>, count: usize)
     ensures { (before : List (List defs.Delivered)) (last : List defs.Delivered)
         → map (λ ds. map delivery ds.items) lists.old.items ≡ before ++ last ∷ []
@@ -41,7 +41,7 @@ fn cut_last(lists: &mut Vec<Vec<Delivered>>, count: usize)
 }
 
 impl AccountMark {
-    /// Marks an account of which nothing is told: room for a mark.
+    /// An empty mark, to be filled later.
     pub fn new() -> AccountMark
         ensures delivered { result.delivered ≡ 0 }
         ensures accepted { result.accepted ≡ 0 }
@@ -67,7 +67,7 @@ impl Account {
         Ok(Some(Vec::from_slice(alloc, &self.perceived)?))
     }
 
-    /// Marks in `mark` what is told, so that it can be gone back to. `asks` says whether an update may be perceived until then.
+    /// Marks in `mark` what the account has, so that it can be gone back to. `asks` says whether an update may be perceived until then.
     pub fn mark(&self, asks: bool, mark: &mut AccountMark) -> Result<(), NoMemory>
         ensures tells { (before : List (List defs.Delivered)) (last : List defs.Delivered)
             → (account self.now).delivered ≡ before ++ last ∷ []
@@ -80,7 +80,7 @@ impl Account {
         Ok(())
     }
 
-    /// Goes back to what was told at the mark. It takes no memory.
+    /// Goes back to what the account had at the mark. It takes no memory.
     pub fn rewind(&mut self, mark: &mut AccountMark)
         ensures { (was : plain.Account) → TellsSince mark.old was (account self.old) → account self.new ≡ was }
     {

@@ -1,4 +1,4 @@
--- A rule of signatures beside claims that were seen: what is known of a signature before the rule is asked.
+-- A rule of signatures with claims that were seen: what is known of a signature before the rule is asked.
 use Rattle.std.specs.Prelude.{ℕ, ◌==◌, ◌&&◌, ◌||◌, nat_lt, if◌then◌else◌, Bool, List, [], ◌∷◌, drop, find, Option, Some, None, option_map, Result, Ok, Err}
 use Rattle.byte_defs.specs.Choices.{is_some_and}
 use Rattle.byte_defs.specs.Equality.{same_bytes}
@@ -33,7 +33,7 @@ abbrev pub is_known : (group : List ℕ) → (roster : List (ℕ × List ℕ)) �
 is_known group roster t key bytes signature =
     is_some_and (claim_in (drop 20 bytes) signature) (λ c. is_under group roster key bytes c && is_first t c)
 
--- what is known is valid, and of all else the rule tells
+-- what is known is valid, and all else is judged by the rule
 abbrev pub known_or_valid : (List ℕ → List ℕ → List ℕ → Bool) → (group : List ℕ) → (roster : List (ℕ × List ℕ)) → Table
     → (key bytes signature : List ℕ) → Bool
 known_or_valid valid group roster t key bytes signature = is_known group roster t key bytes signature || valid key bytes signature

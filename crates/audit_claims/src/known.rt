@@ -12,7 +12,7 @@ use claim_firsts::Firsts;
 use rp_base::{GroupId, Pid, Roster, Scheme};
 use stmt_codec::{Claim, read_statement};
 
-/// A rule of signatures, beside claims that were seen: a claim that is the first of its signer on its slot was verified before it was
+/// A rule of signatures, with claims that were seen: a claim that is the first of its signer on its slot was verified before it was
 /// seen, and is not verified again. Where all that was seen is valid by the rule, this answers as the rule does. So a signature that
 /// several journals hold is verified once.
 #[derive(Clone, Copy)]

@@ -40,7 +40,7 @@ shown_of c = record { told = told_of c; evidence = evidence_of c }
 
 -- ---- all of it
 
--- what is reported; the claims of the convictions among it; and of each listed process, whom the claims convict that were handed to it
+-- what is reported; the claims of the convictions among it; and for each listed process, whom the claims handed to it convict
 pub record Found : Type 0 where
   pub told : plain.Findings
   pub evidence : List Evidence
@@ -53,7 +53,7 @@ found_of f grounds = record { told = findings f; evidence = map evidence f.convi
 abbrev pub listed_in : Found → List ℕ
 listed_in f = map (λ g. g.0) f.grounds
 
--- whom the claims convict that were handed to the process; nobody where it is not listed
+-- whom the claims handed to the process convict; nobody where it is not listed
 abbrev pub grounds_by : ℕ → List (ℕ × List ℕ) → List ℕ
 grounds_by p grounds = elim (find (λ g. g.0 == p) grounds) [ None ↦ [] | Some g ↦ g.1 ]
 

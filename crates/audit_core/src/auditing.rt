@@ -49,7 +49,7 @@ fn walk_of<'a>(
 /// Walks over the journals of processes of a group, each up to its closed gate: the processes of `correct` start, and each takes its entries.
 ///
 /// # Errors
-/// As of [`audit`].
+/// Those of [`audit`].
 pub fn walk_all<'a>(
     alloc: Global,
     kit: &Kit,
@@ -75,11 +75,11 @@ pub fn walk_all<'a>(
 }
 
 /// Audits the journals of processes of a group: the processes of `correct` are taken as correct, and all others as corrupt. Each journal is
-/// read up to its closed gate. What the correct ones' entries say gives a family, of which the findings tell; and whom the claims convict
+/// read up to its closed gate. What the correct ones' entries say gives a family, which the findings are of; and whom the claims convict
 /// that were handed to them or are their own words.
 ///
 /// # Errors
-/// Beside [`AuditFault::NoMemory`] the first of these: an entry at place 0 of the first journal whose header is not of the kit; `Missing` of
+/// [`AuditFault::NoMemory`], else the first of these: an entry at place 0 of the first journal whose header is not of the kit; `Missing` of
 /// the least of the processes that no journal hosts; `Repeated` of the least that two journals or more host; the first entry that
 /// is refused, by journal and place.
 pub fn audit(

@@ -14,7 +14,7 @@ use std::mem;
 pub struct Findings {
     told: findings_json::Findings,
 
-    // of each listed process, rising, whom the claims convict that were handed to it
+    // of each listed process, rising, whom the claims handed to it convict
     grounds: Vec<(Pid, PidSet)>,
 }
 
@@ -35,7 +35,7 @@ impl Model for Findings {
     ghost view = { λ f. found_of f.told f.grounds.items };
 }
 
-// Whom the claims convict that were handed to the process; nobody where it is not listed.
+// Whom the claims handed to the process convict; nobody where it is not listed.
 fn grounds_in(grounds: &[(Pid, PidSet)], p: Pid) -> PidSet
     ensures { result ≡ grounds_by p grounds.now }
 {
@@ -54,14 +54,14 @@ impl Findings {
     ghost use Rattle.findings_json.specs.Views.{told};
     ghost use Rattle.audit_core.specs.Found.{evidence, found_of, grounds_by, listed_in};
 
-    /// Of these parts.
+    /// The findings of these parts.
     pub(crate) fn new(told: findings_json::Findings, grounds: Vec<(Pid, PidSet)>) -> Findings
         ensures { result ≡ found_of told grounds.items }
     {
         Findings { told, grounds }
     }
 
-    /// What the listed processes tell of themselves, by rising process number.
+    /// What the listed processes report of themselves, by rising process number.
     pub fn accounts(&self) -> &[Account]
         ensures { map account result.now ≡ self.now.told.accounts }
     {
@@ -84,7 +84,7 @@ impl Findings {
         self.told.honest
     }
 
-    /// Whom the claims convict that were handed to this process, which is listed. It takes no memory.
+    /// Whom the claims handed to this process, which is listed, convict. It takes no memory.
     pub fn grounds(&self, p: Pid) -> PidSet
         requires listed { Contains (listed_in self.now) p }
         ensures { result ≡ grounds_by p self.now.grounds }

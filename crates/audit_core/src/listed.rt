@@ -14,7 +14,7 @@ use audit_cast::Player;
 use rp_base::{NoMemory, Pid, PidSet};
 use std::alloc::Global;
 
-/// What each of the processes tells of itself, copied.
+/// What each of the processes reports of itself, copied.
 pub(crate) fn accounts_of(alloc: Global, players: &[Player<'_>]) -> Result<Vec<Account>, NoMemory>
     ensures { (s : Setting) (cs : List plain.Player) → AllZip (IsPlayer s) cs players.now
         → IfOk result (λ all. map account all.items ≡ map (λ c. account_of c.now) cs) }
@@ -27,7 +27,7 @@ pub(crate) fn accounts_of(alloc: Global, players: &[Player<'_>]) -> Result<Vec<A
     Ok(all)
 }
 
-/// Of each of the processes, whom the claims convict that were handed to it. The roster is one that rises, as every `Roster` does.
+/// For each of the processes, whom the claims handed to it convict. The roster rises, as every `Roster` does.
 pub(crate) fn all_grounds(
     alloc: Global,
     players: &[Player<'_>],

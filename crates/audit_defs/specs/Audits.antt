@@ -10,14 +10,14 @@ use Rattle.kit_defs.specs.Kits.{Kit}
 use Rattle.audit_defs.specs.Sources.{Source, source_of, Step, Takes, Breaks, steps_of}
 use Rattle.audit_defs.specs.Players.{Player, Taken, setting_of, is_missing, is_repeated, players_of, taking, family_of}
 
--- why journals are refused. Beside want of memory the first of these is told, in this order: Entry with place 0 of the first journal whose
+-- why journals are refused. Apart from want of memory the first of these is given, in order: Entry with place 0 of the first journal whose
 -- header differs; Missing of the least process; Repeated of the least process; Entry of the first refused entry, by journal and place.
 pub data AuditFault : Type 0 where
   -- no journal hosts the listed process
   Missing : (process : ℕ) → AuditFault
   -- two or more do
   Repeated : (process : ℕ) → AuditFault
-  -- at place 0 the header differs; else what stands at the gate is no entry, or not one of the process that it names
+  -- at place 0 the header differs; else what is at the gate is no entry, or not one of the process that it names
   Entry : (journal place : ℕ) → AuditFault
 
 -- the index of the first journal whose header differs

@@ -1,4 +1,4 @@
--- Evidence that outlives an audit. The findings tell the two statements of a convicted process, and nobody can check them without the
+-- Evidence that outlives an audit. The findings give the two statements of a convicted process, and nobody can check them without the
 -- journals. A frame that holds both claims with their signatures can be checked by whoever has the public lines of the kit:
 --   evidence P HEX       P is convicted, and HEX is a Bundle of the two claims that convict it, in their order
 -- A frame convicts the signers of two valid claims in it that conflict.

@@ -1,8 +1,8 @@
--- What an audit writes: one line of JSON with no blank, an object whose keys stand in the order of their letters.
+-- What an audit writes: one line of JSON with no blank, an object whose keys are in the order of their letters.
 --   {"agree":B,"bounded":B,"convicted":[C,C],"honest":B,"processes":[P,P],"sound":B}
 --   P, of each listed process, rising:   {"delivered":D,"process":P,"views":[[M,M],[M,M]]}
 --   C, by process number:                {"first":"HEX","kind":N,"process":P,"second":"HEX"}
--- D counts the messages that it delivered in all views; the views' members stand in rank order; HEX is a statement's bytes, and N its kind,
+-- D counts the messages that it delivered in all views; the views' members are in rank order; HEX is a statement's bytes, and N its kind,
 -- 3 to 5 for an Order, a Place or a Keep of several messages too.
 -- Or the line that says why there are no findings.
 use Rattle.std.specs.Prelude.{ℕ, Bool, ◌==◌, if◌then◌else◌, List, [], ◌∷◌, ◌++◌, length, map, sum, find, codes, Some, None, Result, Ok, Err}
@@ -22,7 +22,7 @@ use Rattle.conviction_defs.specs.Convictions.{Conviction, convictions, convicted
 use Rattle.audit_defs.specs.Audits as audits
 use Rattle.audit_defs.specs.Audits.{Audited, AuditFault, Entry, audited}
 
--- a conviction as it is told: of the two statements, the number of their kind, and the bytes of each
+-- a conviction as it is reported: of the two statements, the number of their kind, and the bytes of each
 pub record Told : Type 0 where
   pub process : ℕ
   pub kind : ℕ
@@ -57,7 +57,7 @@ findings_of a = record {
   sound = sound (accounts a.family) (keyed a.family.setting);
 }
 
--- whom the claims convict that were handed to this process; none where it is not listed
+-- whom the claims handed to this process convict; none where it is not listed
 abbrev pub grounds : Audited → ℕ → List ℕ
 grounds a p = elim (find (λ c. c.me == p) a.family.correct) [
   | None ↦ []
@@ -129,7 +129,7 @@ audit_of listed bytes = elim (input_of bytes) [
   | Ok input ↦ elim (audited input.kit listed input.journals) [ Err fault ↦ Err (Refused fault) | Ok a ↦ Ok a ]
 ]
 
--- what is told of a line's fault, behind `stop 7`
+-- what is reported of a line's fault, after `stop 7`
 abbrev pub line_words : KitFault → List (List ℕ)
 line_words (Line n) = codes "line" ∷ decimal n ∷ []
 line_words (Repeated n) = codes "repeated" ∷ decimal n ∷ []
@@ -143,7 +143,7 @@ status_of (Refused (audits.Missing p)) = 7
 status_of (Refused (audits.Repeated p)) = 7
 status_of (Refused (Entry j place)) = 8
 
--- what is told behind the status
+-- what is reported after the status
 abbrev pub stop_words : NoFindings → List (List ℕ)
 stop_words (NoInput fault) = line_words fault
 stop_words (Refused (audits.Missing p)) = codes "unhosted" ∷ decimal p ∷ []

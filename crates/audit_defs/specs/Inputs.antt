@@ -1,6 +1,6 @@
 -- The input of an audit: a kit up to `go`, and then for each journal
 --   journal LENGTH
--- and behind that line so many bytes, which may be anything. Lines are counted without the journals' bytes. A line behind `go` is Line
+-- and after that line LENGTH bytes, which may be anything. Lines are counted without the journals' bytes. A line after `go` is Line
 -- where it is not of this form, where it is that of a 65th journal, where its LENGTH is above 1,073,741,824 or brings the sum of all above
 -- 2,147,483,648, and where the input ends within its journal.
 use Rattle.std.specs.Prelude.{ℕ, zero, suc, ◌+◌, ◌-◌, nat_lt, if◌then◌else◌, List, [], ◌∷◌, ◌++◌, length, take, drop, flat_map, codes, Option, None, Result, Ok, Err}
@@ -31,7 +31,7 @@ abbrev pub length_of : List (List ℕ) → Option ℕ
 length_of (word ∷ number ∷ []) = if same_bytes word (codes "journal") then number_within 0 most_journal_bytes number else None
 length_of _ = None
 
--- So many journals may still come, from the line of this number on, and so many bytes in them.
+-- At most `left` journals may still come, from line n on, and `room` bytes in them.
 unfoldable pub journals_at : ℕ → ℕ → ℕ → List ℕ → Result (List (List ℕ)) KitFault
 journals_at left n room [] = Ok []
 journals_at zero n room (c ∷ bytes) = Err (Line n)

@@ -67,13 +67,13 @@ abbrev pub takes_at : ℕ → ℕ → List Entry → List Step
 takes_at j place [] = []
 takes_at j place (e ∷ es) = Takes j place e ∷ takes_at j (place + length (record_bytes e)) es
 
--- records up to a closed gate are walked entry by entry, and what stands behind that gate is not read
+-- records up to a closed gate are walked entry by entry, and what comes after that gate is not read
 abbrev pub JournalIsWalked : Type 0
 JournalIsWalked = (j place : ℕ) (es : List Entry) (gate : ℕ) (unread : List ℕ) → AllByRecursion IsEntry es → gate ≢ open_gate
     → steps_from (length (flat_map record_bytes es ++ gate ∷ unread)) j place (flat_map record_bytes es ++ gate ∷ unread)
     ≡ takes_at j place es
 
--- records up to an open gate behind which no record is read are walked entry by entry, and the walk breaks at that gate
+-- records up to an open gate after which no record is read are walked entry by entry, and the walk breaks at that gate
 abbrev pub BreakIsMet : Type 0
 BreakIsMet = (j place : ℕ) (es : List Entry) (behind : List ℕ) → AllByRecursion IsEntry es → record_at behind ≡ Err tt
     → steps_from (length (flat_map record_bytes es ++ open_gate ∷ behind)) j place (flat_map record_bytes es ++ open_gate ∷ behind)

@@ -28,7 +28,7 @@ setting_of kit = record {
   signs = all_kinds;
 }
 
--- a process that is taken as correct: the index of the journal that hosts it, how it stands now, and the turns that it has taken
+-- a process that is taken as correct: the index of the journal that hosts it, its state now, and the turns that it has taken
 pub record Player : Type 0 where
   pub me : ℕ
   pub batch_limit : ℕ
@@ -87,8 +87,8 @@ most_signatures = 4294967295
 abbrev pub same_answer : Bool → Bool → Bool
 same_answer a b = if a then b else not b
 
--- The process may have written the entry: it would sign just so many statements and lack a further signature exactly where the entry says
--- so; each of the signatures is valid for the statement that it stands for; and the process makes no more of them than there are.
+-- The process may have written the entry: it signs as many statements as that has signatures, and lacks a further one exactly where that
+-- says so; each of the signatures is valid for its statement; and the process makes no more of them than there are.
 abbrev pub is_written : Setting → Process → Entry → Bool
 is_written s p e =
     let o : Outcome = outcome s p (turn_of p e) in
@@ -126,7 +126,7 @@ absorbed s j e c others =
     if (c.journal == j) && is_written s c.now e
     then Some (record { players = with_turn s c (turn_of c.now e) ∷ others; claims = claims_of s c.now (turn_of c.now e) }) else None
 
--- the same, behind a process that is not the entry's
+-- the same, after a process that is not the entry's
 abbrev pub behind : Player → Taken → Taken
 behind c t = record { players = c ∷ t.players; claims = t.claims }
 

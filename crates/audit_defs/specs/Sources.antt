@@ -20,7 +20,7 @@ pub record Source : Type 0 where
   pub hosted : List ℕ
   pub records : List ℕ
 
--- how many bytes stand before the first gate
+-- how many bytes come before the first gate
 abbrev pub head_bytes : ℕ
 head_bytes = 60
 
@@ -32,7 +32,7 @@ version_of bytes = first_that_holds ((same_bytes (take 4 bytes) (magic One), One
 abbrev pub hosted_of : List ℕ → List ℕ
 hosted_of bytes = members (from_be_bytes w64 (take 8 (drop 20 bytes)))
 
--- behind the magic the header is of this kit: its group, processes of its roster, its digest
+-- after the magic the header is of this kit: its group, processes of its roster, its digest
 abbrev pub is_of_kit : Kit → List ℕ → Bool
 is_of_kit kit bytes =
     same_bytes (take 16 (drop 4 bytes)) kit.group
@@ -47,13 +47,13 @@ source_of kit bytes =
 
 -- ---- what an audit comes across in a journal
 
--- at a gate: an entry behind it, or none where the gate is open. Each has its journal's index and the gate's place
+-- at a gate: the entry after it, or none though the gate is open. Each has its journal's index and the gate's place
 pub data Step : Type 0 where
   Takes : (journal place : ℕ) (entry : Entry) → Step
   Breaks : (journal place : ℕ) → Step
 
--- From a gate on, which is at this place, at most so many gates: the entries up to the first closed gate, or to the first open one without
--- a whole entry and a next gate behind it.
+-- From the gate at this place on, at most this many gates: the entries up to the first closed gate, or to the first open one without
+-- a whole entry and a next gate after it.
 unfoldable pub steps_from : ℕ → ℕ → ℕ → List ℕ → List Step
 steps_from zero j place bytes = []
 steps_from (suc more) j place [] = []

@@ -1,4 +1,4 @@
--- Places of an input behind the line `go`, and what is read from one on.
+-- Places of an input after the line `go`, and what is read from one on.
 use Rattle.std.specs.Prelude.{ℕ, ◌+◌, ◌-◌, ◌&&◌, nat_le, nat_lt, if◌then◌else◌, List, [], ◌∷◌, ◌++◌, length, take, drop, Option, Some, None, option_and_then, Result, Ok, Err}
 use Rattle.byte_defs.specs.Fields.{◌>>=◌}
 use Rattle.text_defs.specs.Words.{number_within, words_of}
@@ -38,7 +38,7 @@ behind_journal journal p more = and_then (journal ∷ []) (journals_from p more)
 
 -- ---- a line
 
--- the length that the words behind `journal` are
+-- the length that the words after `journal` are
 abbrev pub length_behind : List (List ℕ) → Option ℕ
 length_behind (number ∷ []) = number_within 0 most_journal_bytes number
 length_behind _ = None
@@ -47,13 +47,13 @@ length_behind _ = None
 abbrev pub length_within : ℕ → ℕ → List ℕ → Option ℕ
 length_within left room line = option_and_then (λ len. if nat_lt 0 left && nat_le len room then Some len else None) (length_of (words_of line))
 
--- The journals behind a line that names this length, and was read at a place, of these bytes: the first so many are a journal, and fewer
+-- The journals after a line that names this length, and was read at a place, of these bytes: the first `len` are a journal, and fewer
 -- make the line faulty.
 abbrev pub journals_behind : ℕ → Place → List ℕ → Journals
 journals_behind len p bytes =
     if nat_lt (length bytes) len then Err (Line p.number)
     else and_then (take len bytes ∷ []) (journals_at (p.left - 1) (p.number + 1) (p.room - len) (drop len bytes))
 
--- the same, with these further bytes behind those that are read
+-- the same, with these further bytes after those that are read
 abbrev pub behind_line : ℕ → Place → List ℕ → Journals
 behind_line len p more = journals_behind len p (p.ahead ++ more)

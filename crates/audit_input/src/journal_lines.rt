@@ -19,7 +19,7 @@ const MOST_LINE: usize = 18;
 /// The most bytes of a journal.
 const MOST_JOURNAL_BYTES: u32 = 1_073_741_824;
 
-// The length that the words behind the first one are.
+// The length that the words after the first one are.
 fn length_of_rest(mut words: Words<'_>) -> Option<u32>
     ensures { result ≡ length_behind (parts_left words.entry) }
 {
@@ -54,7 +54,7 @@ fn length_that_fits(line: &[u8], left: usize, room: usize) -> Option<usize>
     }
 }
 
-/// Takes the line of the next journal, which has this number, where so many journals may still come, and so many bytes in them. It
+/// Takes the line of the next journal, which has this number, where `left` journals may still come, and `room` bytes in them. It
 /// answers the journal's length, and None at the input's end.
 ///
 /// # Errors

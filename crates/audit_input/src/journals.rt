@@ -18,7 +18,7 @@ const MOST_JOURNALS: usize = 64;
 /// How many bytes all of them have together at most.
 const MOST_BYTES: usize = 2_147_483_648;
 
-// The next journal, whose line has this number, where so many may still come, and so many bytes in them; None at the input's end. Its vector
+// The next journal, whose line has this number, where `left` may still come, and `room` bytes in them; None at the input's end. Its vector
 // grows with what comes, and not with the length that its line names.
 fn next_journal<S: Source>(
     alloc: Global,
@@ -47,7 +47,7 @@ fn next_journal<S: Source>(
     }
 }
 
-// Puts a journal behind those that were read.
+// Puts a journal after those that were read.
 fn push_journal(journals: &mut Vec<Payload>, journal: Payload) -> Result<(), NoMemory>
     ensures { OnOk result (journals.new.items ≡ journals.old.items ++ journal ∷ []) }
 {

@@ -1,4 +1,4 @@
-//! The input of an audit: a kit up to the line `go`, and then journals of any bytes, each behind a line that names its length
+//! The input of an audit: a kit up to the line `go`, and then journals of any bytes, each after a line that names its length
 //! (docs/FORMATS.md, «Audit»).
 #![tactic(auto)]
 

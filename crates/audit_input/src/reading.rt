@@ -19,11 +19,11 @@ use stmt_codec::Payload;
 pub struct Input {
     pub kit: Kit,
 
-    /// Of any bytes, in the order of the input.
+    /// Any bytes, in the order of the input.
     pub journals: Vec<Payload>,
 }
 
-// The number of the line behind the line of this number.
+// The number of the line after the line of this number.
 fn line_behind(line: usize) -> Result<usize, FrontFault>
     ensures next { IfOk result (λ n. n ≡ line + 1) }
     ensures only { IfErr result (λ e. front_fault e ≡ None) }
@@ -43,7 +43,7 @@ pub fn read_input<S: Source>(alloc: Global, input: &mut S) -> Result<Input, Fron
     ensures found { IfOk result (λ seen. Ends input_of (S.left input.old) (S.left input.new) (Ok (input_seen seen))) }
     ensures kit { IfOk result (λ seen. IsKit seen.kit) }
 
-    // The input has this fault, whatever comes behind what was read, or as it ends there.
+    // The input has this fault, whatever comes after what was read, or as it ends there.
     ensures fault { IfErr result (λ e. IfSome (front_fault e) (λ f. Settles input_of (S.left input.old) (S.left input.new) (Err f))) }
     ensures failed { IsErrOf result FrontFault.Read → Rose (S.faults input.old) (S.faults input.new) }
     ensures steady { IsErrOf result FrontFault.Read ⊎ (S.faults input.new ≡ S.faults input.old) }

@@ -20,7 +20,7 @@ pub fn none_listed_is_convicted()
     ensures { NoneListedIsConvicted }
 {}
 
-/// Whether the family is honest is told by the first claim of each signer and slot.
+/// The first claim of each signer and slot shows whether the family is honest.
 pub fn honest_by_firsts()
     ensures { HonestByFirsts }
 {}
@@ -49,7 +49,7 @@ pub fn family_is_of_entries()
 
 // ---- of evidence
 
-/// A frame of which each valid claim of a correct process is that process's own word convicts no correct process.
+/// A frame whose valid claims of correct processes are all their own words convicts no correct process.
 pub fn evidence_spares_correct()
     ensures { EvidenceSparesCorrect }
 {}

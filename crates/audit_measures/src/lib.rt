@@ -1,4 +1,4 @@
-//! The time of an audit, beside that of taking the same entries alone, and that of the SHA-256 blocks of the signatures, each hashed once.
+//! The time of an audit, that of taking the same entries alone, and that of the SHA-256 blocks of the signatures, each hashed once.
 //! The input is that of `rampart audit`: a kit, and a journal of each member of its first view, in their order.
 #![tactic(auto)]
 
@@ -55,7 +55,7 @@ fn time_absorb(rt: &(impl AllocGlobal + CpuClock), input: &Input) -> Result<(f64
     Ok((ended - begun, counts))
 }
 
-// The seconds of hashing so many blocks, and nothing else.
+// The seconds of hashing `blocks` blocks, and nothing else.
 fn time_hashing(rt: &impl CpuClock, blocks: u64) -> Result<f64> {
     match u32::try_from(blocks) {
         Ok(count) => Ok(time_blocks(rt, count)?.seconds),

@@ -1,4 +1,4 @@
--- Process 3 tells one payload to process 0 and another to process 1, whose journals are two: only both together convict it.
+-- Process 3 sends one payload to process 0 and another to process 1, whose journals are two: only both together convict it.
 use Rattle.std.specs.Prelude.{◌≡◌, List, [], ◌∷◌, ◌++◌, codes}
 use Rattle.journal_defs.specs.declared.Version.TheVariants.{One}
 use Rattle.audit_defs.specs.Sources.{Source}

@@ -1,4 +1,4 @@
--- What is told as delivered are messages, of all views.
+-- What is reported as delivered are messages, of all views.
 use Rattle.std.specs.Prelude.{◌≡◌, List, [], ◌∷◌, ◌++◌, codes}
 use Rattle.journal_defs.specs.declared.Version.TheVariants.{Two}
 use Rattle.audit_defs.specs.Sources.{Source}

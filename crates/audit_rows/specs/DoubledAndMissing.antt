@@ -1,4 +1,4 @@
--- Two journals host process 1, and none hosts process 3: the missing one is told, though its number is greater.
+-- Two journals host process 1, and none hosts process 3: the missing one is reported, though its number is greater.
 use Rattle.std.specs.Prelude.{◌≡◌, List, [], ◌∷◌, codes}
 use Rattle.journal_defs.specs.declared.Version.TheVariants.{One}
 use Rattle.audit_defs.specs.Sources.{Source}

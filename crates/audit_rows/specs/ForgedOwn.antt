@@ -1,4 +1,4 @@
--- A signature of an entry is not valid for the statement that it stands for.
+-- A signature of an entry is not valid for its statement.
 use Rattle.std.specs.Prelude.{◌≡◌, List, [], ◌∷◌, codes}
 use Rattle.journal_defs.specs.declared.Version.TheVariants.{One}
 use Rattle.audit_defs.specs.Sources.{Source}

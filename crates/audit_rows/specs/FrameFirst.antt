@@ -1,4 +1,4 @@
--- Process 0 is handed an Echo in its own name beside the Init, and signs another in the same entry: what was handed over stands first.
+-- Process 0 is handed an Echo in its own name beside the Init, and signs another in the same entry: what was handed over comes first.
 use Rattle.std.specs.Prelude.{◌≡◌, List, [], ◌∷◌, ◌++◌, codes}
 use Rattle.journal_defs.specs.declared.Version.TheVariants.{One}
 use Rattle.audit_defs.specs.Sources.{Source}

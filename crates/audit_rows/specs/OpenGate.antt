@@ -1,4 +1,4 @@
--- An open gate with no whole entry behind it.
+-- An open gate with no whole entry after it.
 use Rattle.std.specs.Prelude.{◌≡◌, List, [], ◌∷◌, codes}
 use Rattle.journal_defs.specs.declared.Version.TheVariants.{One}
 use Rattle.audit_defs.specs.Sources.{Source}

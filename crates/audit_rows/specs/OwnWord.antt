@@ -1,4 +1,4 @@
--- Process 0 accepts a payload and signs its Init and Echo; process 1 is handed another Init of it, which is valid. Its own journal convicts it, and it is not honest.
+-- Process 0 signs its Init and Echo, and process 1 is handed another valid Init of it: its own journal convicts it, and it is not honest.
 use Rattle.std.specs.Prelude.{◌≡◌, List, [], ◌∷◌, ◌++◌, codes}
 use Rattle.journal_defs.specs.declared.Version.TheVariants.{One}
 use Rattle.audit_defs.specs.Sources.{Source}

@@ -1,4 +1,4 @@
--- The same journals in the other order: the Init that was handed over stands first.
+-- The same journals in the other order: the Init that was handed over comes first.
 use Rattle.std.specs.Prelude.{◌≡◌, List, [], ◌∷◌, ◌++◌, codes}
 use Rattle.journal_defs.specs.declared.Version.TheVariants.{One}
 use Rattle.audit_defs.specs.Sources.{Source}

@@ -1,4 +1,4 @@
--- How the rows are written: a signature is valid where it has no byte, and a journal is what stands behind its header.
+-- How the rows are written: a signature is valid where it has no byte, and a journal is what follows its header.
 use Rattle.std.specs.Prelude.{ℕ, ◌==◌, List, [], length, map, Result, Ok, Err}
 use Rattle.group_defs.specs.Process.{all_kinds, Setting}
 use Rattle.journal_defs.specs.declared.Version.{Version}

@@ -1,4 +1,4 @@
--- What was handed over in the name of process 1 stands in a later journal as its own word: honest looks at the end.
+-- What was handed over in the name of process 1 is in a later journal as its own word: honest looks at the end.
 use Rattle.std.specs.Prelude.{◌≡◌, List, [], ◌∷◌, ◌++◌, codes}
 use Rattle.journal_defs.specs.declared.Version.TheVariants.{One}
 use Rattle.audit_defs.specs.Sources.{Source}

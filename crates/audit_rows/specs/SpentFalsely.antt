@@ -1,4 +1,4 @@
--- An entry says that a signature was wanting, and none was due.
+-- An entry says that a signature was missing, and none was due.
 use Rattle.std.specs.Prelude.{◌≡◌, List, [], ◌∷◌, codes}
 use Rattle.journal_defs.specs.declared.Version.TheVariants.{One}
 use Rattle.audit_defs.specs.Sources.{Source}

@@ -1,4 +1,4 @@
--- An entry that says rightly that a further signature was wanting: the process signed its Init and no more.
+-- An entry that says rightly that a further signature was missing: the process signed its Init and no more.
 use Rattle.std.specs.Prelude.{◌≡◌, List, [], ◌∷◌, ◌++◌, codes}
 use Rattle.journal_defs.specs.declared.Version.TheVariants.{One}
 use Rattle.audit_defs.specs.Sources.{Source}

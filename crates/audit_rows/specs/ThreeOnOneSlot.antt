@@ -1,4 +1,4 @@
--- Of three claims on one slot the first is told, and the first that conflicts with one before it.
+-- Of three claims on one slot the first is reported, and the first that conflicts with one before it.
 use Rattle.std.specs.Prelude.{◌≡◌, List, [], ◌∷◌, ◌++◌, codes}
 use Rattle.journal_defs.specs.declared.Version.TheVariants.{One}
 use Rattle.audit_defs.specs.Sources.{Source}

@@ -1,4 +1,4 @@
--- A signature is wanting in an entry.
+-- A signature is missing in an entry.
 use Rattle.std.specs.Prelude.{◌≡◌, List, [], ◌∷◌, codes}
 use Rattle.journal_defs.specs.declared.Version.TheVariants.{One}
 use Rattle.audit_defs.specs.Sources.{Source}

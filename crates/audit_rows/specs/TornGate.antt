@@ -1,4 +1,4 @@
--- Behind the entries a closed gate that was never written whole, and bytes that mean nothing: they are not read.
+-- After the entries come a closed gate that was never written whole, and bytes that mean nothing: they are not read.
 use Rattle.std.specs.Prelude.{◌≡◌, List, [], ◌∷◌, ◌++◌, codes}
 use Rattle.journal_defs.specs.declared.Version.TheVariants.{One}
 use Rattle.audit_defs.specs.Sources.{Source}

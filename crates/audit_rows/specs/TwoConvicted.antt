@@ -1,4 +1,4 @@
--- Two are convicted: they are told by their numbers, whoever lied first.
+-- Two are convicted: they are reported by their numbers, whoever lied first.
 use Rattle.std.specs.Prelude.{◌≡◌, List, [], ◌∷◌, ◌++◌, codes}
 use Rattle.journal_defs.specs.declared.Version.TheVariants.{One}
 use Rattle.audit_defs.specs.Sources.{Source}

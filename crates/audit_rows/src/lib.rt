@@ -55,7 +55,7 @@ pub fn no_journal()
     ensures { NoJournal }
 {}
 
-/// Two journals host process 1, and none hosts process 3: the missing one is told, though its number is greater.
+/// Two journals host process 1, and none hosts process 3: the missing one is reported, though its number is greater.
 pub fn doubled_and_missing()
     ensures { DoubledAndMissing }
 {}
@@ -65,7 +65,7 @@ pub fn doubled_alone()
     ensures { DoubledAlone }
 {}
 
-/// Process 3 tells one payload to process 0 and another to process 1, whose journals are two: only both together convict it.
+/// Process 3 sends one payload to process 0 and another to process 1, whose journals are two: only both together convict it.
 pub fn across_journals()
     ensures { AcrossJournals }
 {}
@@ -90,17 +90,17 @@ pub fn not_valid()
     ensures { NotValid }
 {}
 
-/// Of three claims on one slot the first is told, and the first that conflicts with one before it.
+/// Of three claims on one slot the first is reported, and the first that conflicts with one before it.
 pub fn three_on_one_slot()
     ensures { ThreeOnOneSlot }
 {}
 
-/// Process 0 accepts a payload and signs its Init and Echo; process 1 is handed another Init of it, which is valid. Its own journal convicts it, and it is not honest.
+/// Process 0 signs its Init and Echo, and process 1 is handed another valid Init of it: its own journal convicts it, and it is not honest.
 pub fn own_word()
     ensures { OwnWord }
 {}
 
-/// The same journals in the other order: the Init that was handed over stands first.
+/// The same journals in the other order: the Init that was handed over comes first.
 pub fn own_word_last()
     ensures { OwnWordLast }
 {}
@@ -115,12 +115,12 @@ pub fn batch_kind()
     ensures { BatchKind }
 {}
 
-/// Behind the entries a closed gate that was never written whole, and bytes that mean nothing: they are not read.
+/// After the entries come a closed gate that was never written whole, and bytes that mean nothing: they are not read.
 pub fn torn_gate()
     ensures { TornGate }
 {}
 
-/// An open gate with no whole entry behind it.
+/// An open gate with no whole entry after it.
 pub fn open_gate()
     ensures { OpenGate }
 {}
@@ -140,22 +140,22 @@ pub fn passed_over()
     ensures { PassedOver }
 {}
 
-/// A signature is wanting in an entry.
+/// A signature is missing in an entry.
 pub fn too_few()
     ensures { TooFew }
 {}
 
-/// An entry says that a signature was wanting, and none was due.
+/// An entry says that a signature was missing, and none was due.
 pub fn spent_falsely()
     ensures { SpentFalsely }
 {}
 
-/// An entry that says rightly that a further signature was wanting: the process signed its Init and no more.
+/// An entry that says rightly that a further signature was missing: the process signed its Init and no more.
 pub fn spent_truly()
     ensures { SpentTruly }
 {}
 
-/// A signature of an entry is not valid for the statement that it stands for.
+/// A signature of an entry is not valid for its statement.
 pub fn forged_own()
     ensures { ForgedOwn }
 {}
@@ -170,12 +170,12 @@ pub fn too_many_corrupt()
     ensures { TooManyCorrupt }
 {}
 
-/// What is told as delivered are messages, of all views.
+/// What is reported as delivered are messages, of all views.
 pub fn delivered_in_all()
     ensures { DeliveredInAll }
 {}
 
-/// Process 0 is handed an Echo in its own name beside the Init, and signs another in the same entry: what was handed over stands first.
+/// Process 0 is handed an Echo in its own name beside the Init, and signs another in the same entry: what was handed over comes first.
 pub fn frame_first()
     ensures { FrameFirst }
 {}
@@ -185,7 +185,7 @@ pub fn not_its_word()
     ensures { NotItsWord }
 {}
 
-/// What was handed over in the name of process 1 stands in a later journal as its own word: honest looks at the end.
+/// What was handed over in the name of process 1 is in a later journal as its own word: honest looks at the end.
 pub fn signed_later()
     ensures { SignedLater }
 {}
@@ -195,7 +195,7 @@ pub fn delivered_batch()
     ensures { DeliveredBatch }
 {}
 
-/// Two are convicted: they are told by their numbers, whoever lied first.
+/// Two are convicted: they are reported by their numbers, whoever lied first.
 pub fn two_convicted()
     ensures { TwoConvicted }
 {}

@@ -9,6 +9,6 @@ use Rattle.audit_sources.specs.declared.hosts.HostedBy.{HostedBy}
 abbrev pub is_host : ℕ → ℕ × Source → Bool
 is_host p host = has host.1.hosted p
 
--- what is told of it
+-- what is kept of it
 abbrev pub hosted_by : ℕ × Source → HostedBy
 hosted_by host = record { journal = host.0; batch_limit = batch_limit host.1.version }

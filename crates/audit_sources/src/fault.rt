@@ -5,11 +5,11 @@ use rp_base::{NoMemory, Pid};
 use std::alloc::{AllocError, AllocFailed};
 use thiserror::Error;
 
-/// Why an audit found nothing. Beside want of memory the first that holds is told, in this order: an entry at place 0, `Missing`,
-/// `Repeated`, an entry behind a header.
+/// Why an audit found nothing. Apart from want of memory the first that holds is given, in this order: an entry at place 0, `Missing`,
+/// `Repeated`, an entry after a header.
 #[derive(Clone, Copy, Debug, PartialEq, Eq, Error)]
 pub enum AuditFault {
-    /// No journal hosts the listed process, and each less one is hosted. Who gave the journals is to blame, or who listed the process.
+    /// No journal hosts the listed process, and each lesser one is hosted. Who gave the journals is to blame, or who listed the process.
     #[error("no journal hosts process {}", .0.get())]
     Missing(Pid),
 
@@ -17,8 +17,8 @@ pub enum AuditFault {
     #[error("more than one journal hosts process {}", .0.get())]
     Repeated(Pid),
 
-    /// Of the journal of this index, at place 0: its header is not of the kit. Else: the gate at this place is open, and behind it no whole
-    /// entry and next gate stand; or the entry is a listed process's, and the journal does not host the process, or the process
+    /// Of the journal of this index, at place 0: its header is not of the kit. Else: the gate at this place is open, and no whole
+    /// entry and next gate follow it; or the entry is a listed process's, and the journal does not host the process, or the process
     /// cannot have written it. Who wrote the journal is to blame.
     #[error("journal {journal} is refused at byte {place}")]
     Entry { journal: usize, place: u64 },

@@ -1,4 +1,4 @@
-//! A process that is taken as correct, as the journal that hosts it tells of it.
+//! A process that is taken as correct, as its journal says what it did.
 ghost use Rattle.std.specs.Prelude.{◌≡◌, ◌≤◌, ◌++◌, ◌==◌, ◌&&◌, [], List, IsOkUnless, IsTrue, IfOk, OnOk};
 ghost use Rattle.message_defs.specs.Statements as plain;
 ghost use Rattle.group_defs.specs.Process.{Setting, start};
@@ -26,7 +26,7 @@ use view_table::View;
 /// How many signatures a process makes at most.
 const MOST_SIGNATURES: u32 = 4_294_967_295;
 
-/// A process that is taken as correct. Which process of the definitions it is, the word `IsPlayer` of the specs says.
+/// A process that is taken as correct. `IsPlayer` of the specs says which process of the definitions it is.
 #[derive(Drop)]
 pub struct Player<'a> {
     pub(crate) core: Core<Count>,
@@ -81,14 +81,14 @@ impl<'a> Player<'a> {
         &self.core
     }
 
-    /// What the process tells of itself.
+    /// What the process reports of itself.
     pub fn account(&self) -> &Account
         ensures { (s : Setting) (c : audit.Player) → IsPlayer s c self.now → account_of c.now ≡ account result.now }
     {
         self.core.account()
     }
 
-    /// Whom the claims convict that were handed to the process. The roster is one that rises, as every `Roster` does.
+    /// Whom the claims handed to the process convict. The roster rises, as every `Roster` does.
     pub fn grounds(&self) -> PidSet
         ensures { (s : Setting) (c : audit.Player) → IsRising s.roster → IsPlayer s c self.now → result ≡ convicted s (handed_to c.turns) }
     {
@@ -161,7 +161,7 @@ impl<'a> Player<'a> {
         self.journal == journal && self.me() == p
     }
 
-    /// Takes an entry of the journal of this index: what its frame hands over is seen, the process takes the turn that the entry tells of,
+    /// Takes an entry of the journal of this index: what its frame hands over is seen, the process takes the entry's turn,
     /// and what it signs is seen as its own words.
     ///
     /// # Errors

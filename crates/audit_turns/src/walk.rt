@@ -17,7 +17,7 @@ use rp_base::{NoMemory, Pid, Scheme};
 use std::alloc::Global;
 
 /// The processes that are taken as correct, and the claims that were handed to them or are their own words. Which processes of the
-/// definitions they are, and which claims, the word `IsWalk` of the specs says.
+/// definitions they are, and which claims, `IsWalk` of the specs says.
 #[derive(Drop)]
 pub struct Walk<'a> {
     pub(crate) players: Vec<Player<'a>>,
@@ -50,7 +50,7 @@ fn take_at<'a, V: Scheme>(
 }
 
 impl<'a> Walk<'a> {
-    /// Of no processes yet.
+    /// The walk of no processes yet.
     pub fn new(alloc: Global) -> Walk<'a>
         ensures { (s : Setting) → IsWalk s (record { players = []; claims = [] }) [] result }
     {

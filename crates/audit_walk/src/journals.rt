@@ -89,7 +89,7 @@ pub fn walk_journal<'a, V: Scheme>(
 /// Takes the entries of all these journals, of one after the other.
 ///
 /// # Errors
-/// As of [`walk_journal`]: the first refused entry, by the journal's index and the place in it.
+/// Those of [`walk_journal`]: the first refused entry, by the journal's index and the place in it.
 pub fn walk_journals<'a, V: Scheme>(
     walk: &mut Walk<'a>,
     judge: &Judge<'_, V>,

@@ -1,5 +1,5 @@
 -- What a run of `audit` has read and written: by what a source had left before and has left now, what a sink held before and holds now, and
--- the counts of the sink's faults before and now. Of a stream that does not tell what it holds, nothing is said by it.
+-- the counts of the sink's faults before and now. Of a stream that does not say what it holds, nothing is said by it.
 use Rattle.std.specs.Prelude.{◌≡◌, ℕ, List, Option, Ok, Err, IsOk, IsSomeAnd}
 use Rattle.std.specs.Io.KnownBytes.{Appends}
 use Rattle.rp_base.specs.Streams.{AppendsPrefix, Says}
@@ -45,7 +45,7 @@ pub record Unfound (listed : List ℕ) (status : ℕ) (before now old new : Opti
   pub is_status : status_of refuses.why ≡ status
   pub said : Says (stop_line refuses.why) old new faults faults_now
 
--- ---- of a source that tells what it has left
+-- ---- of a source that says what it has left
 
 -- something is found in it
 abbrev pub HasFindings : List ℕ → Option (List ℕ) → Type 0

@@ -15,7 +15,7 @@ use Rattle.audit_words.specs.declared.stops.Fault.TheVariants.{Line, Repeated, M
 use Rattle.audit_words.specs.declared.stops.Stop.{Stop}
 use Rattle.audit_words.specs.declared.stops.Stop.TheVariants.{NoMemory, Read, Write, Input}
 
--- why there are no findings; of two keys that differ the line tells nothing, and they are left out
+-- why there are no findings; of two keys that differ the line says nothing, and they are left out
 abbrev pub why_of : Fault → NoFindings
 why_of (Line n) = NoInput (kits.Line n)
 why_of (Repeated n) = NoInput (kits.Repeated n)

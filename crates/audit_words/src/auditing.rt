@@ -127,7 +127,7 @@ pub fn run_audit<S: Source, K: Sink>(
     ensures audit_stops { (result ≡ 7) ⊎ (result ≡ 8) → Unfound listed result (S.left input.old) (S.left input.new)
         (K.written output.old) (K.written output.new) (K.faults output.old) (K.faults output.new) }
 
-    // An input of which something is found gives 0, and one of which nothing is found the status of the reason, where memory is left and
+    // An input with findings gives 0, and one without them the status of the reason, where memory is left and
     // nothing failed.
     ensures completes { HasFindings listed (S.left input.old)
         → ¬ Rose (S.faults input.old) (S.faults input.new) → ¬ Rose (K.faults output.old) (K.faults output.new)

@@ -15,7 +15,7 @@ impl LinkKeys {
     ghost use Rattle.std.specs.Option.{option_copied};
     ghost use Rattle.auth_link.specs.Keys.{own_number, group_of, pair_key};
 
-    /// The keys of this process in this group, of whom it shares none yet.
+    /// The keys of this process in this group; it shares none yet.
     pub fn new(me: Pid, group: GroupId) -> LinkKeys
         ensures me { own_number result ≡ me }
         ensures group { group_of result ≡ group }

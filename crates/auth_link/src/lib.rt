@@ -1,4 +1,4 @@
-//! Frames sealed for the process that they go to, and datagrams opened: a tag tells who speaks (docs/FORMATS.md,
+//! Frames sealed for the process that they go to, and datagrams opened: a tag shows who speaks (docs/FORMATS.md,
 //! «Datagrams»).
 #![tactic(auto)]
 

@@ -14,7 +14,7 @@ use stmt_codec::{Event, EventVerdict, Outcome};
 
 const PAYLOAD: [u8; 1024] = [5; 1024];
 
-// The entry of such a Submit that signed nothing, behind its length, and the next gate.
+// The entry of such a Submit that signed nothing, after its length, and the next gate.
 const STAGED_BYTES: usize = 1036;
 
 const JOURNAL: &str = "bench_journal_file";
@@ -69,7 +69,7 @@ fn micros(time: Duration) -> u64 {
         .wrapping_add(u64::from(time.subsec_micros()))
 }
 
-// A piece behind a byte, and the byte, both synced.
+// A piece after a byte, and the byte, both synced.
 fn bare<F: OpenFile + Seek + Write>(file: &mut F, at: u64, piece: &[u8]) -> io::Result<()> {
     file.seek(SeekFrom::Start(at.saturating_add(1)))?;
     file.write_all(piece)?;
@@ -113,7 +113,7 @@ fn append<R: Files>(
     }
 }
 
-// The microseconds of so many turns, and of as many pairs of bare writes between them.
+// The microseconds of `turns` turns, and of as many pairs of bare writes between them.
 fn time_turns(rt: &(impl Files + Clock), alloc: Global, turns: u32) -> Result<(u64, u64)> {
     let _ = fs::remove_file(rt, JOURNAL);
     let mut disk = FileDisk::new(rt, JOURNAL);
@@ -140,7 +140,7 @@ fn time_turns(rt: &(impl Files + Clock), alloc: Global, turns: u32) -> Result<(u
     Ok((ours, theirs))
 }
 
-// The bytes of a journal with so many entries, each a Frame of 100 bytes with a signature of 32.
+// The bytes of a journal with `entries` entries, each a Frame of 100 bytes with a signature of 32.
 fn journal_of(alloc: Global, entries: u32) -> Result<Vec<u8>> {
     let mut bytes = b"RPJ2".to_vec(alloc)?;
     bytes.extend_from_slice(&[7; 16])?;
@@ -176,7 +176,7 @@ fn time_reading(
     Ok((read, ours, theirs))
 }
 
-// The microseconds of so many pairs of bare writes, each of a piece and of a byte.
+// The microseconds of `times` pairs of bare writes, each of a piece and of a byte.
 fn time_bare(rt: &(impl Files + Clock), alloc: Global, bytes: usize, times: u32) -> Result<u64> {
     let piece = vec![in alloc; 5u8; bytes]?;
     let mut file = fs::create(rt, BARE)?;
@@ -198,7 +198,7 @@ pub(crate) fn bare_once(rt: &(impl Print + Files + Clock + AllocGlobal)) -> Resu
     Ok(())
 }
 
-/// Prints the microseconds of pairs of bare writes of so many bytes, and so many of them, as the words say.
+/// Prints the microseconds of a number of pairs of bare writes, and of their bytes, as the words say.
 pub(crate) fn bare_times(
     rt: &(impl Print + Files + Clock + AllocGlobal),
     words: &[String],

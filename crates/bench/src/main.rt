@@ -1,4 +1,4 @@
-//! What the dear calls of the layers cost: `bench WORD`, and behind the word what it wants, measures one of them and prints its times.
+//! What the dear calls of the layers cost: `bench WORD`, and after the word what it wants, measures one of them and prints its times.
 //! With no word each of them is called in small, and no time is printed.
 #![tactic(auto)]
 
@@ -58,7 +58,7 @@ impl Measure {
         }
     }
 
-    // Measures it, by the words behind its own.
+    // Measures it, by the words after its own.
     fn run(self, rt: &HostRuntime, words: &[String]) -> Result<()> {
         match self {
             Measure::Lms => lms::print_times(rt),
@@ -93,7 +93,7 @@ fn once(rt: &HostRuntime) -> Result<()> {
     audit_measures::once(rt, &mut StdSource::new(rt))
 }
 
-// The words behind the program's name.
+// The words after the program's name.
 fn words(rt: &HostRuntime) -> Result<Vec<String>> {
     let mut words = Vec::new(rt.alloc());
     for word in env::args(rt)?.skip(1) {

@@ -21,7 +21,7 @@ fn header(alloc: Global) -> Result<Vec<u8>, AllocError> {
     Ok(bytes)
 }
 
-// So many events of these bytes, one behind the other.
+// `count` events of these bytes, one after the other.
 fn piece(alloc: Global, event: &[u8], count: u32) -> Result<Vec<u8>, AllocError> {
     let mut bytes = Vec::new(alloc);
     for _ in 0..count {
@@ -63,7 +63,7 @@ fn reader(alloc: Global) -> Result<ScheduleReader, Error> {
     }
 }
 
-// How many events so many pieces have.
+// How many events `pieces` pieces have.
 fn read_pieces(alloc: Global, piece: &[u8], pieces: u32) -> Result<u32, Error> {
     let mut read = 0u32;
     let mut input = reader(alloc)?;

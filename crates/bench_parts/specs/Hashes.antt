@@ -2,7 +2,7 @@
 use Rattle.std.specs.Prelude.{ℕ, zero, suc, ◌+◌, ◌-◌, ◌/◌, ◌^◌, min, List, ◌++◌, drop, replicate}
 use Rattle.sha2.specs.Sha256.{sha256}
 
--- the blocks of 64 bytes that SHA-256 hashes for a text of so many bytes, behind which stand one byte more and the length in 8
+-- the blocks of 64 bytes that SHA-256 hashes for a text of `len` bytes, with one byte more and the length in 8 after it
 abbrev pub blocks_of : ℕ → ℕ
 blocks_of len = (len + 8) / 64 + 1
 
@@ -14,7 +14,7 @@ capped_sum a b = min (a + b) (2 ^ 64 - 1)
 abbrev pub hashed_once : List ℕ → List ℕ
 hashed_once bytes = sha256 bytes ++ drop 32 bytes
 
--- 55 zeros, hashed so many times
+-- 55 zeros, hashed n times
 unfoldable pub hashed : ℕ → List ℕ
 hashed zero = replicate 55 0
 hashed (suc n) = hashed_once (hashed n)

@@ -5,7 +5,7 @@ use Rattle.std.specs.Prelude.{ℕ, zero, suc, List, [], ◌∷◌, ◌++◌, rep
 abbrev pub key_of : ℕ → List ℕ
 key_of n = replicate 32 n
 
--- the first so many processes with their keys
+-- the first n processes with their keys
 unfoldable pub plain_keys : ℕ → List (ℕ × List ℕ)
 plain_keys zero = []
 plain_keys (suc n) = plain_keys n ++ (n, key_of n) ∷ []

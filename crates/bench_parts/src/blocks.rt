@@ -6,7 +6,7 @@ use sha2::{Digest, Sha256};
 use std::io;
 use std::time::CpuClock;
 
-/// How many blocks of 64 bytes SHA-256 hashes for a text of so many bytes, behind which stand one byte more and the length in 8.
+/// How many blocks of 64 bytes SHA-256 hashes for a text of `len` bytes, with one byte more and the length in 8 after it.
 pub fn blocks_of(len: u64) -> u64
     ensures { result ≡ defs.blocks_of len }
 {
@@ -44,7 +44,7 @@ fn hash_blocks(count: u32) -> [u8; 55]
     block
 }
 
-/// Hashes so many blocks, each with the digest of the one before it, and nothing else.
+/// Hashes `count` blocks, each with the digest of the one before it, and nothing else.
 pub fn time_blocks(rt: &impl CpuClock, count: u32) -> io::Result<TimedBlocks>
     ensures { IfOk result (λ timed. timed.bytes ≡ hashed count) }
 {

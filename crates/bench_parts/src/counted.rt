@@ -6,10 +6,10 @@ use crate::blocks::blocks_of;
 use rp_base::Scheme;
 use std::cell::Cell;
 
-/// How many bytes stand before the statement in what the plain scheme hashes: the key's 32, and the body's 21.
+/// How many bytes come before the statement in what the plain scheme hashes: the key's 32, and the body's 21.
 const BEFORE: u64 = 53;
 
-/// So many plain signatures, made or checked, and the blocks that were hashed for them: at least one each. Both counts end at 2^64 - 1.
+/// A number of plain signatures, made or checked, and the blocks that were hashed for them: at least one each. Both counts end at 2^64 - 1.
 #[derive(Clone, Copy)]
 pub struct Work {
     pub signatures: u64,
@@ -29,7 +29,7 @@ impl Work {
         }
     }
 
-    // One signature more, for which a text of so many bytes was hashed.
+    // One signature more, for which a text of `len` bytes was hashed.
     fn and_one(self, len: u64) -> Work
         ensures signatures { result.signatures ≡ capped_sum self.signatures 1 }
         ensures blocks { result.blocks ≡ capped_sum self.blocks (defs.blocks_of len) }

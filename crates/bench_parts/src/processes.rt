@@ -20,7 +20,7 @@ pub fn key_of(process: Pid) -> [u8; 32]
     [process.get(); 32]
 }
 
-/// The first so many processes with their keys.
+/// The first `count` processes with their keys.
 pub fn plain_roster(alloc: Global, count: u8) -> Result<Roster, NoMemory>
     requires { count ≤ 64 }
     ensures { IfOk result (λ roster. roster ≡ plain_keys count) }

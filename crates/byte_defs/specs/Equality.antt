@@ -39,6 +39,6 @@ option_discrete d (Some a) (Some b) = elim (d a b) [ yes p ↦ yes (λ i. Some (
 unfoldable pub pair_discrete : {A B : Type 0} → Discrete A → Discrete B → Discrete (A × B)
 pair_discrete d e p q = both (λ a b. λ i. (a i, b i)) (λ r. λ i. (r i).0) (λ r. λ i. (r i).1) (d p.0 q.0) (e p.1 q.1)
 
--- as a slice's `==` tells it
+-- as a slice's `==` answers
 abbrev pub same_bytes : List ℕ → List ℕ → Bool
 same_bytes xs ys = pointwise nat_eq xs ys

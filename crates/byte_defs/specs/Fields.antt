@@ -18,7 +18,7 @@ abbrev pub number_at : {E : Type 0} → E → Width → List ℕ → Result (ℕ
 number_at fault w bytes = if nat_lt (length bytes) (byte_len w) then Err fault
     else Ok (from_be_bytes w (take (byte_len w) bytes), drop (byte_len w) bytes)
 
--- so many bytes, and those after them
+-- n bytes, and those after them
 abbrev pub bytes_at : {E : Type 0} → E → ℕ → List ℕ → Result (List ℕ × List ℕ) E
 bytes_at fault n bytes = if nat_lt (length bytes) n then Err fault else Ok (take n bytes, drop n bytes)
 

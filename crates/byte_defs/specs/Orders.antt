@@ -1,7 +1,7 @@
 -- Order by a list of numbers, the first one first: the least of a list, and a list sorted.
 use Rattle.std.specs.Prelude.{ℕ, Bool, true, false, ◌&&◌, ◌||◌, nat_lt, ◌==◌, if◌then◌else◌, List, [], ◌∷◌, Option, Some, None}
 
--- the first list stands before the second: at the first place where they differ it has the lower number, or it is the front of the other
+-- the first list comes before the second: at the first place where they differ it has the lower number, or it is the front of the other
 -- and shorter
 abbrev pub numbers_below : List ℕ → List ℕ → Bool
 numbers_below [] [] = false
@@ -20,7 +20,7 @@ module _ {A : Type 0} (key : A → List ℕ) where
   least [] = None
   least (x ∷ xs) = Some (least_from x xs)
 
-  -- behind those that are not above it
+  -- after those that are not above it
   abbrev pub put : A → List A → List A
   put a [] = a ∷ []
   put a (x ∷ xs) = if numbers_below (key a) (key x) then a ∷ x ∷ xs else x ∷ put a xs

@@ -1,4 +1,4 @@
--- What a reader of the code answers, beside what reading on lists answers. A view says what a value of the code is.
+-- How what a reader of the code answers relates to reading on lists. A view says what a value of the code is.
 use Rattle.std.specs.Prelude.{◌≡◌, Option, IfSome, Result, Ok, Err}
 use Rattle.byte_defs.specs.Fields.{◌>>=◌}
 

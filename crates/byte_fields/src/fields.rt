@@ -63,7 +63,7 @@ pub fn u64_at<E: Drop>(bytes: &[u8], fault: E) -> Result<(u64, &[u8]), E>
     ))
 }
 
-/// So many bytes, and those after them.
+/// `count` bytes, and those after them.
 pub fn bytes_at<E: Drop>(bytes: &[u8], count: usize, fault: E) -> Result<(&[u8], &[u8]), E>
     ensures { Gives (λ x. (x.0.now, x.1.now)) result (fields.bytes_at fault count bytes.now) }
 {

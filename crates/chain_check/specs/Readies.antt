@@ -34,7 +34,7 @@ IsLeading h r None = (w : updates.Value) → sayers h r w ≡ 0
 IsLeading h r (Some l) = (l.count ≡ sayers h r (value l.value)) × (0 < l.count) × (l.count ≤ 16)
     × ((w : updates.Value) → sayers h r w ≤ l.count)
 
--- the value that was found is said by so many; where none was found, by nobody
+-- the value that was found is said by `most`; where none was found, by nobody
 abbrev pub IsBest : Pool → ℕ → Option Leading → ℕ → Type 0
 IsBest h r None most = most ≡ 0
 IsBest h r (Some l) most = (l.count ≡ most) × (most ≡ sayers h r (value l.value)) × (0 < most)

@@ -61,7 +61,7 @@ fn proof_claims(frame: &[u8]) -> Result<Claims<'_>, ChainFault>
     }
 }
 
-// The view that the frame shows behind this one.
+// The view that the frame shows after this one.
 fn view_shown<V: Scheme>(
     view: &View,
     scheme: &V,

@@ -1,4 +1,4 @@
-//! A chain of views that anyone can check who holds a group's public keys: each proof shows the view behind the one before it
+//! A chain of views that anyone can check who holds a group's public keys: each proof shows the view after the one before it
 //! (docs/PROTOCOL.md, «Views»).
 #![tactic(auto)]
 

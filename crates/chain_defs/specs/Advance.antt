@@ -1,4 +1,4 @@
--- A chain of views: a proof is a frame that shows the view behind one view, by a quorum's Readies.
+-- A chain of views: a proof is a frame that shows the view after one view, by a quorum's Readies.
 -- Only these claims count: valid Readies of the view by its members, and of a member's Readies of one rank the first. The least rank at
 -- which a quorum says one value whose update is possible gives that update.
 use Rattle.std.specs.Prelude.{ℕ, ◌+◌, Bool, true, false, ◌&&◌, ◌==◌, max, List, [], ◌∷◌, length, filter, fold, Option, Some, None, Result, Ok, Err}
@@ -60,15 +60,15 @@ shown s v cs = first_some (decided_at s (counted s v cs)) (range_with_len 0 (las
 abbrev pub most_agreeing : Pool → ℕ
 most_agreeing h = fold (λ most c. max most (length (backers h c.statement))) 0 h.heard
 
--- the view that these claims show behind a view
+-- the view that these claims show after a view
 abbrev pub shows : Setting → View → List Claim → Result View ChainFault
 shows s v cs = elim (shown s v cs) [ None ↦ Err (faults.Few (most_agreeing (counted s v cs))) | Some d ↦ Ok (next_view v d.1.update) ]
 
--- the view that a proof shows behind a view, or why it shows none
+-- the view that a proof shows after a view, or why it shows none
 unfoldable pub advance : Setting → View → List ℕ → Result View ChainFault
 advance s v bytes = proof_said bytes >>= shows s v
 
--- the views that proofs show one behind the other, up to the first that shows none
+-- the views that proofs show one after the other, up to the first that shows none
 unfoldable pub views_shown : Setting → View → List (List ℕ) → List View
 views_shown s v [] = []
 views_shown s v (bytes ∷ more) = elim (advance s v bytes) [ Err fault ↦ [] | Ok w ↦ w ∷ views_shown s w more ]

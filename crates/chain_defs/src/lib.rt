@@ -12,6 +12,6 @@ pub enum ChainFault {
     /// They are a Bundle or a Want.
     NotProof,
 
-    /// At no rank do Q members say one Ready whose update is possible. So many say one at most.
+    /// At no rank do Q members say one Ready whose update is possible. This is the most that say one.
     Few(u8),
 }

@@ -36,7 +36,7 @@ ChainIsOfAll = (f : Family) (v : View) (proofs : List (List ℕ)) → Premises f
 abbrev pub IsInstalled : Family → View → Type 0
 IsInstalled f v = (p : Process) × Contains (ends f) p × Contains (views_of p) v
 
--- Of a chain that begins with an installed view, as the genesis is where some process is correct, each view but the last was installed by
+-- In a chain that begins with an installed view, as the genesis is where some process is correct, each view but the last was installed by
 -- a correct process: proofs run at most one view ahead of the group.
 abbrev pub ChainIsInstalled : Type 0
 ChainIsInstalled = (f : Family) (v : View) (proofs : List (List ℕ)) (i : ℕ) (a b : View) → Premises f → IsInstalled f v

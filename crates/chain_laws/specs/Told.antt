@@ -1,4 +1,4 @@
--- What the answer to a chain's bytes tells, and what its views have to do with those of the group.
+-- What the answer to a chain's bytes says, and what its views have to do with those of the group.
 use Rattle.std.specs.Prelude.{◌≡◌, ◌⊎◌, ℕ, ◌+◌, ◌≤◌, List, [], ◌∷◌, length, flat_map, All, Some, None, Ok, slice_get}
 use Rattle.text_defs.specs.Words.{parts_of}
 use Rattle.input_defs.specs.Fronts.{Front, front_of}
@@ -11,21 +11,21 @@ use Rattle.chain_laws.specs.Chains.{IsOwnWord, IsInstalled}
 
 -- ---- the chain that bytes spell
 
--- the frames of lines, up to the first line that is no proof; what stands behind the last line feed is no line
+-- the frames of lines, up to the first line that is no proof; what comes after the last line feed is no line
 unfoldable pub proofs_in : List (List ℕ) → List (List ℕ)
 proofs_in [] = []
 proofs_in (rest ∷ []) = []
 proofs_in (line ∷ next ∷ more) = elim (proof_in line) [ None ↦ [] | Some frame ↦ frame ∷ proofs_in (next ∷ more) ]
 
--- the proofs behind a kit
+-- the proofs after a kit
 abbrev pub proofs_behind : Front → List (List ℕ)
 proofs_behind front = proofs_in (parts_of front.rest)
 
--- the kit's first view, and those that its proofs show one behind the other
+-- the kit's first view, and those that its proofs show one after the other
 abbrev pub views_behind : Front → List View
 views_behind front = let s = setting_of front.kit in s.genesis ∷ views_shown s s.genesis (proofs_behind front)
 
--- ---- what is told of it
+-- ---- what is said of it
 
 -- nothing more is written, or the line that says why there is no further view
 abbrev pub IsEnd : Answer → Type 0
@@ -37,7 +37,7 @@ pub record IsQuoted (front : Front) (f : Family) : Type 0 where
   pub premises : Premises f
   pub own : All (IsOwnWord f) (proofs_behind front)
 
--- Of bytes that begin with a kit: the answer is the line of each view of the chain in order, and then at most the line of a stop. Each of
+-- For bytes with a kit in front: the answer is the line of each view of the chain in order, and then at most the line of a stop. Each of
 -- these views is the one that every correct process with a view of its number has, and each but the last one was installed by a correct
 -- process, where there is one.
 pub record TellsViews (bytes : List ℕ) (front : Front) : Type 0 where
@@ -48,10 +48,10 @@ pub record TellsViews (bytes : List ℕ) (front : Front) : Type 0 where
   pub installed : (f : Family) (i : ℕ) (a b : View) → IsQuoted front f → 1 ≤ length f.correct
       → slice_get (views_behind front) i ≡ Some a → slice_get (views_behind front) (i + 1) ≡ Some b → IsInstalled f a
 
--- what the answer to bytes tells, where they begin with a kit
+-- what the answer to bytes says, where they begin with a kit
 abbrev pub AnswerTells : List ℕ → Type 0
 AnswerTells bytes = (front : Front) → front_of bytes ≡ Ok front → TellsViews bytes front
 
--- it is so of any bytes
+-- this holds of any bytes
 abbrev pub AnswerTellsViews : Type 0
 AnswerTellsViews = (bytes : List ℕ) → AnswerTells bytes

@@ -25,7 +25,7 @@ pub fn chain_is_installed()
     ensures { ChainIsInstalled }
 {}
 
-/// Of two chains the one begins as the other.
+/// Of two chains the shorter one is the front of the longer one.
 pub fn chains_do_not_fork()
     ensures { ChainsDoNotFork }
 {}

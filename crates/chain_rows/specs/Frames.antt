@@ -1,4 +1,4 @@
--- What bytes show behind view 0 of the members 0 1 2 3, each of their faults, and what comes first. Each answer is the reference's.
+-- What bytes show after view 0 of the members 0 1 2 3, each of their faults, and what comes first. Each answer is the reference's.
 use Rattle.std.specs.Prelude.{◌≡◌, ℕ, List, [], ◌∷◌, Ok, Err}
 use Rattle.message_defs.specs.declared.FrameFault.TheVariants as frames
 use Rattle.chain_defs.specs.declared.ChainFault.TheVariants as chains
@@ -69,7 +69,7 @@ pub record Frames : Type 0 where
   pub is_one_more : advance s four one_more ≡ Err (chains.Frame frames.Trailing)
   -- a kind that a Proof does not carry
   pub is_notify_in_proof : advance s four notify_in_proof ≡ Err (chains.Frame frames.Misplaced)
-  -- a group behind the quorum's refuses the frame
+  -- a group after the quorum's refuses the frame
   pub is_bad_group_behind : advance s four bad_group_behind ≡ Err (chains.Frame frames.Statement)
   -- a signer above 63
   pub is_signer_beyond : advance s four signer_beyond ≡ Err (chains.Frame frames.Range)

@@ -1,4 +1,4 @@
--- What claims show behind a view. Each answer is the reference's; those that show a view stand beside the wrong readings of the rule.
+-- What claims show after a view. Each answer is the reference's; those that show a view come with the wrong readings of the rule.
 use Rattle.std.specs.Prelude.{◌≡◌, List, [], ◌∷◌, Ok, Err}
 use Rattle.message_defs.specs.Updates.{Remove, Add, Renew}
 use Rattle.message_defs.specs.Statements.{Echo, Place, Ready, Claim}
@@ -115,9 +115,9 @@ pub record Shown : Type 0 where
   pub is_two_cuts : shows s four two_cuts ≡ Err (chains.Few 2)
   -- a Place is no Ready
   pub is_places : shows s four places ≡ Err (chains.Few 0)
-  -- of two ranks the least, wherever its claims stand
+  -- of two ranks the least, wherever its claims are
   pub is_least_rank : shows s four least_rank ≡ Ok (record { number = 1; members = 0 ∷ 1 ∷ 2 ∷ 3 ∷ [] })
-  -- an impossible update: Few tells the quorum that said it
+  -- an impossible update: Few gives the quorum that said it
   pub is_impossible : shows s four impossible ≡ Err (chains.Few 4)
   -- and a later rank decides
   pub is_above_impossible : shows s four above_impossible ≡ Ok (record { number = 1; members = 0 ∷ 1 ∷ 2 ∷ 3 ∷ [] })

@@ -1,4 +1,4 @@
--- What `chain` says behind a kit of the members 0 and the processes 0 and 1, whose line `go` has the number 13. Each answer is the reference's.
+-- What `chain` says after a kit of the members 0 and the processes 0 and 1, whose line `go` is number 13. Each answer is the reference's.
 use Rattle.std.specs.Prelude.{◌≡◌, ℕ, ◌==◌, List, [], ◌∷◌, ◌++◌, length, codes}
 use Rattle.group_defs.specs.Process.{Setting, all_kinds}
 use Rattle.chain_text_defs.specs.Chains.{Answer, chain_at}
@@ -80,5 +80,5 @@ pub record Told : Type 0 where
   pub is_empty_line : chain_at s 14 s.genesis empty_line ≡ says (codes "stop 7 line 14\n") 7
   -- or one that the input ends in
   pub is_no_line_feed : chain_at s 14 s.genesis no_line_feed ≡ says (codes "stop 7 line 14\n") 7
-  -- a fault behind a view that was written
+  -- a fault after a view that was written
   pub is_behind_a_view : chain_at s 14 s.genesis behind_a_view ≡ says (codes "view 1 : 0 1\n" ++ codes "stop 7 line 15\n") 7

@@ -2,8 +2,8 @@
 --   proof HEX         a frame in hexadecimal, not empty; the line has at most 122,006 bytes
 -- It writes
 --   view 0 : M M M    the genesis, once the kit is read; its members in rank order
---   view X : M M M    behind each proof, the view that it shows
--- and where it stops, behind these, one line more with the number of the line, counted from the input's first one:
+--   view X : M M M    after each proof, the view that it shows
+-- and where it stops, after these, one line more with the number of the line, counted from the input's first one:
 --   stop 7 line N | repeated N | missing N | keymismatch N     the kit's fault, or a line of another form, or the input's end in a line
 --   stop 7 frame N WORD | notproof N | few N NUMBER            the proof shows no view
 use Rattle.std.specs.Prelude.{ℕ, ◌+◌, ◌/◌, ◌==◌, nat_lt, if◌then◌else◌, List, [], ◌∷◌, ◌++◌, length, map, Option, Some, None, Result, Ok, Err, codes}
@@ -84,11 +84,11 @@ done = record { written = []; status = 0 }
 abbrev pub stopped : List (List ℕ) → Answer
 stopped words = record { written = line_text (codes "stop" ∷ codes "7" ∷ words); status = 7 }
 
--- behind these bytes
+-- after these bytes
 abbrev pub behind : List ℕ → Answer → Answer
 behind bytes a = record a { written = bytes ++ a.written }
 
--- the lines from this number on, behind a view
+-- the lines from this number on, after a view
 unfoldable pub chain_at : Setting → ℕ → View → List (List ℕ) → Answer
 chain_at s n v [] = done
 chain_at s n v (rest ∷ []) = if length rest == 0 then done else stopped (codes "line" ∷ decimal n ∷ [])
@@ -100,7 +100,7 @@ chain_at s n v (line ∷ next ∷ more) = elim (proof_in line) [
   ]
 ]
 
--- the lines behind a kit, from the genesis on
+-- the lines after a kit, from the genesis on
 abbrev pub chain_from : Front → Answer
 chain_from f = let s = setting_of f.kit in behind (view_line s.genesis) (chain_at s f.line s.genesis (parts_of f.rest))
 

@@ -14,7 +14,7 @@ abbrev pub only_word : List (List ℕ) → Option (List ℕ)
 only_word (word ∷ []) = Some word
 only_word _ = None
 
--- the frame of the words behind `proof`
+-- the frame of the words after `proof`
 abbrev pub frame_behind : List (List ℕ) → Option (List ℕ)
 frame_behind words = option_and_then frame_in (only_word words)
 
@@ -23,7 +23,7 @@ abbrev pub view_or_words : ℕ → Result View ChainFault → Result View (List 
 view_or_words n (Err fault) = Err (proof_words n fault)
 view_or_words n (Ok w) = Ok w
 
--- the view that a frame shows behind a view, or the words of the fault of the line with this number
+-- the view that a frame shows after a view, or the words of the fault of the line with this number
 abbrev pub frame_shows : Setting → ℕ → View → Option (List ℕ) → Result View (List (List ℕ))
 frame_shows s n v None = Err (codes "line" ∷ decimal n ∷ [])
 frame_shows s n v (Some bytes) = view_or_words n (advance s v bytes)

@@ -7,7 +7,7 @@ use Rattle.kit_defs.specs.Kits.{Kit}
 use Rattle.group_defs.specs.Views.{View}
 use Rattle.chain_text_defs.specs.Chains.{Answer, behind, chain_at, setting_of, view_line}
 
--- A place behind a kit: the number of the next line, the view that was shown last, and the bytes of the next lines that are read already.
+-- A place after a kit: the number of the next line, the view that was shown last, and the bytes of the next lines that are read already.
 pub record Place : Type 0 where
   pub kit : Kit
   pub number : ℕ
@@ -21,7 +21,7 @@ place kit number view ahead = record { kit = kit; number = number; view = view; 
 abbrev pub answer_at : Place → List ℕ → Answer
 answer_at p more = chain_at (setting_of p.kit) p.number p.view (parts_of (p.ahead ++ more))
 
--- From one place bytes were read up to another one, which is behind one view more.
+-- From one place bytes were read up to another one, which is after one view more.
 abbrev pub Shows : Option (List ℕ) → Option (List ℕ) → Place → Place → Type 0
 Shows before now p q = Leads (answer_at p) before now (λ rest. behind (view_line q.view) (answer_at q rest))
 

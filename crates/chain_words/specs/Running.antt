@@ -45,7 +45,7 @@ pub record ShownInPartBy (answer : List ℕ → Answer) (before now old new : Op
   pub wrote : Appends old mid lines
   pub part : AppendsPrefix mid new (view_line place.view)
 
--- What was read has a fault, which these words tell, and the lines of the views before it were written and nothing else.
+-- What was read has a fault, which these words say, and the lines of the views before it were written and nothing else.
 pub record FaultyBy (answer : List ℕ → Answer) (words : List (List ℕ)) (before now old new : Option (List ℕ)) : Type 0 where
   pub lines : List ℕ
   pub is : Settles answer before now (behind lines (stopped words))
@@ -58,7 +58,7 @@ pub record RefusedBy (answer : List ℕ → Answer) (before now old new : Option
   pub faulty : FaultyBy answer words before now old mid
   pub said : Says (stopped words).written mid new faults faults_now
 
--- the source tells what it has left, and the answer to it has this status
+-- the source says what it has left, and the answer to it has this status
 abbrev pub HasStatusBy : (List ℕ → Answer) → ℕ → Option (List ℕ) → Type 0
 HasStatusBy answer status left = IsSomeAnd left (λ bytes. (answer bytes).status ≡ status)
 

@@ -52,7 +52,7 @@ pub fn write_view<K: Sink>(alloc: Global, view: &View, output: &mut K) -> Result
     }
 }
 
-// The view that the line of this number shows behind the chain's last one.
+// The view that the line of this number shows after the chain's last one.
 fn shown_by(
     alloc: Global,
     kit: &Kit,
@@ -243,7 +243,7 @@ pub fn tell<K: Sink>(alloc: Global, output: &mut K, stop: Stop) -> u8
 }
 
 /// The word `chain`: reads a kit up to the line `go`, and then lines with a proof each. It writes the line of the kit's first view, and
-/// behind each proof the line of the view that it shows after the one before it, and answers the status that the program ends with. Lines are
+/// after each proof the line of the view that it shows after the last one, and answers the status that the program ends with. Lines are
 /// written as they are read: a fault leaves those before it.
 ///
 /// | Status | Written last | Comes |

@@ -43,7 +43,7 @@ fn last_word<'a>(mut words: Words<'a>) -> Option<&'a [u8]>
     if words.is_done() { Some(word) } else { None }
 }
 
-// The frame of the words behind the first one.
+// The frame of the words after the first one.
 fn frame_of_rest(alloc: Global, words: Words<'_>) -> Result<Option<Vec<u8>>, NoMemory>
     ensures { IfOk result (λ found. option_map (λ frame. frame.items) found ≡ frame_behind (parts_left words.entry)) }
 {

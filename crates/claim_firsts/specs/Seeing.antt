@@ -42,6 +42,6 @@ seeing t c = seeing_by t c (contradicted t c)
 abbrev pub answering : Table → Key → Table
 answering t k = record { firsts = t.firsts; seconds = t.seconds; answered = insert_key same_key t.answered k }
 
--- with the first so many answered slots
+-- with the first n answered slots
 abbrev pub forgetting : Table → ℕ → Table
 forgetting t n = record { firsts = t.firsts; seconds = t.seconds; answered = take n t.answered }

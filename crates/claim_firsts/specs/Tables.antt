@@ -8,7 +8,7 @@ use Rattle.claim_index.specs.Keys.{key_of}
 abbrev pub key : Claim → Key
 key c = key_of c.signer (slot_of c.statement)
 
--- The first claim of each signer and slot, in the order in which they were seen; of each signer of whom two claims conflict the first
+-- The first claim of each signer and slot, in the order in which they were seen; of each signer with two claims that conflict the first
 -- claim that conflicts with an earlier one; and by their keys the slots on which a signer's own word was seen.
 pub record Table : Type 0 where
   pub firsts : List Claim

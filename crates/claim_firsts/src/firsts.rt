@@ -39,7 +39,7 @@ type Entries<'a> = IndexMap<Key, Kept<'a>, BuildHasherDefault<KeyHasher>>;
 type Keys = IndexSet<Key, BuildHasherDefault<KeyHasher>>;
 
 /// The first claim of each signer and slot that was seen, and of each signer whom the claims convict the claim that convicts it. Contracts
-/// see it as a table, which `Saw` relates to the claims that were seen. What is handed over is lent, and not copied; the own words of a
+/// see it as a table, which `Saw` relates to the claims that were seen. What is handed over is borrowed, and not copied; the own words of a
 /// process are kept.
 pub struct Firsts<'a> {
     firsts: Entries<'a>,
@@ -226,7 +226,7 @@ impl<'a> Firsts<'a> {
         }
     }
 
-    /// A claim was handed over. It is to be valid: whoever can't say that of a claim doesn't show it. Without memory the table is as before.
+    /// A claim was handed over. It must be valid: a caller that can't say so doesn't show it. Without memory the table is as before.
     pub fn see(&mut self, claim: &Claim<'a>) -> Result<(), NoMemory>
         requires { IsStatement (stmt claim.now.statement) }
         ensures seen { OnOk result ((s : Setting) (claims own : List plain.Claim) → Saw s claims own self.old
@@ -267,7 +267,7 @@ impl<'a> Firsts<'a> {
         Ok(())
     }
 
-    // Forgets which slots are answered after the first so many.
+    // Forgets which slots are answered after the first `count`.
     fn forget_answered(&mut self, count: usize)
         ensures { self.new ≡ forgetting self.old count }
     {
@@ -291,7 +291,7 @@ impl<'a> Firsts<'a> {
         }
     }
 
-    /// A process signed the claim itself, as its journal says. It is to be valid. The claim is kept where it is the first one on its slot,
+    /// A process signed the claim itself, as its journal says. It must be valid. The claim is kept where it is the first one on its slot,
     /// or convicts its signer; bytes that spell no statement are no claim. Without memory it is dropped, and the table is as before.
     pub fn see_own(&mut self, claim: OwnClaim) -> Result<(), NoMemory>
         ensures seen { OnOk result ((s : Setting) (claims own : List plain.Claim) (c : plain.Claim) → Saw s claims own self.old

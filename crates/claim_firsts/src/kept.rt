@@ -1,4 +1,4 @@
-//! Claims as a table keeps them: lent by what was handed over, or with bytes of their own.
+//! Claims as a table keeps them: borrowed from what was handed over, or with bytes of their own.
 ghost use Rattle.std.specs.Prelude.{◌≡◌};
 ghost use Rattle.byte_defs.specs.Equality.{same_bytes};
 ghost use Rattle.stmt_codec.specs.Views.{stmt, claim as claim_of};
@@ -13,7 +13,7 @@ use stmt_codec::{Claim, Statement, conflicts};
 /// A claim of the table.
 #[derive(Drop)]
 pub enum Kept<'a> {
-    /// It is lent by what was handed over.
+    /// It is borrowed from what was handed over.
     Lent(Claim<'a>),
 
     /// A process signed it itself.
@@ -69,7 +69,7 @@ pub fn claim_again<'a>(claim: &Claim<'a>) -> Claim<'a>
 }
 
 impl<'a> Kept<'a> {
-    /// The claim, lent.
+    /// The claim, borrowed.
     pub fn claim(&self) -> Claim<'_>
         ensures { claim_of result ≡ kept_claim self.now }
     {

@@ -39,7 +39,7 @@ impl Word {
         }
     }
 
-    /// The claim, lent.
+    /// The claim, borrowed.
     pub fn claim(&self) -> Claim<'_>
         ensures { claim_of result ≡ claim_in self.now.own }
     {

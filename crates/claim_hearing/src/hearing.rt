@@ -85,8 +85,8 @@ fn hear<V: Scheme>(
     }
 }
 
-/// Hears the claims in their order: each gets its verdict, what is heard stands in the pool, and the first conflict of each signer
-/// is kept. `own` has an entry for each member. Without memory, the claims before the one for which it was wanting are heard.
+/// Hears the claims in their order: each gets its verdict, what is heard is in the pool, and the first conflict of each signer
+/// is kept. `own` has an entry for each member. Where memory runs out for a claim, those before it are heard.
 pub fn hear_all<V: Scheme>(
     judge: &Judge<'_, V>,
     own: &Own,

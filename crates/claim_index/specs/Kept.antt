@@ -1,4 +1,4 @@
--- How claims are kept: their bytes one behind the other, and by key where a claim's bytes stand among them.
+-- How claims are kept: their bytes one after the other, and by key where a claim's bytes are among them.
 use Rattle.std.specs.Prelude.{◌≡◌, ℕ, ◌+◌, ◌≤◌, ◌==◌, Bool, false, List, [], ◌∷◌, ◌++◌, length, map, take, slice_index_or, slice_range, Ok, Err, IsOk}
 use Rattle.std.specs.List.{AllByRecursion, list_any, sum_by}
 use Rattle.message_defs.specs.Statements.{Statement, End, Claim, kind_number, slot_of}
@@ -33,7 +33,7 @@ by_number p = p ∷ []
 abbrev pub empty_pool : View → Pool
 empty_pool v = record { view = v; heard = [] }
 
--- the claim stands behind those that are heard
+-- the pool with the claim after those that are heard
 abbrev pub with_heard : Pool → Claim → Pool
 with_heard h c = record { view = h.view; heard = h.heard ++ c ∷ [] }
 
@@ -41,7 +41,7 @@ with_heard h c = record { view = h.view; heard = h.heard ++ c ∷ [] }
 abbrev pub is_kind_heard : List Claim → ℕ → Bool
 is_kind_heard cs kind = list_any (λ c. kind_number c.statement == kind) cs
 
--- ---- where the bytes stand
+-- ---- where the bytes are
 
 -- the statement that the bytes spell
 abbrev pub spelled : List ℕ → Statement
@@ -59,7 +59,7 @@ past k = middle k + k.signed
 abbrev pub statement_bytes : List ℕ → Kept → List ℕ
 statement_bytes bytes k = slice_range bytes k.start (middle k)
 
--- the signer's claim whose bytes stand there
+-- the signer's claim whose bytes are there
 abbrev pub claim_with : List ℕ → ℕ → Kept → Claim
 claim_with bytes signer k = record {
   signer = signer;
@@ -101,7 +101,7 @@ pub record IsIndex (bytes : List ℕ) (es : List (Key × Kept)) (kinds : List Bo
   pub filled : length bytes ≡ sum_by claim_bytes (heard_in bytes es)
   pub noted : AreNoted kinds (heard_in bytes es)
 
--- so it is now; and so it was at the mark, when there were so many bytes and so many entries, from the first on
+-- so it is now; and so it was at the mark, of the bytes and the entries that there were then
 pub record IsMarkedIndex (bytes : List ℕ) (es : List (Key × Kept)) (kinds : List Bool) (m : Filled) : Type 0 where
   pub now : IsIndex bytes es kinds
   pub then : IsIndex (take m.bytes bytes) (take m.claims es) m.kinds

@@ -7,7 +7,7 @@ use std::hash::Hasher;
 /// The golden ratio's digits, as an odd number.
 const SPREAD: u64 = 0x9e37_79b9_7f4a_7c15;
 
-/// What is written is one number. Numbers that differ in their two lowest bits alone stand side by side in a table, and are told apart
+/// What is written is one number. Numbers that differ in their two lowest bits alone lie side by side in a table, and are kept apart
 /// there by their tags: so what neighbouring processes say on one slot is found in one piece of memory.
 #[derive(Clone, Copy)]
 pub struct KeyHasher {

@@ -24,7 +24,7 @@ use std::mem;
 use stmt_codec::{Claim, STATEMENT_BYTES, Slot, Statement, read_statement, spell_into};
 use view_table::{View, quorum};
 
-/// Where the bytes of a claim stand: its statement's from `start` on, and its signature's behind them.
+/// Where the bytes of a claim are: its statement's from `start` on, and its signature's after them.
 #[derive(Clone, Copy)]
 pub struct Kept {
     start: usize,
@@ -106,7 +106,7 @@ fn find<'a>(
     kept.get(key)
 }
 
-/// The signer's claim whose bytes stand there.
+/// The signer's claim whose bytes are there.
 pub fn lent(bytes: &[u8], signer: Pid, kept: Kept) -> Claim<'_>
     requires within { past kept ≤ length bytes.now }
     requires readable { IsOk (statement_of (statement_bytes bytes.now kept)) }
@@ -141,7 +141,7 @@ fn claim_under<'a>(
     }
 }
 
-/// Puts the claim's bytes behind those that stand there, and answers where they stand. It takes no memory: room for them
+/// Puts the claim's bytes after those that are there, and answers where they are. It takes no memory: room for them
 /// must be reserved.
 pub fn store(bytes: &mut Vec<u8>, claim: &Claim<'_>) -> Kept
     requires range { IsStatement (stmt claim.now.statement) }
@@ -159,7 +159,7 @@ pub fn store(bytes: &mut Vec<u8>, claim: &Claim<'_>) -> Kept
     store_spelled(bytes, &spelled[..said], claim.signature)
 }
 
-// Puts the bytes of a statement and its signature behind those that stand there, and answers where they stand.
+// Puts the bytes of a statement and its signature after those that are there, and answers where they are.
 fn store_spelled(bytes: &mut Vec<u8>, spelled: &[u8], signature: &[u8]) -> Kept
     requires short { (length spelled.now ≤ 1032) × (length signature.now ≤ 16384) }
     requires room { vec_len bytes.old + (length spelled.now + length signature.now) ≤ vec_capacity bytes.old }
@@ -207,7 +207,7 @@ impl ClaimIndex {
         }
     }
 
-    /// Forgets what is heard, and turns to this view, where the mark stands at nothing. The room stays, and grows by what the
+    /// Forgets what is heard, and turns to this view, with the mark at nothing. The room stays, and grows by what the
     /// forgotten claims took.
     pub fn turn_to(&mut self, view: View)
         ensures pool { self.new.pool ≡ empty_pool view }
@@ -234,7 +234,7 @@ impl ClaimIndex {
         };
     }
 
-    /// Forgets what was heard behind the mark.
+    /// Forgets what was heard after the mark.
     pub fn rewind(&mut self)
         ensures pool { self.new.pool ≡ self.old.marked }
         ensures marked { self.new.marked ≡ self.old.marked }
@@ -244,7 +244,7 @@ impl ClaimIndex {
         self.kinds = self.marked.kinds;
     }
 
-    /// Makes room to hear so many claims more, with so many bytes in all, without memory.
+    /// Makes room to hear `claims` claims more, with `bytes` bytes in all, without memory.
     pub fn reserve(&mut self, claims: usize, bytes: usize) -> Result<(), NoMemory>
         ensures same { self.new.pool ≡ self.old.pool }
         ensures marked { self.new.marked ≡ self.old.marked }

@@ -56,7 +56,7 @@ fn update_key(view: u16, of: Update) -> SlotKey
     }
 }
 
-// The key of a slot that has one number beside its view.
+// The key of a slot that has one number besides its view.
 fn numbered(kind: u8, view: u16, second: u16) -> SlotKey
     ensures { result ≡ keys.numbers kind view 0 second }
 {

@@ -1,5 +1,5 @@
-//! The heard claims of a view, each found by its signer and slot. The bytes of all claims stand one behind the other in one
-//! vector, and a map in order of hearing says where those of each stand; contents are compared by their bytes.
+//! The heard claims of a view, each found by its signer and slot. The bytes of all claims lie one after the other in one
+//! vector, and a map in order of hearing says where those of each are; contents are compared by their bytes.
 #![tactic(auto)]
 
 mod hasher;

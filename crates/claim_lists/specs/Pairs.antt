@@ -4,8 +4,8 @@ use Rattle.std.specs.List.{list_any}
 use Rattle.message_defs.specs.Statements.{Claim}
 use Rattle.claim_lists.specs.Lists.{Listing}
 
--- the pairs in order, in each the claim that was heard and the other one; those that were there at the mark; and for how many pairs more, with how many bytes of
--- statements and signatures on each side in all, there is room
+-- the pairs in order, in each the claim that was heard and the other one; those that were there at the mark; and for how many pairs more,
+-- with how many bytes of statements and signatures on each side in all, there is room
 pub record Pairing : Type 0 where
   pub pairs : List (Claim × Claim)
   pub marked : List (Claim × Claim)
@@ -16,7 +16,7 @@ pub record Pairing : Type 0 where
 abbrev pub has_pair : List (Claim × Claim) → ℕ → Bool
 has_pair pairs signer = list_any (λ pair. pair.1.signer == signer) pairs
 
--- the pair behind them, where none of its signer is among them
+-- the pair after them, where none of its signer is among them
 abbrev pub with_pair : List (Claim × Claim) → Claim → Claim → List (Claim × Claim)
 with_pair pairs heard other = if has_pair pairs other.signer then pairs else pairs ++ (heard, other) ∷ []
 

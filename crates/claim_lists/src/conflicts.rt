@@ -82,7 +82,7 @@ impl Conflicts {
         self.marked = self.signers;
     }
 
-    /// Forgets the pairs that were kept behind the mark. It takes no memory.
+    /// Forgets the pairs that were kept after the mark. It takes no memory.
     pub fn rewind(&mut self)
         ensures pairs { self.new.pairs ≡ self.old.marked }
         ensures marked { self.new.marked ≡ self.old.marked }
@@ -92,7 +92,7 @@ impl Conflicts {
         self.signers = self.marked;
     }
 
-    /// Makes room for so many pairs more, where the claims of each side have so many bytes of statements and signatures in
+    /// Makes room for `pairs` pairs more, where the claims of each side have `bytes` bytes of statements and signatures in
     /// all. Without memory, the pairs are as before.
     pub fn reserve(&mut self, pairs: usize, bytes: usize) -> Result<(), NoMemory>
         ensures same { self.new.pairs ≡ self.old.pairs }

@@ -89,7 +89,7 @@ impl ClaimList {
         };
     }
 
-    /// Forgets what was put there behind the mark. It takes no memory.
+    /// Forgets what was put there after the mark. It takes no memory.
     pub fn rewind(&mut self)
         ensures claims { self.new.claims ≡ self.old.marked }
         ensures marked { self.new.marked ≡ self.old.marked }
@@ -98,7 +98,7 @@ impl ClaimList {
         self.bytes.truncate(self.marked.bytes);
     }
 
-    /// Forgets all claims, where the mark stands at nothing. The room stays, and grows by what they took.
+    /// Forgets all claims, with the mark at nothing. The room stays, and grows by what they took.
     pub fn clear(&mut self)
         ensures claims { self.new.claims ≡ [] }
         ensures marked { self.new.marked ≡ [] }
@@ -110,7 +110,7 @@ impl ClaimList {
         self.marked = NOTHING;
     }
 
-    /// Makes room for so many claims more, with so many bytes of statements and signatures in all. Without memory, the
+    /// Makes room for `claims` claims more, with `bytes` bytes of statements and signatures in all. Without memory, the
     /// claims are as before.
     pub fn reserve(&mut self, claims: usize, bytes: usize) -> Result<(), NoMemory>
         ensures same { self.new.claims ≡ self.old.claims }
@@ -140,7 +140,7 @@ impl ClaimList {
         }
     }
 
-    /// Puts the claim behind the others. It takes no memory: one claim, with its bytes, must be reserved.
+    /// Puts the claim after the others. It takes no memory: one claim, with its bytes, must be reserved.
     pub fn push(&mut self, claim: &Claim<'_>)
         requires range { IsStatement (stmt claim.now.statement) }
         requires short { length claim.now.signature.now ≤ 16384 }

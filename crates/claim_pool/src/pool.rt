@@ -112,7 +112,7 @@ impl Pool {
         Ok(Pool { heard })
     }
 
-    /// Forgets what is heard, and turns to this view, where the mark stands at nothing. The room stays.
+    /// Forgets what is heard, and turns to this view, with the mark at nothing. The room stays.
     pub fn turn_to(&mut self, view: View)
         ensures pool { self.new.pool ≡ empty_pool view }
         ensures marked { self.new.marked ≡ empty_pool view }
@@ -130,7 +130,7 @@ impl Pool {
         self.heard.mark();
     }
 
-    /// Forgets what was heard behind the mark. It takes no memory.
+    /// Forgets what was heard after the mark. It takes no memory.
     pub fn rewind(&mut self)
         ensures pool { self.new.pool ≡ self.old.marked }
         ensures marked { self.new.marked ≡ self.old.marked }
@@ -146,7 +146,7 @@ impl Pool {
         self.heard.quorums().claims().size()
     }
 
-    /// Makes room to hear so many claims more, with so many bytes of statements and signatures in all. Without memory, what
+    /// Makes room to hear `claims` claims more, with `bytes` bytes of statements and signatures in all. Without memory, what
     /// is heard is as before.
     pub fn reserve(&mut self, claims: usize, bytes: usize) -> Result<(), NoMemory>
         ensures same { self.new.pool ≡ self.old.pool }
@@ -164,7 +164,7 @@ impl Pool {
         self.heard.quorums().claims().view()
     }
 
-    /// The claim's verdict. Where it is Heard, the claim stands behind those that are heard, and else nothing changes. It
+    /// The claim's verdict. Where it is Heard, the claim comes after those that are heard, and else nothing changes. It
     /// takes no memory: one claim, with its bytes, must be reserved. `own` has an entry for each member.
     pub fn take<V: Scheme>(
         &mut self,

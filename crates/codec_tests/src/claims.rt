@@ -36,7 +36,7 @@ fn is_spelled(rt: &impl Abort, bytes: &[u8], statement: &Statement<'_>) {
     assert!(rt; spelled_len(&read) == len);
 }
 
-// The messages 0, 1, 2 and so on of process 7, so many.
+// The first `count` messages of process 7: 0, 1, 2 and so on.
 fn many(rt: &impl Abort, count: u16) -> Batch {
     let mut batch = Batch::of(pid(rt, 7), 0);
     for number in 1..count {

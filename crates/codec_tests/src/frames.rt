@@ -116,7 +116,7 @@ fn fields_are_written_and_read_again(rt: HostRuntime) {
     assert_eq!(rt; read_all(&out[..14]), Err("short"));
 }
 
-// One field of each kind, and how many bytes are behind them.
+// One field of each kind, and how many bytes follow them.
 fn read_all(bytes: &[u8]) -> Result<(u8, u16, u32, u64, usize), &'static str> {
     let (one, rest) = u8_at(bytes, "short")?;
     let (two, rest) = u16_at(rest, "short")?;

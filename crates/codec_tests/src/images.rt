@@ -55,7 +55,7 @@ fn an_image_of_either_version_is_read_and_written(rt: HostRuntime) -> Result<(),
     Ok(())
 }
 
-// Where the fault stands with this byte in place of another.
+// Where the fault is with this byte in place of another.
 fn fault_with(rt: &HostRuntime, at: usize, byte: u8) -> Option<SnapshotFault> {
     let mut bytes = SECOND;
     for (place, it) in bytes.iter_mut().enumerate() {
@@ -68,7 +68,7 @@ fn fault_with(rt: &HostRuntime, at: usize, byte: u8) -> Option<SnapshotFault> {
 
 #[test]
 fn each_fault_has_its_place(rt: HostRuntime) {
-    // a byte, what it is set to, and where the fault stands
+    // a byte, what it is set to, and where the fault is
     for (at, byte, place) in [
         (0, 64, 0),
         (4, 16, 4),

@@ -20,7 +20,7 @@ host 1 plain 100
 pair 1 0 e5d93ab81fbaf5647142a212f6fec7a66fc65a8250045aaf87c78aa3de95e3e9
 ";
 
-// Process 0 takes a payload and signs two statements, process 1 a tick, and behind the closed gate, which reads 7, are two bytes more.
+// Process 0 takes a payload and signs two statements, process 1 a tick, and after the closed gate, which reads 7, are two bytes more.
 const JOURNAL: [u8; 155] = [
     82, 80, 74, 50, 111, 40, 157, 91, 90, 164, 37, 220, 47, 54, 88, 119, 228, 207, 133, 149, 0, 0,
     0, 0, 0, 0, 0, 3, 144, 191, 203, 15, 15, 224, 218, 200, 25, 204, 203, 129, 124, 166, 194, 108,

@@ -35,7 +35,7 @@ pub record KitOrder : Type 0 where
 pub data Command : Type 0 where
   -- the long report or the short one
   Replay : (short : Bool) → Command
-  -- the views that proofs show behind a kit
+  -- the views that proofs show after a kit
   Chain : Command
   Gen : (number : ℕ) → Command
   Keygen : (order : KitOrder) → Command

@@ -11,15 +11,15 @@ use Rattle.kit_defs.specs.declared.KeyPlan.TheVariants.{Plain, Lms, Hss}
 use Rattle.text_defs.specs.Words.{number_within, bytes_of}
 use Rattle.command_line.specs.Commands.{KitOrder, Command, Replay, Chain, Gen, Keygen, Node, Guard, Serve, Ask, Audit}
 
--- what stands behind this front
+-- what comes after this front
 abbrev pub behind : List ℕ → List ℕ → Option (List ℕ)
 behind front word = if same_bytes (take (length front) word) front then Some (drop (length front) word) else None
 
--- the plan of plain keys, which make so many signatures
+-- the plan of plain keys, which make `total` signatures
 abbrev pub plain_by : List ℕ → Option KeyPlan
 plain_by total = option_map Plain (number_within 0 (2 ^ 32 - 1) total)
 
--- a colon stands behind the first digit of so many bytes
+-- the word has n bytes, and a colon after the first
 abbrev pub is_colon_behind : ℕ → List ℕ → Bool
 is_colon_behind n word = (length word == n) && (slice_index word 1 == 58)
 
@@ -33,7 +33,7 @@ tree_by word =
 abbrev pub lms_by : List ℕ → Option KeyPlan
 lms_by word = option_map (λ tree. Lms tree.0 tree.1) (tree_by word)
 
--- the plan of trees in levels, where they are built: a digit, and behind a colon the typecodes of a tree
+-- the plan of trees in levels, where they are built: a digit, and after a colon the typecodes of a tree
 abbrev pub hss_by : List ℕ → Option KeyPlan
 hss_by word =
     if is_colon_behind 5 word then and_then (number_within 1 3 (take 1 word)) (λ levels. and_then (tree_by (drop 2 word)) (λ tree.
@@ -45,7 +45,7 @@ plan_of word =
     option_or (and_then (behind (codes "plain:") word) plain_by)
     (option_or (and_then (behind (codes "lms:") word) lms_by) (and_then (behind (codes "hss:") word) hss_by))
 
--- the order that the four words behind `keygen` spell
+-- the order that the four words after `keygen` spell
 abbrev pub order_of : List ℕ → List ℕ → List ℕ → List ℕ → Option KitOrder
 order_of members roster keys seed =
     and_then (number_within 1 16 members) (λ n. and_then (number_within n 64 roster) (λ r. and_then (plan_of keys) (λ plan.
@@ -64,7 +64,7 @@ abbrev pub rising_from : ℕ → List (List ℕ) → Option (List ℕ)
 rising_from least [] = Some []
 rising_from least (word ∷ words) = and_then (number_within least 63 word) (λ p. option_map (λ ps. p ∷ ps) (rising_from (p + 1) words))
 
--- the processes that the words behind `audit` spell, one at least
+-- the processes that the words after `audit` spell, one at least
 abbrev pub listed_of : List (List ℕ) → Option (List ℕ)
 listed_of [] = None
 listed_of (word ∷ words) = rising_from 0 (word ∷ words)

@@ -14,7 +14,7 @@ use text_codec::number;
 /// What the program is to do. Its `Debug` does not show the seed of an order.
 #[derive(Clone, Copy, Debug, PartialEq, Eq)]
 pub enum Command<'a> {
-    /// Read a schedule, and write its report: all that it tells, or the short one.
+    /// Read a schedule, and write its report: the whole one, or the short one.
     Replay { short: bool },
 
     /// Read a kit and proofs, and write each view that they show.
@@ -143,7 +143,7 @@ fn of_words(words: &[String]) -> Option<Command<'_>>
     }
 }
 
-/// The command that the words ask for; None exactly where they ask for none. The words are those behind the program's
+/// The command that the words ask for; None exactly where they ask for none. The words are those after the program's
 /// name: `replay`, `replay short`, `chain`, `gen NUMBER` with a number of 32 bits, `keygen N R KEYS SEED` with the ranges of
 /// [`KitOrder`], `node FILE`, `guard FILE` or `serve FILE` with any word, `ask HEX` with 1 to 1,024 bytes in lower-case hexadecimal, or
 /// `audit P P ..` with 1 to 64 rising numbers up to 63.
@@ -170,7 +170,7 @@ fn or_none(listed: &Option<PidSet>) -> PidSet
     }
 }
 
-/// The processes that the words list behind `audit`, where they ask for an audit. Of other words it says nothing.
+/// The processes that the words list after `audit`, where they ask for an audit. Of other words it says nothing.
 pub fn listed_in(words: &[String]) -> PidSet
     ensures audit { (listed : List ℕ) → Asks (map string_bytes words.now) (plain.Audit listed) → result ≡ listed }
 {
@@ -180,7 +180,7 @@ pub fn listed_in(words: &[String]) -> PidSet
     }
 }
 
-/// The payload that the word behind `ask` spells, where the words ask for what was answered to it. Of other words it says nothing.
+/// The payload that the word after `ask` spells, where the words ask for what was answered to it. Of other words it says nothing.
 ///
 /// # Errors
 /// [`NoMemory`].

@@ -19,7 +19,7 @@ pub struct KitOrder {
     /// How many processes there are, from the members to 64.
     pub roster: u8,
 
-    /// Which keys each process gets: a plain one for so many signatures, a tree whose height has the typecode 5, 6 or 7, or
+    /// Which keys each process gets: a plain one and how often it signs, a tree whose height has the typecode 5, 6 or 7, or
     /// levels of such trees that are built.
     pub keys: KeyPlan,
 

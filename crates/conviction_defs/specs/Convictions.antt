@@ -1,7 +1,7 @@
 -- Who is convicted by claims, and by which two. Only valid claims count: what anyone may write proves nothing.
 --
 -- A signer is convicted by a list of claims where two of them are its own, valid, and conflict: kind and slot are equal, and the contents
--- differ. Of several such pairs one is told: `second` is the first claim of the signer that conflicts with one before it, and `first` the
+-- differ. Of several such pairs one is given: `second` is the first claim of the signer that conflicts with one before it, and `first` the
 -- earliest one of that kind and slot.
 use Rattle.std.specs.Prelude.{◌≡◌, ℕ, ◌==◌, ◌&&◌, not, if◌then◌else◌, Bool, List, [], ◌∷◌, ◌++◌, filter, find, Option, None, option_map, Contains, IsTrue}
 use Rattle.std.specs.List.{list_any, filter_map}
@@ -60,7 +60,7 @@ convicted s claims = filter (is_convicted s claims) (keyed s)
 abbrev pub earliest_with : List Claim → Claim → Option (Claim × Claim)
 earliest_with before c = option_map (λ b. (b, c)) (find (is_on_slot c) before)
 
--- the first claim that conflicts with one before it, behind the earliest one of its slot; these claims come before all of them
+-- the first claim that conflicts with one before it, after the earliest one of its slot; these claims come before all of them
 unfoldable pub pair_behind : List Claim → List Claim → Option (Claim × Claim)
 pair_behind before [] = None
 pair_behind before (c ∷ cs) =
@@ -76,7 +76,7 @@ convictions s claims = filter_map (conviction_of s claims) (keyed s)
 
 -- ---- by the first claims alone, as they are kept
 
--- the claims without those before which one of the same signer and slot stands
+-- the claims but those that come after one of the same signer and slot
 unfoldable pub firsts_behind : List Claim → List Claim → List Claim
 firsts_behind before [] = before
 firsts_behind before (c ∷ cs) =

@@ -9,7 +9,7 @@ use Rattle.conviction_defs.specs.Convictions.{Conviction, Convicts, is_convicted
 abbrev pub ConvictionIsTested : Type 0
 ConvictionIsTested = (s : Setting) (claims : List Claim) (q : ℕ) → IsTrue (is_convicted s claims q) ↔ Convicts s claims q
 
--- those are convicted of whom two valid claims conflict, and nobody else
+-- exactly those are convicted who have two valid claims that conflict
 abbrev pub ConvictedIsConvicts : Type 0
 ConvictedIsConvicts = (s : Setting) (claims : List Claim) (q : ℕ) → Contains (convicted s claims) q ↔ Convicts s claims q
 
@@ -17,8 +17,8 @@ ConvictedIsConvicts = (s : Setting) (claims : List Claim) (q : ℕ) → Contains
 abbrev pub EachHasConviction : Type 0
 EachHasConviction = (s : Setting) (claims : List Claim) → map (λ c. c.process) (convictions s claims) ≡ convicted s claims
 
--- The two claims that are told: before the second one no two claims of the signer conflict, the first one is among them, the two conflict,
--- and no claim on their slot stands before the first one.
+-- The two claims that are given: before the second one no two claims of the signer conflict, the first one is among them, the two conflict,
+-- and no claim on their slot comes before the first one.
 pub record IsFirstPair (s : Setting) (claims : List Claim) (c : Conviction) : Type 0 where
   pub before : List Claim
   pub between : List Claim

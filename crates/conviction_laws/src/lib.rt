@@ -8,7 +8,7 @@ pub fn conviction_is_tested()
     ensures { ConvictionIsTested }
 {}
 
-/// Those are convicted of whom two valid claims conflict, and nobody else.
+/// Exactly those are convicted who have two valid claims that conflict.
 pub fn convicted_is_convicts()
     ensures { ConvictedIsConvicts }
 {}
@@ -18,7 +18,7 @@ pub fn each_has_conviction()
     ensures { EachHasConviction }
 {}
 
-/// The pair that is told is the first one: no two claims before its second conflict, and its first is the earliest of the slot.
+/// The pair that is given is the first one: no two claims before its second conflict, and its first is the earliest of the slot.
 pub fn pair_is_first()
     ensures { PairIsFirst }
 {}

@@ -15,7 +15,7 @@ fn write_four(disk: &mut FileDisk<'_, HostRuntime>) -> Result<(), Failed> {
     disk.sync()
 }
 
-// The three bytes behind the first, and the length.
+// The three bytes after the first, and the length.
 fn behind_first(disk: &mut FileDisk<'_, HostRuntime>) -> Result<([u8; 3], u64), Failed> {
     let mut into = [0; 3];
     disk.read_at(1, &mut into)?;

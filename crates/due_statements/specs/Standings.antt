@@ -30,7 +30,7 @@ pub record IsSeated (of : Standing) : Type 0 where
   pub some : 1 ≤ of.batch_limit
   pub few : of.batch_limit ≤ 16
 
--- this is how the process stands
+-- the process is as this says
 pub record Stands (s : Setting) (p : Process) (of : Standing) : Type 0 where
   pub pool : IsPool of.pool.now.pool
   pub place : Tells s p of.pool.now.pool of.own.now

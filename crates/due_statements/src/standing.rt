@@ -1,4 +1,4 @@
-//! Of each kind the statement that is due, made of what its rule answers.
+//! The statement of each kind that is due, made of what its rule answers.
 ghost use Rattle.std.specs.Prelude.{◌≡◌, ◌≤◌, ◌<◌, length, is_some};
 ghost use Rattle.std.specs.Option.{option_map};
 ghost use Rattle.message_defs.specs.Statements as plain;
@@ -50,7 +50,7 @@ fn view_of(of: &Standing<'_>) -> u16
     of.pool.view().number()
 }
 
-// How many payloads were accepted. There are no more than a number of four bytes tells.
+// How many payloads were accepted. There are no more than a number of four bytes holds.
 fn accepted(of: &Standing<'_>) -> u32
     ensures count { length of.now.accepted.now ≤ u32.MAX → result ≡ length of.now.accepted.now }
     ensures within { result ≤ length of.now.accepted.now }
@@ -196,7 +196,7 @@ pub fn is_due(of: &Standing<'_>, kind: Kind) -> bool
     }
 }
 
-/// Of the kind, the least statement that is due to the process that stands so; None exactly where none is due. `own` has an
+/// The least statement of the kind that is due to the process in `of`; None exactly where none is due. `own` has an
 /// entry for each member, and the batch limit is from 1 to 16.
 pub fn due<'a>(of: &Standing<'a>, kind: Kind) -> Option<Statement<'a>>
     requires { IsSeated of.now }

@@ -17,7 +17,7 @@ fn may_end(pool: &Pool, own: &Own) -> bool
     own.position.is_some() && has_notified(pool) && !own.ended
 }
 
-/// The length that the End says that is due, 0 to 1,024 places: the placed length. None exactly where no End is due: the
+/// The length that the due End says, 0 to 1,024 places: the placed length. None exactly where no End is due: the
 /// process is no member, or has signed its End, or no update is notified by more than f members.
 pub fn end_due(pool: &Pool, own: &Own) -> Option<u16>
     ensures { IsLeastDue pool.now.pool own.now Ends (option_map (End pool.now.pool.view.number) result) }

@@ -18,7 +18,7 @@ use pool_questions::{Own, Pool, certified_batch, end_of};
 use rp_base::{Pid, Update, Value};
 use view_table::{is_possible, quorum};
 
-/// Whether so many members are a quorum of the view.
+/// Whether `members` members are a quorum of the view.
 pub fn is_quorum(pool: &Pool, members: usize) -> bool
     ensures { result ≡ defs.is_quorum pool.now.pool members }
 {

@@ -37,7 +37,7 @@ slots_in places ranks processes v = flat_map (slots_of places ranks processes v)
 abbrev pub most_signed : ℕ
 most_signed = 20674
 
--- q is p but for claims of p's view that were signed, of which no two fill one slot
+-- q is p but for claims of p's view that were signed, no two of which fill one slot
 pub record FillsSlots (p q : Process) : Type 0 where
   pub more : List Claim
   pub signed : q.signed ≡ p.signed ++ more

@@ -9,7 +9,7 @@ pub fn taking_in_leaves()
     ensures { TakingInLeaves }
 {}
 
-/// Signing puts claims of the current view behind those that are signed, and delivers nothing.
+/// Signing puts claims of the current view after those that are signed, and delivers nothing.
 pub fn signing_leaves()
     ensures { SigningLeaves }
 {}

@@ -7,7 +7,7 @@ use Rattle.file_disk.specs.Files.{is_open, is_lost}
 abbrev pub disk_faults : {R F D : Type 0} → FileDisk R F D → ℕ
 disk_faults d = d.faults
 
--- the file stands open
+-- the file is open
 abbrev pub disk_is_open : {R F D : Type 0} → FileDisk R F D → Bool
 disk_is_open d = is_open d.file
 
@@ -19,7 +19,7 @@ disk_is_lost d = is_lost d.file
 abbrev pub StaysLostDisk : {R F D T E : Type 0} → FileDisk R F D → FileDisk R F D → Result T E → Type 0
 StaysLostDisk old new result = disk_is_lost old ≡ true → IsErr result × (disk_is_lost new ≡ true)
 
--- it doesn't tell what it holds
+-- it doesn't say what it holds
 abbrev pub untold : Option (List ℕ)
 untold = None
 

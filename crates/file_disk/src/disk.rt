@@ -7,12 +7,12 @@ use std::rt::Files;
 
 /// One file of the system's as a disk.
 ///
-/// The first call opens the file, or makes it where nothing stands at the path, and syncs it and its folder. A path that
+/// The first call opens the file, or makes it where nothing is at the path, and syncs it and its folder. A path that
 /// names anything but a file, a link too, is not opened. A read or a write that the system cuts short is gone on with,
 /// and a call that a signal interrupts is made again; every other error counts as one fault. After an opening or a sync
-/// that failed each later call fails: the system may have let go of what was written, and a later sync would not tell.
+/// that failed each later call fails: the system may have let go of what was written, and a later sync would not show it.
 ///
-/// It doesn't tell what it holds, so no clause says which bytes a read gives or a crash may leave.
+/// It doesn't say what it holds, so no clause says which bytes a read gives or a crash may leave.
 #[derive(Drop)]
 pub struct FileDisk<'a, R: Files> {
     file: NamedFile<'a, R>,

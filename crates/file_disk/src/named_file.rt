@@ -13,7 +13,7 @@ pub(crate) enum Stage<F> {
     Unopened,
     Open(F),
 
-    // Opening it or a sync failed: the system may have let go of what was written, and a later sync wouldn't tell.
+    // Opening it or a sync failed: the system may have let go of what was written, and a later sync wouldn't show it.
     Lost,
 }
 
@@ -129,7 +129,7 @@ fn write_whole<F: Write>(file: &mut F, piece: &[u8]) -> io::Result<()>
     file.write_all(piece)
 }
 
-// Opens the file, or makes it where nothing stands at the path, and then syncs it and its folder: what is read from now
+// Opens the file, or makes it where nothing is at the path, and then syncs it and its folder: what is read from now
 // on, and the file's name, outlast a crash.
 fn open<R: Files>(rt: &R, path: &str) -> io::Result<R::File> {
     let file = open_or_make(rt, path)?;

@@ -1,11 +1,11 @@
--- What is told, as plain data.
+-- What is reported, as plain data.
 use Rattle.std.specs.Prelude.{map}
 use Rattle.audit_defs.specs.Findings as plain
 use Rattle.accounts.specs.Views.{account}
 use Rattle.findings_json.specs.declared.findings.Conviction.{Conviction}
 use Rattle.findings_json.specs.declared.findings.Findings.{Findings}
 
--- a conviction, as it is told
+-- a conviction, as it is reported
 abbrev pub told : Conviction → plain.Told
 told c = record { process = c.process; kind = c.kind; first = c.first.statement; second = c.second.statement }
 

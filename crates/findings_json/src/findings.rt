@@ -40,7 +40,7 @@ pub struct Findings {
     pub convicted: Vec<Conviction>,
     pub honest: bool,
 
-    /// Of the listed processes, rising.
+    /// Those of the listed processes, rising.
     pub accounts: Vec<Account>,
     pub sound: bool,
 }

@@ -18,7 +18,7 @@ abbrev pub OpensPlaces : Process → Server → Type 0
 OpensPlaces p s = (k : ℕ) → places_in p.delivered ≤ k → position_at s.last k ≡ 0
 
 -- Each reply that a server writes during a turn is a reply of its process, as the turn leaves it. It is signed with the leaf whose number
--- is how many messages the server has been told of before.
+-- is how many messages the server has been given before.
 abbrev pub TurnReplies : Type 0
 TurnReplies = (setting : Setting) (p : Process) (t : Turn) (q : Place) (b : Beginning) (s : Server) (front rest : List Note) (x : ℕ)
     (d : Delivered) (r : Reply) → p.pool.view.number ≡ length p.left → q.me ≡ p.me → Follows p b s → OpensPlaces p s

@@ -1,4 +1,4 @@
--- A run of a server: the events of its process, each told to it, and the words that a script has for it.
+-- A run of a server: the events of its process, each reported to it, and the words that a script has for it.
 use Rattle.std.specs.Prelude.{◌≡◌, ℕ, nat_lt, if◌then◌else◌, List, [], ◌∷◌, ◌++◌, length, Contains, Some}
 use Rattle.group_defs.specs.Process.{Setting, Delivered, Process, start}
 use Rattle.group_defs.specs.Accounts.{IsPrefixOf, group_of}
@@ -42,7 +42,7 @@ with_word q m Give = m.offered
 with_word q m (State bytes) = with_offer q m.server bytes m.offered
 with_word q m (StateKey p key) = m.offered
 
--- After an event the server has been told its notes, and nothing was offered yet in a view that it installs. A word changes the server, and
+-- After an event the server has been given its notes, and nothing was offered yet in a view that it installs. A word changes the server,
 -- the process not.
 unfoldable pub after_step : Setting → Place → Moment → Step → Moment
 after_step setting q m (Happens t) =
@@ -64,7 +64,7 @@ reached setting q m (step ∷ steps) = reached setting q (after_step setting q m
 
 -- ---- what it signs
 
--- in the run the server writes this reply behind a message, signed with the leaf of this number
+-- in the run the server writes this reply after a message, signed with the leaf of this number
 pub record WritesReply (setting : Setting) (q : Place) (m : Moment) (steps : List Step) (leaf : ℕ) (r : Reply) : Type 0 where
   pub before : List Step
   pub turn : Turn
@@ -78,7 +78,7 @@ pub record WritesReply (setting : Setting) (q : Place) (m : Moment) (steps : Lis
   pub told : told_of q (after_notes q (reached setting q m before).server front) (Delivers view delivered) ≡ ToldReply (Signed r)
   pub leaf_is : leaf ≡ (after_notes q (reached setting q m before).server front).delivered
 
--- in the run the server writes this state behind a `give`
+-- in the run the server writes this state after a `give`
 pub record WritesState (setting : Setting) (q : Place) (m : Moment) (steps : List Step) (r : StateRecord) : Type 0 where
   pub before : List Step
   pub behind : List Step

@@ -17,11 +17,11 @@ drafted d = if d.kind == 1 then Bundle d.groups else Proof d.groups
 
 -- ---- its bytes
 
--- the groups that stand in the bytes of a frame
+-- the groups in the bytes of a frame
 abbrev pub groups_in : List ℕ → List Group
 groups_in bytes = items_of (groups_at (slice_index bytes 2) (drop 3 bytes))
 
--- the last group stands there, and this is its last signer
+-- the last group is there, and this is its last signer
 pub record IsLast (groups : List Group) (last : Last) : Type 0 where
   pub before : List Group
   pub statement : List ℕ
@@ -31,7 +31,7 @@ pub record IsLast (groups : List Group) (last : Last) : Type 0 where
   pub statement_at : last.statement_at ≡ 5 + length (flat_map group_bytes before)
   pub count_at : last.count_at ≡ last.statement_at + length statement
 
--- there is no group, or the last one stands there
+-- there is no group, or the last one is there
 abbrev pub Ends : List Group → Option Last → Type 0
 Ends groups None = groups ≡ []
 Ends groups (Some last) = IsLast groups last

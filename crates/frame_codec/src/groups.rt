@@ -1,4 +1,4 @@
-//! A frame that was read whole, and its groups, lent one after another.
+//! A frame that was read whole, and its groups, one after another.
 ghost use Rattle.std.specs.Prelude.{IsOk};
 ghost use Rattle.message_defs.specs.Frames.{signatures_at, groups_at};
 

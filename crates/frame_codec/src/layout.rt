@@ -8,7 +8,7 @@
 //! | group | length 2 bytes, statement; number of signatures 1 byte (1 to 16), signatures |
 //! | signature | signer 1 byte, length 2 bytes (at most 16,384), signature |
 //!
-//! A frame has at most 61,000 bytes, and nothing stands behind its last field. The signers of a group rise.
+//! A frame has at most 61,000 bytes, and nothing follows its last field. The signers of a group rise.
 
 pub(crate) const VERSION: u8 = 1;
 
@@ -30,7 +30,7 @@ pub(crate) const GROUP_SIGNATURES: u8 = 16;
 /// The most bytes of a signature.
 pub const SIGNATURE_BYTES: u16 = 16_384;
 
-/// The bytes of a group beside its statement and its signatures.
+/// The bytes of a group apart from its statement and its signatures.
 pub(crate) const GROUP_HEAD: usize = 3;
 
 /// The bytes of a signature's signer and length.

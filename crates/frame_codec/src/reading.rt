@@ -27,7 +27,7 @@ pub(crate) fn read_signature(least: u16, bytes: &[u8]) -> Result<((u8, &[u8]), &
     Ok(((signer, signature), rest))
 }
 
-// The bytes behind so many signatures of rising signers.
+// The bytes after `count` signatures of rising signers.
 fn skip_signatures(count: u8, bytes: &[u8]) -> Result<&[u8], FrameFault>
     ensures { Gives (λ r. r.now) result (rest_of (signatures_at count 0 bytes.now)) }
 {
@@ -67,7 +67,7 @@ pub(crate) fn read_group(bytes: &[u8]) -> Result<(Group<'_>, &[u8]), FrameFault>
     ))
 }
 
-// The bytes behind so many groups.
+// The bytes after `count` groups.
 fn skip_groups(count: u8, bytes: &[u8]) -> Result<&[u8], FrameFault>
     ensures { Gives (λ r. r.now) result (rest_of (groups_at count bytes.now)) }
 {

@@ -23,7 +23,7 @@ use rp_base::NoMemory;
 use std::alloc::Global;
 use std::marker::Model;
 
-/// Where the last group of a frame stands, and who signed last.
+/// Where the last group of a frame is, and who signed last.
 #[derive(Clone, Copy)]
 struct Last {
     statement_at: usize,

@@ -52,7 +52,7 @@ abbrev pub longest : {A : Type 0} → List (List A) → List A
 longest [] = []
 longest (xs ∷ more) = if nat_lt (length xs) (length (longest more)) then longest more else xs
 
--- The longest views list and, of each view, the messages of the longest delivered list. The accounts stand by rising process number,
+-- The longest views list and, of each view, the messages of the longest delivered list. The accounts are in order of process numbers,
 -- and of equally long lists the first one counts.
 abbrev pub group_of : List Account → Group
 group_of accounts = record { views = longest (map (λ a. a.views) accounts); sequence = λ x. longest (map (λ a. messages_in a x) accounts) }
@@ -96,7 +96,7 @@ pub record HasCause (accounts : List Account) (keyed : List ℕ) (v w : View) : 
 abbrev pub of_sender : ℕ → List Letter → List Letter
 of_sender sender ds = filter (λ d. d.message.sender == sender) ds
 
--- no message stands twice
+-- no message occurs twice
 abbrev pub IsOnce : List Letter → Type 0
 IsOnce ds = AllPairs (λ d e. d.message ≢ e.message) ds
 
@@ -112,7 +112,7 @@ at_place k ds = filter (λ d. d.place == k) ds
 abbrev pub batch_at : ℕ → List Delivered → Batch
 batch_at k ds = map (λ d. d.message) (at_place k ds)
 
--- the places are 0, 1, 2 and so on: the list is what was delivered at each of them, one behind the other, and at each 1 to 16 messages
+-- the places are 0, 1, 2 and so on: the list is what was delivered at each of them, one after the other, and at each 1 to 16 messages
 pub record StandsByPlace (ds : List Delivered) : Type 0 where
   pub together : flat_map (λ k. at_place k ds) (range_with_len 0 (places_in ds)) ≡ ds
   pub batches : (k : ℕ) → k < places_in ds → (1 ≤ length (at_place k ds)) × (length (at_place k ds) ≤ most_messages)
@@ -121,12 +121,12 @@ pub record StandsByPlace (ds : List Delivered) : Type 0 where
 abbrev pub HaveSameBatches : List Delivered → List Delivered → Type 0
 HaveSameBatches ds es = (k : ℕ) → k < places_in ds → k < places_in es → batch_at k ds ≡ batch_at k es
 
--- what each process delivered in each view stands by place, and any two delivered the same at a place
+-- what each process delivered in each view is in the order of the places, and any two delivered the same at a place
 pub record ArePlaced (accounts : List Account) : Type 0 where
   pub by_place : All (λ a. (x : ℕ) → StandsByPlace (delivered_in a x)) accounts
   pub same : All (λ a. All (λ b. (x : ℕ) → HaveSameBatches (delivered_in a x) (delivered_in b x)) accounts) accounts
 
--- each view has a cause in the one before; in a sequence no message stands twice, and the numbers of each sender are 0, 1, 2 and so on;
+-- each view has a cause in the one before; in a sequence no message occurs twice, and the numbers of each sender are 0, 1, 2 and so on;
 -- what was delivered of a correct process, over all views, is a prefix of the payloads that it accepted; and a place is delivered whole,
 -- with the same messages by all
 pub record Sound (accounts : List Account) (keyed : List ℕ) : Type 0 where
@@ -174,7 +174,7 @@ abbrev pub perceived_in : List Account → View → List Update
 perceived_in accounts v = flat_map
     (λ a. if is_member v a.me then map (λ e. e.1) (filter (λ e. e.0 == v.number) a.perceived) else []) accounts
 
--- as `HasCause`, of a view and the one behind it
+-- `HasCause` as a test, of a view and the one after it
 abbrev pub has_cause : List Account → List ℕ → View × View → Bool
 has_cause accounts keyed e = list_any (λ u. is_possible keyed e.0 u && same_views (e.1 ∷ []) (next_view e.0 u ∷ []))
     (perceived_in accounts e.0)
@@ -185,7 +185,7 @@ is_in_order ds sender =
     let numbers = map (λ d. d.message.number) (of_sender sender ds) in
     pointwise (λ m n. m == n) numbers (range_with_len 0 (length numbers))
 
--- in the sequence of view x the numbers of each sender are 0, 1, 2 and so on, so no message stands twice
+-- in the sequence of view x the numbers of each sender are 0, 1, 2 and so on, so no message occurs twice
 abbrev pub is_sound_in : Group → ℕ → Bool
 is_sound_in g x = list_all (λ d. is_in_order (g.sequence x) d.message.sender) (g.sequence x)
 
@@ -216,7 +216,7 @@ are_placed_in accounts x =
     list_all (λ a. stands_by_place (delivered_in a x)) accounts
     && list_all (λ a. list_all (λ b. have_same_batches (delivered_in a x) (delivered_in b x)) accounts) accounts
 
--- each element with the one behind it
+-- each element with the one after it
 abbrev pub neighbours : {A : Type 0} → List A → List (A × A)
 neighbours [] = []
 neighbours (x ∷ []) = []

@@ -92,7 +92,7 @@ messages bs = flat_map (λ b. b) bs
 
 -- ---- updates and ranks
 
--- the update that a Notify tells
+-- the update that a Notify names
 abbrev pub update_said : Statement → Option Update
 update_said (Notify x u) = Some u
 update_said _ = None

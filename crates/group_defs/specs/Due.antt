@@ -43,7 +43,7 @@ is_perceived p e = list_any (λ d. is_yes (pair_discrete ℕ_discrete (Update-di
 
 -- ---- batches
 
--- the sender's next message behind these, where it is certified
+-- the sender's next message after these, where it is certified
 abbrev pub next_of : Pool → List Message → ℕ → Option Message
 next_of h before sender =
     let m : Message = record { sender = sender; number = named sender before } in
@@ -53,7 +53,7 @@ next_of h before sender =
 abbrev pub next_message : Pool → List Message → Option Message
 next_message h before = first_some (next_of h before) h.view.members
 
--- the next messages behind these, one after the other, at most so many
+-- the next messages after these, one after the other, at most this many
 unfoldable pub next_messages : ℕ → Pool → List Message → Batch
 next_messages zero h before = []
 next_messages (suc more) h before = elim (next_message h before) [ None ↦ [] | Some m ↦ m ∷ next_messages more h (before ++ m ∷ []) ]
@@ -62,7 +62,7 @@ next_messages (suc more) h before = elim (next_message h before) [ None ↦ [] |
 abbrev pub next_batch : Process → Batch
 next_batch p = next_messages p.batch_limit p.pool (messages (own_orders p))
 
--- each is its sender's next message behind these and those before it in the batch
+-- each is its sender's next message after these and those before it in the batch
 abbrev pub follows : List Message → Batch → Bool
 follows before [] = true
 follows before (m ∷ ms) = (m.number == named m.sender before) && follows (before ++ m ∷ []) ms
@@ -77,7 +77,7 @@ is_batch b = nat_lt 0 (length b) && nat_le (length b) most_messages
 
 -- ---- the table: what each kind needs
 
--- what each kind needs, beside a member in its view and a slot that is not signed
+-- what each kind needs, apart from a member in its view and a slot that is not signed
 abbrev pub is_due : Setting → Process → Statement → Bool
 is_due s p (Init x l payload) =
     nat_lt l (delivered_from p.me p.delivered + window) && nat_le l last_number
@@ -174,7 +174,7 @@ end s p = End p.pool.view.number (length (placed p.pool)) ∷ []
 abbrev pub readies : Setting → Process → List Statement
 readies s p = answers p ready_of
 
--- the Last behind all ranks whose members are to be removed, with the own Ready of greatest rank
+-- the Last after all ranks whose members are to be removed, with the own Ready of greatest rank
 abbrev pub last : Setting → Process → List Statement
 last s p = Last p.pool.view.number (removed_rank p.pool) (own_ready p) ∷ []
 
@@ -236,7 +236,7 @@ EachDueIsOffered = (s : Setting) (p : Process) (st : Statement) → IsTrue (may_
 abbrev pub SomeIsLeast : Type 0
 SomeIsLeast = (s : Setting) (p : Process) (st : Statement) → IsTrue (may_sign s p st) → IsTrue (is_some (least_due s p (kind_of st)))
 
--- it is due, and none of its kind that is due stands before it
+-- it is due, and none of its kind that is due comes before it
 abbrev pub LeastIsDue : Type 0
 LeastIsDue = (s : Setting) (p : Process) (st : Statement) → least_due s p (kind_of st) ≡ Some st
     → IsTrue (may_sign s p st) × ((other : Statement) → Contains (offers (kind_of st) s p) other → IsTrue (may_sign s p other)

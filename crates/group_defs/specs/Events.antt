@@ -112,7 +112,7 @@ run s p (t ∷ ts) = run s (after s p t) ts
 
 -- ---- what the event answers
 
--- what is told of an event
+-- what is reported of an event
 pub data Note : Type 0 where
   Delivers : (view : ℕ) (delivered : Delivered) → Note
   Installs : (view : View) → Note
@@ -120,7 +120,7 @@ pub data Note : Type 0 where
   Spent : Note
   Halts : (delivered cut : ℕ) → Note
 
--- what an event answers, beside the process after it
+-- what an event answers, apart from the process after it
 pub record Outcome : Type 0 where
   pub verdict : Option EventFault
   pub heard : ℕ
@@ -134,7 +134,7 @@ abbrev pub is_tick : Event → Bool
 is_tick Tick = true
 is_tick _ = false
 
--- beside the Bundles: a Want of a process with a key is answered in Proofs, and a Tick asks the other members for the places that come
+-- besides the Bundles: a Want of a process with a key is answered in Proofs, and a Tick asks the other members for the places that come
 -- next
 abbrev pub answers : Setting → Process → Event → List Sending
 answers s q (Hand from (Wants x k)) = if has (keyed s) from then unless_empty (answer q x k) Proof (from ∷ []) else []

@@ -56,7 +56,7 @@ verdict s p c = unwrap_or (first_that_holds (
 
 -- ---- what it changes
 
--- the claim stands behind those that are heard
+-- the process with the claim after those that it has heard
 abbrev pub with_heard : Process → Claim → Process
 with_heard p c = record p { pool = record { view = p.pool.view; heard = p.pool.heard ++ c ∷ [] } }
 

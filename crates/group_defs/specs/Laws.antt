@@ -17,7 +17,7 @@ use Rattle.group_defs.specs.Family.{Correct, Family, numbers, ends, accounts, ha
 
 -- ---- of one signed list
 
--- at place i of the signed list stands this statement
+-- place i of the signed list holds this statement
 abbrev pub SignsAt : Process → ℕ → Statement → Type 0
 SignsAt p i st = slice_get (statements_of p) i ≡ Some st
 
@@ -29,7 +29,7 @@ EachRun P = (s : Setting) (me batch_limit : ℕ) (turns : List Turn) → P s me 
 abbrev pub OnePerSlot : Type 0
 OnePerSlot = EachRun (λ s me turns p. AllPairs (λ c d. slot_of c.statement ≢ slot_of d.statement) p.signed)
 
--- 2. in the signed list a Keep of place k stands before the End of its view, and the End's number n is above k
+-- 2. in the signed list a Keep of place k comes before the End of its view, and the End's number n is above k
 abbrev pub KeepsBeforeEnd : Type 0
 KeepsBeforeEnd = EachRun (λ s me turns p. (i j x k n : ℕ) (b : Batch) → SignsAt p i (Keep x k b) → SignsAt p j (End x n)
     → (i < j) × (k < n))
@@ -39,7 +39,7 @@ abbrev pub ReportsReady : Process → ℕ → ℕ → ℕ → Option (ℕ × Val
 ReportsReady p x r r' ready = (r1 : ℕ) × (v : Value) × (ready ≡ Some (r1, v)) × (r ≤ r1) × (r1 < r')
     × Contains (statements_of p) (Ready x r1 v)
 
--- 3. a Ready stands before a Last of a greater rank, which reports one as late
+-- 3. a Ready comes before a Last of a greater rank, which reports one as late
 abbrev pub ReadyBeforeLast : Type 0
 ReadyBeforeLast = EachRun (λ s me turns p. (i j x r r' : ℕ) (v : Value) (ready : Option (ℕ × Value)) → SignsAt p i (Ready x r v)
     → SignsAt p j (Last x r' ready) → r < r'
@@ -112,7 +112,7 @@ pub record AreInARow (s : Setting) (vs : List View) : Type 0 where
 abbrev pub ViewsInARow : Type 0
 ViewsInARow = EachRun (λ s me turns p. AreInARow s (views_of p))
 
--- while a decision stands, the Ready that gave it is certified
+-- where a process has decided, the Ready that gave the decision is certified
 abbrev pub DecisionStands : Type 0
 DecisionStands = EachRun (λ s me turns p. (d : ℕ × Value) → p.decision ≡ Some d
     → IsTrue (is_certified p.pool (Ready p.pool.view.number d.0 d.1)))
@@ -140,7 +140,7 @@ QuorumsMeet = (members : List ℕ) (p q : ℕ → Bool) → 1 ≤ length members
     → quorum (length members) ≤ count_by q members
     → faulty (length members) < count_by (λ m. p m && q m) members
 
--- the processes stand by rising number, and begin in a view 0 of 1 to 16 members; what was handed over of them is their own word; and in
+-- the processes come by rising number, and begin in a view 0 of 1 to 16 members; what was handed over of them is their own word; and in
 -- no view that they installed are more than f members not correct
 pub record Premises (f : Family) : Type 0 where
   pub genesis : IsView f.setting.genesis
@@ -163,11 +163,11 @@ settlings_from s p (t ∷ ts) = settled (refusal s p t.event) (signing s p t).no
 abbrev pub settlings : Family → Correct → List Process
 settlings f c = settlings_from f.setting (start f.setting c.me c.batch_limit) c.turns
 
--- some correct process stood as q does where one of its events settled
+-- some correct process was as q where one of its events settled
 abbrev pub SettledSo : Family → Process → Type 0
 SettledSo f q = (c : Correct) × Contains f.correct c × Contains (settlings f c) q
 
--- Some correct process `by` stood as q does at a moment, as far as laws 1 to 4 tell: what `by` keeps at the end has grown from what q
+-- Some correct process `by` was as q at a moment, as far as laws 1 to 4 go: what `by` keeps at the end has grown from what q
 -- keeps, and each claim that q has heard was handed over and is valid, or is q's own.
 pub record StoodSo (f : Family) (q : Process) : Type 0 where
   pub by : Process
@@ -175,11 +175,11 @@ pub record StoodSo (f : Family) (q : Process) : Type 0 where
   pub grown : HasGrown q by
   pub heard : All (IsFrom f.setting (handed f) q.signed) q.pool.heard
 
--- as a correct process stands where an event settles, so it stood at a moment (`StoodSo`)
+-- where an event of a correct process settles, a correct process was so (`StoodSo`)
 abbrev pub SettledStood : Type 0
 SettledStood = (f : Family) (q : Process) → SettledSo f q → StoodSo f q
 
--- as a correct process stands after its last event, so it stood at a moment (`StoodSo`)
+-- after the last event of a correct process, a correct process was so (`StoodSo`)
 abbrev pub EndStood : Type 0
 EndStood = (f : Family) (p : Process) → Contains (ends f) p → StoodSo f p
 
@@ -245,7 +245,7 @@ Decides f v q w = SettledSo f q × (q.pool.view ≡ v) × ((r : ℕ) × ((decide
 abbrev pub OneDecision : Type 0
 OneDecision = (f : Family) (v : View) (q q' : Process) (w w' : Value) → IsOneView f v → Decides f v q w → Decides f v q' w' → w ≡ w'
 
--- where value w is decided in the view, no correct process delivers in it at a place of w's cut or behind it
+-- where value w is decided in the view, no correct process delivers in it at w's cut or a later place
 abbrev pub DeliversWithinCut : Type 0
 DeliversWithinCut = (f : Family) (v : View) (q q' : Process) (w : Value) → IsOneView f v → Decides f v q w → SettledSo f q'
     → q'.pool.view ≡ v → places_in (deliver (decide f.setting q')).delivered ≤ w.cut
@@ -318,9 +318,9 @@ pub record LawsOfViewThen (early late : Family) (v : View) : Type 0 where
   pub within_cut : (q q' : Process) (w : Value) → Decides early v q w → SettledSo early q' → q'.pool.view ≡ v
       → places_in (deliver (decide early.setting q')).delivered ≤ w.cut
 
--- What holds at an earlier moment under the premises at the end: what settled or stood then settled or stood in the whole family, the
+-- What holds at an earlier moment under the premises at the end: what settled or was so then, was so in the whole family; the
 -- laws of each view that was installed then, and of the theorems all but two parts: that views have causes, and that what was delivered
--- of a sender is what it accepted. A cause or a sender may stand behind the cut, where the first turns of its process end too early.
+-- of a sender is what it accepted. A cause or a sender may lie after the cut, where the first turns of its process end too early.
 pub record HoldsAtTheCut (early late : Family) : Type 0 where
   pub settled : (q : Process) → SettledSo early q → SettledSo late q
   pub stood : All (StoodSo late) (ends early)

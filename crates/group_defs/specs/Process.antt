@@ -88,7 +88,7 @@ pub record Left : Type 0 where
 -- the data of a process. Its secret is not among them: each turn brings what signs
 pub record Process : Type 0 where
   pub me : ℕ
-  -- an own Order has at most so many messages
+  -- the most messages of an own Order
   pub batch_limit : ℕ
   pub left : List Left
   pub previous : Option Pool

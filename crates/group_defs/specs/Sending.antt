@@ -61,11 +61,11 @@ beside_suggest h _ = []
 abbrev pub same_claim : Claim → Claim → Bool
 same_claim c d = (c.signer == d.signer) && same_statement c.statement d.statement && is_yes (bytes_discrete c.signature d.signature)
 
--- behind the others, where it is not among them
+-- after the others, where it is not among them
 abbrev pub joined : List Claim → Claim → List Claim
 joined cs c = if list_any (same_claim c) cs then cs else cs ++ c ∷ []
 
--- the claims, and behind them what their Orders and Suggests take along, each once
+-- the claims, and after them what their Orders and Suggests take along, each once
 abbrev pub with_what_goes_beside : Process → Pool → List Claim → List Claim
 with_what_goes_beside began h base =
     let statements : List Statement = map (λ c. c.statement) base in

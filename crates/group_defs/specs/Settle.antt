@@ -19,7 +19,7 @@ pub data Phase : Type 0 where
   DecidedView : Phase
   HaltedView : Phase
 
--- the first that holds: halted, decided, observing as one who is no member, closing behind the own End; else the view is open
+-- the first that holds: halted, decided, observing as one who is no member, closing after the own End; else the view is open
 abbrev pub phase_of : Process → Phase
 phase_of p = unwrap_or (first_that_holds (
     (p.halted, HaltedView)
@@ -59,7 +59,7 @@ delivery h k (m ∷ ms) = option_and_then
 abbrev pub deliverable : Process → Option (List Delivered)
 deliverable p = option_and_then (delivery p.pool (places_in p.delivered)) (place_at p.pool (places_in p.delivered))
 
--- at most so many places more, each of them whole
+-- at most this many places more, each of them whole
 unfoldable pub deliver_more : ℕ → Process → Process
 deliver_more zero p = p
 deliver_more (suc more) p = elim (deliverable p) [

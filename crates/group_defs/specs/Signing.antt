@@ -6,7 +6,7 @@ use Rattle.group_defs.specs.Certified.{heard_on}
 use Rattle.group_defs.specs.Due.{least_due}
 use Rattle.message_defs.specs.Spelling.{body}
 
--- The signature on a body, where so many were made before: a live process's own, or the entry's of a journal
+-- The signature on a body, by how many were made before: a live process's own, or the entry's of a journal
 abbrev pub Signer : Type 0
 Signer = ℕ → List ℕ → List ℕ
 
@@ -38,7 +38,7 @@ sign_kind s signer kind (suc left) p = elim (least_due s p kind) [
   | Some st ↦ sign_kind s signer kind left (signs s signer p st)
 ]
 
--- kind after kind, until a signature is wanting
+-- kind after kind, until a signature is missing
 unfoldable pub sign_kinds : Setting → Signer → List Kind → ℕ → Process → Signing
 sign_kinds s signer [] left p = record { now = p; left = left; spent = false }
 sign_kinds s signer (kind ∷ more) left p =

@@ -12,7 +12,7 @@ use Rattle.message_defs.specs.Statements.{Statement, End, Last, Ack, EndAt, Last
 use Rattle.group_defs.specs.Process.{Setting, Pool, keyed}
 use Rattle.group_defs.specs.Certified.{heard_on, number_of_members, is_notified, is_certified, place_at, notified_updates}
 
--- so many claims are of a quorum
+-- n claims are of a quorum
 abbrev pub is_quorum : Pool → ℕ → Bool
 is_quorum h n = nat_le (quorum (number_of_members h)) n
 

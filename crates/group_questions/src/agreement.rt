@@ -1,4 +1,4 @@
-//! Whether what each process tells is a front of what the group has.
+//! Whether what each process reports is a front of what the group has.
 ghost use Rattle.std.specs.Prelude.{◌≡◌, ◌==◌, ◌&&◌, ◌||◌, not, nat_lt, ◌+◌, map, take, drop, length};
 ghost use Rattle.std.specs.List.{list_all, list_any, range_with_len};
 ghost use Rattle.byte_defs.specs.Equality.{is_yes};
@@ -20,7 +20,7 @@ pub fn same_view(v: &View, w: &View) -> bool
     v.number() == w.number() && v.members() == w.members()
 }
 
-/// Whether two deliveries are of the same message with the same payload, wherever they stand.
+/// Whether two deliveries are of the same message with the same payload, wherever they are.
 fn same_letter(d: &Delivered, e: &Delivered) -> bool
     ensures { result ≡ is_yes (Letter-discrete (letter_of (delivery d.now)) (letter_of (delivery e.now))) }
 {
@@ -73,7 +73,7 @@ fn same_length(own: &[Delivered], all: &[Delivered]) -> bool
     own.len() == all.len()
 }
 
-// A front is enough where more may lack, and else all of it is wanted.
+// A front is enough where more may be missing, and else all of it is needed.
 fn is_enough(is_front: bool, may_lack: bool, is_whole: bool) -> bool
     ensures { result ≡ (is_front && (may_lack || is_whole)) }
 {

@@ -1,4 +1,4 @@
-//! The group that the accounts are of: the longest list of views, and of each view the longest list of deliveries. Both are lent.
+//! The group that the accounts are of: the longest list of views, and of each view the longest list of deliveries. Both are borrowed.
 ghost use Rattle.std.specs.Prelude.{◌≡◌, nat_lt, if◌then◌else◌, length, map};
 ghost use Rattle.group_defs.specs.Accounts as plain;
 ghost use Rattle.accounts.specs.Views.{account, delivery};

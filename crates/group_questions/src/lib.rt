@@ -1,4 +1,4 @@
-//! Two questions that a report answers of a group, asked of what its processes tell of themselves (docs/PROMISES.md): whether each view is
+//! Two questions that a report answers of a group, by what its processes report of themselves (docs/PROMISES.md): whether each view is
 //! bounded, and whether all agree. Nothing is copied, and no memory is taken.
 #![tactic(auto)]
 

@@ -1,4 +1,4 @@
--- An answer to a Want is of eight places, however many messages they hold: here of one with nine messages, and of the one behind it.
+-- An answer to a Want is of eight places, however many messages they hold: here of one with nine messages, and of the one after it.
 use Rattle.std.specs.Prelude.{◌≡◌, ℕ, List, [], ◌∷◌, ◌++◌, map, flat_map}
 use Rattle.std.specs.List.{range_with_len}
 use Rattle.message_defs.specs.Statements.{Statement, Echo, Place, Keep, Batch, Claim}
@@ -28,7 +28,7 @@ echo l = Echo 0 (msg 0 l) (l ∷ [])
 abbrev pub hand : List Statement → Turn
 hand sts = turn 1000 (Hand 1 (Claims (map (by 1) sts)))
 
--- nine messages that are certified together, at one place; and one behind them
+-- nine messages that are certified together, at one place; and one after them
 unfoldable pub turns : List Turn
 turns =
     map submit (range_with_len 0 9)

@@ -9,7 +9,7 @@ use Rattle.message_defs.specs.Reading.{statement_in, statement_of}
 use Rattle.message_defs.specs.Claims.{in_proof}
 use Rattle.group_rows.specs.Scripts.{msg}
 
--- a batch of so many, the messages 0, 1, 2 and so on of process 7
+-- a batch of n messages, 0, 1, 2 and so on of process 7
 abbrev pub many : ℕ → Batch
 many n = map (λ l. msg 7 l) (range_with_len 0 n)
 
@@ -34,13 +34,13 @@ pub record BatchBytes : Type 0 where
   -- the length is that of the count
   pub longer : read (spelling (Place 1 2 (many 2)) ++ 0 ∷ []) ≡ Err faults.Statement
   pub shorter : read (head ++ 2 ∷ 7 ∷ 0 ∷ 0 ∷ 7 ∷ 0 ∷ []) ≡ Err faults.Statement
-  -- the range of each message is tested, behind the grammar
+  -- the range of each message is tested, after the grammar
   pub second_sender : read (head ++ 2 ∷ 7 ∷ 0 ∷ 0 ∷ 64 ∷ 0 ∷ 0 ∷ []) ≡ Err faults.Range
   pub second_number : read (head ++ 2 ∷ 7 ∷ 0 ∷ 0 ∷ 7 ∷ 4 ∷ 0 ∷ []) ≡ Err faults.Range
   pub grammar_first : read (head ++ 2 ∷ 64 ∷ 0 ∷ 0 ∷ 7 ∷ 0 ∷ []) ≡ Err faults.Statement
   -- no kind byte is above 14
   pub no_kind : read (15 ∷ 0 ∷ 1 ∷ []) ≡ Err faults.Statement
-  -- a Proof carries a Place and a Keep of several messages, and no Order, which is told before its count
+  -- a Proof carries a Place and a Keep of several messages, and no Order, which is refused before its count
   pub proof_place : statement_in in_proof (spelling (Place 1 2 (many 2))) ≡ Ok (Place 1 2 (many 2))
   pub proof_keep : statement_in in_proof (spelling (Keep 1 2 (many 2))) ≡ Ok (Keep 1 2 (many 2))
   pub proof_order : statement_in in_proof (head ++ 1 ∷ []) ≡ Err faults.Misplaced

@@ -1,4 +1,4 @@
--- A view ends while a batch is in flight: the cut falls behind the place that was delivered, and the messages of the other one are
+-- A view ends while a batch is in flight: the cut falls after the place that was delivered, and the messages of the other one are
 -- ordered again in the next view.
 use Rattle.std.specs.Prelude.{◌≡◌, List, [], ◌∷◌, true, None}
 use Rattle.message_defs.specs.Updates.{Renew}

@@ -18,7 +18,7 @@ pub record NextRefusals : Type 0 where
   -- a stranger can't be removed, nor the last member
   pub stranger : next_fault (view 0 (0 ∷ [])) (Remove 5) ≡ Some NotMember
   pub last : next_fault (view 0 (0 ∷ [])) (Remove 0) ≡ Some LastMember
-  -- view 1023 is the last one, and this is told first
+  -- view 1023 is the last one, and this cause comes first
   pub spent : next_fault (view 1023 four) Renew ≡ Some ViewsSpent
   pub spent_first : next_fault (view 1023 four) (Add 2) ≡ Some ViewsSpent
   -- Remove closes up, Add appends, Renew keeps

@@ -1,4 +1,4 @@
--- Two members, and the manager may order 16 messages at once: three that are certified together stand at one place, and are delivered
+-- Two members, and the manager may order 16 messages at once: three that are certified together share one place, and are delivered
 -- together.
 use Rattle.std.specs.Prelude.{◌≡◌, List, [], ◌∷◌, true, None}
 use Rattle.message_defs.specs.Statements.{Init, Echo, Order, Place, Keep}

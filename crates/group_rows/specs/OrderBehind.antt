@@ -1,5 +1,5 @@
 -- A manager orders a place that it has delivered: three of four lie, and had given the place to a message that the manager could not order
--- yet. Beside that Order stands no certificate.
+-- yet. No certificate goes with that Order.
 use Rattle.std.specs.Prelude.{◌≡◌, List, [], ◌∷◌, true, false, None}
 use Rattle.message_defs.specs.Statements.{Echo, Order, Place, Keep}
 use Rattle.group_defs.specs.Process.{Setting, start, keyed}

@@ -1,4 +1,4 @@
--- A manager whose first place has two messages orders up to the 32nd place behind it, and no further: places count, and not messages.
+-- A manager whose first place has two messages orders up to the 32nd place after it, and no further: places count, and not messages.
 use Rattle.std.specs.Prelude.{◌≡◌, ℕ, List, [], ◌∷◌, ◌++◌, map, flat_map}
 use Rattle.std.specs.List.{range_with_len}
 use Rattle.message_defs.specs.Statements.{Init, Echo, Place, Keep, Batch}

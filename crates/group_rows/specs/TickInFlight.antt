@@ -1,4 +1,4 @@
--- A Tick when one place with two messages is delivered and the next one is not: what is told of that one is told again.
+-- A Tick when one place with two messages is delivered and the next one is not: what was said of that one is said again.
 use Rattle.std.specs.Prelude.{◌≡◌, List, [], ◌∷◌, true, None}
 use Rattle.message_defs.specs.Statements.{Init, Echo, Order, Place, Keep}
 use Rattle.group_defs.specs.Process.{Setting, start, keyed}

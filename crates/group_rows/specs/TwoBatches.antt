@@ -1,4 +1,4 @@
--- A manager that tells two batches for one place to different members: one is certified at most.
+-- A manager that gives different members two batches for one place: one is certified at most.
 use Rattle.std.specs.Prelude.{◌≡◌, List, [], ◌∷◌, true, None}
 use Rattle.message_defs.specs.Statements.{Init, Echo, Order, Place, Keep}
 use Rattle.group_defs.specs.Process.{Setting, start, keyed}

@@ -1,4 +1,4 @@
--- A guard: a process to which a conviction counts as a suspicion. Its core is that of any process; behind a frame it hands it Suspects.
+-- A guard: a process to which a conviction counts as a suspicion. Its core is that of any process; after a frame it hands it Suspects.
 use Rattle.std.specs.Prelude.{◌≡◌, ◌⊎◌, ℕ, ◌+◌, ◌-◌, Bool, true, false, ◌&&◌, ◌||◌, not, nat_lt, ◌==◌, List, [], ◌∷◌, ◌++◌, length, map, filter, filter_map, find, if◌then◌else◌, IsTrue, Contains, Option, Some, None}
 use Rattle.std.specs.List.{range_with_len}
 use Rattle.byte_defs.specs.Members.{has}
@@ -42,7 +42,7 @@ abbrev pub is_above : Option ℕ → ℕ → Bool
 is_above None q = true
 is_above (Some last) q = nat_lt last q
 
--- what a service answers the node behind a taken frame: the least process above the one that it gave last which the frame shows and which
+-- what a service answers the node after a taken frame: the least process above the one that it gave last which the frame shows and which
 -- the process, as it is by now, may expel
 abbrev pub next_suspect : Setting → Event → List Note → Process → Option ℕ → Option ℕ
 next_suspect s e notes p last = find (may_expel p) (filter (is_above last) (shown_by s e notes))
@@ -71,7 +71,7 @@ handed_in key p e = record { turn = live key p e; added = false }
 abbrev pub suspected : Key → Process → ℕ → Given
 suspected key p q = record { turn = live key p (Suspect q); added = true }
 
--- the Suspects behind a frame: of these processes in order each that the process, as it is by then, may expel
+-- the Suspects after a frame: of these processes in order each that the process, as it is by then, may expel
 unfoldable pub expelled : Setting → Key → Process → List ℕ → List Given
 expelled s key p [] = []
 expelled s key p (q ∷ qs) =
@@ -79,7 +79,7 @@ expelled s key p (q ∷ qs) =
     then suspected key p q ∷ expelled s key (after s p (live key p (Suspect q))) qs
     else expelled s key p qs
 
--- an event that is handed in, and the Suspects behind it
+-- an event that is handed in, and the Suspects after it
 abbrev pub guarded : Setting → Key → Process → Event → List Given
 guarded s key p e = handed_in key p e ∷ expelled s key (after s p (live key p e)) (shown s p (live key p e))
 
@@ -101,7 +101,7 @@ MayAdd p named t = (q : ℕ) × (t.event ≡ Suspect q) × Contains named q × I
 abbrev pub shown_behind : Setting → Process → List ℕ → Given → List ℕ
 shown_behind s p named g = if g.added then named else shown s p g.turn
 
--- The turns of a guard that stands at p, where the last frame showed `named`: it adds only what it may. It may add fewer than it
+-- The turns of a guard whose process is p, where the last frame showed `named`: it adds only what it may. It may add fewer than it
 -- considers, as where it was stopped between a frame and its Suspect.
 abbrev pub GuardRun : Setting → Process → List ℕ → List Given → Type 0
 GuardRun s p named [] = Unit {0}

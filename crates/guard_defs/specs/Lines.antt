@@ -1,4 +1,4 @@
--- What a guard reads and writes beside a node, whose `expel` line it also writes:
+-- What a guard reads and writes beyond what a node does, whose `expel` line it also writes:
 --   P accuse Q        a script line: P's conflict of Q goes to the other members
 --   accuse P Q        the conflict is sent
 --   accuse P none     P keeps none
@@ -12,7 +12,7 @@ use Rattle.group_defs.specs.Sending.{Sending, Bundle, others, sends_to}
 
 -- ---- accuse
 
--- the words behind a hosted process: whom it is to accuse
+-- the words after a hosted process: whom it is to accuse
 abbrev pub accused_by : List (List ℕ) → Option ℕ
 accused_by (word ∷ q ∷ []) = if same_bytes word (codes "accuse") then process_of q else None
 accused_by _ = None

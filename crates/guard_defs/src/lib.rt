@@ -1,2 +1,2 @@
-//! A guard on plain data: who is convicted by claims, whom a guard expels behind a frame, and what it says.
+//! A guard on plain data: who is convicted by claims, whom a guard expels after a frame, and what it says.
 #![tactic(auto)]

@@ -66,7 +66,7 @@ pub record CanAccuse (s : Setting) (p : Process) : Type 0 where
   pub carried : All (λ pair. IsClaim pair.0 × IsClaim pair.1) p.conflicts
   pub listed : All (λ m. IsTrue (has (keyed s) m)) p.pool.view.members
 
--- So it is after any events, where what was handed over is such, and what the process has signed, and where the first members have keys:
+-- This holds after any events, where what was handed over and what the process has signed is such, and where the first members have keys:
 -- what a process accuses another with goes to all other members.
 abbrev pub RunsCanAccuse : Type 0
 RunsCanAccuse = (s : Setting) (me limit : ℕ) (ts : List Turn) → All (λ m. IsTrue (has (keyed s) m)) s.genesis.members

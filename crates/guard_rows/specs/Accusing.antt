@@ -15,7 +15,7 @@ use Rattle.guard_rows.specs.Scripts.{s, by, msg, given, frames_sent, expels_in}
 unfoldable pub two_echoes : List Event
 two_echoes = Hand 3 (Claims (by 3 (Echo 0 (msg 3 0) (97 ∷ [])) ∷ by 3 (Echo 0 (msg 3 0) (98 ∷ [])) ∷ [])) ∷ []
 
--- the guard of this number behind these events
+-- the guard of this number after these events
 abbrev pub behind : ℕ → List Event → Process
 behind me es = given_run s (start s me 16) (given s me es)
 

@@ -58,7 +58,7 @@ impl Service for Guard {
         next_suspect(kit, process, event, notes, above)
     }
 
-    /// `P accuse Q`: as `accuse` says. Another line is none of a guard's.
+    /// `P accuse Q`: as `accuse` says. Any other line is not a guard's.
     ///
     /// # Errors
     /// [`NoMemory`]; lines and sends are as they were then.

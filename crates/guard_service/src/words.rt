@@ -53,7 +53,7 @@ fn accused_by(mut words: Parts<'_>) -> Option<Pid>
     }
 }
 
-/// Whom the line is to accuse, where it is a guard's: `P accuse Q`, with Q from 0 to 63. Whether P is hosted, the node has asked.
+/// Whom the line is to accuse, where it is a guard's: `P accuse Q`, with Q from 0 to 63. The node has asked whether P is hosted.
 pub(crate) fn accused(line: &str) -> Option<Pid>
     ensures { result ≡ accused_in line.now }
 {
@@ -92,7 +92,7 @@ fn accuse_line(alloc: Global, me: Pid, accused: Option<Pid>) -> Result<Vec<u8>, 
     Ok(line)
 }
 
-/// Appends that the process accuses that one, or that it keeps nothing of it by which it could.
+/// Appends that the process accuses that one, or that it keeps no conflict of it.
 ///
 /// # Errors
 /// [`NoMemory`]; nothing is appended then.

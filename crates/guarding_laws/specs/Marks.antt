@@ -89,8 +89,8 @@ with_or_without f false = f.sure
 abbrev pub opened : Cast → FoundMarked → Run → Node
 opened c f r = opens c (from_start c) r.lines (entries_in (with_or_without f r.with_more))
 
--- What a stop leaves of a run that found this: what was found until the opening is over, and then that and what the run appended. The one
--- more, of which nobody knows whether it is there, is the guard's where what is taken then is.
+-- What a stop leaves of a run that found this: what was found until the opening is over, and then that and what the run appended. An entry
+-- that may be there besides is the guard's where what is taken then is.
 abbrev pub leaves_marked : Cast → Snapper → FoundMarked → Run → List Opening → FoundMarked
 leaves_marked c snap f r [] =
     let n : Node = opened c f r in

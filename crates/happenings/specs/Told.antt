@@ -58,14 +58,14 @@ pub record IsSeenOf (r : Outcome) (s : Seen) : Type 0 where
 abbrev pub OutcomeIsSeen : Type 0
 OutcomeIsSeen = (o : group.Outcome) (r : Outcome) (s : Seen) → IsOutcome o r → IsSeenOf r s → outcomes.seen o ≡ seen s
 
--- ---- who is told
+-- ---- what is reported
 
--- what was told, where somebody asks
+-- what was reported, where somebody asks
 abbrev pub told_of : Told → Option (List plain.Happening)
 told_of Unasked = None
 told_of (Kept all) = Some (map happening all.items)
 
--- this was told behind what was told before, where somebody asks
+-- this was reported after what was reported before, where somebody asks
 abbrev pub Tells : Told → List plain.Happening → Told → Type 0
 Tells old what new = told_of new ≡ option_map (λ before. before ++ what) (told_of old)
 

@@ -1,4 +1,4 @@
-//! What happens in a run of a schedule, thing by thing, for whoever asks to be told.
+//! What happens in a run of a schedule, thing by thing, for whoever asks for it.
 #![tactic(auto)]
 
 ghost use Rattle.happenings.specs.Told.{OutcomeIsSeen};

@@ -23,7 +23,7 @@ pub struct Seen {
     /// To whom each frame goes that it sends, in this order.
     pub to: Vec<PidSet>,
 
-    /// What it is told, in this order.
+    /// What it reports, in this order.
     pub notes: Vec<Note>,
 }
 

@@ -1,4 +1,4 @@
-//! What happens, and who asks to be told.
+//! What happens, and who asks for it.
 ghost use Rattle.std.specs.Prelude.{◌≡◌, ◌∷◌, [], is_some, OnOk};
 ghost use Rattle.happenings.specs.Told.{happening, told_of, Tells};
 
@@ -89,7 +89,7 @@ impl Drop for Happening {
     }
 }
 
-/// What is told of what happens: all of it in its order, or nothing, where nobody asks.
+/// What is reported of what happens: all of it in its order, or nothing, where nobody asks.
 #[derive(Drop)]
 pub enum Told {
     Unasked,

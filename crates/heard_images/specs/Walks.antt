@@ -24,7 +24,7 @@ after_batch k (m ∷ ms) ds = option_and_then (after_batch k ms) (after_message 
 abbrev pub after_place : Pool → ℕ → List Delivered → Option (List Delivered)
 after_place h k ds = option_and_then (λ b. after_batch k b ds) (place_at h k)
 
--- and for so many places from k on
+-- and for this many places from k on
 abbrev pub after_places : Pool → ℕ → ℕ → List Delivered → Option (List Delivered)
 after_places h zero k ds = Some ds
 after_places h (suc more) k ds = option_and_then (after_places h more (k + 1)) (after_place h k ds)

@@ -69,7 +69,7 @@ fn hear_each<V: Scheme>(
     Ok(true)
 }
 
-/// The pool in which these claims of the view are heard, in this order, by a process that has delivered there what `own` tells. Each
+/// The pool in which these claims of the view are heard, in this order, by a process that has delivered there what `own` says. Each
 /// signature is verified once. None exactly where the claims are no heard list of it: one is of another view, names who is no member,
 /// is beyond the window, is not valid, or is of one signer and slot with a claim before it. `own` has an entry for each member.
 pub fn hear_list<V: Scheme>(

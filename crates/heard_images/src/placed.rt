@@ -62,7 +62,7 @@ fn after_place<'a>(pool: &Pool, delivered: &'a [Delivered], place: u16) -> Optio
     }
 }
 
-// What is left of them after the batches that the pool certifies of so many places.
+// What is left of them after the batches that the pool certifies at the first `places` places.
 fn after_places<'a>(pool: &Pool, delivered: &'a [Delivered], places: u16) -> Option<&'a [Delivered]>
     ensures { option_map (λ l. map plain l.now) result ≡ tests.after_places pool.now.pool places 0 (map plain delivered.now) }
 {
@@ -76,8 +76,8 @@ fn after_places<'a>(pool: &Pool, delivered: &'a [Delivered], places: u16) -> Opt
     Some(left)
 }
 
-/// Whether at each place where messages were delivered the pool certifies their batch. The deliveries are in the order of places, of which
-/// there are so many.
+/// Whether at each place where messages were delivered the pool certifies their batch. The deliveries are in the order of places, and
+/// `places` is how many there are.
 pub fn are_placed(pool: &Pool, delivered: &[Delivered], places: u16) -> bool
     ensures { StandsByPlace (map plain delivered.now) → places ≡ places_in (map plain delivered.now)
         → IsTrue result ↔ ((k : ℕ) → k < places_in (map plain delivered.now)

@@ -17,7 +17,7 @@ use Rattle.hosted_core.specs.declared.taking.Taken.{Taken}
 use Rattle.hosted_core.specs.declared.taking.Taken.TheVariants.{Refused, Lost, Turn}
 use Rattle.hosted_core.specs.Hosts.{core_of}
 
--- This outcome is what came of this event, which the process took last: some core stepped to this one with it, and the entry that tells of
+-- This outcome is what came of this event, which the process took last: some core stepped to this one with it, and the entry of
 -- it has a spelling.
 pub record Took {G : Type 0} (used total : G → ℕ) (signature : G → ℕ → List ℕ → List ℕ) (h : Hosted G) (e : Event) (r : Outcome)
     : Type 0 where
@@ -34,7 +34,7 @@ hosted_in (Lost h) = h
 hosted_in (Turn turn) = process_of turn
 
 -- What has become of process p in this turn. A refused event and a lost one leave it as it was. Of one that was taken the outcome is
--- the definitions', and its entry tells of this process, this event and this outcome.
+-- the definitions', and its entry has this process, this event and this outcome.
 abbrev pub TakesTurn : {G : Type 0} → (G → ℕ) → Setting → Process → defs.Turn → plain.Event → Taken G → Type 0
 TakesTurn used s p t e (Refused h fault) = IsCore used s p (core_of h) × (defs.refusal s p t.event ≡ Some (fault_of fault))
 TakesTurn used s p t e (Lost h) = IsCore used s p (core_of h)

@@ -44,14 +44,14 @@ impl<G: Tally + Drop> Hosted<G> {
         Ok(Hosted { core })
     }
 
-    /// The process, as it tells of itself.
+    /// The process, to ask what it reports of itself.
     pub fn core(&self) -> &Core<G>
         ensures { result.now ≡ core_of self.now }
     {
         &self.core
     }
 
-    /// An entry of the process that its journal has, taken again, as `Core::absorb` says. What came of it may be sent and told again: its
+    /// An entry of the process in its journal, taken again, as `Core::absorb` says. What came of it may be sent and reported again: its
     /// entry is in the journal.
     ///
     /// # Errors

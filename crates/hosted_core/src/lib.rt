@@ -2,7 +2,7 @@
 //!
 //! [`Hosted::take`] takes the process away with its turn, and `Journal::append` alone hands it back, once the turn's entry is in the
 //! journal for good. Where a turn is lost, to want of memory or to the disk, its process is lost too: it had signed what its journal does
-//! not tell of, and a run that went on with it could sign with a leaf twice after the next start.
+//! not hold, and a run that went on with it could sign with a leaf twice after the next start.
 #![tactic(auto)]
 
 mod hosted;

@@ -92,7 +92,7 @@ lefts_from v [] ds = []
 lefts_from v (l ∷ ls) ds = record { view = v; delivered = first_list ds; commit = l.commit }
     ∷ lefts_from (next_view v l.value.update) ls (other_lists ds)
 
--- the view behind them
+-- the view after them
 abbrev pub view_behind : View → List LeftView → View
 view_behind v [] = v
 view_behind v (l ∷ ls) = view_behind (next_view v l.value.update) ls

@@ -1,4 +1,4 @@
--- Which images are kept: those of which a process may be restored.
+-- Which images are kept: those that a process may be restored from.
 use Rattle.std.specs.Prelude.{◌≡◌, ◌≢◌, ◌⊎◌, ◌↔◌, ℕ, ◌+◌, ◌-◌, ◌<◌, ◌≤◌, Bool, true, false, List, [], ◌∷◌, ◌++◌, length, map, All, AllPairs, Contains, Option, Some, None, is_some, IsTrue, IsFalse}
 use Rattle.std.specs.List.Sorted.{IsStrictlyIncreasing}
 use Rattle.message_defs.specs.Limits.{most_places, most_payload_bytes}
@@ -30,7 +30,7 @@ CommitsLast None (l ∷ []) = ⊥
 CommitsLast (Some h) (l ∷ []) = l.commit ≡ certificate h (Ready h.view.number l.rank l.value)
 CommitsLast previous (l ∷ m ∷ ls) = CommitsLast previous (m ∷ ls)
 
--- 2. a heard list of a process that stands in the view of the list, with what it delivered there
+-- 2. a heard list of a process that is in the view of the list, with what it delivered there
 pub record AreHeard (s : Setting) (p : Process) : Type 0 where
   pub view : All (λ c. view_of c.statement ≡ p.pool.view.number) p.pool.heard
   pub known : All (λ c. IsFalse (is_strange p c)) p.pool.heard
@@ -38,7 +38,7 @@ pub record AreHeard (s : Setting) (p : Process) : Type 0 where
   pub valid : All (λ c. IsTrue (is_valid s c)) p.pool.heard
   pub once : AllPairs (λ c d. c.signer ≡ d.signer → slot_of c.statement ≢ slot_of d.statement) p.pool.heard
 
--- the process as it stood in the view that it left last
+-- the process as it was in the view that it left last
 abbrev pub as_before : Process → List Delivered → Pool → Process
 as_before p delivered h = record p { pool = h; delivered = delivered }
 

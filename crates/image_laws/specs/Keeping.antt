@@ -45,7 +45,7 @@ InRange (Order x k b) = k ≤ last_number
 InRange (Place x k b) = (k ≤ last_number) × (1 ≤ length b) × (length b ≤ most_messages)
 InRange _ = Unit {0}
 
--- 4. What was delivered in each view stands by place, at most so many of them; an outsider has delivered nothing in the current view, and what
+-- 4. What was delivered in each view is by place, at most 1,024 of them; an outsider has delivered nothing in the current view, and what
 -- a member has is the batch that each place gives, with the payloads of its messages. All of this of statements in range.
 pub record PlacedFits (p : Process) : Type 0 where
   pub by_place : All StandsByPlace (deliveries_of p)

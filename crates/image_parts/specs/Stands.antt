@@ -1,4 +1,4 @@
--- How a process stands in its view.
+-- The state of a process in its view.
 use Rattle.std.specs.Prelude.{◌≡◌, ◌≢◌, ◌↔◌, ℕ, ◌<◌, true, List, Option, Some, IsTrue, option_map}
 use Rattle.message_defs.specs.Updates.{Value}
 use Rattle.message_defs.specs.Statements.{End, EndAt, Ready}
@@ -14,7 +14,7 @@ HasEnd p ended = own_on p (EndAt p.pool.view.number) ≡ option_map (End p.pool.
 abbrev pub HasHalted : Process → Type 0
 HasHalted p = (p.halted ≡ true) ↔ ((d : ℕ × Value) × (p.decision ≡ Some d) × (d.1.cut < places_in p.delivered))
 
--- The process has this number and this pool, has signed no End of the view or one of this length, has delivered so many places, and has
+-- The process has this number and this pool, has signed no End of the view or one of this length, has delivered `many` places, and has
 -- decided this; and it has halted as it should.
 pub record Stands (p : Process) (h : Pool) (me : ℕ) (ended : Option ℕ) (many : ℕ) (d : Option (ℕ × Value)) : Type 0 where
   pub pool : p.pool ≡ h
@@ -24,7 +24,7 @@ pub record Stands (p : Process) (h : Pool) (me : ℕ) (ended : Option ℕ) (many
   pub decision : p.decision ≡ d
   pub halted : HasHalted p
 
--- the update is possible in the view, of which the process is a member, and so many places are not the cut
+-- the update is possible in the view, the process is a member of it, and `places` is not the cut
 abbrev pub EndsView : View → List ℕ → ℕ → ℕ → ℕ × Value → Type 0
 EndsView v keyed me places d = IsTrue (is_possible keyed v d.1.update) × IsTrue (is_member v me) × (places ≢ d.1.cut)
 

@@ -7,7 +7,7 @@ use Rattle.claim_lists.specs.Pairs.{with_pair}
 use Rattle.ending_rules.specs.declared.notifies.Perceived.{Perceived}
 use Rattle.ending_rules.specs.Perceiving.{with_update}
 
--- with the claim behind them, where it is of the view of this number
+-- with the claim after them, where it is of the view of this number
 abbrev pub with_said : ℕ → List Claim → Claim → List Claim
 with_said number said c = if view_of c.statement == number then said ++ c ∷ [] else said
 

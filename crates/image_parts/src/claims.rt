@@ -40,7 +40,7 @@ pub fn bytes_of(claim: &Claim<'_>) -> usize
     spelled_len(&claim.statement) + claim.signature.len()
 }
 
-// Puts the claim behind the others.
+// Puts the claim after the others.
 fn put(claims: &mut ClaimList, claim: &Claim<'_>) -> Result<(), NoMemory>
     requires { IsClaim (claim_of claim.now) }
     ensures { OnOk result (claims.new.claims ≡ claims.old.claims ++ claim_of claim.now ∷ []) }
@@ -60,7 +60,7 @@ fn put_kept(claims: &mut ClaimList, kept: &KeptClaim) -> Result<(), NoMemory>
         signature,
     } = kept.claim();
 
-    // The type is named, since the checker is not told of it here otherwise.
+    // The type is named, since the checker does not know it here otherwise.
     let statement: Statement<'_> = statement;
     let claim = Claim {
         signer,
@@ -81,7 +81,7 @@ pub fn claims_of(alloc: Global, kept: &[KeptClaim]) -> Result<ClaimList, NoMemor
     Ok(list)
 }
 
-// Puts the claim behind the others, where it is of the view of this number.
+// Puts the claim after the others, where it is of the view of this number.
 fn put_said(said: &mut ClaimList, number: u16, kept: &KeptClaim) -> Result<(), NoMemory>
     ensures { OnOk result (said.new.claims ≡ with_said number said.old.claims kept.now) }
 {
@@ -92,7 +92,7 @@ fn put_said(said: &mut ClaimList, number: u16, kept: &KeptClaim) -> Result<(), N
     Ok(())
 }
 
-// Puts those of the claims behind the others that are of the view of this number.
+// Puts those of the claims after the others that are of the view of this number.
 fn put_all_said(said: &mut ClaimList, number: u16, signed: &[KeptClaim]) -> Result<(), NoMemory>
     ensures { OnOk result (said.new.claims ≡ with_all_said number said.old.claims signed.now) }
 {

@@ -1,4 +1,4 @@
-//! The parts of a member that begins again, each made of the part of an image that tells it (docs/FORMATS.md, «Images»).
+//! The parts of a member that begins again, each made of the part of an image that holds it (docs/FORMATS.md, «Images»).
 #![tactic(auto)]
 
 mod asked;

@@ -1,4 +1,4 @@
-//! The phase in which an image's process stands.
+//! The phase of an image's process.
 ghost use Rattle.std.specs.Prelude.{◌≡◌, ◌≢◌, ◌↔◌, ℕ, if◌then◌else◌, true, false, Some, None, All, is_some, IfSome, IsSome, IsTrue};
 ghost use Rattle.std.specs.Option.{option_map};
 ghost use Rattle.message_defs.specs.Updates.{Value as PlainValue};
@@ -23,7 +23,7 @@ use stmt_codec::Statement;
 use view_phases::{DecidedView, OpenView, Phase, Settled};
 use view_table::View;
 
-// The length that the statement tells, where it is an End of the view of this number.
+// The length that the statement says, where it is an End of the view of this number.
 fn end_of(number: u16, statement: &Statement<'_>) -> Option<u16>
     ensures { result ≡ end_said number (stmt statement.now) }
 {
@@ -149,8 +149,8 @@ fn decided_so(pool: &Pool, keyed: PidSet, me: Pid, places: u16, rank: u8) -> Opt
     }
 }
 
-/// The phase of a process that has this pool, has signed an End of this length or none, has delivered so many places, and has decided this.
-/// None exactly where no process is so: the decision is not certified, its update is not possible, the process is no member, or it has
+/// The phase of a process that has this pool, has signed an End of this length or none, has delivered `places` places and decided this.
+/// None exactly where no process can be so: the decision is not certified, its update is not possible, the process is no member, or it has
 /// delivered just the places that count, and would have left the view. `keyed` is the processes with keys.
 pub fn phase_of(
     pool: &Pool,

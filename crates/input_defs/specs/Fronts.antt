@@ -16,17 +16,17 @@ use Rattle.kit_defs.specs.KitReading.{KitFault, Line, Repeated, Missing, KeyMism
 abbrev pub go : List ℕ
 go = codes "go"
 
--- a kit, the number of the line behind `go`, and the bytes from there on
+-- a kit, the number of the line after `go`, and the bytes from there on
 pub record Front : Type 0 where
   pub kit : Kit
   pub line : ℕ
   pub rest : List ℕ
 
--- the line `go` has this number, and these lines stand before it
+-- the line `go` has this number, and these lines come before it
 abbrev pub ends_at : ℕ → Draft → List ℕ → Result Front KitFault
 ends_at n d rest = finish n d >>= λ kit. Ok (record { kit = kit; line = n + 1; rest = rest })
 
--- the line of this number has these bytes so far, and these lines stand before it
+-- the line of this number has these bytes so far, and these lines come before it
 unfoldable pub front_at : List ℕ → ℕ → Draft → List ℕ → Result Front KitFault
 front_at line n d [] = Err (Line n)
 front_at line n d (c ∷ more) =

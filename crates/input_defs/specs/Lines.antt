@@ -7,10 +7,10 @@ abbrev pub line_at : List ℕ → Option (List ℕ × List ℕ)
 line_at [] = None
 line_at (c ∷ more) = if c == line_feed then Some ([], more) else option_map (λ l. (c ∷ l.0, l.1)) (line_at more)
 
--- the line, where it has at most so many bytes
+-- the line, where it has at most `most` bytes
 abbrev pub if_short : ℕ → List ℕ × List ℕ → Option (List ℕ × List ℕ)
 if_short most l = if nat_le (length l.0) most then Some l else None
 
--- the first line, where it has at most so many bytes
+-- the first line, where it has at most `most` bytes
 abbrev pub line_within : ℕ → List ℕ → Option (List ℕ × List ℕ)
 line_within most bytes = option_and_then (if_short most) (line_at bytes)

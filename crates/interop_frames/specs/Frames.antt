@@ -24,7 +24,7 @@ fault_word NoStatement = codes "statement"
 fault_word Range = codes "range"
 fault_word Misplaced = codes "misplaced"
 
--- `SIGNER STATEMENT SIGNATURE`, each behind a space
+-- `SIGNER STATEMENT SIGNATURE`, each after a space
 abbrev pub claim_words : Claim → List ℕ
 claim_words c = codes " " ++ (decimal c.signer
     ++ (codes " " ++ (bytes_word (spelling c.statement) ++ (codes " " ++ bytes_word c.signature))))

@@ -75,7 +75,7 @@ pub record Answers (words : List (List ℕ)) (told : List ℕ) : Type 0 where
   pub asked : words ≡ spelled question
   pub told_is : told ≡ answer_to question
 
--- the seven words behind `hss` spell these
+-- the seven words after `hss` spell these
 pub record AskedBy (levels typecode ots id seed number body : List ℕ) (s : Signing) : Type 0 where
   pub fits : IsSpelled s
   pub words : levels ∷ typecode ∷ ots ∷ id ∷ seed ∷ number ∷ body ∷ [] ≡ signing_words s

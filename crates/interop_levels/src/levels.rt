@@ -151,7 +151,7 @@ fn answer_sign(
     make_and_sign(alloc, &asked)
 }
 
-/// The answer to a question that begins with `verify`, by the words behind it.
+/// The answer to a question that begins with `verify`, by the words after it.
 fn verify(alloc: Global, words: &[&[u8]]) -> Result<Vec<u8>, LineFault>
     ensures answers { IfOk result (λ told. Answers (codes "verify" ∷ map (λ word. word.now) words.now) told.items) }
     ensures no_question { IsErrOf result LineFault.NoQuestion
@@ -164,7 +164,7 @@ fn verify(alloc: Global, words: &[&[u8]]) -> Result<Vec<u8>, LineFault>
     }
 }
 
-/// The answer to a question that begins with `hss`, by the words behind it.
+/// The answer to a question that begins with `hss`, by the words after it.
 fn sign(alloc: Global, words: &[&[u8]]) -> Result<Vec<u8>, LineFault>
     ensures answers { IfOk result (λ told. Answers (codes "hss" ∷ map (λ word. word.now) words.now) told.items) }
     ensures no_question { IsErrOf result LineFault.NoQuestion

@@ -3,7 +3,7 @@ use Rattle.std.specs.Prelude.{◌≡◌, ℕ, ◌==◌, true, List, ◌++◌, Op
 use Rattle.std.specs.List.{list_any}
 use Rattle.std.specs.Io.KnownBytes.{Consumes}
 
--- more bytes were read, behind those that were ahead
+-- more bytes were read, after those that were ahead
 abbrev pub ReadOn : Option (List ℕ) → Option (List ℕ) → List ℕ → List ℕ → Type 0
 ReadOn before now ahead ahead' = (more : List ℕ) × Consumes before now more × (ahead' ≡ ahead ++ more)
 

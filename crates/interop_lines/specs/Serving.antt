@@ -9,7 +9,7 @@ use Rattle.interop_lines.specs.declared.stops.Stop.TheVariants.{Line}
 use Rattle.interop_runs.specs.Runs.{Runs}
 use Rattle.interop_lines.specs.Lines.{Answers}
 
--- no line feed stands in a line, and it isn't too long
+-- a line has no line feed in it, and isn't too long
 pub record IsLine (line : List ℕ) : Type 0 where
   pub no_feed : list_any (λ b. b == 10) line ≡ false
   pub short : length line ≤ 1000000
@@ -18,13 +18,13 @@ pub record IsLine (line : List ℕ) : Type 0 where
 abbrev pub ended : List ℕ → List ℕ
 ended line = line ++ codes "\n"
 
--- So many lines, and what is written for them: the answer to each, on a line.
+-- Lines, how many they are, and what is written for them: the answer to each, on a line.
 pub data Served (R : Runs) : ℕ → List ℕ → List ℕ → Type 0 where
   Nothing : Served R 0 [] []
   OneMore : (n : ℕ) (input output line told : List ℕ) → Served R n input output → IsLine line → Answers R line told
       → Served R (suc n) (input ++ ended line) (output ++ ended told)
 
--- By what a source had left before and what it has left now, and by what a sink held before and holds now: so many lines
+-- By what a source had left before and what it has left now, and by what a sink held before and holds now: n lines
 -- were served, and these bytes were read after them.
 pub record HasServed (R : Runs) (n : ℕ) (ahead : List ℕ) (before now old new : Option (List ℕ)) : Type 0 where
   pub input : List ℕ
@@ -33,7 +33,7 @@ pub record HasServed (R : Runs) (n : ℕ) (ahead : List ℕ) (before now old new
   pub taken : Consumes before now (input ++ ahead)
   pub written : Appends old new output
 
--- no line stands at the front of the bytes
+-- no line is at the front of the bytes
 abbrev pub HasNoLine : List ℕ → Type 0
 HasNoLine bytes = (line more : List ℕ) → bytes ≡ ended line ++ more → ¬ IsLine line
 

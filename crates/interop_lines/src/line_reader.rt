@@ -53,7 +53,7 @@ impl Ahead {
         &self.read[self.served..]
     }
 
-    /// Puts more bytes behind. What was served goes first: the rest is moved for each piece that is read, and not for each line.
+    /// Puts more bytes at the end. What was served goes first: the rest is moved for each piece that is read, and not for each line.
     fn push(&mut self, alloc: Global, more: &[u8]) -> Result<(), AllocError>
         ensures pushed { OnOk result (self.new ≡ self.old ++ more.now) }
     {
@@ -77,7 +77,7 @@ impl Ahead {
         }
     }
 
-    /// Goes on behind so many bytes.
+    /// Goes on after `count` bytes.
     pub(crate) fn skip(&mut self, count: usize)
         requires { count ≤ length self.old }
         ensures { self.new ≡ drop count self.old }

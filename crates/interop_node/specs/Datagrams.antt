@@ -1,4 +1,4 @@
--- What is told of bytes as a datagram.
+-- What bytes say as a datagram.
 use Rattle.std.specs.Prelude.{ℕ, ◌==◌, if◌then◌else◌, List, [], ◌∷◌, ◌++◌, codes, Option, Some, None, Result, Ok, Err}
 use Rattle.std.specs.Fmt.{decimal}
 use Rattle.link_defs.specs.declared.LinkFault.{LinkFault}

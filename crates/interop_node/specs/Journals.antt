@@ -1,4 +1,4 @@
--- What is told of bytes as a journal.
+-- What bytes say as a journal.
 use Rattle.std.specs.Prelude.{◌≡◌, ◌⊎◌, ℕ, ◌<◌, Bool, true, false, List, ◌++◌, length, take, codes}
 use Rattle.std.specs.List.{flat_map}
 use Rattle.std.specs.Fmt.{decimal}
@@ -24,7 +24,7 @@ spent_word false = codes " 0"
 abbrev pub signature_words : List ℕ → List ℕ
 signature_words signature = codes " " ++ bytes_word signature
 
--- `entry PROCESS EVENT SPENT` and the signatures in order, each behind a space
+-- `entry PROCESS EVENT SPENT` and the signatures in order, each after a space
 abbrev pub entry_words : Entry → List ℕ
 entry_words e = codes " entry "
     ++ (decimal e.process ++ (codes " " ++ (event_words e.event ++ (spent_word e.spent ++ flat_map signature_words e.signatures))))
@@ -35,7 +35,7 @@ entry_words e = codes " entry "
 abbrev pub header_of : List ℕ → List ℕ
 header_of bytes = take 60 bytes
 
--- The bytes begin with a header of this kind, and go on behind it. It may be that of any group, processes and digest.
+-- The bytes begin with a header of this kind, and go on after it. It may be that of any group, processes and digest.
 abbrev pub BeginsAs : Version → List ℕ → Type 0
 BeginsAs v bytes = (take 4 bytes ≡ magic v) × (60 < length bytes)
 
@@ -47,7 +47,7 @@ pub record SaysEntries (bytes told : List ℕ) : Type 0 where
   pub reads : ReadsAs (header_of bytes) bytes entries
   pub told_is : told ≡ (codes "journal " ++ decimal (batch_limit version)) ++ flat_map entry_words entries
 
--- `entry PLACE`: the gate there is open, and no whole entry and next gate stand behind it
+-- `entry PLACE`: the gate there is open, and no whole entry and next gate follow it
 pub record SaysBroken (bytes told : List ℕ) : Type 0 where
   pub version : Version
   pub place : ℕ
@@ -55,7 +55,7 @@ pub record SaysBroken (bytes told : List ℕ) : Type 0 where
   pub breaks : BreaksAt (header_of bytes) bytes place
   pub told_is : told ≡ codes "entry " ++ decimal place
 
--- `notajournal`: the bytes begin with a header of neither kind, or end behind it
+-- `notajournal`: the bytes begin with a header of neither kind, or end after it
 pub record SaysNothing (bytes told : List ℕ) : Type 0 where
   pub no_journal : (v : Version) → ¬ BeginsAs v bytes
   pub told_is : told ≡ codes "notajournal"
@@ -63,6 +63,6 @@ pub record SaysNothing (bytes told : List ℕ) : Type 0 where
 abbrev pub Says : List ℕ → List ℕ → Type 0
 Says bytes told = SaysEntries bytes told ⊎ SaysBroken bytes told ⊎ SaysNothing bytes told
 
--- of the same bytes one thing is told
+-- of the same bytes one thing is said
 abbrev pub OneSaid : Type 0
 OneSaid = (bytes x y : List ℕ) → Says bytes x → Says bytes y → x ≡ y

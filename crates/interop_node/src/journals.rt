@@ -15,7 +15,7 @@ use std::alloc::Global;
 use stmt_codec::{Entry, EntrySignatures, Event};
 use text_codec::{push_byte_list, push_number};
 
-/// The bytes of a header, behind which the first gate stands.
+/// The bytes of a header, after which the first gate comes.
 const HEADER_BYTES: usize = 60;
 
 /// The bytes of a magic.
@@ -71,7 +71,7 @@ fn spent_word_of(spent: bool) -> &'static [u8]
     if spent { b" 1" } else { b" 0" }
 }
 
-// Each signature behind a space.
+// Each signature after a space.
 fn push_signatures(out: &mut Vec<u8>, signatures: EntrySignatures<'_>) -> Result<(), NoMemory>
     ensures { OnOk result (out.new.items ≡ out.old.items ++ flat_map signature_words (signatures_left signatures.entry)) }
 {
@@ -93,7 +93,7 @@ fn push_entry(out: &mut Vec<u8>, entry: &Entry<'_>) -> Result<(), NoMemory>
     push_signatures(out, entry.signatures)
 }
 
-// Each entry up to the first gate that is not open. The place of a gate that is open, and behind which no entry stands.
+// Each entry up to the first gate that is not open. The place of a gate that is open, with no entry after it.
 fn push_entries(out: &mut Vec<u8>, bytes: &[u8]) -> Result<Option<u64>, NoMemory>
     requires { 60 < length bytes.now }
     ensures entries { IfOk result (λ o. IfNone o ((es : List plain.Entry)
@@ -162,7 +162,7 @@ fn place_words(alloc: Global, place: u64) -> Result<Vec<u8>, NoMemory>
 }
 
 /// What the bytes say as a journal: `journal LIMIT` and for each entry ` entry PROCESS EVENT SPENT` and its signatures; or `entry PLACE`,
-/// the place of a gate that is open and behind which no whole entry and next gate stand; or `notajournal`.
+/// the place of a gate that is open and that no whole entry and next gate follow; or `notajournal`.
 pub(crate) fn answer_journal(alloc: Global, bytes: &[u8]) -> Result<Vec<u8>, NoMemory>
     ensures { IfOk result (λ told. Says bytes.now told.items) }
 {

@@ -9,7 +9,7 @@ mod questions;
 
 pub use questions::answer_nodes;
 
-/// Of the same bytes as a journal one thing is told.
+/// Of the same bytes as a journal one thing is said.
 pub fn one_said()
     ensures { OneSaid }
 {}

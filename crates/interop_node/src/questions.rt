@@ -27,7 +27,7 @@ fn answer_on_datagram(alloc: Global, key: &[u8], word: &[u8]) -> Result<Vec<u8>,
     Ok(answer_datagram(alloc, &key, &bytes)?)
 }
 
-// The answer to a question that begins with `journal`, by the words behind it.
+// The answer to a question that begins with `journal`, by the words after it.
 fn journal(alloc: Global, words: &[&[u8]]) -> Result<Vec<u8>, LineFault>
     ensures answers { IfOk result (λ told. Answers (codes "journal" ∷ map (λ word. word.now) words.now) told.items) }
     ensures no_question { IsErrOf result LineFault.NoQuestion
@@ -40,7 +40,7 @@ fn journal(alloc: Global, words: &[&[u8]]) -> Result<Vec<u8>, LineFault>
     }
 }
 
-// The answer to a question that begins with `datagram`, by the words behind it.
+// The answer to a question that begins with `datagram`, by the words after it.
 fn datagram(alloc: Global, words: &[&[u8]]) -> Result<Vec<u8>, LineFault>
     ensures answers { IfOk result (λ told. Answers (codes "datagram" ∷ map (λ word. word.now) words.now) told.items) }
     ensures no_question { IsErrOf result LineFault.NoQuestion

@@ -35,7 +35,7 @@ setting_with roster = as_setting plain_valid (replicate 16 0) roster
 abbrev pub setting : Setting
 setting = setting_with (plain_keys 48)
 
--- a process in this view that has heard nothing yet, and has delivered so many messages of each member
+-- a process in this view that has heard nothing yet, and has delivered `counts` of the messages of each member
 abbrev pub hearer : View → List ℕ → Process
 hearer v counts = record (start setting 0 1) { pool = empty_pool v; delivered = delivered_of v.members counts }
 

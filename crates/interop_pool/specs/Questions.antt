@@ -25,7 +25,7 @@ abbrev pub said : View → List ℕ → Result (List Claim) FrameFault → List 
 said v counts (Ok claims) = heard_words (hearer v counts) claims
 said v counts (Err fault) = fault_word fault
 
--- what a process hears of the frame in this view, which has delivered so many messages of each member; or `noview`
+-- what a process that has delivered `counts` of the messages of each member hears of the frame in this view; or `noview`
 abbrev pub Says : ℕ → List ℕ → List ℕ → List ℕ → List ℕ → Type 0
 Says number members counts frame told =
     (IsHearer number members counts × (told ≡ said (as_view number members) counts (claims_in frame)))
@@ -39,7 +39,7 @@ convicted_words (Err fault) = fault_word fault
 -- ---- the questions
 
 pub data Question : Type 0 where
-  -- what is heard of a frame, in the view of this number and these members, after so many deliveries of each
+  -- what is heard of a frame, in the view of this number and these members, after `counts` deliveries of each
   OfPool : (number : ℕ) (members counts frame : List ℕ) → Question
   -- whom the claims of a frame convict
   OfConvicted : (frame : List ℕ) → Question

@@ -1,4 +1,4 @@
--- What is told of claims that are heard one after the other.
+-- What is written of claims that are heard one after the other.
 use Rattle.std.specs.Prelude.{ℕ, Bool, true, false, List, [], ◌++◌, length, codes, Option, Some, None}
 use Rattle.std.specs.List.{flat_map}
 use Rattle.std.specs.Fmt.{decimal}

@@ -49,7 +49,7 @@ fn answer_convicted(alloc: Global, bytes: &[u8]) -> Result<Vec<u8>, NoMemory>
     }
 }
 
-/// The answer to `convicted WORD`: the processes whom the claims of the frame convict that the word spells, or the word of the frame's first
+/// The answer to `convicted WORD`: whom the claims of the frame that the word spells convict, or the word of the frame's first
 /// fault.
 pub(crate) fn answer_on_convicted(alloc: Global, word: &[u8]) -> Result<Vec<u8>, LineFault>
     ensures answers { IfOk result (λ told. Answers (codes "convicted" ∷ word.now ∷ []) told.items) }

@@ -67,7 +67,7 @@ fn greatest(counts: &[u8]) -> u16
     greatest
 }
 
-/// The place of a process that has delivered so many messages of each member, each at the place of its number.
+/// The place of a process that has delivered messages of each member, as many as `counts` says, each at the place of its number.
 pub(crate) fn own(alloc: Global, view: &View, counts: &[u8]) -> Own
     requires { length counts.now ≡ length view.now.members }
     ensures counted { length result.counts.items ≡ length view.now.members }

@@ -48,7 +48,7 @@ fn take(roster: &Roster, own: &Own, pool: &mut Pool, claim: &Claim<'_>) -> Resul
     Ok(pool.take(&PlainScheme, roster, &GROUP, own, claim))
 }
 
-/// Tells the verdict on each claim; those whose verdict is Heard are heard. `own` has an entry for each member.
+/// Writes the verdict on each claim; those whose verdict is Heard are heard. `own` has an entry for each member.
 pub(crate) fn take_all(
     out: &mut Vec<u8>,
     roster: &Roster,

@@ -69,7 +69,7 @@ fn words_in(
     heard_words(alloc, roster, own, &mut pool, claims)
 }
 
-// The same, of a process that has delivered so many messages of each member.
+// The same, of a process that has delivered messages of each member, as many as `counts` says.
 fn pool_words(
     alloc: Global,
     view: View,
@@ -105,7 +105,7 @@ fn answer_in(alloc: Global, view: View, counts: &[u8], frame: &[u8]) -> Result<V
     }
 }
 
-/// What a process hears of the frame in the view of this number and these members, which has delivered so many messages of each member:
+/// What a process that has delivered `counts` of each member's messages hears of the frame in the view of this number and these members:
 /// `pool`, the verdict on each claim, and what is heard then; or the word of the frame's fault. `noview`, where number and members make no
 /// view, or there is no count for each member.
 fn answer_pool(
@@ -123,7 +123,7 @@ fn answer_pool(
     }
 }
 
-// The answer to a question that begins with `pool`, by the four words behind it.
+// The answer to a question that begins with `pool`, by the four words after it.
 fn answer_on_pool(
     alloc: Global,
     number: &[u8],

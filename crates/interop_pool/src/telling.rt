@@ -22,7 +22,7 @@ fn push_word(out: &mut Vec<u8>, word: &[u8]) -> Result<(), NoMemory>
     Ok(())
 }
 
-// Each process behind a space, by rising number.
+// Each process after a space, by rising number.
 pub(crate) fn push_signers(out: &mut Vec<u8>, signers: PidSet) -> Result<(), NoMemory>
     ensures { OnOk result (out.new.items ≡ out.old.items ++ flat_map words.signer_word signers) }
 {
@@ -90,7 +90,7 @@ fn push_claim(out: &mut Vec<u8>, pool: &Pool, claim: &Claim<'_>) -> Result<(), N
     push_slot(out, pool, &claim.statement)
 }
 
-/// Tells what is heard of each claim's slot.
+/// Writes what is heard of each claim's slot.
 pub(crate) fn push_claims(
     out: &mut Vec<u8>,
     pool: &Pool,
@@ -106,7 +106,7 @@ pub(crate) fn push_claims(
     Ok(())
 }
 
-/// Tells the placed length, the fixed length, and the greatest rank below which each member is to be removed.
+/// Writes the placed length, the fixed length, and the greatest rank below which each member is to be removed.
 pub(crate) fn push_totals(out: &mut Vec<u8>, pool: &Pool) -> Result<(), NoMemory>
     ensures { OnOk result (out.new.items ≡ out.old.items ++ words.total_words pool.now.pool) }
 {

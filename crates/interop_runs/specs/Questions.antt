@@ -9,14 +9,14 @@ use Rattle.interop_runs.specs.declared.calls.Nth.{Nth}
 use Rattle.interop_runs.specs.declared.questions.Question.{Question as Asked}
 use Rattle.interop_runs.specs.Calls.{IsCut, kind_word}
 
--- two lists of one length, the items of which are so related, one by one
+-- two lists of one length whose items are so related, one by one
 abbrev pub Each : {A B : Type 0} → (A → B → Type 0) → List A → List B → Type 0
 Each R [] [] = Unit {0}
 Each R [] (y ∷ ys) = ⊥
 Each R (x ∷ xs) [] = ⊥
 Each R (x ∷ xs) (y ∷ ys) = R x y × Each R xs ys
 
--- the items of a list stand between commas; a dash is the list of none
+-- the items of a list are between commas; a dash is the list of none
 abbrev pub IsList : List ℕ → List (List ℕ) → Type 0
 IsList word items = ((word ≡ codes "-") × (items ≡ [])) ⊎ ((word ≢ codes "-") × (items ≡ slice_split (λ c. c == 44) word))
 

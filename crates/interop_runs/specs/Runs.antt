@@ -13,7 +13,7 @@ use Rattle.interop_runs.specs.Devices.{IsFreshDisk, IsFreshLink, disk_within, li
 use Rattle.interop_runs.specs.Questions.{Asks, Question}
 use Rattle.interop_runs.specs.Telling.{end_text}
 
--- The outside of a run as the question wants it: its input and what its disk has, nothing written, the datagrams that wait, of which each
+-- The outside of a run as the question wants it: its input and what its disk has, nothing written, the datagrams that wait, each of which
 -- comes on its port, and the calls that are to fail.
 pub record IsSetUp (q : Question) (o : Outside) : Type 0 where
   pub input : source_left o.input ≡ q.input
@@ -31,8 +31,8 @@ pub record IsSetUp (q : Question) (o : Outside) : Type 0 where
 abbrev pub Runs : Type 1
 Runs = List (String Global) → Outside → Outside → ℕ → Type 0
 
--- This is told of a run that came to its end, or was cut off, on the outside that the question wants. Of one for which there was no memory
--- nothing is told.
+-- This is written of a run that came to its end, or was cut off, on the outside that the question wants. Where there was no memory
+-- nothing is written.
 pub record IsToldOf (comes_to : Runs) (q : Question) (told : List ℕ) : Type 0 where
   pub before : Outside
   pub after : Outside

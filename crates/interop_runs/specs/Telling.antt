@@ -1,4 +1,4 @@
--- What is told of a run.
+-- What is written of a run.
 use Rattle.std.specs.Prelude.{◌≡◌, ℕ, ◌-◌, Bool, true, false, if◌then◌else◌, nat_eq, List, [], ◌∷◌, ◌++◌, length, take, drop, codes}
 use lib.Pointwise.{pointwise}
 use Rattle.std.specs.List.{flat_map}
@@ -26,7 +26,7 @@ sent_word [] = codes "-"
 sent_word (d ∷ ds) = datagram_word d ++ flat_map further_word ds
 
 -- What was written before the run was cut off: the node goes on from the call that fails there as from any call of the disk that fails, and
--- so says a last line behind it.
+-- so writes a last line after it.
 abbrev pub before_stop : List ℕ → List ℕ
 before_stop written =
     let front = length written - 12 in
@@ -50,6 +50,6 @@ cut_text waiting o =
     codes "stopped " ++ (bytes_word (before_stop (sink_bytes o.output)) ++ (codes " - " ++ (sent_word (drop waiting (link_sent (link_within o)))
     ++ (codes " " ++ images_text (disk_within o)))))
 
--- of a run that ended with this status, or was cut off; so many datagrams had waited, which count as sent
+-- of a run that ended with this status, or was cut off; `waiting` datagrams had waited, which count as sent
 abbrev pub end_text : ℕ → ℕ → Outside → List ℕ
 end_text waiting status o = if o.disk.is_cut then cut_text waiting o else ended_text waiting status o

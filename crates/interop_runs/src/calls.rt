@@ -24,7 +24,7 @@ pub(crate) struct Nth {
 }
 
 impl Kind {
-    /// Its number, by which kinds are told apart.
+    /// Its number, which no other kind has.
     pub(crate) fn number(self) -> u8
         ensures { result ≡ kind_number self }
     {

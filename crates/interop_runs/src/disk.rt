@@ -9,7 +9,7 @@ use crate::numbers::numbers_of;
 use rp_base::{Disk, Failed};
 use std::alloc::{AllocError, Global};
 
-/// A disk of which calls fail by their kind and number, and which is cut off at one write, after it is made, or at one sync, before anything
+/// A disk whose calls fail by their kind and number, and which is cut off at one write, after it is made, or at one sync, before anything
 /// is synced: that call and each later one fails. A call that fails by its number, or after the disk was cut off, changes nothing.
 #[derive(Drop)]
 pub struct FailingDisk<D> {
@@ -24,7 +24,7 @@ pub struct FailingDisk<D> {
 }
 
 impl<D: Drop> FailingDisk<D> {
-    /// A disk of which no call was made. Of its calls these are to fail, and at one it is cut off.
+    /// A disk before its first call. Of its calls these are to fail, and at one it is cut off.
     pub(crate) fn new(
         alloc: Global,
         inner: D,
@@ -70,7 +70,7 @@ impl<D> FailingDisk<D> {
         answer
     }
 
-    // Whether it is cut off at the call that was made last of this kind, of which so many were made.
+    // Whether it is cut off at call number `made` of this kind, the one that was made last.
     fn is_cut_at(&self, kind: Kind, made: u64) -> bool
         ensures { result ≡ is_nth self.now.cut kind made }
     {

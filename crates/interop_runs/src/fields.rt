@@ -15,14 +15,14 @@ use rp_base::NoMemory;
 use rp_devices::Datagram;
 use std::alloc::{AllocError, Global};
 
-// What stands between the colons of a word.
+// What is between the colons of a word.
 fn parts_of(alloc: Global, word: &[u8]) -> Result<Vec<&[u8]>, AllocError>
     ensures { IfOk result (λ parts. map (λ part. part.now) parts.items ≡ slice_split (λ c. c == 58) word.now) }
 {
     word.split(|c| *c == b':').collect(alloc)
 }
 
-// What stands between the commas of a word.
+// What is between the commas of a word.
 fn between_commas(alloc: Global, word: &[u8]) -> Result<Vec<&[u8]>, AllocError>
     ensures { IfOk result (λ parts. map (λ part. part.now) parts.items ≡ slice_split (λ c. c == 44) word.now) }
 {

@@ -7,7 +7,7 @@ use crate::numbers::numbers_of;
 use rp_base::{Failed, Got, Link};
 use std::alloc::{AllocError, Global};
 
-/// A link of which calls fail by their kind and number. A call that fails so sends and takes nothing.
+/// A link whose calls fail by their kind and number. A call that fails so sends and takes nothing.
 #[derive(Drop)]
 pub struct FailingLink<L> {
     pub(crate) inner: L,
@@ -18,7 +18,7 @@ pub struct FailingLink<L> {
 }
 
 impl<L: Drop> FailingLink<L> {
-    /// A link of which no call was made. Of its calls these are to fail.
+    /// A link before its first call. Of its calls these are to fail.
     pub(crate) fn new(
         alloc: Global,
         inner: L,

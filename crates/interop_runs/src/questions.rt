@@ -21,7 +21,7 @@ pub(crate) struct Question {
     pub(crate) cut: Option<Nth>,
 }
 
-// The question of these words behind `run`.
+// The question of these words after `run`.
 fn question_of(
     alloc: Global,
     words: &[u8],

@@ -23,7 +23,7 @@ pub trait Program {
         ensures { comes_to self.now words.now outside.old outside.new result };
 }
 
-/// Runs the program as the question wants it, and tells what it came to.
+/// Runs the program as the question wants it, and writes what it came to.
 ///
 /// # Errors
 /// No memory is left, also where the program says so.

@@ -15,7 +15,7 @@ use text_codec::{push_byte_list, push_number};
 /// What a node says last where a call of its disk failed. A run that is cut off in such a call has said it after that.
 const DISK_FAILED: &[u8] = b"stop 5 disk\n";
 
-/// The byte of which the third image is made.
+/// The byte that the third image is made of.
 const TORN: u8 = 0xa5;
 
 // The port and the bytes.
@@ -27,7 +27,7 @@ fn push_datagram(out: &mut Vec<u8>, datagram: &Datagram) -> Result<(), NoMemory>
     push_byte_list(out, &datagram.bytes)
 }
 
-// Each behind a comma.
+// Each after a comma.
 fn push_further(out: &mut Vec<u8>, datagrams: &[Datagram]) -> Result<(), NoMemory>
     ensures { OnOk result (out.new.items ≡ out.old.items ++ flat_map further_word (map ported datagrams.now)) }
 {
@@ -54,7 +54,7 @@ fn push_datagrams(out: &mut Vec<u8>, datagrams: &[Datagram]) -> Result<(), NoMem
     }
 }
 
-// What was sent behind those that waited.
+// What was sent after those that waited.
 fn push_sent(out: &mut Vec<u8>, link: &MemLink, waiting: usize) -> Result<(), NoMemory>
     ensures { OnOk result (out.new.items ≡ out.old.items ++ sent_word (drop waiting (link_sent link.now))) }
 {
@@ -92,7 +92,7 @@ fn push_images(out: &mut Vec<u8>, disk: &MemDisk) -> Result<(), NoMemory>
     push_image(out, disk, Left::Each(TORN))
 }
 
-// What is told of a run that was cut off.
+// What is written of a run that was cut off.
 fn push_cut(out: &mut Vec<u8>, outside: &Outside, waiting: usize) -> Result<(), NoMemory>
     ensures { OnOk result (out.new.items ≡ out.old.items ++ cut_text waiting outside.now) }
 {
@@ -104,7 +104,7 @@ fn push_cut(out: &mut Vec<u8>, outside: &Outside, waiting: usize) -> Result<(), 
     push_images(out, &outside.disk.inner)
 }
 
-// What is told of a run that came to its end.
+// What is written of a run that came to its end.
 fn push_ended(
     out: &mut Vec<u8>,
     status: u8,
@@ -122,7 +122,7 @@ fn push_ended(
     push_sent(out, &outside.link.inner, waiting)
 }
 
-/// What a run came to that ended with this status, or was cut off, where so many datagrams waited.
+/// What a run came to that ended with this status, or was cut off, where `waiting` datagrams waited.
 pub(crate) fn push_end(
     out: &mut Vec<u8>,
     status: u8,

@@ -20,7 +20,7 @@ kind_word Field = codes "field "
 kind_word TooLong = codes "toolong "
 kind_word TooMany = codes "toomany "
 
--- what is wrong, and how many bytes stand before it
+-- what is wrong, and how many bytes come before it
 abbrev pub fault_words : Fault → List ℕ
 fault_words fault = kind_word fault.kind ++ decimal fault.place
 

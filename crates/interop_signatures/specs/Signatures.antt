@@ -66,7 +66,7 @@ pub record Answers (words : List (List ℕ)) (told : List ℕ) : Type 0 where
   pub asked : words ≡ spelled question
   pub told_is : told ≡ answer_to question
 
--- the six words behind `lms` are those of this signing
+-- the six words after `lms` are those of this signing
 pub record AskedBy (typecode ots id seed leaf body : List ℕ) (s : Signing) : Type 0 where
   pub fits : IsSigning s
   pub words : typecode ∷ ots ∷ id ∷ seed ∷ leaf ∷ body ∷ [] ≡ signing_words s

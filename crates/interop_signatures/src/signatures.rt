@@ -117,7 +117,7 @@ fn make_and_sign(alloc: Global, asked: &Signing) -> Result<Vec<u8>, NoMemory>
     Ok(told)
 }
 
-/// How a verdict is told.
+/// How a verdict is written.
 pub fn verdict(valid: bool) -> &'static [u8]
     ensures { result.now ≡ (if valid then codes "true" else codes "false") }
 {
@@ -164,7 +164,7 @@ fn answer_sign(
     Ok(make_and_sign(alloc, &asked)?)
 }
 
-/// The answer to a question that begins with `verify`, by the words behind it.
+/// The answer to a question that begins with `verify`, by the words after it.
 fn verify(alloc: Global, words: &[&[u8]]) -> Result<Vec<u8>, LineFault>
     ensures answers { IfOk result (λ told. Answers (codes "verify" ∷ map (λ word. word.now) words.now) told.items) }
     ensures no_question { IsErrOf result LineFault.NoQuestion
@@ -177,7 +177,7 @@ fn verify(alloc: Global, words: &[&[u8]]) -> Result<Vec<u8>, LineFault>
     }
 }
 
-/// The answer to a question that begins with `lms`, by the words behind it.
+/// The answer to a question that begins with `lms`, by the words after it.
 fn sign(alloc: Global, words: &[&[u8]]) -> Result<Vec<u8>, LineFault>
     ensures answers { IfOk result (λ told. Answers (codes "lms" ∷ map (λ word. word.now) words.now) told.items) }
     ensures no_question { IsErrOf result LineFault.NoQuestion

@@ -1,4 +1,4 @@
--- What is told of payloads that a store carries out, and of bytes as a record.
+-- What is written of payloads that a store carries out, and of bytes as a record.
 use Rattle.std.specs.Prelude.{ℕ, List, [], ◌∷◌, ◌++◌, map, Vec, codes, Ok, Err}
 use Rattle.std.specs.Fmt.{decimal}
 use Rattle.std.specs.declared.alloc.Global.{Global}

@@ -29,7 +29,7 @@ fn read_payloads(alloc: Global, words: &[&[u8]]) -> Result<Vec<Vec<u8>>, LineFau
     Ok(payloads)
 }
 
-// The answer to a question that begins with `apply`, by the words behind it.
+// The answer to a question that begins with `apply`, by the words after it.
 fn apply(alloc: Global, words: &[&[u8]]) -> Result<Vec<u8>, LineFault>
     ensures answers { IfOk result (λ told. Answers (codes "apply" ∷ map (λ word. word.now) words.now) told.items) }
     ensures no_question { IsErrOf result LineFault.NoQuestion
@@ -62,7 +62,7 @@ fn answer_on_state(alloc: Global, word: &[u8]) -> Result<Vec<u8>, LineFault>
     Ok(answer_state(alloc, &bytes)?)
 }
 
-// The answer to a question that begins with `reply`, by the words behind it.
+// The answer to a question that begins with `reply`, by the words after it.
 fn reply(alloc: Global, words: &[&[u8]]) -> Result<Vec<u8>, LineFault>
     ensures answers { IfOk result (λ told. Answers (codes "reply" ∷ map (λ word. word.now) words.now) told.items) }
     ensures no_question { IsErrOf result LineFault.NoQuestion
@@ -75,7 +75,7 @@ fn reply(alloc: Global, words: &[&[u8]]) -> Result<Vec<u8>, LineFault>
     }
 }
 
-// The answer to a question that begins with `state`, by the words behind it.
+// The answer to a question that begins with `state`, by the words after it.
 fn state(alloc: Global, words: &[&[u8]]) -> Result<Vec<u8>, LineFault>
     ensures answers { IfOk result (λ told. Answers (codes "state" ∷ map (λ word. word.now) words.now) told.items) }
     ensures no_question { IsErrOf result LineFault.NoQuestion

@@ -8,7 +8,7 @@ use kv_service::Store;
 use rp_base::NoMemory;
 use std::alloc::Global;
 
-// Carries a payload out, and tells its answer.
+// Carries a payload out, and writes its answer.
 fn push_answer(
     alloc: Global,
     out: &mut Vec<u8>,
@@ -23,7 +23,7 @@ fn push_answer(
     push_next_bytes(out, &answer)
 }
 
-// Carries payloads out, one after the other, and tells the answer to each.
+// Carries payloads out, one after the other, and writes the answer to each.
 fn push_answers(
     alloc: Global,
     out: &mut Vec<u8>,

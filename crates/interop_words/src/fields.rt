@@ -8,7 +8,7 @@ use crate::line_fault::LineFault;
 use std::alloc::{AllocError, Global};
 use text_codec::{Parts, WordFault, byte_list, bytes, number};
 
-/// The words of a line: what stands between its spaces.
+/// The words of a line: what is between its spaces.
 pub fn words_of(alloc: Global, line: &[u8]) -> Result<Vec<&[u8]>, AllocError>
     ensures { IfOk result (λ found. map (λ word. word.now) found.items ≡ plain.words_of line.now) }
 {
@@ -23,7 +23,7 @@ pub fn read_number(word: &[u8], least: u32, most: u32) -> Result<u32, LineFault>
     number(word, least, most).ok_or(LineFault::NoQuestion)
 }
 
-/// The N bytes whose hexadecimal digits the word is. `NoQuestion` comes exactly where it is those of none or of another
+/// The N bytes whose hexadecimal digits the word is. `NoQuestion` comes exactly where it spells no bytes or another
 /// number of them.
 pub fn read_array<const N: usize>(word: &[u8]) -> Result<[u8; N], LineFault>
     ensures read { IfOk result (λ found. AreBytes N found × (word.now ≡ encode_lower found)) }

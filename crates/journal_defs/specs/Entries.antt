@@ -36,7 +36,7 @@ event_bytes Tick = 9 ∷ []
 abbrev pub flag : Bool → ℕ
 flag b = if b then 1 else 0
 
--- so many signatures, each behind its length
+-- how many signatures there are, and each after its length
 abbrev pub signatures_bytes : List (List ℕ) → List ℕ
 signatures_bytes signatures = two_bytes (length signatures) ++ flat_map text signatures
 

@@ -1,4 +1,4 @@
--- The bytes of a journal: a header, and records of which each stands behind a gate.
+-- The bytes of a journal: a header, and records, each of them after a gate.
 use Rattle.std.specs.Prelude.{◌≡◌, ◌≢◌, ℕ, ◌+◌, ◌<◌, ◌≤◌, nat_lt, List, [], ◌∷◌, ◌++◌, length, take, drop, codes, Ok}
 use Rattle.std.specs.List.{flat_map, AllByRecursion}
 use Rattle.std.specs.Int.{w32, w64, to_be_bytes}
@@ -40,7 +40,7 @@ open_gate = 1
 abbrev pub closed_gate : ℕ
 closed_gate = 0
 
--- what stands behind a gate: the entry's length, and the entry
+-- what follows a gate: the entry's length, and the entry
 unfoldable pub behind_gate : Entry → List ℕ
 behind_gate e = four_bytes (length (entry_bytes e)) ++ entry_bytes e
 
@@ -51,8 +51,8 @@ record_bytes e = open_gate ∷ behind_gate e
 abbrev pub up_to_gate : List ℕ → List Entry → List ℕ
 up_to_gate head es = head ++ flat_map record_bytes es
 
--- The bytes are a journal with this header that reads as these entries: their records stand behind the header, and then a
--- closed gate. What stands behind that gate is not read.
+-- The bytes are a journal with this header that reads as these entries: their records follow the header, and then a
+-- closed gate. What comes after that gate is not read.
 pub record ReadsAs (head bytes : List ℕ) (es : List Entry) : Type 0 where
   pub gate : ℕ
   pub unread : List ℕ
@@ -60,8 +60,8 @@ pub record ReadsAs (head bytes : List ℕ) (es : List Entry) : Type 0 where
   pub closed : gate ≢ open_gate
   pub each : AllByRecursion IsEntry es
 
--- At this place the reading ends with a fault: records stand before it, and there an open gate behind which no whole
--- entry and next gate stand.
+-- At this place the reading ends with a fault: records lie before it, and there is an open gate, after which no whole
+-- entry and next gate come.
 pub record BreaksAt (head bytes : List ℕ) (place : ℕ) : Type 0 where
   pub entries : List Entry
   pub behind : List ℕ
@@ -70,7 +70,7 @@ pub record BreaksAt (head bytes : List ℕ) (place : ℕ) : Type 0 where
   pub each : AllByRecursion IsEntry entries
   pub no_entry : (e : Entry) (gate : ℕ) (more : List ℕ) → IsEntry e → behind ≡ behind_gate e ++ gate ∷ more → ⊥
 
--- ---- what stands at a gate
+-- ---- what is at a gate
 
 -- the gate at this place is closed
 pub record IsClosedAt (bytes : List ℕ) (place : ℕ) : Type 0 where
@@ -79,7 +79,7 @@ pub record IsClosedAt (bytes : List ℕ) (place : ℕ) : Type 0 where
   pub parts : drop place bytes ≡ gate ∷ behind
   pub closed : gate ≢ open_gate
 
--- the gate at this place is open: behind it stands the entry, and behind that the next gate
+-- the gate at this place is open: after it comes the entry, and after that the next gate
 pub record HasEntryAt (bytes : List ℕ) (place : ℕ) (e : Entry) (next : ℕ) : Type 0 where
   -- from the next gate on
   pub more : List ℕ
@@ -88,13 +88,13 @@ pub record HasEntryAt (bytes : List ℕ) (place : ℕ) (e : Entry) (next : ℕ) 
   pub next_is : next ≡ place + length (record_bytes e)
   pub entry : IsEntry e
 
--- the gate at this place is open, and no whole entry and next gate stand behind it
+-- the gate at this place is open, and no whole entry and next gate follow it
 pub record IsBrokenAt (bytes : List ℕ) (place : ℕ) : Type 0 where
   pub behind : List ℕ
   pub parts : drop place bytes ≡ open_gate ∷ behind
   pub no_entry : (e : Entry) (gate : ℕ) (more : List ℕ) → IsEntry e → behind ≡ behind_gate e ++ gate ∷ more → ⊥
 
--- these entries stand before this place, at which the bytes go on
+-- these entries lie before this place, at which the bytes go on
 pub record StandsBefore (head bytes : List ℕ) (es : List Entry) (place : ℕ) : Type 0 where
   pub rest : List ℕ
   pub parts : bytes ≡ up_to_gate head es ++ rest
@@ -102,7 +102,7 @@ pub record StandsBefore (head bytes : List ℕ) (es : List Entry) (place : ℕ) 
   pub where_it_is : place ≡ length (up_to_gate head es)
   pub each : AllByRecursion IsEntry es
 
--- ---- how a record is read behind an open gate
+-- ---- how a record is read after an open gate
 
 -- the entry, and the bytes from the next gate on
 unfoldable pub record_at : List ℕ → Reading (Entry × List ℕ)
@@ -115,26 +115,26 @@ record_at bytes = do
 
 -- ---- the laws
 
--- what is read behind an open gate is spelled so, and a byte stands behind it
+-- what is read after an open gate is spelled so, and a byte follows it
 abbrev pub RecordIsSpelled : Type 0
 RecordIsSpelled = (bytes rest : List ℕ) (e : Entry) → AreBytes bytes → record_at bytes ≡ Ok (e, rest)
     → (bytes ≡ behind_gate e ++ rest) × (1 ≤ length rest) × IsEntry e
 
--- what is spelled behind a gate is read as the entry, if a byte stands behind it
+-- what is spelled after a gate is read as the entry, if a byte follows it
 abbrev pub RecordIsRead : Type 0
 RecordIsRead = (e : Entry) (rest : List ℕ) → IsEntry e → 1 ≤ length rest → record_at (behind_gate e ++ rest) ≡ Ok (e, rest)
 
--- where entries stand before a place and e stands at it, the entries and then e stand before the gate behind e
+-- where entries lie before a place and e is at it, the entries and then e lie before the gate after e
 abbrev pub EntryGoesOn : Type 0
 EntryGoesOn = (head bytes : List ℕ) (es : List Entry) (place : ℕ) (e : Entry) (next : ℕ) → StandsBefore head bytes es place
     → HasEntryAt bytes place e next → StandsBefore head bytes (es ++ e ∷ []) next
 
--- where entries stand before a place and the gate there is closed, the bytes read as the entries
+-- where entries lie before a place and the gate there is closed, the bytes read as the entries
 abbrev pub ClosedGateEnds : Type 0
 ClosedGateEnds = (head bytes : List ℕ) (es : List Entry) (place : ℕ) → StandsBefore head bytes es place → IsClosedAt bytes place
     → ReadsAs head bytes es
 
--- where the gate behind the entries is open and no whole entry and next gate stand behind it, the reading breaks at that gate
+-- where the gate after the entries is open and no whole entry and next gate follow it, the reading breaks at that gate
 abbrev pub BrokenGateBreaks : Type 0
 BrokenGateBreaks = (head bytes : List ℕ) (es : List Entry) (place : ℕ) → StandsBefore head bytes es place → IsBrokenAt bytes place
     → BreaksAt head bytes place
@@ -144,11 +144,11 @@ abbrev pub EntryIsThere : Type 0
 EntryIsThere = (head bytes : List ℕ) (es fs : List Entry) (e : Entry) → ReadsAs head bytes (es ++ e ∷ fs)
     → HasEntryAt bytes (length (up_to_gate head es)) e (length (up_to_gate head (es ++ e ∷ [])))
 
--- bytes that read as entries have a closed gate behind the last of them
+-- bytes that read as entries have a closed gate after the last of them
 abbrev pub GateIsThere : Type 0
 GateIsThere = (head bytes : List ℕ) (es : List Entry) → ReadsAs head bytes es → IsClosedAt bytes (length (up_to_gate head es))
 
--- at a place stands one entry at most
+-- at each place is one entry at most
 abbrev pub OneEntry : Type 0
 OneEntry = (bytes : List ℕ) (place : ℕ) (e f : Entry) (m n : ℕ) → HasEntryAt bytes place e m → HasEntryAt bytes place f n → e ≡ f
 
@@ -156,7 +156,7 @@ OneEntry = (bytes : List ℕ) (place : ℕ) (e f : Entry) (m n : ℕ) → HasEnt
 abbrev pub OneReading : Type 0
 OneReading = (head bytes : List ℕ) (es fs : List Entry) → ReadsAs head bytes es → ReadsAs head bytes fs → es ≡ fs
 
--- Where the bytes before a place are those that were marked there, and the bytes go on at it, the entries stand before it that stood before
+-- Where the bytes before a place are those that were marked there, and the bytes go on at it, the entries lie before it that lay before
 -- it when it was marked.
 abbrev pub MarkedAgain : Type 0
 MarkedAgain = (head marked bytes : List ℕ) (es : List Entry) (place : ℕ) → StandsBefore head marked es place

@@ -6,7 +6,7 @@ ghost use Rattle.journal_defs.specs.Journals.{RecordIsSpelled, RecordIsRead, One
 ghost use Rattle.journal_defs.specs.Journals.{EntryIsThere, GateIsThere, OneEntry, MarkedAgain};
 ghost use Rattle.journal_defs.specs.Crashes.{TornBehindTheGate, WrittenBehindTheGate, TornGate, AtRestIsImage, OpeningIsImage, OpenedIsAtRest, OneImageStands, ImageReads};
 
-/// The kind of a journal, which stands in its magic. A place holds one message in a journal of the first kind, and up to 16 in
+/// The kind of a journal, which its magic says. A place holds one message in a journal of the first kind, and up to 16 in
 /// one of the second.
 #[derive(Clone, Copy, Debug, PartialEq, Eq)]
 pub enum Version {
@@ -17,12 +17,12 @@ pub enum Version {
     Two,
 }
 
-/// A write behind the closed gate leaves the entries, wherever it is torn.
+/// A write after the closed gate leaves the entries, wherever it is torn.
 pub fn torn_behind_the_gate()
     ensures { TornBehindTheGate }
 {}
 
-/// A write behind the closed gate that was made leaves the entry whole behind it.
+/// A write after the closed gate that was made leaves the whole entry there.
 pub fn written_behind_the_gate()
     ensures { WrittenBehindTheGate }
 {}
@@ -67,17 +67,17 @@ pub fn entry_is_read()
     ensures { EntryIsRead }
 {}
 
-/// What is read behind an open gate is spelled so.
+/// What is read after an open gate is spelled so.
 pub fn record_is_spelled()
     ensures { RecordIsSpelled }
 {}
 
-/// What is spelled behind a gate is read as the entry.
+/// What is spelled after a gate is read as the entry.
 pub fn record_is_read()
     ensures { RecordIsRead }
 {}
 
-/// With an entry behind them, the entries stand before the next gate.
+/// With an entry after them, the entries lie before the next gate.
 pub fn entry_goes_on()
     ensures { EntryGoesOn }
 {}
@@ -87,7 +87,7 @@ pub fn closed_gate_ends()
     ensures { ClosedGateEnds }
 {}
 
-/// An open gate with no entry behind it breaks the reading.
+/// An open gate with no entry after it breaks the reading.
 pub fn broken_gate_breaks()
     ensures { BrokenGateBreaks }
 {}
@@ -97,12 +97,12 @@ pub fn entry_is_there()
     ensures { EntryIsThere }
 {}
 
-/// Behind the last one is a closed gate.
+/// After the last one is a closed gate.
 pub fn gate_is_there()
     ensures { GateIsThere }
 {}
 
-/// At a place stands one entry at most.
+/// At each place is one entry at most.
 pub fn one_entry()
     ensures { OneEntry }
 {}
@@ -112,7 +112,7 @@ pub fn one_reading()
     ensures { OneReading }
 {}
 
-/// Before a place that is marked stand the entries that stood there, where the bytes before it are those that were marked.
+/// Before a place that is marked are the entries that were there, where the bytes before it are those that were marked.
 pub fn marked_again()
     ensures { MarkedAgain }
 {}

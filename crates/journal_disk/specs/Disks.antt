@@ -1,4 +1,4 @@
--- A journal on a disk that tells what it holds.
+-- A journal on a disk that says what it holds.
 use Rattle.std.specs.Prelude.{◌≡◌, ◌⊎◌, ℕ, ◌≤◌, List, [], ◌∷◌, ◌++◌, length, drop, Option, Some, None, IfSome}
 use Rattle.std.specs.List.{AllByRecursion}
 use Rattle.rp_base.specs.Disks.{Only, SameImages}
@@ -6,7 +6,7 @@ use Rattle.journal_defs.specs.Entries.{Entry, IsEntry}
 use Rattle.journal_defs.specs.Journals.{up_to_gate, closed_gate, ReadsAs}
 use Rattle.journal_defs.specs.Crashes.{IsAtRest, IsOpening, IsImageOf, IsWithOrWithout, AllOpening}
 
--- the journal is at rest with these entries, its closed gate stands at this place, and every crash leaves it so
+-- the journal is at rest with these entries, its closed gate is at this place, and every crash leaves it so
 pub record HasRest (seen : Option (List ℕ)) (may_leave : List ℕ → Type 0) (head : List ℕ) (es : List Entry) (gate : ℕ) : Type 0 where
   pub file : List ℕ
   pub told : seen ≡ Some file
@@ -15,7 +15,7 @@ pub record HasRest (seen : Option (List ℕ)) (may_leave : List ℕ → Type 0) 
   pub only : Only file may_leave
   pub each : AllByRecursion IsEntry es
 
--- an entry is staged behind the closed gate at this place, and every crash leaves it so
+-- an entry is staged after the closed gate at this place, and every crash leaves it so
 pub record HasStaged (seen : Option (List ℕ)) (may_leave : List ℕ → Type 0) (head : List ℕ) (es : List Entry) (e : Entry)
     (gate : ℕ) : Type 0 where
   pub file : List ℕ
@@ -27,7 +27,7 @@ pub record HasStaged (seen : Option (List ℕ)) (may_leave : List ℕ → Type 0
   pub each : AllByRecursion IsEntry es
   pub entry : IsEntry e
 
--- entries stand on the disk, and behind them a closed gate, at this place
+-- entries lie on the disk, and after them a closed gate, at this place
 pub record EndsAt (seen : Option (List ℕ)) (head : List ℕ) (fs : List Entry) (gate : ℕ) : Type 0 where
   pub file : List ℕ
   pub told : seen ≡ Some file
@@ -39,16 +39,16 @@ pub record EndsClosed (seen : Option (List ℕ)) (head : List ℕ) (fs : List En
   pub ends : EndsAt seen head fs gate
   pub written : ends.reads.gate ≡ closed_gate
 
--- where the disk tells, it has so many bytes
+-- where the disk says what it holds, it has `len` bytes
 abbrev pub HasLength : Option (List ℕ) → ℕ → Type 0
 HasLength seen len = IfSome seen (λ file. len ≡ length file)
 
--- a disk that told nothing of its bytes tells nothing of them still
+-- a disk that said nothing of its bytes says nothing of them still
 abbrev pub StaysUntold : Option (List ℕ) → Option (List ℕ) → Type 0
 StaysUntold None new = new ≡ None
 StaysUntold (Some old) new = Unit {0}
 
--- these bytes stand from this place on
+-- these bytes lie from this place on
 abbrev pub BeginsAt : List ℕ → ℕ → List ℕ → Type 0
 BeginsAt file at piece = (rest : List ℕ) × (drop at file ≡ piece ++ rest)
 

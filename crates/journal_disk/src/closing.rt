@@ -13,7 +13,7 @@ use rp_base::{Disk, Failed};
 const CLOSED: u8 = 0;
 
 /// Closes the gate at which the reading of a journal ended, and makes that last. A gate that is closed as it is written is
-/// left as it stands.
+/// left as it is.
 pub fn close_gate<D: Disk>(disk: &mut D, gate: u64) -> Result<(), Failed>
     requires { IfSome (D.seen disk.old) (λ file. gate + 1 ≤ length file) }
 

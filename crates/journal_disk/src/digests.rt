@@ -27,7 +27,7 @@ pub fn digest_before<D: Disk>(disk: &mut D, end: u64) -> Result<[u8; 32], Failed
     Ok(hasher.finalize())
 }
 
-// Goes on with a hash by so many bytes from this place on.
+// Goes on with a hash by the `n` bytes from this place on.
 fn hash_chunk<D: Disk>(disk: &mut D, hasher: &mut Sha256, at: u64, n: u64) -> Result<(), Failed>
     requires within { IfSome (D.seen disk.old) (λ file. at + n ≤ length file) }
     requires short { n ≤ 4096 }

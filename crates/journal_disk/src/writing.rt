@@ -9,7 +9,7 @@ use rp_base::{Disk, Failed};
 const OPEN: u8 = 1;
 
 /// Adds an entry to a journal at rest. `bytes` are what is staged of it: its length, the entry, and the next gate, closed.
-/// They are written behind the closed gate and synced before the gate is opened, and that is synced too, so the entry is
+/// They are written after the closed gate and synced before the gate is opened, and that is synced too, so the entry is
 /// there at every crash once this answers Ok.
 pub fn append<D: Disk>(disk: &mut D, gate: u64, bytes: &[u8]) -> Result<(), Failed>
     requires within { IfSome (D.seen disk.old) (λ file. gate + 1 ≤ length file) }
@@ -43,7 +43,7 @@ pub fn append<D: Disk>(disk: &mut D, gate: u64, bytes: &[u8]) -> Result<(), Fail
     open_gate(disk, gate)
 }
 
-/// Writes an entry and the next gate behind the closed gate, and makes them last. The journal reads as before.
+/// Writes an entry and the next gate after the closed gate, and makes them last. The journal reads as before.
 pub fn stage<D: Disk>(disk: &mut D, gate: u64, bytes: &[u8]) -> Result<(), Failed>
     requires within { IfSome (D.seen disk.old) (λ file. gate + 1 ≤ length file) }
     requires limit { gate < 2 ^ 30 }

@@ -11,7 +11,7 @@ use stmt_codec::Entry;
 
 const OPEN: u8 = 1;
 
-// What stands behind an open gate: the entry, and the bytes from the next gate on.
+// What comes after an open gate: the entry, and the bytes from the next gate on.
 fn record_behind(behind: &[u8]) -> Option<(Entry<'_>, &[u8])>
     ensures reads { Finds (λ x. (entry x.0, x.1.now)) result (record_at behind.now) }
     ensures spelled { IfSome result (λ x. (behind.now ≡ behind_gate (entry x.0) ++ x.1.now) × (1 ≤ length x.1.now) × IsEntry (entry x.0)) }
@@ -35,8 +35,8 @@ fn record_in(behind: &[u8]) -> Option<(Entry<'_>, &[u8])>
     Some((entry, rest))
 }
 
-/// What stands at the gate at this place: the entry and the place of the next gate where it is open, `None` where it is
-/// closed. The place comes as the error, exactly where the gate is open and no entry and next gate stand behind it. A
+/// What is at the gate at this place: the entry and the place of the next gate where it is open, `None` where it is
+/// closed. The place comes as the error, exactly where the gate is open and no entry and next gate follow it. A
 /// journal's first gate is at place 60; there must be a byte at the place.
 pub fn entry_at(bytes: &[u8], place: u64) -> Result<Option<(Entry<'_>, u64)>, u64>
     requires { place < length bytes.now }

@@ -82,7 +82,7 @@ fn push_event(out: &mut Vec<u8>, event: &Event<'_>) -> Result<(), NoMemory>
     }
 }
 
-// The signatures of claims, each behind its length.
+// The signatures of claims, each after its length.
 fn push_each(out: &mut Vec<u8>, claims: &[OwnClaim]) -> Result<(), NoMemory>
     requires { AreSignatures (signatures_of claims.now) }
     ensures { OnOk result (out.new.items ≡ out.old.items ++ flat_map text (signatures_of claims.now)) }
@@ -125,7 +125,7 @@ fn put_front(out: &mut [u8], bytes: &[u8])
     out[..bytes.len()].copy_from_slice(bytes);
 }
 
-// The length of what stands behind the first four bytes, in them.
+// The length of what follows the first four bytes, in them.
 fn put_length(out: &mut [u8])
     requires room { 4 ≤ length out.old }
     requires fits { length out.old < 4 + 2 ^ 32 }

@@ -4,7 +4,7 @@ use Rattle.rp_base.specs.Causes.{Rose}
 use Rattle.journal_rp.specs.declared.fault.JournalFault.{JournalFault}
 use Rattle.journal_rp.specs.declared.fault.JournalFault.TheVariants.{DiskFault, NotAJournal, Entry, Other, Full, NoMemory}
 
--- The disk's fault comes only where the disk's count rose, and else the count stands still. Of the other faults only those come that
+-- The disk's fault comes only where the disk's count rose, and else the count stays. Of the other faults only those come that
 -- the call has.
 abbrev pub HasCauses : {T : Type 0} → (JournalFault → Bool) → ℕ → ℕ → Result T JournalFault → Type 0
 HasCauses has before now (Ok x) = now ≡ before
@@ -15,7 +15,7 @@ HasCauses has before now (Err (Other place)) = (now ≡ before) × IsTrue (has (
 HasCauses has before now (Err (Full length entry)) = (now ≡ before) × IsTrue (has (Full length entry))
 HasCauses has before now (Err NoMemory) = (now ≡ before) × IsTrue (has NoMemory)
 
--- ---- what each call has beside the disk's fault
+-- ---- what each call has besides the disk's fault
 
 abbrev pub of_start : JournalFault → Bool
 of_start NotAJournal = true

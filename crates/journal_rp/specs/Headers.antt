@@ -14,7 +14,7 @@ abbrev pub of_kind : Version → List ℕ → List ℕ → List ℕ
 of_kind One one two = one
 of_kind Two one two = two
 
--- the file begins with this header, and goes on behind it
+-- the file begins with this header, and goes on after it
 pub record IsJournal (v : Version) (h : plain.Header) (file : List ℕ) : Type 0 where
   pub rest : List ℕ
   pub parts : file ≡ header_bytes v h ++ rest

@@ -3,7 +3,7 @@ use Rattle.std.specs.Prelude.{ℕ}
 use Rattle.journal_defs.specs.declared.Version.{Version}
 use Rattle.journal_rp.specs.declared.journal.Journal.{Journal}
 
--- the place of the gate at which it stands
+-- the place of the gate at which it is
 abbrev pub gate_of : {S : Type 0} → Journal S → ℕ
 gate_of j = j.gate
 

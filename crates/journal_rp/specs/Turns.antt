@@ -6,7 +6,7 @@ use Rattle.journal_rp.specs.declared.turn.Turn.{Turn}
 abbrev pub outcome_of : {S P : Type 0} → Turn S P → Outcome
 outcome_of t = t.outcome
 
--- what the journal takes in: its entry behind the entry's length, and the next gate, closed
+-- what the journal takes in: its entry after the entry's length, and the next gate, closed
 abbrev pub staged_of : {S P : Type 0} → Turn S P → List ℕ
 staged_of t = t.bytes.items
 

@@ -18,7 +18,7 @@ pub enum JournalFault {
     #[error("the file is no journal of these processes")]
     NotAJournal,
 
-    /// The gate at this place is open, and no whole entry and next gate stand behind it. Someone else wrote the file.
+    /// The gate at this place is open, and no whole entry and next gate follow it. Someone else wrote the file.
     #[error("no entry stands at byte {0}")]
     Entry(u64),
 
@@ -26,7 +26,7 @@ pub enum JournalFault {
     #[error("the bytes before byte {0} are other ones")]
     Other(u64),
 
-    /// The journal would pass 1,073,741,824 bytes: it has so many up to and with its closed gate, and the entry has so many.
+    /// The journal would pass 1,073,741,824 bytes: it has `length` up to and with its closed gate, and the entry has `entry`.
     /// Nothing was written.
     #[error("a journal of {length} bytes has no room for an entry of {entry}")]
     Full { length: u64, entry: u64 },

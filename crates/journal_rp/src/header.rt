@@ -21,7 +21,7 @@ pub(crate) const HEADER_BYTES: usize = 60;
 /// The bytes of a journal without entries: its header and a closed gate.
 pub(crate) const FRESH_BYTES: usize = 61;
 
-/// Whose journal it is: the header behind its magic.
+/// Whose journal it is: the header after its magic.
 #[derive(Clone, Copy)]
 pub struct Header {
     /// The group.

@@ -11,7 +11,7 @@ pub struct Reading;
 #[derive(Clone, Copy)]
 pub struct Writing;
 
-/// A journal on a disk: the gate at which it stands, and how long the disk is. The disk is handed to each call; the journal keeps
+/// A journal on a disk: the gate at which it is, and how long the disk is. The disk is handed to each call; the journal keeps
 /// none of its bytes.
 #[derive(Drop)]
 pub struct Journal<S> {

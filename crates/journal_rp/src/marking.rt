@@ -32,7 +32,7 @@ impl Journal<Reading> {
         self.gate
     }
 
-    /// Goes to this place, which was marked with this digest: what stands before it is hashed, and not read. No `read` was made
+    /// Goes to this place, which was marked with this digest: what comes before it is hashed, and not read. No `read` was made
     /// before.
     ///
     /// What other calls promise of the entries before the gate holds after this where the bytes before the place are those that were

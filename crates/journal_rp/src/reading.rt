@@ -15,10 +15,10 @@ use std::alloc::Global;
 
 const OPEN: u8 = 1;
 
-/// Of a record, the bytes beside its entry: the gate and the length.
+/// How many bytes of a record come before its entry: the gate and the length.
 const RECORD_HEAD: u64 = 5;
 
-// So many bytes of the disk.
+// `len` bytes of the disk.
 fn bytes_from<D: Disk>(
     alloc: Global,
     disk: &mut D,
@@ -36,7 +36,7 @@ fn bytes_from<D: Disk>(
     Ok(bytes)
 }
 
-// The entry of this length behind the open gate at this place.
+// The entry of this length after the open gate at this place.
 fn entry_behind<D: Disk>(
     alloc: Global,
     disk: &mut D,
@@ -59,7 +59,7 @@ fn entry_behind<D: Disk>(
 }
 
 impl Journal<Reading> {
-    // How long the entry behind the gate is. None where the gate is closed.
+    // How long the entry after the gate is. None where the gate is closed.
     fn entry_len<D: Disk>(&self, disk: &mut D) -> Result<Option<u64>, JournalFault>
         requires { HasLength (D.seen disk.old) (len_of self.now) }
         ensures closed { IfOk result (λ o. IfNone o (IfSome (D.seen disk.old) (λ file. IsClosedAt file (gate_of self.now)))) }
@@ -83,10 +83,10 @@ impl Journal<Reading> {
         Ok(Some(len))
     }
 
-    /// The entry behind the gate, and the journal then stands at the next gate. None comes at the first gate that is not open.
-    /// After a fault the journal stands where it stood.
+    /// The entry after the gate, and the journal is then at the next gate. None comes at the first gate that is not open.
+    /// After a fault the journal is where it was.
     ///
-    /// `Entry` with the gate's place comes exactly where the gate is open, and no whole entry and next gate stand behind it.
+    /// `Entry` with the gate's place comes exactly where the gate is open, and no whole entry and next gate follow it.
     pub fn read<D: Disk>(
         &mut self,
         alloc: Global,
@@ -104,7 +104,7 @@ impl Journal<Reading> {
         ensures as_left { HasLength (D.seen disk.new) (len_of self.new) }
         ensures as_long { len_of self.new ≡ len_of self.old }
 
-        // The next gate stands after the entry's record, whether or not the disk tells what it holds.
+        // The next gate comes after the entry's record, whether or not the disk says what it holds.
         ensures next { IfOk result (λ o. IfSome o (λ e. gate_of self.new ≡ gate_of self.old + length (record_bytes (kept e)))) }
         ensures kind { version_of self.new ≡ version_of self.old }
         ensures disk { OnlyReads D.seen D.may_leave D.moment D.left_since disk.old disk.new }

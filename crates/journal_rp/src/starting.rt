@@ -41,7 +41,7 @@ fn begun<D: Disk>(disk: &mut D, header: &Header) -> Result<Journal<Reading>, Jou
     })
 }
 
-// The journal that stands on the disk.
+// The journal that is on the disk.
 fn opened<D: Disk>(
     disk: &mut D,
     header: &Header,
@@ -78,7 +78,7 @@ fn opened<D: Disk>(
 impl Journal<Reading> {
     /// Starts a journal on the disk. On an empty disk a new one is begun, which is there at every crash once this answers Ok;
     /// what a crash leaves before that is no journal. Otherwise nothing is written, and the disk must begin with the header, with
-    /// either magic. The journal then stands at its first gate, at place 60.
+    /// either magic. The journal is then at its first gate, at place 60.
     ///
     /// `NotAJournal` comes exactly where the disk has 1 to 60 bytes or begins with another header.
     pub fn start<D: Disk>(disk: &mut D, header: &Header) -> Result<Journal<Reading>, JournalFault>

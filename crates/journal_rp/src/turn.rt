@@ -35,8 +35,8 @@ pub struct Unsynced;
 #[derive(Clone, Copy)]
 pub struct Synced;
 
-/// What one event brought about at a process, its entry, and the process itself. What is to be sent and told is lent once the entry is
-/// in the journal for good, and the process is lent and handed back then: only `Turn<Synced, P>` has `sends`, `notes`, `process`,
+/// What one event brought about at a process, its entry, and the process itself. What is to be sent and reported is given once the entry is
+/// in the journal for good, and so is the process: only `Turn<Synced, P>` has `sends`, `notes`, `process`,
 /// `into_parts` and `into_process`, and only `Journal::append` makes one.
 #[derive(Drop)]
 pub struct Turn<S, P> {
@@ -111,14 +111,14 @@ impl<P: Drop> Turn<Synced, P> {
         self.outcome.sends.as_slice()
     }
 
-    /// What the process's user is told, in this order.
+    /// What is reported to the process's user, in this order.
     pub fn notes(&self) -> &[Note]
         ensures { result.now ≡ (outcome_of self.now).notes.items }
     {
         self.outcome.notes.as_slice()
     }
 
-    /// The process that took the turn, lent.
+    /// The process that took the turn, borrowed.
     pub fn process(&self) -> &P
         ensures { result.now ≡ process_of self.now }
     {

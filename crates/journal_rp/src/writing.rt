@@ -17,12 +17,12 @@ use std::marker::PhantomData;
 /// The most bytes of a journal.
 const JOURNAL_BYTES: u64 = 1 << 30;
 
-/// What is staged of an entry beside it: its length, and the next gate.
+/// What is staged of an entry apart from it: its length, and the next gate.
 const STAGED_BESIDE: u64 = 5;
 
 impl Journal<Reading> {
-    /// Goes on to take in turns, behind the entries that `read` gave: it answered None. A gate that is closed by another byte than
-    /// `00` is written as `00`; it was torn while a run opened it. What stands on the disk then is made last in either case.
+    /// Goes on to take in turns, after the entries that `read` gave: it answered None. A gate that is closed by another byte than
+    /// `00` is written as `00`; it was torn while a run opened it. What is on the disk then is made last in either case.
     pub fn finish<D: Disk>(self, disk: &mut D) -> Result<Journal<Writing>, JournalFault>
         requires as_left { HasLength (D.seen disk.old) (len_of self) }
         requires ended { IfSome (D.seen disk.old) (λ file. IsClosedAt file (gate_of self)) }
@@ -59,7 +59,7 @@ impl Journal<Reading> {
     }
 }
 
-// Whether so many bytes more would pass the most.
+// Whether `more` bytes would pass the most.
 fn is_full(gate: u64, more: u64) -> bool
     ensures { IsTrue result ↔ (2 ^ 30 < gate + 1 + more) }
 {
@@ -67,8 +67,8 @@ fn is_full(gate: u64, more: u64) -> bool
 }
 
 impl Journal<Writing> {
-    /// Takes in a turn: its entry is staged behind the closed gate and synced, then the gate is opened and synced. The turn may
-    /// then be sent and told, and its process goes on. A fault ends the journal and drops the turn with its process, which may be ahead
+    /// Takes in a turn: its entry is staged after the closed gate and synced, then the gate is opened and synced. The turn may
+    /// then be sent and reported, and its process goes on. A fault ends the journal and drops the turn with its process, which may be ahead
     /// of what the disk has.
     ///
     /// `Full` comes exactly where the place after the next gate would pass 2^30, and then nothing is written.
@@ -99,12 +99,12 @@ impl Journal<Writing> {
             → HasRest (D.seen disk.old) (D.may_leave disk.old) head es (gate_of self) → IsEntry e → staged_of turn ≡ staged e
             → Stands head es (D.may_leave disk.new) }
 
-        // The turn that was handed in is the one that is lent.
+        // The turn that was handed in is the one that is given back.
         ensures outcome { IfOk result (λ x. outcome_of x.1 ≡ outcome_of turn) }
         ensures entry { IfOk result (λ x. staged_of x.1 ≡ staged_of turn) }
         ensures process { IfOk result (λ x. process_of x.1 ≡ process_of turn) }
 
-        // `Full` tells the bytes up to and with the closed gate, and those of the entry.
+        // `Full` gives the bytes up to and with the closed gate, and those of the entry.
         ensures full { IfFull result (λ whole entry. (whole ≡ gate_of self + 1) × (entry ≡ length (staged_of turn) - 5)
             × (2 ^ 30 < gate_of self + 1 + length (staged_of turn)) × (disk.new ≡ disk.old)) }
         ensures room { 2 ^ 30 < gate_of self + 1 + length (staged_of turn) → IsFull result }
@@ -125,7 +125,7 @@ impl Journal<Writing> {
         Ok((self.behind(more), turn.synced()))
     }
 
-    // The journal behind so many bytes more.
+    // The journal `more` bytes further on.
     fn behind(self, more: u64) -> Journal<Writing>
         requires { gate_of self + 1 + more ≤ 2 ^ 30 }
         ensures gate { gate_of result ≡ gate_of self + more }

@@ -87,7 +87,7 @@ fn an_open_gate_before_no_entry_is_told(rt: HostRuntime) -> Result<(), Fail> {
     Ok(())
 }
 
-// Three turns in a journal on this disk, and the mark behind two of them.
+// Three turns in a journal on this disk, and the mark after two of them.
 fn three_turns<D: Disk>(rt: &impl Abort, alloc: Global, disk: &mut D) -> (u64, [u8; 32]) {
     let mut journal = Journal::<Reading>::start(disk, &header())
         .ok()

@@ -78,7 +78,7 @@ fn take_up(hosted: &mut Hosted<PlainSigner>, bytes: &EntryBytes) -> bool
         signatures,
     } = bytes.entry();
 
-    // The type is named, since the checker is not told of it here otherwise.
+    // The type is named, since the checker does not know it here otherwise.
     let event: Event<'_> = event;
     let entry = Entry {
         process,
@@ -288,7 +288,7 @@ fn no_number_is_on_two_texts_that_left(rt: HostRuntime) {
         assert!(rt; life.signed.len() as u64 == 32 * u64::from(used));
     }
 
-    // By another program: so often a process signs that loses nothing, and so many claims of its own it sends.
+    // By another program: how often a process signs that loses nothing, and how many claims of its own it sends.
     if life.seen.losses == 0 {
         assert!(rt; life.used == Some(9));
         assert!(rt; life.seen.left.len() == 32 * 20);

@@ -31,7 +31,7 @@ impl Journalled for Anyone {
     ghost spells = { λ p e o took. took };
 }
 
-/// So many turns are taken in at most.
+/// The most turns that are taken in.
 pub const TURNS: u8 = 20;
 
 /// Whose journal it is.

@@ -23,7 +23,7 @@ const HOSTED: usize = 20;
 
 const DIGEST: usize = 28;
 
-// So many bytes from this place on.
+// `count` bytes from this place on.
 fn field(journal: &[u8], at: usize, count: usize) -> &[u8]
     requires { at + count ≤ length journal.now }
     ensures bytes { result.now ≡ take count (drop at journal.now) }

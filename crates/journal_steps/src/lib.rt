@@ -1,4 +1,4 @@
-//! A journal as an audit reads it: whether its header is of the kit, and what stands at its gates, one after another
+//! A journal as an audit reads it: whether its header is of the kit, and what is at its gates, one after another
 //! (docs/FORMATS.md, «Journals»).
 #![tactic(auto)]
 

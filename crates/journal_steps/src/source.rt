@@ -59,7 +59,7 @@ impl<'a> Source<'a> {
         self.hosted
     }
 
-    /// What stands at its gates, from the first one on.
+    /// What is at its gates, from the first one on.
     pub fn steps(&self) -> Steps<'a>
         ensures { (j : ℕ) → steps_left j result ≡ steps_in (j, source self.now) }
     {

@@ -21,7 +21,7 @@ fn step_at(bytes: &[u8], place: u64) -> Result<Option<(Entry<'_>, u64)>, u64>
     entry_at(bytes, place)
 }
 
-/// What is left at the gates of a journal, up to the first gate that is closed, or behind which no whole entry and next gate stand.
+/// What is left at the gates of a journal, up to the first gate that is closed, or that no whole entry and next gate follow.
 #[derive(Clone, Copy)]
 pub struct Steps<'a> {
     bytes: &'a [u8],
@@ -35,7 +35,7 @@ impl<'a> Steps<'a> {
     ghost use Rattle.journal_entries.specs.Views.{entry};
     ghost use Rattle.journal_steps.specs.Views.{steps_left};
 
-    /// Of a journal with a first gate, from there on.
+    /// The steps of a journal with a first gate, from there on.
     pub(crate) fn new(bytes: &'a [u8]) -> Steps<'a>
         requires { 60 < length bytes.now }
         ensures { (j : ℕ) → steps_left j result ≡ all_steps j bytes.now }
@@ -46,11 +46,11 @@ impl<'a> Steps<'a> {
         }
     }
 
-    /// The entry behind the gate with the gate's place, and the next gate comes next. None at a gate that is not open: there the
+    /// The entry after the gate with the gate's place, and the next gate comes next. None at a gate that is not open: there the
     /// journal ends, and None comes again. No memory is taken.
     ///
     /// # Errors
-    /// The gate's place, exactly where it is open and no whole entry and next gate stand behind it; it comes again.
+    /// The gate's place, exactly where it is open and no whole entry and next gate follow it; it comes again.
     pub fn next(&mut self) -> Result<Option<(u64, Entry<'a>)>, u64>
         // Whatever index the journal has among the journals.
         ensures takes { IfOk result (λ o. IfSome o (λ x. (j : ℕ) → steps_left j self.old ≡ Takes j x.0 (entry x.1) ∷ steps_left j self.new)) }

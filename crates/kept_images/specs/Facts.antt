@@ -23,12 +23,12 @@ pub record StandByPlace (lists : List (List Delivered)) : Type 0 where
   pub by_place : All StandsByPlace lists
   pub few : All (λ ds. places_in ds ≤ most_places) lists
 
--- the update of what is decided is possible in the view, of which the process is a member; and so many places are not the cut
+-- the update of what is decided is possible in the view, the process is a member of it, and `places` is not the cut
 abbrev pub Decides : List ℕ → View → ℕ → ℕ → Option (ℕ × Value) → Type 0
 Decides keyed v me places decision = (d : ℕ × Value) → decision ≡ Some d
     → IsTrue (is_possible keyed v d.1.update) × IsTrue (is_member v me) × (places ≢ d.1.cut)
 
--- the process has halted exactly where there is a decision, and so many places are beyond its cut
+-- the process has halted exactly where there is a decision, and `places` is beyond its cut
 abbrev pub IsHaltedSo : Bool → ℕ → Option (ℕ × Value) → Type 0
 IsHaltedSo halted places decision = (halted ≡ true) ↔ ((d : ℕ × Value) × (decision ≡ Some d) × (d.1.cut < places))
 
@@ -36,7 +36,7 @@ IsHaltedSo halted places decision = (halted ≡ true) ↔ ((d : ℕ × Value) ×
 abbrev pub own_delivered : ℕ → List (List Delivered) → ℕ
 own_delivered me lists = sum_by (λ ds. delivered_from me ds) lists
 
--- no accepted payload is too long, and at most 256 of them are not delivered, where so many are
+-- no accepted payload is too long, and where `delivered` are delivered, at most 256 of them are not
 pub record AreAccepted (accepted : List (List ℕ)) (delivered : ℕ) : Type 0 where
   pub short : All (λ payload. length payload ≤ most_payload_bytes) accepted
   pub backlog : length accepted - delivered ≤ 256

@@ -46,7 +46,7 @@ abbrev pub ends : List ℕ → View → ℕ → ℕ → Option (ℕ × Value) �
 ends keyed v me places None = true
 ends keyed v me places (Some d) = is_possible keyed v d.1.update && (is_member v me && not (places == d.1.cut))
 
--- something is decided, and so many places are beyond the cut
+-- something is decided, and `places` is beyond the cut
 abbrev pub is_passed : ℕ → Option (ℕ × Value) → Bool
 is_passed places None = false
 is_passed places (Some d) = nat_lt d.1.cut places
@@ -55,7 +55,7 @@ is_passed places (Some d) = nat_lt d.1.cut places
 abbrev pub commits : Setting → View → ℕ → Value → Claim → Bool
 commits s v rank value c = is_member v c.signer && (same_statement c.statement (Ready v.number rank value) && is_valid s c)
 
--- each is above the one before it, and the first is at least so great
+-- each is above the one before it, and the first is `least` or more
 abbrev pub rise_from : ℕ → List ℕ → Bool
 rise_from least [] = true
 rise_from least (x ∷ xs) = nat_le least x && rise_from (x + 1) xs

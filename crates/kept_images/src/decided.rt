@@ -6,7 +6,7 @@ ghost use Rattle.kept_images.specs.Tests as tests;
 use rp_base::{Pid, PidSet, Value};
 use view_table::{View, is_possible};
 
-// Whether the value ends the view: its update is possible there, the process is a member, and so many places are not the cut.
+// Whether the value ends the view: its update is possible there, the process is a member, and `places` is not the cut.
 fn ends(view: &View, keyed: PidSet, me: Pid, places: u32, decision: Option<(u8, Value)>) -> bool
     ensures { result ≡ tests.ends keyed view.now me places (report decision) }
 {
@@ -20,8 +20,8 @@ fn ends(view: &View, keyed: PidSet, me: Pid, places: u32, decision: Option<(u8, 
     }
 }
 
-/// Whether the update of what is decided, if anything is, is possible in the view, the process is a member of it, and so many places
-/// that it has delivered are not the cut. `keyed` is the processes with keys.
+/// Whether the update of what is decided, if anything is, is possible in the view, the process is a member of it, and the number of places
+/// that it has delivered is not the cut. `keyed` is the processes with keys.
 pub fn decides(
     view: &View,
     keyed: PidSet,
@@ -34,7 +34,7 @@ pub fn decides(
     ends(view, keyed, me, places, decision)
 }
 
-// Whether something is decided, and so many places are beyond the cut.
+// Whether something is decided, and `places` is beyond the cut.
 fn is_passed(places: u32, decision: Option<(u8, Value)>) -> bool
     ensures { result ≡ tests.is_passed places (report decision) }
 {
@@ -44,7 +44,7 @@ fn is_passed(places: u32, decision: Option<(u8, Value)>) -> bool
     }
 }
 
-/// Whether the process has halted exactly where something is decided, and so many places that it has delivered are beyond the cut.
+/// Whether the process has halted exactly where something is decided, and it has delivered more `places` than the cut.
 pub fn is_halted_so(halted: bool, places: u32, decision: Option<(u8, Value)>) -> bool
     ensures { IsTrue result ↔ IsHaltedSo halted places (report decision) }
 {

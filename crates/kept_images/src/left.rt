@@ -117,7 +117,7 @@ fn leave<V: Scheme>(
     Some(view)
 }
 
-/// The view after those that were left, the first of which is the genesis view; None exactly where not each was left by the claims of a
+/// The view after those that were left, the first of which is the genesis view; None exactly where one was not left by the claims of a
 /// quorum of its members on a Ready whose update is possible.
 pub fn view_behind<V: Scheme>(
     scheme: &V,

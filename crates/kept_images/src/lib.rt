@@ -1,4 +1,4 @@
-//! Which images are kept, as far as an image tells it without its heard lists: a process is restored from no other (docs/FORMATS.md,
+//! Which images are kept, as far as an image says it without its heard lists: a process is restored from no other (docs/FORMATS.md,
 //! «Images»).
 #![tactic(auto)]
 

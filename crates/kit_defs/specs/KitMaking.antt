@@ -27,7 +27,7 @@ derived_secret (plans.Hss levels code kind) seed p = Hss levels code kind (take 
 abbrev pub derived_pair : List ℕ → ℕ → ℕ → List ℕ
 derived_pair seed p q = derive seed 3 (min p q) (max p q)
 
--- a plan that can be carried out: so many signatures fit in 32 bits, trees of this height are built, and so many levels of them
+-- a plan that can be carried out: its signatures fit in 32 bits, or its trees, in one level or more, are built
 abbrev pub IsPlan : KeyPlan → Type 0
 IsPlan (plans.Plain total) = total < 2 ^ 32
 IsPlan (plans.Lms code kind) = (5 ≤ code) × (code ≤ 7)
@@ -51,7 +51,7 @@ made_host plan seed roster p = record {
   pairs = map (λ q. (q, derived_pair seed p q)) (others_than p (first_numbers roster));
 }
 
--- The kit of so many processes, the first of them members, all of them hosted: process p has port 47,000 + p.
+-- The kit of `roster` processes, the first `members` of them members, all of them hosted: process p has port 47,000 + p.
 unfoldable pub made_kit : ℕ → ℕ → KeyPlan → List ℕ → Kit
 made_kit members roster plan seed = record {
   scheme = planned_scheme plan;

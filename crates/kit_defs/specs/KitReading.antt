@@ -1,12 +1,12 @@
 -- Reading a kit line by line, with the first fault. A line has one fault, the first of this table that holds:
 --   Line         it has more than 70,000 bytes
---   Repeated     a line that begins with the same word, and with the same process numbers behind key, port, host and pair, stands before
---   Line         it is no line of a kit of the version and scheme that stand, or it names a process outside the roster, once the genesis
---                stands, or it belongs before a line that stands
---   Missing      a line that belongs before it does not stand
+--   Repeated     a line that begins with the same word, and with the same process numbers after key, port, host and pair, was read before
+--   Line         it is no line of a kit of the version and scheme so far, or it names a process outside the roster, once the genesis
+--                was read, or it belongs before a line that was read
+--   Missing      a line that belongs before it was not read
 --   Line         a genesis line names a process outside the roster
 --   KeyMismatch  the public key of a host's secret is not the one of its key line
--- Behind the last line: Line where the text does not end with a line feed, Missing where a line does not stand that a kit has.
+-- After the last line: Line where the text does not end with a line feed, Missing where a line that a kit has was not read.
 use Rattle.std.specs.Prelude.{ℕ, ◌+◌, ◌==◌, ◌&&◌, ◌||◌, not, nat_le, nat_lt, ◌^◌, ◌-◌, Bool, true, false, if◌then◌else◌, List, [], ◌∷◌, ◌++◌, length, drop, Option, Some, None, is_some, option_map, option_and_then, codes, Result, Ok, Err}
 use Rattle.std.specs.Option.{is_none, unwrap_or, option_or, option_flatten, ok_or}
 use Rattle.std.specs.List.{list_any}
@@ -35,7 +35,7 @@ pub data KitFault : Type 0 where
 
 -- ---- what words say, by their form alone
 
--- what the words behind `rampart` say
+-- what the words after `rampart` say
 abbrev pub version_by : List (List ℕ) → Option KitLine
 version_by (kit ∷ number ∷ []) =
     if same_bytes kit (codes "kit")
@@ -63,14 +63,14 @@ is_scheme schemes.Hss schemes.Plain = false
 is_scheme schemes.Hss schemes.Lms = false
 is_scheme schemes.Hss schemes.Hss = true
 
--- the kit may be of a scheme: it is the one that is told; where none is told, one of the version that is told, or any
+-- the kit may be of the scheme: it is the one that was given; else one of the version that was given; else any
 abbrev pub may_be : Option KitVersion → Option Scheme → Scheme → Bool
 may_be None None scheme = true
 may_be (Some version) None scheme = is_of version scheme
 may_be None (Some told) scheme = is_scheme told scheme
 may_be (Some version) (Some told) scheme = is_scheme told scheme
 
--- In what follows `may` says of which schemes the kit may be.
+-- In what follows `may` says which schemes the kit may have.
 
 -- the scheme of a word
 abbrev pub scheme_of_word : List ℕ → Option Scheme
@@ -83,12 +83,12 @@ scheme_of_word word = first_that_holds (
 abbrev pub scheme_in : (Scheme → Bool) → List ℕ → Option Scheme
 scheme_in may word = and_then (scheme_of_word word) (λ scheme. if may scheme then Some scheme else None)
 
--- what the words behind `scheme` say
+-- what the words after `scheme` say
 abbrev pub scheme_by : (Scheme → Bool) → List (List ℕ) → Option KitLine
 scheme_by may (word ∷ []) = option_map SchemeIs (scheme_in may word)
 scheme_by may _ = None
 
--- what the words behind `group` say
+-- what the words after `group` say
 abbrev pub group_by : List (List ℕ) → Option KitLine
 group_by (group ∷ []) = option_map GroupIs (bytes_of 16 group)
 group_by _ = None
@@ -101,7 +101,7 @@ key_in may word scheme = if may scheme then bytes_of (key_length scheme) word el
 abbrev pub public_key_by : (Scheme → Bool) → List ℕ → Option (List ℕ)
 public_key_by may word = option_or (key_in may word schemes.Plain) (option_or (key_in may word schemes.Lms) (key_in may word schemes.Hss))
 
--- what the words behind `key` say
+-- what the words after `key` say
 abbrev pub key_by : (Scheme → Bool) → List (List ℕ) → Option KitLine
 key_by may (process ∷ key ∷ []) = and_then (process_of process) (λ p. option_map (Key p) (public_key_by may key))
 key_by may _ = None
@@ -111,16 +111,16 @@ unfoldable pub members_by : List ℕ → List (List ℕ) → Option (List ℕ)
 members_by before [] = Some before
 members_by before (word ∷ words) = and_then (process_of word) (λ p. if has before p then None else members_by (before ++ p ∷ []) words)
 
--- what the words behind `genesis` say: 1 to 16 different processes
+-- what the words after `genesis` say: 1 to 16 different processes
 abbrev pub genesis_by : List (List ℕ) → Option KitLine
 genesis_by words = if nat_le 1 (length words) && nat_le (length words) 16 then option_map Genesis (members_by [] words) else None
 
--- what the words behind `port` say
+-- what the words after `port` say
 abbrev pub port_by : List (List ℕ) → Option KitLine
 port_by (process ∷ port ∷ []) = and_then (process_of process) (λ p. option_map (Port p) (number_within 1 65535 port))
 port_by _ = None
 
--- what the words behind `host P plain` say
+-- what the words after `host P plain` say
 abbrev pub plain_host_by : ℕ → List (List ℕ) → Option KitLine
 plain_host_by p (total ∷ []) = option_map (PlainHost p) (number_within 0 (2 ^ 32 - 1) total)
 plain_host_by p _ = None
@@ -129,32 +129,32 @@ plain_host_by p _ = None
 abbrev pub kind_by : List ℕ → Option OtsType
 kind_by word = option_and_then ots_type_of (number_within 1 4 word)
 
--- what the words behind `host P lms` say
+-- what the words after `host P lms` say
 abbrev pub lms_host_by : ℕ → List (List ℕ) → Option KitLine
 lms_host_by p (code ∷ kind ∷ id ∷ seed ∷ []) =
     and_then (number_within 5 7 code) (λ h. and_then (kind_by kind) (λ w.
     and_then (bytes_of 16 id) (λ i. option_map (LmsHost p h w i) (bytes_of 32 seed))))
 lms_host_by p _ = None
 
--- what the words behind `host P hss` say
+-- what the words after `host P hss` say
 abbrev pub hss_host_by : ℕ → List (List ℕ) → Option KitLine
 hss_host_by p (levels ∷ code ∷ kind ∷ id ∷ seed ∷ []) =
     and_then (number_within 1 3 levels) (λ l. and_then (number_within 5 7 code) (λ h. and_then (kind_by kind) (λ w.
     if levels_are_built l h w then and_then (bytes_of 16 id) (λ i. option_map (HssHost p l h w i) (bytes_of 32 seed)) else None)))
 hss_host_by p _ = None
 
--- what the words behind the scheme's word say
+-- what the words after the scheme's word say
 abbrev pub secret_by : ℕ → List (List ℕ) → Scheme → Option KitLine
 secret_by p more schemes.Plain = plain_host_by p more
 secret_by p more schemes.Lms = lms_host_by p more
 secret_by p more schemes.Hss = hss_host_by p more
 
--- what the words behind `host` say
+-- what the words after `host` say
 abbrev pub host_by : (Scheme → Bool) → List (List ℕ) → Option KitLine
 host_by may (process ∷ word ∷ more) = and_then (process_of process) (λ p. and_then (scheme_in may word) (secret_by p more))
 host_by may _ = None
 
--- what the words behind `pair` say
+-- what the words after `pair` say
 abbrev pub pair_by : List (List ℕ) → Option KitLine
 pair_by (process ∷ other ∷ key ∷ []) = and_then (process_of process) (λ p. and_then (process_of other) (λ q.
     if p == q then None else option_map (Pair p q) (bytes_of 32 key)))
@@ -173,15 +173,15 @@ line_by may (word ∷ words) = option_flatten (first_that_holds (
     ∷ (same_bytes word (codes "host"), host_by may words)
     ∷ (same_bytes word (codes "pair"), pair_by words) ∷ []))
 
--- ---- what stands of a kit
+-- ---- a kit as far as it was read
 
--- what stands of a kit while its lines are read
+-- what was read of a kit so far
 pub record Draft : Type 0 where
   pub version : Option KitVersion
   pub scheme : Option Scheme
   pub group : Option (List ℕ)
   pub keys : List (ℕ × List ℕ)
-  -- empty where the line does not stand
+  -- empty where the line was not read
   pub genesis : List ℕ
   pub ports : List (ℕ × ℕ)
   -- the pair lines of the last one may be on their way
@@ -191,7 +191,7 @@ pub record Draft : Type 0 where
 abbrev pub nothing : Draft
 nothing = record { version = None; scheme = None; group = None; keys = []; genesis = []; ports = []; hosts = [] }
 
--- the genesis line stands
+-- the genesis line was read
 abbrev pub has_genesis : Draft → Bool
 has_genesis d = not (length d.genesis == 0)
 
@@ -210,11 +210,11 @@ last_of (x ∷ y ∷ more) = last_of (y ∷ more)
 abbrev pub next_port : Draft → Option ℕ
 next_port d = first_of (drop (length d.ports) (roster_of d.keys))
 
--- a line up to the last port line does not stand
+-- a line up to the last port line was not read
 abbrev pub lacks_port : Draft → Bool
 lacks_port d = not (has_genesis d) || is_some (next_port d)
 
--- the other process of the roster whose pair line comes next behind the last host line
+-- the other process of the roster that this host's next pair line names
 abbrev pub next_other : Draft → Host → Option ℕ
 next_other d h = first_of (drop (length h.pairs) (others_than h.process (roster_of d.keys)))
 
@@ -222,7 +222,7 @@ next_other d h = first_of (drop (length h.pairs) (others_than h.process (roster_
 abbrev pub next_pair : Draft → Option (ℕ × ℕ)
 next_pair d = option_and_then (λ h. option_map (λ q. (h.process, q)) (next_other d h)) (last_of d.hosts)
 
--- of which schemes the kit may be, by the lines that stand
+-- which schemes the kit may have, by the lines so far
 abbrev pub may_of : Draft → Scheme → Bool
 may_of d = may_be d.version d.scheme
 
@@ -234,7 +234,7 @@ host_stands words h =
     begin_with (codes "host" ∷ decimal h.process ∷ []) words
     || list_any (λ p. begin_with (codes "pair" ∷ decimal h.process ∷ decimal p.0 ∷ []) words) h.pairs
 
--- a line stands that begins with the same word, and with the same process numbers behind key, port, host and pair
+-- a line was read that begins with the same word, and with the same process numbers after key, port, host and pair
 unfoldable pub is_repeated : Draft → List (List ℕ) → Bool
 is_repeated d words =
     (is_some d.version && begin_with (codes "rampart" ∷ []) words)
@@ -256,19 +256,19 @@ named_by (HssHost process levels code kind id seed) = process ∷ []
 named_by (Pair process other key) = process ∷ other ∷ []
 named_by _ = []
 
--- the genesis stands, and the line names a process outside the roster
+-- the genesis was read, and the line names a process outside the roster
 abbrev pub is_outside : Draft → KitLine → Bool
 is_outside d line = has_genesis d && list_any (λ p. not (has (roster_of d.keys) p)) (named_by line)
 
--- a host line of a process above this one stands
+-- a host line of a process above this one was read
 abbrev pub host_above : Draft → ℕ → Bool
 host_above d p = list_any (λ h. nat_lt p h.process) d.hosts
 
--- the host line of the process stands
+-- the host line of the process was read
 abbrev pub is_hosted : Draft → ℕ → Bool
 is_hosted d p = list_any (λ h. h.process == p) d.hosts
 
--- the line belongs before one that stands
+-- the line belongs before one that was read
 abbrev pub is_late : Draft → KitLine → Bool
 is_late d (Key process key) = has_genesis d || list_any (λ k. nat_lt process k.0) d.keys
 is_late d (PlainHost process total) = host_above d process
@@ -288,7 +288,7 @@ is_of_strangers d _ = false
 abbrev pub is_pair : ℕ → ℕ → ℕ × ℕ → Bool
 is_pair p q pair = (pair.0 == p) && (pair.1 == q)
 
--- a line that belongs before it does not stand
+-- a line that belongs before it was not read
 abbrev pub is_early : Draft → KitLine → Bool
 is_early d (Version version) = false
 is_early d (SchemeIs scheme) = is_none d.version
@@ -314,13 +314,13 @@ matching n d p secret = refuse_if (not (same_bytes (public_key_of secret) (liste
 
 -- ---- a line that is taken
 
--- the pair, behind those of the last host
+-- the pair, after those of the last host
 abbrev pub with_pair : ℕ × List ℕ → List Host → List Host
 with_pair pair [] = []
 with_pair pair (h ∷ []) = record h { pairs = h.pairs ++ pair ∷ [] } ∷ []
 with_pair pair (h ∷ g ∷ hosts) = h ∷ with_pair pair (g ∷ hosts)
 
--- the draft with this host behind the others
+-- the draft with this host after the others
 abbrev pub with_host : Draft → ℕ → Secret → Draft
 with_host d process secret = record d { hosts = d.hosts ++ record { process = process; secret = secret; pairs = [] } ∷ [] }
 
@@ -330,7 +330,7 @@ with_matching n d process secret = do
   _ ← matching n d process secret
   Ok (with_host d process secret)
 
--- the draft with this line behind those that stand
+-- the draft with this line after those that were read
 abbrev pub with_line : ℕ → Draft → KitLine → Result Draft KitFault
 with_line n d (Version version) = Ok (record d { version = Some version })
 with_line n d (SchemeIs scheme) = Ok (record d { scheme = Some scheme })
@@ -360,11 +360,11 @@ take_line n d line = do
 
 -- ---- the whole text
 
--- the kit of which all lines stand
+-- the kit of a draft whose lines were all read
 abbrev pub kit_by : Draft → Scheme → List ℕ → Kit
 kit_by d scheme group = record { scheme = scheme; group = group; keys = d.keys; genesis = d.genesis; ports = d.ports; hosts = d.hosts }
 
--- where all lines of a kit stand, the kit; else one is missing where this line would stand
+-- where all lines of a kit were read, the kit; else one is missing where this line would be
 unfoldable pub finish : ℕ → Draft → Result Kit KitFault
 finish n d = do
   _ ← refuse_if (lacks_port d || is_some (next_pair d)) (Missing n)

@@ -125,7 +125,7 @@ secret_line process (Hss levels code kind id seed) = HssHost process levels code
 abbrev pub pair_line : ℕ → ℕ × List ℕ → KitLine
 pair_line process pair = Pair process pair.0 pair.1
 
--- the line of a host, and behind it those of its pairs
+-- the line of a host, and after it those of its pairs
 abbrev pub host_lines : Host → List KitLine
 host_lines h = secret_line h.process h.secret ∷ map (pair_line h.process) h.pairs
 
@@ -160,7 +160,7 @@ key_length schemes.Plain = 32
 key_length schemes.Lms = 56
 key_length schemes.Hss = 60
 
--- by rising numbers from this one on, each with a key of so many bytes
+-- by rising numbers from this one on, each with a key of `size` bytes
 abbrev pub AreKeys : ℕ → ℕ → List (ℕ × List ℕ) → Type 0
 AreKeys size least [] = Unit {0}
 AreKeys size least (k ∷ keys) = (least ≤ k.0) × (k.0 ≤ 63) × AreBytes size k.1 × AreKeys size (k.0 + 1) keys

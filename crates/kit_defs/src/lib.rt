@@ -19,7 +19,7 @@ pub enum KeyPlan {
     Hss(u32, u32, OtsType),
 }
 
-/// The text of which a kit is read is the kit's spelling.
+/// A text that is read as a kit is the kit's spelling.
 pub fn read_is_spelled()
     ensures { ReadIsSpelled }
 {}

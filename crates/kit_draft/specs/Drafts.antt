@@ -1,4 +1,4 @@
--- What stands of a kit, as plain data, and what holds of it whatever lines were taken.
+-- What was read of a kit so far, as plain data, and what holds of it whatever lines were taken.
 use Rattle.std.specs.Prelude.{◌≡◌, ℕ, ◌≤◌, List, length, Option, Some, is_some, option_map, IsTrue}
 use Rattle.std.specs.List.{AllByRecursion}
 use Rattle.sig_scheme.specs.declared.any_scheme.AnyScheme.{AnyScheme}
@@ -26,7 +26,7 @@ abbrev pub IsNumber : ℕ → Type 0
 IsNumber p = p ≤ 63
 
 pub record IsDraft (d : Draft) : Type 0 where
-  -- the scheme stands where the group does
+  -- the scheme was read where the group was
   pub told_first : IsTrue (is_some d.group) → IsTrue (is_some d.scheme)
   -- and where a key does, whose length is the scheme's
   pub keys : AllByRecursion (λ k. IsNumber k.0 × (Some (length k.1) ≡ option_map key_length d.scheme)) d.keys

@@ -1,4 +1,4 @@
-//! What stands of a kit while its lines are read, and where the next line belongs.
+//! What was read of a kit so far, and where the next line belongs.
 ghost use Rattle.std.specs.Prelude.{◌≡◌, ◌==◌, ◌&&◌, ◌||◌, not, nat_lt, length, is_some, drop, option_map, IfOk};
 ghost use Rattle.std.specs.List.{list_any};
 ghost use Rattle.byte_defs.specs.Choices.{is_some_and};
@@ -18,7 +18,7 @@ use std::alloc::Global;
 use std::marker::Model;
 use text_codec::Parts as Words;
 
-/// What stands of a kit. Contracts see it as the plain draft.
+/// What was read of a kit so far. Contracts see it as the plain draft.
 #[derive(Drop)]
 pub struct Draft {
     pub version: Option<Version>,
@@ -26,7 +26,7 @@ pub struct Draft {
     pub group: Option<GroupId>,
     pub roster: Roster,
 
-    /// In rank order; empty where the line does not stand.
+    /// In rank order; empty where the line was not read.
     pub genesis: ArrayVec<Pid, 16>,
 
     /// By rising process number.
@@ -65,7 +65,7 @@ impl Draft {
         })
     }
 
-    /// What the lines that stand tell of the scheme.
+    /// What the lines so far say of the scheme.
     pub fn told(&self) -> Told
         ensures value { may result ≡ plain.may_of self.now }
         ensures holds { IsDraft self.now }
@@ -76,7 +76,7 @@ impl Draft {
         }
     }
 
-    /// Whether the genesis line stands.
+    /// Whether the genesis line was read.
     pub fn has_genesis(&self) -> bool
         ensures { result ≡ plain.has_genesis self.now }
     {
@@ -107,7 +107,7 @@ impl Draft {
         are_paired(&self.hosts, p, q)
     }
 
-    /// A line stands that begins with the same word, and with the same process numbers behind `key`, `port`, `host` and
+    /// A line was read that begins with the same word, and with the same process numbers after `key`, `port`, `host` and
     /// `pair`.
     pub fn is_repeated(&self, mut words: Words<'_>) -> bool
         ensures { result ≡ plain.is_repeated self.now (parts_left words.entry) }
@@ -128,7 +128,7 @@ impl Draft {
         }
     }
 
-    // The key line of the process that the first word names stands.
+    // The key line of the process that the first word names was read.
     fn is_key_again(&self, mut words: Words<'_>) -> bool
         ensures { result ≡ is_some_and (first_process (parts_left words.entry)) (has (roster_of self.now.keys)) }
     {
@@ -138,7 +138,7 @@ impl Draft {
         }
     }
 
-    // Its port line stands.
+    // Its port line was read.
     fn is_port_again(&self, mut words: Words<'_>) -> bool
         ensures { result ≡ is_some_and (first_process (parts_left words.entry)) (λ p. list_any (λ port. port.0 == p) self.now.ports) }
     {
@@ -148,7 +148,7 @@ impl Draft {
         }
     }
 
-    // Its host line stands.
+    // Its host line was read.
     fn is_host_again(&self, mut words: Words<'_>) -> bool
         ensures { result ≡ is_some_and (first_process (parts_left words.entry)) (plain.is_hosted self.now) }
     {
@@ -158,7 +158,7 @@ impl Draft {
         }
     }
 
-    // The pair line of the processes that the first two words name stands.
+    // The pair line of the processes that the first two words name was read.
     fn is_pair_again(&self, mut words: Words<'_>) -> bool
         ensures { result ≡ is_some_and (first_process (parts_left words.entry))
             (λ p. is_some_and (first_process (drop 1 (parts_left words.entry)))
@@ -173,7 +173,7 @@ impl Draft {
         }
     }
 
-    /// The genesis stands, and the line names a process outside the roster.
+    /// The genesis was read, and the line names a process outside the roster.
     pub fn is_outside(&self, said: &KitLine) -> bool
         ensures { result ≡ plain.is_outside self.now (line said.now) }
     {
@@ -195,21 +195,21 @@ impl Draft {
         }
     }
 
-    // A key line of a process above this one stands.
+    // A key line of a process above this one was read.
     fn key_above(&self, p: Pid) -> bool
         ensures { result ≡ list_any (λ k. nat_lt p k.0) self.now.keys }
     {
         has_above(self.roster.processes(), p)
     }
 
-    // A host line of a process above this one stands.
+    // A host line of a process above this one was read.
     fn host_above(&self, p: Pid) -> bool
         ensures { result ≡ plain.host_above self.now p }
     {
         is_below_one(&self.hosts, p)
     }
 
-    /// The line belongs before one that stands.
+    /// The line belongs before one that was read.
     pub fn is_late(&self, said: &KitLine) -> bool
         ensures { result ≡ plain.is_late self.now (line said.now) }
     {
@@ -232,7 +232,7 @@ impl Draft {
         nth(self.roster.processes(), self.ports.len())
     }
 
-    // A line up to the last port line does not stand.
+    // A line up to the last port line was not read.
     fn lacks_port(&self) -> bool
         ensures { result ≡ plain.lacks_port self.now }
     {
@@ -246,14 +246,14 @@ impl Draft {
         next_behind(self.hosts.last()?, self.roster.processes())
     }
 
-    /// A line up to the last pair line of the hosts that stand does not stand.
+    /// A line up to the last pair line of the hosts so far was not read.
     pub fn is_unfinished(&self) -> bool
         ensures { result ≡ (plain.lacks_port self.now || is_some (plain.next_pair self.now)) }
     {
         self.lacks_port() || self.next_pair().is_some()
     }
 
-    /// A line that belongs before it does not stand.
+    /// A line that belongs before it was not read.
     pub fn is_early(&self, said: &KitLine) -> bool
         ensures { result ≡ plain.is_early self.now (line said.now) }
     {
@@ -308,7 +308,7 @@ impl Draft {
     }
 }
 
-// The two processes whose pair line comes next behind those of a host.
+// The two processes that the next pair line of a host names.
 fn next_behind(last: &Host, set: PidSet) -> Option<(Pid, Pid)>
     ensures { result ≡ option_map (λ q. (last.now.process, q))
         (plain.first_of (drop (length last.now.pairs.items) (others_than last.now.process set))) }
@@ -367,7 +367,7 @@ fn has_other(members: &[Pid], set: PidSet) -> bool
     members.iter().any(|p| !set.contains(*p))
 }
 
-// The process that stands behind so many in a set.
+// The n-th process of the set, from 0.
 fn nth(set: PidSet, n: usize) -> Option<Pid>
     ensures { result ≡ plain.first_of (drop n set) }
 {
@@ -382,7 +382,7 @@ fn nth(set: PidSet, n: usize) -> Option<Pid>
     None
 }
 
-// The process that stands behind so many others in a set, where this one is not counted.
+// The n-th process of the set, from 0, with `own` left out.
 fn nth_other(set: PidSet, own: Pid, n: usize) -> Option<Pid>
     ensures { result ≡ plain.first_of (drop n (others_than own set)) }
 {

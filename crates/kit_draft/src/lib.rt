@@ -1,4 +1,4 @@
-//! What stands of a kit while its lines are read, and where the next line belongs.
+//! What was read of a kit so far, and where the next line belongs.
 #![tactic(auto)]
 
 mod draft;

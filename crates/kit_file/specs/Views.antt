@@ -12,7 +12,7 @@ host h = record { process = h.process; secret = views.secret h.secret; pairs = h
 abbrev pub hosts : List Host → List plain.Host
 hosts hs = map host hs
 
--- each process is below those behind it
+-- each process is below those after it
 abbrev pub AreRising : List plain.Host → Type 0
 AreRising hs = AllPairs (λ g h. g.process < h.process) hs
 

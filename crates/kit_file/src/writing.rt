@@ -1,4 +1,4 @@
-//! Kits as text: each line is its words with one space between them and a line feed behind.
+//! Kits as text: each line is its words with one space between them and a line feed at the end.
 ghost use Rattle.std.specs.Prelude.{◌≡◌, ◌++◌, ◌∷◌, [], codes, map, OnOk, OnErr};
 ghost use Rattle.std.specs.List.{flat_map, join_with_byte};
 ghost use Rattle.std.specs.Fmt.{decimal};

@@ -1,4 +1,4 @@
--- Lines of a kit, as plain data, and of which schemes it may be.
+-- Lines of a kit, as plain data, and which schemes it may have.
 use Rattle.std.specs.Prelude.{Bool, option_map}
 use Rattle.signature_defs.specs.Schemes.{Scheme}
 use Rattle.sig_scheme.specs.Views as views
@@ -27,6 +27,6 @@ line (LmsHost process height ots id seed) = plain.LmsHost process height ots id 
 line (HssHost process levels height ots id seed) = plain.HssHost process levels height ots id seed
 line (Pair process other key) = plain.Pair process other key
 
--- of which schemes the kit may be
+-- which schemes the kit may have
 abbrev pub may : Told → Scheme → Bool
 may told = may_be (option_map version told.version) (option_map views.scheme told.scheme)

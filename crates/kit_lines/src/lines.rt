@@ -10,7 +10,7 @@
 //! | `port P N` | the port of a process, 1 to 65,535 |
 //! | `host P plain TOTAL` | a process that is hosted, and how many signatures its plain key makes |
 //! | `host P lms H W I SEED` | the same with an LMS key: typecodes 5 to 7 and 1 to 4, 16 bytes, 32 bytes |
-//! | `host P hss L H W I SEED` | the same with an HSS key: 1 to 3 levels, and of each tree what stands in a line of LMS |
+//! | `host P hss L H W I SEED` | the same with an HSS key: 1 to 3 levels, and of each tree what a line of LMS has |
 //! | `pair P Q HEX` | the key that two processes share, 32 bytes |
 ghost use Rattle.std.specs.Prelude.{◌≡◌, ◌==◌, drop, option_map};
 ghost use Rattle.std.specs.List.{list_any};
@@ -133,7 +133,7 @@ fn scheme_of_word(word: &[u8]) -> Option<AnyScheme>
     }
 }
 
-// The scheme of a word, where the kit may be of it.
+// The scheme that the word names, if this kit may have it.
 fn scheme_in(told: Told, word: &[u8]) -> Option<AnyScheme>
     ensures { option_map views.scheme result ≡ plain.scheme_in (may told) word.now }
 {
@@ -303,7 +303,7 @@ fn pair_by(mut words: Words<'_>) -> Option<KitLine>
     })
 }
 
-/// The line that these words are of a kit of which so much is told; None exactly where they are none.
+/// The line that these words are, given the version and scheme so far; None exactly where they are none.
 pub fn line_by(told: Told, mut words: Words<'_>) -> Option<KitLine>
     ensures { option_map line result ≡ plain.line_by (may told) (parts_left words.entry) }
 {

@@ -15,7 +15,7 @@ pub enum Version {
     Two,
 }
 
-/// What the lines that stand tell of the scheme.
+/// What the lines so far say of the scheme.
 #[derive(Clone, Copy)]
 pub struct Told {
     pub version: Option<Version>,
@@ -49,7 +49,7 @@ fn is_scheme(told: AnyScheme, scheme: AnyScheme) -> bool
 }
 
 impl Told {
-    /// Whether the kit may be of a scheme: it is the one that is told; where none is told, one of the version that is told, or
+    /// Whether the kit may be of a scheme: it is the one that was given; else one of the version that was given; else
     /// any.
     pub fn may_be(self, scheme: AnyScheme) -> bool
         ensures { result ≡ may self (views.scheme scheme) }

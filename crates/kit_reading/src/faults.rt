@@ -9,14 +9,14 @@ use thiserror::Error;
 /// Why no kit was read. Lines are counted from 1.
 #[derive(Clone, Copy, Debug, PartialEq, Eq, Error)]
 pub enum KitFault {
-    /// The writer of the text is to blame: the line is none of a kit of its scheme, or stands where it can't, or names a
+    /// The writer of the text is to blame: the line is none of a kit of its scheme, or is where it can't be, or names a
     /// process that is not in the roster, or has more than 70,000 bytes, or does not end with a line feed.
     #[error("line {line} is no line of a kit")]
     Line {
         line: usize,
     },
 
-    /// The writer of the text is to blame: a line that says the same thing stands before.
+    /// The writer of the text is to blame: an earlier line says the same thing.
     #[error("line {line} repeats an earlier line")]
     Repeated {
         line: usize,

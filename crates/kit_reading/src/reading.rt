@@ -13,7 +13,7 @@ use kit_file::{Kit, Parts};
 use std::alloc::Global;
 use text_codec::Parts as Lines;
 
-// Where all lines of a kit stand, the kit; else one is missing where this line would stand.
+// Where all lines of a kit were read, the kit; else one is missing where this line would be.
 #[tactic(auto, unfolding(kit_defs::specs::KitReading::finish))]
 pub(crate) fn finish(number: usize, draft: Draft) -> Result<Parts, KitFault>
     ensures { Makes fault_of (λ parts. parts) result (plain.finish number draft) }
@@ -65,7 +65,7 @@ fn read(alloc: Global, text: &[u8]) -> Result<Kit, KitFault>
     Ok(Kit::new(alloc, parts)?)
 }
 
-/// The kit that the text spells, all of it: the lines of a kit, and none behind them. docs/FORMATS.md has the format.
+/// The kit that the text spells, all of it: the lines of a kit, and none after them. docs/FORMATS.md has the format.
 ///
 /// # Errors
 /// The first fault of the lines in their order; [`KitFault::NoMemory`] where memory for the kit or for one key's trees is refused.
@@ -74,7 +74,7 @@ pub fn read_kit(alloc: Global, text: &[u8]) -> Result<Kit, KitFault>
     ensures found { IfOk result (λ kit. IsKit kit) }
     ensures spelled { IfOk result (λ kit. text.now ≡ kit_text kit) }
 
-    // A kit that is so spelled is read, unless memory runs out.
+    // A kit with this spelling is read, unless memory runs out.
     ensures only { (kit : plain_kits.Kit) → IsKit kit → text.now ≡ kit_text kit → Makes fault_of (λ k. k) result (Ok kit) }
 
     // A fault is that of the first line that has one.

@@ -47,7 +47,7 @@ fn like(key: PublicKey, bytes: &[u8]) -> PublicKey
     }
 }
 
-// A host with no pair line behind those that stand.
+// Adds a host with no pair line after the others.
 fn push_host(all: &mut Vec<Host>, alloc: Global, process: Pid, of: Secret) -> Result<(), NoMemory>
     ensures pushed { OnOk result (hosts all.new.items ≡ hosts all.old.items
         ++ record { process = process; secret = secret of; pairs = [] } ∷ []) }
@@ -82,7 +82,7 @@ fn listed_key(draft: &Draft, p: Pid) -> &[u8]
     }
 }
 
-// The process is hosted behind those that stand, with its listed key.
+// The process is hosted after the others, with its listed key.
 fn add_plain_host(
     draft: &mut Draft,
     alloc: Global,
@@ -127,7 +127,7 @@ fn match_key(
     Ok(())
 }
 
-// The process is hosted behind those that stand, where the secret makes its listed key.
+// The process is hosted after the others, where the secret makes its listed key.
 fn add_tree_host(
     draft: &mut Draft,
     alloc: Global,
@@ -145,7 +145,7 @@ fn add_tree_host(
     Ok(())
 }
 
-// Puts a line behind those that stand, where it is the next one.
+// Puts a line after those so far, where it is the next one.
 fn add_line(draft: &mut Draft, alloc: Global, number: usize, said: KitLine) -> Result<(), KitFault>
     requires { CanAdd number draft.old (line said) }
     ensures added { Makes fault_of (λ _. draft.new) result (plain.with_line number draft.old (line said)) }
@@ -198,7 +198,7 @@ fn add_line(draft: &mut Draft, alloc: Global, number: usize, said: KitLine) -> R
     Ok(())
 }
 
-// The line that these words are behind those that stand.
+// The line that these words are after those so far.
 fn said_by(draft: &Draft, words: Words<'_>) -> Option<KitLine>
     ensures said { option_map line result ≡ plain.line_by (plain.may_of draft.now) (parts_left words.entry) }
     ensures holds { IsDraft draft.now }
@@ -206,7 +206,7 @@ fn said_by(draft: &Draft, words: Words<'_>) -> Option<KitLine>
     line_by(draft.told(), words)
 }
 
-/// Takes the line of this number, without its line feed, behind those that stand, or answers its first fault.
+/// Takes the line of this number, without its line feed, after those so far, or answers its first fault.
 #[tactic(auto, unfolding(kit_defs::specs::KitReading::take_line))]
 pub fn take_line(
     draft: &mut Draft,

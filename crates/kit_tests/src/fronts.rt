@@ -4,7 +4,7 @@ use rp_base::MemSource;
 use std::alloc::{AllocError, Global};
 use std::test::Fail;
 
-/// The lines of the kit, of which the last four are those of its hosts.
+/// The lines of the kit; the last four are those of its hosts.
 const LINES: [&[u8]; 12] = [
     b"rampart kit 1\n",
     b"scheme plain\n",

@@ -1,4 +1,4 @@
-// An answer is one byte, and behind two of them a value.
+// An answer is one byte, and after two of them a value.
 ghost use Rattle.std.specs.Prelude.{◌≡◌, ◌+◌, ◌≤◌, ◌++◌, ◌∷◌, [], vec_len, vec_capacity, length, OnOk, OnErr};
 
 use rp_base::NoMemory;
@@ -6,7 +6,7 @@ use rp_base::NoMemory;
 /// The command was carried out.
 pub(crate) const DONE: u8 = 0;
 
-/// The value of the key, which stands behind this byte.
+/// The value of the key, which comes after this byte.
 pub(crate) const VALUE: u8 = 1;
 
 /// The store has no such key.
@@ -18,7 +18,7 @@ pub(crate) const NO_COMMAND: u8 = 3;
 /// The store has as many keys as it may, and this one is not among them.
 pub(crate) const FULL: u8 = 4;
 
-/// The value of the key is not the expected one; it stands behind this byte.
+/// The value of the key is not the expected one; it comes after this byte.
 pub(crate) const DIFFERS: u8 = 5;
 
 /// Appends bytes for which there is room.

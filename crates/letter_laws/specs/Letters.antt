@@ -19,7 +19,7 @@ IsFromOther me _ = Unit {0}
 abbrev pub IsOther : Setting → ℕ → ℕ → Type 0
 IsOther s me q = IsTrue (has (keyed s) q) × (q ≢ me)
 
--- Whatever it was handed, as long as no frame is its own, a process sends to others alone, of whom the roster has keys: where it has those of
+-- Whatever it was handed, as long as no frame is its own, a process sends only to others that the roster has keys of: where it has those of
 -- the first members. (One that is handed a Want of its own answers itself.)
 abbrev pub SendsToOthers : Type 0
 SendsToOthers = (s : Setting) (me limit : ℕ) (ts : List Turn) (t : Turn) → All (λ m. IsTrue (has (keyed s) m)) s.genesis.members

@@ -3,7 +3,7 @@
 
 ghost use Rattle.letter_laws.specs.Letters.{SendsToOthers, FramesAreShort, KeptIsInRange};
 
-/// A process sends to others alone, of whom the roster has keys.
+/// A process sends only to others that the roster has keys of.
 pub fn sends_to_others()
     ensures { SendsToOthers }
 {}

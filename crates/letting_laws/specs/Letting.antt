@@ -1,4 +1,4 @@
--- What a turn lets out, answer by answer: its letters go over the link, and each of its notes has a line and is told to the service.
+-- What a turn lets out, answer by answer: its letters go over the link, and each of its notes has a line and is given to the service.
 use Rattle.std.specs.Prelude.{◌≡◌, ℕ, List, [], ◌++◌, map, flat_map, zip, Some, None}
 use Rattle.std.specs.List.{AllZip}
 use Rattle.group_defs.specs.Process.{Process}

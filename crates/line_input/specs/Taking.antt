@@ -20,7 +20,7 @@ abbrev pub HasFeed : List ℕ → Type 0
 HasFeed bytes = list_any (λ b. b == 10) bytes ≡ true
 
 -- What a reader has taken and still has ahead, of bytes that are all ahead at first.
---   Line: the first line, of at most so many bytes, and those after its line feed
+--   Line: the first line, of at most `most` bytes, and those after its line feed
 --   Broken: they begin with no such line, and stay ahead
 --   End: there are none
 abbrev pub Takes : ℕ → List ℕ → Taken → Next → Type 0
@@ -34,7 +34,7 @@ IsLast most now bytes Line = Unit {0}
 IsLast most now bytes Broken = (most < length bytes) ⊎ IsAtEnd now
 IsLast most now bytes End = IsAtEnd now
 
--- Bytes were taken as they came, and these are ahead now: so many, or all that came before the input ended, which are fewer.
+-- `count` bytes were taken as they came, or all that came before the input ended, which are fewer; these are ahead now.
 abbrev pub TakesBytes : ℕ → Option (List ℕ) → Option (List ℕ) → List ℕ → List ℕ → Option (List ℕ) → Type 0
 TakesBytes count before now ahead left (Some bytes) = (length bytes ≡ count) × ReadOn before now ahead (bytes ++ left)
 TakesBytes count before now ahead left None = (bytes : List ℕ) × (length bytes < count) × ReadOn before now ahead bytes × (left ≡ []) × IsAtEnd now

@@ -59,7 +59,7 @@ fn first_feed(bytes: &[u8]) -> Option<usize>
 }
 
 impl Lines {
-    /// Of an input of which nothing is read yet. It takes no memory before the first read.
+    /// The lines of an input that was not read yet. It takes no memory before the first read.
     pub fn new(alloc: Global) -> Lines
         ensures { result ≡ record { line = []; ahead = [] } }
     {
@@ -186,7 +186,7 @@ impl Lines {
         }
     }
 
-    // Takes what is ahead, but at most so many bytes, and appends it.
+    // Takes what is ahead, but at most `most` bytes, and appends it.
     fn take_into(&mut self, most: usize, bytes: &mut Vec<u8>) -> Result<(), InputFault>
         ensures took { OnOk result ((bytes.new.items ≡ bytes.old.items ++ take most self.old.ahead)
             × (self.new.ahead ≡ drop most self.old.ahead)) }

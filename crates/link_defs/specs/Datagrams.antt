@@ -60,7 +60,7 @@ abbrev pub key_or_fault : Option (List ℕ) → Result (List ℕ) LinkFault
 key_or_fault None = Err UnknownPeer
 key_or_fault (Some key) = Ok key
 
--- the sender and the frame that stand before a tag, or the first fault
+-- the sender and the frame before a tag, or the first fault
 unfoldable pub opened_parts : Known → List ℕ → List ℕ → Result (ℕ × List ℕ) LinkFault
 opened_parts known t tag = do
   _ ← refuse_if (not (same_bytes (take 4 t) magic)) Magic

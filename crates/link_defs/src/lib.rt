@@ -1,4 +1,4 @@
-//! Datagrams between the processes of a group, and the tags that tell who speaks.
+//! Datagrams between the processes of a group, and the tags that show who speaks.
 #![tactic(auto)]
 
 ghost use Rattle.link_defs.specs.Datagrams.{OpenedCame, ComingIsOpened};

@@ -1,4 +1,4 @@
-// Chains of unlike lengths, of which four of like length are walked at a time. Which four is advice: what is walked is noted,
+// Chains of unlike lengths, walked four of like length at a time. Which four is advice: what is walked is noted,
 // and a chain that is not noted is walked in the end.
 ghost use Rattle.std.specs.Prelude.{◌≡◌, ℕ, ◌<◌, ◌≤◌, false, [], slice_index, slice_index_or};
 ghost use Rattle.sha2.specs.Sha256.{digest_bytes};
@@ -14,7 +14,7 @@ struct Walked {
     done: [bool; CHAINS],
 }
 
-// Four chains of like length, of which those before `place` wait to be walked.
+// Four chains of like length; those before `place` wait to be walked.
 #[derive(Clone, Copy)]
 struct Group {
     at: [u16; 4],

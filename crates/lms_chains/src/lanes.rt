@@ -1,5 +1,5 @@
 // Four chains of a one-time key side by side, with their values as words in lanes. The value begins at byte 23 of a step's
-// block (chains.rt), so each of its words stands in two words of the block.
+// block (chains.rt), so each of its words lies in two words of the block.
 ghost use Rattle.std.specs.Prelude.{◌≡◌, ℕ, ◌+◌, ◌-◌, ◌<◌, ◌≤◌, ◌^◌, [], ◌∷◌, ◌++◌, length, slice_index};
 ghost use Rattle.std.specs.Int.{w32, to_be_bytes};
 ghost use Rattle.sha2.specs.Sha256.{digest_bytes, sha256, word_at};

@@ -125,7 +125,7 @@ pub(crate) fn walk_into(
     ends[usize::from(d)] = s;
 }
 
-// All chains, of which four at a time are neighbours: for chains of like lengths. The last four may have a chain twice.
+// All chains, four neighbours at a time: for chains of like lengths. The last four may have a chain twice.
 fn walk_in_order(key: &[u8; 20], count: u16, steps: &Steps, starts: &Values) -> Values
     requires count { count ≤ 265 }
     requires steps { (i : ℕ) → i < count → HasSteps steps.now.from steps.now.to i }

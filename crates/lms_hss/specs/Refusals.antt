@@ -6,7 +6,7 @@ use Rattle.signature_defs.specs.Hss.{height_in_range, length_in_range, levels_in
 use Rattle.lms_hss.specs.declared.faults.KeyFault.{KeyFault}
 use Rattle.lms_hss.specs.declared.faults.KeyFault.TheVariants.{Levels, TooTall, TooLong}
 
--- the first reason not to make a key of so many levels, with trees of this typecode and one-time type
+-- the first reason not to make a key in `levels` levels, with trees of this typecode and one-time type
 abbrev pub refusal : ℕ → ℕ → OtsType → Option KeyFault
 refusal levels code kind =
     first_that_holds

@@ -1,4 +1,4 @@
--- The trees that stand in memory, one for each level.
+-- The trees in memory, one for each level.
 use Rattle.std.specs.Prelude.{◌≡◌, ℕ, List, Some, length, slice_get}
 use Rattle.signature_defs.specs.Hss.{HssSecret, tree_id, tree_number, tree_seed}
 use Rattle.lms_tree.specs.declared.tree.LmsTree.{LmsTree}

@@ -63,7 +63,7 @@ fn public_of(levels: u32, top: &[u8; 56]) -> [u8; 60]
 impl HssKey {
     ghost use Rattle.lms_hss.specs.Key.{IsMadeFrom, KeepsKey, length_of, signature_of};
 
-    /// The key of so many levels, 1, 2 or 3, of trees of a height's typecode, 5, 6 or 7, and a one-time parameter set,
+    /// The key in `levels` levels, 1, 2 or 3, of trees of a height's typecode, 5, 6 or 7, and a one-time parameter set,
     /// made from I and SEED of the top tree. It takes the memory of one tree of each level, and the time of making them;
     /// signing takes no more memory.
     ///
@@ -97,7 +97,7 @@ impl HssKey {
         })
     }
 
-    // Makes the trees and the front of signature number `number`, where other ones stand.
+    // Makes the trees and the front of signature number `number`, in place of others.
     fn make_ready(&mut self, number: u32)
         ensures key { KeepsKey self.old self.new }
         ensures used { self.new.used ≡ self.old.used }

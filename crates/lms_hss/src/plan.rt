@@ -30,7 +30,7 @@ pub(crate) struct Plan {
     ghost sized: { length id ≡ 16 },
 }
 
-// The height of a typecode of which trees are built in so many levels.
+// The height of a typecode, where trees of it are built in `levels` levels.
 fn height_in(levels: u32, typecode: u32) -> Option<usize>
     requires { levels ≤ 3 }
     ensures built { IsSome result ↔ (height_in_range levels typecode ≡ true) }
@@ -192,7 +192,7 @@ impl Plan {
         }
     }
 
-    // Makes the tree of this level that signature number `to` uses where that of number `from` stands, if it is another.
+    // Replaces the tree of this level for signature number `from` by the one for number `to`, if they differ.
     pub(crate) fn renew_tree(&self, level: u32, from: u32, to: u32, tree: &mut LmsTree)
         requires level { level < self.now.levels }
         requires stands { IsTreeOf (secret self.now) level (tree_number (secret self.now) level from) tree.old }

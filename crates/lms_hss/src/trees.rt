@@ -1,4 +1,4 @@
-// The trees that stand in memory, one for each level, and the keys that they sign.
+// The trees in memory, one for each level, and the keys that they sign.
 ghost use Rattle.std.specs.Prelude.{◌≡◌, ◌+◌, ◌*◌, ◌-◌, ◌<◌, IfOk, length};
 ghost use Rattle.signature_defs.specs.Lms.{lms_signature_length};
 ghost use Rattle.signature_defs.specs.Hss.{signed_key, signed_keys, tree_number};
@@ -20,7 +20,7 @@ pub(crate) fn first_trees(alloc: Global, plan: &Plan) -> Result<Vec<LmsTree>, Al
     Ok(trees)
 }
 
-// Makes the trees that signature number `to` uses where those of number `from` stand.
+// Replaces the trees for signature number `from` by those for number `to`.
 pub(crate) fn renew_trees(plan: &Plan, from: u32, to: u32, trees: &mut [LmsTree])
     requires { AreTreesOf (secret plan.now) from trees.old }
     ensures { AreTreesOf (secret plan.now) to trees.new }

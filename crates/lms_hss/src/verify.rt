@@ -25,7 +25,7 @@ fn length_under(key: &[u8]) -> Option<usize>
     Some(8 + ots_signature_length(kind) + 32 * height)
 }
 
-// From a key on, so many signed keys and the signature on the message (RFC 8554, section 6.3).
+// Under a key, `signed_keys` signed keys and then the signature on the message (RFC 8554, section 6.3).
 fn levels_valid(signed_keys: u32, key: &[u8], message: &[u8], sig: &[u8]) -> bool
     requires { length key.now ≡ 56 }
     ensures { result ≡ levels_valid signed_keys key.now message.now sig.now }
@@ -51,7 +51,7 @@ fn levels_valid(signed_keys: u32, key: &[u8], message: &[u8], sig: &[u8]) -> boo
 }
 
 /// Whether this is an HSS signature under the key on the body, in 1 to 8 levels (RFC 8554, section 6.3). False where the
-/// key has not 60 bytes, its number of levels is not 1 to 8 or not the signature's, a signature on a key or on the body
+/// key does not have 60 bytes, its number of levels is not 1 to 8 or not the signature's, a signature on a key or on the body
 /// is not valid under the key above it, or bytes are left at the end.
 pub fn hss_verify(key: &[u8], body: &[u8], sig: &[u8]) -> bool
     ensures { result ≡ hss_valid key.now body.now sig.now }

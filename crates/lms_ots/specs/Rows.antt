@@ -8,6 +8,6 @@ use Rattle.signature_defs.specs.LmOts.{digit, ots_chains, ots_width}
 abbrev pub sets : List OtsType
 sets = W1 ∷ W2 ∷ W4 ∷ W8 ∷ []
 
--- the digits of the checksum, which stand behind those of the hash
+-- the digits of the checksum, which follow those of the hash
 abbrev pub checksum_digits : List ℕ → OtsType → List ℕ
 checksum_digits hash kind = map (digit kind hash) (range_with_len (256 / ots_width kind) (ots_chains kind - 256 / ots_width kind))

@@ -25,7 +25,7 @@ const D_MESG: u16 = 0x8181;
 // The chain that no signature has, from which C is made.
 const RANDOMIZER: u16 = 0xfffd;
 
-// A hash that has taken in what stands first in it.
+// A hash that has taken in the key and the tag.
 fn tagged(key: &[u8; 20], tag: u16) -> Sha256
     ensures { Holds256 result (key.now ++ u16str tag) }
 {

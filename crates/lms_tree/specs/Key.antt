@@ -4,7 +4,7 @@ use Rattle.signature_defs.specs.declared.OtsType.{OtsType}
 use Rattle.lms_tree.specs.SigningTree as trees
 use Rattle.lms_tree.specs.declared.key.LmsKey.{LmsKey}
 
--- the key made from these, of which no leaf has signed
+-- the key made from these; no leaf has signed
 pub record IsMadeFrom (typecode : ℕ) (ots : OtsType) (id seed : List ℕ) (key : LmsKey) : Type 0 where
   pub tree : trees.IsMadeFrom typecode ots id seed key.tree
   pub unused : key.used ≡ 0

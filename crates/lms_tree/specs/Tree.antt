@@ -3,7 +3,7 @@ use Rattle.std.specs.Prelude.{◌≡◌, ℕ, suc, ◌+◌, ◌*◌, ◌^◌, �
 use Rattle.signature_defs.specs.declared.OtsType.{OtsType}
 use Rattle.signature_defs.specs.Lms.{node}
 
--- the nodes from number `from` on stand at their numbers; those of depth d are numbered from 2^d, and stand h - d levels up
+-- the nodes from number `from` on are at their numbers; those of depth d are numbered from 2^d, and lie h - d levels up
 abbrev pub HoldsFrom : ℕ → OtsType → ℕ → List ℕ → List ℕ → List (List ℕ) → Type 0
 HoldsFrom from kind h id seed nodes =
     (d k r : ℕ) → d + k ≡ h → from ≤ r → 2 ^ d ≤ r → r < 2 ^ suc d → slice_index_or nodes r [] ≡ node kind h id seed k r

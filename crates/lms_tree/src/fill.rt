@@ -31,7 +31,7 @@ fn put_inner(nodes: &mut [[u8; 32]], kind: OtsType, height: usize, id: &[u8; 16]
     }
 }
 
-// Fills a tree's list of nodes, whatever stood there.
+// Fills a tree's list of nodes, whatever was in it.
 pub(crate) fn fill_nodes(
     nodes: &mut [[u8; 32]],
     kind: OtsType,

@@ -32,7 +32,7 @@ impl From<AllocError> for KeyFault {
     }
 }
 
-/// A private tree over one-time keys, with all its nodes. It signs with whichever leaf it is told to; who holds it
+/// A private tree over one-time keys, with all its nodes. It signs with whichever leaf it is given; who holds it
 /// counts the leaves, since two bodies signed by one leaf give the leaf's key away.
 pub struct LmsTree {
     typecode: u32,

@@ -80,7 +80,7 @@ fn valid_by(kind: OtsType, height: usize, key: &[u8], message: &[u8], sig: &[u8]
     root_candidate(kind, height, &id, q, &found, sig).as_slice() == &key[24..56]
 }
 
-/// Whether this is an LMS signature under the key on the body (RFC 8554, section 5.4.2). False where the key has not 56
+/// Whether this is an LMS signature under the key on the body (RFC 8554, section 5.4.2). False where the key does not have 56
 /// bytes, a type is unknown, the signature's types are not the key's, its leaf is not in the tree, or its length is not
 /// that of the types.
 pub fn lms_verify(key: &[u8], body: &[u8], sig: &[u8]) -> bool

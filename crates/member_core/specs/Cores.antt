@@ -31,7 +31,7 @@ pub record IsKeyless (s : Setting) (p : Process) (k : Keyless) : Type 0 where
   pub roster : s.roster ≡ k.roster
   pub kinds : s.signs ≡ all_kinds
 
--- The core is this process in this setting, and its key has made as many signatures as the process has signed statements. `used` tells how
+-- The core is this process in this setting, and its key has made as many signatures as the process has signed statements. `used` says how
 -- many signatures a signer has made.
 pub record IsProcess {G : Type 0} (used : G → ℕ) (s : Setting) (p : Process) (c : Core G) : Type 0 where
   pub keyless : IsKeyless s p c.keyless
@@ -49,7 +49,7 @@ left_of used total c = total c.signer - used c.signer
 abbrev pub turn_of : {G : Type 0} → (G → ℕ) → (G → ℕ) → (G → ℕ → List ℕ → List ℕ) → Core G → defs.Event → defs.Turn
 turn_of used total signature c e = record { event = e; allowance = left_of used total c; signer = signature c.signer }
 
--- the process has taken the turn, with which so many signatures are used, no more than a view has slots, and the outcome is that of the turn
+-- the process has taken the turn, `many` signatures are used then, no more than a view has slots, and the outcome is that of the turn
 pub record Takes (s : Setting) (p : Process) (t : defs.Turn) (new : Keyless) (many : ℕ) (r : Outcome) : Type 0 where
   pub keyless : IsKeyless s (defs.after s p t) new
   pub used : length (defs.after s p t).signed ≡ many

@@ -13,13 +13,13 @@ use Rattle.member_core.specs.declared.member.Core.{Core}
 use Rattle.member_core.specs.Cores.{IsCore}
 
 -- The process may have written the entry of this event, with these signatures and this spent byte, while `left` signatures could still be
--- made: the entry fits, each signature is valid for the claim that it stands for, and there are no more of them.
+-- made: the entry fits, each signature is valid for its claim, and there are no more of them.
 pub record Agrees (s : Setting) (p : Process) (left : ℕ) (e : defs.Event) (signatures : List (List ℕ)) (spent : Bool) : Type 0 where
   pub fits : defs.Fits s p e signatures spent
   pub valid : IsTrue (list_all (is_valid s) (defs.outcome s p (defs.journalled p e signatures)).signed)
   pub few : length signatures ≤ left
 
--- The entry agrees, the new core is the process after the turn that the entry tells of, and the outcome is that of the turn.
+-- The entry agrees, the new core is the process after the entry's turn, and the outcome is that of the turn.
 pub record Absorbs {G : Type 0} (used : G → ℕ) (s : Setting) (p : Process) (left : ℕ) (new : Core G) (e : defs.Event)
     (signatures : List (List ℕ)) (spent : Bool) (r : Outcome) : Type 0 where
   pub agrees : Agrees s p left e signatures spent

@@ -12,7 +12,7 @@ used_of j = j.used
 abbrev pub total_of : Journalled → ℕ
 total_of j = j.total
 
--- the signature that is handed out where so many were made
+-- the signature that is handed out where `used` were made
 abbrev pub handed_out : Journalled → ℕ → List ℕ → List ℕ
 handed_out j used body = slice_index_or (signatures_left j.all) (used - j.before) []
 

@@ -18,9 +18,9 @@ use Rattle.member_signing.specs.States.{ProcessState, IsStateOf, frame_to, frame
 abbrev pub refusing : defs.EventFault → defs.Outcome
 refusing fault = record { verdict = Some fault; heard = 0; signed = []; spent = false; sends = []; notes = [] }
 
--- ---- what is told last
+-- ---- what is reported last
 
--- a process that has halted tells it
+-- a process that has halted reports it
 abbrev pub halts : Process → List defs.Note
 halts q = defs.note_if q.halted (defs.Halts (places_in q.delivered) (option_map_or (λ d. d.1.cut) q.decision 0))
 
@@ -30,8 +30,8 @@ liars_from place pairs = map (λ pair. defs.Liar pair.1.signer) (drop place pair
 
 -- ---- the halves
 
--- Process p has taken the event in and signed: this is its state then, so many signatures are used, no more than a view has slots, and the
--- outcome has what was heard and signed, whether a signature was wanting, and the frames of the Bundle, but no notes.
+-- Process p has taken the event in and signed: this is its state then, `many` signatures are used, no more than a view has slots, and the
+-- outcome has what was heard and signed, whether a signature was missing, and the frames of the Bundle, but no notes.
 pub record HasBegun (s : Setting) (p : Process) (t : defs.Turn) (st : ProcessState) (many : ℕ) (r : Outcome) : Type 0 where
   pub state : IsStateOf s (defs.signing s p t).now st
   pub used : length (defs.signing s p t).now.signed ≡ many
@@ -60,7 +60,7 @@ pub record HasEnded (s : Setting) (p : Process) (e : defs.Event) (pairs : ℕ) (
       ++ defs.note_if was.spent defs.Spent
       ++ halts (settle s p)
 
--- Process p has taken its turn: this is its state then, so many signatures are used, no more than a view has slots, and the outcome is that
+-- Process p has taken its turn: this is its state then, `many` signatures are used, no more than a view has slots, and the outcome is that
 -- of the turn.
 pub record HasTaken (s : Setting) (p : Process) (t : defs.Turn) (st : ProcessState) (many : ℕ) (r : Outcome) : Type 0 where
   pub state : IsStateOf s (defs.after s p t) st

@@ -1,4 +1,4 @@
-//! An event that a journal tells of, taken again with the signatures that the journal keeps.
+//! The event of a journal's entry, taken again with the signatures that the journal keeps.
 ghost use Rattle.std.specs.Prelude.{◌≡◌, ◌+◌, ◌^◌, ◌<◌, ◌≤◌, ◌↔◌, ℕ, All, List, length, map, IfOk, OnErr, OnOk, IsOkUnless, IsTrue, SomeIff};
 ghost use Rattle.std.specs.List.{list_all};
 ghost use Rattle.message_defs.specs.Statements as plain;
@@ -33,7 +33,7 @@ pub enum AbsorbFault {
     NoMemory,
 }
 
-// Whether the claim's signature is valid under its signer's key in the roster. Bytes that are no statement nobody has signed.
+// Whether the claim's signature is valid under its signer's key in the roster. Nobody has signed bytes that are no statement.
 fn is_valid<V: Scheme>(judge: &Judge<'_, V>, own: &OwnClaim) -> bool
     ensures { (s : Setting) (c : plain.Claim) → Shares s (V.valid judge.now.scheme.now) judge.now.group.now judge.now.roster.now
         → IsStatement c.statement → signed own.now ≡ signed_of c → result ≡ hearing.is_valid s c }
@@ -80,15 +80,15 @@ fn count_up_to(signatures: EntrySignatures<'_>, most: u32) -> Option<u32>
     Some(count)
 }
 
-// Whether so many signatures were made, and one was wanting exactly where this says so.
+// Whether `count` signatures were made, and one was missing exactly where `spent` says so.
 fn fits(outcome: &Outcome, count: usize, spent: bool) -> bool
     ensures { IsTrue result ↔ ((length outcome.now.signed.items ≡ count) × (outcome.now.spent ≡ spent)) }
 {
     outcome.signed.len() == count && outcome.spent == spent
 }
 
-// Whether what came of the event is what the entry tells: it has so many signatures, each of them valid, and one was wanting exactly
-// where this says so.
+// Whether what came of the event is what the entry says: it has `count` signatures, each of them valid, and one was missing exactly
+// where `spent` says so.
 fn agrees<V: Scheme>(judge: &Judge<'_, V>, outcome: &Outcome, count: usize, spent: bool) -> bool
     ensures { (s : Setting) (o : defs.Outcome) → Shares s (V.valid judge.now.scheme.now) judge.now.group.now judge.now.roster.now
         → All (λ c. IsStatement c.statement) o.signed → IsOutcome o outcome.now
@@ -101,7 +101,7 @@ fn agrees<V: Scheme>(judge: &Judge<'_, V>, outcome: &Outcome, count: usize, spen
 }
 
 impl Keyless {
-    // Takes the entry's event with a signer that hands out the entry's signatures, of which there are `count`; the process made so many
+    // Takes the entry's event with a signer that hands out the entry's signatures, of which there are `count`; the process made `made`
     // before.
     fn retake<V: Scheme>(
         &mut self,
@@ -168,7 +168,7 @@ impl<G: Tally + Drop> Core<G> {
     ///
     /// # Errors
     /// [`AbsorbFault::Differs`] exactly where the process with these signatures signs more or fewer statements than there are, or
-    /// lacks a further one where the entry's `spent` says otherwise; or a signature is not valid for the claim that it stands for; or
+    /// lacks a further one where the entry's `spent` says otherwise; or a signature is not valid for its claim; or
     /// the key has fewer signatures left.
     /// [`AbsorbFault::NoMemory`].
     pub fn absorb<V: Scheme>(

@@ -73,7 +73,7 @@ fn run<G: Signer, V: Scheme>(
 /// What is used again from event to event: room for the places of the claims that an event sends, and the mark of the process before it.
 #[derive(Drop)]
 pub(crate) struct Rooms {
-    // what stands there means nothing between two events
+    // what is there means nothing between two events
     pub(crate) places: Vec<usize>,
     pub(crate) before: Before,
 }

@@ -24,7 +24,7 @@ fn is_tick(input: &Input<'_>) -> bool
 }
 
 // Begins an event that is not refused: it is taken in, what is due is signed, and the Bundle of that is sent. The answer is what came of
-// it so far, with nothing told.
+// it so far, with nothing reported.
 fn begin<G: Signer, V: Scheme>(
     state: &mut ProcessState,
     alloc: Global,
@@ -77,7 +77,7 @@ fn begin<G: Signer, V: Scheme>(
     })
 }
 
-// Ends the event: the process settles, what came of it is told, of conflicts those from this pair on, and Wants and Ticks are answered.
+// Ends the event: the process settles, what came of it is reported, of conflicts those from this pair on, and Wants and Ticks are answered.
 fn end(
     state: &mut ProcessState,
     alloc: Global,

@@ -8,8 +8,8 @@ use stmt_codec::EntrySignatures;
 /// The most bytes of a signature.
 const SIGNATURE_BYTES: usize = 16_384;
 
-/// A signer without a key. It hands out the signatures of an entry in their order, whatever is to be signed, and whether they are
-/// valid for that, it does not ask.
+/// A signer without a key. It hands out the signatures of an entry in their order, whatever is to be signed, and does not ask
+/// whether they are valid for that.
 #[derive(Drop)]
 pub(crate) struct Journalled<'a> {
     // How many the process made before the entry.

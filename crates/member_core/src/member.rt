@@ -42,7 +42,7 @@ impl Drop for Keyless {
     }
 }
 
-/// A process of a group, correct by construction. Which process of the definitions it is, the word `IsCore` of the specs says.
+/// A process of a group, correct by construction. `IsCore` of the specs says which process of the definitions it is.
 #[derive(Drop)]
 pub struct Core<G> {
     pub(crate) keyless: Keyless,

@@ -1,4 +1,4 @@
-//! What an event tells behind what was delivered and installed.
+//! What an event reports after what was delivered and installed.
 ghost use Rattle.std.specs.Prelude.{◌≡◌, ◌++◌, false, map, OnOk, IsOk};
 ghost use Rattle.group_defs.specs.Process.{Setting, Process};
 ghost use Rattle.group_defs.specs.Events as defs;
@@ -9,7 +9,7 @@ use member_signing::{Conflicts, ProcessState};
 use rp_base::NoMemory;
 use stmt_codec::Note;
 
-// Tells the signer of each pair from this place on.
+// Reports the signer of each pair from this place on.
 fn tell_liars(conflicts: &Conflicts, from: usize, notes: &mut Vec<Note>) -> Result<(), NoMemory>
     ensures { OnOk result (map note notes.new.items ≡ map note notes.old.items ++ liars_from from conflicts.now.pairs) }
 {
@@ -21,7 +21,7 @@ fn tell_liars(conflicts: &Conflicts, from: usize, notes: &mut Vec<Note>) -> Resu
     Ok(())
 }
 
-// Tells that a signature was wanting, where one was.
+// Reports that a signature was missing, where one was.
 fn tell_spent(spent: bool, notes: &mut Vec<Note>) -> Result<(), NoMemory>
     ensures told { OnOk result (map note notes.new.items ≡ map note notes.old.items ++ defs.note_if spent defs.Spent) }
     ensures none { spent ≡ false → IsOk result }
@@ -32,7 +32,7 @@ fn tell_spent(spent: bool, notes: &mut Vec<Note>) -> Result<(), NoMemory>
     Ok(())
 }
 
-// Tells that the process has halted, where it has.
+// Reports that the process has halted, where it has.
 fn tell_halted(state: &ProcessState, notes: &mut Vec<Note>) -> Result<(), NoMemory>
     ensures { (s : Setting) (p : Process) → IsStateOf s p state.now
         → OnOk result (map note notes.new.items ≡ map note notes.old.items ++ halts p) }
@@ -43,7 +43,7 @@ fn tell_halted(state: &ProcessState, notes: &mut Vec<Note>) -> Result<(), NoMemo
     Ok(())
 }
 
-/// Tells, behind the other notes, who is caught in a conflict by the pairs from this place on, that a signature was wanting, and that
+/// Reports, after the other notes, who is caught in a conflict by the pairs from this place on, that a signature was missing, and that
 /// the process has halted.
 pub(crate) fn tell(
     state: &ProcessState,

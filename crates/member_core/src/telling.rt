@@ -1,4 +1,4 @@
-//! A member as it starts, and what it tells of itself.
+//! A member as it starts, and what it reports of itself.
 ghost use Rattle.std.specs.Prelude.{◌≡◌, ◌≤◌, length, IfOk, None};
 ghost use Rattle.std.specs.Option.{option_map};
 ghost use Rattle.group_defs.specs.Process.{Setting, Process, all_kinds, start};
@@ -88,7 +88,7 @@ impl<G: Tally + Drop> Core<G> {
         self.keyless.state.own.me
     }
 
-    /// What the process tells of itself.
+    /// What the process reports of itself.
     #[tactic(auto, unfolding(crate::specs::Cores::IsCore))]
     pub fn account(&self) -> &Account
         ensures { (s : Setting) (p : Process) → IsCore G.used s p self.now → account_of p ≡ account result.now }

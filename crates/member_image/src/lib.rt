@@ -1,4 +1,4 @@
-//! The image of a member: everything of which it begins again, copied out of it; and the member that begins again from an image
+//! The image of a member: everything that it begins again from, copied out of it; and the member that begins again from an image
 //! (docs/FORMATS.md, «Images»).
 #![tactic(auto)]
 

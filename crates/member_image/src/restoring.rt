@@ -64,7 +64,7 @@ pub fn restore<G: Tally + Drop, V: Scheme>(
     requires few { batch_limit ≤ 16 }
     requires spelled { IsImage Two (image_as image) }
 
-    // Only from an image that is kept, with a signer that has made no more signatures than are signed, and can make so many.
+    // Only from an image that is kept, with a signer that has made no more signatures than are signed, and can make that many.
     ensures kept { (s : Setting) → Judges s (V.valid scheme.now) group roster genesis
         → IfOk result (λ c. IsRestorable s (image_as image) (G.used signer) (G.total signer)) }
 

@@ -21,7 +21,7 @@ pub record HasParts (s : Setting) (i : Image) (p : Process) (st : ProcessState) 
   pub past : HasPast s i st.archive
   pub account_is : account_of p ≡ account st.account
 
--- the process has what the image tells of it, and these views were installed
+-- the process has what the image says of it, and these views were installed
 pub record IsOf (i : Image) (views : List View) (p : Process) : Type 0 where
   pub me : p.me ≡ i.me
   pub signed : p.signed ≡ i.signed

@@ -34,7 +34,7 @@ fn said_before(alloc: Global, signed: &[KeptClaim]) -> Result<Vec<SaidBefore>, N
     Ok(lists)
 }
 
-// What the image's process tells of itself, of which these are the views. It is taken out of the image.
+// What the image's process reports of itself, with these views. It is taken out of the image.
 fn account_of(alloc: Global, image: &mut Image, views: Vec<View>) -> Account
     ensures { (p : Process) → IsOf (image_as image.old) views.items p → account_as p ≡ account result }
 {

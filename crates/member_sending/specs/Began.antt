@@ -5,7 +5,7 @@ use Rattle.group_defs.specs.Sending.{newly_signed}
 use Rattle.accounts.specs.Views.{delivery}
 use Rattle.member_taking.specs.States.{signed_here, ProcessState}
 
--- the event began with `began`, nothing was delivered since, the view is the same, and what was signed since is the last so many claims of
+-- the event began with `began`, nothing was delivered since, the view is the same, and what was signed since is the last `newly` claims of
 -- the view
 pub record Began (newly : ℕ) (began p : Process) : Type 0 where
   pub number : began.me ≡ p.me

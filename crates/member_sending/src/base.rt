@@ -57,7 +57,7 @@ fn was_delivered(state: &ProcessState, statement: &Statement<'_>) -> bool
     }
 }
 
-// Puts the place behind the others, where its claim is not of what was delivered.
+// Puts the place after the others, where its claim is not of what was delivered.
 fn put_repeated(places: &mut Vec<usize>, state: &ProcessState, place: usize) -> Result<(), NoMemory>
     ensures { OnOk result ((began : Process) → HasDone state.now began
         → chosen state.now.said.claims places.new.items ≡ chosen state.now.said.claims places.old.items
@@ -86,7 +86,7 @@ fn repeated(places: &mut Vec<usize>, state: &ProcessState) -> Result<(), NoMemor
     Ok(())
 }
 
-// The places of the last so many claims.
+// The places of the last `newly` claims.
 fn last_places(places: &mut Vec<usize>, state: &ProcessState, newly: usize) -> Result<(), NoMemory>
     requires { places.old.items ≡ [] }
     ensures { OnOk result (chosen state.now.said.claims places.new.items
@@ -100,7 +100,7 @@ fn last_places(places: &mut Vec<usize>, state: &ProcessState, newly: usize) -> R
 }
 
 /// Puts into `places`, in place of what is there, the places of the claims that a Bundle has: on a Tick of those that it repeats, else
-/// of the last so many.
+/// of the last `newly`.
 pub(crate) fn base_places(
     places: &mut Vec<usize>,
     state: &ProcessState,

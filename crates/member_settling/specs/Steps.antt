@@ -20,7 +20,7 @@ pub record ComesNext (p : Process) (ds : List defs.Delivered) (b : Batch) : Type
   pub delivers : deliverable p ≡ Some ds
   pub batch : batch_in ds ≡ b
 
--- the state is that of q, which delivered more than p, and each delivery is told
+-- the state is that of q, which delivered more than p, and each of these deliveries is reported
 pub record Delivers (s : Setting) (p q : Process) (st : ProcessState) (was now : List Note) : Type 0 where
   pub state : IsStateOf s q st
   pub told : TellsDelivered p q was now
@@ -48,7 +48,7 @@ pub record HasLeaving (d : ℕ × Value) (st : ProcessState) : Type 0 where
 abbrev pub CanLeave : ℕ × Value → ProcessState → Type 0
 CanLeave d st = ∥ HasLeaving d st ∥₁
 
--- the state is that of q, which came of p, and a view that was installed is told
+-- the state is that of q, which came of p, and a view that was installed is reported
 pub record Leaves (s : Setting) (p q : Process) (st : ProcessState) (was now : List Note) : Type 0 where
   pub state : IsStateOf s q st
   pub told : TellsInstalled p q was now

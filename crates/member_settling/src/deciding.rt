@@ -16,7 +16,7 @@ use rp_base::PidSet;
 use view_phases::Phase;
 use view_table::View;
 
-// The phase behind the certified Ready: decided by it, where the phase is undecided and the Ready's update is possible; else the
+// The phase after the certified Ready: decided by it, where the phase is undecided and the Ready's update is possible; else the
 // same.
 fn phase_behind(phase: Phase, view: &View, keyed: PidSet, ready: &Certificate<'_, Commit>) -> Phase
     requires { IsSome (readied (content_of ready.now)) }

@@ -31,7 +31,7 @@ fn limit_of(phase: &Phase, pool: &Pool) -> u16
     }
 }
 
-// Puts the message with its certified payload behind what was delivered, and tells of it.
+// Puts the message with its certified payload after what was delivered, and reports it.
 fn put_message(
     pool: &Pool,
     alloc: Global,
@@ -85,7 +85,7 @@ fn put_messages(
     Ok(())
 }
 
-// Puts the messages of the batch behind what was delivered in the current view, which is the last list.
+// Puts the messages of the batch after what was delivered in the current view, which is the last list.
 fn put_batch(
     pool: &Pool,
     alloc: Global,

@@ -69,7 +69,7 @@ fn own_delivered(account: &Account) -> u16
     }
 }
 
-// Puts the view, in which nothing is delivered yet, behind those of the account. Without memory, the account is as before.
+// Puts the view, in which nothing is delivered yet, after those of the account. Without memory, the account is as before.
 fn put_view(account: &mut Account, view: &View, alloc: Global) -> Result<(), NoMemory>
     ensures put { OnOk result (told account.new
         ≡ record (told account.old) {
@@ -88,7 +88,7 @@ fn put_view(account: &mut Account, view: &View, alloc: Global) -> Result<(), NoM
     }
 }
 
-// Turns to the view, puts it behind those of the account, and keeps the pool and the commit certificate of the one that is left, with room
+// Turns to the view, puts it after those of the account, and keeps the pool and the commit certificate of the one that is left, with room
 // for what was said there. The pool that was kept before is handed out. Without memory, all of it is as before.
 fn keep_left(
     state: &mut ProcessState,
@@ -137,7 +137,7 @@ fn keep_left(
     }
 }
 
-// Puts what was said in the view that is left behind what was said before it, for good. Nothing is said in the next one yet. It takes no
+// Puts what was said in the view that is left after what was said before it, for good. Nothing is said in the next one yet. It takes no
 // memory: there is room for one list.
 fn keep_said(
     said_before: &mut Vec<SaidBefore>,
@@ -156,7 +156,7 @@ fn keep_said(
 }
 
 // Begins the view: nothing is signed, delivered or asked for there. `mine` own messages more are of views before it. What was said in the
-// view that is left is kept for good; which slots were signed there, for the way back, and beside it the pool that was kept before.
+// view that is left is kept for good; which slots were signed there, for the way back, and with it the pool that was kept before.
 fn begin(state: &mut ProcessState, view: &View, mine: u16, older: Displaced, alloc: Global)
     requires mine { state.old.own.earlier + mine ≤ 4294967295 }
     requires room { vec_len state.old.said_before < vec_capacity state.old.said_before }

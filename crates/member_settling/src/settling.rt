@@ -15,7 +15,7 @@ use std::alloc::Global;
 use stmt_codec::Note;
 
 /// Settles an event: the view is decided, then what may be delivered is, and then the view is left. What was delivered, and the view
-/// that was installed, are told behind the other notes. Without memory nothing is promised of the state but that it can go back to its
+/// that was installed, are reported after the other notes. Without memory nothing is promised of the state but that it can go back to its
 /// mark.
 pub fn settle(
     state: &mut ProcessState,

@@ -47,7 +47,7 @@ pub record IsOwed (st : ProcessState) (c : OwnClaim) : Type 0 where
   pub short : length c.signature ≤ 16384
 
 -- Process p has signed, and `one` is what it came to: this is its state now; one more was due exactly where it lacks a signature; of
--- `total` signatures `many` are used; and what it signed more stands behind what was signed `before`, each as in a frame.
+-- `total` signatures `many` are used; and what it signed more comes after what was signed `before`, each as in a frame.
 pub record IsSigned (s : Setting) (p : Process) (one : Signing) (st : ProcessState) (total many : ℕ) (before now : List Signed)
     (lacks : Bool) : Type 0 where
   pub state : IsStateOf s one.now st

@@ -24,7 +24,7 @@ use stmt_codec::{Claim, OwnClaim, Statement, read_statement, spelled_len};
 use view_phases::{Own, Phase, Pool};
 use view_table::View;
 
-// The claim that stands in these bytes.
+// The claim in these bytes.
 fn read_own(own: &OwnClaim) -> Claim<'_>
     requires { IsReadable own.now }
     ensures range { IsClaim (claim_of result) }
@@ -82,7 +82,7 @@ fn note(own: &mut Own, view: &View, statement: &Statement<'_>) -> Result<(), NoM
     Ok(())
 }
 
-// Keeps the claim behind those that were signed before.
+// Keeps the claim after those that were signed before.
 fn keep(said: &mut ClaimList, claim: &Claim<'_>) -> Result<(), NoMemory>
     requires { IsClaim (claim_of claim.now) }
     ensures kept { OnOk result (said.new.claims ≡ said.old.claims ++ claim_of claim.now ∷ []) }
@@ -93,7 +93,7 @@ fn keep(said: &mut ClaimList, claim: &Claim<'_>) -> Result<(), NoMemory>
     Ok(())
 }
 
-// The length that an End tells, and None of another statement.
+// The length that an End says, and None of another statement.
 fn length_said(statement: &Statement<'_>) -> Option<u16>
     ensures { result ≡ values.length_said (stmt statement.now) }
 {
@@ -103,7 +103,7 @@ fn length_said(statement: &Statement<'_>) -> Option<u16>
     }
 }
 
-// The phase behind the own End of this length.
+// The phase after the own End of this length.
 fn closed(phase: Phase, length: u16) -> Phase
     requires { IsUndecided phase }
     ensures closes { (s : defs.Setting) (signer : Signer) (p : defs.Process) (x : ℕ) → IsTrue (may_sign s p (plain.End x length))

@@ -30,7 +30,7 @@ fn is_decided(phase: &Phase) -> bool
     matches!(phase, Phase::DecidedView(_) | Phase::HaltedView(_))
 }
 
-// How the process stands.
+// The process, as what is due is asked of it.
 fn standing(state: &ProcessState) -> Standing<'_>
     ensures stands { (s : defs.Setting) (p : defs.Process) → IsStateOf s p state.now → Stands s p result }
     ensures seated { IsReal state.now → IsSeated result }
@@ -151,7 +151,7 @@ fn sign_any<G: Signer>(
     Ok(false)
 }
 
-// Signs what is due of these kinds, one kind after the other, until a signature is wanting. The answer is whether one was.
+// Signs what is due of these kinds, one kind after the other, until a signature is missing. The answer is whether one was.
 fn sign_kinds<G: Signer>(
     state: &mut ProcessState,
     alloc: Global,
@@ -184,9 +184,9 @@ fn sign_kinds<G: Signer>(
     Ok(false)
 }
 
-/// Signs what is due, kind after kind, in each the least statement again and again, until none is due or a signature is wanting.
-/// The answer is whether one was. Each claim is heard, noted and kept in the state, and stands behind `signed`. In a decided view
-/// nothing is signed. Without memory a part of what is due is signed, and stands in the state.
+/// Signs what is due, kind after kind, in each the least statement again and again, until none is due or a signature is missing.
+/// The answer is whether one was. Each claim is heard, noted and kept in the state, and put at the end of `signed`. In a decided view
+/// nothing is signed. Without memory a part of what is due is signed, and is in the state.
 pub fn sign_all<G: Signer>(
     state: &mut ProcessState,
     alloc: Global,

@@ -39,7 +39,7 @@ frame_to out = (out.to, out.frame)
 abbrev pub frames_to : parcels.Sending → List (List ℕ × List ℕ)
 frames_to out = map (λ bytes. (out.to, bytes)) (parcels.frames_of out.parcel)
 
--- what is told
+-- what is reported
 abbrev pub note : Note → defs.Note
 note (notes.Delivered view place sender number payload) = defs.Delivers view
     (record { place = place; message = record { sender = sender; number = number }; payload = payload })
@@ -48,8 +48,8 @@ note (notes.Liar p) = defs.Liar p
 note notes.Spent = defs.Spent
 note (notes.Halted delivered cut) = defs.Halts delivered cut
 
--- this is what came of the event: verdict, claims newly heard, what was signed as it stands in a frame, whether a signature was
--- wanting, the frames with their addressees, and what is told
+-- this is what came of the event: verdict, claims newly heard, what was signed as it is in a frame, whether a signature was
+-- missing, the frames with their addressees, and what is reported
 pub record IsOutcome (o : defs.Outcome) (r : Outcome) : Type 0 where
   pub verdict : o.verdict ≡ refusal r.verdict
   pub heard : o.heard ≡ r.heard

@@ -24,12 +24,12 @@ use Rattle.member_state.specs.declared.state.ProcessState.{ProcessState}
 abbrev pub signed_here : Process → List Claim
 signed_here p = filter (λ c. view_of c.statement == p.pool.view.number) p.signed
 
--- the claims of these lists, one list after another, of each those that stand in no list before it
+-- the claims of these lists, one list after another, of each those that are in no list before it
 abbrev pub claims_of : List SaidBefore → List Claim
 claims_of lists = flat_map (λ l. drop l.from l.claims.claims) lists
 
--- All that was signed, in order of signing: the claims of these lists, and then what was said in the current view, but for the first so many,
--- which stand in the lists too.
+-- All that was signed, in order of signing: the claims of these lists, then what was said in the current view, but for the first `from`,
+-- which are in the lists too.
 pub record IsSigned (signed : List Claim) (before : List SaidBefore) (from : ℕ) (said : List Claim) : Type 0 where
   pub few : from ≤ length said
   pub whole : signed ≡ claims_of before ++ drop from said
@@ -92,7 +92,7 @@ pub record StartsWith (s : Setting) (listed : List (ℕ × List ℕ)) (first : V
   pub keys : s.roster ≡ listed
   pub genesis : s.genesis ≡ first
 
--- ---- what is told of it
+-- ---- what is reported of it
 
 -- the signers of these pairs, rising
 abbrev pub signers_in : List (Claim × Claim) → List ℕ

@@ -9,7 +9,7 @@ pub struct LeftView {
     pub older: Displaced,
 }
 
-/// What the process has signed in a view that it left, in order of signing. The first `from` of these claims stand in the lists before
+/// What the process has signed in a view that it left, in order of signing. The first `from` of these claims are in the lists before
 /// this one too, where the process began again in that view; else `from` is 0.
 #[derive(Drop)]
 pub struct SaidBefore {

@@ -1,5 +1,5 @@
-//! What a process keeps, as one value (docs/ARCHITECTURE.md): which process of the definitions it is, the record `IsStateOf` of the
-//! specs says. The crates of a member's event each take it from one moment of the event to the next.
+//! What a process keeps, as one value (docs/ARCHITECTURE.md). `IsStateOf` of the specs says which process of the definitions it is.
+//! The crates of a member's event each take it from one moment of the event to the next.
 #![tactic(auto)]
 
 mod left;

@@ -16,7 +16,7 @@ use rp_base::NoMemory;
 use std::mem;
 use view_phases::PhaseMark;
 
-/// What a process was at a mark, beside what its pool, its lists and its signed slots keep of it themselves.
+/// What a process was at a mark, apart from what its pool, its lists and its signed slots keep of it themselves.
 #[derive(Drop)]
 pub struct Before {
     own: OwnMark,

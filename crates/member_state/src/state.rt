@@ -41,7 +41,7 @@ pub struct ProcessState {
     /// What the process has signed in its current view, in order of signing.
     pub said: ClaimList,
 
-    /// How many of the first of these claims stand in `said_before` too: none, but where the process began again in this view.
+    /// How many of the first of these claims are in `said_before` too: none, but where the process began again in this view.
     pub said_from: usize,
 
     /// What it has signed in the views that it left, list after list.
@@ -53,7 +53,7 @@ pub struct ProcessState {
     /// What is kept of the views that the process left.
     pub archive: Archive,
 
-    /// What the process tells of itself.
+    /// What the process reports of itself.
     pub account: Account,
 
     /// What was the process's in the view that it left in this event, where it left one.
@@ -109,7 +109,7 @@ fn first_place(alloc: Global, roster: &Roster, genesis: &View, me: Pid) -> Own
     }
 }
 
-// What a process that starts in the view tells of itself.
+// What a process that starts in the view reports of itself.
 fn first_account(alloc: Global, genesis: View, me: Pid) -> Result<Account, NoMemory>
     ensures { IfOk result (λ a. (s : Setting) (limit : ℕ) → s.genesis ≡ genesis → account_of (start s me limit) ≡ account a) }
 {
@@ -136,7 +136,7 @@ fn copied(view: &View) -> View
     copy
 }
 
-/// The pair at this place, the heard claim first; None exactly where there are no more than so many.
+/// The pair at this place, the heard claim first; None exactly where there are no more than `place`.
 pub fn pair_at(conflicts: &Conflicts, place: usize) -> Option<(Claim<'_>, Claim<'_>)>
     ensures { option_map (λ pair. (claim_of pair.0, claim_of pair.1)) result ≡ slice_get conflicts.now.pairs place }
 {

@@ -9,7 +9,7 @@ use frame_codec::{FrameView, split_frame};
 use rp_base::{Pid, Update};
 use stmt_codec::{Claims, FrameFault, claims_of};
 
-/// What is handed to a process, read. What it is in the definitions, the word `handed` of the specs says.
+/// What is handed to a process, read. `handed` of the specs says what it is in the definitions.
 #[derive(Clone, Copy)]
 pub enum Input<'a> {
     /// A payload that the process is to multicast.

@@ -38,7 +38,7 @@ fn accept(state: &mut ProcessState, payload: &[u8]) -> Result<(), NoMemory>
     Ok(())
 }
 
-// Hears the claims, and tells how many of them are newly heard. The process may be one of another setting than the judge.
+// Hears the claims, and answers how many of them are newly heard. The process may be one of another setting than the judge.
 fn hear<V: Scheme>(
     state: &mut ProcessState,
     judge: &Judge<'_, V>,
@@ -67,7 +67,7 @@ fn hear<V: Scheme>(
     Ok(newly as u16)
 }
 
-// Whether the update, asked for in the view of this number, stands before the other one.
+// Whether the update, asked for in the view of this number, comes before the other one.
 fn stands_before(view: u16, update: &Update, other: &(u16, Update)) -> bool
     ensures { result ≡ numbers_below (perceived_numbers (perceived_of (view, update.now))) (perceived_numbers (perceived_of other.now)) }
 {
@@ -88,7 +88,7 @@ fn place_among(all: &[(u16, Update)], view: u16, update: &Update) -> usize
     all.len()
 }
 
-// Puts the update, with the number of the view, into its place among those that the process tells of.
+// Puts the update, with the number of the view, into its place among those that the process reports.
 fn tell_perceived(account: &mut Account, view: u16, update: &Update) -> Result<(), NoMemory>
     ensures told { OnOk result (account_of account.new
         ≡ record (account_of account.old) {

@@ -152,7 +152,7 @@ fn place_that_is_not_whole(rt: HostRuntime) -> Result<(), Fail> {
     Ok(())
 }
 
-// The message of 1 stands at place 2, and no message at place 1.
+// The message of 1 is at place 2, and no message at place 1.
 #[test]
 fn place_left_out(rt: HostRuntime) -> Result<(), Fail> {
     let alloc = rt.alloc();

@@ -1,4 +1,4 @@
--- The signatures that a journal's entry keeps beside its event: so many, each a length of two bytes, at most 16,384, and
+-- The signatures that a journal's entry keeps beside its event: each a length of two bytes, at most 16,384, and
 -- that many bytes.
 use Rattle.std.specs.Prelude.{ℕ, zero, suc, List, [], ◌∷◌, Result, Ok, nat_lt}
 use Rattle.std.specs.Int.{w16}
@@ -12,7 +12,7 @@ kept_at bytes = do
   _ ← refuse_if (nat_lt most_signature_bytes len.0) tt
   bytes_at tt len.0 len.1
 
--- so many signatures, and the bytes after them
+-- n signatures, and the bytes after them
 unfoldable pub all_kept_at : ℕ → List ℕ → Result (List (List ℕ) × List ℕ) (Unit {0})
 all_kept_at zero bytes = Ok ([], bytes)
 all_kept_at (suc n) bytes = do

@@ -1,10 +1,10 @@
--- Frames: groups of a statement and its signatures. `length2` is a length of two bytes, and behind it stand that many bytes.
+-- Frames: groups of a statement and its signatures. `length2` is a length of two bytes, and that many bytes follow it.
 --   Bundle   01 01, number of groups1, groups
 --   Proof    01 02, number of groups1, groups
 --   Want     01 03, view2, place2
 -- A group is length2 statement, number of signatures1, and for each signature signer1, length2 signature.
 -- Bytes are a frame exactly where they are at most 61,000, with 1 to 255 groups, in each group 1 to 16 signatures of
--- at most 16,384 bytes by rising signers, and nothing behind the last field.
+-- at most 16,384 bytes by rising signers, and nothing after the last field.
 use Rattle.std.specs.Prelude.{ℕ, zero, suc, ◌+◌, ◌<◌, ◌≤◌, List, [], ◌∷◌, ◌++◌, length, Result, Ok, Err, nat_lt, not, ◌==◌, if◌then◌else◌}
 use Rattle.std.specs.List.{flat_map, AllByRecursion}
 use Rattle.std.specs.Int.{w8, w16}
@@ -86,7 +86,7 @@ signature_at least bytes = do
   signature ← bytes_at faults.Length len.0 len.1
   Ok ((signer.0, signature.0), signature.1)
 
--- so many, of rising signers
+-- n signatures, of signers that rise from `least` on
 unfoldable pub signatures_at : ℕ → ℕ → List ℕ → Result (List (ℕ × List ℕ) × List ℕ) FrameFault
 signatures_at zero least bytes = Ok ([], bytes)
 signatures_at (suc n) least bytes = do
@@ -105,7 +105,7 @@ group_at bytes = do
   signatures ← signatures_at count.0 0 count.1
   Ok (record { statement = statement.0; signatures = signatures.0 }, signatures.1)
 
--- so many groups
+-- n groups
 unfoldable pub groups_at : ℕ → List ℕ → Result (List Group × List ℕ) FrameFault
 groups_at zero bytes = Ok ([], bytes)
 groups_at (suc n) bytes = do
@@ -113,7 +113,7 @@ groups_at (suc n) bytes = do
   others ← groups_at n first.1
   Ok (first.0 ∷ others.0, others.1)
 
--- the count and the groups, and nothing behind them
+-- the count and the groups, and nothing after them
 unfoldable pub all_groups : List ℕ → Result (List Group) FrameFault
 all_groups bytes = do
   count ← number_at faults.Short w8 bytes
@@ -122,7 +122,7 @@ all_groups bytes = do
   _ ← refuse_if (not (length groups.1 == 0)) faults.Trailing
   Ok groups.0
 
--- the fields of a Want, and nothing behind them
+-- the fields of a Want, and nothing after them
 unfoldable pub want_at : List ℕ → Result FrameView FrameFault
 want_at bytes = do
   view ← number_at faults.Short w16 bytes

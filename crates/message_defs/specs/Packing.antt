@@ -9,7 +9,7 @@ use Rattle.message_defs.specs.Statements.{Claim}
 use Rattle.message_defs.specs.Spelling.{spelling}
 use Rattle.message_defs.specs.Frames.{Group, Bundle, frame_bytes}
 
--- a claim as it stands in a frame
+-- a claim as it is in a frame
 pub record Signed : Type 0 where
   pub statement : List ℕ
   pub signer : ℕ
@@ -29,7 +29,7 @@ joins g c =
     same_bytes g.statement c.statement && nat_lt (length g.signatures) most_members
     && is_some_and (last_or None (map (λ s. s.0) g.signatures)) (λ signer. nat_lt signer c.signer)
 
--- the group, with the signer and the signature of the claim behind those that it has
+-- the group, with the signer and the signature of the claim after those that it has
 abbrev pub with_signature : Group → Signed → Group
 with_signature g c = record g { signatures = g.signatures ++ (c.signer, c.signature) ∷ [] }
 
@@ -43,7 +43,7 @@ add [] c = group_of c ∷ []
 add (g ∷ []) c = if joins g c then with_signature g c ∷ [] else g ∷ group_of c ∷ []
 add (g ∷ h ∷ gs) c = g ∷ add (h ∷ gs) c
 
--- at most 255 groups, and at most so many bytes: a Proof has as many as a Bundle
+-- at most 255 groups, and at most `room` bytes: a Proof has as many as a Bundle
 abbrev pub fits : ℕ → List Group → Bool
 fits room gs = nat_le (length gs) 255 && nat_le (length (frame_bytes (Bundle gs))) room
 

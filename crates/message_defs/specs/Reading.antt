@@ -31,7 +31,7 @@ message_at bytes = do
   number ← short_at sender.1
   Ok (record { sender = sender.0; number = number.0 }, number.1)
 
--- so many times s1 l2
+-- n times s1 l2
 unfoldable pub messages_at : ℕ → List ℕ → Step Batch
 messages_at zero bytes = Ok ([], bytes)
 messages_at (suc n) bytes = do
@@ -39,7 +39,7 @@ messages_at (suc n) bytes = do
   others ← messages_at n first.1
   Ok (first.0 ∷ others.0, others.1)
 
--- how many messages a place holds: one, which is not told, or several, whose count is 2 to 16
+-- how many messages a place holds: one, which is not written, or several, whose count is 2 to 16
 unfoldable pub count_at : (several : Bool) → List ℕ → Step ℕ
 count_at false bytes = Ok (1, bytes)
 count_at true bytes = do
@@ -117,7 +117,7 @@ abbrev pub report_within : ℕ → Option (ℕ × Value) → Result (Unit {0}) F
 report_within r None = Ok tt
 report_within r (Some ready) = refuse_if (nat_le r ready.0) faults.Range >>= λ _. value_within ready.1
 
--- ---- each kind, behind the kind byte: its fields, nothing behind them, and their ranges
+-- ---- each kind, after the kind byte: its fields, nothing after them, and their ranges
 
 unfoldable pub init_at : List ℕ → Result Statement FrameFault
 init_at bytes = do

@@ -7,7 +7,7 @@
 --   7 End                       x2 k2
 --   8 Last                      x2 r1 00, or x2 r1 01 r0 value4
 --   9 Suggest, 10 Ack, 11 Ready x2 r1 value4
---   12 Order, 13 Place, 14 Keep x2 k2 count1 and so often s1 l2, of 2 to 16 messages
+--   12 Order, 13 Place, 14 Keep x2 k2 count1 and count times s1 l2, of 2 to 16 messages
 -- An update is 01 p, 02 p or 03 00. A value is its update and its cut of two bytes.
 use Rattle.std.specs.Prelude.{ℕ, ◌+◌, ◌<◌, ◌≤◌, List, [], ◌∷◌, ◌++◌, length, flat_map, Option, Some, None, codes}
 use Rattle.std.specs.List.{AllByRecursion}
@@ -25,7 +25,7 @@ abbrev pub place_kind : ℕ → Batch → ℕ
 place_kind kind (m ∷ []) = kind
 place_kind kind b = kind + 9
 
--- one message as it is, several behind their number: so a batch has one spelling
+-- one message as it is, several after their number: so a batch has one spelling
 abbrev pub batch_bytes : Batch → List ℕ
 batch_bytes (m ∷ []) = message_bytes m
 batch_bytes b = length b ∷ flat_map message_bytes b

@@ -22,7 +22,7 @@ pub enum FrameFault {
     /// A signer is not above the one before it in its group.
     Unordered,
 
-    /// Bytes are left behind the last field.
+    /// Bytes are left after the last field.
     Trailing,
 
     /// A statement is not in its grammar.

@@ -24,7 +24,7 @@ pub(crate) fn count_one(counts: &mut [u16], rank: usize)
     counts[rank] = counts[rank].saturating_add(1);
 }
 
-/// Of each member, in rank order, how many of its messages the batches of the places below this one name.
+/// For each member, in rank order, how many of its messages the batches of the places below this one name.
 pub(crate) fn names_before(pool: &Pool, place: u16) -> Counts
     requires { place ≤ length (placed pool.now.pool) }
     ensures { result.items ≡ counts_in pool.now.pool.view (messages_in (take place (placed pool.now.pool))) }

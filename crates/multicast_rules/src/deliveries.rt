@@ -15,7 +15,7 @@ use pool_questions::{Own, Pool, certified_batch};
 use rp_base::Pid;
 use stmt_codec::Batch;
 
-// What stands at the member's rank; 0 where the sender is no member.
+// The count at the member's rank; 0 where the sender is no member.
 fn count_of(pool: &Pool, own: &Own, sender: Pid) -> u16
     requires { length own.now.counts.items ≡ number_of_members pool.now.pool }
     ensures { result ≡ unwrap_or (option_map (λ r. slice_index own.now.counts.items r) (views.rank_of pool.now.pool.view sender)) 0 }

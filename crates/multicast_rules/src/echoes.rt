@@ -17,7 +17,7 @@ use stmt_codec::Slot;
 /// The message whose Echo is due, as its sender and its number; None exactly where none is. The Echo says what the sender's
 /// heard Init says.
 pub fn echo_due(pool: &Pool, own: &Own) -> Option<(Pid, u16)>
-    // The least that is due, for a process that this is the place of, with this pool.
+    // For each process whose own place and pool these are: its least due Echo.
     ensures least { (s : Setting) (p : Process) → IsPool pool.now.pool → Tells s p pool.now.pool own.now
         → least_due s p Echoes ≡ option_map (echo_to p) result }
 

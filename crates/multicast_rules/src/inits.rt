@@ -12,7 +12,7 @@ use pool_questions::{Own, Pool};
 /// How far beyond what was delivered numbers and places may go.
 pub(crate) const WINDOW: u32 = 32;
 
-// Whether the number is in the window of so many delivered messages, and a payload was accepted for it.
+// Whether the number is in the window after `delivered` messages, and a payload was accepted for it.
 fn has_payload(number: u16, delivered: u16, earlier: u32, accepted: u32) -> bool
     ensures { result ≡ (nat_lt number (delivered + window) && nat_lt (earlier + number) accepted) }
 {
@@ -20,12 +20,12 @@ fn has_payload(number: u16, delivered: u16, earlier: u32, accepted: u32) -> bool
         && earlier as u64 + (number as u64) < accepted as u64
 }
 
-/// The number whose Init is due; None exactly where none is. It says the accepted payload that stands so far behind the first
+/// The number whose Init is due; None exactly where none is. It says the accepted payload that comes so far after the first
 /// `own.earlier` ones. `accepted` is how many payloads were accepted in all, and `own` has an entry for each member.
 pub fn init_due(pool: &Pool, own: &Own, accepted: u32) -> Option<u16>
     requires { length own.now.counts.items ≡ number_of_members pool.now.pool }
 
-    // The least that is due, for a process that this is the place of, with this pool.
+    // For each process whose own place and pool these are: its least due Init.
     ensures least { (s : Setting) (p : Process) → Tells s p pool.now.pool own.now → length p.accepted ≡ accepted
         → least_due s p Inits ≡ option_map (own_init p) result }
 

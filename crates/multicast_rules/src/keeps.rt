@@ -10,7 +10,7 @@ use stmt_codec::Batch;
 
 /// The place whose Keep is due, with its batch; None exactly where none is.
 pub fn keep_due(pool: &Pool, own: &Own) -> Option<(u16, Batch)>
-    // The least that is due, for a process that this is the place of, with this pool.
+    // For each process whose own place and pool these are: its least due Keep.
     ensures { (s : Setting) (p : Process) → Tells s p pool.now.pool own.now
         → least_due s p Keeps ≡ option_map (λ e. plain.Keep pool.now.pool.view.number e.0 e.1) result }
 {

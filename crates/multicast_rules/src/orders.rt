@@ -64,7 +64,7 @@ fn take_next(pool: &Pool, counts: &mut [u16]) -> Option<(Pid, u16)>
     Some(message)
 }
 
-// The next messages behind those that are counted, at most so many; None where there is none.
+// The next messages after those that are counted, at most `limit`; None where there is none.
 fn next_batch(pool: &Pool, counts: &mut [u16], limit: u8) -> Option<Batch>
     requires counts { length counts.old ≡ number_of_members pool.now.pool }
     requires some { 1 ≤ limit }
@@ -91,7 +91,7 @@ pub fn order_due(pool: &Pool, own: &Own, batch_limit: u8) -> Option<(u16, Batch)
     requires some { 1 ≤ batch_limit }
     requires few { batch_limit ≤ 16 }
 
-    // The least that is due, for a process that this is the place of, with this pool.
+    // For each process whose own place and pool these are: its least due Order.
     ensures { (s : Setting) (p : Process) → IsPool pool.now.pool → Tells s p pool.now.pool own.now → p.batch_limit ≡ batch_limit
         → least_due s p Orders ≡ option_map (λ e. plain.Order pool.now.pool.view.number e.0 e.1) result }
 {

@@ -35,7 +35,7 @@ fn follower(pool: &Pool, counts: &[u16], sender: Pid, number: u16) -> Option<usi
     }
 }
 
-// Whether each of these messages is its sender's next behind those that are counted and those before it, and certified.
+// Whether each of these messages is its sender's next after those that are counted and those before it, and certified.
 fn all_follow(pool: &Pool, counts: &mut [u16], messages: &[(Pid, u16)]) -> bool
     requires { length counts.old ≡ number_of_members pool.now.pool }
     ensures { IsPool pool.now.pool → (before : List plain.Message) → counts.old ≡ counts_in pool.now.pool.view before
@@ -50,7 +50,7 @@ fn all_follow(pool: &Pool, counts: &mut [u16], messages: &[(Pid, u16)]) -> bool
     true
 }
 
-// Whether the batch may stand at the place.
+// Whether the batch may be at the place.
 fn fits(pool: &Pool, place: u16, batch: &Batch) -> bool
     ensures { IsPool pool.now.pool → result ≡ rules.fits pool.now.pool place batch.now }
 {
@@ -80,7 +80,7 @@ fn first_fitting(pool: &Pool, signed: &SignedSlots) -> Option<(u16, Batch)>
 
 /// The place whose Place is due, with its batch; None exactly where none is.
 pub fn place_due(pool: &Pool, own: &Own) -> Option<(u16, Batch)>
-    // The least that is due, for a process that this is the place of, with this pool.
+    // For each process whose own place and pool these are: its least due Place.
     ensures { (s : Setting) (p : Process) → IsPool pool.now.pool → Tells s p pool.now.pool own.now
         → least_due s p Places ≡ option_map (λ e. plain.Place pool.now.pool.view.number e.0 e.1) result }
 {

@@ -7,7 +7,7 @@ use std::io::{self, ErrorKind};
 use std::process::ExitCode;
 
 // The words after the program's name. A word that is not UTF-8 belongs to no command, and neither does an empty list, which
-// stands for it.
+// is given in its place.
 fn words<R: Env + AllocGlobal>(rt: &R) -> io::Result<Vec<String>> {
     let mut words = Vec::new(rt.alloc());
     match env::args(rt) {
@@ -22,7 +22,7 @@ fn words<R: Env + AllocGlobal>(rt: &R) -> io::Result<Vec<String>> {
     Ok(words)
 }
 
-/// Runs the program on the words behind the program's name, in their order, and answers the status that it answers. Where a word is
+/// Runs the program on the words after the program's name, in their order, and answers the status that it answers. Where a word is
 /// not UTF-8 it is run on no words. That the words are those of the command line, the system says, and no clause.
 ///
 /// # Errors

@@ -55,7 +55,7 @@ impl<R: Read> Source for Reading<R> {
     }
 }
 
-/// A writer of the system's as a sink: what it takes stands written. A call that a signal interrupts is made again, since
+/// A writer of the system's as a sink: what it takes is written. A call that a signal interrupts is made again, since
 /// it took nothing; each other error counts as one fault, and so does a writer that takes nothing of a piece.
 #[derive(Drop)]
 pub struct Writing<W> {

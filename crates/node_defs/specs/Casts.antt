@@ -28,7 +28,7 @@ pub record Cast : Type 0 where
   pub batch_limit : ℕ
   -- what its key is made of, and what a service may make further keys of
   pub secret : ℕ → Option Secret
-  -- how many signatures its key makes, and the key's signature on a body after so many others
+  -- how many signatures its key makes, and the key's signature on a body by how many it made before
   pub total : ℕ → ℕ
   pub signer : ℕ → Signer
   -- of each process of the roster
@@ -136,7 +136,7 @@ abbrev pub taken_up : Setting → Process → List Entry → Process
 taken_up s p es = run s p (turns_from s p es)
 
 -- The process may have written the entry: with the entry's signatures it signs as many statements as there are and lacks one exactly where
--- the entry says so, each is valid for what it stands for, and its key still had so many.
+-- the entry says so, each is valid for its statement, and its key still had that many.
 unfoldable pub may_have_written : Cast → Process → Entry → Bool
 may_have_written c p e =
     let o : Outcome = outcome c.setting p (kept_turn p e) in
@@ -147,7 +147,7 @@ may_have_written c p e =
 
 -- ---- where a run begins
 
--- the processes as they stand before the first entry that is read, how many entries each had before it, and the place of its gate
+-- the processes as they are before the first entry that is read, how many entries each had before it, and the place of its gate
 pub record Beginning : Type 0 where
   pub from : ℕ → Process
   pub before : ℕ → ℕ

@@ -1,11 +1,11 @@
 -- The lines that a node writes.
 --   host P view X delivered D entries E    as it begins, for each hosted process: its view, the messages that it delivered in all views,
 --                                          and its entries in the journal
---   deliver P X K S L HEX, view P X : M M M, liar P Q, spent P, halted P D K      what a turn tells
+--   deliver P X K S L HEX, view P X : M M M, liar P Q, spent P, halted P D K      what a turn reports
 --   refused P WORD                         an event or a frame was refused
 --   drop P WORD                            a datagram was
 --   fault P                                the link failed
---   recv P C                               so many datagrams were received
+--   recv P C                               C datagrams were received
 --   expel P Q                              Q is suspected next, on evidence
 --   snap HEX, snap large LENGTH
 --   stop STATUS WORDS                      the last line, where the node stops before the input's end
@@ -29,7 +29,7 @@ host_line p entries = line_text (
     codes "host" ∷ decimal p.me ∷ codes "view" ∷ decimal p.pool.view.number ∷ codes "delivered" ∷ decimal (delivered_in_all p)
     ∷ codes "entries" ∷ decimal entries ∷ [])
 
--- what a turn of this process tells
+-- what a turn of this process reports
 abbrev pub note_line : ℕ → Note → List ℕ
 note_line me (Delivers x d) = line_text (
     codes "deliver" ∷ decimal me ∷ decimal x ∷ decimal d.place ∷ decimal d.message.sender ∷ decimal d.message.number

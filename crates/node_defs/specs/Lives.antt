@@ -19,7 +19,7 @@ use Rattle.node_defs.specs.Nodes.{Node, Opening, Leaving, Task, Take, Append, Fl
 
 -- ---- what a stop leaves
 
--- the entry that is being appended, or of which nobody knows whether it was
+-- the entry that is being appended, or that may be in the journal
 abbrev pub staged_by : Cast → Node → List Task → Option Entry
 staged_by c n (Append p e ∷ ts) = Some (entry_for c (n.now p) e)
 staged_by c n _ = None
@@ -45,8 +45,8 @@ abbrev pub with_or_without : Found → Bool → List Entry
 with_or_without f true = f.sure ++ option_to_list f.more
 with_or_without f false = f.sure
 
--- What a stop at this moment leaves, of a run that found this. Until the opening is over, it is what was found: what the run has read is
--- not made last before.
+-- What a stop at this moment leaves, of a run that found this. Until the opening is over, it is what was found: what the run has read
+-- is made last only then.
 abbrev pub leaves_by : Cast → Found → Node → List Opening → Found
 leaves_by c f n [] = record { sure = n.kept; more = staged c n }
 leaves_by c f n (o ∷ os) = f
@@ -56,7 +56,7 @@ leaves c f n = leaves_by c f n n.opening
 
 -- ---- a life
 
--- one run: whether the journal reads with the one more, how many lines its kit has, and the answers up to the moment at which it is stopped
+-- one run: whether the journal reads with the one more entry, how many lines its kit has, and the answers up to the moment of its stop
 pub record Run : Type 0 where
   pub with_more : Bool
   pub lines : ℕ
@@ -76,7 +76,7 @@ lives c snap f (r ∷ rs) = lives c snap (leaves c f (last_of c snap f r)) rs
 
 -- ---- what is promised of it
 
--- a hosted process may have written the entry, behind those before it
+-- a hosted process may have written the entry, after those before it
 abbrev pub FitsAt : Cast → (ℕ → Process) → List Entry → Entry → Type 0
 FitsAt c from before e = IsTrue (has c.hosted e.process)
     × IsTrue (may_have_written c (taken_up c.setting (from e.process) (entries_of e.process before)) e)
@@ -85,7 +85,7 @@ abbrev pub FitsBehind : Cast → (ℕ → Process) → List Entry → List Entry
 FitsBehind c from before [] = Unit {0}
 FitsBehind c from before (e ∷ es) = FitsAt c from before e × FitsBehind c from (before ++ e ∷ []) es
 
--- each entry, where it stands, a hosted process may have written
+-- each entry is one that a hosted process may have written, after those before it
 abbrev pub FitsFrom : Cast → (ℕ → Process) → List Entry → Type 0
 FitsFrom c from es = FitsBehind c from [] es
 
@@ -197,7 +197,7 @@ RestartsAreFamily = (r : Ran) (p : ℕ) → end_of r.cast.setting (correct_of r 
 abbrev pub RestartsAgree : Type 0
 RestartsAgree = (s : Setting) (hosts : List (Ran × ℕ)) → Premises (restarted s hosts) → Agree (accounts (restarted s hosts))
 
--- What a process has signed after the first of its entries stands at the same places of what it has signed after all of them: so no number
+-- What a process has signed after the first of its entries is at the same places of what it has signed after all of them: so no number
 -- of its key is used for two statements that went out.
 abbrev pub OneBodyPerNumber : Type 0
 OneBodyPerNumber = (c : Cast) (from : Process) (es fs : List Entry) → IsPrefixOf es fs
@@ -211,7 +211,7 @@ NothingLost = (c : Cast) (snap : Snapper) (f : Found) (r : Run) (more : List Ans
     → IsOfEntry c (from_start c).from
     (lives c snap (leaves c f (last_of c snap f (record r { answers = r.answers ++ more }))) rs).sure l
 
--- The claims are of process `me`, signed by this key one behind the other from this number on.
+-- The claims are of process `me`, signed by this key one after the other from this number on.
 abbrev pub AreMade : Setting → Signer → ℕ → ℕ → List Claim → Type 0
 AreMade s signer me k [] = Unit {0}
 AreMade s signer me k (c ∷ cs) = (c ≡ record { signer = me; statement = c.statement; signature = signer k (body s.group me c.statement) })

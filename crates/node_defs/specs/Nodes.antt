@@ -40,7 +40,7 @@ pub data Task : Type 0 where
   Say : (text : List ℕ) → Task
   -- of a turn: the service is asked whom to suspect next, above this one
   Ask : (process : ℕ) (event : Event) (notes : List Note) (above : Option ℕ) → Task
-  -- so many receives more at most; so many came
+  -- at most `most` receives more; `count` datagrams came
   Get : (process most count : ℕ) → Task
   -- the service's line
   Word : (process : ℕ) (line : List ℕ) → Task
@@ -63,7 +63,7 @@ pub record Node : Type 0 where
   pub opening : List Opening
   pub leaving : List Leaving
   pub tasks : List Task
-  -- lines that wait, and lines of failed sends, which stand behind them
+  -- lines that wait, and lines of failed sends, which come after them
   pub text : List ℕ
   pub late : List ℕ
   pub stopped : Option Stop
@@ -136,7 +136,7 @@ pub data Answer : Type 0 where
   Unremembered : Answer
   -- a datagram, or a line without its line feed
   Came : (bytes : List ℕ) → Answer
-  -- what stands there is no line: it is too long, or the input ends in it
+  -- what is there is no line: it is too long, or the input ends in it
   Broken : Answer
   -- the service's lines, and what it sends
   Said : (text : List ℕ) (sends : List (ℕ × List ℕ)) → Answer
@@ -145,7 +145,7 @@ pub data Answer : Type 0 where
 
 -- ---- what an answer changes
 
--- what comes of an answer, beside what is to be done behind it
+-- what comes of an answer, apart from what is to be done after it
 pub record Change : Type 0 where
   -- to be done first
   pub before : List Task
@@ -155,7 +155,7 @@ pub record Change : Type 0 where
   pub late : List ℕ
   pub stop : Option Stop
 
--- nothing but that this is done
+-- nothing but that these tasks are done first
 abbrev pub goes : Node → List Task → Change
 goes n before = record { before = before; taken = None; text = n.text; late = n.late; stop = None }
 
@@ -169,7 +169,7 @@ done_or n why before Done = Some (goes n before)
 done_or n why before Failed = Some (ends n [] why)
 done_or n why before _ = None
 
--- the bytes of the journal with this entry behind the gate pass 2^30
+-- the bytes of the journal with this entry after the gate pass 2^30
 abbrev pub is_full : ℕ → Entry → Bool
 is_full gate e = nat_lt (2 ^ 30) (gate + 1 + length (entry_bytes e) + 5)
 
@@ -180,7 +180,7 @@ after_step c n p e None =
     let entry : Entry = entry_for c (n.now p) e in
     if is_full n.gate entry then ends n [] (Full (n.gate + 1) (length (entry_bytes entry))) else goes n (Append p e ∷ [])
 
--- the receives that are left, or the line that tells how many came
+-- the receives that are left, or the line that says how many came
 abbrev pub more_gets : ℕ → ℕ → ℕ → List Task
 more_gets p zero count = Say (recv_line p count) ∷ []
 more_gets p (suc most) count = Get p (suc most) count ∷ []
@@ -206,7 +206,7 @@ after_get c n p (suc most) count Failed = Some (goes n (Say (fault_line p ++ rec
 after_get c n p (suc most) count (Came bytes) = Some (goes n (after_came p (c.unseal p bytes) ++ more_gets p most (count + 1)))
 after_get c n p (suc most) count _ = None
 
--- the line of a snapshot, with the digest of the journal's bytes before the gate; a node is told how to make it
+-- the line of a snapshot, with the digest of the journal's bytes before the gate; how to make it is given to a node
 abbrev pub Snapper : Type 0
 Snapper = Node → List ℕ → List ℕ
 
@@ -282,7 +282,7 @@ abbrev pub new_leaving : Cast → Node → Option (ℕ × Event) → List Leavin
 new_leaving c n None = []
 new_leaving c n (Some t) = leaving_of t.0 (outcome_of c (n.now t.0) t.1)
 
--- A change, with what stays to be done. A node that stops has nothing to do but an entry of which nobody knows whether it is there.
+-- A change, with what stays to be done. A node that stops has nothing to do but an entry that may be in the journal.
 abbrev pub changed : Cast → Node → List Leaving → List Task → Change → Node
 changed c n leaving tasks x = record n {
   now = with_turn c n x.taken;
@@ -331,7 +331,7 @@ abbrev pub by_opening : Cast → Snapper → Node → Answer → List Opening �
 by_opening c snap n a [] = by_leaving c snap n a n.leaving
 by_opening c snap n a (o ∷ os) = opened_one n os o a
 
--- memory ran out: the node ends, and an entry of which nobody knows whether it is there stays to be done
+-- memory ran out: the node ends, and an entry that may be in the journal stays to be done
 abbrev pub by_answer : Cast → Snapper → Node → Answer → Node
 by_answer c snap n Unremembered = record n { stopped = Some NoMemory }
 by_answer c snap n a = by_opening c snap n a n.opening
@@ -374,7 +374,7 @@ unfoldable pub reads : Cast → Node → List Entry → Node
 reads c n [] = n
 reads c n (e ∷ es) = if takes_up c n e then reads c (reads_one c n e) es else record n { stopped = Some (BadJournal n.gate) }
 
--- before the first entry is read; so many lines of the input were read
+-- before the first entry is read; `lines` lines of the input were read
 abbrev pub at_first : Beginning → ℕ → Node
 at_first b lines = record {
   now = b.from;
@@ -390,7 +390,7 @@ at_first b lines = record {
   stopped = None;
 }
 
--- how many entries of the process stand in the journal
+-- how many entries of the process are in the journal
 abbrev pub entries_in : Beginning → Node → ℕ → ℕ
 entries_in b n p = b.before p + length (entries_of p n.kept)
 
@@ -398,7 +398,7 @@ entries_in b n p = b.before p + length (entries_of p n.kept)
 abbrev pub host_lines : Cast → Beginning → Node → List ℕ
 host_lines c b n = flat_map (λ p. host_line (n.now p) (entries_in b n p)) c.hosted
 
--- the ports are bound, the processes told of, the service begins and the journal is finished
+-- the ports are bound, the host lines written, the service begins and the journal is finished
 abbrev pub openings : Cast → Beginning → Node → List Opening
 openings c b n = map (λ p. Bind (c.port p)) c.hosted ++ Greet (host_lines c b n) ∷ Serve ∷ Finish ∷ []
 
@@ -408,7 +408,7 @@ opens c b lines es =
     let n : Node = reads c (at_first b lines) es in
     record n { opening = openings c b n }
 
--- the same, where the journal reads as these entries and then breaks at this place, where an open gate has no whole entry behind it
+-- the same, where the journal reads as these entries and then breaks at this place, where an open gate has no whole entry after it
 abbrev pub breaks_at : ℕ → Node → Node
 breaks_at place n = record n { stopped = Some (unwrap_or n.stopped (BadJournal place)) }
 

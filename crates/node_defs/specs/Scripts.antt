@@ -41,7 +41,7 @@ most_lines = 1000000
 unfoldable pub payload_of : List ℕ → Option (List ℕ)
 payload_of word = if same_bytes word (codes "-") then Some [] else (if length word == 0 then None else bytes_of (length word / 2) word)
 
--- what the words behind the process say
+-- what the words after the process say
 unfoldable pub said_by : List (List ℕ) → Option Said
 said_by (word ∷ []) = first_that_holds (
     (same_bytes word (codes "renew"), Hand Renew)

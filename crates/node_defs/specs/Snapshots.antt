@@ -1,6 +1,6 @@
--- A snapshot of a node: where its journal stands, and the image of each hosted process.
+-- A snapshot of a node: its place in its journal, and the image of each hosted process.
 --   RPN2                        of version 2; in RPN1, which is read on a journal RPJ1 alone, images have no places
---   the journal's header behind its magic, 56 bytes
+--   the journal's header after its magic, 56 bytes
 --   place8                      of the closed gate
 --   digest32                    SHA-256 of the journal's bytes before it
 -- and for each hosted process by rising number
@@ -30,7 +30,7 @@ pub record Snapshot : Type 0 where
 
 -- ---- the bytes
 
--- what stands of one process
+-- the bytes of one process
 abbrev pub part_bytes : Snapshot → ℕ → List ℕ
 part_bytes s p = to_be_bytes w64 (s.entries p) ++ (four_bytes (length (image_bytes (s.images p))) ++ image_bytes (s.images p))
 
@@ -73,7 +73,7 @@ pub record IsSnapshotFor (c : Cast) (s : Snapshot) : Type 0 where
   pub place : s.place < 2 ^ 64
   pub digest : length s.digest ≡ 32
 
--- each process begins as its image tells, and the reading at the snapshot's place
+-- each process begins as its image says, and the reading at the snapshot's place
 abbrev pub from_snapshot : Cast → Snapshot → Beginning
 from_snapshot c s = record {
   from = λ p. process_of c.setting c.batch_limit (s.images p);

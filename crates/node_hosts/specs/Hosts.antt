@@ -11,11 +11,11 @@ use Rattle.node_hosts.specs.Places.{IsPlace}
 abbrev pub numbers_of : Hosts → List ℕ
 numbers_of hosts = hosts.hosted
 
--- what stands in the place of p
+-- what is in the place of p
 abbrev pub place_of : Hosts → ℕ → Option Host
 place_of hosts p = slice_index_or hosts.places.items p None
 
--- These are the hosted processes of the cast, each as it stands now. All are there but for the one that is handed out, if one is.
+-- These are the hosted processes of the cast, each as it is now. All are there but for the one that is handed out, if one is.
 pub record AreHosts (c : Cast) (kit : Kit) (now : ℕ → Process) (out : Option ℕ) (hosts : Hosts) : Type 0 where
   pub numbers : numbers_of hosts ≡ c.hosted
   pub each : (p : ℕ) → p < 64 → out ≢ Some p → IsPlace c kit p (now p) (place_of hosts p)

@@ -25,7 +25,7 @@ pub record IsAt (n : Node) (ts : List Task) : Type 0 where
   pub text : n.text ≡ []
   pub late : n.late ≡ []
 
--- The journal is as long as its disk, and its closed gate is the node's. Where the disk tells what it holds, it holds the entries that the
+-- The journal is as long as its disk, and its closed gate is the node's. Where the disk says what it holds, it holds the entries that the
 -- node keeps, and every crash leaves them.
 pub record IsJournalOf (c : Cast) (n : Node) (journal : Journal Writing) (seen : Option (List ℕ)) (may_leave : List ℕ → Type 0) : Type 0 where
   pub gate : n.gate ≡ gate_of journal

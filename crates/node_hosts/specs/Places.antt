@@ -1,4 +1,4 @@
--- Which process a host is, and what stands in a place.
+-- Which process a host is, and what is in a place.
 use Rattle.std.specs.Prelude.{◌≡◌, ℕ, false, Option, None, Some, IsTrue}
 use Rattle.byte_defs.specs.Members.{has}
 use Rattle.group_defs.specs.Process.{Process}
@@ -16,7 +16,7 @@ use Rattle.node_hosts.specs.declared.host.Host.{Host}
 abbrev pub number_of : Host → ℕ
 number_of h = me_of (core_of h.process)
 
--- This is process p of the cast, as it stands now: it signs with the cast's signer, with as many signatures as the process has signed
+-- This is process p of the cast, as it is now: it signs with the cast's signer, with as many signatures as the process has signed
 -- statements.
 pub record IsHosted (c : Cast) (p : ℕ) (now : Process) (h : Hosted AnySigner) : Type 0 where
   pub core : IsCore used c.setting now (core_of h)
@@ -30,7 +30,7 @@ pub record IsHost (c : Cast) (kit : Kit) (p : ℕ) (now : Process) (h : Host) : 
   pub keys : known h.keys ≡ known_of kit p
   pub port : c.port p ≡ h.port
 
--- in the place of p stands its host, and nothing where it is not hosted
+-- the place of p has its host, and nothing where it is not hosted
 abbrev pub IsPlace : Cast → Kit → ℕ → Process → Option Host → Type 0
 IsPlace c kit p now None = has c.hosted p ≡ false
 IsPlace c kit p now (Some h) = IsTrue (has c.hosted p) × IsHost c kit p now h

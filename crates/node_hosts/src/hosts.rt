@@ -83,7 +83,7 @@ impl Hosts {
         self.places[usize::from(p.get())].take()
     }
 
-    /// Takes a host back, as it stands after its event. It takes no memory.
+    /// Takes a host back, as it is after its event. It takes no memory.
     pub fn put_back(&mut self, host: Host)
         ensures { (c : Cast) (kit : PlainKit) (now new : ℕ → Process) (p : ℕ) → AreHosts c kit now (Some p) self.old
             → IsTrue (has c.hosted p) → IsHost c kit p (new p) host → ((q : ℕ) → q ≢ p → new q ≡ now q) → AreHosts c kit new None self.new }

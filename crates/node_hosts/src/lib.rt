@@ -1,4 +1,4 @@
-//! The processes that a node hosts: each as it starts, with the keys that it shares with the others and its port, and lent or handed out by
+//! The processes that a node hosts: each as it starts, with the keys that it shares with the others and its port, borrowed or handed out by
 //! its number. Which process of the definitions each is, `AreHosts` of the specs says; which node a running one is, `IsNode`.
 #![tactic(auto)]
 

@@ -44,7 +44,7 @@ fn host_of(alloc: Global, kit: &Kit, me: Pid, batch_limit: u8) -> Result<Host, N
     })
 }
 
-// What stands in the place of this number: its host, where it is hosted.
+// What is in the place of this number: its host, where it is hosted.
 pub(crate) fn place_of(
     alloc: Global,
     kit: &Kit,

@@ -10,7 +10,7 @@ use node_keys::Kit;
 /// that has.
 #[derive(Drop)]
 pub struct Running<'a> {
-    /// Of whom the group consists, and which of them are hosted here.
+    /// Who is in the group, and which of them are hosted here.
     pub kit: &'a Kit,
 
     /// The hosted processes.

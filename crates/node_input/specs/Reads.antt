@@ -10,11 +10,11 @@ use Rattle.node_traces.specs.Outside.{SourceSeen, SourceTook, SourceBroke, Sourc
 unfoldable pub most_line_bytes : ℕ
 most_line_bytes = 70000
 
--- the same, where a line for the service has so many at most
+-- the same, where a line for the service has `longest` at most
 abbrev pub line_limit : ℕ → ℕ
 line_limit longest = max most_line_bytes longest
 
--- no line was taken, where the one that comes next has this number; a line has at most so many bytes
+-- no line was taken, where the one that comes next has this number; a line has at most `most` bytes
 abbrev pub TakesNone : ℕ → ℕ → SourceSeen → SourceSeen → Stop → Type 0
 TakesNone most number k l Ended = SourceEnded k l
 TakesNone most number k l ReadFailed = SourceFailed k l
@@ -22,7 +22,7 @@ TakesNone most number k l NoMemory = k ≡ l
 TakesNone most number k l (BadLine n) = (n ≡ number) × SourceBroke most k l
 TakesNone most number k l _ = ⊥
 
--- a line was taken of which this holds, and its number is given
+-- a line was taken that P holds of, and its number is given
 pub record TakesBad (P : List ℕ → Type 0) (most number : ℕ) (k l : SourceSeen) (why : Stop) : Type 0 where
   pub line : List ℕ
   pub took : SourceTook most k l line

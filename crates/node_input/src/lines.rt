@@ -14,7 +14,7 @@ use std::alloc::Global;
 /// The most bytes of a line of the script, where no service takes longer ones.
 const MOST_LINE: usize = 70_000;
 
-/// The most bytes of a line of the script, where one for the service has so many at most.
+/// The most bytes of a line of the script, where one for the service has `longest` at most.
 pub fn most_of_line(longest: usize) -> usize
     ensures { result ≡ line_limit longest }
 {
@@ -25,7 +25,7 @@ pub fn most_of_line(longest: usize) -> usize
     }
 }
 
-/// The number of the line that is so many lines after the line `go`, whose number is given. Lines are counted from 1.
+/// The number of the line that is `count` lines after the line `go`, whose number is given. Lines are counted from 1.
 ///
 /// # Errors
 /// [`NoMemory`] exactly where the number does not fit into 64 bits: no input has so many lines.
@@ -36,7 +36,7 @@ pub fn number_after(go: usize, count: u32) -> Result<u64, NoMemory>
     (go as u64).checked_add(u64::from(count)).ok_or(NoMemory)
 }
 
-// Takes the next line, which has this number, and at most so many bytes.
+// Takes the next line, which has this number, and at most `most` bytes.
 fn take_line<S: Source>(
     lines: &mut Lines,
     input: &mut S,
@@ -71,8 +71,8 @@ fn asked(alloc: Global, hosted: PidSet, line: &[u8], number: u64) -> Result<Line
 /// Takes the next line of the script, which has this number, and reads what it asks for. Some bytes of the input may have been read ahead.
 ///
 /// # Errors
-/// `Ended` at the input's end; `BadLine` where what comes is no line of the script, or has more bytes than a line may have; `ReadFailed` only where a
-/// read failed; and `NoMemory`: no line was taken then.
+/// `Ended` at the input's end; `BadLine` where what comes is no line of the script, or has more bytes than a line may have;
+/// `ReadFailed` only where a read failed; and `NoMemory`: no line was taken then.
 pub fn read_next<S: Source>(
     alloc: Global,
     hosted: PidSet,

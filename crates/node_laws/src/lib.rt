@@ -14,7 +14,7 @@ pub fn stays_sound()
     ensures { StaysSound }
 {}
 
-/// A node that is opened on entries that fit goes on behind them.
+/// A node that is opened on entries that fit goes on after them.
 pub fn opens_sound()
     ensures { OpensSound }
 {}

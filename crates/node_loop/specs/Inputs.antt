@@ -28,6 +28,6 @@ pub record IsInOrder (most : ℕ) (bytes file : List ℕ) : Type 0 where
   pub script : IsScript most (hosted_by front.kit) most_lines front.rest
   pub journal : (file ≡ []) ⊎ IsJournalOf front.kit file
 
--- the same, of an input and a disk that tell what they hold
+-- the same, of an input and a disk that say what they hold
 abbrev pub TellInOrder : ℕ → Option (List ℕ) → Option (List ℕ) → Type 0
 TellInOrder most left seen = IsSomeAnd left (λ bytes. IsSomeAnd seen (λ file. IsInOrder most bytes file))

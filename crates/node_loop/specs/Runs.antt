@@ -80,7 +80,7 @@ pub record HasRead (k : SourceSeen) (P : Kit → ℕ → SourceSeen → Type 0) 
   pub has : HasKit k kit go source
   pub holds : P kit go source
 
--- The run of a node has ended so, whose lines have at most so many bytes and whose service had the one history and has the other now. There
+-- The run of a node has ended so: its lines have at most `most` bytes, and its service had the one history and has the other now. There
 -- was no kit, and nothing else was touched; or the node of the kit has not opened; or it ran, and stopped.
 pub data HasStopped {D : Type 0} (seen : D → Option (List ℕ)) (may_leave : D → List ℕ → Type 0) (moment : D → ℕ)
     (left_since : D → ℕ → List ℕ → Type 0) (most : ℕ) (f : Found) (k : SourceSeen) (link : LinkSeen) (sink : SinkSeen) (old : D)

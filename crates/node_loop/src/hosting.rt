@@ -78,7 +78,7 @@ fn run<S: Source, K: Sink, D: Disk, L: Link, V: Service>(
 }
 
 /// A node: reads a kit up to the line `go`, opens the journal of the processes that it hosts, or begins one on an empty disk, and then carries
-/// out the lines of the script to the input's end. The service is told of what happens, takes the lines that are for it, and names whom to
+/// out the lines of the script to the input's end. The service is given what happens, takes the lines that are for it, and names whom to
 /// suspect. It answers the status that the program ends with.
 ///
 /// | Status | Written last | Comes |

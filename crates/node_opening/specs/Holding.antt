@@ -21,7 +21,7 @@ pub record IsNew (version : Version) (es : List Entry) (file : List ℕ) : Type 
   pub none : es ≡ []
   pub kind : version ≡ Two
 
--- Where the disk tells what it holds: it is empty, or it is a journal of this kind with these entries.
+-- Where the disk says what it holds: it is empty, or it is a journal of this kind with these entries.
 abbrev pub HoldsAs : Kit → Version → List Entry → Option (List ℕ) → Type 0
 HoldsAs kit version es None = Unit {0}
 HoldsAs kit version es (Some file) = IsNew version es file ⊎ ReadsAs (cast_of kit version).header file es

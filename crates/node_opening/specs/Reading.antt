@@ -53,7 +53,7 @@ pub data BreaksOff (c : Cast) (lines : ℕ) (seen : Option (List ℕ)) : Stop �
   breaks : (es : List Entry) (place : ℕ) → IfSome seen (λ file. BreaksReading c (from_start c) lines [] file es place)
       → BreaksOff c lines seen (BadJournal place)
 
--- All entries of the journal were read, and the disk held them: where it tells, it was empty, or it reads as them.
+-- All entries of the journal were read, and the disk held them: where it says so, it was empty, or it reads as them.
 pub record HasReadJournal (kit : Kit) (version : Version) (lines : ℕ) (held seen : Option (List ℕ)) (gate : ℕ) (hosts : Hosts)
     (counts : Counts) : Type 0 where
   pub all : HasReadAll (cast_of kit version) kit lines seen gate hosts counts

@@ -1,4 +1,4 @@
-//! How a node opens: it takes up the entries of its journal, binds the ports of the processes that it hosts, tells of each of them, begins
+//! How a node opens: it takes up the entries of its journal, binds the ports of the processes that it hosts, reports each of them, begins
 //! its service, and then goes on with its journal (docs/FORMATS.md, «Nodes»).
 #![tactic(auto)]
 

@@ -1,4 +1,4 @@
-//! A node that binds its ports, tells of its processes and begins its service.
+//! A node that binds its ports, reports its processes and begins its service.
 ghost use Rattle.std.specs.Prelude.{◌≡◌, ◌++◌, ◌∷◌, [], ℕ, List, None, IfErr, OnOk};
 ghost use Rattle.kit_defs.specs.Kits.{IsKit};
 ghost use Rattle.journal_defs.specs.declared.Version.{Version};

@@ -21,7 +21,7 @@ abbrev pub fault_text : ℕ → Bool → List ℕ
 fault_text me true = fault_line me
 fault_text me false = []
 
--- what tells how many came, after it
+-- what says how many came, after it
 abbrev pub end_text : ℕ → Bool → ℕ → List ℕ
 end_text me failed count = fault_text me failed ++ recv_line me count
 
@@ -31,7 +31,7 @@ running_in (came.One running) = running
 running_in (came.Nothing running) = running
 running_in (came.Fault running) = running
 
--- what is left of a line that had so many receives left, after so many that came before
+-- what is left of a line that had `left` receives left, after `count` that came before
 abbrev pub left_to_get : ℕ → ℕ → ℕ → Came → List Task
 left_to_get me left count (came.One running) = more_gets me left (count + 1)
 left_to_get me left count (came.Nothing running) = Say (end_text me false count) ∷ []

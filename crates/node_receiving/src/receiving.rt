@@ -91,7 +91,7 @@ fn receive_one<'a, D: Disk, L: Link, K: Sink, V: Service>(
     }
 }
 
-// As many receives as there are datagrams, up to so many.
+// As many receives as there are datagrams, at most `most`.
 fn receive_each<'a, D: Disk, L: Link, K: Sink, V: Service>(
     alloc: Global,
     running: Running<'a>,
@@ -150,8 +150,8 @@ fn receive_each<'a, D: Disk, L: Link, K: Sink, V: Service>(
     })
 }
 
-/// One line that receives, of a hosted process: datagram by datagram, up to so many and until none is coming or the link fails. Each is
-/// opened and its frame taken, as an event of the process that sent it, or it is dropped, which a line tells. A line that the link failed,
+/// One line that receives, of a hosted process: datagram by datagram, at most `most` and until none is coming or the link fails. Each is
+/// opened and its frame taken, as an event of the process that sent it, or it is dropped, which a line says. A line that the link failed,
 /// where it did, and how many came are written last.
 ///
 /// # Errors

@@ -17,7 +17,7 @@ use rp_base::{Disk, Link, Pid, Sink};
 use std::alloc::Global;
 
 /// A datagram that came to a hosted process: its frame is taken, as an event of the process that sent it; or it is dropped, which a line
-/// tells. The room has at least 61,054 bytes.
+/// says. The room has at least 61,054 bytes.
 ///
 /// # Errors
 /// The node ends, as `node_taking::take` says; and `NoMemory` and `WriteFailed` for the line.

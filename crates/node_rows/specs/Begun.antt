@@ -1,4 +1,4 @@
--- Nodes that begin with a journal, or behind a place of it.
+-- Nodes that begin with a journal, or after a place of it.
 use Rattle.std.specs.Prelude.{◌≡◌, ℕ, ◌==◌, List, [], ◌∷◌, length, Some, None, true, false, if◌then◌else◌, codes}
 use Rattle.journal_defs.specs.Entries.{Entry, Event, Submit, Suspect, Tick}
 use Rattle.node_defs.specs.Casts.{Cast, Beginning, from_start, entry_for, may_have_written}
@@ -20,7 +20,7 @@ entry c e = entry_for c (start c.setting 0 c.batch_limit) e
 abbrev pub begun : Cast → Node → Seen
 begun c n = seen_of (drive c 20 (n, outside []))
 
--- behind seven entries of process 0 that are not read
+-- after seven entries of process 0 that are not read
 abbrev pub behind : Beginning
 behind = record { from = (from_start c).from; before = λ p. if p == 0 then 7 else 0; place = 66 }
 

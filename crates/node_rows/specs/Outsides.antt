@@ -55,7 +55,7 @@ answer o Marks = (Digest (length o.written ∷ []), o)
 answer o ReadsLine = elim o.script [ [] ↦ (Done, o) | line ∷ more ↦ (Came line, record o { script = more }) ]
 answer o Rests = (Done, o)
 
--- the node and its outside after so many calls; those of a node that rests change nothing
+-- the node and its outside after this many calls; those of a node that rests change nothing
 unfoldable pub drive : Cast → ℕ → Node × Outside → Node × Outside
 drive c zero w = w
 drive c (suc more) w =

@@ -9,7 +9,7 @@ hosted = 0 ∷ 2 ∷ []
 abbrev pub said : List (List ℕ) → List (Option Line)
 said lines = map (line_said hosted) lines
 
--- a line of process 0 for the service, with these bytes behind a word
+-- a line of process 0 for the service, with these bytes after a word
 abbrev pub word_of : List ℕ → List ℕ
 word_of bytes = codes "0 say " ++ bytes
 

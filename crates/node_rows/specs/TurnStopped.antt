@@ -19,7 +19,7 @@ opening = Done ∷ Done ∷ Done ∷ Said [] [] ∷ Done ∷ Done ∷ []
 abbrev pub found : List Answer → Found
 found answers = leaves c fresh (run c (λ n digest. []) (opens c (from_start c) 0 []) answers)
 
--- how many entries are there for sure, and how many of which it is not known
+-- how many entries are there for sure, and how many may be
 abbrev pub counted : Found → ℕ × ℕ
 counted f = (length f.sure, length (option_to_list f.more))
 

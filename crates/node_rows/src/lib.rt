@@ -22,7 +22,7 @@ pub fn turn_stopped()
     ensures { TurnStopped }
 {}
 
-/// Nodes that begin with a journal, or behind a place of it.
+/// Nodes that begin with a journal, or after a place of it.
 pub fn begun_nodes()
     ensures { Begun }
 {}

@@ -13,7 +13,7 @@ use node_hosts::{AnySigner, Event, Hosted, Hosts, Kit};
 use rp_base::{NoMemory, Pid};
 use stmt_codec::{Note, Sending};
 
-/// What is built on the hosted processes of a node: it tells of their deliveries in its own words, takes lines of the script, and names
+/// What is built on the hosted processes of a node: it reports their deliveries in its own words, takes lines of the script, and names
 /// processes that are to be suspected on evidence.
 ///
 /// A service has a history: the calls that it was asked, what it was shown, and its own answers, in order. Which histories a value has is its
@@ -77,9 +77,9 @@ pub trait Service {
             (Asks p (event_of event.now) (map note_of notes.now) above) (named_by result)) }
         ensures rises { IfSome result (IsAbove above) };
 
-    /// A line of the script for this process of the kit's group that is not in the node's own words. True: what the service says is appended to the lines, and
-    /// what the process is to send to the sends; it goes to other processes of the roster, in frames of at most 61,000 bytes. False: the
-    /// service has no such line.
+    /// A line of the script for this process of the kit's group that is not in the node's own words. True: what the service says is
+    /// appended to the lines, and what the process is to send to the sends; it goes to other processes of the roster, in frames of at most
+    /// 61,000 bytes. False: the service has no such line.
     ///
     /// # Errors
     /// [`NoMemory`].

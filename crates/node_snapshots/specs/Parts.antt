@@ -36,6 +36,6 @@ parts_of parts = flat_map part_of parts
 abbrev pub header_of : Kit → Header
 header_of kit = record { group = kit.group; hosted = hosted_by kit; digest = kit_digest kit }
 
--- what stands before the parts
+-- what comes before the parts
 abbrev pub front_of : Kit → ℕ → List ℕ → List ℕ
 front_of kit place digest = codes "RPN2" ++ (behind_magic (header_of kit) ++ (to_be_bytes w64 place ++ digest))

@@ -1,4 +1,4 @@
-//! The line that a node writes of its snapshot, from which it can begin again (docs/FORMATS.md, «Snapshots»): where its journal stands, and of
+//! The line that a node writes of its snapshot, from which it can begin again (docs/FORMATS.md, «Snapshots»): where its journal is, and of
 //! each process that it hosts the image and how many entries it has.
 #![tactic(auto)]
 

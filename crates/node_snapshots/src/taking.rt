@@ -1,4 +1,4 @@
-//! A node's snapshot, with where its journal stands.
+//! A node's snapshot, with where its journal is.
 ghost use Rattle.std.specs.Prelude.{◌≡◌, ℕ, List, IfOk, IfSome, take};
 ghost use Rattle.sha2.specs.Sha256.{sha256};
 ghost use Rattle.journal_disk.specs.Disks.{HasLength, OnlyReads};
@@ -30,7 +30,7 @@ pub fn snap<D: Disk>(
 ) -> Result<Vec<u8>, JournalFault>
     requires as_left { HasLength (D.seen disk.old) (len_of journal.old) }
 
-    // The line that the definitions' node writes, with a digest that is the journal's where the disk tells what it holds.
+    // The line that the definitions' node writes, with a digest that is the journal's where the disk says what it holds.
     ensures line { (b : Beginning) (n : Node) → n.gate ≡ gate_of journal.old → ArePartsOf kit.now b n parts.now
         → IfOk result (λ line. (digest : List ℕ) × IfSome (D.seen disk.old) (λ file. digest ≡ sha256 (take n.gate file))
         × (line.items ≡ plain.snap_line (cast_of kit.now (version_of journal.old)) b n digest)) }

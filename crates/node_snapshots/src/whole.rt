@@ -32,7 +32,7 @@ fn push_header(kit: &Kit, out: &mut Vec<u8>) -> Result<(), NoMemory>
     Ok(())
 }
 
-// What stands before the parts.
+// What comes before the parts.
 fn push_front(kit: &Kit, place: u64, digest: &[u8; 32], out: &mut Vec<u8>) -> Result<(), NoMemory>
     ensures { OnOk result (out.new.items ≡ out.old.items ++ front_of kit.now place digest.now) }
 {

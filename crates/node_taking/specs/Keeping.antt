@@ -27,7 +27,7 @@ grown c n p e = record n {
   gate = n.gate + length (flat_map record_bytes (new_entry c n (Some (p, e))));
 }
 
--- and about to let out what the turn sends and tells, to write the lines, and to ask the service, before its other tasks
+-- and about to let out what the turn sends and reports, to write the lines, and to ask the service, before its other tasks
 abbrev pub letting : Cast → Node → ℕ → Event → List Task → Node
 letting c n p e ts = record (at (grown c n p e) (Flush ∷ (asks p e (outcome_of c (n.now p) e).notes ++ ts))) {
   leaving = leaving_of p (outcome_of c (n.now p) e);

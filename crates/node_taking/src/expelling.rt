@@ -48,7 +48,7 @@ fn next_suspect<V: Service>(
     service.suspects(running.kit, &host.process, event, notes, above)
 }
 
-// A process that the service named: a line tells of it, and it is suspected. Its turn asks the service for no more.
+// A process that the service named: a line names it, and it is suspected. Its turn asks the service for no more.
 fn expel<'a, D: Disk, L: Link, K: Sink, V: Service>(
     alloc: Global,
     running: Running<'a>,
@@ -167,8 +167,8 @@ fn ask<'a, D: Disk, L: Link, K: Sink, V: Service>(
     }
 }
 
-/// One event of a hosted process. It is refused, which a line tells; or its turn is appended to the journal, and then what it sends goes
-/// out, each frame sealed in the room, and what it tells is written in one write, each note followed by what the service says of it. After a
+/// One event of a hosted process. It is refused, which a line says; or its turn is appended to the journal, and then what it sends goes
+/// out, each frame sealed in the room, and its notes are written in one write, each followed by what the service says of it. After a
 /// turn on a frame the service is asked whom to suspect: each process that it names has its line and is suspected. The room has at least
 /// 61,054 bytes (`SEALED_BYTES`).
 ///
@@ -190,7 +190,7 @@ pub fn take<'a, D: Disk, L: Link, K: Sink, V: Service>(
     requires other { IsFromOther me (handed (event_of event.now)) }
     requires room { 61054 ≤ length room.old }
 
-    // What it tells is written, and the node goes on with its other tasks.
+    // What it reports is written, and the node goes on with its other tasks.
     ensures goes_on { (snap : Snapper) (most : ℕ) (f : Found) (source : SourceSeen) (h : List Asked) (n : Node) (ts : List Task)
         → V.heard service.old h → IsNode (D.seen disk.old) (D.may_leave disk.old) running.entry n (Take me (event_of event.now) ∷ ts)
         → IfOk result (λ r. HeardBy V.heard service.new (λ i. GoesOnTo D.seen D.may_leave D.moment D.left_since (cast_in running.entry) snap

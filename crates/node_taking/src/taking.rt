@@ -30,8 +30,8 @@ pub(crate) struct After<'a> {
     pub(crate) outcome: Option<Outcome>,
 }
 
-/// One event of a hosted process. It is refused, which a line tells; or its turn is appended to the journal, and then what it sends goes
-/// out, each frame sealed in the room, and what it tells is written in one write, each note followed by what the service says of it. The room
+/// One event of a hosted process. It is refused, which a line says; or its turn is appended to the journal, and then what it sends goes
+/// out, each frame sealed in the room, and its notes are written in one write, each followed by what the service says of it. The room
 /// has at least 61,054 bytes (`SEALED_BYTES`).
 ///
 /// # Errors
@@ -52,7 +52,7 @@ pub(crate) fn take_turn<'a, D: Disk, L: Link, K: Sink, V: Service>(
     requires other { IsFromOther me (handed (event_of event.now)) }
     requires room { 61054 ≤ length room.old }
 
-    // What it tells is written, and the node goes on: it asks the service whom to suspect, and then to its other tasks.
+    // What it reports is written, and the node goes on: it asks the service whom to suspect, and then to its other tasks.
     ensures goes_on { (snap : Snapper) (most : ℕ) (f : Found) (source : SourceSeen) (h : List Asked) (n : Node) (ts : List Task)
         → V.heard service.old h → IsNode (D.seen disk.old) (D.may_leave disk.old) running.entry n (Take me (event_of event.now) ∷ ts)
         → IfOk result (λ r. HeardBy V.heard service.new (λ i. GoesOnTo D.seen D.may_leave D.moment D.left_since (cast_in running.entry) snap

@@ -69,7 +69,7 @@ pub(crate) fn say_expel<K: Sink>(
     say(output, line.as_slice())
 }
 
-/// Lets out what a turn sends and tells, once its entry is in the journal for good, and writes its lines and those of the service in one
+/// Lets out what a turn sends and reports, once its entry is in the journal for good, and writes its lines and those of the service in one
 /// write.
 ///
 /// # Errors

@@ -41,7 +41,7 @@ pub const SNAP: &[u8] =
     001e00000000000000000000000000000000000000000000000000000000000000000000000000000000001e0100000000000000000000\
     00000000000000000000000000000000000000\n";
 
-/// How the node begins again after so many turns of the script.
+/// How the node begins again after each number of turns of the script.
 pub const AGAIN: [&[u8]; 7] = [
     b"host 0 view 0 delivered 0 entries 0\nhost 1 view 0 delivered 0 entries 0\n",
     b"host 0 view 0 delivered 0 entries 1\nhost 1 view 0 delivered 0 entries 0\n",

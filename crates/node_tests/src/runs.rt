@@ -6,7 +6,7 @@ use rp_devices::{MemDisk, MemLink};
 use std::alloc::Global;
 use std::test::Fail;
 
-/// A disk with these bytes, of which no call fails.
+/// A disk with these bytes, whose calls don't fail.
 pub fn disk_of(alloc: Global, bytes: &[u8]) -> Result<MemDisk, NoMemory> {
     MemDisk::new(alloc, bytes.to_vec(alloc)?, Vec::new(alloc))
 }

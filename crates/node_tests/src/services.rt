@@ -9,7 +9,7 @@ use rp_devices::MemLink;
 use std::alloc::Global;
 use std::test::Fail;
 
-/// Says a word as it begins and of each note, names processes 0 and 5 where it is told to, and has each line that ends in a full stop.
+/// Says a word as it begins and of each note, names processes 0 and 5 where it is asked to, and has each line that ends in a full stop.
 #[derive(Clone, Copy)]
 struct Teller {
     names: bool,

@@ -68,7 +68,7 @@ fn any_failed_call_of_the_disk_ends_the_node_and_nothing_leaves(
     Ok(())
 }
 
-/// Whether a node that is opened on this image goes on after at least so many turns. An image of a journal that was not begun yet is none.
+/// Whether a node that is opened on this image goes on after at least `turns` turns. An image of a journal that was not begun yet is none.
 fn goes_on(alloc: Global, image: &[u8], turns: usize, begun: bool) -> Result<bool, NoMemory> {
     let mut disk = disk_of(alloc, image)?;
     let mut link = MemLink::new(alloc, Vec::new(alloc));
@@ -82,7 +82,7 @@ fn goes_on(alloc: Global, image: &[u8], turns: usize, begun: bool) -> Result<boo
     Ok(status == 0 && front.contains(&sink.bytes()))
 }
 
-/// Whether each turn of the script of which a datagram left is there again, whatever the disk keeps of what was not synced.
+/// Whether each turn of the script that sent a datagram is there again, whatever the disk keeps of what was not synced.
 fn keeps_what_left(alloc: Global, call: u64, begun: bool) -> Result<bool, NoMemory> {
     let mut disk = disk_of(alloc, b"")?;
     disk.stop_at(call);

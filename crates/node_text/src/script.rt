@@ -25,7 +25,7 @@ pub enum Said {
     /// It is handed an event.
     Hand(Handed),
 
-    /// It receives so many datagrams at most, 1 to 1,000.
+    /// It receives at most this many datagrams, 1 to 1,000.
     Receive(u32),
 
     /// The line is not in the node's own words, and is UTF-8: its service is asked.
@@ -87,7 +87,7 @@ fn said_recv(word: &[u8]) -> Option<Said>
     Some(Said::Receive(most))
 }
 
-// A word and one behind it.
+// A word and one after it.
 #[tactic(auto, unfolding(node_defs::specs::Scripts::said_by))]
 fn said_with(alloc: Global, word: &[u8], arg: &[u8]) -> Result<Option<Said>, NoMemory>
     ensures { IfOk result (λ said. option_map said_of said ≡ plain.said_by (word.now ∷ arg.now ∷ [])) }
@@ -105,7 +105,7 @@ fn said_with(alloc: Global, word: &[u8], arg: &[u8]) -> Result<Option<Said>, NoM
     }
 }
 
-// A word, one behind it, and perhaps more.
+// A word, one after it, and perhaps more.
 #[tactic(auto, using(crate::proofs::Scripts::ended, crate::proofs::Scripts::longer))]
 fn said_with_only(
     alloc: Global,
@@ -122,7 +122,7 @@ fn said_with_only(
     }
 }
 
-// A word, and those behind it.
+// A word, and those after it.
 fn said_behind(alloc: Global, word: &[u8], mut words: Words<'_>) -> Result<Option<Said>, NoMemory>
     ensures { IfOk result (λ said. option_map said_of said ≡ plain.said_by (word.now ∷ parts_left words.entry)) }
 {
@@ -132,7 +132,7 @@ fn said_behind(alloc: Global, word: &[u8], mut words: Words<'_>) -> Result<Optio
     }
 }
 
-// What the words behind the process say, in the node's own words.
+// What the words after the process say, in the node's own words.
 #[tactic(auto, unfolding(node_defs::specs::Scripts::said_by))]
 fn said_by(alloc: Global, mut words: Words<'_>) -> Result<Option<Said>, NoMemory>
     ensures { IfOk result (λ said. option_map said_of said ≡ plain.said_by (parts_left words.entry)) }
@@ -174,7 +174,7 @@ fn own_or_other(own: Option<Said>, line: &[u8]) -> Option<Said>
     }
 }
 
-// What the line says, of which these are the words behind the process.
+// What the line says, of which these are the words after the process.
 fn said_or_other(alloc: Global, line: &[u8], words: Words<'_>) -> Result<Option<Said>, NoMemory>
     ensures { IfOk result (λ said. option_map said_of said ≡ plain.said_or_other line.now (parts_left words.entry)) }
 {
@@ -239,7 +239,7 @@ fn line_by(
 }
 
 /// What a line of the script asks for, given without its line feed; None exactly where the script has no such line. It is `snap`; or the number
-/// of a hosted process, and behind it words of the node's own, or anything else that is UTF-8, which is for the node's service
+/// of a hosted process, and after it words of the node's own, or anything else that is UTF-8, which is for the node's service
 /// (docs/FORMATS.md, «Nodes»).
 ///
 /// # Errors

@@ -44,7 +44,7 @@ pub enum Stop {
     /// The journal is another node's, at place 0, or what it has at this place is no entry of this node.
     BadJournal(u64),
 
-    /// An entry of so many bytes has no room after so many, which are those up to and with the closed gate.
+    /// An entry of `entry` bytes has no room after `whole`, which are those up to and with the closed gate.
     Full { whole: u64, entry: u64 },
 }
 

@@ -1,4 +1,4 @@
-//! What a turn tells.
+//! What a turn reports.
 ghost use Rattle.std.specs.Prelude.{◌≡◌, ◌++◌, OnOk, OnErr};
 ghost use Rattle.group_defs.specs.Events.{Delivers, Installs};
 ghost use Rattle.view_table.specs.Views.{as_view};
@@ -55,7 +55,7 @@ fn push_view(out: &mut Vec<u8>, me: Pid, view: u16, members: &[Pid]) -> Result<(
     Ok(())
 }
 
-/// Appends the line of what a turn of this process tells.
+/// Appends the line of what a turn of this process reports.
 ///
 /// # Errors
 /// [`NoMemory`]; nothing is appended then.

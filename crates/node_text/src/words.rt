@@ -9,7 +9,7 @@ ghost use Rattle.node_text.specs.Words.{GoesOn, spaced, spelled, spelled_after};
 use rp_base::{NoMemory, Pid};
 use text_codec::{push_hex, push_number};
 
-/// A word of a line, or several that stand together.
+/// A word of a line, or several that come together.
 #[derive(Clone, Copy)]
 pub(crate) enum Word<'a> {
     Text(&'a [u8]),
@@ -127,7 +127,7 @@ fn begin_line(out: &mut Vec<u8>, name: &[u8], words: &[Word<'_>]) -> Result<(), 
     Ok(())
 }
 
-/// A line of a name and the words behind it.
+/// A line of a name and the words after it.
 ///
 /// # Errors
 /// [`NoMemory`]; nothing is appended then.

@@ -16,7 +16,7 @@ pub record Outside : Type 0 where
 abbrev pub with_service : Outside → List Asked → Outside
 with_service x service = record x { service = service }
 
--- With some answers node n becomes m, and its calls took the outside from x to y. Lines of the input have at most so many bytes.
+-- With some answers node n becomes m, and its calls took the outside from x to y. Lines of the input have at most `most` bytes.
 pub record Goes (c : Cast) (snap : Snapper) (most : ℕ) (n : Node) (x : Outside) (m : Node) (y : Outside) : Type 0 where
   pub answers : List Answer
   pub becomes : m ≡ run c snap n answers

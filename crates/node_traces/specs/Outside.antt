@@ -1,4 +1,4 @@
--- What the calls of a node do to its link, its output and its input, where these tell what becomes of them.
+-- What the calls of a node do to its link, its output and its input, where these say what becomes of them.
 --
 -- The link is seen as the datagrams that were sent, those that are coming on each port, and how often it failed.
 --   Binds, Done             nothing changes
@@ -10,7 +10,7 @@
 --   Writes T, Done          T was written
 --   Writes T, Failed        a front of T was written, and the count of faults rose
 -- The input is seen as the bytes that are left of it, and how often it failed.
---   ReadsLine, Came L       L and its line feed are taken, at most so many bytes before the line feed
+--   ReadsLine, Came L       L and its line feed are taken; L is no longer than a line may be
 --   ReadsLine, Broken       what is left begins with no such line, and is left
 --   ReadsLine, Done         nothing is left
 --   ReadsLine, Failed       nothing is taken, and the count of faults rose
@@ -117,7 +117,7 @@ pub record SourceSeen : Type 0 where
   pub left : Option (List ℕ)
   pub faults : ℕ
 
--- what is left begins with this line, of at most so many bytes, and after it the rest is left
+-- what is left begins with this line, of at most `most` bytes, and after it the rest is left
 abbrev pub LineTaken : ℕ → Option (List ℕ) → Option (List ℕ) → List ℕ → Type 0
 LineTaken most None new line = Unit {0}
 LineTaken most (Some old) None line = ⊥
@@ -150,7 +150,7 @@ pub record SourceFailed (k l : SourceSeen) : Type 0 where
   pub left : l.left ≡ k.left
   pub rose : Rose k.faults l.faults
 
--- lines have at most so many bytes
+-- lines have at most `most` bytes
 abbrev pub SourceStep : ℕ → Step SourceSeen
 SourceStep most k (ReadsLine, Came line) l = SourceTook most k l line
 SourceStep most k (ReadsLine, Broken) l = SourceBroke most k l

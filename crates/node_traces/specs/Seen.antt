@@ -1,4 +1,4 @@
--- Link, output and input, as their own words tell of them.
+-- Link, output and input, as their own words describe them.
 use Rattle.std.specs.Prelude.{ℕ, List, Option}
 use Rattle.node_traces.specs.Outside.{LinkSeen, SinkSeen, SourceSeen}
 

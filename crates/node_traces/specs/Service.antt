@@ -12,7 +12,7 @@ use Rattle.group_defs.specs.Process.{Process}
 use Rattle.node_defs.specs.Casts.{Cast}
 use Rattle.node_defs.specs.Nodes.{Node, Call, Serves, TellsOf, Asks, Words, Answer, Unremembered, Snapper, call_of, answered}
 
--- one call of it: of which cast the processes are that it was shown, those processes, what it was asked, and what it answered
+-- one call of it: the cast of the processes that it was shown, those processes, what it was asked, and what it answered
 pub record Asked : Type 0 where
   pub cast : Cast
   pub shown : List Process

@@ -1,5 +1,5 @@
-//! Runs of a node put together of their parts, what their calls do to link, output and input, and what a stop leaves. Each law is the contract of a function
-//! with an empty body.
+//! Runs of a node put together of their parts, what their calls do to link, output and input, and what a stop leaves. Each law is the
+//! contract of a function with an empty body.
 #![tactic(auto)]
 
 ghost use Rattle.node_traces.specs.Ways.{EachGoesOn};

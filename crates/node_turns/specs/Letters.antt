@@ -32,15 +32,15 @@ answer_of (Err failed) = Failed
 abbrev pub link_seen : {L : Type 0} → (L → Option (List (ℕ × List ℕ))) → (L → Option (ℕ → List (List ℕ))) → (L → ℕ) → L → LinkSeen
 link_seen sent coming faults link = record { sent = sent link; coming = coming link; faults = faults link }
 
--- These notes of the process were told: each has its line and after it what the service said of it, and they follow the text that there
+-- These notes of the process were reported: each has its line and after it what the service said of it, and they follow the text that there
 -- was; the service heard of them, one after the other. After them are these lines.
 pub record TellsNotes (c : Cast) (at : ℕ → Process) (me : ℕ) (notes : List Note) (heard hears : List Asked) (old late new : List ℕ) : Type 0 where
   pub told : List ℕ
   pub out : (link : LinkSeen) → LetOut c at (tells_of me notes) (edge link old [] heard) (edge link told [] hears)
   pub whole : new ≡ told ++ late
 
--- Of a whole turn: all of this was let out, with the notes' lines and what the service said of them, and after them the lines of failed sends;
--- and these follow the text that there was.
+-- A whole turn was let out, with the notes' lines and what the service said of them, and after them the lines of failed sends; all this
+-- follows the text that there was.
 pub record LetsTurnOut (c : Cast) (at : ℕ → Process) (ls : List Leaving) (before now : LinkSeen) (heard hears : List Asked) (old new : List ℕ)
     : Type 0 where
   pub text : List ℕ

@@ -21,10 +21,10 @@ use node_service::{AnySigner, Hosted, Service};
 use rp_base::{Disk, Link, NoMemory};
 use std::alloc::Global;
 
-/// Lets out what a turn sends and tells, once its entry is in the journal for good, which the disk is lent for: each frame is sealed in the
-/// room for each process that it goes to, by rising number, and sent to that one's port; then each note is a line after the text, which what
-/// the service says of it follows, and last a line for each send that failed. The room has at least 61,054 bytes (`SEALED_BYTES`), so sealing
-/// takes no memory.
+/// Lets out what a turn sends and reports, once its entry is in the journal for good, as `kept` asks of the disk: each frame is sealed
+/// in the room for each process that it goes to, by rising number, and sent to its port; then each note is a line after the text, and
+/// what the service says of it follows, and last a line for each send that failed. The room has at least 61,054 bytes (`SEALED_BYTES`):
+/// sealing takes no memory.
 ///
 /// # Errors
 /// `NoMemory` where memory for a line is refused, to the node or to its service: the first letters and notes went out, and the text is as it
@@ -39,7 +39,7 @@ pub fn let_out<D: Disk, L: Link, V: Service>(
     text: &mut Vec<u8>,
     service: &mut V,
 ) -> Result<(), NoMemory>
-    // Where the disk tells, each of its images holds the turn's entry.
+    // Where the disk says what it holds, each of its images holds the turn's entry.
     requires kept { IfSome (D.seen disk.now) (λ file. IsLast (D.seen disk.now) (D.may_leave disk.now) (staged_of turn.now)) }
     requires sealable { All (IsSealable speaker.now.kit.now speaker.now.me) (letters_in (outcome_of turn.now).sends.items) }
     requires room { 61054 ≤ length room.old }

@@ -1,5 +1,5 @@
-//! What a node does with one turn, once its entry is in the journal for good: it lets out what the turn sends, and tells its notes, also to
-//! its service (docs/FORMATS.md, «Nodes»).
+//! What a node does with one turn, once its entry is in the journal for good: it lets out what the turn sends, and reports its notes, also
+//! to its service (docs/FORMATS.md, «Nodes»).
 #![tactic(auto)]
 
 mod letting;

@@ -16,7 +16,7 @@ use node_service::push_fault;
 use rp_base::{Failed, Link, NoMemory, Pid};
 use stmt_codec::Sending;
 
-/// The most bytes of a frame that is sealed. A room of so many serves for each letter.
+/// The most bytes of a frame that is sealed. A room of this size serves for each letter.
 pub const SEALED_BYTES: usize = FRAME_BYTES + SEAL_BYTES;
 
 // Seals the frame for this process, and sends it.
@@ -38,7 +38,7 @@ fn send_letter<L: Link>(
     link.send(speaker.port(to), datagram)
 }
 
-// Lets a letter out: where its send fails, a line tells of it.
+// Lets a letter out: where its send fails, a line says so.
 fn let_letter_out<L: Link>(
     speaker: &Speaker<'_>,
     to: Pid,
@@ -63,7 +63,7 @@ fn let_letter_out<L: Link>(
     }
 }
 
-// The letters of a frame, by rising number of whom they go to.
+// The letters of a frame, by rising number of the addressee.
 fn let_frame_out<L: Link>(
     speaker: &Speaker<'_>,
     out: &Sending,
@@ -87,7 +87,7 @@ fn let_frame_out<L: Link>(
     Ok(())
 }
 
-/// Lets the letters of these frames out, frame by frame and by rising number of whom each goes to: each is sealed in the room and sent.
+/// Lets the letters of these frames out, frame by frame and by rising number of the addressee: each is sealed in the room and sent.
 /// For each send that fails a line is appended to `late`. The frames are those of a turn, or what the service has its process send.
 ///
 /// # Errors

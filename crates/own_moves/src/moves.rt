@@ -40,7 +40,7 @@ pub fn begin_view(own: &mut Own, view: &View, mine: u16, alloc: Global) -> Signe
     signed
 }
 
-// Counts the messages of the batch behind those that are counted, each at its sender's rank.
+// Counts the messages of the batch after those that are counted, each at its sender's rank.
 fn count_batch(view: &View, batch: &Batch, counts: &mut [u16])
     requires members { length counts.old ≡ length view.now.members }
     requires room { All (λ c. c + 16 ≤ 65535) counts.old }

@@ -31,7 +31,7 @@ abbrev pub ready_after : Option (ℕ × Value) → Option (ℕ × Value) → Opt
 ready_after ready None = ready
 ready_after ready (Some r) = higher ready r
 
--- the messages are of members, and each is its sender's next one behind these and those before it
+-- the messages are of members, and each is its sender's next one after these and those before it
 pub record ComeNext (v : View) (before : List Message) (b : Batch) : Type 0 where
   pub members : IsTrue (list_all (λ m. is_member v m.sender) b)
   pub in_order : IsTrue (follows before b)

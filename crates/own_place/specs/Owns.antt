@@ -9,7 +9,7 @@ use Rattle.claim_index.specs.Statements.{report}
 use Rattle.own_place.specs.declared.own.Own.{Own}
 use Rattle.own_place.specs.Signed.{has_slot}
 
--- the process has delivered so many places, and of each member, in rank order, so many messages
+-- `own` has how many places the process has delivered, and how many messages of each member, in rank order
 pub record HasDelivered (own : Own) (p : Process) : Type 0 where
   pub places : places_in p.delivered ≡ own.delivered
   pub counts : map (λ m. delivered_from m p.delivered) p.pool.view.members ≡ own.counts.items

@@ -40,7 +40,7 @@ pub record AreReached (keys : List SlotKey) (x : ℕ) (reached : List ℕ) : Typ
   pub rows : length reached ≡ 67
   pub below : (row : Row) (n : ℕ) → n < slice_index reached (index_of row) → has_key keys (slot_in row x n) ≡ true
 
--- the same; and at the mark there were so many slots
+-- the same; and at the mark there were `marked` slots
 pub record AreMarkedRows (keys : List SlotKey) (x : ℕ) (reached : List ℕ) (marked : ℕ) : Type 0 where
   pub rows : AreReached keys x reached
   pub few : marked ≤ length keys

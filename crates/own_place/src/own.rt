@@ -6,7 +6,7 @@ use arrayvec::ArrayVec;
 use claim_index::{Pid, PidSet, Value};
 use std::mem;
 
-/// The process's own place in its view. Whose place it is, the record `Tells` of the specs says.
+/// What a process has signed and delivered in its view, and who it is. `Tells` of the specs relates it to the process.
 pub struct Own {
     /// The own number.
     pub me: Pid,
@@ -114,7 +114,7 @@ impl OwnMark {
 }
 
 impl Own {
-    /// Marks the own place in `mark`, so that it can be gone back to. It stands where it is, since counts that are moved cost more than
+    /// Marks the own place in `mark`, so that it can be gone back to. It is left where it is, since counts that are moved cost more than
     /// their copy.
     pub fn mark(&mut self, mark: &mut OwnMark)
         ensures marked { IsMarkOf mark.new self.old }

@@ -92,7 +92,7 @@ impl SignedSlots {
         self.marked = self.keys.len();
     }
 
-    /// Forgets what was signed behind the mark. It takes no memory.
+    /// Forgets what was signed after the mark. It takes no memory.
     pub fn rewind(&mut self)
         ensures slots { self.new.slots ≡ self.old.marked }
         ensures marked { self.new.marked ≡ self.old.marked }
@@ -101,7 +101,7 @@ impl SignedSlots {
         self.reached = [0; ROWS];
     }
 
-    /// Forgets what is signed, as in a view that begins, where the mark stands at nothing. The room stays.
+    /// Forgets what is signed, as in a view that begins, with the mark at nothing. The room stays.
     pub fn clear(&mut self)
         ensures slots { self.new.slots ≡ [] }
         ensures marked { self.new.marked ≡ [] }
@@ -112,7 +112,7 @@ impl SignedSlots {
         self.marked = 0;
     }
 
-    /// Makes room to note so many slots more. Without memory, what is signed is as before.
+    /// Makes room to note `slots` slots more. Without memory, what is signed is as before.
     pub fn reserve(&mut self, slots: usize) -> Result<(), NoMemory>
         ensures same { self.new.slots ≡ self.old.slots }
         ensures marked { self.new.marked ≡ self.old.marked }

@@ -19,12 +19,12 @@ number_of Text = 1
 number_of Run = 2
 number_of Draw = 3
 
--- As much of the bytes as the room holds stands at its front, and the count is that of all of them.
+-- As much of the bytes as the room holds is at its front, and the count is that of all of them.
 pub record LiesIn (bytes room : List ℕ) (count : ℕ) : Type 0 where
   pub all : count ≡ length bytes
   pub front : take (min count (length room)) room ≡ take (min count (length room)) bytes
 
--- bytes of which this holds lie in the room
+-- bytes that `Holds` is true of lie in the room
 pub record Answers (Holds : List ℕ → Type 0) (room : List ℕ) (count : ℕ) : Type 0 where
   pub bytes : List ℕ
   pub holds : Holds bytes

@@ -28,7 +28,7 @@ const NO_COMMAND: u8 = 2;
 const DRAW: u8 = 3;
 
 /// A command of `story` by its number, 0 assemble, 1 text, 2 run, 3 draw: answers the status, puts as much of what was written as fits into
-/// the room, and tells how much that is.
+/// the room, and answers how much that is.
 #[unsafe(no_mangle)]
 pub extern "C" fn page_story(
     alloc: Global,
@@ -71,7 +71,7 @@ pub extern "C" fn page_story(
     ran.status
 }
 
-/// The report of a schedule, long or short: answers the status, puts as much of what was written as fits into the room, and tells how much
+/// The report of a schedule, long or short: answers the status, puts as much of what was written as fits into the room, and says how much
 /// that is.
 #[unsafe(no_mangle)]
 pub extern "C" fn page_replay(
@@ -81,7 +81,7 @@ pub extern "C" fn page_replay(
     room: &mut [u8],
     count: &mut usize,
 ) -> u8
-    // 0: the report of the input's run, of which the headline holds.
+    // 0: the report of the input's run, and the headline holds of it.
     ensures made { result ≡ 0 → Answers (IsReport short input.now) room.new count.new }
 
     // 1: no memory is left, and nothing was written.

@@ -74,7 +74,7 @@ struct Left {
 }
 
 impl Left {
-    // As much of the answer as the room holds stands at its front, the count is the whole answer's, and the rest is as it was.
+    // As much of the answer as the room holds is at its front, the count is the whole answer's, and the rest is as it was.
     fn holds(&self, status: u8, answer: &[u8]) -> bool {
         let filled = self
             .room

@@ -27,7 +27,7 @@ liar_line ls n p = stroke (codes "liar") (place ls p 0) (place ls p n)
 abbrev pub life : List Listed → ℕ → Listed → List ℕ
 life ls n l = if l.corrupt then liar_line ls n l.process else view_bar ls n l.process 0 0
 
--- what process p is told in row k gives a bar where it is a view
+-- a view that process p installs in row k begins a bar
 abbrev pub note_bar : List Listed → ℕ → ℕ → ℕ → Note → List ℕ
 note_bar ls n p k (Installs v) = view_bar ls n p v.number k
 note_bar ls n p k _ = []

@@ -44,6 +44,6 @@ text_end = codes "</text>\n"
 abbrev pub text_at : Word → Point → List ℕ → List ℕ
 text_at class a text = text_begin class a ++ (text ++ text_end)
 
--- numbers, each behind a space
+-- numbers, each after a space
 abbrev pub spaced : List ℕ → List ℕ
 spaced ns = flat_map (λ n. codes " " ++ decimal n) ns

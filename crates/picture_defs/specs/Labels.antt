@@ -15,11 +15,11 @@ use Rattle.picture_defs.specs.Layout.{place}
 
 -- ---- statements
 
--- so many bytes of a payload are shown at most in a statement
+-- the most bytes of a payload that are shown in a statement
 unfoldable pub in_statement : ℕ
 in_statement = 8
 
--- so many bytes of a payload are shown at most in a delivery
+-- the most bytes of a payload that are shown in a delivery
 unfoldable pub in_delivery : ℕ
 in_delivery = 12
 
@@ -59,7 +59,7 @@ span_end = codes "</tspan>"
 abbrev pub span : Word → List ℕ → List ℕ
 span class text = span_begin class ++ (text ++ span_end)
 
--- what a process is told, in few words
+-- what a process reports, in few words
 abbrev pub note_span : Note → List ℕ
 note_span (Delivers x d) = span (codes "got") (number_and_colon d.place ++ (codes " " ++ quoted (take in_delivery d.payload)))
 note_span (Installs v) = span (codes "view") (text_of (codes "view " ∷ number_and_colon v.number ∷ []) ++ spaced v.members)
@@ -87,11 +87,11 @@ is_frame _ = false
 abbrev pub beside : Point → Point
 beside a = record { x = a.x + 6; y = a.y + 4 }
 
--- there is nothing to tell: a frame came, of which nothing came
+-- there is nothing to say: a frame came, and nothing came of it
 abbrev pub is_quiet : Handed → Seen → Bool
 is_quiet handed o = is_frame handed && (length o.notes == 0) && (length o.signed == 0)
 
--- what a process was told and what it signed, in few words
+-- what a process reported and what it signed, in few words
 abbrev pub outcome_words : Seen → List ℕ
 outcome_words o = flat_map note_span o.notes ++ flat_map (λ c. short_of c.statement) o.signed
 
@@ -99,7 +99,7 @@ outcome_words o = flat_map note_span o.notes ++ flat_map (λ c. short_of c.state
 abbrev pub refusal_text : Point → Handed → EventFault → List ℕ
 refusal_text a handed fault = text_at (codes "said") (beside a) (wish handed ++ span (codes "bad") (refusal_word fault))
 
--- what a process was asked for, and what came of it, where there is anything to tell
+-- what a process was asked for, and what came of it, where there is anything to say
 abbrev pub taken_text : Point → Handed → Seen → List ℕ
 taken_text a handed o =
     if is_quiet handed o then [] else text_at (codes "said") (beside a) (wish handed ++ outcome_words o)

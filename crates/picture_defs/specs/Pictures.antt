@@ -25,13 +25,13 @@ rows_in n told = map (λ x. (n, x)) told
 abbrev pub rows_of : List (List Happening) → List Row
 rows_of told = flat_map (λ e. rows_in e.0 e.1) (enumerate_from 0 told)
 
--- so many rows are drawn at most
+-- the most rows that are drawn
 unfoldable pub most_drawn : ℕ
 most_drawn = 2000
 
 -- ---- processes
 
--- beside the number of a process: that it is corrupt, where it is
+-- the word "corrupt" beside a corrupt process's number
 abbrev pub role : Bool → List ℕ
 role corrupt = if corrupt then span (codes "bad") (codes "corrupt") else []
 
@@ -57,7 +57,7 @@ event_number k n = text_at (codes "event") (record { x = 8; y = row k + 4 }) (te
 abbrev pub event_name : List Listed → ℕ → ℕ → List ℕ
 event_name ls k n = event_rule ls k ++ event_number k n
 
--- one of these rows that stands before row k is of event n
+-- one of these rows before row k is of event n
 abbrev pub is_begun : List Row → ℕ → ℕ → Bool
 is_begun rows k n = list_any (λ r. r.0 == n) (take k rows)
 
@@ -115,7 +115,7 @@ each_row draw rows = flat_map (λ r. draw r.0 r.1.0 r.1.1) (enumerate_from 0 row
 abbrev pub sent_rows : List Row → List ℕ
 sent_rows rows = each_row (λ k n what. sent_in k what) rows
 
--- what is drawn first, behind all else: events, lives and views
+-- what is drawn first, under all else: events, lives and views
 abbrev pub background : List Listed → List Row → List ℕ
 background ls rows =
     each_row (λ k n what. event_begin ls rows k n) rows

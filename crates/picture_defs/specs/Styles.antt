@@ -2,7 +2,7 @@
 use Rattle.std.specs.Prelude.{ℕ, List, [], ◌∷◌, codes}
 use Rattle.picture_defs.specs.Elements.{text_of}
 
--- the colours; where the reader has a dark screen, those behind `dark` hold instead
+-- the colours; where the reader has a dark screen, those after `dark` hold instead
 unfoldable pub style : List ℕ
 style =
     text_of (
@@ -49,7 +49,7 @@ style =
     codes "</style>\n" ∷
     [])
 
--- the heads of the arrows of frames and of lies, and the paper behind all
+-- the heads of the arrows of frames and of lies, and the paper under all
 unfoldable pub heads : List ℕ
 heads =
     text_of (

@@ -1,2 +1,2 @@
-//! The picture of a run, on plain data: the elements of an SVG, one behind the other.
+//! The picture of a run, on plain data: the elements of an SVG, one after the other.
 #![tactic(auto)]

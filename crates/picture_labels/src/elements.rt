@@ -132,7 +132,7 @@ fn push_spaced_one(out: &mut Vec<u8>, process: Pid) -> Result<(), NoMemory>
     push_pieces(out, &[Word::Text(b" "), process_word(process)])
 }
 
-/// The numbers of processes in the order of the list, each behind a space.
+/// The numbers of processes in the order of the list, each after a space.
 pub fn push_spaced(out: &mut Vec<u8>, processes: &[Pid]) -> Result<(), NoMemory>
     ensures { OnOk result (out.new.items ≡ out.old.items ++ plain.spaced processes.now) }
 {

@@ -53,7 +53,7 @@ fn is_frame(handed: &Handed) -> bool
     matches!(handed, Handed::Frame { .. } | Handed::Bytes { .. })
 }
 
-// There is nothing to tell.
+// There is nothing to say.
 fn is_quiet(handed: &Handed, seen: &Seen) -> bool
     ensures { result ≡ plain.is_quiet (handed_of handed.now) (seen_of seen.now) }
 {
@@ -84,7 +84,7 @@ fn push_refusal(
     end_text(out)
 }
 
-// What it was told and what it signed.
+// What it reported and what it signed.
 fn push_outcome_words(out: &mut Vec<u8>, seen: &Seen) -> Result<(), NoMemory>
     ensures { OnOk result (out.new.items ≡ out.old.items ++ plain.outcome_words (seen_of seen.now)) }
 {
@@ -102,7 +102,7 @@ fn push_outcome(out: &mut Vec<u8>, handed: &Handed, seen: &Seen) -> Result<(), N
     push_outcome_words(out, seen)
 }
 
-// What came of what was taken, where there is anything to tell.
+// What came of what was taken, where there is anything to say.
 fn push_taken(out: &mut Vec<u8>, at: Point, handed: &Handed, seen: &Seen) -> Result<(), NoMemory>
     ensures { OnOk result (out.new.items ≡ out.old.items
         ++ plain.taken_text (point at) (handed_of handed.now) (seen_of seen.now)) }

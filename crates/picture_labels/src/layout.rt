@@ -1,4 +1,4 @@
-//! Where things stand in the picture, in pixels. More than fits into a number can't be drawn: then, too, the answer is `NoMemory`.
+//! Where things are in the picture, in pixels. More than fits into a number can't be drawn: then, too, the answer is `NoMemory`.
 ghost use Rattle.std.specs.Prelude.{◌≡◌, ◌+◌, ◌-◌, nat_lt, map, count_by, IfOk};
 ghost use Rattle.schedule_file.specs.Views.{listed};
 ghost use Rattle.picture_defs.specs.Layout as plain;
@@ -20,7 +20,7 @@ const ROW: u64 = 15;
 /// For two lines of text below the rows.
 const ROOM: u64 = 50;
 
-// From one column to the next: with many processes they stand closer.
+// From one column to the next: with many processes they are closer.
 fn gap(processes: &[Listed]) -> u64
     ensures { result ≡ plain.gap (map listed processes.now) }
 {
@@ -51,7 +51,7 @@ pub(crate) fn column(processes: &[Listed], p: Pid) -> Result<u64, NoMemory>
     LEFT.checked_add(behind).ok_or(NoMemory)
 }
 
-/// So many pixels to the left of the column of a process, and 0 at least.
+/// `by` pixels to the left of the column of a process, and 0 at least.
 pub fn left_of(processes: &[Listed], p: Pid, by: u64) -> Result<u64, NoMemory>
     ensures { IfOk result (λ x. x ≡ plain.column (map listed processes.now) p - by) }
 {
@@ -67,7 +67,7 @@ pub fn row(k: u64) -> Result<u64, NoMemory>
     TOP.checked_add(below).ok_or(NoMemory)
 }
 
-/// So many pixels below a row.
+/// `by` pixels below a row.
 pub fn below(k: u64, by: u64) -> Result<u64, NoMemory>
     ensures { IfOk result (λ y. y ≡ plain.row k + by) }
 {
@@ -75,7 +75,7 @@ pub fn below(k: u64, by: u64) -> Result<u64, NoMemory>
     y.checked_add(by).ok_or(NoMemory)
 }
 
-/// So many pixels above a row, and 0 at least.
+/// `by` pixels above a row, and 0 at least.
 pub fn above(k: u64, by: u64) -> Result<u64, NoMemory>
     ensures { IfOk result (λ y. y ≡ plain.row k - by) }
 {
@@ -92,7 +92,7 @@ pub fn between(k: u64, n: u64) -> Result<u64, NoMemory>
     Ok(to.saturating_sub(from))
 }
 
-/// Where a process stands in row k: processes stand from left to right by their numbers.
+/// Where a process is in row k: processes go from left to right by their numbers.
 pub fn place(processes: &[Listed], p: Pid, k: u64) -> Result<Point, NoMemory>
     ensures { IfOk result (λ at. point at ≡ plain.place (map listed processes.now) p k) }
 {
@@ -112,7 +112,7 @@ pub fn width(processes: &[Listed]) -> Result<u64, NoMemory>
     LEFT.checked_add(all).ok_or(NoMemory)
 }
 
-/// How high a picture of so many rows is.
+/// How high a picture of `rows` rows is.
 pub fn height(rows: u64) -> Result<u64, NoMemory>
     ensures { IfOk result (λ y. y ≡ plain.height rows) }
 {

@@ -1,6 +1,6 @@
-//! The elements of a picture of a run, the places where they stand, and the label of each thing that happens: its mark, and what came of it
-//! in few words. Each function that writes does so behind the text so far. Where memory runs out, what stands behind the text is left open,
-//! and the caller gives it up.
+//! The elements of a picture of a run, their places, and the label of each thing that happens: its mark, and what came of it
+//! in few words. Each function that writes does so after the text so far. On `NoMemory` the end of the text is left open,
+//! and the caller discards it.
 #![tactic(auto)]
 
 mod elements;

@@ -12,10 +12,10 @@ use rp_base::{NoMemory, Pid};
 use stmt_codec::{OwnClaim, Statement, read_statement};
 use story_words::{Word, push_pieces, push_quoted};
 
-/// So many bytes of a payload are shown at most.
+/// The most bytes of a payload that are shown.
 const MOST_SHOWN: usize = 8;
 
-/// The first bytes of a payload, so many at most.
+/// The first bytes of a payload, `most` at most.
 pub(crate) fn shown(payload: &[u8], most: usize) -> &[u8]
     ensures { result.now ≡ take most payload.now }
 {

@@ -1,4 +1,4 @@
-//! What a process is told, in few words.
+//! What a process reports, in few words.
 ghost use Rattle.std.specs.Prelude.{◌≡◌, ◌++◌, ◌∷◌, [], codes, map, take, OnOk};
 ghost use Rattle.std.specs.List.{flat_map};
 ghost use Rattle.trace_defs.specs.Phrases.{number_and_colon, quoted};
@@ -17,7 +17,7 @@ use rp_base::{NoMemory, Pid};
 use stmt_codec::Note;
 use story_words::{Word, process_word, push_pieces, push_quoted};
 
-/// So many bytes of a payload are shown at most.
+/// The most bytes of a payload that are shown.
 const MOST_SHOWN: usize = 12;
 
 // The beginning of words of this class.
@@ -55,7 +55,7 @@ pub(crate) fn push_span(
     end_span(out)
 }
 
-/// A space, and words of this class within a text that was begun. They stand as they are: `<` and `&` are not escaped.
+/// A space, and words of this class within a text that was begun. They are written as they are: `<` and `&` are not escaped.
 pub fn push_one_span(out: &mut Vec<u8>, class: &[u8], text: &[u8]) -> Result<(), NoMemory>
     ensures { OnOk result (out.new.items ≡ out.old.items ++ plain.span class.now text.now) }
 {
@@ -114,7 +114,7 @@ fn push_liar(out: &mut Vec<u8>, liar: Pid) -> Result<(), NoMemory>
     push_span(out, b"bad", &[process_word(liar), Word::Text(b" lies")])
 }
 
-// What a process is told.
+// What a process reports.
 fn push_note(out: &mut Vec<u8>, note: &Note) -> Result<(), NoMemory>
     ensures { OnOk result (out.new.items ≡ out.old.items ++ plain.note_span (note_of note.now)) }
 {
@@ -133,7 +133,7 @@ fn push_note(out: &mut Vec<u8>, note: &Note) -> Result<(), NoMemory>
     }
 }
 
-/// All that a process is told.
+/// All that a process reports.
 pub(crate) fn push_notes(out: &mut Vec<u8>, notes: &[Note]) -> Result<(), NoMemory>
     ensures { OnOk result (out.new.items ≡ out.old.items ++ flat_map plain.note_span (map note_of notes.now)) }
 {

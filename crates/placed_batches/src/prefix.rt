@@ -77,7 +77,7 @@ impl PlacedBatches {
         self.view = view;
     }
 
-    /// Forgets all places but the first so many.
+    /// Forgets all places but the first `count`.
     pub fn truncate(&mut self, count: u16)
         ensures { self.new ≡ record self.old { batches = take count self.old.batches } }
     {
@@ -107,7 +107,7 @@ impl PlacedBatches {
         &self.names[place as usize][..self.view.members().len()]
     }
 
-    /// Puts the batch of the next place behind the others. It takes no memory.
+    /// Puts the batch of the next place after the others. It takes no memory.
     pub fn push(&mut self, batch: Batch)
         requires { length self.old.batches < 1024 }
         ensures view { self.new.view ≡ self.old.view }

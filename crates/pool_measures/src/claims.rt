@@ -20,7 +20,7 @@ pub(crate) const PLACES: u16 = 1_024;
 /// How many bytes a claim's statement and signature have at most.
 pub(crate) const CLAIM_BYTES: usize = 1_064;
 
-/// The text of which payloads and signatures are pieces. Payloads begin at different letters where members say different things.
+/// The text that payloads and signatures are pieces of. Payloads begin at different letters where members say different things.
 pub(crate) const TEXT: [u8; 48] = *b"0123456789abcdefghijklmnopqrstuvwxyzABCDEFGHIJKL";
 
 /// The members below this one all say the same, and each other one something else.

@@ -41,7 +41,7 @@ fn is_heard(pool: &mut Pool, judge: &Judge, text: &[u8], place: u16, index: u32)
     verdict == Verdict::Heard
 }
 
-/// Takes in so many claims of a place, for which there is room, and answers how many of them are heard.
+/// Takes in `count` claims of a place, for which there is room, and answers how many of them are heard.
 pub(crate) fn hear(pool: &mut Pool, judge: &Judge, text: &[u8], place: u16, count: u32) -> u32
     requires text { length text.now ≡ 48 }
     requires place { place ≤ 1023 }
@@ -103,7 +103,7 @@ fn certificates(pool: &Pool, number: u16, index: u32) -> u32 {
     messages.wrapping_add(places)
 }
 
-/// Asks so many times for two certificates, of a message and of a place below this one, and answers how many there were.
+/// Asks `times` times for two certificates, of a message and of a place below this one, and answers how many there were.
 pub(crate) fn certify(pool: &Pool, places: u32, times: u32) -> u32 {
     let mut found = 0u32;
     for n in 0..times {
@@ -121,7 +121,7 @@ fn messages_at(pool: &Pool, place: u16) -> u32 {
     }
 }
 
-/// Asks so many times for the placed length, and for the batch of the next of these places, and answers how many messages these have.
+/// Asks `times` times for the placed length, and for the batch of the next of these places, and answers how many messages these have.
 pub(crate) fn walk_placed(pool: &Pool, times: u32) -> u32 {
     let mut messages = 0u32;
     let mut place = 0;

@@ -1,4 +1,4 @@
-//! The time of a pool that hears so many claims, as the word says, in nanoseconds: of making a claim and `take`, of making it and
+//! The time of a pool that hears as many claims as the word says, in nanoseconds: of making a claim and `take`, of making it and
 //! checking its signature alone, which hashes nothing, of `certificate`, and of the placed length with one of the placed batches; and the
 //! bytes of a claim's statement and signature. In small 1,000 claims are heard.
 #![tactic(auto)]
@@ -26,7 +26,7 @@ pub fn once(rt: &(impl Print + CpuClock + AllocGlobal)) -> Result<()> {
     Ok(())
 }
 
-/// Prints the times of a pool that hears so many claims, as the word says.
+/// Prints the times of a pool that hears as many claims as the word says.
 pub fn times_of(rt: &(impl Print + CpuClock + AllocGlobal), words: &[String]) -> Result<()> {
     match words.first().and_then(|word| word.parse().ok()) {
         Some(claims) => times(rt, claims),

@@ -1,4 +1,4 @@
-//! A pool that hears so many claims, and the times of what it is asked.
+//! A pool that hears a number of claims, and the times of what it is asked.
 ghost use Rattle.std.specs.Prelude.{◌≤◌};
 
 use crate::claims::{CLAIM_BYTES, CLAIMS, MEMBERS, PLACES, TEXT};
@@ -18,13 +18,13 @@ use view_table::View;
 /// How many claims are heard in a run, however few the pool hears at a time.
 const RUN: u32 = 100_000;
 
-/// Of so many runs the quickest counts.
+/// How many runs are made; the quickest counts.
 const RUNS: u32 = 5;
 
 /// How many pairs of certificates are asked for, and how often the placed length.
 const QUESTIONS: u32 = 100_000;
 
-/// Who hears: the pool, and what `take` looks at beside it.
+/// Who hears: the pool, and what `take` looks at besides it.
 #[derive(Drop)]
 pub(crate) struct Hearer {
     pool: Pool,
@@ -90,7 +90,7 @@ fn own(alloc: Global) -> Own {
     }
 }
 
-// How many places have all their claims among so many.
+// How many places have all their claims among `claims`.
 fn places_of(claims: u32) -> u32 {
     claims / CLAIMS
 }
@@ -114,7 +114,7 @@ impl Hearer {
         })
     }
 
-    // Hears so many claims of a place, timed.
+    // Hears `count` claims of a place, timed.
     fn hear_some(&mut self, rt: &impl CpuClock, place: u16, count: u32) -> Result<Heard>
         requires { place ≤ 1023 }
     {
@@ -139,7 +139,7 @@ impl Hearer {
         })
     }
 
-    /// Forgets what is heard, and hears the first so many claims.
+    /// Forgets what is heard, and hears the first `claims` claims.
     pub(crate) fn hear_all(&mut self, rt: &impl CpuClock, claims: u32) -> Result<Heard> {
         self.pool.turn_to(view()?);
         let mut heard = NOTHING;
@@ -154,7 +154,7 @@ impl Hearer {
         Ok(heard)
     }
 
-    // Hears as many claims as a run does, so many at a time.
+    // Hears as many claims as a run does, `claims` at a time.
     fn run(&mut self, rt: &impl CpuClock, claims: u32) -> Result<Heard> {
         let mut heard = NOTHING;
         for _ in 0..(RUN / claims.max(1)).max(1) {
@@ -172,7 +172,7 @@ impl Hearer {
         Ok(quickest)
     }
 
-    /// How many of so many pairs of certificates there are, after so many claims are heard.
+    /// How many of `times` pairs of certificates there are, after `claims` claims are heard.
     pub(crate) fn certificates(&self, claims: u32, times: u32) -> u32 {
         certify(&self.pool, places_of(claims), times)
     }
@@ -211,7 +211,7 @@ impl Hearer {
     }
 }
 
-/// Prints the times of a pool that hears so many claims, in nanoseconds, and its bytes a claim.
+/// Prints the times of a pool that hears `claims` claims, in nanoseconds, and its bytes a claim.
 pub(crate) fn times(rt: &(impl Print + CpuClock + AllocGlobal), claims: u32) -> Result<()> {
     let mut hearer = Hearer::new(rt.alloc())?;
     let heard = hearer.quickest(rt, claims)?;

@@ -1,4 +1,4 @@
-//! What the rules ask of a pool beside its own calls: what members say of the view's end and of ranks, and what is certified
+//! What the rules ask of a pool besides its own calls: what members say of the view's end and of ranks, and what is certified
 //! of a rank, a place and a message (docs/PROTOCOL.md, «Hearing»).
 #![tactic(auto)]
 

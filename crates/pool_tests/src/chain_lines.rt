@@ -5,7 +5,7 @@ use std::alloc::{AllocError, Global};
 use std::process::Abort;
 use std::test::Fail;
 
-// The kit, of which process 0 is the one member, up to the line `go`.
+// The kit, whose one member is process 0, up to the line `go`.
 const KIT: [&[u8]; 13] = [
     b"rampart kit 1\n",
     b"scheme plain\n",

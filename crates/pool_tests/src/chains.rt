@@ -76,7 +76,7 @@ const A_WANT: &[u8] = &[1, 3, 0, 0, 0, 0];
 
 const NO_FRAME: &[u8] = &[2];
 
-// The members behind the genesis of processes 0 to 3 by this frame, or why there are none.
+// The members that this frame shows after the genesis of processes 0 to 3, or why there are none.
 fn members_shown(alloc: Global, frame: &[u8]) -> Result<Result<Vec<Pid>, ChainFault>, NoMemory> {
     let Some(genesis) = View::new(0, &[pid(0), pid(1), pid(2), pid(3)]) else {
         return Ok(Err(ChainFault::NotProof));

@@ -5,7 +5,7 @@ use Rattle.message_defs.specs.Statements.{Statement, Init, InitAt}
 use Rattle.group_defs.specs.Process.{Pool}
 use Rattle.group_defs.specs.Certified.{heard_on}
 
--- of the process's Inits of the view none from this number on is heard, and the one before it is
+-- `end` is one more than the greatest number of a heard Init of the sender, or 0
 pub record IsInitsEnd (h : Pool) (sender end : ℕ) : Type 0 where
   pub past : (l : ℕ) → end ≤ l → heard_on h sender (InitAt h.view.number l) ≡ None
   pub last : (l : ℕ) → end ≡ l + 1 → is_some (heard_on h sender (InitAt h.view.number l)) ≡ true

@@ -13,20 +13,20 @@ use Rattle.pool_values.specs.Ends.{AreInitsEnds}
 abbrev pub placed_in : Pool → Prefix
 placed_in h = record { view = h.view; batches = placed h }
 
--- they are these, the places are kept so far, these updates are notified, and of each process the Inits are heard so far
+-- they are these, places are kept up to `kept_to`, these updates are notified, and `ends` is up to where each process's Inits are heard
 pub record AreCounted (h : Pool) (prefix : Prefix) (kept_to : ℕ) (notified : UpdateSet) (ends : List ℕ) : Type 0 where
   pub places : prefix ≡ placed_in h
   pub fixed : kept_to ≡ fixed_length h
   pub updates : AreNotified h notified
   pub inits : AreInitsEnds h ends
 
--- so it is now, of h; and so it was at the mark, of g, when so many places were certified from the first on
+-- so it is now, of h; and so it was at the mark, of g, with the first `m.placed` places certified
 pub record AreMarkedCounted (h g : Pool) (prefix : Prefix) (kept_to : ℕ) (notified : UpdateSet) (ends : List ℕ) (m : Reached) : Type 0 where
   pub here : AreCounted h prefix kept_to notified ends
   pub there : AreCounted g (record prefix { batches = take m.placed prefix.batches }) m.fixed m.notified m.ends
   pub few : m.placed ≤ length prefix.batches
 
--- each of these batches is certified at its place, of which there are 1,024 at most
+-- each of these batches is certified at its place, and there are 1,024 at most
 pub record ArePlaced (h : Pool) (batches : List Batch) : Type 0 where
   pub each : (k : ℕ) (b : Batch) → slice_get batches k ≡ Some b → place_at h k ≡ Some b
   pub few : length batches ≤ 1024

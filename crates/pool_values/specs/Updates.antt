@@ -18,6 +18,6 @@ has_update s Renew = s.renewed
 abbrev pub AreNotified : Pool → UpdateSet → Type 0
 AreNotified h s = (u : Update) → has_update s u ≡ is_notified h u
 
--- the update that a Notify tells, where more than f members notify it
+-- the update that a Notify names, where more than f members notify it
 abbrev pub notified_said : Pool → Statement → Option Update
 notified_said h st = if is_some_and (update_said st) (is_notified h) then update_said st else None

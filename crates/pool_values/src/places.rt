@@ -42,7 +42,7 @@ pub struct Places {
     marked: Reached,
 }
 
-// How many places are certified from the first on, and what else is told of the heard claims.
+// How many places are certified from the first on, and what else is kept of the heard claims.
 #[derive(Clone, Copy)]
 struct Reached {
     placed: u16,
@@ -116,7 +116,7 @@ fn batch_at(quorums: &Quorums, place: u16) -> Option<Batch>
     }
 }
 
-// Puts the batches of the places that are certified now behind those before. It is called where a place is certified, and stands apart
+// Puts the batches of the places that are certified now after those before. It is called where a place is certified, and kept apart
 // from what is called for each claim.
 #[inline(never)]
 fn follow(quorums: &Quorums, prefix: &mut PlacedBatches)
@@ -143,7 +143,7 @@ fn is_placed_at(quorums: &Quorums, statement: &Statement<'_>, place: u16) -> boo
     }
 }
 
-// Puts the batches of the places that are certified with this claim, the last that was heard, behind those before. There is one only
+// Puts the batches of the places that are certified with this claim, the last that was heard, after those before. There is one only
 // where the claim is a Place of the next place, and is certified itself.
 fn follow_claim(quorums: &Quorums, statement: &Statement<'_>, prefix: &mut PlacedBatches)
     requires range { IsStatement (stmt statement.now) }
@@ -176,7 +176,7 @@ fn fixed_with(quorums: &Quorums, fixed: u16, statement: &Statement<'_>) -> u16
     }
 }
 
-// Whether more than f members notify the update. It is called for a Notify alone, and stands apart from what is called for each claim.
+// Whether more than f members notify the update. It is called for a Notify alone, and kept apart from what is called for each claim.
 #[inline(never)]
 fn is_notified(quorums: &Quorums, update: Update) -> bool
     ensures { result ≡ defs.is_notified quorums.now.pool (update_of update) }
@@ -187,7 +187,7 @@ fn is_notified(quorums: &Quorums, update: Update) -> bool
     faulty(claims.view().members().len()) < backers
 }
 
-// The update that a Notify tells.
+// The update that a Notify names.
 fn update_said(statement: &Statement<'_>) -> Option<Update>
     ensures { option_map update_of result ≡ defs.update_said (stmt statement.now) }
 {
@@ -197,7 +197,7 @@ fn update_said(statement: &Statement<'_>) -> Option<Update>
     }
 }
 
-// Whether more than f members notify the update that the statement tells.
+// Whether more than f members notify the update that the statement names.
 fn is_told_enough(quorums: &Quorums, statement: &Statement<'_>) -> bool
     ensures { result ≡ is_some_and (defs.update_said (stmt statement.now)) (defs.is_notified quorums.now.pool) }
 {
@@ -207,7 +207,7 @@ fn is_told_enough(quorums: &Quorums, statement: &Statement<'_>) -> bool
     }
 }
 
-// The update that the statement tells, where more than f members notify it.
+// The update that the statement names, where more than f members notify it.
 fn notified_by(quorums: &Quorums, statement: &Statement<'_>) -> Option<Update>
     ensures { option_map update_of result ≡ notified_said quorums.now.pool (stmt statement.now) }
 {
@@ -258,7 +258,7 @@ impl Places {
         })
     }
 
-    /// Forgets what is heard, and turns to this view, where the mark stands at nothing.
+    /// Forgets what is heard, and turns to this view, with the mark at nothing.
     pub fn turn_to(&mut self, view: View)
         ensures pool { self.new.pool ≡ empty_pool view }
         ensures marked { self.new.marked ≡ empty_pool view }
@@ -287,7 +287,7 @@ impl Places {
         };
     }
 
-    /// Forgets what was heard behind the mark.
+    /// Forgets what was heard after the mark.
     pub fn rewind(&mut self)
         ensures pool { self.new.pool ≡ self.old.marked }
         ensures marked { self.new.marked ≡ self.old.marked }
@@ -299,7 +299,7 @@ impl Places {
         self.ends = self.marked.ends;
     }
 
-    /// Makes room for so many claims more, with so many bytes in all.
+    /// Makes room for `claims` claims more, with `bytes` bytes in all.
     pub fn reserve(&mut self, claims: usize, bytes: usize) -> Result<(), NoMemory>
         ensures same { self.new.pool ≡ self.old.pool }
         ensures marked { self.new.marked ≡ self.old.marked }

@@ -6,7 +6,7 @@ ghost use Rattle.pool_values.specs.Updates.{has_update};
 
 use rp_base::{Pid, PidSet, Update};
 
-/// A set of updates. Which it has, `has_update` of the specs says.
+/// A set of updates. `has_update` of the specs says which it has.
 #[derive(Clone, Copy)]
 pub struct UpdateSet {
     removed: PidSet,

@@ -5,7 +5,7 @@ use rp_base::{MemSink, MemSource, NoDisk, NoLink};
 use std::alloc::{AllocError, Global};
 use std::test::Fail;
 
-/// A kit of the processes 0 and 1, of which 0 alone is a member.
+/// A kit of the processes 0 and 1; 0 alone is a member.
 const KIT: &[u8] = b"rampart kit 1
 scheme plain
 group 6f289d5b5aa425dc2f365877e4cf8595
@@ -82,7 +82,7 @@ port 1 47001
 go
 ";
 
-/// The answer to an input of which reads and writes with these numbers fail.
+/// The answer to an input whose reads and writes with these numbers fail.
 fn answered(
     alloc: Global,
     input: &[u8],

@@ -12,7 +12,7 @@ use std::process::ExitCode;
 use std::test::Fail;
 use story_cli::story;
 
-/// A command line: the words behind the program's name.
+/// A command line: the words after the program's name.
 #[derive(Drop)]
 struct Line<'a> {
     words: &'a [&'a [u8]],

@@ -149,7 +149,7 @@ fn a_kit_is_spelled_again(rt: HostRuntime) -> Result<(), Fail> {
     Ok(())
 }
 
-// Faults are those that the other program tells.
+// Faults are those that the other program gives.
 #[test]
 fn faults_of_kits_are_told(rt: HostRuntime) -> Result<(), Fail> {
     for (text, told) in [

@@ -101,7 +101,7 @@ const DELIVERED: [&[u8]; 2] = [
 /// The name of a journal.
 const FILE: &str = "node_calls_journal";
 
-/// A kit with these ports and hosts, and behind it these lines.
+/// A kit with these ports and hosts, and after it these lines.
 fn input(alloc: Global, ports: [u16; 2], hosts: &[&str], script: &str) -> Result<Vec<u8>, Fail> {
     let [first, second] = ports;
     let mut text = format!(in alloc; "{PUBLIC}port 0 {first}\nport 1 {second}\n")?;
@@ -214,7 +214,7 @@ fn a_disk_that_fails_ends_a_node(rt: HostRuntime) -> Result<(), Fail> {
     Ok(())
 }
 
-/// Lines without those that tell of receives.
+/// Lines without those of receives.
 fn without_receives(alloc: Global, text: &[u8]) -> Result<Vec<u8>, Fail> {
     let mut kept = Vec::new(alloc);
     for line in text.split(|byte: &u8| *byte == b'\n') {

@@ -43,7 +43,7 @@ agree yes
 sound yes
 ";
 
-/// Inputs that have no report, told by what stands behind the header of `ONE_MEMBER`, and their lines.
+/// Inputs that have no report, given by what follows the header of `ONE_MEMBER`, and their lines.
 const STOPPED: [(&[u8], &[u8]); 4] = [
     (b"\x0a", b"stop 7 tag 62\n"),
     (b"\x03\x00\x00\x00\x00\x00", b"stop 7 frame 0 0 0\n"),
@@ -167,7 +167,7 @@ fn an_input_without_a_report_is_told_why(rt: HostRuntime) -> Result<(), Fail> {
     Ok(())
 }
 
-/// Gives so many bytes at a time.
+/// Gives at most `most` bytes at a time.
 #[derive(Drop)]
 struct Slow {
     bytes: Vec<u8>,
@@ -189,7 +189,7 @@ impl Source for Slow {
     }
 }
 
-/// Whether this is written, and the run ends so, where the input comes so many bytes at a time.
+/// Whether this is written, and the run ends so, where the input comes at most `most` bytes at a time.
 fn is_answered_slowly(
     alloc: Global,
     words: &[String],

@@ -1,4 +1,4 @@
--- What the answer to a chain tells that may begin at any view, and what its views have to do with those of the group.
+-- What the answer to a chain says that may begin at any view, and what its views have to do with those of the group.
 use Rattle.std.specs.Prelude.{◌≡◌, ℕ, ◌+◌, ◌≤◌, List, [], ◌∷◌, ◌++◌, length, map, take, drop, codes, flat_map, All, Some, None, Ok, slice_get}
 use Rattle.std.specs.List.{AllByRecursion, join_with_byte}
 use Rattle.std.specs.Fmt.{decimal}
@@ -41,7 +41,7 @@ start_behind front = start_of (setting_of front.kit) (parts_of front.rest)
 abbrev pub views_from : Setting → Start → List View
 views_from s b = b.view ∷ views_shown s b.view (proofs_in b.lines)
 
--- ---- what is told of it
+-- ---- what is said of it
 
 -- A family of the kit's group under the premises of agreement, and the proofs say of its correct processes what is their own word.
 pub record IsQuotedFrom (front : Front) (f : Family) : Type 0 where
@@ -49,7 +49,7 @@ pub record IsQuotedFrom (front : Front) (f : Family) : Type 0 where
   pub premises : Premises f
   pub own : All (IsOwnWord f) (proofs_in (start_behind front).lines)
 
--- Of bytes that begin with a kit: the answer is the line of each view of the chain in order, and then at most the line of a stop. Where the
+-- For bytes with a kit in front: the answer is the line of each view of the chain in order, and then at most the line of a stop. Where the
 -- first of these views is the one that every correct process with a view of its number has, so is each; and where a correct process has
 -- installed the first one, one has installed each but the last.
 pub record TellsViewsFrom (bytes : List ℕ) (front : Front) : Type 0 where

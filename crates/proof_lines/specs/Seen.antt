@@ -12,7 +12,7 @@ abbrev pub only : List (List ℕ) → Option (List ℕ)
 only (frame ∷ []) = Some frame
 only _ = None
 
--- the line of a view of which the one frame is this
+-- the line of a view whose one frame is this
 abbrev pub frame_line : List ℕ → List ℕ
 frame_line frame = codes "proof " ++ (encode_lower frame ++ line_feed ∷ [])
 

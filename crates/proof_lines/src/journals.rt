@@ -20,7 +20,7 @@ fn alone(p: Pid) -> PidSet
     set
 }
 
-/// A line for each view that the process left, in order, as the journal tells of it that hosts it: of what the kit and these journals are, an
+/// A line for each view that the process left, in order, as the journal that hosts it says: of what the kit and these journals are, an
 /// audit of this process alone is made.
 ///
 /// # Errors

@@ -30,7 +30,7 @@ fn only_frame(frames: &mut Frames) -> Option<Payload>
     }
 }
 
-// Appends the line of a view of which the one frame is this.
+// Appends the line of a view whose one frame is this.
 fn push_frame(out: &mut Vec<u8>, frame: &[u8]) -> Result<(), NoMemory>
     ensures pushed { OnOk result (out.new.items ≡ out.old.items ++ frame_line frame.now) }
     ensures bytes { IsBytes frame.now }
@@ -51,7 +51,7 @@ fn push_large(out: &mut Vec<u8>, me: Pid) -> Result<(), NoMemory>
     Ok(())
 }
 
-// Appends the line of a view of which these are the frames, and takes them.
+// Appends the line of a view whose frames are these, and takes them.
 fn push_frames(out: &mut Vec<u8>, me: Pid, frames: &mut Frames) -> Result<(), NoMemory>
     ensures { OnOk result ((out.new.items ≡ out.old.items ++ line_by me (only frames.old.frames))
         × ((frame : List ℕ) → only frames.old.frames ≡ Some frame → IsBytes frame)) }

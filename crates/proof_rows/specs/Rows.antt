@@ -74,7 +74,7 @@ pub record StartsAreRead : Type 0 where
   -- without such a line a chain begins with the first view
   pub whole : started_at alone 9 (parts_of (first_line ++ second_line))
       ≡ record { written = codes "view 0 : 0\nview 1 : 0 1\nview 2 : 0 1\n"; status = 0 }
-  -- the second line shows the view after the one that is told first
+  -- the second line shows the view after the one that is given first
   pub begun : started_at alone 9 (parts_of (codes "view 1 : 0 1\n" ++ second_line))
       ≡ record { written = codes "view 1 : 0 1\nview 2 : 0 1\n"; status = 0 }
   pub refused : started_at alone 9 (parts_of (codes "view 1 : 0 2\n" ++ second_line))

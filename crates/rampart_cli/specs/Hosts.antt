@@ -5,8 +5,8 @@ use Rattle.node_traces.specs.Outside.{LinkSeen, SinkSeen, SourceSeen}
 use Rattle.node_traces.specs.Service.{Asked}
 use Rattle.node_loop.specs.Ended.{HasEnded}
 
--- The run of a node has ended, whose lines have at most so many bytes, and the program ends with this status. Of all that the service was asked
--- in the run, and of its answers, this holds.
+-- The run of a node, with lines of at most `most` bytes, has ended, and the program ends with this status. Of all that the service was
+-- asked in the run, and of its answers, this holds.
 pub record HasEndedWith (Are : List Asked → Type 0) {D : Type 0} (seen : D → Option (List ℕ)) (may_leave : D → List ℕ → Type 0)
     (moment : D → ℕ) (left_since : D → ℕ → List ℕ → Type 0) (most : ℕ) (f : Found) (k : SourceSeen) (link : LinkSeen)
     (sink : SinkSeen) (old : D) (left : Option (List ℕ)) (faults : ℕ) (link_now : LinkSeen) (sink_now : SinkSeen) (new : D) (status : ℕ)

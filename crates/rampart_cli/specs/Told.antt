@@ -1,4 +1,4 @@
--- What the answer of `ask` tells of a group whose processes serve a store.
+-- What the answer of `ask` says of a group whose processes serve a store.
 use Rattle.std.specs.Prelude.{◌≡◌, ℕ, List, All, Some, Ok}
 use Rattle.signature_defs.specs.Schemes.{is_valid}
 use Rattle.group_defs.specs.Family.{accounts}
@@ -16,7 +16,7 @@ pub record IsServedBy (kit : Kit) (q : Question) (sv : Services) : Type 0 where
   pub installed : IsInstalled sv.family q.view
   pub own : All (IsOwnReply sv (key_in q.keys)) q.replies
 
--- Of bytes in which this question stands behind this kit: its answer is written, which is an answer exactly where more than f members of the
+-- For bytes with this question after this kit: its answer is written, which is an answer exactly where more than f members of the
 -- view vouch for one in valid replies, and then the least of these; and it is the store's answer to the payload, at this place of the group's
 -- one sequence of messages.
 pub record TellsAnswer (payload bytes : List ℕ) (kit : Kit) (q : Question) : Type 0 where
@@ -25,6 +25,6 @@ pub record TellsAnswer (payload bytes : List ℕ) (kit : Kit) (q : Question) : T
   pub of_store : (sv : Services) (c : Content) → IsServedBy kit q sv → answered kit payload q ≡ Some c
       → IsAnswerOf (accounts sv.family) q.view.number payload c
 
--- what the answer to bytes tells, where a question stands in them
+-- what the answer to bytes says, where they have a question
 abbrev pub AskTells : List ℕ → List ℕ → Type 0
 AskTells payload bytes = (kit : Kit) (q : Question) → asked bytes ≡ Ok (kit, q) → TellsAnswer payload bytes kit q

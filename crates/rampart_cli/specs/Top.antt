@@ -2,7 +2,7 @@
 --
 -- What each command answers is said by relations between what a stream held before and what it holds now: of `replay`, `gen` and `keygen` in
 -- `replay_words`, of `chain` in `chain_words`, of `ask` in `store_asking`, of `node`, `guard` and `serve` in `node_loop`, of `audit`
--- in `audit_words`. Of a stream that does not tell what it holds, as standard input and output don't, these say nothing of its bytes (`Answers`
+-- in `audit_words`. Of a stream that does not say what it holds, like standard input and output, these say nothing of its bytes (`Answers`
 -- in `replay_words`). What is said by words, statuses and counts of faults holds of every stream.
 use Rattle.std.specs.Prelude.{◌⊎◌, ℕ, List, map, String, string_bytes}
 use Rattle.std.specs.declared.alloc.Global.{Global}

@@ -49,7 +49,7 @@ pub fn journal_name(words: &[String]) -> &str
     }
 }
 
-/// The whole program: `words` are those behind the program's name, and the answer is the status that it ends with.
+/// The whole program: `words` are those after the program's name, and the answer is the status that it ends with.
 pub fn rampart<S: Source, K: Sink, D: Disk, L: Link>(
     alloc: Global,
     words: &[String],
@@ -87,17 +87,17 @@ pub fn rampart<S: Source, K: Sink, D: Disk, L: Link>(
         (link_seen L.sent L.coming L.faults link.old) (sink_seen K.written K.faults output.old) disk.old (S.left input.new) (S.faults input.new)
         (link_seen L.sent L.coming L.faults link.new) (sink_seen K.written K.faults output.new) disk.new result }
 
-    // guard, whatever the status: the same, but that its service answered each of these calls as a guard does: after a frame it names whom the
+    // guard, whatever the status: the same, but its service answered each of these calls as a guard does: after a frame it names whom the
     // frame shows and its process may expel, and by a line of its own a process sends the others what convicts one. So each hosted process is a
-    // guard of the definitions: one that was it by the entries that the run found is it by those that the journal holds then.
+    // guard of the definitions: if it was one by the entries that the run found, it is one by those that the journal holds then.
     ensures ended_guard { (file : List ℕ) → Asks words.now (Guard file) → (f : Found)
         → HasEndedWith AreOfGuards D.seen D.may_leave D.moment D.left_since most_line_bytes f (source_seen S.left S.faults input.old)
         (link_seen L.sent L.coming L.faults link.old) (sink_seen K.written K.faults output.old) disk.old (S.left input.new) (S.faults input.new)
         (link_seen L.sent L.coming L.faults link.new) (sink_seen K.written K.faults output.new) disk.new result }
 
-    // serve, whatever the status: the same, but that its service answered each of these calls as the servers of a store do, of which each
-    // hosted process has one: they write a reply after each message, and answer lines of their own. And their lines may be longer. So of each
-    // process that is a correct one of a family the laws of the store hold (`StoreLaws`): a reply is the store's answer, a leaf signs one body,
+    // serve, whatever the status: the same, but its service answered each of these calls as the servers of a store do, one for each hosted
+    // process: they write a reply after each message, and answer lines of their own. Their lines may be longer. So for each correct process
+    // of a family the laws of the store hold (`StoreLaws`): a reply is the store's answer, a leaf signs one body,
     // and a joiner has the store of the group.
     ensures ended_serve { (file : List ℕ) → Asks words.now (Serve file) → (f : Found)
         → HasEndedWith ServesStore D.seen D.may_leave D.moment D.left_since most_state_line_bytes f
@@ -216,12 +216,12 @@ pub fn rampart<S: Source, K: Sink, D: Disk, L: Link>(
     ensures only_shown { Asks words.now Chain
         → (result ≡ 0) ⊎ (result ≡ 1) ⊎ (result ≡ 3) ⊎ (result ≡ 4) ⊎ (result ≡ 7) }
 
-    // chain, whatever the status: of the answer to what was read, of which all or the beginning was written. Where a kit was read, it is the
+    // chain, whatever the status: the answer to what was read; all of it or its beginning was written. Where a kit was read, it is the
     // line of each view of a chain and at most one line more; and these are the views of the group, where the proofs quote its correct
     // processes truly.
     ensures views { Asks words.now Chain → (read : List ℕ) → Consumes (S.left input.old) (S.left input.new) read → AnswerTells read }
 
-    // ask: an input in which a question stands gives 0, and one that has a fault gives 7, where memory is left and nothing failed. No status but
+    // ask: an input that has a question gives 0, and one that has a fault gives 7, where memory is left and nothing failed. No status but
     // 0, 1, 3, 4 and 7 comes.
     ensures ask_completes { (payload : List ℕ) → Asks words.now (Ask payload) → answers.Asks (S.left input.old)
         → ¬ Rose (S.faults input.old) (S.faults input.new) → ¬ Rose (K.faults output.old) (K.faults output.new)
@@ -232,14 +232,14 @@ pub fn rampart<S: Source, K: Sink, D: Disk, L: Link>(
     ensures only_answered { (payload : List ℕ) → Asks words.now (Ask payload)
         → (result ≡ 0) ⊎ (result ≡ 1) ⊎ (result ≡ 3) ⊎ (result ≡ 4) ⊎ (result ≡ 7) }
 
-    // ask, whatever the status: of the answer to what was read. Where a question stands in it, it is an answer exactly where more than f members
+    // ask, whatever the status: the answer to what was read. Where that has a question, it is an answer exactly where more than f members
     // of the view gave one in valid replies; and this is the store's, where a correct process installed the view and the valid replies of
     // correct processes are their own.
     ensures accepted { (payload : List ℕ) → Asks words.now (Ask payload)
         → (read : List ℕ) → Consumes (S.left input.old) (S.left input.new) read → AskTells payload read }
 
-    // audit: an input of which something is found gives 0, and one of which nothing is found gives the status of the reason, where memory is
-    // left and nothing failed. No status but 0, 1, 3, 4, 7 and 8 comes.
+    // audit: an input with findings gives 0, and one without them gives the status of the reason, where memory is left and nothing failed.
+    // No status but 0, 1, 3, 4, 7 and 8 comes.
     ensures audit_completes { (listed : List ℕ) → Asks words.now (Audit listed) → HasFindings listed (S.left input.old)
         → ¬ Rose (S.faults input.old) (S.faults input.new) → ¬ Rose (K.faults output.old) (K.faults output.new)
         → (result ≡ 0) ⊎ (result ≡ 1) }
@@ -249,8 +249,8 @@ pub fn rampart<S: Source, K: Sink, D: Disk, L: Link>(
     ensures only_audited { (listed : List ℕ) → Asks words.now (Audit listed)
         → (result ≡ 0) ⊎ (result ≡ 1) ⊎ (result ≡ 3) ⊎ (result ≡ 4) ⊎ (result ≡ 7) ⊎ (result ≡ 8) }
 
-    // node, guard, serve: an input in the node's own words and a journal in order give 0, where memory and room are left and nothing failed; a send or
-    // receive that fails changes no status.
+    // node, guard, serve: an input in the node's own words and a journal in order give 0, where memory and room are left and nothing
+    // failed; a send or receive that fails changes no status.
     ensures hosts { (file : List ℕ) → Asks words.now (Node file) → TellInOrder most_line_bytes (S.left input.old) (D.seen disk.old)
         → ¬ Rose (S.faults input.old) (S.faults input.new) → ¬ Rose (K.faults output.old) (K.faults output.new)
         → ¬ Rose (D.faults disk.old) (D.faults disk.new) → (result ≡ 0) ⊎ (result ≡ 1) ⊎ (result ≡ 6) ⊎ (result ≡ 9) }

@@ -1,4 +1,4 @@
-//! Ranks whose members are to be removed: the deputy behind them takes its turn (docs/PROTOCOL.md, «What is signed»).
+//! Ranks whose members are to be removed: the deputy after them takes its turn (docs/PROTOCOL.md, «What is signed»).
 ghost use Rattle.std.specs.Prelude.{◌≡◌, take_while, length};
 ghost use Rattle.message_defs.specs.Updates.{Remove};
 ghost use Rattle.group_defs.specs.Certified as defs;

@@ -1,4 +1,4 @@
-//! The Ready of a rank: it is due behind a certified Ack (docs/PROTOCOL.md, «What is signed»).
+//! The Ready of a rank: it is due after a certified Ack (docs/PROTOCOL.md, «What is signed»).
 ghost use Rattle.std.specs.Prelude.{◌≡◌, suc};
 ghost use Rattle.std.specs.Option.{option_map};
 ghost use Rattle.message_defs.specs.Limits.{last_rank};

@@ -24,7 +24,7 @@ packed (c ∷ cs) = pack_from (group_of c ∷ []) cs
 abbrev pub frames_as : FrameKind → List Signed → List (List ℕ)
 frames_as kind cs = map (frame_as kind) (packed cs)
 
--- what stands packed and is handed out frame by frame, and what is in the list that is being packed
+-- what is packed and is handed out frame by frame, and what is in the list that is being packed
 pub record Packing : Type 0 where
   pub frames : List (List ℕ)
   pub claims : List Signed

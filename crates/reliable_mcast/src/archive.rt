@@ -83,7 +83,7 @@ impl Model for Displaced {
     ghost invariant = { λ d. (h : Pool) → option_map (λ (h : Holding). h.pool) d.pool ≡ Some h → IsRanged h };
 }
 
-// The claim at this place; None exactly where the list has no more than so many.
+// The claim at this place; None exactly where the list has no more than `place`.
 fn claim_at(kept: &SentClaims, place: usize) -> Option<Claim<'_>>
     requires { AreReadable kept.now }
     ensures claim { option_map (λ c. signed_of (claim_of c)) result ≡ slice_get kept.now place }

@@ -54,7 +54,7 @@ impl Model for Frames {
     ghost view = { λ f. record { frames = f.done.items; claims = f.list } };
 }
 
-// Puts the frame behind those that are done.
+// Puts the frame after those that are done.
 fn put_frame(done: &mut VecDeque<Payload>, frame: Payload) -> Result<(), NoMemory>
     ensures { OnOk result (done.new.items ≡ done.old.items ++ frame ∷ []) }
 {
@@ -62,7 +62,7 @@ fn put_frame(done: &mut VecDeque<Payload>, frame: Payload) -> Result<(), NoMemor
     Ok(())
 }
 
-// Puts the claims of the other list behind the others.
+// Puts the claims of the other list after the others.
 fn put_all(list: &mut SentClaims, other: &SentClaims) -> Result<(), NoMemory>
     ensures list { OnOk result (list.new ≡ extended false list.old other.now) }
     ensures none { other.now ≡ [] → IsOk result }
@@ -73,7 +73,7 @@ fn put_all(list: &mut SentClaims, other: &SentClaims) -> Result<(), NoMemory>
     Ok(())
 }
 
-// Packs one more claim: into the sheet, or behind its end on a new one.
+// Packs one more claim: into the sheet, or after its end on a new one.
 fn pack_claim(
     alloc: Global,
     sheet: &mut Sheet,
@@ -96,7 +96,7 @@ fn pack_claim(
     Ok(())
 }
 
-// Packs the claims of the list behind the frames that are done.
+// Packs the claims of the list after the frames that are done.
 fn pack(
     alloc: Global,
     list: &SentClaims,
@@ -131,7 +131,7 @@ impl Frames {
         })
     }
 
-    /// Puts the claims of the other list behind the others.
+    /// Puts the claims of the other list after the others.
     pub(crate) fn put_list(&mut self, other: &SentClaims) -> Result<(), NoMemory>
         ensures list { OnOk result (Fills self.old self.new (extended false self.old.claims other.now)) }
         ensures none { other.now ≡ [] → IsOk result }
@@ -150,7 +150,7 @@ impl Frames {
         put_places(&mut self.list, pool, place)
     }
 
-    /// Packs the list into frames of this kind, behind those that are not handed out yet, and begins a new list. An empty list takes no
+    /// Packs the list into frames of this kind, after those that are not handed out yet, and begins a new list. An empty list takes no
     /// memory.
     pub(crate) fn close(&mut self, kind: FrameKind) -> Result<(), NoMemory>
         ensures frames { OnOk result (self.new.frames ≡ self.old.frames ++ frames_as kind self.old.claims) }
@@ -168,8 +168,8 @@ impl Frames {
         Ok(())
     }
 
-    /// Packs the Bundle of the claims at these places of `said`, with what goes beside them, behind the frames that are not handed
-    /// out yet. The process has delivered so many places.
+    /// Packs the Bundle of the claims at these places of `said`, with what goes beside them, after the frames that are not handed
+    /// out yet. The process has delivered `delivered` places.
     pub fn resend(
         &mut self,
         pool: &Pool,
@@ -181,7 +181,7 @@ impl Frames {
         requires said { AllByRecursion IsClaim said.now.claims }
         requires empty { self.old.claims ≡ [] }
 
-        // Of each process that has delivered so many places.
+        // For each process that has delivered `delivered` places.
         ensures bundle { OnOk result ((began : Process) → places_in began.delivered ≡ delivered
             → self.new.frames ≡ self.old.frames
             ++ frames_of (Bundle (with_what_goes_beside began pool.now.pool (chosen said.now.claims base.now)))) }
@@ -193,7 +193,7 @@ impl Frames {
         self.close(FrameKind::Bundle)
     }
 
-    /// Puts a Want behind the frames that are not handed out yet: the sender asks for what it lacks, from this view and this
+    /// Puts a Want after the frames that are not handed out yet: the sender asks for what it lacks, from this view and this
     /// place on.
     pub fn want(&mut self, view: u16, place: u16) -> Result<(), NoMemory>
         ensures frames { OnOk result (self.new.frames ≡ self.old.frames ++ frame_bytes (Want view place) ∷ []) }

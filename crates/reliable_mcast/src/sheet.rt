@@ -50,7 +50,7 @@ pub(crate) fn want_frame(alloc: Global, view: u16, place: u16) -> Result<Payload
     Ok(Payload::from_vec(bytes))
 }
 
-// The number of the kind, as it stands in the frame.
+// The number of the kind, as it is in the frame.
 fn number_of(kind: FrameKind) -> u8
     ensures { result ≡ kind_number kind }
 {

@@ -22,7 +22,7 @@ impl Player {
     ghost use Rattle.sig_scheme.specs.Views.{scheme as scheme_of};
     ghost use Rattle.replay_cast.specs.Players.{Plays, Stepped};
 
-    /// The process takes an event, with as many signatures as its key has left. Where memory is wanting, it is as before, or has taken the
+    /// The process takes an event, with as many signatures as its key has left. Where memory runs out, it is as before, or has taken the
     /// event and not all is kept of what it said.
     pub fn step(&mut self, scheme: &AnyScheme, event: &Event<'_>) -> Result<Outcome, NoMemory>
         ensures { (s : Setting) (c : plain.Player) → Plays s self.old c → s.valid ≡ is_valid (scheme_of scheme.now)

@@ -20,7 +20,7 @@ draw_below limit state = state / 2 ^ 32 % limit
 abbrev pub Drawn : Type 0 → Type 0
 Drawn A = A × ℕ
 
--- so many bytes, a draw each
+-- n bytes, a draw each
 unfoldable pub bytes_drawn : ℕ → ℕ → Drawn (List ℕ)
 bytes_drawn zero state = ([], state)
 bytes_drawn (suc n) state =
@@ -63,7 +63,7 @@ round i state =
     let second : Drawn (List ScheduleEvent) = hostile_if (i % 10 == 9) first.1 in
     (first.0 ++ second.0 ++ renewed_if (i % 50 == 49), second.1)
 
--- so many rounds, from round i on
+-- n rounds, from round i on
 unfoldable pub rounds : ℕ → ℕ → ℕ → List ScheduleEvent
 rounds zero i state = []
 rounds (suc n) i state =

@@ -13,7 +13,7 @@ pub data Key : Type 0 where
   Plain : (key : List ℕ) (total : ℕ) → Key
   -- one LMS tree: the typecode of its height, the one-time parameter set, I of 16 bytes and SEED of 32 (RFC 8554, Appendix A)
   Lms : (code : ℕ) (kind : OtsType) (id seed : List ℕ) → Key
-  -- LMS trees in so many levels, all of one height and one-time type; the top tree has this I and SEED (RFC 8554, section 6)
+  -- LMS trees in `levels` levels, all of one height and one-time type; the top tree has this I and SEED (RFC 8554, section 6)
   Hss : (levels code : ℕ) (kind : OtsType) (id seed : List ℕ) → Key
 
 -- ---- the parameters
@@ -22,7 +22,7 @@ pub data Key : Type 0 where
 abbrev pub is_from : ℕ → ℕ → ℕ → Bool
 is_from least most n = nat_le least n && nat_le n most
 
--- the one-time parameter set of this typecode, where trees in so many levels may have it
+-- the one-time parameter set of this typecode, where trees in `levels` levels may have it
 abbrev pub ots_for : ℕ → ℕ → Option OtsType
 ots_for levels code = option_and_then (λ kind. if length_in_range levels kind then Some kind else None) (ots_type_of code)
 
@@ -40,7 +40,7 @@ key_bytes (Hss levels code kind id seed) = levels ∷ tree_bytes code kind id se
 
 -- ---- the ranges
 
--- the parameters of a tree, in so many levels
+-- the parameters of a tree, in `levels` levels
 abbrev pub IsTree : ℕ → ℕ → OtsType → List ℕ → List ℕ → Type 0
 IsTree levels code kind id seed = (height_in_range levels code ≡ true) × (length_in_range levels kind ≡ true) × (length id ≡ 16)
     × (length seed ≡ 32)

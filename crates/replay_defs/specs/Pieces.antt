@@ -24,7 +24,7 @@ pub record Reading : Type 0 where
 unfoldable pub most_waiting : ℕ
 most_waiting = 196608
 
--- These events are read from the bytes one after another, and leave so many of the steps and these bytes.
+-- These events are read from the bytes one after another; of `left` steps `steps` are left then, and of the bytes `rest`.
 abbrev pub AreRead : Roles → ℕ → List ℕ → List ScheduleEvent → ℕ → List ℕ → Type 0
 AreRead roles left bytes [] steps rest = (left ≡ steps) × (bytes ≡ rest)
 AreRead roles left bytes (e ∷ es) steps rest =
@@ -38,7 +38,7 @@ within_limit fed = take most_bytes fed
 abbrev pub readable : Reading → List ℕ
 readable r = take (most_bytes - r.taken) r.waiting
 
--- before the header is whole all bytes wait; behind it the events were read, and the others wait
+-- before the header is whole all bytes wait; after it the events were read, and the others wait
 abbrev pub HasGiven : Option Header → Reading → List ℕ → List ScheduleEvent → Type 0
 HasGiven None r fed es = (es ≡ []) × (r.waiting ≡ fed) × (r.steps ≡ most_steps) × IsErr (header_at fed)
 HasGiven (Some h) r fed es =
@@ -57,12 +57,12 @@ abbrev pub IsShort : {A : Type 0} → Result A Found → Type 0
 IsShort (Ok x) = ⊥
 IsShort (Err found) = found.kind ≡ faults.Short
 
--- Nothing whole waits: the bytes end within the header or an event, or behind the last one, where reading ends within the next event's tag.
+-- Nothing whole waits: the bytes end within the header or an event, or after the last one, where reading ends within the next event's tag.
 abbrev pub NoneWhole : Option Header → Reading → Type 0
 NoneWhole None r = IsShort (header_at r.waiting)
 NoneWhole (Some h) r = IsShort (event_at (roles_of h.processes) r.steps r.waiting)
 
--- What is answered where the next event is asked for: the event behind those that were given; nothing; the fault of the input, however
+-- What is answered where the next event is asked for: the event after those that were given; nothing; the fault of the input, however
 -- it goes on; or want of memory.
 abbrev pub GivesNext : List ℕ → List ScheduleEvent → Reading → Result (Option ScheduleEvent) (Option Fault) → Type 0
 GivesNext fed es r (Ok (Some e)) = Stands r fed (es ++ e ∷ [])

@@ -1,5 +1,5 @@
--- Reading a schedule, with the first fault from left to right. A fault stands at the first byte of the field that has it; while it is
--- read it is told by how many bytes are left there, and its place is how many stand before. TooMany alone stands at the event's tag.
+-- Reading a schedule, with the first fault from left to right. A fault is at the first byte of the field that has it; while it is
+-- read it is given by how many bytes are left there, and its place is how many come before. TooMany alone is at the event's tag.
 use Rattle.std.specs.Prelude.{ℕ, zero, suc, ◌+◌, ◌-◌, Bool, ◌&&◌, not, nat_lt, nat_le, ◌==◌, List, [], ◌∷◌, ◌++◌, length, take, Option, Some, None, Result, Ok, Err, is_ok, if◌then◌else◌}
 use Rattle.std.specs.Option.{ok_or}
 use Rattle.std.specs.Int.{Width, w8, w16, w32, w64}
@@ -26,7 +26,7 @@ use Rattle.replay_defs.specs.Schedules.{Listed, ScheduleEvent, Submit, Raw, Pass
 abbrev pub Step : Type 0 → Type 0
 Step A = Result (A × List ℕ) Found
 
--- the fault stands where these bytes are left
+-- the fault is where these bytes are left
 abbrev pub fault_at : FaultKind → List ℕ → Found
 fault_at kind bytes = record { kind = kind; left = length bytes }
 
@@ -38,11 +38,11 @@ wide_at w bytes = number_at (fault_at faults.Short bytes) w bytes
 abbrev pub byte_at : List ℕ → Step ℕ
 byte_at bytes = wide_at w8 bytes
 
--- so many bytes
+-- n bytes
 abbrev pub field_at : ℕ → List ℕ → Step (List ℕ)
 field_at n bytes = bytes_at (fault_at faults.Short bytes) n bytes
 
--- what the step reads, as the table tells it; where the table has nothing, the fault stands where the step began
+-- what the step reads, as the table gives it; where the table has nothing, the fault is where the step began
 abbrev pub known : {A B : Type 0} → (A → Option B) → FaultKind → (List ℕ → Step A) → List ℕ → Step B
 known table kind step bytes = step bytes >>= λ read. ok_or (table read.0) (fault_at kind bytes) >>= λ is. Ok (is, read.1)
 
@@ -50,7 +50,7 @@ known table kind step bytes = step bytes >>= λ read. ok_or (table read.0) (faul
 abbrev pub passing : {A : Type 0} → (A → Bool) → A → Option A
 passing test a = if test a then Some a else None
 
--- what the step reads, where it passes the test; else the fault stands where the step began
+-- what the step reads, where it passes the test; else the fault is where the step began
 abbrev pub tested : {A : Type 0} → (A → Bool) → FaultKind → (List ℕ → Step A) → List ℕ → Step A
 tested test kind step bytes = known (passing test) kind step bytes
 
@@ -62,7 +62,7 @@ byte_that test kind bytes = tested test kind byte_at bytes
 unfoldable pub process_that : (ℕ → Bool) → FaultKind → List ℕ → Step ℕ
 process_that test kind bytes = byte_that (λ p. nat_le p last_process && test p) kind bytes
 
--- a length of two bytes, at most so many, and that many bytes
+-- a length of two bytes, at most `most`, and that many bytes
 unfoldable pub text_at : ℕ → List ℕ → Step (List ℕ)
 text_at most bytes = do
   len ← tested (λ n. nat_le n most) faults.Field (wide_at w16) bytes
@@ -70,11 +70,11 @@ text_at most bytes = do
 
 -- ---- keys
 
--- a one-time type that so many levels can have
+-- a one-time type that trees in `levels` levels can have
 unfoldable pub ots_at : ℕ → List ℕ → Step OtsType
 ots_at levels bytes = known (ots_for levels) faults.Key byte_at bytes
 
--- the parameters of a tree, in so many levels: its height's typecode, its one-time type, I and SEED
+-- the parameters of a tree, in `levels` levels: its height's typecode, its one-time type, I and SEED
 unfoldable pub tree_at : ℕ → List ℕ → Step (ℕ × OtsType × List ℕ × List ℕ)
 tree_at levels bytes = do
   code ← byte_that (height_in_range levels) faults.Key bytes
@@ -123,7 +123,7 @@ scheme_by version byte = first_that_holds (
     ∷ ((byte == 1) && not (version == 2), schemes.Lms)
     ∷ ((byte == 2) && not (version == 1), schemes.Hss) ∷ [])
 
--- only the third version tells a limit
+-- only the third version gives a limit
 unfoldable pub limit_at : ℕ → List ℕ → Step ℕ
 limit_at version bytes = if version == 3 then byte_that (is_from 2 most_messages) faults.Field bytes else Ok (1, bytes)
 
@@ -135,7 +135,7 @@ listed_at scheme least bytes = do
   key ← key_at scheme role.1
   Ok (record { process = process.0; corrupt = role.0 == 1; key = key.0 }, key.1)
 
--- so many processes, by rising numbers from this one on
+-- n processes, by rising numbers from `least` on
 unfoldable pub all_listed_at : ℕ → Scheme → ℕ → List ℕ → Step (List Listed)
 all_listed_at zero scheme least bytes = Ok ([], bytes)
 all_listed_at (suc n) scheme least bytes = do
@@ -149,7 +149,7 @@ processes_at scheme bytes = do
   count ← byte_that (is_from 1 most_processes) faults.Roster bytes
   all_listed_at count.0 scheme 0 count.1
 
--- those before, and so many more members, each listed and none of those before it
+-- those before, and n more members, each listed and none of those before it
 unfoldable pub members_at : ℕ → (ℕ → Bool) → List ℕ → List ℕ → Step (List ℕ)
 members_at zero listed before bytes = Ok (before, bytes)
 members_at (suc n) listed before bytes = do
@@ -162,7 +162,7 @@ genesis_at listed bytes = do
   count ← byte_that (is_from 1 most_members) faults.Roster bytes
   members_at count.0 listed [] count.1
 
--- the scheme, the batch limit and the group, behind the version that tells which of them there are
+-- the scheme, the batch limit and the group, after the version that says which of them there are
 unfoldable pub setting_at : List ℕ → Step (Scheme × ℕ × List ℕ)
 setting_at bytes = do
   version ← known version_by faults.Magic (field_at 4) bytes
@@ -182,7 +182,7 @@ header_at bytes = do
     genesis.1,
   )
 
--- ---- the events, behind their tags
+-- ---- the events, after their tags
 
 -- who is correct and who corrupt
 pub record Roles : Type 0 where
@@ -242,7 +242,7 @@ module _ (roles : Roles) where
     mask ← wide_at w64 count.1
     Ok (Drain count.0 mask.0, mask.1)
 
-  -- the fields of a Lie; a fault of its statement stands at the statement's first byte, behind the length
+  -- the fields of a Lie; a fault of its statement is at the statement's first byte, after the length
   unfoldable pub lie_at : List ℕ → Step ScheduleEvent
   lie_at bytes = do
     signer ← process_that roles.corrupt faults.Field bytes
@@ -272,13 +272,13 @@ module _ (roles : Roles) where
       (if tag == 6 then about_at Suspect bytes else (if tag == 7 then about_at Join bytes else
       (if tag == 8 then alone_at Renew bytes else alone_at Tick bytes)))))))
 
-  -- an event, where so many steps are left
+  -- an event, where `left` steps are left
   unfoldable pub event_at : ℕ → List ℕ → Step ScheduleEvent
   event_at left bytes = do
     tag ← tested (λ tag. nat_le tag.1 left) faults.TooMany tag_at bytes
     fields_at tag.0.0 tag.1
 
-  -- Events to the end of the bytes, where so many steps are left. Each has a byte at least, so as many turns as there are bytes do.
+  -- Events to the end of the bytes, where `left` steps are left. Each has a byte at least, so as many turns as bytes are enough.
   unfoldable pub events_at : ℕ → ℕ → List ℕ → Result (List ScheduleEvent) Found
   events_at turns left [] = Ok []
   events_at zero left (b ∷ bytes) = Ok []
@@ -296,7 +296,7 @@ whole_of bytes = do
   events ← events_at (roles_of header.0.processes) (length header.1) most_steps header.1
   Ok (record { header = header.0; events = events })
 
--- the place of a fault in so many bytes
+-- the place of a fault in `size` bytes
 abbrev pub placed : ℕ → Found → Fault
 placed size found = record { kind = found.kind; place = size - found.left }
 
@@ -309,7 +309,7 @@ abbrev pub placed_past_limit : FaultKind → Fault → Fault
 placed_past_limit faults.Short fault = too_long
 placed_past_limit kind fault = fault
 
--- what was read of so many bytes, which are the whole input
+-- what was read of an input of `size` bytes
 abbrev pub whole_input : ℕ → Result Schedule Found → Result Schedule Fault
 whole_input size (Ok s) = Ok s
 whole_input size (Err found) = Err (placed size found)
@@ -319,7 +319,7 @@ abbrev pub cut_input : Result Schedule Found → Result Schedule Fault
 cut_input (Ok s) = Err too_long
 cut_input (Err found) = Err (placed_past_limit found.kind (placed most_bytes found))
 
--- the schedule that the bytes spell, or the first fault; past the limit they are too long, where no other fault stands before it
+-- the schedule that the bytes spell, or the first fault; past the limit they are too long, where no other fault comes before it
 unfoldable pub schedule_of : List ℕ → Result Schedule Fault
 schedule_of bytes = if nat_lt most_bytes (length bytes) then cut_input (whole_of (take most_bytes bytes))
     else whole_input (length bytes) (whole_of bytes)

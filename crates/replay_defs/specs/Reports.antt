@@ -2,7 +2,7 @@
 --   rampart report 1
 --   events E
 --   refused EVENT P WORD              for each refused step in order
---   process P PHASE VIEWS DELIVERED SIGNED     for each correct process by rising number, and behind it
+--   process P PHASE VIEWS DELIVERED SIGNED     for each correct process by rising number, and after it
 --     view P X : M M M                for each view: its members in rank order
 --     message P X PLACE SENDER NUMBER HEX      for each message that it delivered, by view
 --     liar P Q                        for each signer with a kept conflict, rising
@@ -117,7 +117,7 @@ message_line me x d = line_text (
     codes "message" ∷ decimal me ∷ decimal x ∷ decimal d.place
     ∷ decimal d.message.sender ∷ decimal d.message.number ∷ payload_word d.payload ∷ [])
 
--- all that it delivered in a view; views are numbered as they stand
+-- all that it delivered in a view; views are numbered in their order
 abbrev pub message_lines : ℕ → ℕ × List Delivered → List ℕ
 message_lines me view = flat_map (message_line me view.0) view.1
 
@@ -140,7 +140,7 @@ halted_line p = elim p.decision [
   | Some d ↦ if p.halted then line_text (codes "halted" ∷ decimal p.me ∷ decimal (places_in p.delivered) ∷ decimal d.1.cut ∷ []) else []
 ]
 
--- all that is told of it
+-- all that is reported of it
 abbrev pub block : List ℕ → Process → List ℕ
 block spent p =
     process_line p
@@ -207,11 +207,11 @@ abbrev pub report_if_read : Bool → Result Schedule Fault → Result (List ℕ)
 report_if_read short (Ok sch) = report_if_run short sch (world_of sch)
 report_if_read short (Err fault) = Err (NoSchedule fault)
 
--- The report of the bytes, or why there is none. A fault of the bytes comes before one of the run, wherever it stands.
+-- The report of the bytes, or why there is none. A fault of the bytes comes before one of the run, wherever it is.
 unfoldable pub report_of : Bool → List ℕ → Result (List ℕ) ReplayFault
 report_of short bytes = report_if_read short (schedule_of bytes)
 
--- what is told in place of a report, behind `stop 7`
+-- the words after `stop 7`, in place of a report
 abbrev pub fault_words : ReplayFault → List (List ℕ)
 fault_words (NoSchedule fault) = schedule_word fault.kind ∷ decimal fault.place ∷ []
 fault_words (Stops (NoSuchFrame event frame sent)) = codes "frame" ∷ decimal event ∷ decimal frame ∷ decimal sent ∷ []

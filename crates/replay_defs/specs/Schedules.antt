@@ -16,9 +16,9 @@
 --     08 Renew    process1
 --     09 Tick     process1
 -- A key is by its scheme: plain key32 total4; LMS height1 (5 to 7) type1 (1 to 4) id16 seed32; HSS levels1 (1 to 3) and these four.
--- Bit p of a mask, the lowest being bit 0, stands for process p. A Drain takes as many steps as it counts, every other event one.
+-- Bit p of a mask, the lowest being bit 0, is that of process p. A Drain takes as many steps as it counts, every other event one.
 -- Bytes are a schedule exactly where they are at most 67,108,864, with 1 to 64 processes and 1 to 16 different members of
--- the roster, at most 1,000,000 steps, each event at a correct process but a Lie by a corrupt one, and nothing behind the last event.
+-- the roster, at most 1,000,000 steps, each event at a correct process but a Lie by a corrupt one, and nothing after the last event.
 use Rattle.std.specs.Prelude.{◌≡◌, ◌≢◌, ℕ, ◌+◌, ◌<◌, ◌≤◌, ◌^◌, Bool, true, ◌&&◌, not, ◌==◌, if◌then◌else◌, List, [], ◌∷◌, ◌++◌, length, sum_by, AllPairs, IsOk, codes}
 use Rattle.std.specs.List.{list_any, flat_map, AllByRecursion}
 use Rattle.std.specs.Int.{w64, to_be_bytes}
@@ -44,15 +44,15 @@ pub data ScheduleEvent : Type 0 where
   Raw : (to from : ℕ) (bytes : List ℕ) → ScheduleEvent
   -- the frame of this number is handed to a process
   Pass : (frame to : ℕ) → ScheduleEvent
-  -- so many deliveries are made, oldest first, to the processes of the mask, and are lost to the others
+  -- `count` deliveries are made, oldest first, to the processes of the mask, and are lost to the others
   Drain : (count mask : ℕ) → ScheduleEvent
   -- a corrupt process signs a statement, and sends it to the processes of the mask
   Lie : (signer mask : ℕ) (statement : List ℕ) → ScheduleEvent
-  -- a process is told to have another removed
+  -- a process is asked to have another removed
   Suspect : (at other : ℕ) → ScheduleEvent
-  -- a process is told to have another added
+  -- a process is asked to have another added
   Join : (at other : ℕ) → ScheduleEvent
-  -- a process is told to have a next view with the same members
+  -- a process is asked to have a next view with the same members
   Renew : (at : ℕ) → ScheduleEvent
   -- time passes for a process
   Tick : (at : ℕ) → ScheduleEvent
@@ -60,7 +60,7 @@ pub data ScheduleEvent : Type 0 where
 -- who takes part
 pub record Header : Type 0 where
   pub scheme : Scheme
-  -- an Order of a correct process has at most so many messages
+  -- the most messages of an Order of a correct process
   pub batch_limit : ℕ
   pub group : List ℕ
   pub processes : List Listed

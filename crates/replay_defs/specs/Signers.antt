@@ -20,7 +20,7 @@ key_public (Plain key total) = public_key_of (secrets.Plain key total)
 key_public (Lms code kind id seed) = public_key_of (secrets.Lms code kind id seed)
 key_public (Hss levels code kind id seed) = public_key_of (secrets.Hss levels code kind id seed)
 
--- its one signature on a body after so many others
+-- its one signature on a body after q others
 abbrev pub key_signature : Key → ℕ → List ℕ → List ℕ
 key_signature (Plain key total) q body = signature_of (secrets.Plain key total) q body
 key_signature (Lms code kind id seed) q body = signature_of (secrets.Lms code kind id seed) q body

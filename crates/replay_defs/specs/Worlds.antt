@@ -85,7 +85,7 @@ is_in mask p = bit_at mask p == 1
 abbrev pub players_that : (ℕ → Bool) → World → List ℕ
 players_that test w = filter test (map (λ c. c.listed.process) w.players)
 
--- A frame gets the next number, once for all its addressees. For each that is a correct process a delivery waits behind the others.
+-- A frame gets the next number, once for all its addressees. For each that is a correct process a delivery waits after the others.
 abbrev pub send : ℕ → (ℕ → Bool) → World → List ℕ → World
 send sender to w bytes = record w {
   frames = w.frames ++ record { sender = sender; bytes = bytes } ∷ [];
@@ -151,7 +151,7 @@ next_delivery s mask w d =
     let others : World = record w { pending = drop 1 w.pending } in
     if is_in mask d.1 then delivers s others d.1 d.0 else others
 
--- so many times, or until none waits
+-- this many deliveries, or until none waits
 unfoldable pub drains : Setting → ℕ → ℕ → World → World
 drains s mask zero w = w
 drains s mask (suc more) w = elim (slice_get w.pending 0) [ None ↦ w | Some d ↦ drains s mask more (next_delivery s mask w d) ]
@@ -188,9 +188,9 @@ lies h w signer mask statement = elim (find (λ l. l.process == signer) h.proces
 
 -- why a world stops
 pub data WorldFault : Type 0 where
-  -- a Pass names a frame that is not sent yet; so many are
+  -- a Pass names a frame that is not sent yet; `sent` are
   NoSuchFrame : (event frame sent : ℕ) → WorldFault
-  -- the bytes of all frames pass 1,073,741,824; with the first frame above they are so many
+  -- the bytes of all frames pass 1,073,741,824; `bytes` counts those up to the first frame above
   TooMuchSent : (event bytes : ℕ) → WorldFault
 
 -- what an event makes of the world
@@ -212,7 +212,7 @@ happens h w (Tick p) = Ok (hands (setting_of h) w p group.Tick)
 unfoldable pub most_sent : ℕ
 most_sent = 1073741824
 
--- The sum of the frames' bytes, with so many before them, up to the first frame with which it passes the limit; none where it doesn't.
+-- The sum of the frames' bytes, with `before` before them, up to the first frame with which it passes the limit; none where it doesn't.
 abbrev pub sum_above : ℕ → List Sent → Option ℕ
 sum_above before [] = None
 sum_above before (f ∷ fs) =

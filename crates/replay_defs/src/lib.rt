@@ -45,14 +45,14 @@ pub enum FaultKind {
     TooMany,
 }
 
-/// A fault, told by how many bytes of the input are left where it stands.
+/// A fault, given by how many bytes of the input are left where it is.
 #[derive(Clone, Copy, PartialEq, Eq)]
 pub struct Found {
     pub kind: FaultKind,
     pub left: usize,
 }
 
-/// A fault of an input, told by how many bytes stand before it.
+/// A fault of an input, given by how many bytes come before it.
 #[derive(Clone, Copy, Debug, PartialEq, Eq)]
 pub struct Fault {
     pub kind: FaultKind,

@@ -1,4 +1,4 @@
-//! Whether all claims of a frame are their signers' words, told by the bytes of its statements, of which none is read.
+//! Whether all claims of a frame are their signers' words, found by the bytes of its statements, none of which is read.
 ghost use Rattle.std.specs.Prelude.{◌≡◌, ℕ, Bool, IsTrue};
 ghost use Rattle.std.specs.List.{list_all, AllByRecursion};
 ghost use Rattle.message_defs.specs.Claims.{claims_of_group, claims_of_groups};

@@ -53,7 +53,7 @@ fn are_claims_own(world: &World, bytes: &[u8]) -> bool
     }
 }
 
-// Whether each claim of the bytes, as a frame, is its signer's own. Mostly all are their signers' words, which needs no reading of them.
+// Whether each claim of the bytes, as a frame, is its signer's own. Mostly all are their signers' words, and then no statement is read.
 fn is_honest(world: &World, bytes: &[u8]) -> bool
     ensures { (h : Header) (v : plain.World) → Shows h world.now v → result ≡ list_all (is_owned (family_of h v)) (claims_of bytes.now) }
 {

@@ -1,4 +1,4 @@
-//! Where the correct processes stand at the end of a run.
+//! The correct processes as they are at the end of a run.
 ghost use Rattle.std.specs.Prelude.{◌≡◌, ℕ, List, map, IfOk};
 ghost use Rattle.byte_defs.specs.Members.{has};
 ghost use Rattle.group_defs.specs.Process.{Setting};
@@ -14,7 +14,7 @@ use report_lines::Standing;
 use rp_base::{NoMemory, PidSet};
 use std::alloc::Global;
 
-/// What a report tells of the process.
+/// What a report says of the process.
 pub(crate) fn standing_of(player: &Player) -> Standing<'_>
     ensures { (s : Setting) (c : plain.Player) → Plays s player.now c → StandsAs result c.now }
 {
@@ -28,7 +28,7 @@ pub(crate) fn standing_of(player: &Player) -> Standing<'_>
     }
 }
 
-/// What each of these processes tells of itself, copied.
+/// What each of these processes reports of itself, copied.
 pub(crate) fn accounts_of(alloc: Global, players: &[Player]) -> Result<Vec<Account>, NoMemory>
     ensures { (s : Setting) (cs : List plain.Player) → ArePlayers s players.now cs
         → IfOk result (λ all. map account all.items ≡ map (λ c. account_of c.now) cs) }

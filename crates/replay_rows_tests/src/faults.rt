@@ -11,7 +11,7 @@ use std::test::Fail;
 /// Where the fields of `ONE_MEMBER` begin; its one event begins at 62.
 const FIELDS: [usize; 14] = [0, 4, 5, 21, 22, 23, 24, 56, 60, 61, 62, 63, 64, 66];
 
-/// Schedules, the place of a byte, another value for it, and the kind of the fault that is told at this place.
+/// Schedules, the place of a byte, another value for it, and the kind of the fault that is reported at this place.
 const CHANGED: [(&[u8], usize, u8, FaultKind); 18] = [
     (ONE_MEMBER, 4, 2, FaultKind::Scheme),
     (TWO_LEVELS, 4, 1, FaultKind::Scheme),
@@ -33,7 +33,7 @@ const CHANGED: [(&[u8], usize, u8, FaultKind); 18] = [
     (THREE_SENDERS, 176, 0, FaultKind::Roster),
 ];
 
-/// Events behind the header of `ONE_MEMBER`, with the fault of the whole and its place.
+/// Events after the header of `ONE_MEMBER`, with the fault of the whole and its place.
 const ALONE: [(&[u8], FaultKind, usize); 15] = [
     (b"\x00", FaultKind::Tag, 62),
     (b"\x0a", FaultKind::Tag, 62),
@@ -64,7 +64,7 @@ const ALONE: [(&[u8], FaultKind, usize); 15] = [
     ),
 ];
 
-/// Events behind the header of `THREE_SENDERS_ONE_LIAR` at its corrupt process, and the place of its number: a Submit and a Pass.
+/// Events after the header of `THREE_SENDERS_ONE_LIAR` at its corrupt process, and the place of its number: a Submit and a Pass.
 const AT_THE_LIAR: [(&[u8], usize); 2] = [
     (b"\x01\x03\x00\x00", 180),
     (b"\x03\x00\x00\x00\x00\x03", 184),
@@ -82,7 +82,7 @@ const NO_STATEMENTS: [&[u8]; 5] = [
     b"\x00\x09\x0c\x00\x00\x00\x00\x01\x00\x00\x00",
 ];
 
-/// The header of a schedule, which has so many bytes, and other events after it.
+/// The header of a schedule, which has `header` bytes, and other events after it.
 fn after(alloc: Global, schedule: &[u8], header: usize, events: &[u8]) -> Result<Vec<u8>, Fail> {
     let mut bytes = schedule.to_vec(alloc)?;
     bytes.truncate(header);
@@ -153,7 +153,7 @@ fn a_lie_that_is_no_statement(rt: HostRuntime) -> Result<(), Fail> {
     Ok(())
 }
 
-/// The header of `ONE_MEMBER`, and so many Submits of the longest payload after it.
+/// The header of `ONE_MEMBER`, and `count` Submits of the longest payload after it.
 fn with_submits(alloc: Global, count: u32) -> Result<Vec<u8>, Fail> {
     let mut bytes = after(alloc, ONE_MEMBER, 62, &[])?;
     for _ in 0..count {

@@ -18,7 +18,7 @@ agree yes
 sound yes
 ";
 
-/// What another program, in Python, writes of `ONE_MEMBER` with a payload of 65,535 bytes, the most that a schedule can tell.
+/// What another program, in Python, writes of `ONE_MEMBER` with a payload of 65,535 bytes, the most that a schedule can hold.
 const LONGEST_PAYLOAD: &[u8] = b"rampart report 1
 events 1
 refused 0 0 toolong
@@ -49,7 +49,7 @@ fn made(alloc: Global) -> Result<Vec<u8>, Fail> {
     Ok(schedule)
 }
 
-/// The header of `ONE_MEMBER`, and these bytes after it, so many times.
+/// The header of `ONE_MEMBER`, and these bytes after it, `times` times.
 fn after_header(alloc: Global, events: &[u8], times: u32) -> Result<Vec<u8>, Fail> {
     let mut schedule = ONE_MEMBER.to_vec(alloc)?;
     schedule.truncate(62);

@@ -1,4 +1,4 @@
-//! The examples' schedules, replayed: each whole report is the one that stands beside it. Bytes that have no report, with the reason.
+//! The examples' schedules, replayed: each whole report is the one beside it. Bytes that have no report, with the reason.
 #![tactic(auto)]
 
 #[cfg(test)]

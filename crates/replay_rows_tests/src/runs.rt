@@ -3,7 +3,7 @@ use replay_run::World;
 use schedule_reading::read_schedule;
 use std::test::Fail;
 
-/// Whether so many events were run, of two processes, and none of them has more to tell.
+/// Whether `events` events were run, of two processes, and nothing was refused, spent or raw.
 fn is_whole(world: &World, events: usize) -> bool {
     let counts = [
         world.players().len(),

@@ -18,12 +18,12 @@ fault (Schedule f) = plain.NoSchedule f
 fault (NoSuchFrame event frame sent) = plain.Stops (worlds.NoSuchFrame event frame sent)
 fault (TooMuchSent event bytes) = plain.Stops (worlds.TooMuchSent event bytes)
 
--- the fault that the end of a replay tells; none where memory ran out
+-- the fault with which a replay ends; none where memory ran out
 abbrev pub fault_in : Stop → Option plain.ReplayFault
 fault_in (Fault f) = Some (fault f)
 fault_in NoMemory = None
 
--- the fault that the end of a run tells; none where memory ran out
+-- the fault with which a run ends; none where memory ran out
 abbrev pub fault_of_run : WorldFault → Option worlds.WorldFault
 fault_of_run (stops.NoSuchFrame event frame sent) = Some (worlds.NoSuchFrame event frame sent)
 fault_of_run (stops.TooMuchSent event bytes) = Some (worlds.TooMuchSent event bytes)

@@ -63,7 +63,7 @@ impl Replay {
     }
 
     /// Takes a piece of the input, and runs each event that is whole now. After a fault of the bytes nothing changes; after one of the
-    /// run the events are read, and not run. Where memory is wanting, the replay is given up.
+    /// run the events are read, and not run. Where memory runs out, the replay is given up.
     pub fn feed(self, piece: &[u8]) -> Result<Replay, NoMemory>
         requires { length piece.now ≤ 65536 }
 

@@ -20,7 +20,7 @@ pub enum Run {
     /// All events so far were run.
     Runs(World),
 
-    /// An event stopped the run, for this reason. The events behind it are not run.
+    /// An event stopped the run, for this reason. The events after it are not run.
     Stops(ReplayFault),
 }
 

@@ -1,10 +1,10 @@
 -- What `replay`, `gen` and `keygen` answer.
 --
--- A stream tells what it holds where its `left` or `written` is `Some bytes`, as streams in memory do. Standard input and output do not
--- tell: theirs is `None`. Of a stream that does not tell, `Consumes`, `IsAtEnd`, `Appends`, `AppendsPrefix` and `Keeps` hold whatever the
--- bytes. So where the source does not tell, `Replayed` and `Refused` say that there is an input that runs, or one that has no run, and not
--- that it is the one that was read; and where the sink does not tell, `Reported`, `ReportedInPart` and `Stopped` say nothing of what was
--- written. The contract is proved for every type of stream, so also for one that tells and is otherwise as the system's (docs/TESTED.md,
+-- A stream says what it holds where its `left` or `written` is `Some bytes`, as streams in memory do. Standard input and output do
+-- not: theirs is `None`. Of a stream that does not, `Consumes`, `IsAtEnd`, `Appends`, `AppendsPrefix` and `Keeps` hold whatever the
+-- bytes. So where the source does not, `Replayed` and `Refused` say that there is an input that runs, or one that has no run, and not
+-- that it is the one that was read; and where the sink does not, `Reported`, `ReportedInPart` and `Stopped` say nothing of what was
+-- written. The contract is proved for every type of stream, so also for one that says it and is otherwise as the system's (docs/TESTED.md,
 -- «What is trusted»). What is said by statuses and counts of faults holds of every stream.
 use Rattle.std.specs.Prelude.{◌≡◌, ℕ, Bool, ◌≤◌, List, ◌∷◌, ◌++◌, length, Option, IfSome, Ok, Err, codes}
 use Rattle.std.specs.Io.KnownBytes.{Appends, Consumes, IsAtEnd}

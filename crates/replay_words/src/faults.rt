@@ -29,7 +29,7 @@ fn schedule_word(kind: FaultKind) -> &'static [u8]
     }
 }
 
-/// The status, and the word of a fault behind it.
+/// The status, and the word of a fault after it.
 fn begun(alloc: Global, word: &[u8]) -> Result<Vec<u8>, NoMemory>
     ensures { IfOk result (λ line. line.items ≡ codes "stop 7 " ++ word.now) }
 {

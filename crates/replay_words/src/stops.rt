@@ -5,7 +5,7 @@ ghost use Rattle.replay_words.specs.Statuses.{status_of, line_of, stop_of};
 use crate::streams::ReadFault;
 use rp_base::NoMemory;
 
-/// Why a run stops before its work is done. An input without a report is none of these: its line tells its own fault.
+/// Why a run stops before its work is done. An input without a report is none of these: its line gives its own fault.
 #[derive(Clone, Copy, Debug, PartialEq, Eq)]
 pub enum Stop {
     /// No memory is left.

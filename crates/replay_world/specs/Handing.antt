@@ -29,6 +29,6 @@ claims_of bytes = claims_in (Hand 0 (frame_said bytes))
 abbrev pub Marks : List Sent → List Sent → ℕ → Type 0
 Marks old new i = (f : Sent) → slice_get old i ≡ Some f → new ≡ slice_set old i (record f { handed = true })
 
--- The claims that correct processes were handed are those of these bytes: a test that all of the ones pass, all of the others do.
+-- The claims that correct processes were handed are those of these bytes: a test that all of the one pass, all of the other pass too.
 abbrev pub AreHanded : List (List ℕ) → Header → plain.World → Type 0
 AreHanded kept h v = (test : Claim → Bool) → list_all test (handed (family_of h v)) ≡ list_all test (flat_map claims_of kept)

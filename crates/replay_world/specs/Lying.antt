@@ -11,18 +11,18 @@ pub record SameLiar (old new : Liar) : Type 0 where
   pub total : total new.signer ≡ total old.signer
   pub secret : signature new.signer ≡ signature old.signer
 
--- the corrupt process told the lie in this frame; or it tells none: its key is spent, and nothing changed
+-- the corrupt process lied in this frame; or it could not: its key is spent, and nothing changed
 abbrev pub Lied : List ℕ → Statement → Liar → Liar → Option (List ℕ) → Type 0
 Lied group st old new (Some frame) = Told group st old new frame
 Lied group st old new None = Silent old new
 
--- the corrupt process x, which stands at place i, told the lie or tells none, and all others are as before
+-- the corrupt process x, which is at place i, lied or could not, and all others are as before
 pub record LiedAt (group : List ℕ) (st : Statement) (old new : List Liar) (i : ℕ) (x : Liar) (lie : Option (List ℕ)) : Type 0 where
   pub now : Liar
   pub same : SameLiar x now
   pub all : new ≡ slice_set old i now
   pub lied : Lied group st x now lie
 
--- the corrupt process at place i, whichever it is, told the lie or tells none
+-- the corrupt process at place i, whichever it is, lied or could not
 abbrev pub LiesAt : List ℕ → Statement → List Liar → List Liar → ℕ → Option (List ℕ) → Type 0
 LiesAt group st old new i lie = (x : Liar) → slice_get old i ≡ Some x → LiedAt group st old new i x lie

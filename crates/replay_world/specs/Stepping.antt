@@ -31,11 +31,11 @@ abbrev pub StepsAt : AnyScheme → List Player → List Player → ℕ → Event
 StepsAt scheme old new i e r = (s : Setting) (cs : List plain.Player) (c : plain.Player) → s.valid ≡ is_valid (scheme_of scheme)
     → ArePlayers s old cs → slice_get cs i ≡ Some c → SteppedAt s cs new i c e r
 
--- the refusal, if it is one, stands behind the others
+-- the refusal, if it is one, comes after the others
 abbrev pub Refuses : List Refused → ℕ → ℕ → EventVerdict → List Refused → Type 0
 Refuses old event p verdicts.Taken new = new ≡ old
 Refuses old event p (verdicts.Refused fault) new = new ≡ old ++ record { event = event; process = p; fault = fault } ∷ []
 
--- the process stands behind the others, if it met a spent key
+-- the process comes after the others, if it met a spent key
 abbrev pub Spends : List ℕ → ℕ → Bool → List ℕ → Type 0
 Spends old p spent new = new ≡ (if spent then old ++ p ∷ [] else old)

@@ -1,4 +1,4 @@
--- What is told of what happens in a world.
+-- What is reported of what happens in a world.
 use Rattle.std.specs.Prelude.{ℕ, List, [], ◌∷◌, length, if◌then◌else◌, drop, Some, None, slice_get}
 use Rattle.group_defs.specs.Process.{Setting}
 use Rattle.group_defs.specs.Events as group
@@ -19,11 +19,11 @@ use Rattle.replay_world.specs.Worlds.{Shows}
 abbrev pub frame_count : World → ℕ
 frame_count w = length w.traffic.frames.items
 
--- what came of an event at a process is told
+-- what came of an event at a process is reported
 abbrev pub TellsStep : Told → ℕ → Handed → ℕ → Outcome → Told → Type 0
 TellsStep old p what first r new = (o : group.Outcome) → IsOutcome o r → Tells old (Takes p (handed what) first (seen o) ∷ []) new
 
--- of a world that this one shows, this is told
+-- of a world that this one shows, this is reported
 abbrev pub TellsOf : (Header → plain.World → List Happening) → World → Told → Told → Type 0
 TellsOf what w old new = (h : Header) (v : plain.World) → Shows h w v → Tells old (what h v) new
 

@@ -10,7 +10,7 @@ pub enum WorldFault {
     /// A Pass names a frame that is not sent yet: `sent` frames were. The schedule's author is to blame.
     NoSuchFrame { event: u64, frame: u32, sent: usize },
 
-    /// The bytes of all frames pass 1,073,741,824: with the first frame that passes it they are `bytes`. The
+    /// The bytes of all frames pass 1,073,741,824: `bytes` counts them up to the first frame that passes it. The
     /// schedule's author is to blame.
     TooMuchSent { event: u64, bytes: u64 },
 

@@ -46,7 +46,7 @@ impl World {
     ghost use Rattle.replay_defs.specs.Worlds as plain;
     ghost use Rattle.replay_world.specs.Worlds.{Shows, Stops, HappensYet, count_of};
 
-    // Tells of a lie, where somebody asks.
+    // Reports a lie, where somebody asks.
     fn tell_lie(
         &self,
         alloc: Global,

@@ -76,7 +76,7 @@ fn wait_for(
     Ok(())
 }
 
-// A delivery of the frame waits for each of the players that are addressed, behind the others.
+// A delivery of the frame waits for each of the players that are addressed, after the others.
 fn wait(
     pending: &mut VecDeque<Delivery>,
     players: &[Player],

@@ -33,8 +33,8 @@ pub struct Refused {
     pub fault: EventFault,
 }
 
-/// The correct processes of a schedule, and what happened between them so far. Which world of the definitions it is, the word
-/// `Shows` of the specs says. After a fault it is to be given up.
+/// The correct processes of a schedule, and what happened between them so far. `Shows` of the specs says which world of the
+/// definitions it is. After a fault it is to be given up.
 pub struct World {
     pub(crate) group: GroupId,
     pub(crate) scheme: AnyScheme,
@@ -157,7 +157,7 @@ fn note_spent(all: &mut Vec<Pid>, process: Pid, spent: bool) -> Result<(), NoMem
     Ok(())
 }
 
-// Tells what came of an event, where somebody asks; and answers what it sends.
+// Reports what came of an event, where somebody asks; and answers what it sends.
 fn tell(
     alloc: Global,
     told: &mut Told,
@@ -188,7 +188,7 @@ impl World {
     ghost use Rattle.replay_world.specs.Steps.{Notes, NotesTooMuch, arrives, oldest_arrives};
     ghost use Rattle.std.specs.Prelude.{is_some, slice_get};
 
-    /// Runs one event of the schedule, and tells what happens in it.
+    /// Runs one event of the schedule, and reports what happens in it.
     pub fn event(
         &mut self,
         alloc: Global,
@@ -200,7 +200,7 @@ impl World {
         // What the definitions make of a world that this one shows, it shows then.
         ensures happens { OnOk result (Happens self.old self.new (views.event what.now)) }
 
-        // What is told is what happens in the event of the definitions' world.
+        // What is reported is what happens in the event of the definitions' world.
         ensures tells { OnOk result ((h : schedules.Header) (v : plain.World) → Shows h self.old v
             → IsEvent h.processes (views.event what.now)
             → Tells told.old (told_defs.tells h v (views.event what.now)) told.new) }
@@ -409,7 +409,7 @@ impl World {
         Ok(true)
     }
 
-    // So many deliveries are made or lost, or until none waits.
+    // `count` deliveries are made or lost, or until none waits.
     fn drain(
         &mut self,
         alloc: Global,

@@ -1,4 +1,4 @@
--- Which process of the definitions stands as it is told.
+-- Which process of the definitions is as a report says.
 use Rattle.std.specs.Prelude.{◌≡◌, ℕ, List, [], ◌∷◌, length, codes, All, Option, Some, None, option_and_then, if◌then◌else◌}
 use Rattle.std.specs.Fmt.{decimal}
 use Rattle.text_defs.specs.Words.{line_text}
@@ -10,7 +10,7 @@ use Rattle.view_phases.specs.Phases.{word}
 use Rattle.accounts.specs.Views.{account}
 use Rattle.report_lines.specs.declared.standing.Standing.{Standing}
 
--- The process stands so: its account, its phase, how many statements it signed, the signers with a kept conflict, and where it has
+-- The process is so: its account, its phase, how many statements it signed, the signers with a kept conflict, and where it has
 -- halted, how many places it delivered and the cut. And all that it signed is its own, as with every process that came to be by events.
 pub record StandsAs (t : Standing) (p : Process) : Type 0 where
   pub account : account_of p ≡ account t.account.now

@@ -17,7 +17,7 @@ pub struct Answers {
     /// All correct processes agree.
     pub agree: bool,
 
-    /// Views have causes, and messages stand in order.
+    /// Views have causes, and messages are in order.
     pub sound: bool,
 }
 

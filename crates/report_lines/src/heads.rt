@@ -16,7 +16,7 @@ pub fn push_head(out: &mut Vec<u8>, events: u64) -> Result<(), NoMemory>
     Ok(())
 }
 
-/// How many steps were refused, as the short report tells it.
+/// How many steps were refused, as the short report says it.
 pub fn push_refused_count(out: &mut Vec<u8>, refused: u64) -> Result<(), NoMemory>
     ensures { (w : World) → length w.refused ≡ refused → OnOk result (out.new.items ≡ out.old.items ++ plain.refused_count w) }
 {

@@ -1,5 +1,5 @@
-//! The lines of a schedule's report, long or short (docs/FORMATS.md, «The report»): each function writes one kind of them behind the text
-//! so far. Where memory runs out, what stands behind the text is left open, and the caller gives it up.
+//! The lines of a schedule's report, long or short (docs/FORMATS.md, «The report»): each function writes one kind of them after the text
+//! so far. On `NoMemory` the end of the text is left open, and the caller discards it.
 #![tactic(auto)]
 
 mod answers;

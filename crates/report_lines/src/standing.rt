@@ -2,10 +2,10 @@ use accounts::Account;
 use rp_base::PidSet;
 use view_phases::PhaseWord;
 
-/// What a report tells of a process. Which process of the definitions stands so, the word `StandsAs` of the specs says.
+/// What a report says of a process. `StandsAs` of the specs relates it to a process of the definitions.
 #[derive(Clone, Copy)]
 pub struct Standing<'a> {
-    /// What the process tells of itself.
+    /// What the process reports of itself.
     pub account: &'a Account,
 
     /// The phase of the process in its current view.

@@ -53,7 +53,7 @@ fn hear_kept(pool: &mut Pool, kept: &KeptClaim) -> Result<(), NoMemory>
         signature,
     } = kept.claim();
 
-    // The type is named, since the checker is not told of it here otherwise.
+    // The type is named, since the checker does not know it here otherwise.
     let statement: Statement<'_> = statement;
     let claim = Claim {
         signer,

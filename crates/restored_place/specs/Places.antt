@@ -1,4 +1,4 @@
--- How a process stands in its view, apart from what it has signed.
+-- The state of a process in its view, apart from what it has signed.
 use Rattle.std.specs.Prelude.{◌≡◌, ◌≢◌, ℕ, All, AllPairs}
 use Rattle.byte_defs.specs.Members.{has}
 use Rattle.message_defs.specs.Statements.{slot_of}

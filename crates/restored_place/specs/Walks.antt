@@ -32,7 +32,7 @@ abbrev pub with_orders : ℕ → List Batch → List Claim → List Batch
 with_orders number bs [] = bs
 with_orders number bs (c ∷ cs) = with_orders number (bs ++ option_to_list (batch_said number c.statement)) cs
 
--- the key of the statement's slot behind these, where it is of the view of this number and none of them
+-- the key of the statement's slot after these, where it is of the view of this number and none of them
 abbrev pub with_slot : ℕ → List SlotKey → Statement → List SlotKey
 with_slot number keys st =
     if view_of st == number && not (list_any (same_slot_key (slot_key (slot_of st))) keys) then keys ++ slot_key (slot_of st) ∷ [] else keys

@@ -1,5 +1,5 @@
 //! The own place of a member that begins again: what it has delivered and what it has signed in its view, gathered from the parts of an
-//! image that tell it (docs/FORMATS.md, «Images»).
+//! image that hold it (docs/FORMATS.md, «Images»).
 #![tactic(auto)]
 
 mod delivered;

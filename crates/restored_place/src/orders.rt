@@ -27,7 +27,7 @@ fn batch_of(number: u16, statement: &Statement<'_>) -> Option<Batch>
     }
 }
 
-// Puts the batch of the claim, where that is an Order of the view of this number, behind the others.
+// Puts the batch of the claim, where that is an Order of the view of this number, after the others.
 fn put(orders: &mut Vec<Batch>, number: u16, kept: &KeptClaim) -> Result<(), NoMemory>
     ensures { OnOk result (orders.new.items ≡ orders.old.items ++ option_to_list (batch_said number kept.now.statement)) }
 {

@@ -16,7 +16,7 @@ use std::alloc::Global;
 use stmt_codec::Delivered;
 use view_table::View;
 
-/// The own place of process `me` in the view, where it has delivered these messages at so many places, and `earlier` own messages in the
+/// The own place of process `me` in the view, where it has delivered these messages at `places` places, and `earlier` own messages in the
 /// views before; nothing is signed there yet. The messages are at most 16,384.
 pub fn place_in(
     alloc: Global,
@@ -30,7 +30,7 @@ pub fn place_in(
     requires few { length delivered.now ≤ 16384 }
     requires places { places ≡ places_in (map plain delivered.now) }
 
-    // Of each process that has delivered so, whatever else it is.
+    // For each process that has delivered so, whatever else it is.
     ensures delivered { (p : Process) → p.pool.view ≡ view.now → p.delivered ≡ map plain delivered.now → HasDelivered result p }
     ensures members { length result.counts.items ≡ length view.now.members }
     ensures stands { (s : Setting) (p : Process) → s.roster ≡ roster.now → p.pool.view ≡ view.now → p.me ≡ me

@@ -1,4 +1,4 @@
-//! What the own statements of a view tell: which slots are signed, the greatest rank, and the Ready of greatest rank.
+//! What the own statements of a view say: which slots are signed, the greatest rank, and the Ready of greatest rank.
 ghost use Rattle.std.specs.Prelude.{◌≡◌, [], IfOk, OnOk, None};
 ghost use Rattle.message_defs.specs.Statements as plain;
 ghost use Rattle.group_defs.specs.Certified as certified;

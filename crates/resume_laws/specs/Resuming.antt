@@ -1,4 +1,4 @@
--- A node that begins by a snapshot, beside one that reads the whole journal.
+-- A node that begins by a snapshot, compared with one that reads the whole journal.
 use Rattle.std.specs.Prelude.{◌≡◌, ℕ, ◌+◌, List, ◌++◌, length, option_map, Option, Some, None, IsTrue}
 use Rattle.byte_defs.specs.Members.{has}
 use Rattle.group_defs.specs.Views.{IsView}
@@ -19,7 +19,7 @@ pub record IsSnapshotAfter (c : Cast) (es : List Entry) (s : Snapshot) : Type 0 
   pub entries : (p : ℕ) → IsTrue (has c.hosted p) → s.entries p ≡ length (entries_of p es)
   pub images : (p : ℕ) → IsTrue (has c.hosted p) → s.images p ≡ image_of (taken_up c.setting ((from_start c).from p) (entries_of p es))
 
--- ---- one node beside another
+-- ---- one node compared with another
 
 -- a refused line is one further on, since the line of the snapshot was read before it
 abbrev pub one_line_on : Stop → Stop

@@ -6,6 +6,6 @@ use Rattle.rp_base.specs.declared.roster.Listed.{Listed}
 abbrev pub keys_of : List Listed → List (ℕ × List ℕ)
 keys_of listed = map (λ k. (k.process, k.key.items)) listed
 
--- each number is below those behind it
+-- each number is below those after it
 abbrev pub IsRising : List (ℕ × List ℕ) → Type 0
 IsRising keys = AllPairs (λ k l. k.0 < l.0) keys

@@ -11,7 +11,7 @@ use crate::failed::Failed;
 /// past the old end, may hold any bytes in an image; other bytes stay. After a sync that succeeds there is one image,
 /// which is what a read gives.
 pub trait Disk {
-    /// What a read gives, where the disk tells.
+    /// What a read gives; None where the disk doesn't say.
     ghost seen: { Self → Option (List ℕ) };
 
     /// What a crash at this moment may leave.
@@ -29,7 +29,7 @@ pub trait Disk {
     /// A disk as it reads is one of its images.
     ghost reads_image: { (disk : Self) → IfSome (seen disk) (may_leave disk) };
 
-    /// What a crash may leave at this moment counts from each moment on that has come.
+    /// What a crash may leave now is among what it might have left since each moment up to now.
     ghost counts_now: { (disk : Self) (t : ℕ) (c : List ℕ) → t ≤ moment disk → may_leave disk c → left_since disk t c };
 
     /// From this moment on nothing counts but what a crash may leave now.

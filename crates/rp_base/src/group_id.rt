@@ -1,6 +1,6 @@
 use std::marker::Model;
 
-/// The name of a group: 16 bytes that its processes share. They stand in every body that is signed and in every
+/// The name of a group: 16 bytes that its processes share. They are in every body that is signed and in every
 /// datagram, so nothing said in one group counts in another.
 #[derive(Clone, Copy, Debug, PartialEq, Eq)]
 pub struct GroupId(pub [u8; 16]);

@@ -1,4 +1,4 @@
-//! What every other crate stands on: process numbers and sets of them, updates and values, the roster, the outside as
+//! What every other crate uses: process numbers and sets of them, updates and values, the roster, the outside as
 //! traits, and signatures.
 #![tactic(auto)]
 

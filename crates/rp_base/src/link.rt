@@ -10,7 +10,7 @@ pub enum Got {
     /// No datagram is coming on the port.
     Nothing,
 
-    /// A datagram, of which so many bytes stand at the front of the buffer.
+    /// A datagram of this many bytes, at the front of the buffer.
     Datagram(usize),
 }
 
@@ -18,10 +18,10 @@ pub enum Got {
 pub trait Link {
     ghost use Rattle.rp_base.specs.Links.{Sends, Receives, IsWithin};
 
-    /// Ports and datagrams that were sent, in order, where the link tells.
+    /// Ports and datagrams that were sent, in order; None where the link doesn't say.
     ghost sent: { Self → Option (List (ℕ × List ℕ)) };
 
-    /// The datagrams that are coming on each port, where the link tells.
+    /// The datagrams that are coming on each port; None where the link doesn't say.
     ghost coming: { Self → Option (ℕ → List (List ℕ)) };
 
     /// How often it has failed.
@@ -33,7 +33,7 @@ pub trait Link {
         ensures coming { coming self.new ≡ coming self.old }
         ensures cause { HasCause (faults self.old) (faults self.new) result };
 
-    /// Sends a datagram to a port. Those that are coming stay, and more may come behind them. A call that answers
+    /// Sends a datagram to a port. Those that are coming stay, and more may come after them. A call that answers
     /// `Failed` sends nothing.
     fn send(&mut self, port: u16, bytes: &[u8]) -> Result<(), Failed>
         ensures ok { OnOk result (Sends (sent self.old) (sent self.new) (coming self.old) (coming self.new) port bytes.now) }

@@ -9,8 +9,8 @@ use crate::failed::Failed;
 use crate::streams::Sink;
 use std::alloc::Global;
 
-/// A sink that keeps what is written. Of its calls those fail whose numbers are in a list, the first being number 0,
-/// and those for whose piece there is no memory. Each other call takes its whole piece.
+/// A sink that keeps what is written. A call fails if its number is in a list, the first being number 0,
+/// or if there is no memory for its piece. Each other call takes its whole piece.
 #[derive(Drop)]
 pub struct MemSink {
     bytes: Vec<u8>,

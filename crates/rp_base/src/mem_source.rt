@@ -8,7 +8,7 @@ use crate::calls::{Calls, next_fails, no_calls};
 use crate::failed::Failed;
 use crate::streams::Source;
 
-/// A source over bytes in memory. Of its calls those fail whose numbers are in a list, the first being number 0. It
+/// A source over bytes in memory. A call fails if its number is in a list, the first being number 0. It
 /// gives what it can at each other call.
 #[derive(Drop)]
 pub struct MemSource {

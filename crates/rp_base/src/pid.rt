@@ -18,7 +18,7 @@ impl Model for Pid {
     ghost inverse = { λ n. record { 0 = n } };
 }
 
-/// Process 0, which stands in the unused room of lists of a fixed size.
+/// Process 0, which fills the unused room of lists of a fixed size.
 impl Default for Pid {
     ghost is_default = { λ p. p ≡ 0 };
 

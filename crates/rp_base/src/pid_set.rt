@@ -1,7 +1,7 @@
 use crate::pid::Pid;
 use std::marker::Model;
 
-/// A set of processes, in 64 bits: bit p (the lowest is bit 0) stands for process p. Contracts see it as the rising
+/// A set of processes, in 64 bits: bit p (the lowest is bit 0) is that of process p. Contracts see it as the rising
 /// list of its members.
 #[derive(Clone, Copy, Debug)]
 pub struct PidSet(u64);

@@ -56,7 +56,7 @@ impl Roster {
         })
     }
 
-    /// Puts the process with its public key behind those that are in it.
+    /// Puts the process with its public key after those that are in it.
     pub fn add(&mut self, process: Pid, key: &[u8]) -> Result<(), NoMemory>
         requires { All (λ k. k.0 < process) self.old }
         ensures added { OnOk result (self.new ≡ self.old ++ (process, key.now) ∷ []) }

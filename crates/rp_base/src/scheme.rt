@@ -8,7 +8,7 @@ use std::fmt;
 #[derive(Clone, Copy, Debug, PartialEq, Eq)]
 pub struct Spent;
 
-/// A rule of which signatures are valid.
+/// A rule that says which signatures are valid.
 pub trait Scheme {
     /// Whether this is a signature under the key on the body: key, body, signature.
     ghost valid: { Self → List ℕ → List ℕ → List ℕ → Bool };
@@ -26,7 +26,7 @@ pub trait Tally {
     /// How many can be made in all.
     ghost total: { Self → ℕ };
 
-    /// The same key stands behind both, however many signatures were made.
+    /// Both are the same key, however many signatures were made.
     ghost same_key: { Self → Self → Type 0 };
 
     /// How many signatures were made: 0 to the total.
@@ -144,7 +144,7 @@ pub struct PlainSigner {
 impl PlainSigner {
     ghost use Rattle.rp_base.specs.Signer.{key_of, total_of, used_of};
 
-    /// A signer with this key, which can sign so many times.
+    /// A signer with this key, which can sign `total` times.
     pub fn new(key: [u8; 32], total: u32) -> PlainSigner
         ensures key { key_of result ≡ key }
         ensures total { total_of result ≡ total }

@@ -8,7 +8,7 @@ use crate::failed::Failed;
 
 /// Where bytes come from.
 pub trait Source {
-    /// The bytes that are left, where the source tells.
+    /// The bytes that are left; None where the source doesn't say.
     ghost left: { Self → Option (List ℕ) };
 
     /// How often it has failed.
@@ -24,7 +24,7 @@ pub trait Source {
 
 /// Where bytes go.
 pub trait Sink {
-    /// The bytes that were written, where the sink tells.
+    /// The bytes that were written; None where the sink doesn't say.
     ghost written: { Self → Option (List ℕ) };
 
     /// How often it has failed.

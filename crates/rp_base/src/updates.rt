@@ -5,7 +5,7 @@ use crate::pid::Pid;
 /// Updates are ordered: Remove by process number, then Add by process number, then Renew.
 #[derive(Clone, Copy, Debug, PartialEq, Eq, PartialOrd, Ord, Hash)]
 pub enum Update {
-    /// This member leaves, and those behind it close up.
+    /// This member leaves, and those after it close up.
     Remove(Pid),
 
     /// This process becomes the last member.
@@ -53,7 +53,7 @@ impl Update {
     ghost use Rattle.message_defs.specs.Updates.{update_below};
     ghost use Rattle.rp_base.specs.Views.{update};
 
-    /// Whether it stands before the other in the order of updates.
+    /// Whether it comes before the other in the order of updates.
     pub fn is_before(self, other: Update) -> bool
         ensures { result ≡ update_below (update self) (update other) }
     {
@@ -66,7 +66,7 @@ impl Value {
     ghost use Rattle.message_defs.specs.Updates.{value_below};
     ghost use Rattle.rp_base.specs.Views.{value};
 
-    /// Whether it stands before the other in the order of values.
+    /// Whether it comes before the other in the order of values.
     pub fn is_before(self, other: Value) -> bool
         ensures { result ≡ value_below (value self) (value other) }
     {

@@ -33,12 +33,12 @@ changed h (Wrote at piece) = record {
 }
 changed h Synced = record { file = h.file; kept = h.file; pending = [] }
 
--- after one change behind another
+-- after these changes, in order
 abbrev pub after : Held → List Change → Held
 after h [] = h
 after h (x ∷ xs) = after (changed h x) xs
 
--- bytes of which one write behind another was torn
+-- bytes after these writes in order, each of them torn
 abbrev pub TornBy : List (ℕ × ℕ) → List ℕ → List ℕ → Type 0
 TornBy [] old new = new ≡ old
 TornBy (w ∷ ws) old new = (mid : List ℕ) × Torn w.0 w.1 old mid × TornBy ws mid new
@@ -62,7 +62,7 @@ abbrev pub smear_of : Option ℕ → ℕ × ℕ → List ℕ → List ℕ
 smear_of None w old = old
 smear_of (Some b) w old = smeared b w old
 
--- and one write behind another
+-- and these writes, in order
 abbrev pub all_smeared : Option ℕ → List (ℕ × ℕ) → List ℕ → List ℕ
 all_smeared b [] old = old
 all_smeared b (w ∷ ws) old = all_smeared b ws (smear_of b w old)

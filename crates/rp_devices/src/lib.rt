@@ -1,4 +1,4 @@
-//! A disk and a link in memory, whose calls fail where they are told to.
+//! A disk and a link in memory, whose calls fail on request.
 #![tactic(auto)]
 
 mod bytes;

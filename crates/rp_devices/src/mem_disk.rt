@@ -12,8 +12,8 @@ use rp_base::{Disk, Failed, NoMemory};
 use std::alloc::{AllocError, Global};
 use std::mem;
 
-/// A disk in memory, which remembers each change. Of its calls those fail whose numbers are in a list, the first being
-/// number 0, those that find no memory, and all from the call on at which it is stopped. A write at which it stops may
+/// A disk in memory, which remembers each change. A call fails if its number is in a list, the first being
+/// number 0, if it finds no memory, and from the call on at which the disk is stopped. A write at which it stops may
 /// be torn; any other call that fails changes nothing.
 pub struct MemDisk {
     alloc: Global,

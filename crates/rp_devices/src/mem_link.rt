@@ -15,8 +15,8 @@ pub struct Datagram {
     pub bytes: Vec<u8>,
 }
 
-/// A link in memory: what is sent comes on the port that it was sent to. Of its calls those fail whose numbers are in a
-/// list, the first being number 0, and those that find no memory. A call that fails sends and takes nothing.
+/// A link in memory: what is sent comes on the port that it was sent to. A call fails if its number is in a
+/// list, the first being number 0, or if it finds no memory. A call that fails sends and takes nothing.
 pub struct MemLink {
     alloc: Global,
     sent: Vec<Datagram>,

@@ -35,7 +35,7 @@ FreeInParts = (s : Setting) (h : Pool) (v : Value) → is_free s h v ≡ (may_up
 abbrev pub end_of : Pool → ℕ → Option ℕ
 end_of h m = option_and_then length_said (heard_on h m (EndAt h.view.number))
 
--- so many members' Ends pass a test, and some member's passes it
+-- how many Ends pass a test, and whether one does, counted by the members
 abbrev pub EndsByMember : Type 0
 EndsByMember = (h : Pool) (test : ℕ → Bool) → (count_by test (ends h) ≡ count_by (λ m. is_some_and (end_of h m) test) h.view.members)
     × (list_any test (ends h) ≡ list_any (λ m. is_some_and (end_of h m) test) h.view.members)
@@ -59,7 +59,7 @@ FreeValueIs = (s : Setting) (h : Pool) (update cut : Option ℕ) → IsPool h
 abbrev pub last_of : Pool → ℕ → ℕ → Option (Option (ℕ × Value))
 last_of h r m = option_and_then ready_said (heard_on h m (LastAt h.view.number r))
 
--- so many members' Lasts at r pass a test, and some member's passes it
+-- how many Lasts at r pass a test, and whether one does, counted by the members
 abbrev pub LastsByMember : Type 0
 LastsByMember = (h : Pool) (r : ℕ) (test : Option (ℕ × Value) → Bool)
     → (count_by test (lasts h r) ≡ count_by (λ m. is_some_and (last_of h r m) test) h.view.members)
@@ -85,7 +85,7 @@ abbrev pub AnyIsFound : Type 0
 AnyIsFound = (n : ℕ) (test : ℕ → Bool) (o : Option ℕ) → IsLeastBelow n test o → list_any test (range_with_len 0 n) ≡ is_some o
 
 -- candidates from a on are looked at one by one, where none below a passes both tests: without another, none does; the next one is the
--- least that does, or none below the number behind it does
+-- least that does, or none up to that number does
 abbrev pub NextCandidate : Type 0
 NextCandidate = (a n : ℕ) (test more : ℕ → Bool) (o : Option ℕ) → ((j : ℕ) → j < a → IsFalse (test j && more j)) → IsLeastFrom a n test o
     → (elim o [

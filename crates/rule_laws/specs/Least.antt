@@ -18,11 +18,11 @@ signable s p o = option_and_then (λ st. if may_sign s p st then Some st else No
 abbrev pub first_signable : Setting → Process → List (Option Statement) → Option Statement
 first_signable s p walk = first_some (signable s p) walk
 
--- where both are there, the one stands before the other in the order of what is due
+-- where both are there, the one comes before the other in the order of what is due
 abbrev pub StandBefore : View → Option Statement → Option Statement → Type 0
 StandBefore v a b = (st other : Statement) → a ≡ Some st → b ≡ Some other → IsTrue (numbers_below (due_numbers v st) (due_numbers v other))
 
--- the walk has statements of this kind, each before those behind it, and all of them that may be signed
+-- the walk has statements of this kind, each before those after it, and all of them that may be signed
 pub record IsWalk (s : Setting) (p : Process) (kind : Kind) (walk : List (Option Statement)) : Type 0 where
   pub kinds : (st : Statement) → Contains walk (Some st) → kind_of st ≡ kind
   pub rising : AllPairs (StandBefore p.pool.view) walk
@@ -33,7 +33,7 @@ abbrev pub FirstIsLeast : Type 0
 FirstIsLeast = (s : Setting) (p : Process) (kind : Kind) (walk : List (Option Statement)) → IsWalk s p kind walk
     → least_due s p kind ≡ first_signable s p walk
 
--- a statement that may be signed, and stands before each other one of its kind that may be, is the least that is due
+-- a statement that may be signed, and comes before each other one of its kind that may be, is the least that is due
 abbrev pub LeastOfAll : Type 0
 LeastOfAll = (s : Setting) (p : Process) (st : Statement) → IsTrue (may_sign s p st)
     → ((other : Statement) → IsTrue (may_sign s p other) → kind_of other ≡ kind_of st
@@ -72,7 +72,7 @@ is_of_open_view Places = true
 is_of_open_view Keeps = true
 is_of_open_view _ = false
 
--- and none of them behind it
+-- and none of them after it
 abbrev pub EndedSignsNone : Type 0
 EndedSignsNone = (s : Setting) (p : Process) (kind : Kind) → IsTrue (is_ended p) → IsTrue (is_of_open_view kind) → least_due s p kind ≡ None
 
@@ -82,7 +82,7 @@ EndedSignsNone = (s : Setting) (p : Process) (kind : Kind) → IsTrue (is_ended 
 abbrev pub may_at : Setting → Process → (ℕ → Option Statement) → ℕ → Bool
 may_at s p at k = is_some_and (at k) (may_sign s p)
 
--- the statements of the numbers are of this kind and stand in order, and all that may be signed have a number below n
+-- the statements of the numbers are of this kind and in order, and all that may be signed have a number below n
 pub record IsNumbered (s : Setting) (p : Process) (kind : Kind) (at : ℕ → Option Statement) (n : ℕ) : Type 0 where
   pub kinds : (k : ℕ) (st : Statement) → at k ≡ Some st → kind_of st ≡ kind
   pub rising : (i j : ℕ) → i < j → StandBefore p.pool.view (at i) (at j)

@@ -14,7 +14,7 @@ use Rattle.pool_laws.specs.Least.{IsLeastBelow}
 abbrev pub update_at : ℕ → Update
 update_at i = if nat_lt i 64 then Remove i else if nat_lt i 128 then Add (i - 64) else Renew
 
--- so many updates there are
+-- how many updates there are
 abbrev pub most_updates : ℕ
 most_updates = 129
 

@@ -48,7 +48,7 @@ abbrev pub CountsOneMore : Type 0
 CountsOneMore = (v : View) (before : List Message) (m : Message) (r : ℕ) → IsView v → slice_get v.members r ≡ Some m.sender
     → counts_in v (before ++ m ∷ []) ≡ slice_set (counts_in v before) r (slice_index_or (counts_in v before) r 0 + 1)
 
--- the batch so far, with these counts: at most so many messages more come behind it
+-- the batch so far, with these counts: at most `more` messages come after it
 pub record IsBatchSoFar (h : Pool) (before : List Message) (limit : ℕ) (b : Batch) (cs : List ℕ) (more : ℕ) : Type 0 where
   pub counts : cs ≡ counts_in h.view (before ++ b)
   pub rest : next_messages limit h before ≡ b ++ next_messages more h (before ++ b)
@@ -78,7 +78,7 @@ abbrev pub managers_order : Process → ℕ → Option Batch
 managers_order p k = option_and_then (λ manager. option_and_then ordered (heard_on p.pool manager (OrderAt p.pool.view.number k)))
     (slice_get p.pool.view.members 0)
 
--- the batch may stand at this place: those before it are certified, each of its messages is the next of its sender, and certified
+-- the batch may be at this place: those before it are certified, each of its messages is the next of its sender, and certified
 abbrev pub fits : Pool → ℕ → Batch → Bool
 fits h k b = nat_le k (length (placed h)) && is_batch b && follows (messages (take k (placed h))) b && are_certified h b
 
@@ -92,7 +92,7 @@ PlaceIsLeast = (s : Setting) (p : Process) (o : Option ℕ) → IsPool p.pool �
     → IsLeastBelow most_places (is_place_open p) o
     → least_due s p Places ≡ option_and_then (λ k. option_map (Place p.pool.view.number k) (managers_order p k)) o
 
--- the first i messages of the batch follow, and these are the counts with them: the batch follows where those behind them do
+-- the first i messages of the batch follow, and these are the counts with them: the batch follows where those after them do
 pub record FollowsSoFar (v : View) (before : List Message) (b : Batch) (cs : List ℕ) (i : ℕ) : Type 0 where
   pub counts : cs ≡ counts_in v (before ++ take i b)
   pub rest : follows before b ≡ follows (before ++ take i b) (drop i b)

@@ -30,7 +30,7 @@ ReadyIsLeast = (s : Setting) (p : Process) (o : Option ℕ) → IsPool p.pool �
 
 -- ---- Last
 
--- a member may say its Last: the rank behind those that are removed is above its own, and not signed
+-- a member may say its Last: the rank after those that are removed is above its own, and not signed
 abbrev pub may_last : Process → Bool
 may_last p = is_member p.pool.view p.me && nat_lt (own_rank p) (removed_rank p.pool)
     && not (is_signed p (LastAt p.pool.view.number (removed_rank p.pool)))

@@ -22,12 +22,12 @@ pub fn some_is_least()
     ensures { SomeIsLeast }
 {}
 
-/// What a kind gives next is due, and none of its kind that is due stands before it.
+/// What a kind gives next is due, and none of its kind that is due comes before it.
 pub fn least_is_due()
     ensures { LeastIsDue }
 {}
 
-/// A statement that stands before each other one of its kind that may be signed is the least that is due.
+/// A statement that comes before each other one of its kind that may be signed is the least that is due.
 pub fn least_of_all()
     ensures { LeastOfAll }
 {}
@@ -42,12 +42,12 @@ pub fn outsider_signs_none()
     ensures { OutsiderSignsNone }
 {}
 
-/// Behind the own End no Echo, Order, Place or Keep is due.
+/// After the own End no Echo, Order, Place or Keep is due.
 pub fn ended_signs_none()
     ensures { EndedSignsNone }
 {}
 
-/// Of a kind, the statements that may be signed have each a place of their own in the order of what is due.
+/// Different statements of one kind that may be signed have different places in the order of what is due.
 pub fn each_has_its_place()
     ensures { EachHasItsPlace }
 {}
@@ -111,7 +111,7 @@ pub fn batch_is_full()
     ensures { BatchIsFull }
 {}
 
-/// Of a batch that is to follow, none is looked at yet.
+/// A batch that is to follow, before its first message is looked at.
 pub fn follows_begins()
     ensures { FollowsBegins }
 {}

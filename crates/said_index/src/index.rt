@@ -9,7 +9,7 @@ use std::alloc::Global;
 use std::mem;
 use stmt_codec::OwnClaim;
 
-/// The statements that were said, each by its bytes. Whether one is among them, the word `is_said` of the specs says.
+/// The statements that were said, each by its bytes. `is_said` of the specs says whether one is among them.
 pub struct SaidIndex {
     spelled: IndexSet<Spelled>,
 }
@@ -50,7 +50,7 @@ impl SaidIndex {
         self.spelled.contains(Sought { bytes: spelled })
     }
 
-    /// The statements of these claims are said, too. Where memory is wanting, some of them may be.
+    /// The statements of these claims are said, too. Where memory runs out, some of them may be.
     pub fn add_all(&mut self, alloc: Global, claims: &[OwnClaim]) -> Result<(), NoMemory>
         ensures { (x : List ℕ) → OnOk result (is_said x self.new ≡ (is_said x self.old || is_among_claims x claims.now)) }
     {

@@ -49,7 +49,7 @@ pub struct Roles {
     pub corrupt: PidSet,
 }
 
-/// An event whose bytes still stand in the input.
+/// An event whose bytes are still in the input.
 #[derive(Clone, Copy)]
 pub enum Seen<'a> {
     Submit {
@@ -140,7 +140,7 @@ fn read_drain<'a>(of: &Roles, reader: &mut Reader<'_>) -> Result<Seen<'a>, Found
     Ok(Seen::Drain { count, to })
 }
 
-// A statement of so many bytes, without fault.
+// A statement of `len` bytes, without fault.
 fn read_lied<'a>(len: u16, reader: &mut Reader<'a>) -> Result<&'a [u8], Found>
     ensures { Gives (λ st. (st.now, reader.new.rest.now)) result
         (plain.tested (λ st. is_ok (statement_of st)) kinds.Field (plain.field_at len) reader.old.rest.now) }
@@ -250,7 +250,7 @@ fn read_tag_within(left: u32, reader: &mut Reader<'_>) -> Result<Tag, Found>
     Ok(tag)
 }
 
-// An event, where so many steps are left.
+// An event, where `left` steps are left.
 #[tactic(auto, unfolding(replay_defs::specs::Reading::event_at))]
 fn read_seen<'a>(of: &Roles, left: u32, reader: &mut Reader<'a>) -> Result<Seen<'a>, Found>
     ensures { Gives (λ e. (seen e, reader.new.rest.now)) result (plain.event_at (roles of.now) left reader.old.rest.now) }
@@ -259,7 +259,7 @@ fn read_seen<'a>(of: &Roles, left: u32, reader: &mut Reader<'a>) -> Result<Seen<
     read_fields(tag.tag, of, reader)
 }
 
-/// An event, where so many steps are left.
+/// An event, where `left` steps are left.
 pub fn read_event(
     alloc: Global,
     of: &Roles,
@@ -274,7 +274,7 @@ pub fn read_event(
     }
 }
 
-/// How many steps the next event takes, where so many are left; no memory is taken.
+/// How many steps the next event takes, where `left` are left; no memory is taken.
 pub fn pass_event(of: &Roles, left: u32, reader: &mut Reader<'_>) -> Result<u32, Found>
     ensures ok { IfOk result (λ n. (e : schedules.ScheduleEvent)
         × (plain.event_at (roles of.now) left reader.old.rest.now ≡ Ok (e, reader.new.rest.now)) × (n ≡ schedules.steps_of e)) }

@@ -42,7 +42,7 @@ pub enum ScheduleFault {
     #[error("the input passes {place} bytes")]
     TooLong { place: usize },
 
-    /// With the event whose tag stands here the steps pass 1,000,000.
+    /// With the event whose tag is here the steps pass 1,000,000.
     #[error("the steps pass 1,000,000 with the event at byte {place}")]
     TooMany { place: usize },
 

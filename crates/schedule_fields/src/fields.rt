@@ -1,4 +1,4 @@
-//! Fields of a schedule, one after another. A fault is told by how many bytes are left where it stands.
+//! Fields of a schedule, one after another. A fault is given by how many bytes are left where it is.
 ghost use Rattle.std.specs.Prelude.{◌≡◌, ◌≤◌, length, nat_le, IfOk};
 ghost use Rattle.std.specs.Int.{w16, w32, w64};
 ghost use Rattle.byte_defs.specs.Reads.{Gives};

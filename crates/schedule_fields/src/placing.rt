@@ -1,4 +1,4 @@
-//! Where a fault stands in an input, which may pass the limit.
+//! Where a fault is in an input, which may pass the limit.
 ghost use Rattle.std.specs.Prelude.{◌≡◌};
 ghost use Rattle.replay_defs.specs.Schedules as schedules;
 ghost use Rattle.replay_defs.specs.Reading as plain;
@@ -8,7 +8,7 @@ use replay_defs::{Fault, FaultKind, Found};
 /// The most bytes of a schedule.
 pub const SCHEDULE_BYTES: usize = 67_108_864;
 
-/// The fault, in so many bytes.
+/// The fault, in `size` bytes.
 pub fn placed(size: usize, found: Found) -> Fault
     ensures { result ≡ plain.placed size found }
 {
@@ -18,7 +18,7 @@ pub fn placed(size: usize, found: Found) -> Fault
     }
 }
 
-/// The fault of bytes that pass the limit, where this one stands within it.
+/// The fault of bytes that pass the limit, where this one is within it.
 #[tactic(auto, unfolding(replay_defs::specs::Schedules::most_bytes))]
 pub fn placed_past_limit(found: Found) -> Fault
     ensures { result ≡ plain.placed_past_limit found.kind (plain.placed schedules.most_bytes found) }

@@ -48,7 +48,7 @@ pub enum Key {
     },
 }
 
-/// A plain key that makes no signature, which stands in the unused room of lists of a fixed size.
+/// A plain key that makes no signature, which fills the unused room of lists of a fixed size.
 impl Default for Key {
     ghost use Rattle.std.specs.Prelude.{◌≡◌, replicate};
     ghost use Rattle.schedule_file.specs.declared.schedule.Key.TheVariants.{Plain};
@@ -79,7 +79,7 @@ pub struct Listed {
 pub struct Header {
     pub scheme: Scheme,
 
-    /// An Order of a correct process has at most so many messages, 1 to 16.
+    /// The most messages of an Order of a correct process, 1 to 16.
     pub batch: u8,
     pub group: GroupId,
 
@@ -126,7 +126,7 @@ pub enum ScheduleEvent {
         to: Pid,
     },
 
-    /// So many deliveries are made, the oldest first, to these processes, and are lost to the others.
+    /// `count` deliveries are made, the oldest first, to these processes, and are lost to the others.
     Drain {
         count: u32,
         to: PidSet,
@@ -139,19 +139,19 @@ pub enum ScheduleEvent {
         statement: Vec<u8>,
     },
 
-    /// A process is told to have another removed.
+    /// A process is asked to have another removed.
     Suspect {
         at: Pid,
         of: Pid,
     },
 
-    /// A process is told to have another added.
+    /// A process is asked to have another added.
     Join {
         at: Pid,
         of: Pid,
     },
 
-    /// A process is told to have a next view with the same members.
+    /// A process is asked to have a next view with the same members.
     Renew {
         at: Pid,
     },

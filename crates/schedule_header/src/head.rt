@@ -241,7 +241,7 @@ pub fn all_corrupt(processes: &[Listed]) -> PidSet
     corrupt
 }
 
-/// A header, and the bytes behind it.
+/// A header, and the bytes after it.
 #[tactic(auto, unfolding(replay_defs::specs::Reading::header_at))]
 pub fn read_head(bytes: &[u8]) -> Result<(Head, &[u8]), Found>
     ensures { Gives (λ x. (head_of x.0, x.1.now)) result (plain.header_at bytes.now) }

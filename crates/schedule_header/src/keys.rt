@@ -43,7 +43,7 @@ fn thirty_two(bytes: &[u8]) -> [u8; 32]
     copy
 }
 
-// Trees in so many levels may have this height.
+// Trees in `levels` levels may have this height.
 fn has_height(levels: u8, typecode: u8) -> bool
     ensures { result ≡ height_in_range levels typecode }
 {
@@ -54,7 +54,7 @@ fn has_height(levels: u8, typecode: u8) -> bool
     }
 }
 
-// Trees in so many levels may have this one-time type.
+// Trees in `levels` levels may have this one-time type.
 fn has_length(levels: u8, ots: OtsType) -> bool
     ensures { result ≡ length_in_range levels ots }
 {

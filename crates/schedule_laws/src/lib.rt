@@ -3,7 +3,7 @@
 
 ghost use Rattle.schedule_laws.specs.Laws.{ReadIsSpelled, SpelledIsRead, FrontStands, FaultStands, EndIsWhole};
 
-/// The bytes of which a schedule is read are the schedule's spelling.
+/// Bytes that are read as a schedule are the schedule's spelling.
 pub fn read_is_spelled()
     ensures { ReadIsSpelled }
 {}

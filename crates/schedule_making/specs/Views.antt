@@ -6,6 +6,6 @@ use Rattle.schedule_file.specs.Views.{event}
 use Rattle.schedule_making.specs.declared.making.Making.{Making}
 use Rattle.schedule_making.specs.Behind.{Behind}
 
--- what is drawn stands behind the events
+-- what is drawn comes after the events
 abbrev pub Appends : Making → Making → Drawn (List ScheduleEvent) → Type 0
 Appends old new drawn = Behind (map event old.events.items) drawn (map event new.events.items) new.draws.state

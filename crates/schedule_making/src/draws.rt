@@ -30,7 +30,7 @@ impl Draws {
         (self.state >> 32) % limit
     }
 
-    /// Appends so many bytes, a draw each.
+    /// Appends `count` bytes, a draw each.
     pub fn push_bytes(&mut self, count: u64, out: &mut Vec<u8>) -> Result<(), AllocError>
         ensures { OnOk result (Behind out.old.items (bytes_drawn count self.old.state) out.new.items self.new.state) }
     {

@@ -10,7 +10,7 @@ abbrev pub AreLast : Result (List ScheduleEvent) Found → Option Found → Type
 AreLast read None = (others : List ScheduleEvent) × (read ≡ Ok others)
 AreLast read (Some found) = read ≡ Err found
 
--- the fault of so many bytes, of which those within the limit were read with this found
+-- the fault of `size` bytes, where those within the limit were read with this found
 abbrev pub EndsBy : Option Found → ℕ → Option Fault → Type 0
 EndsBy None size None = size ≤ most_bytes
 EndsBy (Some found) size None = ⊥
@@ -18,7 +18,7 @@ EndsBy None size (Some fault) = (most_bytes < size) × (fault ≡ too_long)
 EndsBy (Some found) size (Some fault) = (size ≤ most_bytes → fault ≡ placed size found)
     × (most_bytes < size → fault ≡ placed_past_limit found.kind (placed most_bytes found))
 
--- Behind a header: the bytes that wait within the limit are events, or have a fault, and there are so many in all.
+-- After a header: the bytes that wait within the limit are events, or have a fault; and this is the fault of all bytes.
 abbrev pub EndsAt : Roles → ℕ → ℕ → List ℕ → List ℕ → Option Fault → Type 0
 EndsAt roles steps taken waiting within fault = (found : Option Found) × AreLast (events_at roles (length within) steps within) found
     × EndsBy found (taken + length waiting) fault

@@ -32,7 +32,7 @@ abbrev pub EndsIn : Roles → ℕ → ℕ → List ℕ → List ℕ → Fault �
 EndsIn roles steps taken waiting within fault = (found : Found) × (event_at roles steps within ≡ Err found)
     × Decides found (taken + length within) (taken + length waiting) (Some fault)
 
--- Behind a header, of which with the events so many bytes were taken: the next event, nothing whole, or the input's fault.
+-- After a header and events of `taken` bytes: the next event, nothing whole, or the input's fault.
 abbrev pub BeginsSo : Roles → ℕ → ℕ → List ℕ → Result (Option NextEvent) Stop → Type 0
 BeginsSo roles steps taken waiting (Ok (Some next)) = IsNext roles steps (take (most_bytes - taken) waiting) next
 BeginsSo roles steps taken waiting (Ok None) = IsShort (event_at roles steps waiting) × (taken + length waiting ≤ most_bytes)

@@ -54,7 +54,7 @@ SeesFront r (Err (stops.Fault fault)) = (fed : List ℕ) (es : List plain.Schedu
     → schedule_of (fed ++ more) ≡ Err fault
 SeesFront r (Err stops.NoMemory) = Unit {0}
 
--- what is known after an event of so many bytes and steps
+-- what is known after an event of `size` bytes and `steps` steps
 abbrev pub given : ℕ → ℕ → Reading → Reading
 given size steps r = record {
   header = r.header;

@@ -25,7 +25,7 @@ fn last_found(of: &Roles, steps: u32, readable: &[u8]) -> Option<Found>
     None
 }
 
-// The fault of an input of so many bytes.
+// The fault of an input of `size` bytes.
 #[tactic(auto, unfolding(replay_defs::specs::Schedules::most_bytes))]
 fn fault_of(found: Option<Found>, size: usize) -> Option<Fault>
     ensures { EndsBy found size result }
@@ -38,7 +38,7 @@ fn fault_of(found: Option<Found>, size: usize) -> Option<Fault>
     }
 }
 
-/// What is wrong with an input that ends with the bytes that wait, behind so many that were read, where so many steps are left.
+/// The fault of an input that ends here, or None: `waiting` is its last part, `taken` bytes came before it, `steps` steps are left.
 #[tactic(auto, unfolding(replay_defs::specs::Schedules::most_bytes))]
 pub fn fault_at_end(of: &Roles, steps: u32, taken: usize, waiting: &[u8]) -> Option<Fault>
     requires { taken ≤ most_bytes }

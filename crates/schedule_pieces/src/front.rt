@@ -66,7 +66,7 @@ pub fn header_found(waiting: &[u8]) -> Found
     found
 }
 
-/// What stops the reading of an input of which so many bytes were fed, and read to the last one up to the limit. None where more
+/// What stops the reading of an input, where `fed` bytes were fed, and read to the last one up to the limit. None where more
 /// bytes may follow.
 pub fn decide(found: Found, read: usize, fed: usize) -> Option<Fault>
     ensures { Decides found read fed result }
@@ -77,7 +77,7 @@ pub fn decide(found: Found, read: usize, fed: usize) -> Option<Fault>
     }
 }
 
-// The fault of so many bytes, where they pass the limit.
+// The fault of `fed` bytes, where they pass the limit.
 #[tactic(auto, unfolding(replay_defs::specs::Schedules::most_bytes))]
 fn past_limit(fed: usize) -> Option<Fault>
     ensures { MatchOption result (fed ≤ most_bytes) (λ fault. (most_bytes < fed) × (fault ≡ plain.too_long)) }
@@ -89,7 +89,7 @@ fn past_limit(fed: usize) -> Option<Fault>
     }
 }
 
-/// The part of the bytes that wait, behind so many that were read, which stands within the limit.
+/// The waiting bytes that lie within the limit, where `taken` bytes came before them.
 #[tactic(auto, unfolding(replay_defs::specs::Schedules::most_bytes))]
 pub fn within_limit(waiting: &[u8], taken: usize) -> &[u8]
     requires { taken ≤ most_bytes }
@@ -119,7 +119,7 @@ fn next_event(
     Ok(NextEvent { event, size })
 }
 
-/// What the bytes that wait behind a header begin with, where so many bytes were read and so many steps are left. None where no event
+/// What the bytes that wait after a header begin with, where `taken` bytes were read and `steps` steps are left. None where no event
 /// is whole yet.
 #[tactic(auto, unfolding(replay_defs::specs::Schedules::most_bytes))]
 pub fn event_front(

@@ -25,7 +25,7 @@ use std::mem;
 
 /// Reads a schedule piece by piece, and gives each event as soon as it is whole. However the input is cut, the events and the fault are
 /// those of `read_schedule` on all of it. The room is that of a header and of 196,608 bytes that wait, however long the input is; only
-/// the bytes of an event that is given are taken beside that.
+/// the bytes of an event that is given are taken besides that.
 pub struct ScheduleReader {
     window: Window,
 
@@ -106,7 +106,7 @@ impl ScheduleReader {
     pub fn feed(&mut self, piece: &[u8])
         requires { length self.old.waiting + length piece.now ≤ most_waiting }
 
-        // What was given so far stands, and the piece follows what was fed.
+        // What was given so far stays, and the piece follows what was fed.
         ensures stands { (fed : List ℕ) (es : List schedules.ScheduleEvent) → Stands self.old fed es
             → Stands self.new (fed ++ piece.now) es }
         ensures stopped { IsSome self.old.fault → self.new ≡ self.old }
@@ -127,7 +127,7 @@ impl ScheduleReader {
         }
     }
 
-    /// The header, once it is whole. A fault behind it does not take it away.
+    /// The header, once it is whole. A fault after it does not take it away.
     pub fn header(&self) -> Option<&Header>
         ensures { MatchOption result (self.now.header ≡ None) (λ h. self.now.header ≡ Some (views.header h.now)) }
     {
@@ -138,7 +138,7 @@ impl ScheduleReader {
         }
     }
 
-    /// The next event, where it is whole; None where the bytes end within the header or an event, or behind the last one. After None
+    /// The next event, where it is whole; None where the bytes end within the header or an event, or after the last one. After None
     /// a piece of 65,536 bytes has room.
     ///
     /// # Errors

@@ -62,7 +62,7 @@ impl Window {
         waiting
     }
 
-    /// Lets a piece wait behind them.
+    /// Lets a piece wait after them.
     pub fn push(&mut self, piece: &[u8])
         requires { length self.old + length piece.now ≤ most_waiting }
         ensures { self.new ≡ self.old ++ piece.now }
@@ -71,7 +71,7 @@ impl Window {
         append(&mut self.bytes, piece);
     }
 
-    /// Lets so many of the first wait no longer.
+    /// Lets the first `count` wait no longer.
     pub fn skip(&mut self, count: usize)
         requires { count ≤ length self.old }
         ensures { self.new ≡ drop count self.old }
@@ -87,7 +87,7 @@ impl Window {
     }
 }
 
-// Moves the bytes from `start` on to the front where so many more have no room behind them, and answers where they stand then.
+// Moves the bytes from `start` on to the front where `more` have no room after them, and answers where they are then.
 #[tactic(auto, unfolding(replay_defs::specs::Pieces::most_waiting))]
 fn make_room(bytes: &mut Vec<u8>, start: usize, more: usize) -> usize
     requires within { start ≤ length bytes.old.items }
@@ -105,7 +105,7 @@ fn make_room(bytes: &mut Vec<u8>, start: usize, more: usize) -> usize
     0
 }
 
-// Moves the bytes behind so many to the front.
+// Moves the bytes after the first `count` to the front.
 fn remove_front(bytes: &mut Vec<u8>, count: usize)
     requires { count ≤ length bytes.old.items }
     ensures items { bytes.new.items ≡ drop count bytes.old.items }

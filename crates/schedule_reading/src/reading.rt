@@ -61,7 +61,7 @@ fn read_input(alloc: Global, bytes: &[u8]) -> Result<Schedule, ScheduleFault>
     }
 }
 
-// The schedule of bytes up to the limit, behind which more follow.
+// The schedule of bytes up to the limit, where more follow.
 fn read_cut(alloc: Global, within: &[u8]) -> Result<Schedule, ScheduleFault>
     ensures { Makes fault_of views.schedule result (plain.cut_input (plain.whole_of within.now)) }
 {
@@ -95,7 +95,7 @@ pub fn read_schedule(alloc: Global, bytes: &[u8]) -> Result<Schedule, ScheduleFa
     // What is a schedule, and so spelled, is read, unless memory runs out.
     ensures only { (s : schedules.Schedule) → IsSchedule s → bytes.now ≡ schedule_bytes s → Makes fault_of views.schedule result (Ok s) }
 
-    // A fault is the first from the left, and stands at its place.
+    // A fault is the first from the left, and is at its place.
     ensures exact { Makes fault_of views.schedule result (plain.schedule_of bytes.now) }
 {
     read(alloc, bytes)

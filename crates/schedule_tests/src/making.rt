@@ -23,7 +23,7 @@ const FIRST: &[u8] = &[
     0x14, 0x71, 0x9a, 0x04, 0x00, 0x00, 0x00, 0x3c, 0x00, 0x00, 0x00, 0x00, 0x00, 0x00, 0x00, 0x0f,
 ];
 
-// The bytes of a schedule are so many, and their hash begins with this number.
+// How many bytes a schedule has, and the number that their hash begins with.
 #[derive(Clone, Copy, Debug, PartialEq)]
 struct Mark {
     size: usize,

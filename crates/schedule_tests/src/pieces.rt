@@ -81,7 +81,7 @@ fn alone(alloc: Global) -> Result<Vec<u8>, AllocError> {
     Ok(bytes)
 }
 
-// Process 0 is correct and process 1 corrupt, with keys in two levels; behind them stands each kind of event.
+// Process 0 is correct and process 1 corrupt, with keys in two levels; after them comes each kind of event.
 fn each_event(alloc: Global) -> Result<Vec<u8>, AllocError> {
     let mut bytes = Vec::new(alloc);
     bytes.extend_from_slice(b"RPS3\x02\x04")?;
@@ -142,7 +142,7 @@ fn spell_text(bytes: &[u8], out: &mut Vec<u8>) -> Result<(), AllocError> {
     out.extend_from_slice(bytes)
 }
 
-// Whether pieces of this size give the events behind the first so many bytes, which are the header.
+// Whether pieces of this size give the events after the first `header` bytes, which are the header.
 fn are_given(alloc: Global, bytes: &[u8], header: usize, size: usize) -> Result<bool, AllocError> {
     let Ok(events) = in_pieces(alloc, bytes, size) else {
         return Ok(false);
@@ -227,7 +227,7 @@ fn is_taken(reader: &mut ScheduleReader, piece: &[u8], events: &mut Vec<Schedule
     feed(reader, piece).is_ok() && take(reader, events).is_ok()
 }
 
-// 1,024 Submits of 65,531 bytes each, and one that the limit cuts off in its payload, which stands from byte 67,107,906 on.
+// 1,024 Submits of 65,531 bytes each, and one that the limit cuts off in its payload, which lies from byte 67,107,906 on.
 #[test]
 fn more_than_the_limit_is_too_long_unless_a_fault_stands_before(
     rt: HostRuntime,
@@ -252,7 +252,7 @@ fn more_than_the_limit_is_too_long_unless_a_fault_stands_before(
     Ok(())
 }
 
-// Ticks of two bytes each: the one behind a million of them is one too many.
+// Ticks of two bytes each: the one after a million of them is one too many.
 #[test]
 fn the_step_behind_a_million_is_too_many(rt: HostRuntime) -> Result<(), Fail> {
     let mut ticks = Vec::new(rt.alloc());

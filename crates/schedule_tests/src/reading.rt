@@ -27,7 +27,7 @@ fn levels(alloc: Global) -> Result<Vec<u8>, AllocError> {
     Ok(bytes)
 }
 
-// A schedule of 67,108,864 bytes, the most that one has: 1,024 Submits of 65,535 bytes behind that header, and one of 962.
+// A schedule of 67,108,864 bytes, the most that one has: 1,024 Submits of 65,535 bytes after that header, and one of 962.
 fn longest(alloc: Global) -> Result<Vec<u8>, AllocError> {
     let mut bytes = alone(alloc)?;
     for _ in 0..1024 {

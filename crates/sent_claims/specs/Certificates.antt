@@ -12,7 +12,7 @@ use Rattle.group_defs.specs.Sending.{message_certificates}
 abbrev pub IsRanged : Pool → Type 0
 IsRanged h = AllByRecursion IsClaim h.heard
 
--- the claims as they stand in a frame
+-- the claims as they are in a frame
 abbrev pub all_signed : List Claim → List Signed
 all_signed cs = map signed_of cs
 

@@ -7,11 +7,11 @@ use Rattle.group_defs.specs.Sending.{claim_numbers, is_beside}
 use Rattle.sent_claims.specs.Beside.{chosen}
 use Rattle.sent_claims.specs.declared.beside.Entry.{Entry}
 
--- where the entries' claims stand
+-- where the entries' claims are
 abbrev pub places_of : List Entry → List ℕ
 places_of es = map (λ e. e.place) es
 
--- the place of the first entry that is above these numbers, or behind the last one
+-- the place of the first entry that is above these numbers, or after the last one
 abbrev pub first_above : List ℕ → List Entry → ℕ
 first_above ns [] = 0
 first_above ns (e ∷ es) = if numbers_below ns e.numbers.items then 0 else suc (first_above ns es)

@@ -1,4 +1,4 @@
--- How a list of claims is kept: their bytes one behind the other, and of each claim where its bytes stand.
+-- How a list of claims is kept: their bytes one after the other, and of each claim where its bytes are.
 use Rattle.std.specs.Prelude.{ℕ, ◌+◌, ◌≤◌, Bool, ◌&&◌, ◌==◌, List, ◌∷◌, [], ◌++◌, length, map, slice_range, fold, if◌then◌else◌}
 use Rattle.std.specs.List.{AllByRecursion, list_any}
 use Rattle.byte_defs.specs.Equality.{same_bytes}
@@ -8,7 +8,7 @@ use Rattle.sent_claims.specs.declared.list.Lent.{Lent}
 
 -- ---- what contracts see
 
--- the claim that is lent
+-- the claim that is borrowed
 abbrev pub lent_claim : Lent → Signed
 lent_claim c = signed c.statement.now c.signer c.signature.now
 
@@ -21,11 +21,11 @@ pub record IsShort (c : Signed) : Type 0 where
 abbrev pub same_signed : Signed → Signed → Bool
 same_signed c d = c.signer == d.signer && (same_bytes c.statement d.statement && same_bytes c.signature d.signature)
 
--- behind the others, where it is not among them
+-- after the others, where it is not among them
 abbrev pub joined : List Signed → Signed → List Signed
 joined cs c = if list_any (same_signed c) cs then cs else cs ++ c ∷ []
 
--- ---- where the bytes stand
+-- ---- where the bytes are
 
 -- where the statement ends, and the signature begins
 abbrev pub middle : Listed → ℕ
@@ -35,7 +35,7 @@ middle l = l.start + l.said
 abbrev pub past : Listed → ℕ
 past l = middle l + l.signed
 
--- the claim whose bytes stand there
+-- the claim whose bytes are there
 abbrev pub listed_claim : List ℕ → Listed → Signed
 listed_claim bytes l = signed (slice_range bytes l.start (middle l)) l.signer (slice_range bytes (middle l) (past l))
 
@@ -52,10 +52,10 @@ pub record IsListed (bytes : List ℕ) (l : Listed) : Type 0 where
 abbrev pub AreListed : List ℕ → List Listed → Type 0
 AreListed bytes ls = AllByRecursion (IsListed bytes) ls
 
--- the claim behind the others; and only where it is not among them, where each is to stand there once
+-- the claim after the others; and only where it is not among them, where each is to be there once
 abbrev pub added : Bool → List Signed → Signed → List Signed
 added once cs c = if once then joined cs c else cs ++ c ∷ []
 
--- these claims behind the others, one by one
+-- these claims after the others, one by one
 abbrev pub extended : Bool → List Signed → List Signed → List Signed
 extended once cs ds = fold (added once) cs ds

@@ -39,7 +39,7 @@ fn put_said(list: &mut SentClaims, said: &ClaimList, place: usize) -> Result<(),
     }
 }
 
-/// Puts the claims at these places of `said`, counted from 0, behind those of the list; of a place that `said` has not, none.
+/// Puts the claims at these places of `said`, counted from 0, after those of the list; of a place that `said` has not, none.
 pub fn put_base(list: &mut SentClaims, said: &ClaimList, base: &[usize]) -> Result<(), NoMemory>
     requires { AllByRecursion IsClaim said.now.claims }
     ensures { OnOk result (list.new ≡ extended false list.old (all_signed (chosen said.now.claims base.now))) }
@@ -50,7 +50,7 @@ pub fn put_base(list: &mut SentClaims, said: &ClaimList, base: &[usize]) -> Resu
     Ok(())
 }
 
-// Puts what goes beside the statement of a process that has delivered so many places, if it is an Order.
+// Puts what goes beside the statement of a process that has delivered `delivered` places, if it is an Order.
 fn put_order(
     list: &mut SentClaims,
     pool: &Pool,
@@ -89,8 +89,8 @@ fn put_order_at(
     }
 }
 
-/// Puts what goes beside the Orders at these places of `said`, of a process that has delivered so many places of its view: each claim
-/// that is not in the list, behind the others.
+/// Puts what goes beside the Orders at these places of `said`, of a process that has delivered `delivered` places of its view: each claim
+/// that is not in the list, after the others.
 pub fn put_orders(
     list: &mut SentClaims,
     pool: &Pool,
@@ -221,7 +221,7 @@ fn put_suggest_at(
     }
 }
 
-/// Puts what goes beside the Suggests at these places of `said`: each claim that is not in the list, behind the others.
+/// Puts what goes beside the Suggests at these places of `said`: each claim that is not in the list, after the others.
 pub fn put_suggests(
     alloc: Global,
     list: &mut SentClaims,

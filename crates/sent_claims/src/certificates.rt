@@ -17,7 +17,7 @@ use view_table::quorum;
 /// How many places an answer goes over.
 const ANSWERED: u16 = 8;
 
-/// Puts the claim behind the others; and only where it is not among them, where each is to stand there once.
+/// Puts the claim after the others; and only where it is not among them, where each is to be there once.
 pub(crate) fn put_claim(
     list: &mut SentClaims,
     claim: &Claim<'_>,
@@ -55,7 +55,7 @@ fn put_said(
     }
 }
 
-// Puts what the first so many of the members say there, by process number.
+// Puts what the first `count` of the members say there, by process number.
 fn put_first(
     list: &mut SentClaims,
     pool: &Pool,
@@ -80,7 +80,7 @@ fn put_first(
     Ok(())
 }
 
-/// Puts the claims of the certificate of that kind and slot, of the first Q signers by process number, behind the others of the list;
+/// Puts the claims of the certificate of that kind and slot, of the first Q signers by process number, after the others of the list;
 /// with `once`, only those that are not among them. None where nothing is certified there, or the kind has no such slots, and then no memory
 /// is taken.
 pub fn put_certificate<K: CertKind>(
@@ -170,7 +170,7 @@ fn put_place(list: &mut SentClaims, pool: &Pool, place: u16) -> Result<(), NoMem
     put_certificate::<Keep>(list, pool, &about, false)
 }
 
-/// Puts the certificates of eight places, from this one on, behind the claims of the list. The first place is 0 to 1,024. Where there
+/// Puts the certificates of eight places, from this one on, after the claims of the list. The first place is 0 to 1,024. Where there
 /// are none, it takes no memory.
 pub fn put_places(list: &mut SentClaims, pool: &Pool, place: u16) -> Result<(), NoMemory>
     requires range { IsRanged pool.now.pool }

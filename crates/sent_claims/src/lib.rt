@@ -1,4 +1,4 @@
-//! Which claims go out: lists of claims as they are to stand in frames, the certificates of a pool put into such a list, and what
+//! Which claims go out: lists of claims as they go into frames, the certificates of a pool put into such a list, and what
 //! goes beside the claims of a Bundle (docs/PROTOCOL.md, «What is sent»).
 #![tactic(auto)]
 

@@ -1,4 +1,4 @@
-//! Claims in a list, as they are to stand in frames. The bytes of all of them stand one behind the other in one vector.
+//! Claims in a list, as they go into frames. The bytes of all of them lie one after the other in one vector.
 ghost use Rattle.std.specs.Prelude.{◌≡◌, ◌<◌, ◌++◌, ◌∷◌, [], length, slice_get, Some, OnOk};
 ghost use Rattle.std.specs.List.{AllByRecursion, list_any};
 ghost use Rattle.sent_claims.specs.Lists.{added, same_signed, lent_claim, listed_claim, listed_claims, IsListed, AreListed, IsShort};
@@ -8,7 +8,7 @@ use std::alloc::Global;
 use std::marker::Model;
 use std::mem;
 
-/// Where the bytes of a claim stand: its statement's from `start` on, and its signature's behind them.
+/// Where the bytes of a claim are: its statement's from `start` on, and its signature's after them.
 #[derive(Clone, Copy)]
 pub(crate) struct Listed {
     signer: Pid,
@@ -17,7 +17,7 @@ pub(crate) struct Listed {
     signed: usize,
 }
 
-/// A claim, lent: one of a list, or one that is to be put into a list.
+/// A claim, borrowed: one of a list, or one that is to be put into a list.
 #[derive(Clone, Copy)]
 pub struct Lent<'a> {
     /// Who signed.
@@ -30,8 +30,8 @@ pub struct Lent<'a> {
     pub signature: &'a [u8],
 }
 
-/// A list of claims as they are to stand in frames, statement, signer and signature of each. It takes memory as it is filled, and
-/// keeps it when it is cleared. Where a call that puts claims into it answers `NoMemory`, some of them may stand in it.
+/// A list of claims as they go into frames, statement, signer and signature of each. It takes memory as it is filled, and
+/// keeps it when it is cleared. Where a call that puts claims into it answers `NoMemory`, some of them may be in it.
 pub struct SentClaims {
     bytes: Vec<u8>,
     listed: Vec<Listed>,
@@ -58,7 +58,7 @@ impl Model for SentClaims {
     ghost invariant = { λ l. AreListed l.bytes.items l.listed.items };
 }
 
-// The claim whose bytes stand there.
+// The claim whose bytes are there.
 fn lend(bytes: &[u8], listed: Listed) -> Lent<'_>
     requires { IsListed bytes.now listed }
     ensures claim { lent_claim result ≡ listed_claim bytes.now listed }
@@ -79,7 +79,7 @@ fn is_same(a: &Lent<'_>, b: &Lent<'_>) -> bool
     a.signer == b.signer && a.statement == b.statement && a.signature == b.signature
 }
 
-// Whether the claim is one of those whose bytes stand there.
+// Whether the claim is one of those whose bytes are there.
 fn is_listed(bytes: &[u8], listed: &[Listed], claim: &Lent<'_>) -> bool
     requires { AreListed bytes.now listed.now }
     ensures { result ≡ list_any (same_signed (lent_claim claim.now)) (listed_claims bytes.now listed.now) }
@@ -120,14 +120,14 @@ impl SentClaims {
         lend(&self.bytes, self.listed[place])
     }
 
-    /// Whether the claim stands in the list.
+    /// Whether the claim is in the list.
     pub fn contains(&self, claim: &Lent<'_>) -> bool
         ensures { result ≡ list_any (same_signed (lent_claim claim.now)) self.now }
     {
         is_listed(&self.bytes, &self.listed, claim)
     }
 
-    // Puts the claim behind the others.
+    // Puts the claim after the others.
     fn push(&mut self, claim: &Lent<'_>) -> Result<(), NoMemory>
         requires { IsShort (lent_claim claim.now) }
         ensures { OnOk result (self.new ≡ self.old ++ lent_claim claim.now ∷ []) }
@@ -144,7 +144,7 @@ impl SentClaims {
         Ok(())
     }
 
-    /// Puts the claim behind the others; and only where it is not among them, where each is to stand there once.
+    /// Puts the claim after the others; and only where it is not among them, where each is to be there once.
     pub fn put(&mut self, claim: &Lent<'_>, once: bool) -> Result<(), NoMemory>
         requires { IsShort (lent_claim claim.now) }
         ensures { OnOk result (self.new ≡ added once self.old (lent_claim claim.now)) }

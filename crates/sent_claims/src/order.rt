@@ -89,7 +89,7 @@ pub(crate) fn claim_numbers(claim: &Claim<'_>) -> Numbers
     numbers
 }
 
-/// Whether the first numbers stand before the second.
+/// Whether the first numbers come before the second.
 pub(crate) fn is_below(a: &[u16], b: &[u16]) -> bool
     ensures { result ≡ numbers_below a.now b.now }
 {

@@ -40,7 +40,7 @@ pub record SaysState (r : NodeRun) (h : Host) (text : List ℕ) : Type 0 where
   pub text_is : text ≡ given_text h.process word
   pub gave : (given : StateRecord) → word ≡ Given given → Gave r h given
 
--- Of a process that a node hosts: what is said of each note that its turns let out, and to each line of the script, is what its server
+-- For a process that a node hosts: what is said of each note that its turns let out, and to each line of the script, is what its server
 -- writes, in the run of the server that begins as the node does. So after each message it is a reply, or that there is none.
 pub record RunTells (r : NodeRun) (h : Host) : Type 0 where
   pub notes : (note : Note) (text : List ℕ) → WasSaid r (TellsOf h.process note) text → WritesOfNote r h note text
@@ -48,7 +48,7 @@ pub record RunTells (r : NodeRun) (h : Host) : Type 0 where
   pub replies : (view : ℕ) (d : Delivered) (text : List ℕ) → WasSaid r (TellsOf h.process (Delivers view d)) text → SaysReply r h text
   pub states : (line text : List ℕ) → word_in r.kit line ≡ Some Give → WasSaid r (Words h.process line) text → SaysState r h text
 
--- so it is of each hosted process, where the service of the node has answered as the servers of a store
+-- this holds of each hosted process, where the service of the node has answered as the servers of a store
 abbrev pub RunsTell : Type 0
 RunsTell = (r : NodeRun) (h : Host) → IsKit r.kit → IsHostIn r h → AreServed None (history r) → RunTells r h
 
@@ -107,7 +107,7 @@ StatesOnce = (sv : Services) (r r' : NodeRun) (h h' : Host) (later later' : List
     → Gave r h given → Gave r' h' given' → given.view ≡ given'.view → state_body group given ≡ state_body group given'
 
 -- At each moment of a run, where the server of the process has a store, this is the store after the group's whole sequences of the views below
--- its own, and after what the process has delivered in its view so far. So it is for a joiner, from the state on that it took.
+-- its own, and after what the process has delivered in its view so far. The same holds for a joiner, from the state on that it took.
 abbrev pub StoresHold : Type 0
 StoresHold = (sv : Services) (r : NodeRun) (h : Host) (later : List Entry) (front rest : List Step) (store : Store) → ServicePremises sv
     → IsOneOf sv r h later → steps r h ≡ front ++ rest → (at r h front).server.store ≡ Some store
@@ -153,7 +153,7 @@ pub record StoreLaws (sv : Services) (r : NodeRun) (h : Host) (later : List Entr
       → store ≡ store_after (store_below (group_of (accounts sv.family)) (at r h front).process.pool.view.number)
       (payloads_of (at r h front).process.delivered)
 
--- A history of the servers of a store. Of each run of a node that has this history, what was said for each hosted process is what its server
+-- A history of the servers of a store. In a run of a node that has this history, what was said for each hosted process is what its server
 -- writes; and where the process is a correct one of a family, the laws of the store hold of it.
 pub record ServesStore (asked : List Asked) : Type 0 where
   pub served : AreServed None asked

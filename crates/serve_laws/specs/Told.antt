@@ -24,7 +24,7 @@ pub record WasSaid (r : NodeRun) (call : Call) (text : List ℕ) : Type 0 where
 
 -- ---- notes and words
 
--- The text is what the server of the process writes after this note: it is one of a turn of the process, and the server has been told of the
+-- The text is what the server of the process writes after this note: it is one of a turn of the process, and the server has been given the
 -- notes of this turn before it, in order, after all earlier steps of the run.
 pub record WritesOfNote (r : NodeRun) (h : Host) (note : Note) (text : List ℕ) : Type 0 where
   pub before : List Step

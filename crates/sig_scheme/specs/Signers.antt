@@ -36,7 +36,7 @@ sig_len (Plain s) = 32
 sig_len (Lms k) = trees.length_of k
 sig_len (Hss k) = levels.length_of k
 
--- its one signature on a body after so many others
+-- its one signature on a body after q others
 abbrev pub signature : AnySigner → ℕ → List ℕ → List ℕ
 signature (Plain s) q body = plain_signature (key_of s) body
 signature (Lms k) q body = trees.signature_of k q body
@@ -48,7 +48,7 @@ admits (Plain s) = plain_valid
 admits (Lms k) = lms_valid
 admits (Hss k) = hss_valid
 
--- one key stands behind both, so both are of one scheme
+-- both are one key, so both are of one scheme
 abbrev pub SameKey : AnySigner → AnySigner → Type 0
 SameKey (Plain s) (Plain t) = key_of t ≡ key_of s
 SameKey (Lms k) (Lms l) = KeyKeeps (trees.public_of k) (trees.public_of l) (trees.length_of k) (trees.length_of l) (trees.signature_of k)

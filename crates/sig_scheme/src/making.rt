@@ -73,7 +73,7 @@ fn length_fits(levels: u32, ots: OtsType) -> bool
     }
 }
 
-/// Whether a key of so many levels, of trees of a height's typecode and with a one-time parameter set, is refused for want of
+/// Whether a key in `levels` levels, of trees of a height's typecode and with a one-time parameter set, is refused for want of
 /// memory at most: 1 to 3 levels of typecodes 5, 6 and 7, but 7 not in three levels, and W1 in one level alone.
 pub fn levels_are_built(levels: u32, height: u32, ots: OtsType) -> bool
     ensures value { result ≡ levels_are_built levels height ots }

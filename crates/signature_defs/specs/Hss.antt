@@ -111,8 +111,8 @@ abbrev pub length_under : List ℕ → Option ℕ
 length_under key = option_and_then (λ h. option_map (λ kind. lms_signature_length kind h) (ots_type_of (u32_at 4 key)))
     (lms_height_of (u32_at 0 key))
 
--- From a key on, n signed keys and the signature on the message: the first signature is on the key behind it, which is
--- the next one to go on from.
+-- Under a key, n signed keys and then the signature on the message: the first signature is on the key after it, under which
+-- the rest is valid.
 unfoldable pub levels_valid : ℕ → List ℕ → List ℕ → List ℕ → Bool
 levels_valid zero key message sig = lms_valid key message sig
 levels_valid (suc n) key message sig = is_some_and (length_under key) (λ len.

@@ -1,4 +1,4 @@
--- LM-OTS one-time signatures with SHA-256, so that n = 32 (RFC 8554, section 4). Beside the RFC's names: `kind` is the
+-- LM-OTS one-time signatures with SHA-256, so that n = 32 (RFC 8554, section 4). Beyond the RFC's names: `kind` is the
 -- typecode's parameter set, `id` is I, `q` the number of the leaf, `seed` the SEED of Appendix A.
 use Rattle.std.specs.Prelude.{ℕ, zero, suc, ◌+◌, ◌-◌, ◌*◌, ◌/◌, ◌^◌, ◌==◌, if◌then◌else◌, List, [], ◌∷◌, ◌++◌, length, Option, Some, None}
 use Rattle.std.specs.Option.{option_map, option_and_then}
@@ -61,7 +61,7 @@ D_MESG = 0x8181
 abbrev pub chain_head : List ℕ → ℕ → ℕ → List ℕ
 chain_head id q i = id ++ u32str q ++ u16str i
 
--- a chain's value n steps on from one that stands before step j (4.3, 4.5 and 4.6, in the loops of algorithms 1, 3 and 4b)
+-- a chain's value n steps on from the value before step j (4.3, 4.5 and 4.6, in the loops of algorithms 1, 3 and 4b)
 unfoldable pub chain : List ℕ → ℕ → ℕ → List ℕ → List ℕ
 chain head j zero tmp = tmp
 chain head j (suc n) tmp = sha256 (head ++ u8str (j + n) ++ chain head j n tmp)

@@ -33,7 +33,7 @@ leaf id r key = sha256 (id ++ u32str r ++ u16str D_LEAF ++ key)
 abbrev pub inner : List ℕ → ℕ → List ℕ → List ℕ → List ℕ
 inner id r left right = sha256 (id ++ u32str r ++ u16str D_INTR ++ left ++ right)
 
--- T[r] of a tree of height h, for a node that stands k levels above the leaves. The leaves are the nodes from 2^h on.
+-- T[r] of a tree of height h, for a node k levels above the leaves. The leaves are the nodes from 2^h on.
 unfoldable pub node : OtsType → ℕ → List ℕ → List ℕ → ℕ → ℕ → List ℕ
 node kind h id seed zero r = leaf id r (ots_public_key kind id (r - 2 ^ h) seed)
 node kind h id seed (suc k) r = inner id r (node kind h id seed k (2 * r)) (node kind h id seed k (2 * r + 1))
@@ -59,11 +59,11 @@ lms_signature code kind h id seed q message =
 
 -- ---- verification (5.4.2)
 
--- the parent of node r, from the values of r and of its sibling: a node of odd number stands on the right (algorithm 6a, step 4)
+-- the parent of node r, from the values of r and of its sibling: a node of odd number is on the right (algorithm 6a, step 4)
 abbrev pub parent : List ℕ → ℕ → List ℕ → List ℕ → List ℕ
 parent id r value beside = if r % 2 == 0 then inner id (r / 2) value beside else inner id (r / 2) beside value
 
--- the value that stands i levels up from node r, by the path's nodes
+-- the value i levels above node r, by the path's nodes
 unfoldable pub climbed : List ℕ → ℕ → List ℕ → (ℕ → List ℕ) → ℕ → List ℕ
 climbed id r value path zero = value
 climbed id r value path (suc i) = parent id (r / 2 ^ i) (climbed id r value path i) (path i)

@@ -13,7 +13,7 @@ pub data Secret : Type 0 where
   Plain : (key : List ℕ) (total : ℕ) → Secret
   -- an LMS private key: the tree's typecode, the one-time parameter set, I of 16 bytes and SEED of 32 (RFC 8554, Appendix A)
   Lms : (code : ℕ) (kind : OtsType) (id seed : List ℕ) → Secret
-  -- an HSS private key: so many levels of such trees, I and SEED of the top one
+  -- an HSS private key: `levels` levels of such trees, I and SEED of the top one
   Hss : (levels code : ℕ) (kind : OtsType) (id seed : List ℕ) → Secret
 
 abbrev pub scheme_of : Secret → Scheme
@@ -35,7 +35,7 @@ hss_secret levels code kind id seed = record { levels = levels; code = code; kin
 abbrev pub tree_is_built : ℕ → Bool
 tree_is_built code = nat_le 5 code && nat_le code 7
 
--- a key of so many levels of trees of this typecode and one-time parameter set is built
+-- a key in `levels` levels of trees of this typecode and one-time parameter set is built
 abbrev pub levels_are_built : ℕ → ℕ → OtsType → Bool
 levels_are_built levels code kind = levels_in_range levels && (height_in_range levels code && length_in_range levels kind)
 
@@ -59,7 +59,7 @@ signature_length_of (Plain key total) = 32
 signature_length_of (Lms code kind id seed) = lms_signature_length kind (height_of code)
 signature_length_of (Hss levels code kind id seed) = hss_signature_length levels kind (height_of code)
 
--- its one signature on a body after so many others: of an LMS secret that with the leaf of this number, of an HSS secret
+-- its one signature on a body after q others: of an LMS secret that with the leaf of this number, of an HSS secret
 -- that of this number
 abbrev pub signature_of : Secret → ℕ → List ℕ → List ℕ
 signature_of (Plain key total) q body = plain_signature key body

@@ -1,4 +1,4 @@
-//! Keys and signatures beside another program's.
+//! Keys and signatures compared with another program's.
 #![tactic(auto)]
 
 #[cfg(test)]

@@ -62,7 +62,7 @@ fn is_valid<V: Scheme>(scheme: &V, key: &[u8], sig: &[u8]) -> bool {
     scheme.verify(key, BODY, sig)
 }
 
-// Whether the signer's public key, its first signature and its last one begin with these hashes, and the last spends it, of so many.
+// Whether the signer's public key, its first signature and its last one begin with these hashes, and the last of `total` spends it.
 fn signs(alloc: Global, secret: &Secret, total: u32, marks: [u64; 3]) -> Result<bool, Fail> {
     let mut signer = secret.signer(alloc)?;
     let public = mark(signer.public());

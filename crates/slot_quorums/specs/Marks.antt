@@ -8,23 +8,23 @@ use Rattle.claim_index.specs.declared.key.SlotKey.{SlotKey}
 use Rattle.slot_quorums.specs.declared.cell.Cell.{Cell}
 use Rattle.slot_quorums.specs.Cells.{AreCells}
 
--- the slot's cell is this one: in the place of the one that stands there, or behind all others
+-- the slot's cell is this one: in the place of the one that is there, or after all others
 abbrev pub placed : List (SlotKey × Cell) → SlotKey → Option ℕ → Cell → List (SlotKey × Cell)
 placed cs key None c = cs ++ (key, c) ∷ []
 placed cs key (Some i) c = set_value_at cs i c
 
--- what is kept of a cell that is about to change, of so many that were there at the mark: its place, and what it is
+-- what is kept of a cell that is about to change, if it was one of the `marked` at the mark: its place, and what it is
 abbrev pub noted : List (SlotKey × Cell) → ℕ → Option ℕ → List (ℕ × Cell)
 noted cs marked None = []
 noted cs marked (Some i) = if nat_lt i marked then option_to_list (option_map (λ e. (i, e.1)) (slice_get cs i)) else []
 
--- Each changed cell is again what it was. One that changed more than once stands there more than once, and what it was first is put back
+-- Each changed cell is again what it was. One that changed more than once is there more than once, and what it was first is put back
 -- last.
 abbrev pub restored : List (ℕ × Cell) → List (SlotKey × Cell) → List (SlotKey × Cell)
 restored [] cs = cs
 restored (x ∷ xs) cs = set_value_at (restored xs cs) x.0 x.1
 
--- the cells are those of the pool h; and the first so many, with what of them changed put back, those of g, the pool at the mark
+-- the cells are those of the pool h; and the first `marked`, with what of them changed put back, those of g, the pool at the mark
 pub record AreMarkedCells (h g : Pool) (cs : List (SlotKey × Cell)) (marked : ℕ) (changed : List (ℕ × Cell)) : Type 0 where
   pub here : AreCells h cs
   pub there : AreCells g (restored changed (take marked cs))

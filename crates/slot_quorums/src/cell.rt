@@ -131,7 +131,7 @@ fn others_of(claims: &ClaimIndex, cell: &Cell, statement: &Statement<'_>, spelle
 }
 
 // The cell, or that of this other content at this place, where no fewer members say that. Members seldom say different things on a
-// slot, so it stands apart from what is called for each claim.
+// slot, so it is kept apart from what is called for each claim.
 #[inline(never)]
 fn with_other(
     claims: &ClaimIndex,

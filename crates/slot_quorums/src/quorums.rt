@@ -83,7 +83,7 @@ fn cell_at<'a>(cells: &'a Cells, key: &SlotKey) -> Option<&'a Cell>
     cells.get(key)
 }
 
-// Where the slot's cell stands among the cells.
+// Where the slot's cell is among the cells.
 fn place_of(cells: &Cells, key: &SlotKey) -> Option<usize>
     ensures { StandsAt cells.now.entries key.now result }
 {
@@ -93,7 +93,7 @@ fn place_of(cells: &Cells, key: &SlotKey) -> Option<usize>
     }
 }
 
-// The slot's cell, by where it stands.
+// The slot's cell, by where it is.
 fn cell_there(cells: &Cells, key: &SlotKey, at: Option<usize>) -> Option<Cell>
     requires { StandsAt cells.now.entries key.now at }
     ensures { result ≡ lookup (same_slot_key key.now) cells.now.entries }
@@ -104,7 +104,7 @@ fn cell_there(cells: &Cells, key: &SlotKey, at: Option<usize>) -> Option<Cell>
     }
 }
 
-// Puts the cell in the place of the slot's, or behind all others where it has none.
+// Puts the cell in the place of the slot's, or after all others where it has none.
 fn put(cells: &mut Cells, key: SlotKey, at: Option<usize>, cell: Cell)
     requires spare { 0 < spare cells.old }
     requires at { StandsAt cells.old.entries key at }
@@ -182,7 +182,7 @@ fn hear(claims: &mut ClaimIndex, cell: Option<Cell>, key: SlotKey, claim: &Claim
     ensures bytes_left { claims.old.bytes_left ≤ claims.new.bytes_left + claim_bytes (claim_of claim.now) }
     ensures cell { IsCell claims.new.pool (plain.slot_of (stmt claim.now.statement)) result }
 {
-    // The bytes stand first, so that they are cleared once.
+    // The bytes come first, so that they are cleared once.
     let mut spelled = [0; STATEMENT_BYTES];
     let said = spell_into(&claim.statement, &mut spelled);
     let (place, _) = claims.size();
@@ -213,7 +213,7 @@ impl Quorums {
         }
     }
 
-    /// Forgets what is heard, and turns to this view, where the mark stands at nothing.
+    /// Forgets what is heard, and turns to this view, with the mark at nothing.
     pub fn turn_to(&mut self, view: View)
         ensures pool { self.new.pool ≡ empty_pool view }
         ensures marked { self.new.marked ≡ empty_pool view }
@@ -236,7 +236,7 @@ impl Quorums {
         self.changed.clear();
     }
 
-    /// Forgets what was heard behind the mark.
+    /// Forgets what was heard after the mark.
     pub fn rewind(&mut self)
         ensures pool { self.new.pool ≡ self.old.marked }
         ensures marked { self.new.marked ≡ self.old.marked }
@@ -246,7 +246,7 @@ impl Quorums {
         restore(&mut self.cells, &mut self.changed);
     }
 
-    /// Makes room for so many claims more, with so many bytes in all.
+    /// Makes room for `claims` claims more, with `bytes` bytes in all.
     pub fn reserve(&mut self, claims: usize, bytes: usize) -> Result<(), NoMemory>
         ensures same { self.new.pool ≡ self.old.pool }
         ensures marked { self.new.marked ≡ self.old.marked }

@@ -11,7 +11,7 @@ use Rattle.snapshot_defs.specs.Ranges.{IsImage}
 abbrev pub AreBytes : List ℕ → Type 0
 AreBytes bytes = (n : ℕ) → slice_index bytes n < 256
 
--- bytes of which an image is read are its spelling in this version, and the image is in its ranges
+-- bytes that are read as an image are its spelling in this version, and the image is in its ranges
 abbrev pub ReadIsSpelled : Type 0
 ReadIsSpelled = (v : Version) (bytes : List ℕ) (i : Image) → AreBytes bytes → image_in v bytes ≡ Ok i → IsImage v i × (bytes ≡ spelled v i)
 

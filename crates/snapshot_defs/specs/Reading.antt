@@ -1,7 +1,7 @@
 -- Reading an image, in either version, with the place of the first fault.
 --
 -- A number above its limit is a fault of its field, a field that the bytes don't hold one of that field. A statement that is none, or out
--- of its ranges, has its fault at its first byte, behind the length. Where pairs don't rise, the fault stands where their list begins.
+-- of its ranges, has its fault at its first byte, after the length. Where pairs don't rise, the fault is where their list begins.
 use Rattle.std.specs.Prelude.{ℕ, ◌+◌, ◌-◌, Bool, true, ◌&&◌, nat_lt, ◌==◌, List, [], ◌∷◌, length, Option, Some, None, Result, Ok, Err, if◌then◌else◌}
 use Rattle.std.specs.Int.{w8, w16}
 use Rattle.byte_defs.specs.Fields.{◌>>=◌, refuse_if}
@@ -24,7 +24,7 @@ use Rattle.snapshot_defs.specs.Steps.{Step, ◌&◌, made, tested, else_fault, t
 abbrev pub process_at : List ℕ → Step ℕ
 process_at bytes = number_to w8 last_process bytes
 
--- a statement behind its length of two bytes
+-- a statement after its length of two bytes
 unfoldable pub statement_at : List ℕ → Step Statement
 statement_at bytes = do
   len ← wide_at w16 bytes
@@ -129,11 +129,11 @@ told_at bytes = (process_at & all_left_at & all_perceived_at & list_at (λ k. te
 unfoldable pub claimed_at : List ℕ → Step (List Claim × (List Claim × (List Claim × List (Claim × Claim))))
 claimed_at bytes = (claims_at & claims_at & claims_at & all_conflicts_at) bytes
 
--- what was delivered in so many views, the decision, and whether the process has halted
+-- what was delivered in `views` views, the decision, and whether the process has halted
 unfoldable pub settled_at : Version → ℕ → List ℕ → Step (List (List Delivered) × (Option (ℕ × Value) × Bool))
 settled_at v views bytes = (times_at (λ k. view_at v) 0 views & decision_at & halted_at) bytes
 
--- The views are those that were left and the one behind them.
+-- The views are those that were left and the one after them.
 unfoldable pub image_at : Version → List ℕ → Step Image
 image_at v bytes = do
   told ← told_at bytes
@@ -156,18 +156,18 @@ image_at v bytes = do
     settled.1,
   )
 
--- the image that all of the bytes spell; bytes behind it are a fault where they begin
+-- the image that all of the bytes spell; bytes after it are a fault where they begin
 unfoldable pub whole_at : Version → List ℕ → Result Image ℕ
 whole_at v bytes = do
   image ← image_at v bytes
   _ ← refuse_if (nat_lt 0 (length image.1)) (length image.1)
   Ok image.0
 
--- the place of a fault, in so many bytes
+-- the place of a fault, in `size` bytes
 abbrev pub placed : {A : Type 0} → ℕ → Result A ℕ → Result A ℕ
 placed size (Ok image) = Ok image
 placed size (Err left) = Err (size - left)
 
--- the image that the bytes spell, or the place of the first fault: how many bytes stand before it
+-- the image that the bytes spell, or the place of the first fault: how many bytes come before it
 unfoldable pub image_in : Version → List ℕ → Result Image ℕ
 image_in v bytes = placed (length bytes) (whole_at v bytes)

@@ -3,7 +3,7 @@
 
 ghost use Rattle.snapshot_defs.specs.Laws.{ReadIsSpelled, SpelledIsRead, WrittenIsSecond, OldIsWritten};
 
-/// The bytes of which an image is read are the image's spelling.
+/// Bytes that are read as an image are the image's spelling.
 pub fn read_is_spelled()
     ensures { ReadIsSpelled }
 {}

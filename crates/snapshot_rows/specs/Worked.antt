@@ -1,4 +1,4 @@
--- A worked image, and where the first fault stands in bytes that are near its spelling; by another program.
+-- A worked image, and where the first fault is in bytes that are near its spelling; by another program.
 use Rattle.std.specs.Prelude.{◌≡◌, ℕ, ◌+◌, ◌%◌, true, List, [], ◌∷◌, map, Option, Some, None, Result, Ok, Err}
 use Rattle.message_defs.specs.Updates.{Remove, Add, Renew, Value}
 use Rattle.message_defs.specs.Statements.{Message, Init, Order, End, Ready}
@@ -13,7 +13,7 @@ message sender number = record { sender = sender; number = number }
 abbrev renewal : Value
 renewal = record { update = Renew; cut = 1 }
 
--- Process 3 left view 0, and halted in view 1: a place behind the cut was delivered there.
+-- Process 3 left view 0, and halted in view 1: a place after the cut was delivered there.
 unfoldable pub worked : Image
 worked = record {
   me = 3;

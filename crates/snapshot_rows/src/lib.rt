@@ -3,7 +3,7 @@
 
 ghost use Rattle.snapshot_rows.specs.Worked.{WorkedImage};
 
-/// The bytes of an image in both versions, and where the first fault stands in bytes that are near them.
+/// The bytes of an image in both versions, and where the first fault is in bytes that are near them.
 pub fn worked_image()
     ensures { WorkedImage }
 {}

@@ -117,7 +117,7 @@ impl KeptClaim {
         })
     }
 
-    /// The claim, lent.
+    /// The claim, borrowed.
     pub fn claim(&self) -> Claim<'_>
         ensures value { claim_of result ≡ self.now }
         ensures range { IsClaim (claim_of result) }

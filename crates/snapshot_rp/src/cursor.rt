@@ -83,7 +83,7 @@ impl<'a> Cursor<'a> {
         Ok(bytes)
     }
 
-    /// A byte, at most so great.
+    /// A byte, at most `most`.
     #[tactic(auto, unfolding(snapshot_defs::specs::Steps::number_to))]
     pub(crate) fn byte_to(&mut self, most: u8) -> Result<u8, usize>
         ensures value { Gives (λ x. (x, self.new.rest.now)) result (steps.number_to w8 most self.old.rest.now) }
@@ -97,7 +97,7 @@ impl<'a> Cursor<'a> {
         Ok(n)
     }
 
-    /// A number of two bytes, at most so great.
+    /// A number of two bytes, at most `most`.
     #[tactic(auto, unfolding(snapshot_defs::specs::Steps::number_to))]
     pub(crate) fn short_to(&mut self, most: u16) -> Result<u16, usize>
         ensures value { Gives (λ x. (x, self.new.rest.now)) result (steps.number_to w16 most self.old.rest.now) }
@@ -121,7 +121,7 @@ impl<'a> Cursor<'a> {
         process_by(n, fault)
     }
 
-    /// Two bytes of length, at most so great, and that many bytes.
+    /// Two bytes of length, at most `most`, and that many bytes.
     #[tactic(auto, unfolding(snapshot_defs::specs::Steps::text_to))]
     pub(crate) fn text_to(&mut self, most: u16) -> Result<&'a [u8], usize>
         ensures value { Gives (λ x. (x.now, self.new.rest.now)) result (steps.text_to most self.old.rest.now) }

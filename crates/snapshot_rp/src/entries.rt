@@ -1,4 +1,4 @@
-//! Lists of an image. Each entry is read by its position, which tells the place of a delivered message in version 1.
+//! Lists of an image. Each entry is read by its position, which is the place of a delivered message in version 1.
 ghost use Rattle.std.specs.Prelude.{◌≡◌, ◌++◌, map, OnOk};
 ghost use Rattle.std.specs.List.{flat_map};
 ghost use Rattle.std.specs.Int.{w32};
@@ -47,7 +47,7 @@ pub(crate) trait Entry: Drop + Sized {
         ensures { OnOk result (out.new.items ≡ out.old.items ++ spell (plain self.now)) };
 }
 
-/// So many entries.
+/// `count` entries.
 pub(crate) fn entries<T: Entry>(
     reading: Reading,
     cursor: &mut Cursor<'_>,

@@ -7,7 +7,7 @@ use thiserror::Error;
 /// Why no image was read.
 #[derive(Clone, Copy, Debug, PartialEq, Eq, Error)]
 pub enum SnapshotFault {
-    /// The bytes are no image: so many are before the first field that has a fault, or before the first byte too many.
+    /// The bytes are no image: this many come before the first field that has a fault, or before the first byte too many.
     /// Whoever wrote them is to blame.
     #[error("no image: the fault stands at byte {0}")]
     Image(usize),
@@ -22,7 +22,7 @@ pub enum SnapshotFault {
 pub(crate) enum ReadError {
     NoMemory,
 
-    /// So many bytes are left where the fault is.
+    /// This many bytes are left where the fault is.
     Fault(usize),
 }
 

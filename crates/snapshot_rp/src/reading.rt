@@ -141,7 +141,7 @@ fn halted(cursor: &mut Cursor<'_>) -> Result<bool, usize>
     Ok(tag == 1)
 }
 
-// What was delivered in so many views, the decision, and whether the process has halted.
+// What was delivered in `views` views, the decision, and whether the process has halted.
 #[tactic(auto, unfolding(snapshot_defs::specs::Reading::settled_at))]
 fn read_settled(
     reading: Reading,

@@ -5,7 +5,7 @@ ghost use Rattle.snapshot_defs.specs.Reading as plain;
 use crate::claim::KeptClaim;
 use rp_base::Update;
 
-/// What has a key, of numbers of which the first one counts most.
+/// What has a key: numbers, the first of which counts most.
 pub(crate) trait Keyed {
     ghost use Rattle.std.specs.Prelude.{◌≡◌, ℕ, List};
     ghost use Rattle.byte_defs.specs.Orders.{numbers_below};

@@ -14,7 +14,7 @@ gives keyed v w u = is_possible keyed v u && same_views (w ∷ []) (next_view v 
 abbrev pub payloads_of : ℕ → List Letter → List (List ℕ)
 payloads_of sender ds = map (λ d. d.payload) (of_sender sender ds)
 
--- After so many places, the last of which has so many messages: each message is the first of the next place, or one more of the last
+-- After `places` places, the last of which has `messages` messages: each message is the first of the next place, or one more of the last
 -- place, which has at most 16
 abbrev pub steps : ℕ → ℕ → List Delivered → Bool
 steps places messages [] = true
@@ -26,7 +26,7 @@ steps places messages (d ∷ ds) =
 abbrev pub same_slot : Delivered → Delivered → Bool
 same_slot d e = (d.place == e.place) && (d.message.sender == e.message.sender) && (d.message.number == e.message.number)
 
--- After so many places, the last of which may go on: the first list is the front of the other, payloads aside, and what more the other
+-- After `places` places, the last of which may go on: the first list is the front of the other, payloads aside, and what more the other
 -- has is at later places
 abbrev pub front : ℕ → List Delivered → List Delivered → Bool
 front places [] [] = true

@@ -10,7 +10,7 @@ use accounts::{Account, Delivered, Payload};
 use group_questions::{longest_views, sequence_in};
 use rp_base::Pid;
 
-// What is left of the accepted payloads behind this delivery: one of the own messages takes the first of them. None exactly where it has
+// What is left of the accepted payloads after this delivery: one of the own messages takes the first of them. None exactly where it has
 // another payload.
 fn behind_one<'a>(accepted: &'a [Payload], d: &Delivered, me: Pid) -> Option<&'a [Payload]>
     ensures { MatchOption result (plain.IsPrefixOf (payloads_of me (letters (d.now ∷ []))) accepted.now → ⊥)
@@ -25,7 +25,7 @@ fn behind_one<'a>(accepted: &'a [Payload], d: &Delivered, me: Pid) -> Option<&'a
     }
 }
 
-// What is left of them behind all of these deliveries. None exactly where the own ones among these have other payloads.
+// What is left of them after all of these deliveries. None exactly where the own ones among these have other payloads.
 fn behind<'a>(accepted: &'a [Payload], sequence: &[Delivered], me: Pid) -> Option<&'a [Payload]>
     ensures { MatchOption result (plain.IsPrefixOf (payloads_of me (letters sequence.now)) accepted.now → ⊥)
         (λ rest. payloads_of me (letters sequence.now) ++ rest.now ≡ accepted.now) }
@@ -40,7 +40,7 @@ fn behind<'a>(accepted: &'a [Payload], sequence: &[Delivered], me: Pid) -> Optio
     Some(left)
 }
 
-// What is left of what the process accepted behind the group's sequences. None exactly where its messages there have other payloads.
+// What is left of what the process accepted after the group's sequences. None exactly where its messages there have other payloads.
 fn behind_history<'a>(accounts: &[Account], a: &'a Account) -> Option<&'a [Payload]>
     ensures { MatchOption result (plain.IsPrefixOf
         (payloads_of a.now.me (plain.history (plain.group_of (map account accounts.now)))) a.now.accepted.items → ⊥)

@@ -1,5 +1,5 @@
 //! The question of a group whether it is sound (docs/PROMISES.md): whether each view has a cause in the one before, whether the messages of
-//! each sender stand in order, whether what was delivered of a process is what it accepted, and whether places are delivered whole and
+//! each sender are in order, whether what was delivered of a process is what it accepted, and whether places are delivered whole and
 //! alike. Nothing is copied, and no memory is taken.
 #![tactic(auto)]
 

@@ -19,7 +19,7 @@ fn number_of(d: &Delivered) -> u32
     u32::from(d.number)
 }
 
-// Whether the numbers of each sender are in order: each is how many messages of its sender stand before it.
+// Whether the numbers of each sender are in order: each is how many messages of its sender come before it.
 fn is_in_order(sequence: &[Delivered]) -> bool
     ensures { result ≡ list_all (λ d. plain.is_in_order (letters sequence.now) d.message.sender) (letters sequence.now) }
 {

@@ -19,7 +19,7 @@ fn place_of(d: &Delivered) -> u32
     u32::from(d.place)
 }
 
-// Whether the places are 0, 1, 2 and so on, each with 1 to 16 messages that stand together.
+// Whether the places are 0, 1, 2 and so on, each with 1 to 16 messages that lie together.
 fn stands_by_place(delivered: &[Delivered]) -> bool
     ensures { result ≡ words.steps 0 0 (map delivery delivered.now) }
 {
@@ -40,7 +40,7 @@ fn stands_by_place(delivered: &[Delivered]) -> bool
     true
 }
 
-/// Whether what was delivered in a view stands by place: at each place from the first on 1 to 16 messages, one place after the other.
+/// Whether what was delivered in a view is by place: at each place from the first on 1 to 16 messages, one place after the other.
 pub fn is_by_place(delivered: &[Delivered]) -> bool
     ensures { result ≡ plain.stands_by_place (map delivery delivered.now) }
 {
@@ -75,7 +75,7 @@ fn is_front(own: &[Delivered], all: &[Delivered]) -> bool
     }
 }
 
-// Whether what each process delivered in the view of this number stands by place.
+// Whether what each process delivered in the view of this number is by place.
 fn all_stand(accounts: &[Account], x: usize) -> bool
     ensures { result ≡ list_all (λ a. words.steps 0 0 (plain.delivered_in (account a) x)) accounts.now }
 {
@@ -89,7 +89,7 @@ fn are_fronts(accounts: &[Account], x: usize, all: &[Delivered]) -> bool
     accounts.iter().all(|a| is_front(delivered_in(a, x), all))
 }
 
-// Whether the places of the view of this number are delivered whole and alike: each list stands by place, and is a front of the longest.
+// Whether the places of the view of this number are delivered whole and alike: each list is by place, and is a front of the longest.
 fn are_placed_in(accounts: &[Account], x: usize) -> bool
     ensures { result ≡ plain.are_placed_in (map account accounts.now) x }
 {

@@ -1,4 +1,4 @@
--- A batch in an array of 16: its messages, and (0, 0) in the room behind them.
+-- A batch in an array of 16: its messages, and (0, 0) in the room after them.
 use lib.Pointwise.{pointwise}
 use Rattle.std.specs.Prelude.{◌≡◌, ℕ, ◌+◌, ◌-◌, ◌≤◌, Bool, ◌&&◌, nat_eq, List, [], ◌∷◌, ◌++◌, length, map, take, replicate, refl}
 use Rattle.std.proofs.Common.{ap, sym, ◌∙◌, arith}
@@ -22,7 +22,7 @@ pair_of m = (m.sender, m.number)
 abbrev pub filled : List (ℕ × ℕ) → List (ℕ × ℕ)
 filled ms = ms ++ replicate (16 - length ms) (0, 0)
 
--- 1 to 16 messages, with nothing but (0, 0) behind them
+-- 1 to 16 messages, with nothing but (0, 0) after them
 pub record IsKept (len : ℕ) (messages : List (ℕ × ℕ)) : Type 0 where
   pub some : 1 ≤ len
   pub few : len ≤ 16
@@ -38,7 +38,7 @@ pub length-filled : (ms : List (ℕ × ℕ)) → length ms ≤ 16 → length (fi
 length-filled ms few = length-append ms (replicate (16 - length ms) (0, 0)) ∙ ap (λ n. length ms + n)
     (length-replicate {A = ℕ × ℕ} (16 - length ms) (0, 0)) ∙ omega arith
 
--- an array of 16, of which so many are taken
+-- an array of 16, of which the first `len` are taken
 pub taken : (len : ℕ) (ms : List (ℕ × ℕ)) → IsKept len ms → length (take len ms) ≡ len
 taken len ms kept =
     let least = length-take len ms in

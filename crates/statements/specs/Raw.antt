@@ -25,6 +25,6 @@ raw_report ready = option_map (λ r. (r.0, raw_value r.1)) ready
 abbrev pub passed : {A : Type 0} → Result (Unit {0}) FrameFault → A → Result A FrameFault
 passed test a = test >>= λ _. Ok a
 
--- so many messages, where each is in range
+-- n messages, where each is in range
 abbrev pub in_range : ℕ → List ℕ → Result Batch FrameFault
 in_range n bytes = messages_at n bytes >>= λ ms. passed (messages_within ms.0) ms.0

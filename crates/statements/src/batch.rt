@@ -9,7 +9,7 @@ use std::marker::Model;
 #[derive(Clone, Copy)]
 pub struct Batch {
     len: u8,
-    // those behind the first `len` are of process 0 and number 0, so that equal batches have equal fields
+    // those after the first `len` are of process 0 and number 0, so that equal batches have equal fields
     messages: [(Pid, u16); 16],
 }
 
@@ -87,7 +87,7 @@ impl Batch {
         self.len == MOST_MESSAGES
     }
 
-    /// Puts the message behind the others.
+    /// Puts the message after the others.
     pub fn push(&mut self, sender: Pid, number: u16)
         requires { length self.old < 16 }
         ensures { self.new ≡ self.old ++ message sender number ∷ [] }

@@ -2,7 +2,7 @@
 //!
 //! | Field | Bytes |
 //! |---|---|
-//! | payload | length 2, and so many bytes to the end |
+//! | payload | length 2, and that many bytes to the end |
 //! | message | sender 1, number 2 |
 //! | count of several messages | 1, which is 2 to 16 |
 //! | update | `01 p` Remove, `02 p` Add, `03 00` Renew |
@@ -77,7 +77,7 @@ pub(crate) fn message(bytes: &[u8]) -> Result<(u8, u16, &[u8]), FrameFault>
     Ok((sender, number, rest))
 }
 
-// One message is not counted; of several, the count is told.
+// One message is not counted; of several, the count is written.
 #[tactic(auto, unfolding(message_defs::specs::Reading::count_at))]
 pub(crate) fn count(several: bool, bytes: &[u8]) -> Result<(u8, &[u8]), FrameFault>
     ensures exact { Gives (λ x. (x.0, x.1.now)) result (plain.count_at several bytes.now) }

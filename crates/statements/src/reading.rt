@@ -9,7 +9,7 @@
 //! | 7 End | view2 length2 |
 //! | 8 Last | view2 rank1 report |
 //! | 9 Suggest, 10 Ack, 11 Ready | view2 rank1 value |
-//! | 12 Order, 13 Place, 14 Keep | view2 place2 count1, and so many times message3 |
+//! | 12 Order, 13 Place, 14 Keep | view2 place2 count1, and count times message3 |
 //!
 //! A message is sender1 number2. An Order, a Place or a Keep has kind 3, 4 or 5 where its batch has one message, and
 //! 12, 13 or 14 where it has 2 to 16.
@@ -159,7 +159,7 @@ fn read_echo(bytes: &[u8]) -> Result<Statement<'_>, FrameFault>
     })
 }
 
-// The messages, each in range, of bytes that hold so many of them and nothing else.
+// The messages, each in range, of bytes that hold `count` of them and nothing else.
 fn messages_within(count: u8, bytes: &[u8]) -> Result<Batch, FrameFault>
     requires some { (1 ≤ count) × (count ≤ 16) }
     requires whole { length bytes.now ≡ 3 * count }

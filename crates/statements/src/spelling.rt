@@ -97,7 +97,7 @@ fn put_messages(messages: &[(Pid, u16)], out: &mut [u8]) -> usize
     end
 }
 
-// One message follows the place at once; several follow their number, behind a kind byte that is nine more.
+// One message follows the place at once; several follow their number, after a kind byte that is nine more.
 fn spell_placed(kind: u8, view: u16, place: u16, batch: &Batch, out: &mut [u8]) -> usize
     requires room { 1032 ≤ length out.old }
     requires small { kind ≤ 5 }

@@ -56,7 +56,7 @@ pub enum Statement<'a> {
         update: Update,
     },
 
-    /// So many places are certified, and no more are placed in this view.
+    /// `length` places are certified, and no more are placed in this view.
     End {
         view: u16,
         length: u16,
@@ -147,7 +147,7 @@ impl Statement<'_> {
     }
 }
 
-/// The statement's slot. With the kind it tells what a correct process signs once.
+/// The statement's slot. With the kind it says what a correct process signs once.
 pub fn slot_of(statement: &Statement<'_>) -> Slot
     ensures { slot (kind_number (stmt statement.now)) result ≡ Some (plain.slot_of (stmt statement.now)) }
 {

@@ -8,6 +8,6 @@ use Rattle.stmt_codec.specs.declared.entry.EntrySignatures.{EntrySignatures}
 abbrev pub signatures_left : EntrySignatures → List (List ℕ)
 signatures_left s = items_of (all_kept_at s.left s.bytes.now)
 
--- the signatures, and the bytes behind them
+-- the signatures, and the bytes after them
 abbrev pub kept_of : EntrySignatures × Bor (List ℕ) → List (List ℕ) × List ℕ
 kept_of x = (signatures_left x.0, x.1.now)

@@ -85,7 +85,7 @@ fn claims_of_want<'a>(view: u16, place: u16) -> Result<Claims<'a>, FrameFault>
 pub fn claims_of<'a>(frame: &FrameView<'a>) -> Result<Claims<'a>, FrameFault>
     ensures exact { Gives claims_left result (plain.claims_of (frames.frame_view frame.now)) }
 
-    // What is lent is in range.
+    // The claims are in range.
     ensures range { IfOk result (λ cs. AllByRecursion IsClaim (claims_left cs)) }
 {
     match *frame {

@@ -1,4 +1,4 @@
-//! The claims of a frame, lent one after another.
+//! The claims of a frame, one after another.
 ghost use Rattle.std.specs.Prelude.{◌≡◌, [], IsOk, MatchOption, Ok};
 ghost use Rattle.std.specs.Iterator.{YieldsFirstBy};
 ghost use Rattle.frame_codec.specs.Views as frames;
@@ -9,13 +9,13 @@ use frame_codec::{Group, Groups};
 use statements::{Carrier, Claim, Pid, read_carried};
 
 /// The claims that are left in a frame, by group and signer. They borrow the frame's bytes: a statement is read when its
-/// claim is lent. That all can be read was found before the first one.
+/// claim is taken. That all can be read was found before the first one.
 #[derive(Clone, Copy)]
 pub struct Claims<'a> {
     pub(crate) carrier: Carrier,
-    // the group of the claim lent last
+    // the group of the claim taken last
     pub(crate) begun: Option<Group<'a>>,
-    // those behind it; of a Want, none
+    // those after it; of a Want, none
     pub(crate) groups: Option<Groups<'a>>,
     pub ghost readable: { IsOk (all_left carrier begun groups) },
 }

@@ -29,7 +29,7 @@ pub struct Entry<'a> {
     pub signatures: EntrySignatures<'a>,
 }
 
-/// The signatures that are left of an entry, lent one after another.
+/// The signatures that are left of an entry, one after another.
 #[derive(Clone, Copy)]
 pub struct EntrySignatures<'a> {
     left: u16,
@@ -48,7 +48,7 @@ fn signature_at(bytes: &[u8]) -> Option<(&[u8], &[u8])>
     bytes_at(rest, len as usize, ()).ok()
 }
 
-// The bytes behind so many signatures.
+// The bytes after `count` signatures.
 fn skip_signatures(count: u16, bytes: &[u8]) -> Option<&[u8]>
     ensures { Finds (λ x. x.now) result (rest_of (all_kept_at count bytes.now)) }
 {
@@ -65,7 +65,7 @@ fn skip_signatures(count: u16, bytes: &[u8]) -> Option<&[u8]>
 impl<'a> EntrySignatures<'a> {
     ghost use Rattle.stmt_codec.specs.Kept.{kept_of};
 
-    /// So many signatures from the front of the bytes, and the bytes behind them. None, exactly where the bytes end
+    /// `count` signatures from the front of the bytes, and the bytes after them. None, exactly where the bytes end
     /// within a signature, or a signature has more than 16,384 bytes.
     pub fn read(count: u16, bytes: &'a [u8]) -> Option<(EntrySignatures<'a>, &'a [u8])>
         ensures { Finds kept_of result (all_kept_at count bytes.now) }

@@ -30,7 +30,7 @@ pub enum Event<'a> {
 /// Why an event was refused: the first of these that holds. Nothing has changed, nothing was signed, nothing is sent.
 #[derive(Clone, Copy, Debug, PartialEq, Eq)]
 pub enum EventFault {
-    /// The process halted for good, with so many places delivered and that cut decided. The other members are to
+    /// The process halted for good, with `delivered` places delivered and that cut decided. The other members are to
     /// blame: more of them were corrupt than the group bears.
     HaltedNow { delivered: u16, cut: u16 },
 
@@ -82,7 +82,7 @@ pub struct Delivered {
     pub payload: Payload,
 }
 
-/// What an event brought about that the process's user is told.
+/// What an event brought about that is reported to the process's user.
 #[derive(Debug, Drop)]
 pub enum Note {
     /// The message of this number of that sender was delivered at the place.
@@ -94,7 +94,7 @@ pub enum Note {
         payload: Payload,
     },
 
-    /// The process is in the view of this number now. Its members stand in rank order.
+    /// The process is in the view of this number now. Its members are in rank order.
     Installed {
         view: u16,
         members: ArrayVec<Pid, 16>,
@@ -106,7 +106,7 @@ pub enum Note {
     /// A statement was due, and no signature was left.
     Spent,
 
-    /// The process halted for good, with so many places delivered and that cut decided.
+    /// The process halted for good, with `delivered` places delivered and that cut decided.
     Halted {
         delivered: u16,
         cut: u16,

@@ -24,7 +24,7 @@ impl Payload {
         Payload { bytes }
     }
 
-    /// The bytes, lent.
+    /// The bytes, borrowed.
     pub fn bytes(&self) -> &[u8]
         ensures { result.now ≡ self.now }
     {

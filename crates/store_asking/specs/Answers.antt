@@ -1,5 +1,5 @@
 -- What a run of `ask` has read and written: by what a source had left before and has left now, what a sink held before and holds now, and
--- the counts of the sink's faults before and now. Of a stream that does not tell what it holds, nothing is said by it.
+-- the counts of the sink's faults before and now. Of a stream that does not say what it holds, nothing is said by it.
 use Rattle.std.specs.Prelude.{◌≡◌, ℕ, List, Option, IsSomeAnd, IsOk, IsErr, Err}
 use Rattle.std.specs.Io.KnownBytes.{Appends}
 use Rattle.rp_base.specs.Streams.{AppendsPrefix, Says}
@@ -27,10 +27,10 @@ pub record Refused (before now old new : Option (List ℕ)) (faults faults_now :
   pub is : Settles asked before now (Err fault)
   pub said : Says (stop_text fault) old new faults faults_now
 
--- the source tells what it has left, and a question stands in it
+-- the source says what it has left, and there is a question in it
 abbrev pub Asks : Option (List ℕ) → Type 0
 Asks left = IsSomeAnd left (λ bytes. IsOk (asked bytes))
 
--- it tells, and what it has left has a fault
+-- it says what it has left, and that has a fault
 abbrev pub AsksNothing : Option (List ℕ) → Type 0
 AsksNothing left = IsSomeAnd left (λ bytes. IsErr (asked bytes))

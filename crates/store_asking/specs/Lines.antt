@@ -1,4 +1,4 @@
--- What the lines behind a kit say, one by one.
+-- What the lines after a kit say, one by one.
 use Rattle.std.specs.Prelude.{◌≡◌, ℕ, Bool, true, List, [], ◌∷◌, ◌++◌, ◌<◌, ◌==◌, ◌&&◌, nat_lt, nat_le, if◌then◌else◌, length, codes, All, Option, Some, None, option_map, Result, Ok, Err}
 use Rattle.std.specs.Option.{ok_or}
 use Rattle.std.specs.Result.{result_ok}
@@ -37,12 +37,12 @@ said (variants.Of view) = Of view
 abbrev pub with_key : ℕ × List ℕ → PlainSaid
 with_key k = Key k.0 k.1
 
--- what the words of a line say, where these reply keys were told before
+-- what the words of a line say, where these reply keys were given before
 abbrev pub said_by : Scheme → List ℕ → List (ℕ × List ℕ) → List (List ℕ) → Option PlainSaid
 said_by scheme roster keys words =
     if is_view words then option_map Of (view_by (behind_first words)) else option_map with_key (named_key scheme roster keys words)
 
--- a reply key stands behind those of lower processes
+-- a reply key comes after those of lower processes
 abbrev pub IsNext : List (ℕ × List ℕ) → PlainSaid → Type 0
 IsNext keys (Key process key) = All (λ k. k.0 < process) keys
 IsNext keys (Of view) = Unit {0}
@@ -51,7 +51,7 @@ IsNext keys (Of view) = Unit {0}
 abbrev pub are_below : List ℕ → ℕ → Bool
 are_below ps p = list_all (λ q. nat_lt q p) ps
 
--- a process with its key, above all of these: the words behind `replykey`
+-- a process with its key, above all of these: the words after `replykey`
 abbrev pub key_above : Scheme → List ℕ → List ℕ → List (List ℕ) → Option (ℕ × List ℕ)
 key_above scheme roster told (process ∷ key ∷ []) =
     and_then (listed_process roster process) (λ p.
@@ -70,7 +70,7 @@ only_word _ = None
 
 -- ---- replies
 
--- the process and the bytes that the words behind `reply` name
+-- the process and the bytes that the words after `reply` name
 abbrev pub told_behind : List (List ℕ) → Option (ℕ × List ℕ)
 told_behind (process ∷ word ∷ []) = and_then (process_of process) (λ p. option_map (λ bytes. (p, bytes)) (some_bytes_of word))
 told_behind _ = None

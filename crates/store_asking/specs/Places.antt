@@ -1,4 +1,4 @@
--- Places of an input behind its kit, and the answer from one on, whatever bytes come.
+-- Places of an input after its kit, and the answer from one on, whatever bytes come.
 use Rattle.std.specs.Prelude.{ℕ, ◌+◌, List, [], ◌∷◌, ◌++◌, Option, Result, Ok, Err}
 use Rattle.signature_defs.specs.Schemes.{is_valid}
 use Rattle.text_defs.specs.Words.{parts_of}
@@ -12,7 +12,7 @@ use Rattle.store_asking.specs.Lines.{PlainSaid, Key, Of}
 
 -- ---- reply keys and the view
 
--- A place before the line of the view: the number of the next line, the reply keys that were told, and the bytes of the next lines that are
+-- A place before the line of the view: the number of the next line, the reply keys so far, and the bytes of the next lines that are
 -- read already.
 pub record KeyPlace : Type 0 where
   pub kit : Kit
@@ -38,7 +38,7 @@ abbrev pub with_replies : List (ℕ × List ℕ) → View → Result (List Reply
 with_replies keys view (Ok replies) = Ok (record { keys = keys; view = view; replies = replies })
 with_replies keys view (Err fault) = Err fault
 
--- the question behind the line of this number, which says this
+-- the question after the line of this number, which says this
 abbrev pub question_behind : Kit → ℕ → List (ℕ × List ℕ) → List ℕ → PlainSaid → List ℕ → Result Question KitFault
 question_behind kit n keys ahead (Key p key) more = question_at (key_place kit (n + 1) (keys ++ (p, key) ∷ []) ahead) more
 question_behind kit n keys ahead (Of view) more = with_replies keys view (replies_at (n + 1) most_replies ahead more)
@@ -71,7 +71,7 @@ vote_at p more = vote_by p.kit p.keys p.vote (replies_at p.number p.left p.ahead
 abbrev pub Found : Type 0
 Found = ℕ × Option Content
 
--- for a question behind a kit
+-- for a question after a kit
 abbrev pub found_for : List ℕ → Kit → Result Question KitFault → Result Found KitFault
 found_for payload kit (Ok q) = Ok (q.view.number, answered kit payload q)
 found_for payload kit (Err fault) = Err fault

@@ -23,7 +23,7 @@ use std::alloc::Global;
 use text_codec::push_hex;
 use vote_client::{Content, Vote};
 
-// The words of a content behind the number of the view.
+// The words of a content after the number of the view.
 #[tactic(auto, using(crate::proofs::Written::content_written))]
 fn push_content(out: &mut Vec<u8>, content: &Content<'_>) -> Result<(), NoMemory>
     ensures { OnOk result (out.new.items ≡ out.old.items
@@ -116,7 +116,7 @@ fn tell<K: Sink>(alloc: Global, output: &mut K, fault: FrontFault) -> u8
     status(fault)
 }
 
-/// The word `ask`: reads a kit up to the line `go`, and behind it reply keys, a view and replies to the end of the input. It writes which
+/// The word `ask`: reads a kit up to the line `go`, and after it reply keys, a view and replies to the end of the input. It writes which
 /// answer to the payload more than f of the view's members gave, in replies that are valid under these keys, or that there is none; and
 /// answers the status that the program ends with. It is written once all is read.
 ///
@@ -153,7 +153,7 @@ pub fn ask<S: Source, K: Sink>(alloc: Global, payload: &[u8], input: &mut S, out
     // 4, 7: no read failed.
     ensures whole { (result ≡ 4) ⊎ (result ≡ 7) → S.faults input.new ≡ S.faults input.old }
 
-    // An input in which a question stands gives 0, and one that has a fault gives 7, where memory is left and nothing failed.
+    // An input that has a question gives 0, and one that has a fault gives 7, where memory is left and nothing failed.
     ensures completes { Asks (S.left input.old)
         → ¬ Rose (S.faults input.old) (S.faults input.new) → ¬ Rose (K.faults output.old) (K.faults output.new)
         → (result ≡ 0) ⊎ (result ≡ 1) }

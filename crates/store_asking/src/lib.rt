@@ -1,4 +1,4 @@
-//! The word `ask`: a kit is read, and behind it reply keys, a view and replies, and what more than f of the view's members answered to a
+//! The word `ask`: a kit is read, and after it reply keys, a view and replies, and what more than f of the view's members answered to a
 //! payload is written (docs/FORMATS.md, «The store»).
 #![tactic(auto)]
 

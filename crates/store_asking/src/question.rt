@@ -1,4 +1,4 @@
-//! What is asked: the lines behind a kit up to the line of the view.
+//! What is asked: the lines after a kit up to the line of the view.
 ghost use Rattle.std.specs.Prelude.{◌≡◌, ◌⊎◌, ◌+◌, [], IfErr, IfOk, IfSome, IsErrOf, Err};
 ghost use Rattle.rp_base.specs.Causes.{Rose};
 ghost use Rattle.line_input.specs.Places.{Leads, Settles};
@@ -38,7 +38,7 @@ pub(crate) fn line_fault(number: usize) -> FrontFault
     FrontFault::Kit(KitFault::Line { line: number })
 }
 
-/// The number of the line behind the line of this number.
+/// The number of the line after the line of this number.
 ///
 /// # Errors
 /// `NoMemory` where it does not fit into 64 bits: no input has so many lines.
@@ -48,7 +48,7 @@ pub(crate) fn number_behind(line: usize) -> Result<usize, NoMemory>
     line.checked_add(1).ok_or(NoMemory)
 }
 
-// Takes the next line, which has this number, and reads what it says where these reply keys were told before it.
+// Takes the next line, which has this number, and reads what it says where these reply keys were given before it.
 fn next_said<S: Source>(
     kit: &Kit,
     keys: &Roster,

@@ -21,7 +21,7 @@ struct Told {
     bytes: Vec<u8>,
 }
 
-// What the words behind `reply` say.
+// What the words after `reply` say.
 fn told_after(alloc: Global, mut words: Words<'_>) -> Result<Option<Told>, NoMemory>
     ensures { IfOk result (λ found. option_map told found ≡ told_behind (parts_left words.entry)) }
 {

@@ -15,7 +15,7 @@ use text_codec::Parts as Words;
 use view_table::View;
 use view_words::view_by;
 
-/// What a line says that stands before the replies.
+/// What a line says that comes before the replies.
 #[derive(Drop)]
 pub(crate) enum Said {
     /// The key that signs the replies of a process.
@@ -38,7 +38,7 @@ fn are_all_below(set: PidSet, p: Pid) -> bool
     true
 }
 
-// The reply key that the words behind `replykey` say: of a process of the roster, above those whose keys were told.
+// The reply key that the words after `replykey` say: of a process of the roster, above those whose keys were given.
 fn key_behind(
     scheme: AnyScheme,
     roster: &Roster,
@@ -59,7 +59,7 @@ fn key_behind(
     Some(Said::ReplyKey { process, key })
 }
 
-// The same, where these keys were told.
+// The same, where these keys were given.
 fn reply_key_by(scheme: AnyScheme, roster: &Roster, keys: &Roster, words: Words<'_>) -> Option<Said>
     ensures said { option_map said result
         ≡ option_map with_key (plain.reply_key_by (scheme_in scheme) (roster_of roster.now) keys.now (parts_left words.entry)) }
@@ -83,7 +83,7 @@ fn said_in(scheme: AnyScheme, roster: &Roster, keys: &Roster, mut words: Words<'
     None
 }
 
-/// What a line says, given without its line feed, in a group of this scheme and roster, where these reply keys were told before it; None
+/// What a line says, given without its line feed, in a group of this scheme and roster, where these reply keys were given before it; None
 /// exactly where it is no reply key of a further process, and no view.
 pub(crate) fn read_said(
     scheme: AnyScheme,

@@ -1,4 +1,4 @@
--- What `ask` reads and writes. Its input is a kit and the line `go`, and behind it, in this order:
+-- What `ask` reads and writes. Its input is a kit and the line `go`, and after it, in this order:
 --   replykey P HEX     the reply key of a process of the roster, by rising numbers; as many digits as a key line of the kit has
 --   view X : M M M     one line
 --   reply P HEX        a reply record of P, at most 1,024 lines
@@ -54,7 +54,7 @@ view_of_words number words =
     if nat_le 1 (length words) && nat_le (length words) most_members
     then option_map (λ ms. record { number = x; members = ms }) (members_by [] words) else None)
 
--- what the words behind `view` say
+-- what the words after `view` say
 abbrev pub view_by : List (List ℕ) → Option View
 view_by (number ∷ colon ∷ words) = if same_bytes colon (codes ":") then view_of_words number words else None
 view_by _ = None
@@ -72,9 +72,9 @@ reply_by (word ∷ process ∷ bytes ∷ []) =
     if same_bytes word (codes "reply") then and_then (process_of process) (λ p. record_by p bytes) else None
 reply_by _ = None
 
--- ---- the lines behind the kit
+-- ---- the lines after the kit
 
--- what stands behind a kit
+-- what comes after a kit
 pub record Question : Type 0 where
   pub keys : List (ℕ × List ℕ)
   pub view : View
@@ -88,7 +88,7 @@ most_replies = 1024
 abbrev pub line_words : ℕ → List ℕ → Result (List (List ℕ)) KitFault
 line_words n line = if nat_lt most_line_bytes (length line) then Err (Line n) else Ok (words_of line)
 
--- from the line of this number on: at most so many replies, to the end of the input
+-- from line n on: at most `left` replies, to the end of the input
 unfoldable pub replies_from : ℕ → ℕ → List (List ℕ) → Result (List Reply) KitFault
 replies_from n left [] = Err (Line n)
 replies_from n left (rest ∷ []) = if length rest == 0 then Ok [] else Err (Line n)
@@ -116,7 +116,7 @@ question_from scheme roster n keys (line ∷ next ∷ more) = line_words n line 
 
 -- ---- the answer
 
--- the reply key of a process, where it was told
+-- the reply key of a process, where it was given
 abbrev pub key_in : List (ℕ × List ℕ) → ℕ → Option (List ℕ)
 key_in keys p = option_map (λ k. k.1) (find (λ k. k.0 == p) keys)
 
@@ -129,7 +129,7 @@ abbrev pub answer_text : ℕ → Option Content → List ℕ
 answer_text x None = line_text (codes "answer" ∷ codes "none" ∷ [])
 answer_text x (Some c) = line_text (codes "answer" ∷ decimal x ∷ decimal c.place ∷ decimal c.position ∷ encode_lower c.answer ∷ [])
 
--- the question that an input asks behind its kit
+-- the question that an input asks after its kit
 unfoldable pub asked : List ℕ → Result (Kit × Question) KitFault
 asked input = do
   front ← front_of input

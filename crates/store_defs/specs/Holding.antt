@@ -20,7 +20,7 @@ genesis = record { view = 0; store = empty }
 abbrev pub was_member : Account → ℕ → Bool
 was_member a x = list_any (λ v. is_member v a.me) (take 1 (drop x a.views))
 
--- it was a member of so many views from this number on
+-- it was a member of n views from number y on
 unfoldable pub stayed : Account → ℕ → ℕ → Bool
 stayed a y zero = true
 stayed a y (suc n) = stayed a y n && was_member a (y + n)
@@ -37,7 +37,7 @@ payloads_of ds = map (λ d. d.payload) ds
 abbrev pub payloads_in : List Letter → List (List ℕ)
 payloads_in ds = map (λ d. d.payload) ds
 
--- the store after so many views from number y on, each of which delivers these payloads
+-- the store after n views from number y on, each of which delivers these payloads
 unfoldable pub store_over : (ℕ → List (List ℕ)) → Store → ℕ → ℕ → Store
 store_over payloads s y zero = s
 store_over payloads s y (suc n) = store_after (store_over payloads s y n) (payloads (y + n))
@@ -59,7 +59,7 @@ delivered_below a (suc x) = delivered_below a x + length (delivered_in a x)
 
 -- ---- what a process says of the store
 
--- which message of a view is answered: those that the process delivered in the view before it, the message, and those behind it
+-- which message of a view is answered: those that the process delivered in the view before it, the message, and those after it
 pub record Stands (ds : List Delivered) : Type 0 where
   pub before : List Delivered
   pub at : Delivered

@@ -168,7 +168,7 @@ JoinersHoldTheStore = (sv : Services) → ServicePremises sv
 
 -- The answer of the store to this payload at this place and position of the view of number x: a correct process delivered the payload
 -- there, what it delivered up to there is the front of the group's sequence, and the answer is the store's after the sequences of the views below
--- and what stands before it in this one.
+-- and what comes before it in this one.
 pub record IsAnswerOf (accounts : List Account) (x : ℕ) (payload : List ℕ) (c : Content) : Type 0 where
   pub by : Account
   pub correct : Contains accounts by
@@ -253,7 +253,7 @@ pub record Follows (p : Process) (b : Beginning) (s : Server) : Type 0 where
 abbrev pub BeginsFollowing : Type 0
 BeginsFollowing = (p : Process) → Follows p genesis (server_of p)
 
--- told of a turn, it follows the process after the turn. The views of a process are numbered by how many it left (`ViewsInARow`)
+-- given the notes of a turn, it follows the process after the turn. The views of a process are numbered by how many it left (`ViewsInARow`)
 abbrev pub TurnFollows : Type 0
 TurnFollows = (setting : Setting) (p : Process) (t : Turn) (q : Place) (b : Beginning) (s : Server) → p.pool.view.number ≡ length p.left
     → q.me ≡ p.me → Follows p b s → Follows (after setting p t) b (after_notes q s (outcome setting p t).notes)

@@ -1,8 +1,8 @@
--- What members sign of the store: a reply to a message, and the store as it was when a view began. A record is the body behind its letters
+-- What members sign of the store: a reply to a message, and the store as it was when a view began. A record is the body after its letters
 -- and group, and the signature.
---   reply body   RPR1, group 16, signer 1, view 2, place 2, position 1, payload behind a length of two bytes, answer likewise
---   state body   RPT1, group 16, signer 1, view 2, state behind a length of four bytes
---   record       the body from the signer on, signature behind a length of two bytes
+--   reply body   RPR1, group 16, signer 1, view 2, place 2, position 1, payload after a length of two bytes, answer likewise
+--   state body   RPT1, group 16, signer 1, view 2, state after a length of four bytes
+--   record       the body from the signer on, signature after a length of two bytes
 use Rattle.std.specs.Prelude.{◌≡◌, ℕ, ◌+◌, ◌<◌, ◌≤◌, ◌^◌, nat_lt, List, [], ◌∷◌, ◌++◌, length, codes, Result, Ok, Err}
 use Rattle.std.specs.Int.{w8, w16, w32}
 use Rattle.byte_defs.specs.Fields.{◌>>=◌, refuse_if, number_at, bytes_at, two_bytes, four_bytes, text}
@@ -109,7 +109,7 @@ reply_of bytes = do
     signature = signature.0;
   })
 
--- a state that is a store's spelling, behind its length, and the bytes after it
+-- a state that is a store's spelling, after its length, and the bytes after it
 unfoldable pub state_at : List ℕ → Reading (List ℕ × List ℕ)
 state_at bytes = do
   len ← number_at tt w32 bytes

@@ -10,7 +10,7 @@ use Rattle.store_defs.specs.Votes.{Valid}
 use Rattle.store_defs.specs.Serving.{Place, Server, after_note, after_offer, offer_word, state_given, told_of, with_key}
 use Rattle.store_defs.specs.Words.{Word, Give, State, StateKey, given_text, offered_text, reply_key_text, state_key_text, told_text, word_by}
 
--- the words behind the first
+-- the words after the first
 abbrev pub behind_first : List (List ℕ) → List (List ℕ)
 behind_first [] = []
 behind_first (word ∷ words) = words
@@ -32,7 +32,7 @@ keys_text places = flat_map (λ q. reply_key_text q.me q.replies.public) places 
 
 -- ---- notes
 
--- what is written behind a note
+-- what is written after a note
 abbrev pub noted_text : Place → Server → Note → List ℕ
 noted_text q s note = told_text q.me (told_of q s note)
 

@@ -64,7 +64,7 @@ server_of p =
 
 -- ---- replies
 
--- the position of a message at its place: one behind the last message, where that was of the same place, else the first
+-- the position of a message at its place: one more than the last message's, where that was of the same place, else the first
 abbrev pub position_at : Option (ℕ × ℕ) → ℕ → ℕ
 position_at last place = option_map_or (λ l. if l.0 == place then l.1 + 1 else 0) last 0
 
@@ -84,7 +84,7 @@ unsigned_reply me view position d answer = record {
 abbrev pub signed_reply : Place → ℕ → Reply → Reply
 signed_reply q leaf r = record r { signature = q.replies.signature leaf (reply_body q.group r) }
 
--- what is written behind `reply P`
+-- what is written after `reply P`
 pub data ReplyWord : Type 0 where
   Signed : (reply : Reply) → ReplyWord
   NoLeaf : ReplyWord
@@ -135,7 +135,7 @@ unfoldable pub after_notes : Place → Server → List Note → Server
 after_notes q s [] = s
 after_notes q s (note ∷ notes) = after_notes q (after_note q s note) notes
 
--- what it writes behind a note
+-- what it writes after a note
 pub data Told : Type 0 where
   Nothing : Told
   ToldReply : (word : ReplyWord) → Told
@@ -157,7 +157,7 @@ unsigned_state me view store = record { signer = me; view = view; state = store_
 abbrev pub signed_state : Place → StateRecord → StateRecord
 signed_state q r = record r { signature = q.states.signature r.view (state_body q.group r) }
 
--- what is written behind `state P` of a `give`
+-- what is written after `state P` of a `give`
 pub data StateWord : Type 0 where
   Given : (given : StateRecord) → StateWord
   NoStateLeaf : StateWord
@@ -171,7 +171,7 @@ state_given q s = elim s.gives [
       else Given (signed_state q (unsigned_state q.me s.view.number store))
 ]
 
--- what is written behind `state P` of a state that is offered, which also says what came of it
+-- what is written after `state P` of a state that is offered, which also says what came of it
 pub data OfferWord : Type 0 where
   Grammar : OfferWord
   Held : OfferWord

@@ -74,7 +74,7 @@ pub data Answer : Type 0 where
   Absent : Answer
   NoCommand : Answer
   Full : Answer
-  -- the value that stands in the store
+  -- the value in the store
   Differs : (value : List ℕ) → Answer
 
 abbrev pub answer_bytes : Answer → List ℕ
@@ -114,7 +114,7 @@ carried_out c s = elim (value_of (key_of c) s) [ None ↦ missed c s | Some old 
 abbrev pub Reading : Type 0 → Type 0
 Reading A = Result A (Unit {0})
 
--- 1 to 64 bytes behind their length, and the bytes after them
+-- 1 to 64 bytes after their length, and the bytes after them
 unfoldable pub key_at : List ℕ → Reading (List ℕ × List ℕ)
 key_at bytes = do
   len ← number_at tt w8 bytes
@@ -122,7 +122,7 @@ key_at bytes = do
   _ ← refuse_if (nat_lt most_key_bytes len.0) tt
   bytes_at tt len.0 len.1
 
--- at most so many bytes behind their length, and the bytes after them
+-- at most `most` bytes after their length, and the bytes after them
 unfoldable pub text_within : ℕ → List ℕ → Reading (List ℕ × List ℕ)
 text_within most bytes = do
   len ← number_at tt w16 bytes
@@ -146,7 +146,7 @@ exchange_at key bytes = do
   value ← value_at expected.1
   Ok (Exchange key expected.0 value.0, value.1)
 
--- what stands behind the byte of a command and its key, and the bytes after it
+-- what comes after the byte of a command and its key, and the bytes after it
 unfoldable pub command_behind : ℕ → List ℕ → List ℕ → Reading (Command × List ℕ)
 command_behind what key bytes =
     if what == 1 then set_at key bytes
@@ -178,7 +178,7 @@ unfoldable pub store_after : Store → List (List ℕ) → Store
 store_after s [] = s
 store_after s (payload ∷ payloads) = store_after (applied s payload).1 payloads
 
--- ---- how a store is spelled: the number of its keys in two bytes, and each key behind a length of one byte, with its value behind a length
+-- ---- how a store is spelled: the number of its keys in two bytes, and each key after a length of one byte, with its value after a length
 -- of two
 
 abbrev pub pair_bytes : Pair → List ℕ
@@ -187,7 +187,7 @@ pair_bytes e = length e.0 ∷ (e.0 ++ text e.1)
 unfoldable pub store_bytes : Store → List ℕ
 store_bytes s = two_bytes (length s) ++ flat_map pair_bytes s
 
--- so many pairs, each of a key above the one before it, and the bytes after them
+-- n pairs, each of a key above the one before it, and the bytes after them
 unfoldable pub pairs_at : ℕ → List ℕ → List ℕ → Reading (Store × List ℕ)
 pairs_at zero before bytes = Ok ([], bytes)
 pairs_at (suc n) before bytes = do

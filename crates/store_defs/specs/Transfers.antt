@@ -39,7 +39,7 @@ givers t state = count_by (has_given t state) t.view.members
 abbrev pub with_state : Transfer → StateRecord → Transfer
 with_state t r = record t { counted = t.counted ++ (r.signer, r.state) ∷ [] }
 
--- how many members have now given the state: enough, or so many
+-- how many members have now given the state, or that they are enough
 abbrev pub counted : Transfer → StateRecord → Taken
 counted t r =
     if nat_lt (faulty (length t.view.members)) (givers (with_state t r) r.state) then Ready else Counted (givers (with_state t r) r.state)

@@ -2,8 +2,8 @@
 --   P give               asks P for its store at the beginning of its view
 --   P state HEX          offers a state record to P; the line has at most 8,388,608 bytes
 --   P statekey Q HEX     hands P the state key of Q, which is of the roster
--- It writes `replykey P HEX` for each process that it hosts, then `statekey P HEX` for each, behind the host lines; `reply P` and a record,
--- `spent` or `none` behind each `deliver` line of P; and `state P` and a record, `spent`, `none`, `ready`, `taken C` or `refused WORD`.
+-- It writes `replykey P HEX` for each process that it hosts, then `statekey P HEX` for each, after the host lines; `reply P` and a record,
+-- `spent` or `none` after each `deliver` line of P; and `state P` and a record, `spent`, `none`, `ready`, `taken C` or `refused WORD`.
 use Rattle.std.specs.Prelude.{ℕ, ◌/◌, ◌*◌, ◌==◌, ◌&&◌, nat_le, if◌then◌else◌, Bool, List, [], ◌∷◌, ◌++◌, length, codes, Option, Some, None, option_map}
 use Rattle.std.specs.Option.{option_flatten}
 use Rattle.std.specs.Fmt.{decimal}
@@ -33,12 +33,12 @@ pub data Word : Type 0 where
   State : (bytes : List ℕ) → Word
   StateKey : (process : ℕ) (key : List ℕ) → Word
 
--- the words behind `P give`
+-- the words after `P give`
 abbrev pub give_by : List (List ℕ) → Option Word
 give_by [] = Some Give
 give_by _ = None
 
--- behind `P state`
+-- after `P state`
 abbrev pub state_by : List (List ℕ) → Option Word
 state_by (word ∷ []) = option_map State (some_bytes_of word)
 state_by _ = None
@@ -47,13 +47,13 @@ state_by _ = None
 abbrev pub listed_process : List ℕ → List ℕ → Option ℕ
 listed_process roster word = and_then (process_of word) (λ p. if has roster p then Some p else None)
 
--- behind `P statekey`, in a kit of this scheme and roster
+-- after `P statekey`, in a kit of this scheme and roster
 abbrev pub state_key_by : Scheme → List ℕ → List (List ℕ) → Option Word
 state_key_by scheme roster (process ∷ key ∷ []) =
     and_then (listed_process roster process) (λ p. option_map (StateKey p) (bytes_of (key_length scheme) key))
 state_key_by scheme roster _ = None
 
--- what the words of a line say, behind its process
+-- what the words of a line say, after its process
 unfoldable pub word_by : Scheme → List ℕ → List (List ℕ) → Option Word
 word_by scheme roster [] = None
 word_by scheme roster (word ∷ words) = option_flatten (first_that_holds (
@@ -74,7 +74,7 @@ reply_word (Signed reply) = encode_lower (reply_bytes reply)
 reply_word NoLeaf = codes "spent"
 reply_word NoStore = codes "none"
 
--- behind a note of a process
+-- after a note of a process
 unfoldable pub told_text : ℕ → Told → List ℕ
 told_text p Nothing = []
 told_text p (ToldReply word) = line_text (codes "reply" ∷ decimal p ∷ reply_word word ∷ [])
@@ -84,7 +84,7 @@ state_word (Given r) = encode_lower (state_bytes r)
 state_word NoStateLeaf = codes "spent"
 state_word NoState = codes "none"
 
--- behind `P give`
+-- after `P give`
 unfoldable pub given_text : ℕ → StateWord → List ℕ
 given_text p word = line_text (codes "state" ∷ decimal p ∷ state_word word ∷ [])
 
@@ -98,6 +98,6 @@ offer_words Known = codes "refused" ∷ codes "known" ∷ []
 offer_words Ready = codes "ready" ∷ []
 offer_words (TakenSoFar n) = codes "taken" ∷ decimal n ∷ []
 
--- behind `P state HEX`
+-- after `P state HEX`
 unfoldable pub offered_text : ℕ → OfferWord → List ℕ
 offered_text p word = line_text (codes "state" ∷ decimal p ∷ offer_words word)

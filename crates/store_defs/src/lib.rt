@@ -39,6 +39,6 @@ pub enum Taken {
     /// It counts, and more than f members have now given this state.
     Ready,
 
-    /// It counts; so many members have now given this state, and that is not enough.
+    /// It counts; this many members have now given this state, and that is not enough.
     Counted(u8),
 }

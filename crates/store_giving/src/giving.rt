@@ -26,7 +26,7 @@ use store_words::{push_hex_line, push_line};
 use view_table::View;
 
 /// What a process gives of its view, and what others gave: the key that signs, the state with its signature, once it was asked for, the
-/// keys of the others, and the states that they gave. What the definitions' server has of these, the record `IsGiving` of the specs says.
+/// keys of the others, and the states that they gave. `IsGiving` of the specs says what the definitions' server has of these.
 #[derive(Drop)]
 pub struct Giving {
     me: Pid,
@@ -93,7 +93,7 @@ impl Giving {
     ghost use Rattle.store_giving.specs.Given.{IsGiving, IsSameBut, giver_in, signed_record, state_key_in, transfer_in, view_in};
     ghost use Rattle.store_giving.specs.Offers.{ready_store, store_by, word};
 
-    /// Of a process of this group in this view, whose key has signed nothing yet, and which gives this store or none. It was handed no key
+    /// For a process of this group in this view, whose key has signed nothing yet, and which gives this store or none. It was handed no key
     /// and no state.
     ///
     /// # Errors

@@ -122,7 +122,7 @@ pub fn begins_following()
     ensures { BeginsFollowing }
 {}
 
-/// Told of a turn, it follows its process.
+/// Given the notes of a turn, it follows its process.
 pub fn turn_follows()
     ensures { TurnFollows }
 {}

@@ -15,7 +15,7 @@ pair_in before bytes = do
   value ← value_at key.1
   Ok ((key.0, value.0), value.1)
 
--- so many pairs, each of a key above the one before it, and no bytes after them
+-- n pairs, each of a key above the one before it, and no bytes after them
 unfoldable pub pairs_only : ℕ → List ℕ → List ℕ → Reading Store
 pairs_only n before bytes = do
   pairs ← pairs_at n before bytes

@@ -30,7 +30,7 @@ pub(crate) fn key_at(bytes: &[u8]) -> Result<(&[u8], &[u8]), ()>
     bytes_at(rest, len as usize, ())
 }
 
-// At most so many bytes after their length, and the bytes after them.
+// At most `most` bytes after their length, and the bytes after them.
 #[tactic(auto, unfolding(store_defs::specs::Stores::text_within))]
 pub(crate) fn text_within(bytes: &[u8], most: u16) -> Result<(&[u8], &[u8]), ()>
     ensures { Gives (λ x. (x.0.now, x.1.now)) result (stores.text_within most bytes.now) }

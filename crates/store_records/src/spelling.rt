@@ -44,7 +44,7 @@ fn append_text(out: &mut Vec<u8>, bytes: &[u8])
     append(out, bytes);
 }
 
-// What is signed of a reply behind letters and group, for which there is room.
+// What is signed of a reply after letters and group, for which there is room.
 fn append_fields(out: &mut Vec<u8>, reply: &Reply<'_>)
     requires fits { IsReply (reply_of reply.now) }
     requires room { vec_len out.old + (6 + (2 + length reply.now.payload.now + (2 + length reply.now.answer.now))) ≤ vec_capacity out.old }
@@ -112,7 +112,7 @@ pub fn push_reply_body(
     Ok(())
 }
 
-// What is signed of a state behind letters and group, for which there is room.
+// What is signed of a state after letters and group, for which there is room.
 fn append_state_fields(out: &mut Vec<u8>, given: &StateRecord<'_>)
     requires fits { length given.now.state.now < 2 ^ 32 }
     requires room { vec_len out.old + (7 + length given.now.state.now) ≤ vec_capacity out.old }

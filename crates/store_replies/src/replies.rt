@@ -11,7 +11,7 @@ use store_records::Reply;
 use store_words::push_hex_line;
 
 /// What a process replies to the messages that it delivers: the key that signs, how many messages it delivered so far, and the store that
-/// answers, where the process holds it. What the definitions' server has of these, the record `IsReplying` of the specs says.
+/// answers, where the process holds it. `IsReplying` of the specs says what the definitions' server has of these.
 #[derive(Drop)]
 pub struct Replies {
     me: Pid,
@@ -60,8 +60,8 @@ impl Replies {
     ghost use Rattle.store_replies.specs.Words.{HasSpelling, message_at};
     ghost use Rattle.store_replies.specs.Replying.{Fits, IsReplying, key_in, me_in, next_position};
 
-    /// Of a process of this group, whose key has signed nothing yet: it delivered so many messages before this run (the last u32, where it
-    /// is more), and holds the store or not.
+    /// For a process of this group, whose key has signed nothing yet: `delivered` messages came before this run (the last u32, where it
+    /// is more), and it holds the store or not.
     #[tactic(auto, unfolding(crate::specs::Words::most_counted))]
     pub fn new(
         me: Pid,

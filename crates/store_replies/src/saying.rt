@@ -106,7 +106,7 @@ fn say(
     push_hex_line(out, REPLY, reply.signer, &record)
 }
 
-/// Appends the line of a reply, of which all but answer and signature is there: that there is no store, where there is no answer, or the
+/// Appends the line of a reply that has all but answer and signature: that there is no store, where there is no answer, or the
 /// answered reply, signed with the leaf of this number, or that there is no such leaf.
 #[tactic(auto, unfolding(crate::specs::Words::most_counted))]
 pub(crate) fn tell(

@@ -8,7 +8,7 @@ use Rattle.store_defs.specs.Keys.{Signs}
 use Rattle.store_defs.specs.Serving.{Place, ReplyWord, Server, Signed, NoLeaf, NoStore, Told, Nothing, ToldReply, after_note, server_of, told_of}
 use Rattle.store_rows.specs.Scripts.{delivered, get_a, set_a}
 
--- a key of so many leaves; a signature is the number of its leaf
+-- a key of `total` leaves; a signature is the number of its leaf
 abbrev pub leaves : ℕ → Signs
 leaves total = record { total = total; public = []; signature = λ leaf body. leaf ∷ [] }
 

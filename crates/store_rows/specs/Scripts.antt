@@ -1,4 +1,4 @@
--- What the rows share: the keys of a kit, texts of several lines, and what a server writes behind several notes.
+-- What the rows share: the keys of a kit, texts of several lines, and what a server writes after several notes.
 use Rattle.std.specs.Prelude.{ℕ, List, [], ◌∷◌, ◌++◌, codes}
 use Rattle.std.specs.List.{flat_map}
 use Rattle.signature_defs.specs.Secrets.{Secret, Plain}
@@ -35,7 +35,7 @@ place_of me key = record {
 abbrev pub delivered : ℕ → ℕ → ℕ → List ℕ → Delivered
 delivered place sender number payload = record { place = place; message = record { sender = sender; number = number }; payload = payload }
 
--- what is written behind these notes
+-- what is written after these notes
 abbrev pub told : Place → Server → List Note → List ℕ
 told q s [] = []
 told q s (note ∷ notes) = told_text q.me (told_of q s note) ++ told q (after_note q s note) notes

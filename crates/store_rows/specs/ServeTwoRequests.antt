@@ -21,7 +21,7 @@ s = record {
 unfoldable pub notes : List Note
 notes = Delivers 0 (delivered 0 0 0 set_a) ∷ Delivers 0 (delivered 1 0 1 get_a) ∷ []
 
--- the lines behind the host line
+-- the lines after the host line
 unfoldable pub keys : List (List ℕ)
 keys =
     codes "replykey 0 c812792564484ed2db7d7a0479050f49eb7bcd71e7fcd29432c45a891508a94b"

@@ -1,4 +1,4 @@
--- Four members of view 1, of which one may be corrupt: what a joiner makes of their states. A signature is valid where it is the key.
+-- Four members of view 1, one of which may be corrupt: what a joiner makes of their states. A signature is valid where it is the key.
 use Rattle.std.specs.Prelude.{◌≡◌, ℕ, List, [], ◌∷◌, Option, Some, None}
 use Rattle.group_defs.specs.Views.{View}
 use Rattle.store_defs.specs.declared.Taken.{Taken}

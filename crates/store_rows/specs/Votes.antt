@@ -1,4 +1,4 @@
--- Four members, of which one may be corrupt: what a client makes of replies, and what it accepts. A signature is valid where it is the key.
+-- Four members, one of which may be corrupt: what a client makes of replies, and what it accepts. A signature is valid where it is the key.
 use Rattle.std.specs.Prelude.{◌≡◌, ℕ, ◌==◌, if◌then◌else◌, List, [], ◌∷◌, Option, Some, None}
 use Rattle.byte_defs.specs.Equality.{same_bytes}
 use Rattle.group_defs.specs.Views.{View}

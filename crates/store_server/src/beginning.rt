@@ -80,7 +80,7 @@ fn gone_on(
 }
 
 impl Server {
-    /// The server of a process of this group, as its journal left it: of what the process tells of itself, and of its secret. It holds the
+    /// The server of a process of this group, as its journal left it: of what the process reports of itself, and its secret. It holds the
     /// store where the process was a member of all its views, and its keys have signed nothing in this run. Keys of trees take their memory
     /// and the time of their public keys.
     ///

@@ -10,8 +10,8 @@ ghost use Rattle.store_server.specs.Serving.{AreServers, Begins};
 use store_giving::Giving;
 use store_replies::{NoMemory, Pid, Replies};
 
-/// The server of one hosted process: what it replies, and what it gives. What the definitions' server keeps, it keeps: the record
-/// `IsServer` of the specs says so.
+/// The server of one hosted process: what it replies, and what it gives. `IsServer` of the specs says that it keeps what the
+/// definitions' server keeps.
 #[derive(Drop)]
 pub struct Server {
     pub(crate) replies: Replies,

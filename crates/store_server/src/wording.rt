@@ -108,7 +108,7 @@ impl Server {
     }
 
     /// Does what a line of a script asks of the server, in a group of this scheme and roster, and appends what is written then; `told` is
-    /// what the process tells of itself. False where the line has no word for a server; nothing has changed then.
+    /// what the process reports of itself. False where the line has no word for a server; nothing has changed then.
     ///
     /// # Errors
     /// [`NoMemory`] where room for a state, for what is signed, for the store or for the line is refused. Nothing is appended then, and

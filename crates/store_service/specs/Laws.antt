@@ -1,4 +1,4 @@
--- What is said of the cast of a kit is what the definitions say of the kit; and of each process its own calls tell.
+-- What is said of the cast of a kit is what the definitions say of the kit; and a process's own calls alone make its server.
 use Rattle.std.specs.Prelude.{◌≡◌, ◌≢◌, ℕ, List, map, Some, option_map, IfSome, IsTrue}
 use Rattle.std.specs.List.{AllByRecursion}
 use Rattle.node_service.specs.Histories.{Asked, Process, Serves, Version, cast_of, has, host_of, hosted_by}
@@ -10,7 +10,7 @@ use Rattle.store_service.specs.Service.{Serving, after_all, after_owns, begun, k
 abbrev pub begun_at : Kit → (ℕ → Process) → Host → Serving
 begun_at kit now h = record { place = place_of kit h; server = server_of (now h.process) }
 
--- They are those of the kit's hosts, in order; and of each number it is that of the host of this number, where there is one.
+-- The servers are those of the kit's hosts, in order; and each number has that of the host of this number, where there is one.
 pub record BeginsAsTheKit (kit : Kit) (version : Version) (now : ℕ → Process) : Type 0 where
   pub all : begun (cast_of kit version) (map now (hosted_by kit)) ≡ map (begun_at kit now) kit.hosts
   pub each : (p : ℕ) → serving p (begun (cast_of kit version) (map now (hosted_by kit))) ≡ option_map (begun_at kit now) (host_of kit p)

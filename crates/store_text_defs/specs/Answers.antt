@@ -1,4 +1,4 @@
--- An answer of the store, read from its bytes and told in words.
+-- An answer of the store, read from its bytes and put in words.
 use Rattle.std.specs.Prelude.{ℕ, ◌==◌, List, [], ◌∷◌, codes, Option, Some, None}
 use Rattle.std.specs.Option.{option_flatten}
 use Rattle.byte_defs.specs.Choices.{first_that_holds}
@@ -10,7 +10,7 @@ abbrev pub alone : Answer → List ℕ → Option Answer
 alone a [] = Some a
 alone a _ = None
 
--- the answer that the bytes are, if they are one: by the first of them, and the value behind it
+-- the answer that the bytes are, if they are one: by the first of them, and the value after it
 abbrev pub answer_of : List ℕ → Option Answer
 answer_of [] = None
 answer_of (what ∷ value) = option_flatten (first_that_holds (
@@ -21,7 +21,7 @@ answer_of (what ∷ value) = option_flatten (first_that_holds (
     ∷ (what == 4, alone Full value)
     ∷ (what == 5, Some (Differs value)) ∷ []))
 
--- what is told of an answer
+-- an answer in words
 abbrev pub answer_tokens : Answer → List Token
 answer_tokens Done = Word (codes "done") ∷ []
 answer_tokens (Value value) = Word (codes "value") ∷ Bytes value ∷ []

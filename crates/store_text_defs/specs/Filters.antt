@@ -19,7 +19,7 @@ use Rattle.store_text_defs.specs.Meanings.{meaning}
 abbrev pub most_line_bytes : ℕ
 most_line_bytes = most_state_line_bytes
 
--- no line feed stands in it, and it is not too long
+-- it has no line feed, and is not too long
 pub record IsLine (line : List ℕ) : Type 0 where
   pub no_feed : list_any (λ b. b == line_feed) line ≡ false
   pub short : length line ≤ most_line_bytes

@@ -1,4 +1,4 @@
--- What holds of requests in words, of what is told, and of filters.
+-- What holds of requests in words, of payloads and answers put in words, and of filters.
 use Rattle.std.specs.Prelude.{◌≡◌, ℕ, ◌^◌, ◌<◌, List, Some, Ok}
 use Rattle.store_defs.specs.Stores.{Answer, Command, answer_bytes, request_of}
 use Rattle.store_text_defs.specs.declared.Filter.{Filter}
@@ -19,13 +19,13 @@ RequestIsRead = (tag : ℕ) (c : Command) → tag < 2 ^ 64 → IsCommand c
 abbrev pub WordsAreRequest : Type 0
 WordsAreRequest = (r : Request) → IsRequest r → becomes Assemble (told (request_tokens r)) ≡ Some (submit_line r)
 
--- ---- what is told
+-- ---- what is put in words
 
--- an answer's bytes are told as the answer
+-- an answer's bytes are read as the answer
 abbrev pub AnswerIsRead : Type 0
 AnswerIsRead = (a : Answer) → answer_of (answer_bytes a) ≡ Some a
 
--- a payload that is a request is told as it is put in words
+-- a payload that is a request is written as the request in words
 abbrev pub PayloadIsTold : Type 0
 PayloadIsTold = (tag : ℕ) (c : Command) → tag < 2 ^ 64 → IsCommand c → payload_tokens (request_bytes tag c) ≡ asked_tokens tag c
 

@@ -4,7 +4,7 @@
 --   state P HEX               the view, and then each key with its value: the store of view 1, "a" is "b"
 --   answer X K I HEX          what was answered: value "b"
 -- and a sentence each where a process has no reply or state to give, where a state is taken or refused, and where there is no answer. Any other
--- line says nothing. Requests are told as a story tells its words, so what is told of one, behind a process, is read as the request.
+-- line says nothing. Requests are written as a story writes its words, so one that follows a process is read as the request.
 use Rattle.std.specs.Prelude.{ℕ, ◌==◌, if◌then◌else◌, List, [], ◌∷◌, ◌++◌, map, codes, Option, Some, None, option_map, Ok, Err}
 use Rattle.std.specs.List.{flat_map}
 use Rattle.std.specs.Option.{option_map_or, unwrap_or}
@@ -21,11 +21,11 @@ use Rattle.store_defs.specs.Asking.{record_by}
 use Rattle.store_text_defs.specs.Requests.{asked_tokens, both, only, tag_of, told}
 use Rattle.store_text_defs.specs.Answers.{said_tokens}
 
--- a line of these tokens, behind two blanks
+-- a line of these tokens, after two blanks
 abbrev pub told_line : List Token → List ℕ
 told_line tokens = codes "  " ++ (told tokens ++ line_feed ∷ [])
 
--- a line that is told is none, or one of these words
+-- one line, of these words
 abbrev pub one_line : List Token → List (List Token)
 one_line tokens = tokens ∷ []
 
@@ -43,12 +43,12 @@ read_tokens tag (Err fault) = Word (codes "no") ∷ Word (codes "request") ∷ [
 abbrev pub payload_tokens : List ℕ → List Token
 payload_tokens payload = read_tokens (tag_of payload) (request_of payload)
 
--- the payload's word among those behind `deliver`
+-- the payload's word among those after `deliver`
 abbrev pub sixth : List (List ℕ) → Option (List ℕ)
 sixth (p ∷ x ∷ k ∷ s ∷ l ∷ payload ∷ []) = Some payload
 sixth _ = None
 
--- the words behind `deliver`
+-- the words after `deliver`
 abbrev pub deliver_lines : List (List ℕ) → List (List Token)
 deliver_lines words = option_map_or (λ bytes. one_line (payload_tokens bytes)) (and_then (sixth words) hex_word) []
 
@@ -59,7 +59,7 @@ reply_tokens r =
     Word (codes "view") ∷ number r.view ∷ Word (codes "place") ∷ number r.place ∷ Word (codes "position") ∷ number r.position
     ∷ Word (codes ":") ∷ (payload_tokens r.payload ++ Word (codes ":") ∷ said_tokens r.answer)
 
--- what stands in the place of a record
+-- a word in place of a record
 abbrev pub no_reply : List ℕ → Option (List ℕ)
 no_reply word = first_that_holds (
     (same_bytes word (codes "none"), codes "the process does not hold the store")
@@ -78,7 +78,7 @@ reply_or word None = perhaps (no_reply word)
 abbrev pub reply_said : ℕ → List ℕ → List (List Token)
 reply_said p word = reply_or word (record_by p word)
 
--- the words behind `reply`
+-- the words after `reply`
 abbrev pub reply_lines : List (List ℕ) → List (List Token)
 reply_lines words = option_map_or (λ w. option_map_or (λ p. reply_said p w.1) (process_of w.0) []) (both words) []
 
@@ -106,7 +106,7 @@ state_from p bytes = and_then (result_ok (state_record_of bytes)) (λ r. if r.si
 abbrev pub state_by : ℕ → List ℕ → Option StateRecord
 state_by p word = and_then (some_bytes_of word) (state_from p)
 
--- what stands in the place of a record: nothing was given, or one was offered
+-- a word in place of a record: nothing was given, or one was offered
 abbrev pub no_state : List ℕ → Option (List ℕ)
 no_state word = first_that_holds (
     (same_bytes word (codes "none"), codes "the process did not hold the store when the view began")
@@ -151,13 +151,13 @@ abbrev pub given_or : List (List ℕ) → Option (List ℕ × List ℕ) → List
 given_or words (Some w) = option_map_or (λ p. state_said p w.1) (process_of w.0) []
 given_or words None = option_map_or offer_lines (three words) []
 
--- the words behind `state`
+-- the words after `state`
 abbrev pub given_lines : List (List ℕ) → List (List Token)
 given_lines words = given_or words (both words)
 
 -- ---- answers
 
--- the answer's word among those behind `answer`
+-- the answer's word among those after `answer`
 abbrev pub fourth : List (List ℕ) → Option (List ℕ)
 fourth (x ∷ k ∷ i ∷ word ∷ []) = Some word
 fourth _ = None
@@ -171,7 +171,7 @@ abbrev pub answer_or : List (List ℕ) → Option (List ℕ) → List (List Toke
 answer_or words (Some word) = option_map_or (λ answer. one_line (said_tokens answer)) (some_bytes_of word) []
 answer_or words None = perhaps (and_then (only words) no_answer)
 
--- the words behind `answer`
+-- the words after `answer`
 abbrev pub answer_lines : List (List ℕ) → List (List Token)
 answer_lines words = answer_or words (fourth words)
 
@@ -186,6 +186,6 @@ lines_by (word ∷ words) = unwrap_or (first_that_holds (
     ∷ (same_bytes word (codes "state"), given_lines words)
     ∷ (same_bytes word (codes "answer"), answer_lines words) ∷ [])) []
 
--- what is told after a line
+-- what is written after a line
 unfoldable pub meaning : List ℕ → List ℕ
 meaning line = flat_map told_line (lines_by (words_of line))

@@ -48,7 +48,7 @@ request_bytes tag c = to_be_bytes w64 tag ++ command_bytes c
 abbrev pub tag_of : List ℕ → ℕ
 tag_of payload = from_be_bytes w64 (take tag_bytes payload)
 
--- ---- how it is told
+-- ---- how it is written
 
 -- the word of a command
 abbrev pub verb_of : Command → List ℕ
@@ -57,7 +57,7 @@ verb_of (Get key) = codes "get"
 verb_of (Remove key) = codes "remove"
 verb_of (Exchange key expected value) = codes "swap"
 
--- what is told of it after its tag
+-- what is written of it after its tag
 abbrev pub command_tokens : Command → List Token
 command_tokens (Set key value) = Bytes key ∷ Bytes value ∷ []
 command_tokens (Get key) = Bytes key ∷ []
@@ -71,7 +71,7 @@ asked_tokens tag c = Word (verb_of c) ∷ number tag ∷ command_tokens c
 abbrev pub request_tokens : Request → List Token
 request_tokens r = number r.process ∷ asked_tokens r.tag r.command
 
--- tokens as they are told, with one space between them
+-- tokens as they are written, with one space between them
 abbrev pub told : List Token → List ℕ
 told tokens = join_with_byte space (map shown tokens)
 

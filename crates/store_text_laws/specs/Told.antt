@@ -1,4 +1,4 @@
--- What is told of the lines that a node which serves writes, and of those of `ask`: each is read as what it was made of. A line is given without
+-- What follows the lines that a node which serves writes, and those of `ask`: each is read as what it was made of. A line is given without
 -- its line feed.
 use Rattle.std.specs.Prelude.{◌≡◌, ℕ, ◌^◌, ◌<◌, ◌≤◌, List, length, Some, None}
 use Rattle.std.specs.List.{flat_map}

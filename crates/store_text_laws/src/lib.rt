@@ -14,12 +14,12 @@ pub fn words_are_request()
     ensures { WordsAreRequest }
 {}
 
-/// An answer's bytes are told as the answer.
+/// An answer's bytes are read as the answer.
 pub fn answer_is_read()
     ensures { AnswerIsRead }
 {}
 
-/// A payload that is a request is told as it is put in words.
+/// A payload that is a request is written as the request in words.
 pub fn payload_is_told()
     ensures { PayloadIsTold }
 {}

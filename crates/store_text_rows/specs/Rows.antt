@@ -41,7 +41,7 @@ pub record NoRequests : Type 0 where
   pub none : map (becomes Assemble) faulty ≡ None ∷ None ∷ None ∷ None ∷ None ∷ None ∷ None ∷ None ∷ None ∷ None ∷ []
   pub greatest : becomes Assemble (codes "63 remove 18446744073709551615 \"a\"") ≡ Some (codes "63 submit ffffffffffffffff030161\n")
 
--- what is told of bytes
+-- what is written of bytes
 abbrev pub told_of : List ℕ → List ℕ
 told_of bytes = told (said_tokens bytes)
 

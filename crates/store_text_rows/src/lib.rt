@@ -13,12 +13,12 @@ pub fn no_requests()
     ensures { NoRequests }
 {}
 
-/// What is told of each answer, and of bytes that are none.
+/// What is written of each answer, and of bytes that are none.
 pub fn each_answer()
     ensures { EachAnswer }
 {}
 
-/// What is told where a state is given, taken or refused, and where there is no reply or no answer.
+/// What is written where a state is given, taken or refused, and where there is no reply or no answer.
 pub fn each_state()
     ensures { EachState }
 {}

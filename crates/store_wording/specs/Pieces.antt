@@ -24,7 +24,7 @@ pub record Head : Type 0 where
   pub tag : List ℕ
   pub key : List ℕ
 
--- and the words after them, where there are so many
+-- and the words after them, where there are four at least
 abbrev pub head_of : List (List ℕ) → Option (Head × List (List ℕ))
 head_of (process ∷ verb ∷ tag ∷ key ∷ words) = Some (record { process = process; verb = verb; tag = tag; key = key }, words)
 head_of _ = None

@@ -20,7 +20,7 @@ pub fn ended(alloc: Global, line: &[u8]) -> Result<Vec<u8>, NoMemory>
     Ok(bytes)
 }
 
-/// What a line becomes that is to be assembled, which is given without its line feed. None exactly where it asks for a request, and is none.
+/// What a line, given without its line feed, is assembled to. None exactly where it asks for a request, and is none.
 ///
 /// # Errors
 /// [`NoMemory`] where room is refused.

@@ -23,7 +23,7 @@ const PAYLOAD_BYTES: usize = 1024;
 
 // ---- payloads
 
-// The kind of a command and its key, behind the key's length.
+// The kind of a command and its key, after the key's length.
 fn push_key(out: &mut Vec<u8>, kind: u8, key: &[u8]) -> Result<(), NoMemory>
     requires { length key.now ≤ 64 }
     ensures { OnOk result (out.new.items ≡ out.old.items ++ kind ∷ length key.now ∷ key.now) }
@@ -33,7 +33,7 @@ fn push_key(out: &mut Vec<u8>, kind: u8, key: &[u8]) -> Result<(), NoMemory>
     Ok(())
 }
 
-// A value behind its length.
+// A value after its length.
 fn push_value(out: &mut Vec<u8>, value: &[u8]) -> Result<(), NoMemory>
     requires { length value.now ≤ 512 }
     ensures { OnOk result (out.new.items ≡ out.old.items ++ text value.now) }

@@ -49,7 +49,7 @@ pub fn hex_word(alloc: Global, word: &[u8]) -> Result<Option<Vec<u8>>, NoMemory>
     }
 }
 
-/// At most so many bytes.
+/// At most `most` bytes.
 ///
 /// # Errors
 /// [`NoMemory`] where room for them is refused.
@@ -70,7 +70,7 @@ pub(crate) fn payload_of(
     Ok(Some(found))
 }
 
-// One digit more behind a number; None exactly where it has more than 64 bits then. A byte that is no digit counts for some number.
+// One digit more after a number; None exactly where it has more than 64 bits then. A byte that is no digit counts for some number.
 fn one_more(n: u64, digit: u8) -> Option<u64>
     ensures { MatchOption result (2 ^ 64 ≤ 10 * n + (digit - 48)) (λ m. m ≡ 10 * n + (digit - 48)) }
 {

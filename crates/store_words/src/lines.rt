@@ -8,7 +8,7 @@ ghost use Rattle.store_words.specs.Lines.{head_of};
 use itoa::Buffer;
 use rp_base::{NoMemory, Pid};
 
-/// How many bytes a line has at most beside its name and what is said: two spaces, the number of a process and the line feed.
+/// How many bytes a line has at most apart from its name and what is said: two spaces, the number of a process and the line feed.
 pub const AROUND: usize = 5;
 
 // Bytes for which there is room.

@@ -1,4 +1,4 @@
--- What is told where a run stops: the status, and the line on standard error.
+-- What is reported where a run stops: the status, and the line on standard error.
 use Rattle.std.specs.Prelude.{ℕ, List, [], ◌++◌, codes}
 use Rattle.std.specs.Fmt.{decimal}
 use Rattle.replay_defs.specs.declared.FaultKind.{FaultKind}

@@ -1,7 +1,7 @@
 -- What the program answers.
 --
--- A stream tells what it holds where its `left` or `written` is `Some bytes`, as streams in memory do. Standard input, output and error do
--- not tell: theirs is `None`. Of a stream that does not tell, `Consumes`, `IsAtEnd`, `Appends` and `AppendsPrefix` hold whatever the bytes.
+-- A stream says what it holds where its `left` or `written` is `Some bytes`, as streams in memory do. Standard input, output and error do
+-- not: theirs is `None`. Of a stream that does not, `Consumes`, `IsAtEnd`, `Appends` and `AppendsPrefix` hold whatever the bytes.
 use Rattle.std.specs.Prelude.{◌≡◌, ℕ, Bool, true, false, List, [], ◌∷◌, map, Option, Ok, Err, IsOk, codes, String, string_bytes}
 use Rattle.std.specs.List.{flat_map}
 use Rattle.std.specs.Io.KnownBytes.{Appends, Consumes, IsAtEnd}
@@ -60,7 +60,7 @@ pub record Assembles (text bytes : List ℕ) : Type 0 where
   pub spelled : bytes ≡ schedule_bytes schedule
   pub assembled : story_of text ≡ Ok bytes
 
--- The bytes are a schedule, and this is what stands for it.
+-- The bytes are a schedule, and this is its text.
 pub record WritesOf (text_of : schedules.Schedule → List ℕ) (bytes text : List ℕ) : Type 0 where
   pub schedule : schedules.Schedule
   pub fits : IsSchedule schedule

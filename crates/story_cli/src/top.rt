@@ -13,7 +13,7 @@ use std::alloc::Global;
 /// The status where the words are no command.
 const WORDS: u8 = 2;
 
-/// The whole program: `words` are those behind the program's name, and the answer is the status that it ends with. What stops it is told
+/// The whole program: `words` are those after the program's name, and the answer is the status that it ends with. What stops it is reported
 /// on standard error, `errors`.
 pub fn story<S: Source, K: Sink, E: Sink>(
     alloc: Global,

@@ -1,4 +1,4 @@
--- What the lines of a story stand for: the bytes of a part of a schedule.
+-- What the lines of a story spell: the bytes of a part of a schedule.
 --   group NAME SCHEME             or `group NAME SCHEME batch LIMIT`
 --   process P ROLE KEY            KEY is `plain TOTAL`, `plain HEX TOTAL`, `lms H W ID SEED` or `hss L H W ID SEED`
 --   genesis P ..
@@ -25,7 +25,7 @@ use Rattle.story_defs.specs.Statements.{statement_at}
 
 -- ---- the group
 
--- the batch limit, which is 1 where none is told
+-- the batch limit, which is 1 where none is given
 unfoldable pub limit_at : Words → Result ℕ Expected
 limit_at [] = Ok 1
 limit_at (word ∷ words) = do
@@ -38,7 +38,7 @@ limit_at (word ∷ words) = do
 abbrev pub front_bytes : Scheme → ℕ → List ℕ → List ℕ
 front_bytes scheme limit group = magic (version_of scheme limit) ++ (scheme_byte scheme ∷ (limit_bytes limit ++ group))
 
--- the words behind `group`: the scheme, and the bytes up to the name
+-- the words after `group`: the scheme, and the bytes up to the name
 unfoldable pub group_at : Words → Result (Scheme × List ℕ) Expected
 group_at words = do
   group ← sized_at expected.Group 16 words
@@ -93,13 +93,13 @@ levels_at words = do
   tree ← tree_at levels.1
   Ok (levels.0 ∷ tree)
 
--- the key of a process, behind the scheme's word
+-- the key of a process, after the scheme's word
 abbrev pub key_at : Scheme → ℕ → Words → Result (List ℕ) Expected
 key_at schemes.Plain p words = plain_at p words
 key_at schemes.Lms p words = tree_at words
 key_at schemes.Hss p words = levels_at words
 
--- the words behind `process`: process1, role1 and key
+-- the words after `process`: process1, role1 and key
 unfoldable pub listed_at : Scheme → Words → Result (List ℕ) Expected
 listed_at scheme words = do
   process ← process_at expected.Process words
@@ -116,7 +116,7 @@ members_behind before [] = Ok before
 members_behind before (word ∷ words) = elim
     (process_of word) [ None ↦ Err expected.Genesis | Some p ↦ members_behind (before ++ p ∷ []) words ]
 
--- the words behind `genesis`: the number of members, at most 16, and each of them
+-- the words after `genesis`: the number of members, at most 16, and each of them
 unfoldable pub genesis_at : Words → Result (List ℕ) Expected
 genesis_at words = members_behind [] words >>= λ members. if nat_le (length members) 16 then Ok (length members ∷ members)
     else Err expected.Genesis

@@ -31,13 +31,13 @@ is_blank c = (c == space) || (c == 9) || (c == 13)
 abbrev pub ends_word : ℕ → Bool
 ends_word c = is_blank c || (c == number_sign) || (c == quote) || (c == colon)
 
--- it may stand behind a backslash, and stands in a quoted text only so
+-- it may follow a backslash, and is in a quoted text only so
 abbrev pub is_escaped : ℕ → Bool
 is_escaped c = (c == quote) || (c == backslash)
 
 -- ---- one byte
 
--- the plain line so far, and where the next byte stands
+-- the plain line so far, and where the next byte is
 abbrev pub Scanned : Type 0
 Scanned = Result (List ℕ × Place) Expected
 
@@ -53,11 +53,11 @@ between out c =
     (if c == quote then Ok (parted out, Opened) else
     (if c == colon then Ok (parted out ++ colon ∷ [], Between) else Ok (parted out ++ c ∷ [], Bare))))
 
--- a byte of a word, or the one behind it
+-- a byte of a word, or the one after it
 abbrev pub bare : List ℕ → ℕ → Scanned
 bare out c = if ends_word c then between out c else Ok (out ++ c ∷ [], Bare)
 
--- a byte of a quoted text, or the one behind it
+-- a byte of a quoted text, or the one after it
 abbrev pub quoted : List ℕ → ℕ → Scanned
 quoted out c =
     if c == quote then Ok (out, Between) else
@@ -68,7 +68,7 @@ quoted out c =
 abbrev pub opened : List ℕ → ℕ → Scanned
 opened out c = if c == quote then Ok (out ++ 45 ∷ [], Between) else quoted out c
 
--- a byte behind a backslash
+-- a byte after a backslash
 abbrev pub escaped : List ℕ → ℕ → Scanned
 escaped out c = if is_escaped c then Ok (out ++ encode_lower (c ∷ []), Quoted) else Err expected.Escape
 
@@ -92,7 +92,7 @@ line_end out Quoted = Err expected.Quote
 line_end out Escaped = Err expected.Quote
 line_end out Comment = Ok out
 
--- these bytes behind a plain line so far
+-- these bytes after a plain line so far
 unfoldable pub scan : List ℕ → Place → List ℕ → Result (List ℕ) Expected
 scan out place [] = line_end out place
 scan out place (c ∷ line) = scanned out place c >>= λ next. scan next.0 next.1 line

@@ -30,7 +30,7 @@ module _ (x : Expected) where
     number ← number_at x 0 1023 sender.1
     Ok (record { sender = sender.0; number = number.0 }, number.1)
 
-  -- these messages, and those of all the words that are left: so many more at most
+  -- these messages, and those of all the words that are left: `more` of them at most
   unfoldable pub messages_behind : ℕ → Batch → Words → Result Batch Expected
   messages_behind more before [] = Ok before
   messages_behind zero before (word ∷ words) = Err x
@@ -58,7 +58,7 @@ module _ (x : Expected) where
   view_at words = next_at x words >>= λ word.
       if same_bytes word.0 (codes "in") then number_at x 0 1023 word.1 else Ok (0, words)
 
-  -- ---- what the words behind the kind say, of this view
+  -- ---- what the words after the kind say, of this view
 
   unfoldable pub init_at : ℕ → Words → Result Statement Expected
   init_at view words = do

@@ -1,5 +1,5 @@
--- What a text assembles to: the bytes that its lines stand for, where they are a schedule; else the first line that has a fault, and what
--- was expected there. A line has a fault where it is none that may follow, or where the first fault of the schedule's bytes stands in its
+-- What a text assembles to: the bytes of its lines, where they are a schedule; else the first line that has a fault, and what
+-- was expected there. A line has a fault where it is none that may follow, or where the first fault of the schedule's bytes is in its
 -- own.
 use Rattle.std.specs.Prelude.{ℕ, ◌+◌, ◌-◌, ◌<◌, Bool, ◌==◌, nat_lt, nat_le, if◌then◌else◌, List, [], ◌∷◌, ◌++◌, length, Option, Some, None, codes, Result, Ok, Err}
 use Rattle.std.specs.Option.{ok_or}
@@ -23,9 +23,9 @@ use Rattle.story_defs.specs.PlainLines.{plain_line}
 use Rattle.story_defs.specs.Words.{Words, next_at}
 use Rattle.story_defs.specs.Lines.{group_at, listed_at, genesis_at, kind_of_word, event_by}
 
--- ---- lines, one behind another
+-- ---- lines, one after another
 
--- what stands of a story
+-- what was read of a story so far
 pub record Draft : Type 0 where
   -- which lines may follow
   pub stage : Stage
@@ -34,16 +34,16 @@ pub record Draft : Type 0 where
   pub front : List ℕ
   -- how many processes are listed
   pub count : ℕ
-  -- the bytes behind that number
+  -- the bytes after that number
   pub behind : List ℕ
   -- the lines that these bytes are of
   pub marks : List Mark
 
--- nothing stands yet
+-- nothing was read yet
 abbrev pub no_lines : Draft
 no_lines = record { stage = Opening; scheme = schemes.Plain; front = []; count = 0; behind = []; marks = [] }
 
--- the bytes that the lines stand for
+-- the bytes of the lines
 abbrev pub draft_bytes : Draft → List ℕ
 draft_bytes d = d.front ++ d.count ∷ d.behind
 
@@ -53,7 +53,7 @@ wanted Opening = expected.Group
 wanted Listing = expected.Genesis
 wanted Running = expected.Event
 
--- what a line adds to those that stand
+-- what a line adds to those so far
 pub data Addition : Type 0 where
   -- nothing: the line is blank
   Nothing : Addition
@@ -66,11 +66,11 @@ pub data Addition : Type 0 where
   -- the bytes of an event of this kind
   Event : (kind : Expected) (bytes : List ℕ) → Addition
 
--- a process, of which there are at most 64
+-- a process; there are at most 64
 abbrev pub listed_by : Draft → Words → Result Addition Expected
 listed_by d words = if nat_le 64 d.count then Err expected.Genesis else (listed_at d.scheme words >>= λ bytes. Ok (Process bytes))
 
--- the first view, behind at least one process
+-- the first view, after at least one process
 abbrev pub genesis_by : Draft → Words → Result Addition Expected
 genesis_by d words = if d.count == 0 then Err expected.Process else (genesis_at words >>= λ bytes. Ok (Genesis bytes))
 
@@ -108,11 +108,11 @@ said_by d line = plain_line line >>= λ plain. said_by_plain d plain
 abbrev pub marked : ℕ → Draft → Expected → ℕ → List Mark
 marked n d x size = d.marks ++ record { line = n; expected = x; size = size } ∷ []
 
--- how many bytes the line of a process stands for: the number of processes belongs to the first of them
+-- how many bytes the line of a process gives: the number of processes belongs to the first of them
 abbrev pub listed_size : Draft → List ℕ → ℕ
 listed_size d bytes = if d.count == 0 then length bytes + 1 else length bytes
 
--- with bytes of a line of this number behind those that stand
+-- with bytes of a line of this number after those so far
 abbrev pub pushed : ℕ → Draft → Expected → ℕ → List ℕ → Draft
 pushed n d x size bytes = record d { behind = d.behind ++ bytes; marks = marked n d x size }
 
@@ -135,7 +135,7 @@ added n d (Event kind bytes) = pushed n d kind (length bytes) bytes
 -- The lines that were taken, up to the first that may not follow or to the end.
 pub record Taken : Type 0 where
   pub draft : Draft
-  -- the number of that line, or of the one behind the last
+  -- the number of that line, or of the one after the last
   pub line : ℕ
   -- what was expected in that line; None at the end
   pub stop : Option Expected
@@ -159,7 +159,7 @@ expected_by faults.TooMany x = expected.Steps
 expected_by faults.TooLong x = expected.Size
 expected_by _ x = x
 
--- where the lines stop, or what was expected behind the last one
+-- where the lines stop, or what was expected after the last one
 abbrev pub fault_at_stop : Taken → StoryFault
 fault_at_stop taken = elim taken.stop [
   | None ↦ record { line = taken.line - 1; expected = wanted taken.draft.stage }

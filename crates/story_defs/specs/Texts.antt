@@ -30,7 +30,7 @@ pub data Token : Type 0 where
 abbrev pub is_printable : ℕ → Bool
 is_printable c = nat_le space c && nat_lt c 127
 
--- behind a backslash, where it must be
+-- after a backslash, where it must be
 abbrev pub quoted_byte : ℕ → List ℕ
 quoted_byte c = if is_escaped c then backslash ∷ c ∷ [] else c ∷ []
 
@@ -41,7 +41,7 @@ quoted_text bytes = quote ∷ (flat_map quoted_byte bytes ++ quote ∷ [])
 abbrev pub shown_bytes : List ℕ → List ℕ
 shown_bytes bytes = if list_all is_printable bytes then quoted_text bytes else bytes_word bytes
 
--- a token as it stands in a line
+-- a token as it is in a line
 abbrev pub shown : Token → List ℕ
 shown (Word word) = word
 shown (Bytes bytes) = shown_bytes bytes
@@ -133,7 +133,7 @@ event_tokens (schedules.Tick at) = Word (codes "tick") ∷ number at ∷ []
 abbrev pub role_word : Bool → List ℕ
 role_word corrupt = if corrupt then codes "corrupt" else codes "correct"
 
--- a plain key of 32 bytes of its process's number is not told
+-- a plain key of 32 bytes of its process's number is not written
 abbrev pub plain_tokens : ℕ → List ℕ → List Token
 plain_tokens p key = if same_bytes key (short_key p) then [] else Bytes key ∷ []
 

@@ -24,7 +24,7 @@ Step A = Result (A × Words) Expected
 unfoldable pub hex_word : List ℕ → Option (List ℕ)
 hex_word word = if same_bytes word (codes "-") then Some [] else (if length word == 0 then None else bytes_of (length word / 2) word)
 
--- at most so many bytes
+-- at most `most` bytes
 abbrev pub payload_of : ℕ → List ℕ → Option (List ℕ)
 payload_of most word = and_then (hex_word word) (λ bytes. if nat_le (length bytes) most then Some bytes else None)
 
@@ -73,11 +73,11 @@ module _ (x : Expected) where
   abbrev pub process_at : Words → Step ℕ
   process_at words = said_at process_of words
 
-  -- at most so many bytes
+  -- at most `most` bytes
   abbrev pub payload_at : ℕ → Words → Step (List ℕ)
   payload_at most words = said_at (payload_of most) words
 
-  -- so many bytes
+  -- n bytes
   abbrev pub sized_at : ℕ → Words → Step (List ℕ)
   sized_at n words = said_at (bytes_of n) words
 
@@ -90,7 +90,7 @@ module _ (x : Expected) where
   ended [] = Ok tt
   ended (word ∷ words) = Err x
 
-  -- a mask by the processes that are named, of which one is there
+  -- a mask given by one process number or more
   abbrev pub named_at : Words → Step ℕ
   named_at words = process_at words >>= λ first.
       let more : List ℕ × Words = named (first.0 ∷ []) first.1 in

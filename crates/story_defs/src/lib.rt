@@ -1,4 +1,4 @@
-//! Schedules as text, on plain data: what a line stands for, what a text assembles to, and the text of a schedule.
+//! Schedules as text, on plain data: the bytes of a line, what a text assembles to, and the text of a schedule.
 #![tactic(auto)]
 
 /// What was expected in a line of a story.
@@ -7,7 +7,7 @@ pub enum Expected {
     /// A quote that ends the text.
     Quote,
 
-    /// A quote or a backslash behind a backslash.
+    /// A quote or a backslash after a backslash.
     Escape,
 
     /// The line that begins a story.
@@ -45,7 +45,7 @@ pub struct StoryFault {
     pub expected: Expected,
 }
 
-/// A line that was taken: its number, what it is, and how many bytes of the schedule it stands for.
+/// A line that was taken: its number, what it is, and how many bytes of the schedule it gives.
 #[derive(Clone, Copy, PartialEq, Eq)]
 pub struct Mark {
     pub line: usize,
@@ -66,7 +66,7 @@ pub enum Stage {
     Running,
 }
 
-/// Where a byte of a line stands.
+/// Where a byte of a line is.
 #[derive(Clone, Copy, Debug, PartialEq, Eq)]
 pub enum Place {
     /// Between words.
@@ -75,13 +75,13 @@ pub enum Place {
     /// In a word.
     Bare,
 
-    /// Behind the quote that begins a text.
+    /// After the quote that begins a text.
     Opened,
 
     /// In a quoted text that has a byte.
     Quoted,
 
-    /// Behind a backslash in a quoted text.
+    /// After a backslash in a quoted text.
     Escaped,
 
     /// In a comment.

@@ -22,7 +22,7 @@ const DRAIN: Expected = Expected::Drain;
 
 const LIE: Expected = Expected::Lie;
 
-/// The most bytes that a length of two bytes tells.
+/// The most bytes that a length of two bytes can give.
 const MOST_BYTES: usize = 65_535;
 
 // These bytes, and a text: the lower two bytes of its length, and its own.
@@ -165,7 +165,7 @@ pub fn kind_of_word(word: &[u8]) -> Option<Expected>
     }
 }
 
-/// The bytes of an event of this kind, by the words behind the word of its kind.
+/// The bytes of an event of this kind, by the words after the word of its kind.
 pub fn event(alloc: Global, kind: Expected, words: &mut Words<'_>) -> Result<Vec<u8>, LineFault>
     ensures { Makes expected_of (λ bytes. bytes.items) result (plain.event_by kind (left words.old)) }
 {

@@ -1,4 +1,4 @@
-//! The lines of a story's events, as the bytes that they stand for (docs/FORMATS.md).
+//! The lines of a story's events, as bytes of the schedule (docs/FORMATS.md).
 #![tactic(auto)]
 
 mod events;

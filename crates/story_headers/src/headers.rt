@@ -39,7 +39,7 @@ fn scheme_word(scheme: Scheme) -> &'static [u8]
     }
 }
 
-// The batch limit, which is 1 where none is told.
+// The batch limit, which is 1 where none is given.
 #[tactic(auto, unfolding(story_defs::specs::Lines::limit_at))]
 fn limit(words: &mut Words<'_>) -> Result<u8, LineFault>
     ensures { Makes expected_of (λ n. n) result (plain.limit_at (left words.old)) }
@@ -86,7 +86,7 @@ fn front_bytes(
     Ok(bytes)
 }
 
-/// The words behind `group`: the scheme, and the bytes up to the name.
+/// The words after `group`: the scheme, and the bytes up to the name.
 #[tactic(auto, unfolding(story_defs::specs::Lines::group_at))]
 pub fn group(alloc: Global, words: &mut Words<'_>) -> Result<(Scheme, Vec<u8>), LineFault>
     ensures { Makes expected_of (λ g. (g.0, g.1.items)) result (plain.group_at (left words.old)) }
@@ -132,7 +132,7 @@ fn whole_key(alloc: Global, words: &mut Words<'_>) -> Result<Vec<u8>, LineFault>
     Ok(plain_bytes(alloc, &key, total)?)
 }
 
-// The words behind `plain`: in one word the total alone.
+// The words after `plain`: in one word the total alone.
 fn plain_key(alloc: Global, p: Pid, words: &mut Words<'_>) -> Result<Vec<u8>, LineFault>
     ensures { Makes expected_of (λ bytes. bytes.items) result (plain.plain_at p (left words.old)) }
 {
@@ -173,7 +173,7 @@ fn tree(alloc: Global, words: &mut Words<'_>) -> Result<Vec<u8>, LineFault>
     Ok(tree_bytes(alloc, height, kind, &id, &seed)?)
 }
 
-// Bytes behind others.
+// Bytes after others.
 fn joined(alloc: Global, first: &[u8], behind: &[u8]) -> Result<Vec<u8>, NoMemory>
     ensures { IfOk result (λ bytes. bytes.items ≡ first.now ++ behind.now) }
 {
@@ -192,7 +192,7 @@ fn levels(alloc: Global, words: &mut Words<'_>) -> Result<Vec<u8>, LineFault>
     Ok(joined(alloc, &[levels], &tree)?)
 }
 
-// The key of a process, behind the scheme's word.
+// The key of a process, after the scheme's word.
 fn key(alloc: Global, scheme: Scheme, p: Pid, words: &mut Words<'_>) -> Result<Vec<u8>, LineFault>
     ensures { Makes expected_of (λ bytes. bytes.items) result (plain.key_at scheme p (left words.old)) }
 {
@@ -203,7 +203,7 @@ fn key(alloc: Global, scheme: Scheme, p: Pid, words: &mut Words<'_>) -> Result<V
     }
 }
 
-/// The words behind `process`: its number, its role and its key.
+/// The words after `process`: its number, its role and its key.
 #[tactic(auto, unfolding(story_defs::specs::Lines::listed_at))]
 pub fn listed(alloc: Global, scheme: Scheme, words: &mut Words<'_>) -> Result<Vec<u8>, LineFault>
     ensures { Makes expected_of (λ bytes. bytes.items) result (plain.listed_at scheme (left words.old)) }
@@ -227,7 +227,7 @@ fn members(alloc: Global, words: &mut Words<'_>) -> Result<Vec<u8>, LineFault>
     Ok(members)
 }
 
-/// The words behind `genesis`: the number of members, at most 16, and each of them.
+/// The words after `genesis`: the number of members, at most 16, and each of them.
 #[tactic(auto, unfolding(story_defs::specs::Lines::genesis_at))]
 pub fn genesis(alloc: Global, words: &mut Words<'_>) -> Result<Vec<u8>, LineFault>
     ensures { Makes expected_of (λ bytes. bytes.items) result (plain.genesis_at (left words.old)) }

@@ -69,7 +69,7 @@ fn scan_between(out: &mut Vec<u8>, c: u8) -> Result<Place, LineFault>
     }
 }
 
-// A byte of a word, or the one behind it.
+// A byte of a word, or the one after it.
 fn scan_bare(out: &mut Vec<u8>, c: u8) -> Result<Place, LineFault>
     ensures { Makes expected_of (λ place. (out.new.items, place)) result (plain.bare out.old.items c) }
 {
@@ -80,7 +80,7 @@ fn scan_bare(out: &mut Vec<u8>, c: u8) -> Result<Place, LineFault>
     Ok(Place::Bare)
 }
 
-// A byte of a quoted text, or the one behind it.
+// A byte of a quoted text, or the one after it.
 fn scan_quoted(out: &mut Vec<u8>, c: u8) -> Result<Place, LineFault>
     ensures { Makes expected_of (λ place. (out.new.items, place)) result (plain.quoted out.old.items c) }
 {
@@ -108,7 +108,7 @@ fn scan_opened(out: &mut Vec<u8>, c: u8) -> Result<Place, LineFault>
     scan_quoted(out, c)
 }
 
-// A byte behind a backslash.
+// A byte after a backslash.
 fn scan_escaped(out: &mut Vec<u8>, c: u8) -> Result<Place, LineFault>
     ensures { Makes expected_of (λ place. (out.new.items, place)) result (plain.escaped out.old.items c) }
 {

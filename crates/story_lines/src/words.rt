@@ -1,4 +1,4 @@
-//! The words of a plain line, read from the front. Each reading is told what is expected of the line.
+//! The words of a plain line, read from the front. Each reading is given what is expected of the line.
 ghost use Rattle.std.specs.Prelude.{◌≡◌, ◌==◌, ◌<◌, ◌≤◌, ◌∷◌, [], ℕ, List, length, IfOk, IfSome, MatchOption};
 ghost use Rattle.byte_defs.specs.Reads.{Makes};
 ghost use Rattle.rp_base.specs.Pids.{mask_of, put_once};
@@ -50,7 +50,7 @@ fn hex_word(alloc: Global, word: &[u8], x: Expected) -> Result<Vec<u8>, LineFaul
     }
 }
 
-// At most so many bytes.
+// At most `most` bytes.
 fn payload_of(alloc: Global, word: &[u8], most: usize, x: Expected) -> Result<Vec<u8>, LineFault>
     ensures { Makes expected_of (λ found. found.items) result (told x (plain.payload_of most word.now)) }
 {
@@ -120,7 +120,7 @@ impl<'a> Words<'a> {
         process(word).ok_or(LineFault::Expected(x))
     }
 
-    /// At most so many bytes.
+    /// At most `most` bytes.
     pub fn payload(&mut self, alloc: Global, most: usize, x: Expected) -> Result<Vec<u8>, LineFault>
         ensures exact { Makes expected_of (λ found. (found.items, left self.new)) result (plain.payload_at x most (left self.old)) }
         ensures within { IfOk result (λ found. length found.items ≤ most) }
@@ -129,7 +129,7 @@ impl<'a> Words<'a> {
         payload_of(alloc, word, most, x)
     }
 
-    /// So many bytes.
+    /// `N` bytes.
     pub fn sized<const N: usize>(&mut self, x: Expected) -> Result<[u8; N], LineFault>
         ensures { Makes expected_of (λ found. (found, left self.new)) result (plain.sized_at x N (left self.old)) }
     {
@@ -201,7 +201,7 @@ impl<'a> Words<'a> {
         set
     }
 
-    // The mask of the processes that are named, of which one is there.
+    // The mask of one process number or more.
     fn named(&mut self, x: Expected) -> Result<u64, LineFault>
         ensures { Makes expected_of (λ mask. (mask, left self.new)) result (plain.named_at x (left self.old)) }
     {

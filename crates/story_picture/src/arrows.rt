@@ -27,7 +27,7 @@ fn frames_in(what: &Happening) -> usize
     }
 }
 
-// Row k, once for each of so many frames.
+// Row k, once for each of `count` frames.
 fn push_sent(rows: &mut Vec<u64>, k: u64, count: usize) -> Result<(), NoMemory>
     ensures { OnOk result (rows.new.items ≡ rows.old.items ++ replicate count k) }
 {

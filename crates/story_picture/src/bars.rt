@@ -77,7 +77,7 @@ pub(crate) fn push_lives(out: &mut Vec<u8>, processes: &[Listed], n: u64) -> Res
     Ok(())
 }
 
-// The bar of what process p is told in row k, where it is a view.
+// The bar of what process p reports in row k, where it is a view.
 fn push_note_bar(
     out: &mut Vec<u8>,
     processes: &[Listed],
@@ -94,7 +94,7 @@ fn push_note_bar(
     }
 }
 
-// The bars of what process p is told in row k.
+// The bars of what process p reports in row k.
 fn push_note_bars(
     out: &mut Vec<u8>,
     processes: &[Listed],

@@ -56,7 +56,7 @@ text { fill: #e6edf3; stroke: #0d1117; }
 </style>
 ";
 
-/// The heads of arrows, and the paper behind all.
+/// The heads of arrows, and the paper under all.
 const HEADS: &[u8] = b"<defs>
 <marker id='head' viewBox='0 0 10 10' refX='10' refY='5' markerWidth='7' markerHeight='7' orient='auto'>
 <path class='head' d='M0 1 L10 5 L0 9 z'/></marker>
@@ -127,7 +127,7 @@ fn end_picture(out: &mut Vec<u8>) -> Result<(), NoMemory>
     Ok(())
 }
 
-// So many things are left out.
+// `more` things are left out.
 fn push_more(out: &mut Vec<u8>, n: u64, more: u64) -> Result<(), NoMemory>
     ensures { OnOk result (out.new.items ≡ out.old.items ++ plain.more_text n more) }
 {

@@ -10,7 +10,7 @@ use picture_labels::push_label;
 use rp_base::NoMemory;
 use schedule_file::Listed;
 
-/// The marks and what stands beside them.
+/// The marks and what is beside them.
 pub(crate) fn push_labels(
     out: &mut Vec<u8>,
     processes: &[Listed],

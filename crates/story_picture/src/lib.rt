@@ -1,5 +1,5 @@
-//! The picture of a run, as SVG: a column for each process, time downwards. Each function writes behind the text so far.
-//! Where memory runs out, what stands behind the text is left open, and the caller gives it up.
+//! The picture of a run, as SVG: a column for each process, time downwards. Each function writes after the text so far.
+//! On `NoMemory` the end of the text is left open, and the caller discards it.
 #![tactic(auto)]
 
 mod arrows;

@@ -18,7 +18,7 @@ use rp_base::{NoMemory, Pid};
 use schedule_file::{Header, Listed};
 use std::alloc::Global;
 
-// The beginning of a picture of so many rows.
+// The beginning of a picture of `n` rows.
 fn push_begin(out: &mut Vec<u8>, processes: &[Listed], n: u64) -> Result<(), NoMemory>
     ensures { OnOk result (out.new.items ≡ out.old.items ++ plain.begin_rows (map views.listed processes.now) n) }
 {

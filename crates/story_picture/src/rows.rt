@@ -16,10 +16,10 @@ pub(crate) struct Row {
     pub what: Happening,
 }
 
-/// So many rows are drawn at most.
+/// The most rows that are drawn.
 const MOST_DRAWN: usize = 2000;
 
-// What happens in the event of this number, behind all before.
+// What happens in the event of this number, after all before.
 fn add_event(rows: &mut Vec<Row>, event: u64, told: Vec<Happening>) -> Result<(), NoMemory>
     ensures { OnOk result (map row rows.new.items ≡ map row rows.old.items ++ plain.rows_in event (map happening told.items)) }
 {

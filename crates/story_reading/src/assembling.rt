@@ -26,7 +26,7 @@ use text_codec::Parts as Lines;
 pub struct Taken {
     pub draft: Draft,
 
-    /// The number of that line, or of the one behind the last.
+    /// The number of that line, or of the one after the last.
     pub line: usize,
 
     /// What was expected in that line; None at the end.
@@ -88,7 +88,7 @@ fn expected_by(kind: FaultKind, x: Expected) -> Expected
 }
 
 impl Taken {
-    // Where the lines stop, or what was expected behind the last one.
+    // Where the lines stop, or what was expected after the last one.
     fn fault_at_stop(&self) -> StoryFault
         ensures { result ≡ plain.fault_at_stop (taken self.now) }
     {

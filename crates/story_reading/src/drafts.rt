@@ -1,4 +1,4 @@
-//! Lines, one behind another.
+//! Lines, one after another.
 ghost use Rattle.std.specs.Prelude.{◌≡◌, ◌++◌, ◌∷◌, [], length, OnOk, IfOk};
 ghost use Rattle.byte_defs.specs.Reads.{Makes};
 ghost use Rattle.story_defs.specs.Stories as plain;
@@ -17,7 +17,7 @@ use story_lines::{Expected, LineFault, Words, plain_line};
 /// The most processes of a schedule.
 const PROCESSES: u8 = 64;
 
-/// What a line adds to those that stand.
+/// What a line adds to those so far.
 #[derive(Drop)]
 pub enum Addition {
     /// The line is blank.
@@ -36,7 +36,7 @@ pub enum Addition {
     Event(Expected, Vec<u8>),
 }
 
-/// What stands of a story.
+/// What was read of a story so far.
 #[derive(Drop)]
 pub struct Draft {
     /// Which lines may follow.
@@ -49,7 +49,7 @@ pub struct Draft {
     /// How many processes are listed.
     pub count: u8,
 
-    /// The bytes behind that number.
+    /// The bytes after that number.
     pub behind: Vec<u8>,
 
     /// The lines that these bytes are of.
@@ -85,7 +85,7 @@ fn group_of_word(alloc: Global, word: &[u8], words: &mut Words<'_>) -> Result<Ad
 }
 
 impl Draft {
-    /// Nothing stands yet.
+    /// Nothing was read yet.
     pub fn new(alloc: Global) -> Draft
         ensures { draft result ≡ plain.no_lines }
     {
@@ -99,7 +99,7 @@ impl Draft {
         }
     }
 
-    // A process, of which there are at most 64.
+    // A process; there are at most 64.
     fn listed(&self, alloc: Global, words: &mut Words<'_>) -> Result<Addition, LineFault>
         ensures { Makes expected_of addition result (plain.listed_by (draft self.now) (left words.old)) }
     {
@@ -109,7 +109,7 @@ impl Draft {
         Ok(Addition::Process(listed(alloc, self.scheme, words)?))
     }
 
-    // The first view, behind at least one process.
+    // The first view, after at least one process.
     fn genesis(&self, alloc: Global, words: &mut Words<'_>) -> Result<Addition, LineFault>
         ensures { Makes expected_of addition result (plain.genesis_by (draft self.now) (left words.old)) }
     {
@@ -175,7 +175,7 @@ impl Draft {
         self.said_by_plain(alloc, &told)
     }
 
-    // Bytes behind those that stand, of the line of this number.
+    // Bytes after those so far, of the line of this number.
     fn push(
         &mut self,
         line: usize,
@@ -194,7 +194,7 @@ impl Draft {
         Ok(())
     }
 
-    // How many bytes the line of a process stands for: the number of processes belongs to the first of them.
+    // How many bytes the line of a process gives: the number of processes belongs to the first of them.
     fn listed_size(&self, bytes: &Vec<u8>) -> usize
         ensures { result ≡ plain.listed_size (draft self.now) bytes.now.items }
     {
@@ -205,7 +205,7 @@ impl Draft {
         }
     }
 
-    /// Puts what the line of this number adds behind the lines that stand.
+    /// Puts what the line of this number adds after the lines so far.
     pub fn add(&mut self, line: usize, added: Addition) -> Result<(), NoMemory>
         requires { plain.CanAdd (draft self.old) (addition added) }
         ensures { OnOk result (draft self.new ≡ plain.added line (draft self.old) (addition added)) }
@@ -239,7 +239,7 @@ impl Draft {
         }
     }
 
-    /// The bytes that the lines stand for.
+    /// The bytes of the lines.
     pub fn bytes(&self, alloc: Global) -> Result<Vec<u8>, AllocError>
         ensures { IfOk result (λ bytes. bytes.items ≡ plain.draft_bytes (draft self.now)) }
     {

@@ -153,7 +153,7 @@ fn ready(alloc: Global, view: u16, words: &mut Words<'_>) -> Result<Vec<u8>, Lin
     Ok(bytes_of(alloc, &Statement::Ready { view, rank, value })?)
 }
 
-// What the words behind the word of a kind say, of this view.
+// What the words after the word of a kind say, of this view.
 #[tactic(auto, unfolding(story_defs::specs::Statements::content_at))]
 fn content(
     alloc: Global,

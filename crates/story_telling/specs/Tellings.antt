@@ -1,4 +1,4 @@
--- What a run tells in the code, as the definitions have it.
+-- What a run reports in the code, as the definitions have it.
 use Rattle.std.specs.Prelude.{List, map, Option, option_map}
 use Rattle.replay_defs.specs.Worlds.{WorldFault}
 use Rattle.trace_defs.specs.Happenings as plain

@@ -1,4 +1,4 @@
-//! What a run tells, event by event, from the world that a replay runs.
+//! What a run reports, event by event, from the world that a replay runs.
 #![tactic(auto)]
 
 mod telling;

@@ -16,7 +16,7 @@ use rp_base::NoMemory;
 use schedule_file::{Schedule, ScheduleEvent};
 use std::alloc::Global;
 
-/// What a run tells.
+/// What a run reports.
 #[derive(Drop)]
 pub struct Telling {
     /// What happens in each event, up to one that stops the run.
@@ -26,7 +26,7 @@ pub struct Telling {
     pub stop: Option<Stopped>,
 }
 
-// What was told to one who asks.
+// What was reported to one who asks.
 fn kept(alloc: Global, told: Told) -> Vec<Happening>
     ensures { (all : List trace.Happening) → told_views.told_of told ≡ Some all → map happening result.items ≡ all }
 {

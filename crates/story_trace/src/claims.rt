@@ -259,7 +259,7 @@ fn push_statement(out: &mut Vec<u8>, at: Pid, said: &Statement<'_>) -> Result<()
     }
 }
 
-/// What a process signed, by the statement's bytes. Bytes that spell none are not told.
+/// What a process signed, by the statement's bytes: `no statement` where they spell none.
 pub(crate) fn push_signed(out: &mut Vec<u8>, at: Pid, bytes: &[u8]) -> Result<(), NoMemory>
     ensures { OnOk result (out.new.items ≡ out.old.items ++ line_text (of_process at (codes "signs" ∷ spelled_words bytes.now))) }
 {

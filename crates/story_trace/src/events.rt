@@ -71,7 +71,7 @@ fn push_drain(out: &mut Vec<u8>, n: u64, count: u32, to: PidSet) -> Result<(), N
     )
 }
 
-// The line of a lie does not say what is told.
+// The line of a lie does not say what the lie is.
 fn push_lie(out: &mut Vec<u8>, n: u64, signer: Pid, to: PidSet) -> Result<(), NoMemory>
     ensures { OnOk result (out.new.items ≡ out.old.items ++ line_text (plain.event_line n (schedules.Lie signer (mask_of to) []))) }
 {

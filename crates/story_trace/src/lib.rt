@@ -1,5 +1,5 @@
-//! The trace of a run: a line for each thing that happened, in plain words. Each function writes lines behind the text so far.
-//! Where memory runs out, what stands behind the text is left open, and the caller gives it up.
+//! The trace of a run: a line for each thing that happened, in plain words. Each function writes lines after the text so far.
+//! On `NoMemory` the end of the text is left open, and the caller discards it.
 #![tactic(auto)]
 
 mod claims;

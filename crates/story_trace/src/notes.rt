@@ -1,4 +1,4 @@
-//! What a process is told of an event.
+//! What a process reports of an event.
 ghost use Rattle.std.specs.Prelude.{◌≡◌, ◌++◌, OnOk};
 ghost use Rattle.text_defs.specs.Words.{line_text};
 ghost use Rattle.statements.specs.Batches.{message};
@@ -89,7 +89,7 @@ fn push_halt(out: &mut Vec<u8>, at: Pid, delivered: u16, cut: u16) -> Result<(),
     )
 }
 
-/// What a process is told of an event.
+/// What a process reports of an event.
 pub(crate) fn push_note(out: &mut Vec<u8>, at: Pid, note: &Note) -> Result<(), NoMemory>
     ensures { OnOk result (out.new.items ≡ out.old.items ++ line_text (note_line at (note_of note.now))) }
 {

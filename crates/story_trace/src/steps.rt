@@ -31,7 +31,7 @@ fn claims_word(n: u16) -> &'static [u8]
     if n == 1 { b"new claim" } else { b"new claims" }
 }
 
-// So many claims were new to it.
+// `heard` claims were new to it.
 fn begin_claims(out: &mut Vec<u8>, at: Pid, heard: u16) -> Result<(), NoMemory>
     ensures { OnOk result (out.new.items ≡ out.old.items
         ++ join_with_byte space (lines.of_process at (codes "hears" ∷ decimal heard ∷ claims_word_of heard ∷ codes "in" ∷ []))) }
@@ -48,7 +48,7 @@ fn begin_claims(out: &mut Vec<u8>, at: Pid, heard: u16) -> Result<(), NoMemory>
     )
 }
 
-// So many claims were new to it, in what it was handed.
+// `heard` claims were new to it, in what it was handed.
 fn push_claims(out: &mut Vec<u8>, at: Pid, handed: Handed, heard: u16) -> Result<(), NoMemory>
     ensures { OnOk result (out.new.items ≡ out.old.items
         ++ flat_map line_text (lines.heard_line at (plain.handed_words (handed_of handed)) heard ∷ [])) }

@@ -1,5 +1,5 @@
-//! Lines of a trace, word by word: what stands at the front of a line, and what it ends with. Each function writes behind the text so
-//! far. Where memory runs out, what stands behind the text is left open, and the caller gives it up.
+//! Lines of a trace, word by word: what is at the front of a line, and what it ends with. Each function writes after the text so
+//! far. On `NoMemory` the end of the text is left open, and the caller discards it.
 #![tactic(auto)]
 
 mod endings;

@@ -1,4 +1,4 @@
-//! Payloads, in quotation marks where each byte stands for itself, else in hexadecimal.
+//! Payloads, in quotation marks where each byte is written as itself, else in hexadecimal.
 ghost use Rattle.std.specs.Prelude.{◌≡◌, ◌++◌, ◌∷◌, [], ◌<◌, length, take, OnOk};
 ghost use Rattle.std.specs.List.{flat_map, list_all};
 ghost use Rattle.text_defs.specs.Words.{space};
@@ -8,7 +8,7 @@ use crate::words::{Word, push_next};
 use rp_base::NoMemory;
 use text_codec::push_hex;
 
-/// So many bytes of a payload are shown at most.
+/// The most bytes of a payload that are shown.
 const MOST_SHOWN: usize = 24;
 
 fn is_plain(c: u8) -> bool
@@ -23,7 +23,7 @@ fn are_plain(bytes: &[u8]) -> bool
     bytes.iter().all(|c| is_plain(*c))
 }
 
-/// Bytes in quotation marks, where each stands for itself, else in hexadecimal.
+/// Bytes in quotation marks, where each is written as itself, else in hexadecimal.
 pub fn push_quoted(out: &mut Vec<u8>, bytes: &[u8]) -> Result<(), NoMemory>
     ensures { OnOk result (out.new.items ≡ out.old.items ++ quoted bytes.now) }
 {

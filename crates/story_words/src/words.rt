@@ -9,7 +9,7 @@ ghost use Rattle.story_words.specs.Words.{spelled};
 use rp_base::{NoMemory, Pid};
 use text_codec::push_number;
 
-/// A word of a line, or several that always stand together.
+/// A word of a line, or several that always come together.
 #[derive(Clone, Copy)]
 pub enum Word<'a> {
     Text(&'a [u8]),

@@ -13,6 +13,6 @@ token (Word word) = plain.Word word.now
 token (Number n) = plain.Word (decimal n)
 token (Bytes bytes) = plain.Bytes bytes.now
 
--- tokens behind others in a line, a space before each
+-- tokens after others in a line, a space before each
 abbrev pub behind : List plain.Token → List ℕ
 behind tokens = flat_map (λ t. space ∷ shown t) tokens

@@ -53,7 +53,7 @@ pub fn push_group(out: &mut Vec<u8>, header: &Header) -> Result<(), NoMemory>
     end_line(out)
 }
 
-// A plain key and its total; a key of 32 bytes of its process's number is not told.
+// A plain key and its total; a key of 32 bytes of its process's number is not written.
 fn push_plain(out: &mut Vec<u8>, p: Pid, key: &[u8; 32], total: u32) -> Result<(), NoMemory>
     ensures { OnOk result (out.new.items ≡ out.old.items ++ behind (plain.plain_tokens p key.now ++ plain.number total ∷ [])) }
 {

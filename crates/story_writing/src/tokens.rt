@@ -25,7 +25,7 @@ fn is_printable(bytes: &[u8]) -> bool
     bytes.iter().all(|c| b' ' <= *c && *c < 127)
 }
 
-// A byte of a quoted text, behind a backslash where it must be.
+// A byte of a quoted text, after a backslash where it must be.
 fn push_quoted_byte(out: &mut Vec<u8>, c: u8) -> Result<(), NoMemory>
     ensures { OnOk result (out.new.items ≡ out.old.items ++ plain.quoted_byte c) }
 {
@@ -75,7 +75,7 @@ fn push_token(out: &mut Vec<u8>, token: Token<'_>) -> Result<(), NoMemory>
     }
 }
 
-// A token behind others.
+// A token after others.
 fn push_one(out: &mut Vec<u8>, token: Token<'_>) -> Result<(), NoMemory>
     ensures { OnOk result (out.new.items ≡ out.old.items ++ space ∷ plain.shown (views.token token.entry)) }
 {
@@ -83,7 +83,7 @@ fn push_one(out: &mut Vec<u8>, token: Token<'_>) -> Result<(), NoMemory>
     push_token(out, token)
 }
 
-/// Appends tokens behind others in a line.
+/// Appends tokens after others in a line.
 pub fn push_behind(out: &mut Vec<u8>, tokens: &[Token<'_>]) -> Result<(), NoMemory>
     ensures { OnOk result (out.new.items ≡ out.old.items ++ views.behind (map views.token tokens.now)) }
 {

@@ -22,7 +22,7 @@ fn push_drain(out: &mut Vec<u8>, count: u32, to: PidSet) -> Result<(), NoMemory>
     end_line(out)
 }
 
-// Behind the mask of a Lie, its statement.
+// After the mask of a Lie, its statement.
 fn push_said(out: &mut Vec<u8>, statement: &[u8]) -> Result<(), NoMemory>
     ensures { OnOk result (out.new.items ≡ out.old.items ++ (behind (plain.Word (codes ":") ∷ plain.statement_tokens statement.now) ++ 10 ∷ [])) }
 {
@@ -43,7 +43,7 @@ fn push_lie(out: &mut Vec<u8>, signer: Pid, to: PidSet, statement: &[u8]) -> Res
     push_said(out, statement)
 }
 
-// `P of Q` behind this word.
+// `P of Q` after this word.
 fn push_about(out: &mut Vec<u8>, word: &[u8], at: Pid, of: Pid) -> Result<(), NoMemory>
     ensures { OnOk result (out.new.items ≡ out.old.items ++ plain.token_line (plain.about_tokens word.now at of)) }
 {

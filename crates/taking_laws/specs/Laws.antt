@@ -24,7 +24,7 @@ Takes s Spent = Unit {0}
 Takes s (Halts delivered cut) = Unit {0}
 
 -- A run of a server begins with a process as its earlier turns left it, and goes through these steps. Where what was handed over is in range, as
--- what is read of a frame is, each note of the next turn is one that the server can take, told of those before it.
+-- what is read of a frame is, each note of the next turn is one that the server can take, once it has been given those before it.
 abbrev pub NotesAreTaken : Type 0
 NotesAreTaken = (s : Setting) (q : Place) (me batch_limit : ℕ) (earlier : List Turn) (steps : List Step) (t : Turn) (told others : List Note)
     (note : Note) → s.genesis.number ≡ 0 → IsView s.genesis

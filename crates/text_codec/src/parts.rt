@@ -11,7 +11,7 @@ fn place(text: &[u8], at: u8) -> Option<usize>
     text.iter().position(|c| *c == at)
 }
 
-// The bytes before the first `at` and those behind it; all of them and None where there is none.
+// The bytes before the first `at` and those after it; all of them and None where there is none.
 fn cut(text: &[u8], at: u8) -> (&[u8], Option<&[u8]>)
     ensures split { slice_split (λ c. c == at) text.now
         ≡ result.0.now ∷ option_map_or (λ rest. slice_split (λ c. c == at) rest.now) result.1 [] }
@@ -26,7 +26,7 @@ fn cut(text: &[u8], at: u8) -> (&[u8], Option<&[u8]>)
 /// The parts of a text that are left to take, where it is cut at each byte of one kind: the words of a line, or the
 /// lines of a text.
 ///
-/// A text that ends with a line feed has an empty last part behind it; a text with none is one part.
+/// A text that ends with a line feed has an empty last part after it; a text with none is one part.
 #[derive(Clone, Copy)]
 pub struct Parts<'a> {
     at: u8,
@@ -46,7 +46,7 @@ impl<'a> Parts<'a> {
         }
     }
 
-    /// The parts of a text between its line feeds: its lines, and what stands behind the last line feed.
+    /// The parts of a text between its line feeds: its lines, and what comes after the last line feed.
     pub fn lines(text: &'a [u8]) -> Parts<'a>
         ensures { parts_left result ≡ parts_of text.now }
     {

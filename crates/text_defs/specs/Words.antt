@@ -7,7 +7,7 @@ use Rattle.std.specs.Fmt.{decimal}
 use Rattle.hex.specs.Hex.{decode_sized, encode_lower, IsBytes}
 use Rattle.byte_defs.specs.Equality.{same_bytes}
 
--- the byte that stands between two words
+-- the byte between two words
 abbrev pub space : ℕ
 space = 32
 
@@ -33,13 +33,13 @@ begin_with (first ∷ more) (word ∷ words) = same_bytes first word && begin_wi
 
 -- ---- lines
 
--- the parts of a text between its line feeds: its lines, and what stands behind the last line feed
+-- the parts of a text between its line feeds: its lines, and what comes after the last line feed
 abbrev pub parts_of : List ℕ → List (List ℕ)
 parts_of bytes = slice_split (λ c. c == line_feed) bytes
 
 -- ---- numbers
 
--- the value of decimal digits behind those of a value
+-- the value of decimal digits that follow those of a value
 unfoldable pub value_behind : ℕ → List ℕ → ℕ
 value_behind n [] = n
 value_behind n (d ∷ digits) = value_behind (10 * n + (d - 48)) digits
@@ -60,7 +60,7 @@ process_of word = number_within 0 63 word
 
 -- ---- bytes
 
--- so many, each below 256
+-- n of them, each below 256
 abbrev pub AreBytes : ℕ → List ℕ → Type 0
 AreBytes n xs = (length xs ≡ n) × IsBytes xs
 
@@ -68,7 +68,7 @@ AreBytes n xs = (length xs ≡ n) × IsBytes xs
 abbrev pub is_upper_case : ℕ → Bool
 is_upper_case c = nat_le 65 c && nat_le c 90
 
--- so many bytes, spelled so
+-- the n bytes that a word spells
 unfoldable pub bytes_of : ℕ → List ℕ → Option (List ℕ)
 bytes_of n word = if list_any is_upper_case word then None else result_ok (decode_sized word n)
 

@@ -1,4 +1,4 @@
--- What a run tells: what happens in each event, in the world of the definitions.
+-- What a run reports: what happens in each event, in the world of the definitions.
 use Rattle.std.specs.Prelude.{ℕ, zero, suc, ◌==◌, nat_lt, if◌then◌else◌, List, [], ◌∷◌, ◌++◌, length, drop, find, None, Some, slice_get, Ok, Err, Option}
 use Rattle.std.specs.List.{flat_map, enumerate_from, zip}
 use Rattle.message_defs.specs.Statements.{Statement}
@@ -38,7 +38,7 @@ next_tells s mask w d =
     let others : World = record w { pending = drop 1 w.pending } in
     if is_in mask d.1 then gets_frame s others d.1 d.0 else loses others d
 
--- so many times, or until none waits
+-- this many deliveries, or until none waits
 unfoldable pub drain_tells : Setting → ℕ → ℕ → World → List Happening
 drain_tells s mask zero w = []
 drain_tells s mask (suc more) w = elim

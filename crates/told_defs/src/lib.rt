@@ -1,2 +1,2 @@
-//! What a run of a schedule tells, on plain data: what happens in each event, and the trace of it all.
+//! What a run of a schedule reports, on plain data: what happens in each event, and the trace of it all.
 #![tactic(auto)]

@@ -1,4 +1,4 @@
--- The refusals that a trace tells.
+-- The refusals in a trace.
 use Rattle.std.specs.Prelude.{◌≡◌, ℕ, List, [], ◌∷◌, ◌++◌, Option, None, Some, Ok, Err}
 use Rattle.std.specs.List.{flat_map}
 use Rattle.group_defs.specs.Events.{EventFault}
@@ -26,6 +26,6 @@ unfoldable pub run_refusals : Header → World → List ScheduleEvent → List R
 run_refusals h w [] = []
 run_refusals h w (e ∷ es) = event_refusals h w e ++ elim (after_event h w e) [ Ok v ↦ run_refusals h v es | Err fault ↦ [] ]
 
--- the world of a schedule at its end has the refusals that are told in its events
+-- the world of a schedule at its end has the refusals that its events report
 abbrev pub RefusalsAreTold : Type 0
 RefusalsAreTold = (sch : Schedule) (w : World) → world_of sch ≡ Ok w → w.refused ≡ run_refusals sch.header (start_of sch.header) sch.events

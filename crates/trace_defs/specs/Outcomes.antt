@@ -60,7 +60,7 @@ refusal_line p what fault = of_process p
 abbrev pub claims_word : ℕ → Word
 claims_word n = if n == 1 then codes "new claim" else codes "new claims"
 
--- so many claims were new to it, in a frame or in bytes
+-- n claims were new to it, in a frame or in bytes
 abbrev pub heard_line : ℕ → Line → ℕ → Line
 heard_line p what n = of_process p (codes "hears" ∷ decimal n ∷ claims_word n ∷ codes "in" ∷ what)
 
@@ -76,7 +76,7 @@ frame_line p frame to = of_process p (codes "sends frame" ∷ decimal frame ∷ 
 abbrev pub sent_line : ℕ → ℕ × List ℕ → Line
 sent_line p frame = frame_line p frame.0 frame.1
 
--- ---- what it is told
+-- ---- what it reports
 
 abbrev pub note_line : ℕ → Note → Line
 note_line p (Delivers x d) =
@@ -94,8 +94,8 @@ note_line p (Halts delivered cut) =
 abbrev pub addressed : Sending → List (List ℕ)
 addressed out = map (λ bytes. out.to) (frames_of out.parcel)
 
--- what came of an event, as it is seen from outside: claims are as they stand in a frame, and of each frame that is sent stands there to
--- whom it goes
+-- what came of an event, as it is seen from outside: claims are as they are in a frame, and each frame that is sent comes with those
+-- to whom it goes
 pub record Seen : Type 0 where
   pub verdict : Option EventFault
   pub heard : ℕ
@@ -115,6 +115,6 @@ seen o = record {
   notes = o.notes;
 }
 
--- of an event that was taken: what process p signed, was told and sent, where its first frame gets this number
+-- of an event that was taken: what process p signed, reported and sent, where its first frame gets this number
 abbrev pub taken_lines : ℕ → ℕ → Seen → List Line
 taken_lines p first o = map (signed_line p) o.signed ++ (map (note_line p) o.notes ++ map (sent_line p) (enumerate_from first o.sends))

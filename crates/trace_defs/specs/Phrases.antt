@@ -11,7 +11,7 @@ use Rattle.message_defs.specs.Reading.{statement_of}
 abbrev pub Word : Type 0
 Word = List ℕ
 
--- a line is its words, which stand with one space between them
+-- a line is its words, with one space between them
 abbrev pub Line : Type 0
 Line = List Word
 
@@ -23,15 +23,15 @@ number_and_colon n = decimal n ++ codes ":"
 
 -- ---- payloads
 
--- a letter, digit or sign that stands for itself: from the space to the tilde, but for quotation mark, &, <, > and the backslash
+-- a letter, digit or sign that is written as itself: from the space to the tilde, but for quotation mark, &, <, > and the backslash
 abbrev pub is_plain : ℕ → Bool
 is_plain c = nat_le 32 c && nat_le c 126 && not (c == 34) && not (c == 38) && not (c == 60) && not (c == 62) && not (c == 92)
 
--- bytes in quotation marks, where each stands for itself, else in hexadecimal
+-- bytes in quotation marks, where each is written as itself, else in hexadecimal
 abbrev pub quoted : List ℕ → Word
 quoted bytes = if list_all is_plain bytes then 34 ∷ bytes ++ 34 ∷ [] else encode_lower bytes
 
--- so many bytes of a payload are shown at most
+-- the most bytes of a payload that are shown
 unfoldable pub most_shown : ℕ
 most_shown = 24
 
@@ -76,7 +76,7 @@ last_words x r (Some ready) =
     codes "Last at rank" ∷ decimal r ∷ codes "in view" ∷ number_and_colon x
     ∷ codes "Ready at rank" ∷ decimal ready.0 ∷ codes "cut" ∷ decimal ready.1.cut ∷ codes "and" ∷ update_words ready.1.update
 
--- what is said, of which view
+-- what is said, and of which view
 abbrev pub statement_words : Statement → Line
 statement_words (Init x l payload) = codes "Init" ∷ decimal l ∷ codes "in view" ∷ number_and_colon x ∷ payload_words payload
 statement_words (Echo x m payload) = codes "Echo of" ∷ message_word m ∷ codes "in view" ∷ number_and_colon x ∷ payload_words payload

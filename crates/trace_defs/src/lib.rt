@@ -1,2 +1,2 @@
-//! What a run of a schedule tells, on plain data: what happened, step by step, and the lines that say so.
+//! What a run of a schedule reports, on plain data: what happened, step by step, and the lines that say so.
 #![tactic(auto)]

@@ -11,7 +11,7 @@ link_faults l = l.faults
 abbrev pub open_ports : {R S L : Type 0} → UdpLink R S L → List ℕ
 open_ports l = ports_of l.ports
 
--- it doesn't tell what was sent, nor what is coming on each port
+-- it doesn't say what was sent, nor what is coming on each port
 abbrev pub untold_sent : Option (List (ℕ × List ℕ))
 untold_sent = None
 

@@ -24,7 +24,7 @@ pub(crate) struct OpenPort {
 /// and a send that would is a fault. A call that a signal interrupts is made again. Every other error of a call counts as
 /// one fault, and so does a receive on a port that isn't open, and a port for which there is no memory.
 ///
-/// It doesn't tell which datagrams were sent or are coming, so no clause says which one a receive gives.
+/// It doesn't say which datagrams were sent or are coming, so no clause says which one a receive gives.
 #[derive(Drop)]
 pub struct UdpLink<'a, R: Net> {
     rt: &'a R,
@@ -55,7 +55,7 @@ fn address(port: u16) -> SocketAddr {
     SocketAddr::V4(SocketAddrV4::new(Ipv4Addr::LOCALHOST, port))
 }
 
-// A socket on a port of 127.0.0.1, of which no call waits.
+// A socket on a port of 127.0.0.1, on which no call waits.
 fn socket_on<R: Net>(rt: &R, port: u16) -> io::Result<UdpSocket> {
     let socket = rt.bind_udp(address(port))?;
     socket.set_nonblocking(true)?;

@@ -42,7 +42,7 @@ decided d = decision_of d.decision
 
 -- ---- which process is in which phase
 
--- process p is in phase c: a member that has signed its End, which tells the length c keeps
+-- process p is in phase c: a member that has signed its End, which says the length c keeps
 pub record IsClosing (c : ClosingView) (p : Process) : Type 0 where
   pub phase : defs.phase_of p ≡ defs.ClosingView
   pub length : own_on p (EndAt p.pool.view.number) ≡ Some (End p.pool.view.number c.length)

@@ -57,7 +57,7 @@ pub enum Phase {
     /// A member, before its End.
     OpenView(OpenView),
 
-    /// A member, behind its End.
+    /// A member, after its End.
     ClosingView(ClosingView),
 
     /// Decided, and not left.
@@ -76,7 +76,7 @@ pub enum PhaseWord {
     /// A member, before its End.
     OpenView,
 
-    /// A member, behind its End.
+    /// A member, after its End.
     ClosingView,
 
     /// Decided, and not left.
@@ -187,7 +187,7 @@ impl Phase {
 }
 
 impl OpenView {
-    /// The phase behind the own End of this length, which is signed: 0 to 1,024 places.
+    /// The phase after the own End of this length, which is signed: 0 to 1,024 places.
     pub fn close(self, length: u16) -> ClosingView
         ensures length { result.length ≡ length }
         ensures closes { (s : Setting) (signer : Signer) (p : Process) → defs.phase_of p ≡ defs.OpenView

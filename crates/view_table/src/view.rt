@@ -20,7 +20,7 @@ const MOST_MEMBERS: usize = 16;
 type Members = ArrayVec<Pid, MOST_MEMBERS>;
 
 /// A view: its number, 0 to 1,023, and its members in rank order, 1 to 16, each once. The first is the manager, and
-/// those behind it are its deputies. Contracts see it as the definitions' view.
+/// those after it are its deputies. Contracts see it as the definitions' view.
 #[derive(Debug, Drop)]
 pub struct View {
     number: u16,
@@ -38,7 +38,7 @@ impl Model for View {
     ghost invariant = { λ v. IsNumberedView (as_view v.number v.members.items) };
 }
 
-// Whether no process stands twice.
+// Whether no process occurs twice.
 fn are_distinct(members: &[Pid]) -> bool
     ensures { IsTrue result ↔ AllPairs (λ m n. m ≢ n) members.now }
 {
@@ -90,7 +90,7 @@ fn with(members: &[Pid], p: Pid) -> Members
     more
 }
 
-// The members after the update, or the first reason, beside the number, why there are none.
+// The members after the update, or the first reason, apart from the number, why there are none.
 fn members_after(view: &View, update: Update) -> Result<Members, UpdateFault>
     ensures follows { IfOk result (λ ms. (first_that_holds (views.update_faults view.now (base.update update)) ≡ None)
         × (ms.items ≡ views.members_after view.now.members (base.update update))) }
@@ -138,7 +138,7 @@ impl Clone for View {
 
 impl View {
     /// The view of this number with these members in rank order; None exactly where the number passes 1,023, there are
-    /// no members or more than 16, or one stands twice.
+    /// no members or more than 16, or one occurs twice.
     pub fn new(number: u16, members: &[Pid]) -> Option<View>
         ensures value { IfSome result (λ v. v ≡ as_view number members.now) }
         ensures exactly { IsSome result ↔ IsNumberedView (as_view number members.now) }
@@ -184,7 +184,7 @@ impl View {
 }
 
 /// The view that follows by an update: its number is the next one, and its members are those that a Remove leaves,
-/// closed up, those with the process of an Add behind them, or the same ones at a Renew. Where no view follows, the
+/// closed up, those with the process of an Add after them, or the same ones at a Renew. Where no view follows, the
 /// error is the first reason, in the order of `UpdateFault`.
 pub fn next(view: &View, update: Update) -> Result<View, UpdateFault>
     ensures follows { IfOk result (λ v. views.next view.now (base.update update) ≡ Ok v) }

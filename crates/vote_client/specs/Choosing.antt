@@ -3,7 +3,7 @@ use Rattle.std.specs.Prelude.{if◌then◌else◌, Option, Some, None}
 use Rattle.byte_defs.specs.Orders.{numbers_below}
 use Rattle.store_defs.specs.Votes.{Content, Vote, content_numbers, is_enough}
 
--- of the least so far and one more, the one that stands first
+-- of the least so far and one more, the one that comes first
 abbrev pub first_of : Option Content → Content → Content
 first_of None c = c
 first_of (Some lower) c = if numbers_below (content_numbers c) (content_numbers lower) then c else lower

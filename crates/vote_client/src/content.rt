@@ -41,7 +41,7 @@ pub(crate) fn are_same<'a>(a: Content<'a>, b: Content<'a>) -> bool
     a.place == b.place && a.position == b.position && a.answer == b.answer
 }
 
-/// Whether the first stands before the second: by place, then by position, then by answer.
+/// Whether the first comes before the second: by place, then by position, then by answer.
 pub(crate) fn is_before<'a>(a: Content<'a>, b: Content<'a>) -> bool
     ensures { result ≡ numbers_below (content_numbers (content a.entry)) (content_numbers (content b.entry)) }
 {

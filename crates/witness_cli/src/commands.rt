@@ -1,4 +1,4 @@
-//! What the words behind the program's name ask for.
+//! What the words after the program's name ask for.
 ghost use Rattle.std.specs.Prelude.{◌≡◌, ℕ, List, Some, IfSome, map, option_map, string_bytes};
 ghost use Rattle.witness_cli.specs.Commands as plain;
 ghost use Rattle.witness_cli.specs.Commands.{Asks, command, command_of as command_by};

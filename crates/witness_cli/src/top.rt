@@ -16,8 +16,8 @@ use witness_words::{convict, judge, proofs};
 /// The status where the words are no command.
 const WORDS: u8 = 2;
 
-/// The whole program: `words` are those behind the program's name, and the answer is the status that it ends with. On standard error,
-/// `errors`, it tells that the words are none.
+/// The whole program: `words` are those after the program's name, and the answer is the status that it ends with. On standard error,
+/// `errors`, it says that the words are none.
 pub fn witness<S: Source, K: Sink, E: Sink>(
     alloc: Global,
     words: &[String],
@@ -26,7 +26,7 @@ pub fn witness<S: Source, K: Sink, E: Sink>(
     errors: &mut E,
 ) -> u8
     // convict, 0: the input was read to its end, and a line of evidence for each whom an audit of it convicts was written, and nothing else;
-    // `judge` takes these lines behind any kit of the same keys.
+    // `judge` takes these lines after any kit of the same keys.
     ensures convicted { (listed : List ℕ) → Asks words.now (Convict listed) → result ≡ 0
         → Convicted listed (S.left input.old) (S.left input.new) (K.written output.old) (K.written output.new) }
 

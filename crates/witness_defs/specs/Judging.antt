@@ -1,4 +1,4 @@
--- What `judge` reads: a kit, of which the public lines suffice, the line `go`, and lines of evidence.
+-- What `judge` reads: a kit, whose public lines suffice, the line `go`, and lines of evidence.
 -- Evidence is taken where its frame is a Bundle whose claims convict its process: two of them are valid, the process's own and on one slot,
 -- and say different things. Where all of it is taken nothing is written and the status is 0, else the status is 7, and one line has the
 -- number of the line that is in the way, counted from the input's first one:
@@ -67,7 +67,7 @@ pub record Judged : Type 0 where
   pub kit : Kit
   pub evidence : List Evidence
 
--- the lines behind a kit
+-- the lines after a kit
 abbrev pub judged_behind : Front → Result Judged Refusal
 judged_behind f = judged_at (setting_of f.kit) f.line (parts_of f.rest) >>= λ es. Ok (record { kit = f.kit; evidence = es })
 

@@ -19,7 +19,7 @@ pub record IsSpelled (e : Evidence) : Type 0 where
   pub few : length e.frame ≤ most_frame_bytes
   pub bytes : IsBytes e.frame
 
--- Lines of evidence that convicts are taken, behind any lines that are read as a kit.
+-- Lines of evidence that convicts are taken, after any lines that are read as a kit.
 abbrev pub LinesAreTaken : Type 0
 LinesAreTaken = (front : List ℕ) (f : Front) (es : List Evidence) → front_of front ≡ Ok f → f.rest ≡ [] → All IsSpelled es
     → All (λ e. IsTrue (is_taken (setting_of f.kit) e)) es
@@ -31,15 +31,15 @@ pub record CanBeCarried (c : Conviction) : Type 0 where
   pub second : IsClaim c.second
   pub bytes : IsBytes (pair_frame c.first c.second)
 
--- What `convict` writes, `judge` takes: behind any lines that are read as a kit, the lines of all convictions by the kit's keys.
+-- What `convict` writes, `judge` takes: after any lines that are read as a kit, the lines of all convictions by the kit's keys.
 abbrev pub EvidenceConvicts : Type 0
 EvidenceConvicts = (front : List ℕ) (f : Front) (claims : List Claim) → front_of front ≡ Ok f → f.rest ≡ []
     → All CanBeCarried (convictions (setting_of f.kit) claims)
     → judged (front ++ flat_map evidence_line (convictions (setting_of f.kit) claims))
     ≡ Ok (record { kit = f.kit; evidence = map evidence_of (convictions (setting_of f.kit) claims) })
 
--- Evidence is taken exactly where two valid claims of its process in its Bundle conflict: who holds it is shown so, and whoever has the
--- public keys sees it.
+-- Evidence is taken exactly where two valid claims of its process in its Bundle conflict: whoever holds it can show that, and whoever has
+-- the public keys can see it.
 abbrev pub TakenConvicts : Type 0
 TakenConvicts = (bytes : List ℕ) (j : Judged) → judged bytes ≡ Ok j → All (λ e. Convicts (setting_of j.kit) (claims_in e) e.process) j.evidence
 

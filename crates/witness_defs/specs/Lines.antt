@@ -42,7 +42,7 @@ evidence_text a = flat_map evidence_line (convicted_by a)
 abbrev pub most_evidence_line : ℕ
 most_evidence_line = 122012
 
--- the evidence of the words behind the first one
+-- the evidence of the words after the first one
 abbrev pub evidence_of_rest : List (List ℕ) → Option Evidence
 evidence_of_rest (process ∷ frame ∷ []) =
     and_then (process_of process) (λ p. option_map (λ bytes. record { process = p; frame = bytes }) (frame_in frame))

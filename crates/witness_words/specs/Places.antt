@@ -1,4 +1,4 @@
--- Places of an input behind the line `go`, and what is judged from one on.
+-- Places of an input after the line `go`, and what is judged from one on.
 use Rattle.std.specs.Prelude.{◌≡◌, ℕ, List, [], ◌∷◌, ◌++◌, Option, Some, None, if◌then◌else◌, Result, Ok, Err}
 use Rattle.byte_defs.specs.Fields.{◌>>=◌}
 use Rattle.text_defs.specs.Words.{parts_of}
@@ -12,7 +12,7 @@ use Rattle.witness_defs.specs.Judging.{NoInput, NotTaken, Refusal, is_taken, jud
 use Rattle.witness_words.specs.declared.stops.Fault.{Fault}
 use Rattle.witness_words.specs.Stops.{fault_line, fault_status}
 
--- A place behind a kit: the number of the next line, and the bytes of the next lines that are read already.
+-- A place after a kit: the number of the next line, and the bytes of the next lines that are read already.
 pub record Place : Type 0 where
   pub kit : Kit
   pub number : ℕ
@@ -50,11 +50,11 @@ line_gives s n line = if_taken s n (evidence_in line)
 
 -- ---- faults
 
--- the fault is told as this is
+-- the fault is reported as this is
 abbrev pub Tells : Fault → Refusal → Type 0
 Tells fault r = (refusal_line r ≡ fault_line fault) × (fault_status fault ≡ 7)
 
--- something is in the way, which is told as this fault is, whatever comes after what was read, or as the input ends there
+-- something is in the way, which is reported as this fault is, whatever comes after what was read, or as the input ends there
 pub record Refuses {A : Type 0} (answer : List ℕ → Result A Refusal) (before now : Option (List ℕ)) (fault : Fault) : Type 0 where
   pub why : Refusal
   pub is : Settles answer before now (Err why)

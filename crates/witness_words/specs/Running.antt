@@ -1,5 +1,5 @@
 -- What a run of `witness` has read and written: by what a source had left before and has left now, what a sink held before and holds now,
--- and the counts of the sink's faults before and now. Of a stream that does not tell what it holds, nothing is said by it.
+-- and the counts of the sink's faults before and now. Of a stream that does not say what it holds, nothing is said by it.
 use Rattle.std.specs.Prelude.{◌≡◌, ℕ, List, [], ◌∷◌, ◌++◌, map, Option, Ok, Err, IsOk, IsErr, IsSomeAnd}
 use Rattle.std.specs.Io.KnownBytes.{Appends}
 use Rattle.rp_base.specs.Streams.{AppendsPrefix, Says}
@@ -30,7 +30,7 @@ pub record Unread (listed : List ℕ) (before now : Option (List ℕ)) : Type 0 
   pub why : NoFindings
   pub is : Settles (audit_of listed) before now (Err why)
 
--- What `judge` says to the lines of an audit's convictions: it takes them all, behind any lines that are read as a kit of the audit's setting.
+-- What `judge` says to the lines of an audit's convictions: it takes all, after any lines that are read as a kit of the audit's setting.
 abbrev pub JudgeTakes : Audited → Type 0
 JudgeTakes a = (front : List ℕ) (f : Front) → front_of front ≡ Ok f → f.rest ≡ [] → setting_of f.kit ≡ a.family.setting
     → judged (front ++ evidence_text a) ≡ Ok (record { kit = f.kit; evidence = map evidence_of (convicted_by a) })
@@ -53,7 +53,7 @@ pub record Unconvicted (listed : List ℕ) (status : ℕ) (before now old new : 
   pub is_status : status_of unread.why ≡ status
   pub said : Says (stop_line unread.why) old new faults faults_now
 
--- the source tells what it has left, and an audit finds something in it
+-- the source says what it has left, and an audit finds something in it
 abbrev pub HasFindings : List ℕ → Option (List ℕ) → Type 0
 HasFindings listed left = IsSomeAnd left (λ bytes. IsOk (audit_of listed bytes))
 
@@ -88,7 +88,7 @@ pub record Refused (before now old new : Option (List ℕ)) (faults faults_now :
   pub is : Settles judged before now (Err why)
   pub said : Says (refusal_line why) old new faults faults_now
 
--- the source tells what it has left, and all of it is taken
+-- the source says what it has left, and all of it is taken
 abbrev pub IsTaken : Option (List ℕ) → Type 0
 IsTaken left = IsSomeAnd left (λ bytes. IsOk (judged bytes))
 

@@ -15,7 +15,7 @@ use Rattle.witness_words.specs.declared.stops.Fault.TheVariants.{Line, Repeated,
 use Rattle.witness_words.specs.declared.stops.Stop.{Stop}
 use Rattle.witness_words.specs.declared.stops.Stop.TheVariants.{NoMemory, Read, Write, Input}
 
--- what is told of a fault behind the status
+-- what is reported of a fault after the status
 abbrev pub words_of : Fault → List (List ℕ)
 words_of (Line n) = codes "line" ∷ decimal n ∷ []
 words_of (Repeated n) = codes "repeated" ∷ decimal n ∷ []

@@ -51,7 +51,7 @@ pub fn convict<S: Source, K: Sink>(
     output: &mut K,
 ) -> u8
     // 0: the input was read to its end, and a line for each whom an audit of it convicts was written, and nothing else; `judge` takes these
-    // lines behind any kit of the same keys.
+    // lines after any kit of the same keys.
     ensures convicted { result ≡ 0 → Convicted listed (S.left input.old) (S.left input.new) (K.written output.old) (K.written output.new) }
     ensures steady { result ≡ 0 → (S.faults input.new ≡ S.faults input.old) × (K.faults output.new ≡ K.faults output.old) }
 

@@ -83,7 +83,7 @@ fn step<S: Source>(
     }
 }
 
-// The number of the line behind the line of this number.
+// The number of the line after the line of this number.
 fn number_behind(line: usize) -> Result<usize, Stop>
     ensures next { IfOk result (λ n. n ≡ line + 1) }
     ensures only { IfErr result (λ stop. stop ≡ Stop.NoMemory) }

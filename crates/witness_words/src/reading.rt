@@ -69,7 +69,7 @@ fn last_words<'a>(mut words: Words<'a>) -> Option<(&'a [u8], &'a [u8])>
     }
 }
 
-// The evidence of the words behind the first one.
+// The evidence of the words after the first one.
 fn evidence_of_rest(alloc: Global, words: Words<'_>) -> Result<Option<Evidence>, NoMemory>
     ensures { IfOk result (λ found. option_map evidence found ≡ plain.evidence_of_rest (parts_left words.entry)) }
 {

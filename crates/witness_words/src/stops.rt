@@ -14,7 +14,7 @@ use text_codec::push_number;
 /// What of the input is in the way. Lines are counted from 1, without the journals' bytes.
 #[derive(Clone, Copy)]
 pub(crate) enum Fault {
-    /// The line is none of a kit, or none that may stand before a journal, or none of evidence, or the input ends in it, before the line
+    /// The line is none of a kit, or none that may come before a journal, or none of evidence, or the input ends in it, before the line
     /// `go`, or within the line's journal.
     Line(usize),
 

@@ -58,7 +58,7 @@ fn bundle(alloc: Global, first: &OwnClaim, second: &OwnClaim) -> Result<FrameWri
     Ok(writer)
 }
 
-// Begins a line with its first two words and the space behind them.
+// Begins a line with its first two words and the space after them.
 fn push_head(out: &mut Vec<u8>, process: Pid) -> Result<(), NoMemory>
     ensures pushed { OnOk result (out.new.items ≡ out.old.items ++ evidence_head process) }
     ensures number { OnOk result (process < 64) }

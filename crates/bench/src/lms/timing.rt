@@ -30,7 +30,7 @@ const W4_BLOCKS: (f64, f64) = (567.0, 556.0);
 
 const W8_BLOCKS: (f64, f64) = (4_260.0, 4_478.0);
 
-/// How many signatures a key of two levels of height 5 makes, and behind which of them a lower tree ends.
+/// How many signatures a key of two levels of height 5 makes, and after which of them a lower tree ends.
 const SIGNATURES: usize = 1_024;
 
 const LEAVES: usize = 32;
@@ -62,7 +62,7 @@ struct Times {
     levels: Levels,
 }
 
-// The digest and the seconds of 55 zeros hashed so many times, each time with the digest in front, in four lanes.
+// The digest and the seconds of 55 zeros hashed `count` times, each time with the digest in front, in four lanes.
 fn time_lanes(rt: &impl CpuClock, count: u32) -> Result<([u8; 32], f64)> {
     let begun = seconds(rt)?;
     let mut block = [splat(0); 16];
@@ -112,7 +112,7 @@ impl Leaves {
         Ok(())
     }
 
-    // Beside the blocks of signing and verifying.
+    // Compared with the blocks of signing and verifying.
     fn tell(&self, rt: &impl Print, block: f64, blocks: (f64, f64)) -> Result<()> {
         let ots = self.ots;
         let signed = sum(&self.sign) / 32.0 / block / blocks.0;

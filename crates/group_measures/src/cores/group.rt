@@ -39,7 +39,7 @@ fn process(n: usize) -> Result<Pid> {
     number.ok_or_else(|| anyhow!("no process"))
 }
 
-// The first so many processes, of which 16 at most are members of a view and have a key.
+// The first `count` processes; at most 16 are members of a view and have a key.
 fn processes(alloc: Global, count: usize) -> Result<Vec<Pid>> {
     let mut all = Vec::new(alloc);
     for n in 0..count {
@@ -73,7 +73,7 @@ fn and_signed(work: Work, signed: &[OwnClaim]) -> Work {
 }
 
 impl Group {
-    /// A group of so many members, as it starts.
+    /// A group of `members` members, as it starts.
     pub(crate) fn new(alloc: Global, members: usize) -> Result<Group> {
         let members = processes(alloc, members)?;
         let mut cores = Vec::new(alloc);

@@ -15,7 +15,7 @@ const PAYLOAD: &[u8] = &[5; 32];
 /// The places are timed by the hundred.
 const HUNDRED: u32 = 100;
 
-/// So many blocks are hashed alone after each hundred places, so that what else the machine does slows both alike.
+/// This many blocks are hashed alone after each hundred places, so that what else the machine does slows both alike.
 const BLOCKS: u32 = 100_000;
 
 /// A hundred places: the seconds, and the claims that were signed or heard.
@@ -31,7 +31,7 @@ impl Spent {
     }
 }
 
-// So many places, each of a message of the next member.
+// `places` places, each of a message of the next member.
 fn deliver(group: &mut Group, members: u32, places: u32) -> Result<()> {
     for n in 0..places {
         group.submit((n % members.max(1)) as usize, PAYLOAD)?;

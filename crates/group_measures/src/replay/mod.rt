@@ -12,7 +12,7 @@ use std::fs;
 use std::rt::Files;
 use std::time::CpuClock;
 
-/// So many blocks are hashed alone.
+/// This many blocks are hashed alone.
 const BLOCKS: u32 = 1_000_000;
 
 // The run of the schedule that the bytes spell.
@@ -37,7 +37,7 @@ fn four_members(alloc: Global) -> Result<Vec<u8>> {
     Ok(bytes)
 }
 
-// Each of them submits 32 bytes and then 32 others, and all frames are delivered behind each four Submits.
+// Each of them submits 32 bytes and then 32 others, and all frames are delivered after each four Submits.
 fn eight_submits(alloc: Global) -> Result<Vec<u8>> {
     let mut bytes = four_members(alloc)?;
     for n in 0..8u8 {

@@ -1,4 +1,4 @@
-//! The run of a schedule (docs/FORMATS.md, «Schedules»), with a count of what is signed and checked. Beside a replay it leaves out the
+//! The run of a schedule (docs/FORMATS.md, «Schedules»), with a count of what is signed and checked. Unlike a replay it leaves out the
 //! report's questions, and no fault ends it but a frame that was not sent.
 ghost use Rattle.replay_defs.specs.Schedules.{IsSchedule};
 ghost use Rattle.schedule_file.specs.Views as views;
@@ -200,7 +200,7 @@ impl Run {
         self.deliver(frame as usize, to)
     }
 
-    // So many deliveries are made, the oldest first, or lost where their process is none of these.
+    // `count` deliveries are made, the oldest first, or lost where their process is none of these.
     fn drain(&mut self, count: u32, to: PidSet) -> Result<()> {
         for _ in 0..count {
             let Some(next) = self.pending.pop_front() else {

@@ -156,8 +156,8 @@ fn byte(key: PublicKey, at: usize) -> u8 {
     key.as_bytes().get(at).copied().unwrap_or(0)
 }
 
-// The line of a secret whose public key is not the one on its key line, and of the key that it makes, and of the one that is listed, the byte
-// at this place. Zeros where the text has no such secret.
+// The line of a secret whose public key is not the one on its key line; and the byte at this place of the key that it makes and of the one
+// that is listed. Zeros where the text has no such secret.
 fn mismatch(alloc: Global, parts: &[&[u8]], at: usize) -> Result<(usize, u8, u8), AllocError> {
     match fault_of(alloc, parts)? {
         Some(KitFault::KeyMismatch { line, made, listed }) => {

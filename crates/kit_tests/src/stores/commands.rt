@@ -84,7 +84,7 @@ fn answered(alloc: Global, store: &mut Store, what: u8, key: u16) -> Result<Vec<
     Ok(answer)
 }
 
-// A store of so many keys.
+// A store of `keys` keys.
 fn filled(alloc: Global, keys: u16) -> Result<Store, Fail> {
     let mut store = Store::new(alloc);
     for key in 0..keys {

@@ -44,7 +44,7 @@ impl Happening {
     }
 }
 
-// What comes of it at process 0 by an entry with so many signatures, which these bytes hold.
+// What comes of it at process 0 by an entry with `count` signatures, which these bytes hold.
 fn absorbed(
     core: &mut Core<Count>,
     what: Happening,
@@ -80,7 +80,7 @@ pub fn assert_same_outcome(
     Ok(())
 }
 
-// Ends the test where the two do not tell the same of themselves.
+// Ends the test where the two do not report the same of themselves.
 fn assert_same(
     rt: &(impl AllocGlobal + Abort),
     live: &Core<PlainSigner>,
@@ -95,7 +95,7 @@ fn assert_same(
     Ok(())
 }
 
-// What happens stepped by one, and its entry absorbed by the other. It ends the test where they do not tell the same.
+// What happens stepped by one, and its entry absorbed by the other. It ends the test where they do not report the same.
 fn step_and_absorb(
     rt: &(impl AllocGlobal + Abort),
     live: &mut Core<PlainSigner>,
@@ -126,7 +126,7 @@ fn a_journal_absorbed_gives_the_account_of_the_process(rt: HostRuntime) {
     }
 }
 
-// Whether process 0, as it starts with a key of so many, finds that a Submit of "hi" cannot have come to these signatures.
+// Whether process 0, as it starts with a key of `total`, finds that a Submit of "hi" cannot have come to these signatures.
 fn differs(
     rt: &(impl AllocGlobal + Abort),
     total: u32,

@@ -3,7 +3,7 @@ use member_image::{Core, Event, EventFault, EventVerdict, Note};
 use rp_base::{Pid, PlainSigner};
 use std::process::Abort;
 
-// Whether the note tells that the payload was delivered as the first message.
+// Whether the note says that the payload was delivered as the first message.
 fn is_first(note: &Note, payload: &[u8]) -> bool {
     match note {
         Note::Delivered {
@@ -23,7 +23,7 @@ fn is_first(note: &Note, payload: &[u8]) -> bool {
     }
 }
 
-// How many messages it delivered in view 0, if that is told.
+// How many messages it delivered in view 0, if that is reported.
 fn delivered_at_first(core: &Core<PlainSigner>) -> Option<usize> {
     match core.account().delivered.first() {
         Some(delivered) => Some(delivered.len()),
@@ -70,7 +70,7 @@ fn a_payload_of_1024_bytes_is_taken_and_one_of_1025_is_too_long(rt: HostRuntime)
     assert!(rt; core.account().accepted.len() == 1);
 }
 
-// Whether the process took each of so many payloads more.
+// Whether the process took each of `count` payloads more.
 fn takes_each(rt: &impl Abort, core: &mut Core<PlainSigner>, count: u32) -> bool {
     let mut each = true;
     'payloads: for _ in 0..count {

@@ -4,7 +4,7 @@ use member_image::{Core, Event, EventVerdict, image};
 use rp_base::{NoMemory, PlainScheme, PlainSigner};
 use std::process::Abort;
 
-// What the process tells of itself: its signatures, its views, the payloads that it accepted, and the messages that it delivered in its
+// What the process reports of itself: its signatures, its views, the payloads that it accepted, and the messages that it delivered in its
 // current view.
 fn told(core: &Core<PlainSigner>) -> (u32, usize, usize, usize) {
     let account = core.account();

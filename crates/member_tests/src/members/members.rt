@@ -30,7 +30,7 @@ fn alone<G: Tally + Drop>(alloc: Global, signer: G) -> Result<Core<G>, NoMemory>
     Core::new(alloc, GROUP, roster(alloc)?, genesis, me, 1, signer)
 }
 
-/// Process 0 alone, whose key signs so many statements.
+/// Process 0 alone, whose key signs `total` statements.
 pub fn try_one_member(alloc: Global, total: u32) -> Result<Core<PlainSigner>, NoMemory> {
     alone(alloc, key(total))
 }
@@ -45,7 +45,7 @@ pub fn one_by_journal(rt: &(impl AllocGlobal + Abort), total: u32) -> Core<Count
     alone(rt.alloc(), Count::new(total)).expect(rt, "memory")
 }
 
-/// Its key, which signs so many statements.
+/// Its key, which signs `total` statements.
 pub fn key(total: u32) -> PlainSigner
     ensures used { result.used ≡ 0 }
     ensures total { result.total ≡ total }

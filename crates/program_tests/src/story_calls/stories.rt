@@ -6,7 +6,7 @@ use std::alloc::{AllocError, Global};
 use std::test::Fail;
 use story_cli::story;
 
-/// Texts that are no stories, and what is told of them. The lines before are those of a group of one.
+/// Texts that are no stories, and what is reported of them. The lines before are those of a group of one.
 const FAULTS: [(&[u8], &[u8]); 6] = [
     (b"submit 1 \"a\"\n", b"line 5: expected submit P PAYLOAD: "),
     (

@@ -223,7 +223,7 @@ event 7: up to 1000 deliveries are made to all
     ),
 ];
 
-/// Texts that are no stories, and what is told of them.
+/// Texts that are no stories, and what is reported of them.
 pub const FAULTS: [(&[u8], &[u8]); 1] = [(
     b"submit 1 hello
 ",

@@ -12,7 +12,7 @@ fn asked(alloc: Global, word: &str) -> Result<Vec<String>, AllocError> {
     Ok(words)
 }
 
-/// The status of `story`, and what it wrote and told.
+/// The status of `story`, and what it wrote and reported.
 fn told(alloc: Global, word: &str, input: &[u8]) -> Result<(u8, MemSink, MemSink), AllocError> {
     let mut source = MemSource::new(input.to_vec(alloc)?, Vec::new(alloc));
     let mut sink = MemSink::new(alloc, Vec::new(alloc));
@@ -42,7 +42,7 @@ fn replayed(alloc: Global, input: &[u8]) -> Result<(u8, MemSink), AllocError> {
     Ok((status, sink))
 }
 
-/// Whether the part stands in the text.
+/// Whether the part is in the text.
 fn shows(text: &[u8], part: &[u8]) -> bool {
     (0..text.len()).any(|at| text[at..].starts_with(part))
 }
