@@ -207,7 +207,7 @@ AREAS = {
     "the program": (20, 20, 2, "replay_words rampart_cli rampart page"),
     "a replay": (
         20, 121, 2,
-        "said_index replay_cast group_questions sound_question trace_defs told_defs told_laws happenings replay_world replay_questions"
+        "said_index replay_cast group_questions sound_question trace_defs reported_defs reported_laws happenings replay_world replay_questions"
         " report_lines replay_report replay_run",
     ),
     "a member": (20, 405, 2, "accounts own_moves sent_claims reliable_mcast member_state member_taking member_signing member_settling member_sending member_core hosted_core"),

@@ -2,7 +2,7 @@
 use Rattle.std.specs.Prelude.{ℕ, map}
 use Rattle.message_defs.specs.Updates as plain
 use Rattle.group_defs.specs.Process as defs
-use Rattle.group_defs.specs.Accounts as told
+use Rattle.group_defs.specs.Accounts as reported
 use Rattle.rp_base.specs.declared.updates.Update.{Update}
 use Rattle.rp_base.specs.Views.{update}
 use Rattle.stmt_codec.specs.declared.events.Delivered.{Delivered}
@@ -17,7 +17,7 @@ abbrev pub perceived : ℕ × Update → ℕ × plain.Update
 perceived e = (e.0, update e.1)
 
 -- the account
-abbrev pub account : Account → told.Account
+abbrev pub account : Account → reported.Account
 account a = record {
   me = a.me;
   views = a.views.items;

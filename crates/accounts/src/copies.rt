@@ -68,14 +68,14 @@ fn copy_views(alloc: Global, views: &[View]) -> Result<Vec<View>, NoMemory>
 }
 
 /// A copy of what a process reports of itself.
-pub fn copy_account(alloc: Global, told: &Account) -> Result<Account, NoMemory>
-    ensures { IfOk result (λ copy. account copy ≡ account told.now) }
+pub fn copy_account(alloc: Global, reported: &Account) -> Result<Account, NoMemory>
+    ensures { IfOk result (λ copy. account copy ≡ account reported.now) }
 {
     Ok(Account {
-        me: told.me,
-        views: copy_views(alloc, &told.views)?,
-        delivered: copy_sequences(alloc, &told.delivered)?,
-        accepted: copy_payloads(alloc, &told.accepted)?,
-        perceived: Vec::from_slice(alloc, &told.perceived)?,
+        me: reported.me,
+        views: copy_views(alloc, &reported.views)?,
+        delivered: copy_sequences(alloc, &reported.delivered)?,
+        accepted: copy_payloads(alloc, &reported.accepted)?,
+        perceived: Vec::from_slice(alloc, &reported.perceived)?,
     })
 }

@@ -4,4 +4,4 @@ pub mod OfListed
 mod Players
 mod Rising
 mod Sparing
-mod Told
+mod Reported

@@ -32,14 +32,14 @@ module _ (s : Setting) where
   as-many (c ∷ cs) (q ∷ qs) all = ap suc (as-many cs qs all.1)
 
   -- what is reported of the next process goes after what was reported before
-  pub next-told : {A : Type 0} (f : plain.Player → A) (cs : List plain.Player) (i : ℕ) (p : Player) (at : At cs i p) (before after whole : List A)
+  pub next-reported : {A : Type 0} (f : plain.Player → A) (cs : List plain.Player) (i : ℕ) (p : Player) (at : At cs i p) (before after whole : List A)
       → before ++ map f (drop i cs) ≡ whole → after ≡ before ++ f at.process ∷ [] → after ++ map f (drop (i + 1) cs) ≡ whole
-  next-told f cs i p at before after whole so more = ap (λ xs. xs ++ map f (drop (i + 1) cs)) more
+  next-reported f cs i p at before after whole so more = ap (λ xs. xs ++ map f (drop (i + 1) cs)) more
       ∙ append_assoc before (f at.process ∷ []) (map f (drop (i + 1) cs))
       ∙ ap (λ ds. before ++ map f ds) (sym at.left) ∙ so
 
   -- and where no process is left, all is reported
-  pub all-told : {A : Type 0} (f : plain.Player → A) (cs : List plain.Player) (pls : List Player) (i : ℕ) (told whole : List A)
-      → AllZip (IsPlayer s) cs pls → length pls ≤ i → told ++ map f (drop i cs) ≡ whole → told ≡ whole
-  all-told f cs pls i told whole all past so = sym (append-nil told)
-      ∙ ap (λ ds. told ++ map f ds) (sym (drop_all i cs (omega (arith, past, as-many cs pls all)))) ∙ so
+  pub all-reported : {A : Type 0} (f : plain.Player → A) (cs : List plain.Player) (pls : List Player) (i : ℕ) (reported whole : List A)
+      → AllZip (IsPlayer s) cs pls → length pls ≤ i → reported ++ map f (drop i cs) ≡ whole → reported ≡ whole
+  all-reported f cs pls i reported whole all past so = sym (append-nil reported)
+      ∙ ap (λ ds. reported ++ map f ds) (sym (drop_all i cs (omega (arith, past, as-many cs pls all)))) ∙ so

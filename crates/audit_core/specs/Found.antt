@@ -9,10 +9,10 @@ use Rattle.stmt_codec.specs.Views.{signed}
 use Rattle.audit_defs.specs.Players.{Player}
 use Rattle.audit_defs.specs.Audits.{Audited}
 use Rattle.audit_defs.specs.Findings as plain
-use Rattle.audit_defs.specs.Findings.{findings_of, told_of}
+use Rattle.audit_defs.specs.Findings.{findings_of, reported_of}
 use Rattle.findings_json.specs.declared.findings.Conviction.{Conviction}
 use Rattle.findings_json.specs.declared.findings.Findings.{Findings}
-use Rattle.findings_json.specs.Views.{findings, told}
+use Rattle.findings_json.specs.Views.{findings, reported}
 
 -- ---- a conviction
 
@@ -29,25 +29,25 @@ evidence_of c = record { first = signed_of c.first; second = signed_of c.second 
 
 -- as it is reported, and its claims
 pub record Shown : Type 0 where
-  pub told : plain.Told
+  pub reported : plain.Reported
   pub evidence : Evidence
 
 abbrev pub shown : Conviction → Shown
-shown c = record { told = told c; evidence = evidence c }
+shown c = record { reported = reported c; evidence = evidence c }
 
 abbrev pub shown_of : defs.Conviction → Shown
-shown_of c = record { told = told_of c; evidence = evidence_of c }
+shown_of c = record { reported = reported_of c; evidence = evidence_of c }
 
 -- ---- all of it
 
 -- what is reported; the claims of the convictions among it; and for each listed process, whom the claims handed to it convict
 pub record Found : Type 0 where
-  pub told : plain.Findings
+  pub reported : plain.Findings
   pub evidence : List Evidence
   pub grounds : List (ℕ × List ℕ)
 
 abbrev pub found_of : Findings → List (ℕ × List ℕ) → Found
-found_of f grounds = record { told = findings f; evidence = map evidence f.convicted.items; grounds = grounds }
+found_of f grounds = record { reported = findings f; evidence = map evidence f.convicted.items; grounds = grounds }
 
 -- the processes that were listed
 abbrev pub listed_in : Found → List ℕ
@@ -63,7 +63,7 @@ grounds_of s c = (c.me, convicted s (handed_to c.turns))
 
 -- this is what is reported of the audit
 pub record IsFound (a : Audited) (f : Found) : Type 0 where
-  pub told : f.told ≡ findings_of a
+  pub reported : f.reported ≡ findings_of a
   pub evidence : f.evidence ≡ map evidence_of (convictions a.family.setting a.claims)
   pub listed : listed_in f ≡ numbers a.family
   pub grounds : (p : ℕ) → grounds_by p f.grounds ≡ plain.grounds a p

@@ -35,13 +35,13 @@ fn convictions_of(alloc: Global, claims: &Firsts<'_>) -> Result<Vec<Conviction>,
 }
 
 // What is reported of the walk when it has ended.
-fn told_of(
+fn reported_of(
     alloc: Global,
     kit: &Kit,
     correct: PidSet,
     walk: &Walk<'_>,
 ) -> Result<findings_json::Findings, NoMemory>
-    ensures told { (journals : List (List ℕ)) (sources : List plain.Source) → sources_of kit.now journals ≡ Ok sources
+    ensures reported { (journals : List (List ℕ)) (sources : List plain.Source) → sources_of kit.now journals ≡ Ok sources
         → (e : Ended (setting_of kit.now) sources correct walk.now)
         → IfOk result (λ f. findings f ≡ defs.findings_of (audited_by (setting_of kit.now) e.known)) }
     ensures evidence { (journals : List (List ℕ)) (sources : List plain.Source) → sources_of kit.now journals ≡ Ok sources
@@ -52,12 +52,12 @@ fn told_of(
     let keyed = kit.roster().processes();
     let accounts = accounts_of(alloc, walk.players())?;
     let convicted = convictions_of(alloc, walk.claims())?;
-    let told = accounts.as_slice();
+    let reported = accounts.as_slice();
     Ok(findings_json::Findings {
-        agree: agree(told),
-        bounded: bounded(told, correct),
+        agree: agree(reported),
+        bounded: bounded(reported, correct),
         honest: walk.claims().is_answered(correct),
-        sound: sound(told, keyed),
+        sound: sound(reported, keyed),
         convicted,
         accounts,
     })
@@ -75,7 +75,7 @@ pub(crate) fn findings_of(
         → IfOk result (IsFound (audited_by (setting_of kit.now) e.known)) }
 {
     let _ = kit.roster().processes(); // for the proof: the numbers of a roster rise
-    let told = told_of(alloc, kit, correct, walk)?;
+    let reported = reported_of(alloc, kit, correct, walk)?;
     let grounds = all_grounds(alloc, walk.players())?;
-    Ok(Findings::new(told, grounds))
+    Ok(Findings::new(reported, grounds))
 }

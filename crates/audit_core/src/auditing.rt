@@ -95,8 +95,8 @@ pub fn audit(
     ensures listed { IfOk result (λ f. listed_in f ≡ correct) }
 
     // Findings that are honest and bounded agree and are sound; and where they are honest, no process of `correct` is convicted.
-    ensures headline { IfOk result (λ f. FirstGiveLast f.told) }
-    ensures spared { IfOk result (λ f. f.told.honest ≡ true → All (λ t. ¬ Contains correct t.process) f.told.convicted) }
+    ensures headline { IfOk result (λ f. FirstGiveLast f.reported) }
+    ensures spared { IfOk result (λ f. f.reported.honest ≡ true → All (λ t. ¬ Contains correct t.process) f.reported.convicted) }
 {
     let _ = correct.mask(); // for the proof: the numbers of a set rise
     let walk = match walk_all(alloc, kit, correct, journals) {

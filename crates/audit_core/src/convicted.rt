@@ -4,7 +4,7 @@ ghost use Rattle.std.specs.List.{AllByRecursion};
 ghost use Rattle.message_defs.specs.Packing.{signed_of};
 ghost use Rattle.message_defs.specs.Spelling.{IsStatement, spelling};
 ghost use Rattle.stmt_codec.specs.Views.{claim as claim_of, signed, stmt};
-ghost use Rattle.claim_firsts.specs.Told.{AreSpelled, conviction as conviction_in};
+ghost use Rattle.claim_firsts.specs.Reported.{AreSpelled, conviction as conviction_in};
 ghost use Rattle.audit_core.specs.Found.{shown, shown_of};
 
 use audit_cast::Conviction as Lent;

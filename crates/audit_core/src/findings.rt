@@ -12,7 +12,7 @@ use std::mem;
 /// What an audit found of the listed processes. Contracts see it as plain data, which `IsFound` of the specs relates to what the
 /// definitions say of the kit, the listed processes and the journals.
 pub struct Findings {
-    told: findings_json::Findings,
+    reported: findings_json::Findings,
 
     // of each listed process, rising, whom the claims handed to it convict
     grounds: Vec<(Pid, PidSet)>,
@@ -21,8 +21,8 @@ pub struct Findings {
 // Written out, so that whoever drops a value makes one call (docs/CONTRIBUTING.md).
 impl Drop for Findings {
     fn drop(self) {
-        let Findings { told, grounds } = self;
-        mem::drop(told);
+        let Findings { reported, grounds } = self;
+        mem::drop(reported);
         mem::drop(grounds);
     }
 }
@@ -32,7 +32,7 @@ impl Model for Findings {
 
     ghost Value = { Found };
 
-    ghost view = { λ f. found_of f.told f.grounds.items };
+    ghost view = { λ f. found_of f.reported f.grounds.items };
 }
 
 // Whom the claims handed to the process convict; nobody where it is not listed.
@@ -51,37 +51,37 @@ impl Findings {
     ghost use Rattle.std.specs.Prelude.{◌≡◌, ◌++◌, Contains, OnErr, OnOk, map};
     ghost use Rattle.accounts.specs.Views.{account};
     ghost use Rattle.audit_defs.specs.Findings.{findings_line};
-    ghost use Rattle.findings_json.specs.Views.{told};
+    ghost use Rattle.findings_json.specs.Views.{reported};
     ghost use Rattle.audit_core.specs.Found.{evidence, found_of, grounds_by, listed_in};
 
     /// The findings of these parts.
-    pub(crate) fn new(told: findings_json::Findings, grounds: Vec<(Pid, PidSet)>) -> Findings
-        ensures { result ≡ found_of told grounds.items }
+    pub(crate) fn new(reported: findings_json::Findings, grounds: Vec<(Pid, PidSet)>) -> Findings
+        ensures { result ≡ found_of reported grounds.items }
     {
-        Findings { told, grounds }
+        Findings { reported, grounds }
     }
 
     /// What the listed processes report of themselves, by rising process number.
     pub fn accounts(&self) -> &[Account]
-        ensures { map account result.now ≡ self.now.told.accounts }
+        ensures { map account result.now ≡ self.now.reported.accounts }
     {
-        &self.told.accounts
+        &self.reported.accounts
     }
 
     /// Whom the claims convict that were handed to the listed processes or are their own words, each by two claims: by rising
     /// process number.
     pub fn convicted(&self) -> &[Conviction]
-        ensures told { map told result.now ≡ self.now.told.convicted }
+        ensures reported { map reported result.now ≡ self.now.reported.convicted }
         ensures evidence { map evidence result.now ≡ self.now.evidence }
     {
-        &self.told.convicted
+        &self.reported.convicted
     }
 
     /// Whether each valid claim of a listed process that was handed to one of them is the signer's own word.
     pub fn honest(&self) -> bool
-        ensures { result ≡ self.now.told.honest }
+        ensures { result ≡ self.now.reported.honest }
     {
-        self.told.honest
+        self.reported.honest
     }
 
     /// Whom the claims handed to this process, which is listed, convict. It takes no memory.
@@ -97,9 +97,9 @@ impl Findings {
     /// # Errors
     /// [`NoMemory`]; then `out` is as it was.
     pub fn findings_into(&self, alloc: Global, out: &mut Vec<u8>) -> Result<(), NoMemory>
-        ensures pushed { OnOk result (out.new.items ≡ out.old.items ++ findings_line self.now.told) }
+        ensures pushed { OnOk result (out.new.items ≡ out.old.items ++ findings_line self.now.reported) }
         ensures unchanged { OnErr result (out.new.items ≡ out.old.items) }
     {
-        push_findings(out, alloc, &self.told)
+        push_findings(out, alloc, &self.reported)
     }
 }

@@ -23,14 +23,14 @@ use Rattle.audit_defs.specs.Audits as audits
 use Rattle.audit_defs.specs.Audits.{Audited, AuditFault, Entry, audited}
 
 -- a conviction as it is reported: of the two statements, the number of their kind, and the bytes of each
-pub record Told : Type 0 where
+pub record Reported : Type 0 where
   pub process : ℕ
   pub kind : ℕ
   pub first : List ℕ
   pub second : List ℕ
 
-abbrev pub told_of : Conviction → Told
-told_of c = record {
+abbrev pub reported_of : Conviction → Reported
+reported_of c = record {
   process = c.process;
   kind = kind_number c.first.statement;
   first = spelling c.first.statement;
@@ -41,7 +41,7 @@ told_of c = record {
 pub record Findings : Type 0 where
   pub agree : Bool
   pub bounded : Bool
-  pub convicted : List Told
+  pub convicted : List Reported
   pub honest : Bool
   pub accounts : List Account
   pub sound : Bool
@@ -51,7 +51,7 @@ abbrev pub findings_of : Audited → Findings
 findings_of a = record {
   agree = agree (accounts a.family);
   bounded = bounded (accounts a.family) (numbers a.family);
-  convicted = map told_of (convictions a.family.setting a.claims);
+  convicted = map reported_of (convictions a.family.setting a.claims);
   honest = honest a.family;
   accounts = accounts a.family;
   sound = sound (accounts a.family) (keyed a.family.setting);
@@ -93,8 +93,8 @@ process_text a =
     ++ (codes ",\"process\":" ++ (decimal a.me ++ (codes ",\"views\":" ++ (array_text (map view_text a.views) ++ codes "}")))))
 
 -- a convicted one
-abbrev pub told_text : Told → List ℕ
-told_text t =
+abbrev pub reported_text : Reported → List ℕ
+reported_text t =
     codes "{\"first\":" ++ (hex_text t.first
     ++ (codes ",\"kind\":" ++ (decimal t.kind
     ++ (codes ",\"process\":" ++ (decimal t.process ++ (codes ",\"second\":" ++ (hex_text t.second ++ codes "}")))))))
@@ -104,7 +104,7 @@ abbrev pub findings_text : Findings → List ℕ
 findings_text f =
     codes "{\"agree\":" ++ (bool_text f.agree
     ++ (codes ",\"bounded\":" ++ (bool_text f.bounded
-    ++ (codes ",\"convicted\":" ++ (array_text (map told_text f.convicted)
+    ++ (codes ",\"convicted\":" ++ (array_text (map reported_text f.convicted)
     ++ (codes ",\"honest\":" ++ (bool_text f.honest
     ++ (codes ",\"processes\":" ++ (array_text (map process_text f.accounts)
     ++ (codes ",\"sound\":" ++ (bool_text f.sound ++ codes "}")))))))))))

@@ -18,15 +18,15 @@ Line listed before now line = (a : Audits listed before now) × (line ≡ line_o
 pub line_is : (listed : List ℕ) (before now : Option (List ℕ)) (input : Input) (f : core.Found) (empty line : List ℕ)
     → Ends input_of before now (Ok input)
     → (a : Audited) × (audited input.kit listed input.journals ≡ Ok a) × core.IsFound a f
-    → FirstGiveLast f.told → empty ≡ [] → line ≡ empty ++ findings_line f.told → Line listed before now line
+    → FirstGiveLast f.reported → empty ≡ [] → line ≡ empty ++ findings_line f.reported → Line listed before now line
 line_is listed before now input f empty line read found headline nothing written =
     let a : Audits listed before now = record {
       audited = found.0;
       all = all_audited listed before now input read found.0 found.1;
-      headline = subst (λ (t : Findings). FirstGiveLast t) found.2.told headline;
+      headline = subst (λ (t : Findings). FirstGiveLast t) found.2.reported headline;
     } in (
       a,
-      written ∙ ap (λ (t : List ℕ). t ++ findings_line f.told) nothing ∙ ap findings_line found.2.told,
+      written ∙ ap (λ (t : List ℕ). t ++ findings_line f.reported) nothing ∙ ap findings_line found.2.reported,
     )
 
 module _ (listed : List ℕ) (before now old new : Option (List ℕ)) (line : List ℕ) (is : Line listed before now line) where

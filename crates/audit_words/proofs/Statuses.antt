@@ -13,7 +13,7 @@ use Rattle.audit_words.specs.declared.stops.Stop.{Stop}
 use Rattle.audit_words.specs.declared.stops.Stop.TheVariants.{NoMemory, Read, Write, Input}
 use Rattle.audit_words.specs.Stops.{line_of, status_of, why_of}
 use Rattle.audit_words.specs.Running.{Audits, HasFindings, HasNoFindings, Refuses, Unfound}
-use Rattle.audit_words.proofs.Reasons.{Told}
+use Rattle.audit_words.proofs.Reasons.{Reported}
 
 -- ---- statuses
 
@@ -123,13 +123,13 @@ same_reason listed (Some bytes) now r status none =
 -- ---- a run that stops
 
 module _ (listed : List ℕ) (before now : Option (List ℕ)) (stop : Stop) (result : ℕ)
-    (told : (fault : Fault) → stop ≡ Input fault → Told listed before now fault) (status : result ≢ 1 → result ≡ status_of stop) where
+    (reported : (fault : Fault) → stop ≡ Input fault → Reported listed before now fault) (status : result ≢ 1 → result ≡ status_of stop) where
   pub stops : (result ≡ 7) ⊎ (result ≡ 8) → (old new : Option (List ℕ)) (f f' : ℕ) → (result ≢ 1 → Says (line_of stop) old new f f')
       → Unfound listed result before now old new f f'
   stops which old new f f' says =
       let other : result ≢ 1 = λ e. elim which [ inl a ↦ omega (arith, a, e) | inr b ↦ omega (arith, b, e) ] in
       let at = at_input stop (elim which [ inl a ↦ inl (sym (status other) ∙ a) | inr b ↦ inr (sym (status other) ∙ b) ]) in
-      let t = told at.0 at.1 in
+      let t = reported at.0 at.1 in
       record {
         refuses = t.0;
         is_status = t.2 ∙ ap status_of (sym at.1) ∙ sym (status other);
@@ -152,7 +152,7 @@ module _ (listed : List ℕ) (before now : Option (List ℕ)) (stop : Stop) (res
 
   module _ (no_read : stop ≢ Read) (no_write : stop ≢ Write) where
     pub never_stops : HasFindings listed before → (result ≡ 0) ⊎ (result ≡ 1)
-    never_stops some = by_stop 0 (λ fault e. absurd (none_found listed before now (told fault e).0 some)) no_read no_write
+    never_stops some = by_stop 0 (λ fault e. absurd (none_found listed before now (reported fault e).0 some)) no_read no_write
 
     pub stops_so : (s : ℕ) → HasNoFindings listed s before → (result ≡ s) ⊎ (result ≡ 1)
     stops_so s none = by_stop s of_fault no_read no_write
@@ -163,5 +163,5 @@ module _ (listed : List ℕ) (before now : Option (List ℕ)) (stop : Stop) (res
             of : (t : Bool) → (result == 1) ≡ t → (result ≡ s) ⊎ (result ≡ 1)
             of true is = inr (eqb-true result 1 is)
             of false is =
-                let t = told fault e in
+                let t = reported fault e in
                 inl (status (eqb-false result 1 is) ∙ ap status_of e ∙ sym t.2 ∙ same_reason listed before now t.0 s none)

@@ -2,4 +2,4 @@ pub mod Shown
 pub mod Fewer
 pub mod Agreeing
 pub mod Commits
-pub mod Told
+pub mod Reported

@@ -1,3 +1,3 @@
 pub mod Chains
 pub mod Commits
-pub mod Told
+pub mod Reported

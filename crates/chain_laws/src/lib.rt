@@ -3,7 +3,7 @@
 
 ghost use Rattle.chain_laws.specs.Chains.{ChainIsInstalled, ChainIsOfAll, ChainsDoNotFork, GenesisIsInstalled, GenesisIsOfAll};
 ghost use Rattle.chain_laws.specs.Commits.{CommitShows};
-ghost use Rattle.chain_laws.specs.Told.{AnswerTellsViews};
+ghost use Rattle.chain_laws.specs.Reported.{AnswerTellsViews};
 
 /// A chain may begin with the genesis.
 pub fn genesis_is_of_all()

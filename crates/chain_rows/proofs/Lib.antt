@@ -1,5 +1,5 @@
 pub mod Shown
 pub mod Frames
-pub mod Told
+pub mod Reported
 pub mod Whole
 pub mod Premises

@@ -16,7 +16,7 @@ use Rattle.message_defs.specs.Claims.{claims_on, claims_of_group, claims_of_grou
 use Rattle.input_defs.specs.Fronts.{front_at}
 use Rattle.chain_defs.specs.Advance.{proof_said, advance}
 use Rattle.chain_text_defs.specs.Chains.{proof_in, chain_at, chain_of}
-use Rattle.chain_rows.specs.Told.{says}
+use Rattle.chain_rows.specs.Reported.{says}
 use Rattle.chain_rows.specs.Whole.{input, Whole}
 
 is_input : chain_of input ≡ says (codes "view 0 : 0\n" ++ codes "view 1 : 0 1\n" ++ codes "stop 7 few 15 0\n") 7

@@ -1,6 +1,6 @@
 pub mod Scripts
 pub mod Shown
 pub mod Frames
-pub mod Told
+pub mod Reported
 pub mod Whole
 pub mod Premises

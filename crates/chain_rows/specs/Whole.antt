@@ -1,7 +1,7 @@
 -- Row «chain_of_two_views», whole: the kit of `keygen 1 2 plain:100`, the Proof with which process 0 answers, and the same once more.
 use Rattle.std.specs.Prelude.{◌≡◌, ℕ, List, ◌++◌, codes}
 use Rattle.chain_text_defs.specs.Chains.{chain_of}
-use Rattle.chain_rows.specs.Told.{says}
+use Rattle.chain_rows.specs.Reported.{says}
 
 unfoldable pub input : List ℕ
 input =

@@ -4,7 +4,7 @@
 ghost use Rattle.chain_rows.specs.Frames.{Frames};
 ghost use Rattle.chain_rows.specs.Premises.{Premises};
 ghost use Rattle.chain_rows.specs.Shown.{Shown};
-ghost use Rattle.chain_rows.specs.Told.{Told};
+ghost use Rattle.chain_rows.specs.Reported.{Reported};
 ghost use Rattle.chain_rows.specs.Whole.{Whole};
 
 /// What claims show, and what they do not: too few, of others, twice, of two ranks, forged, impossible.
@@ -18,8 +18,8 @@ pub fn frame_rows()
 {}
 
 /// What the program says of proof lines.
-pub fn told_rows()
-    ensures { Told }
+pub fn reported_rows()
+    ensures { Reported }
 {}
 
 /// The answer to a whole input: a kit, the proof with which a process answers, and the same proof once more.

@@ -24,12 +24,12 @@ use Rattle.chain_words.specs.Stops.{of_front, of_kit, words_of}
 is : (a b : Fault) → Input a ≡ Input b → a ≡ b
 is a b e = cc
 
-kit_told : (f : KitFault) (fault : Fault) → of_kit f ≡ Input fault → (g : kits.KitFault) × (fault_of f ≡ Some g) × (kit_words g ≡ words_of fault)
-kit_told (faults.Line n) fault e = (kits.Line n, refl, ap words_of (is _ fault e))
-kit_told (faults.Repeated n) fault e = (kits.Repeated n, refl, ap words_of (is _ fault e))
-kit_told (faults.Missing n) fault e = (kits.Missing n, refl, ap words_of (is _ fault e))
-kit_told (faults.KeyMismatch n made listed) fault e = (kits.KeyMismatch n _ _, refl, ap words_of (is _ fault e))
-kit_told faults.NoMemory fault e = absurd cc
+kit_reported : (f : KitFault) (fault : Fault) → of_kit f ≡ Input fault → (g : kits.KitFault) × (fault_of f ≡ Some g) × (kit_words g ≡ words_of fault)
+kit_reported (faults.Line n) fault e = (kits.Line n, refl, ap words_of (is _ fault e))
+kit_reported (faults.Repeated n) fault e = (kits.Repeated n, refl, ap words_of (is _ fault e))
+kit_reported (faults.Missing n) fault e = (kits.Missing n, refl, ap words_of (is _ fault e))
+kit_reported (faults.KeyMismatch n made listed) fault e = (kits.KeyMismatch n _ _, refl, ap words_of (is _ fault e))
+kit_reported faults.NoMemory fault e = absurd cc
 
 -- ---- an answer
 
@@ -70,9 +70,9 @@ module _ (answer : List ℕ → Answer) (behind_kit : Front → Answer)
       → Settles answer before now (behind [] (stopped (words_of fault)))
   front_fails fronts.Read fault e h = absurd cc
   front_fails (fronts.Kit k) fault e h =
-      let told = kit_told k fault e in
-      let has : HasFault before now [] told.0 = rw told.1 at h in
-      subst (λ (words : List (List ℕ)). Settles answer before now (behind [] (stopped words))) told.2 (no_kit told.0 has)
+      let reported = kit_reported k fault e in
+      let has : HasFault before now [] reported.0 = rw reported.1 at h in
+      subst (λ (words : List (List ℕ)). Settles answer before now (behind [] (stopped words))) reported.2 (no_kit reported.0 has)
 
   pub no_front : (old : Option (List ℕ)) (ahead : List ℕ) (f : FrontFault) (fault : Fault) → ahead ≡ [] → of_front f ≡ Input fault
       → IfSome (front_fault f) (HasFault before now ahead) → FaultyBy answer (words_of fault) before now old old

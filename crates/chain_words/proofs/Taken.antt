@@ -52,7 +52,7 @@ none_more (Err words) e = absurd cc
 
 pub words_more : (r : Result View (List (List ℕ))) (words : List (List ℕ)) → one_more r ≡ Err words → r ≡ Err words
 words_more (Ok u) words e = absurd cc
-words_more (Err told) words e = ap (λ (x : List (List ℕ)). let o : Result View (List (List ℕ)) = Err x in o) (err_is told words e)
+words_more (Err reported) words e = ap (λ (x : List (List ℕ)). let o : Result View (List (List ℕ)) = Err x in o) (err_is reported words e)
 
 module _ (kit : Kit) (n : ℕ) (v : View) (ahead : List ℕ) (before now : Option (List ℕ)) (l : Taken) where
   abbrev Reads : Next → Type 0

@@ -133,8 +133,8 @@ module _ (s : Setting) (claims own : List Claim) (t : Table) (saw : Saw s claims
       (ap (find (is_beside c)) saw.firsts ∙ find-firsts c [] (filter (is_valid s) claims) ∙ at.1) in
       (at.0, found.0, found.1)
 
-  told : any_second ≡ false → all_answered ≡ true → IsAnswered s claims own listed
-  told none all = record {
+  reported : any_second ≡ false → all_answered ≡ true → IsAnswered s claims own listed
+  reported none all = record {
     spared = λ q there convicts.
         let d = second-of q convicts in
         clash (mem-list_any (λ (c : Claim). is_listed listed c.signer) t.seconds d.0 d.1
@@ -177,7 +177,7 @@ module _ (s : Setting) (claims own : List Claim) (t : Table) (saw : Saw s claims
 
   pub is-answered : IsTrue (not any_second && all_answered) ↔ IsAnswered s claims own listed
   is-answered = (
-    λ e. told (no-is-false any_second (and-first (not any_second) all_answered e)) (and-second (not any_second) all_answered e),
+    λ e. reported (no-is-false any_second (and-first (not any_second) all_answered e)) (and-second (not any_second) all_answered e),
     λ is. both-true (not any_second) all_answered (ap not (no-second is)) (answers is),
   )
 

@@ -8,4 +8,4 @@ pub mod Pairing
 pub mod Results
 pub mod Seeing
 pub mod Telling
-pub mod Told
+pub mod Reported

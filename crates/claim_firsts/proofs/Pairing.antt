@@ -57,10 +57,10 @@ module _ (own : List Claim) (c : Claim) (none : NoneConflict own) where
   quiet b f same any =
       let at = find-is (is_on_slot c) own b f in
       let bad = list_any-mem (is_conflict c) own any in
-      let told = conflict-test c bad.0 bad.2 in
+      let reported = conflict-test c bad.0 bad.2 in
       let on = same_slot-is (slot_of b.statement) (slot_of c.statement) at.1 in
-      let one : bad.0.statement ≡ b.statement = none bad.0 b bad.1 at.0 (told.0 ∙ sym on) in
-      let hit : is_conflict c b ≡ true = test-conflict c b on (λ is. told.1 (one ∙ is)) in
+      let one : bad.0.statement ≡ b.statement = none bad.0 b bad.1 at.0 (reported.0 ∙ sym on) in
+      let hit : is_conflict c b ≡ true = test-conflict c b on (λ is. reported.1 (one ∙ is)) in
       cc
 
   first-second : (o : Option Claim) → find (is_on_slot c) own ≡ o → (k : Bool) → list_any (is_conflict c) own ≡ k

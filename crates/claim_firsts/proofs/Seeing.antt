@@ -28,8 +28,8 @@ module _ (s : Setting) (claims own : List Claim) (t : Table) (saw : Saw s claims
   pub found : find (is_beside c) t.firsts ≡ find (is_on_slot c) (claims_by s claims c.signer)
   found = ap (find (is_beside c)) saw.firsts ∙ first-is s claims c
 
-  told : contradicted t c ≡ option_map (is_conflict c) (find (is_on_slot c) (claims_by s claims c.signer))
-  told = ap (option_map (is_conflict c)) found
+  reported : contradicted t c ≡ option_map (is_conflict c) (find (is_on_slot c) (claims_by s claims c.signer))
+  reported = ap (option_map (is_conflict c)) found
 
   -- ---- the second claims
 
@@ -87,7 +87,7 @@ module _ (s : Setting) (claims own : List Claim) (t : Table) (saw : Saw s claims
   own-second q is = subst (λ (q : ℕ). find (λ (d : Claim). d.signer == q) (seeing t c).seconds ≡ second_of s (claims ++ c ∷ []) q) is
       (own-found (contradicted t c)
       ∙ ap (λ o. second-then o (contradicted t c) c) (saw.seconds c.signer)
-      ∙ ap (λ o. second-then (second_of s claims c.signer) o c) told
+      ∙ ap (λ o. second-then (second_of s claims c.signer) o c) reported
       ∙ sym (second-more (claims_by s claims c.signer) c)
       ∙ ap (λ cs. second-in (pair_behind [] cs)) (sym (by-more c.signer true (eq-eqb c.signer c.signer refl))))
 
@@ -137,7 +137,7 @@ module _ (s : Setting) (claims own : List Claim) (t : Table) (saw : Saw s claims
 
   pub saw-more : Saw s (claims ++ c ∷ []) own (seeing t c)
   saw-more = record {
-    firsts = ap (λ o. (seeing_by t c o).firsts) told
+    firsts = ap (λ o. (seeing_by t c o).firsts) reported
         ∙ firsts-by (find (is_on_slot c) (claims_by s claims c.signer)) refl
         ∙ sym firsts-after;
     seconds = λ q. second-after q (c.signer == q) refl;

@@ -5,7 +5,7 @@ use Rattle.std.specs.List.{cons_option}
 use Rattle.std.proofs.lemmas.List.{append-nil, append_assoc, map-append}
 use Rattle.conviction_defs.specs.Convictions as plain
 use Rattle.claim_firsts.specs.declared.conviction.Conviction.{Conviction}
-use Rattle.claim_firsts.specs.Told.{conviction}
+use Rattle.claim_firsts.specs.Reported.{conviction}
 
 module _ (f : ℕ → Option plain.Conviction) (all : List Conviction) (left rest : List ℕ) (q : ℕ) (whole : List plain.Conviction)
     (so : map conviction all ++ filter_map f left ≡ whole) (next : left ≡ q ∷ rest) where
@@ -14,8 +14,8 @@ module _ (f : ℕ → Option plain.Conviction) (all : List Conviction) (left res
   by-next o e = ap (λ o. map conviction all ++ cons_option o (filter_map f rest)) e
       ∙ ap (λ ps. map conviction all ++ filter_map f ps) (sym next) ∙ so
 
-  pub next-told : (c : Conviction) → Some (conviction c) ≡ f q → map conviction (all ++ c ∷ []) ++ filter_map f rest ≡ whole
-  next-told c e = ap (λ cs. cs ++ filter_map f rest) (map-append conviction all (c ∷ []))
+  pub next-reported : (c : Conviction) → Some (conviction c) ≡ f q → map conviction (all ++ c ∷ []) ++ filter_map f rest ≡ whole
+  next-reported c e = ap (λ cs. cs ++ filter_map f rest) (map-append conviction all (c ∷ []))
       ∙ append_assoc (map conviction all) (conviction c ∷ []) (filter_map f rest)
       ∙ by-next (Some (conviction c)) e
 

@@ -5,4 +5,4 @@ pub mod First
 pub mod Own
 pub mod Entries
 pub mod Answered
-pub mod Told
+pub mod Reported

@@ -18,7 +18,7 @@ ghost use Rattle.claim_firsts.specs.Seeing.{accusing, answering, contradicted, f
 ghost use Rattle.claim_firsts.specs.Answered.{is_answered, is_listed};
 ghost use Rattle.claim_firsts.specs.Entries.{kept_claim, signers_of};
 ghost use Rattle.claim_firsts.specs.First.{is_first};
-ghost use Rattle.claim_firsts.specs.Told.{AreSpelled, conviction, conviction_by};
+ghost use Rattle.claim_firsts.specs.Reported.{AreSpelled, conviction, conviction_by};
 
 use crate::conviction::Conviction;
 use crate::kept::{Kept, claim_again, is_conflict, is_same};
@@ -325,7 +325,7 @@ impl<'a> Firsts<'a> {
 
     // The conviction of the process, where two of its claims conflict.
     fn conviction_of(&self, q: Pid) -> Option<Conviction<'_>>
-        ensures told { option_map conviction result ≡ conviction_by self.now q }
+        ensures reported { option_map conviction result ≡ conviction_by self.now q }
         ensures range { IfSome result AreSpelled }
     {
         match second_of(&self.seconds, q) {
@@ -346,14 +346,14 @@ impl<'a> Firsts<'a> {
 
     // The convictions of these processes, in their order.
     fn convictions_of(&self, alloc: Global, of: PidSet) -> Result<Vec<Conviction<'_>>, NoMemory>
-        ensures told { IfOk result (λ all. map conviction all.items ≡ filter_map (conviction_by self.now) of) }
+        ensures reported { IfOk result (λ all. map conviction all.items ≡ filter_map (conviction_by self.now) of) }
         ensures range { IfOk result (λ all. AllByRecursion AreSpelled all.items) }
     {
         let mut all = Vec::new(alloc);
         for q in of.iter() {
-            if let Some(told) = self.conviction_of(q) {
+            if let Some(reported) = self.conviction_of(q) {
                 all.reserve(1)?;
-                let Ok(()) = all.push(told) else {
+                let Ok(()) = all.push(reported) else {
                     unreachable!()
                 };
             }
@@ -365,7 +365,7 @@ impl<'a> Firsts<'a> {
     /// with one before it, and the earliest one of that kind and slot, both with their signatures. The roster is one that rises, as every
     /// `Roster` does.
     pub fn convictions(&self, alloc: Global) -> Result<Vec<Conviction<'_>>, NoMemory>
-        ensures told { IfOk result (λ all. (s : Setting) (claims own : List plain.Claim) → IsRising s.roster → Saw s claims own self.now
+        ensures reported { IfOk result (λ all. (s : Setting) (claims own : List plain.Claim) → IsRising s.roster → Saw s claims own self.now
             → map conviction all.items ≡ defs.convictions s claims) }
         ensures range { IfOk result (λ all. AllByRecursion AreSpelled all.items) }
     {

@@ -106,8 +106,12 @@ fn a_claim_is_kept_and_lent(rt: HostRuntime) -> Result<(), Fail> {
 }
 
 #[test]
-fn faults_are_told(rt: HostRuntime) -> Result<(), Fail> {
-    let told = format!(in rt.alloc(); "{}, {}", SnapshotFault::Image(7), SnapshotFault::NoMemory)?;
-    assert!(rt; told.as_str() == "no image: the fault stands at byte 7, out of memory");
+fn faults_are_reported(rt: HostRuntime) -> Result<(), Fail> {
+    let reported = format!(in rt.alloc();
+        "{}, {}",
+        SnapshotFault::Image(7),
+        SnapshotFault::NoMemory
+    )?;
+    assert!(rt; reported.as_str() == "no image: the fault stands at byte 7, out of memory");
     Ok(())
 }

@@ -58,8 +58,8 @@ pub conflict-pair : (cs : List Claim) → has_conflict cs ≡ true → Pair cs
 conflict-pair cs e =
     let c = list_any-mem (λ c. list_any (is_conflict c) cs) cs e in
     let b = list_any-mem (is_conflict c.0) cs c.2 in
-    let told = conflict-test c.0 b.0 b.2 in
-    record { one = b.0; other = c.0; one_in = b.1; other_in = c.1; slots = told.0; differ = told.1 }
+    let reported = conflict-test c.0 b.0 b.2 in
+    record { one = b.0; other = c.0; one_in = b.1; other_in = c.1; slots = reported.0; differ = reported.1 }
 
 pub pair-conflict : (cs : List Claim) → Pair cs → has_conflict cs ≡ true
 pair-conflict cs p =
@@ -185,22 +185,22 @@ module _ (s : Setting) where
       forward : list_any (λ b. is_conflict c b && is_valid s b) rest ≡ true → has_conflict (valid_on s on (before ++ rest)) ≡ true
       forward e =
           let b = list_any-mem (λ b. is_conflict c b && is_valid s b) rest e in
-          let told = conflict-test c b.0 (and-first (is_conflict c b.0) (is_valid s b.0) b.2) in
+          let reported = conflict-test c b.0 (and-first (is_conflict c b.0) (is_valid s b.0) b.2) in
           ap has_conflict after ∙ pair-conflict (valid_on s on rest) (record {
             one = b.0;
             other = c;
             one_in = mem-on on rest b.0 (record {
               there = b.1;
-              slot = told.0 ∙ slot;
+              slot = reported.0 ∙ slot;
               valid = and-second (is_conflict c b.0) (is_valid s b.0) b.2;
             });
             other_in = mem-on on rest c (record { there = there; slot = slot; valid = valid });
-            slots = told.0;
-            differ = told.1;
+            slots = reported.0;
+            differ = reported.1;
           })
 
-      told-by : (b : Claim) → On on rest b → b.statement ≢ c.statement → list_any (λ b. is_conflict c b && is_valid s b) rest ≡ true
-      told-by b is differ = mem-list_any (λ b. is_conflict c b && is_valid s b) rest b is.there
+      reported-by : (b : Claim) → On on rest b → b.statement ≢ c.statement → list_any (λ b. is_conflict c b && is_valid s b) rest ≡ true
+      reported-by b is differ = mem-list_any (λ b. is_conflict c b && is_valid s b) rest b is.there
           (both-true (is_conflict c b) (is_valid s b) (test-conflict c b (is.slot ∙ sym slot) differ) is.valid)
 
       backward : has_conflict (valid_on s on (before ++ rest)) ≡ true → list_any (λ b. is_conflict c b && is_valid s b) rest ≡ true
@@ -209,8 +209,8 @@ module _ (s : Setting) where
           let one = on-mem on rest p.one p.one_in in
           let other = on-mem on rest p.other p.other_in in
           elim (true-or-false (same_statement p.one.statement c.statement)) [
-            | inl same ↦ told-by p.other other (λ is. p.differ
+            | inl same ↦ reported-by p.other other (λ is. p.differ
                 (same_statement-is p.one.statement c.statement same ∙ sym is))
-            | inr differ ↦ told-by p.one one (λ is.
+            | inr differ ↦ reported-by p.one one (λ is.
                 absurd (let yes' = is-same_statement p.one.statement c.statement is in cc))
           ]

@@ -54,7 +54,7 @@ module _ (s : Setting) where
       let own : List Claim = claims_by s claims q in
       let c = list_any-mem (λ c. list_any (is_conflict c) own) own e in
       let b = list_any-mem (is_conflict c.0) own c.2 in
-      let told = conflict-test c.0 b.0 b.2 in
+      let reported = conflict-test c.0 b.0 b.2 in
       let one = of-signer claims q b.0 b.1 in
       let other = of-signer claims q c.0 c.1 in
       record {
@@ -65,7 +65,7 @@ module _ (s : Setting) where
         signer = one.1;
         one_valid = one.2;
         other_valid = other.2;
-        conflict = (one.1 ∙ sym other.1, told.0, told.1);
+        conflict = (one.1 ∙ sym other.1, reported.0, reported.1);
       }
 
   pub by-convicts : (claims : List Claim) (q : ℕ) → Convicts s claims q → is_convicted s claims q ≡ true
@@ -96,8 +96,8 @@ module _ (s : Setting) where
       let own : List Claim = claims_by s claims q in
       let c = list_any-mem (λ c. list_any (is_conflict c) own) own is in
       let b = list_any-mem (is_conflict c.0) own c.2 in
-      let told = conflict-test c.0 b.0 b.2 in
-      told.1 (pair-none [] own (λ d f m. absurd m) e b.0 c.0 b.1 c.1 told.0)
+      let reported = conflict-test c.0 b.0 b.2 in
+      reported.1 (pair-none [] own (λ d f m. absurd m) e b.0 c.0 b.1 c.1 reported.0)
 
   -- one conviction of each
   each-one : (claims : List Claim) (ks : List ℕ)
@@ -105,12 +105,12 @@ module _ (s : Setting) where
   each-one claims [] = refl
   each-one claims (k ∷ ks) = go (pair_behind [] (claims_by s claims k)) refl (is_convicted s claims k) refl (each-one claims ks)
     where
-      told : Option (Claim × Claim) → Option Conviction
-      told = option_map (λ pair. record { process = k; first = pair.0; second = pair.1 })
+      reported : Option (Claim × Claim) → Option Conviction
+      reported = option_map (λ pair. record { process = k; first = pair.0; second = pair.1 })
 
       go : (o : Option (Claim × Claim)) → pair_behind [] (claims_by s claims k) ≡ o → (b : Bool) → is_convicted s claims k ≡ b
           → map (λ (c : Conviction). c.process) (filter_map (conviction_of s claims) ks) ≡ filter (is_convicted s claims) ks
-          → map (λ (c : Conviction). c.process) (cons_option (told o) (filter_map (conviction_of s claims) ks))
+          → map (λ (c : Conviction). c.process) (cons_option (reported o) (filter_map (conviction_of s claims) ks))
           ≡ cond b (k ∷ filter (is_convicted s claims) ks) (filter (is_convicted s claims) ks)
       go (Some pair) e true t rest = ap (λ qs. k ∷ qs) rest
       go (Some pair) e false t rest = absurd (let is = pair-convicts claims k pair e in cc)

@@ -91,9 +91,9 @@ same-pair x u v = same-test _ _
     (let same = yes-is (Update-discrete ℕ_discrete u v) e in λ i. (x, same i)))
 
 -- what the set tells before, the set with the update tells after
-pub perceives-told : (set : Perceived) (p : Process) (u : Update) → TellsPerceived set p
+pub perceives-reported : (set : Perceived) (p : Process) (u : Update) → TellsPerceived set p
     → TellsPerceived (with_update set u) (perceives p u)
-perceives-told set p u tells = go (is_perceived p (p.pool.view.number, u)) refl
+perceives-reported set p u tells = go (is_perceived p (p.pool.view.number, u)) refl
   where
     x : ℕ
     x = p.pool.view.number

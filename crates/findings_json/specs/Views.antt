@@ -6,15 +6,15 @@ use Rattle.findings_json.specs.declared.findings.Conviction.{Conviction}
 use Rattle.findings_json.specs.declared.findings.Findings.{Findings}
 
 -- a conviction, as it is reported
-abbrev pub told : Conviction → plain.Told
-told c = record { process = c.process; kind = c.kind; first = c.first.statement; second = c.second.statement }
+abbrev pub reported : Conviction → plain.Reported
+reported c = record { process = c.process; kind = c.kind; first = c.first.statement; second = c.second.statement }
 
 -- the findings
 abbrev pub findings : Findings → plain.Findings
 findings f = record {
   agree = f.agree;
   bounded = f.bounded;
-  convicted = map told f.convicted.items;
+  convicted = map reported f.convicted.items;
   honest = f.honest;
   accounts = map account f.accounts.items;
   sound = f.sound;

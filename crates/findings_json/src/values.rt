@@ -5,7 +5,7 @@ ghost use Rattle.hex.specs.Hex.{IsBytes, encode_lower};
 ghost use Rattle.serde_json.specs.Data.{boolean, put as with_member};
 ghost use Rattle.serde_json.specs.View.{view, members_view};
 ghost use Rattle.accounts.specs.Views.{account};
-ghost use Rattle.findings_json.specs.Views.{told as told_of, findings as findings_of};
+ghost use Rattle.findings_json.specs.Views.{reported as reported_of, findings as findings_of};
 ghost use Rattle.findings_laws.specs.Values as plain;
 ghost use Rattle.findings_laws.specs.Laws.{AreBytes};
 
@@ -90,14 +90,14 @@ fn processes_value(alloc: Global, accounts: &[Account]) -> Result<Value, NoMemor
 }
 
 // The object of these members.
-fn told_object(
+fn reported_object(
     alloc: Global,
     first: String,
     kind: u8,
     process: u8,
     second: String,
 ) -> Result<Value, NoMemory>
-    ensures { IfOk result (λ v. view v ≡ plain.told_object (string_bytes first) kind process (string_bytes second)) }
+    ensures { IfOk result (λ v. view v ≡ plain.reported_object (string_bytes first) kind process (string_bytes second)) }
 {
     let value =
         json!(in alloc; {"first": first, "kind": kind, "process": process, "second": second})?;
@@ -113,24 +113,24 @@ fn hex_text(alloc: Global, bytes: &[u8]) -> Result<String, NoMemory>
 }
 
 // A conviction.
-fn told_value(alloc: Global, c: &Conviction) -> Result<Value, NoMemory>
-    ensures value { IfOk result (λ v. view v ≡ plain.told_data (told_of c.now)) }
-    ensures bytes { IfOk result (λ v. AreBytes (told_of c.now)) }
+fn reported_value(alloc: Global, c: &Conviction) -> Result<Value, NoMemory>
+    ensures value { IfOk result (λ v. view v ≡ plain.reported_data (reported_of c.now)) }
+    ensures bytes { IfOk result (λ v. AreBytes (reported_of c.now)) }
 {
     let first = hex_text(alloc, c.first.statement.bytes())?;
     let second = hex_text(alloc, c.second.statement.bytes())?;
-    told_object(alloc, first, c.kind, c.process.get(), second)
+    reported_object(alloc, first, c.kind, c.process.get(), second)
 }
 
 // All of them.
 #[tactic(auto, using(serde_json::specs::declared::value::Value::the_lemmas))]
 fn convicted_value(alloc: Global, convicted: &[Conviction]) -> Result<Value, NoMemory>
-    ensures value { IfOk result (λ v. view v ≡ plain.array_of plain.told_data (map told_of convicted.now)) }
-    ensures bytes { IfOk result (λ v. AllByRecursion AreBytes (map told_of convicted.now)) }
+    ensures value { IfOk result (λ v. view v ≡ plain.array_of plain.reported_data (map reported_of convicted.now)) }
+    ensures bytes { IfOk result (λ v. AllByRecursion AreBytes (map reported_of convicted.now)) }
 {
     let mut all = Vec::new(alloc);
     'convicted: for c in convicted {
-        let value = told_value(alloc, c)?;
+        let value = reported_value(alloc, c)?;
         all.push(value)?;
     }
     Ok(Value::Array(all))

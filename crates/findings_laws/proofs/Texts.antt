@@ -12,8 +12,8 @@ use Rattle.serde_json.proofs.OnLiterals.{serde_json_on_literals}
 use Rattle.std.specs.List.{AllByRecursion}
 use Rattle.group_defs.specs.Views.{View}
 use Rattle.group_defs.specs.Accounts.{Account}
-use Rattle.audit_defs.specs.Findings.{Told, Findings, bool_text, array_text, hex_text, view_text, process_text, told_text, findings_text, delivered_in_all}
-use Rattle.findings_laws.specs.Values.{array_of, number_of, hex_of, view_data, process_data, told_data, findings_data}
+use Rattle.audit_defs.specs.Findings.{Reported, Findings, bool_text, array_text, hex_text, view_text, process_text, reported_text, findings_text, delivered_in_all}
+use Rattle.findings_laws.specs.Values.{array_of, number_of, hex_of, view_data, process_data, reported_data, findings_data}
 use Rattle.findings_laws.specs.Laws.{AreBytes, FindingsAreCompact}
 
 -- ---- hexadecimal digits want no escape
@@ -92,9 +92,9 @@ process-is a = ap (λ (t : List ℕ). codes "{\"delivered\":" ++ (decimal (deliv
     ++ (codes ",\"process\":" ++ (decimal a.me ++ (codes ",\"views\":" ++ (t ++ codes "}"))))))
     (array-is view_data view_text Always (λ v p. view-is v) a.views (always a.views))
 
-told-is : (t : Told) → AreBytes t → compact_text (told_data t) ≡ told_text t
+reported-is : (t : Reported) → AreBytes t → compact_text (reported_data t) ≡ reported_text t
 unfolding serde_json_on_literals
-told-is t h = λ i. codes "{\"first\":" ++ (hex-is t.first h.0 i
+reported-is t h = λ i. codes "{\"first\":" ++ (hex-is t.first h.0 i
     ++ (codes ",\"kind\":" ++ (decimal t.kind
     ++ (codes ",\"process\":" ++ (decimal t.process ++ (codes ",\"second\":" ++ (hex-is t.second h.1 i ++ codes "}")))))))
 
@@ -103,7 +103,7 @@ unfolding serde_json_on_literals
 findings-is f h = λ i.
     codes "{\"agree\":" ++ (bool-is f.agree i
     ++ (codes ",\"bounded\":" ++ (bool-is f.bounded i
-    ++ (codes ",\"convicted\":" ++ (array-is told_data told_text AreBytes told-is f.convicted h i
+    ++ (codes ",\"convicted\":" ++ (array-is reported_data reported_text AreBytes reported-is f.convicted h i
     ++ (codes ",\"honest\":" ++ (bool-is f.honest i
     ++ (codes ",\"processes\":" ++ (array-is process_data process_text Always (λ a p. process-is a) f.accounts (always f.accounts) i
     ++ (codes ",\"sound\":" ++ (bool-is f.sound i ++ codes "}")))))))))))
@@ -117,7 +117,7 @@ process-whole : (a : Account) → has_float (process_data a) ≡ false
 process-whole a = λ i. no-floats view_data view-whole a.views i || false
 
 pub findings-whole : (f : Findings) → has_float (findings_data f) ≡ false
-findings-whole f = λ i. no-floats told_data (λ t. refl) f.convicted i || (no-floats process_data process-whole f.accounts i || false)
+findings-whole f = λ i. no-floats reported_data (λ t. refl) f.convicted i || (no-floats process_data process-whole f.accounts i || false)
 
 pub findings_are_compact : FindingsAreCompact
 findings_are_compact f h = (findings-whole f, findings-is f h)

@@ -14,7 +14,7 @@ use Rattle.safety_laws.proofs.ViewsOf.{current-delivered}
 use Rattle.store_defs.specs.Stores.{Store, answer_bytes, answer_to, applied, store_after}
 use Rattle.store_defs.specs.Records.{Reply}
 use Rattle.store_defs.specs.Holding.{Beginning, Replies, delivered_below, holds, payloads_of, store_at}
-use Rattle.store_defs.specs.Serving.{NoLeaf, NoStore, Place, ReplyWord, Server, Signed, ToldReply, after_message, after_note, after_notes, held, position_at, reply_to, signed_reply, told_of, unsigned_reply}
+use Rattle.store_defs.specs.Serving.{NoLeaf, NoStore, Place, ReplyWord, Server, Signed, ReportedReply, after_message, after_note, after_notes, held, position_at, reply_to, signed_reply, reported_of, unsigned_reply}
 use Rattle.store_defs.specs.Laws.{Follows}
 use Rattle.following_laws.specs.Laws.{OpensPlaces, TurnOpensPlaces, TurnReplies}
 use Rattle.following_laws.proofs.Growing.{Extends, below-is, extends-in, holds-is, longer, still-replies, store-is}
@@ -162,27 +162,27 @@ module _ (setting : Setting) (p : Process) (t : Turn) (q : Place) (s : Server) (
   abbrev so : TurnSo p (after setting p t) (outcome setting p t).notes
   so = turn-so setting p t
 
-  abbrev told : Server
-  told = after_notes q s (map (Delivers p.pool.view.number) so.on.more)
+  abbrev reported : Server
+  reported = after_notes q s (map (Delivers p.pool.view.number) so.on.more)
 
-  whole : HasHeard s p.delivered so.on.more [] told
+  whole : HasHeard s p.delivered so.on.more [] reported
   whole = heard q p.pool.view.number (places_in p.delivered) p.delivered so.on.more [] s (begin s.last p.delivered opens)
       (subst (Rising (places_in p.delivered)) (sym (append-nil so.on.more)) so.on.rising)
 
   -- where it stays in its view
-  opens-here : nat_lt (length p.left) (length r.left) ≡ false → OpensPlaces r told
+  opens-here : nat_lt (length p.left) (length r.left) ≡ false → OpensPlaces r reported
   opens-here e k le =
       let kept = longer so.done.left r.left so.later.left in
       let same = ap length so.on.left in
       let most = ltb-false (length p.left) (length r.left) e in
       let here = so.still (omega (arith, kept, same, most)) ∙ so.on.delivered in
-      opens-next told.last (p.delivered ++ so.on.more) whole.place whole.placed k (subst (λ ds. places_in ds ≤ k) here le)
+      opens-next reported.last (p.delivered ++ so.on.more) whole.place whole.placed k (subst (λ ds. places_in ds ≤ k) here le)
 
   opens-by : (i : Bool) → nat_lt (length p.left) (length r.left) ≡ i
-      → OpensPlaces r (after_notes q told (note_if i (Installs r.pool.view) ++ so.rest))
+      → OpensPlaces r (after_notes q reported (note_if i (Installs r.pool.view) ++ so.rest))
   unfolding after_notes after_note
   opens-by true e = subst (OpensPlaces r) (sym (quiet-stays q _ so.rest so.quiet)) (λ k le. refl)
-  opens-by false e = subst (OpensPlaces r) (sym (quiet-stays q told so.rest so.quiet)) (opens-here e)
+  opens-by false e = subst (OpensPlaces r) (sym (quiet-stays q reported so.rest so.quiet)) (opens-here e)
 
   opens-all : OpensPlaces r (after_notes q s (outcome setting p t).notes)
   opens-all = subst (λ ns. OpensPlaces r (after_notes q s ns)) (sym so.notes)
@@ -222,7 +222,7 @@ record IsAmong (x : ℕ) (more : List Delivered) (front : List Note) (y : ℕ) (
   pub before : List Delivered
   pub behind : List Delivered
   pub parts : more ≡ before ++ d ∷ behind
-  pub told : front ≡ map (Delivers x) before
+  pub reported : front ≡ map (Delivers x) before
   pub view : x ≡ y
 
 among : (x : ℕ) (more : List Delivered) (i : Bool) (v : View) (rest : List Note) → Quiet rest
@@ -233,7 +233,7 @@ among x [] true v rest quiet (n ∷ front) back y d e = absurd (quiet-front fron
 among x [] false v rest quiet front back y d e = absurd (quiet-front front back y d (subst Quiet e quiet))
 among x (m ∷ more) i v rest quiet [] back y d e =
     let same = head-is (Delivers x m) (Delivers y d) (map (Delivers x) more ++ (note_if i (Installs v) ++ rest)) back e in
-    record { before = []; behind = more; parts = ap (λ m. m ∷ more) (message-is x y m d same); told = refl; view = view-is x y m d same }
+    record { before = []; behind = more; parts = ap (λ m. m ∷ more) (message-is x y m d same); reported = refl; view = view-is x y m d same }
 among x (m ∷ more) i v rest quiet (n ∷ front) back y d e =
     let later = map (Delivers x) more ++ (note_if i (Installs v) ++ rest) in
     let first = head-is (Delivers x m) n later (front ++ Delivers y d ∷ back) e in
@@ -242,7 +242,7 @@ among x (m ∷ more) i v rest quiet (n ∷ front) back y d e =
       before = m ∷ there.before;
       behind = there.behind;
       parts = ap (λ ds. m ∷ ds) there.parts;
-      told = λ j. sym first j ∷ there.told j;
+      reported = λ j. sym first j ∷ there.reported j;
       view = there.view;
     }
 
@@ -267,12 +267,12 @@ signed-is q s x d w e = go s.store refl e
     go None is e = absurd cc
     go (Some t) is e = (t, is, by (made q s x d t) (nat_le q.replies.total s.delivered) e)
 
-word-is : (q : Place) (s : Server) (x : ℕ) (d : Delivered) (w : Reply) → told_of q s (Delivers x d) ≡ ToldReply (Signed w)
+word-is : (q : Place) (s : Server) (x : ℕ) (d : Delivered) (w : Reply) → reported_of q s (Delivers x d) ≡ ReportedReply (Signed w)
     → reply_to q s x d ≡ Signed w
-unfolding told_of
+unfolding reported_of
 word-is q s x d w e = same (reply_to q s x d) (Signed w) e
   where
-    same : (a b : ReplyWord) → ToldReply a ≡ ToldReply b → a ≡ b
+    same : (a b : ReplyWord) → ReportedReply a ≡ ReportedReply b → a ≡ b
     same a b e = cc
 
 held-some : {A B : Type 0} (f : A → B) (h : Bool) (x : A) (y : B) → option_map f (held h x) ≡ Some y → (h ≡ true) × (y ≡ f x)
@@ -364,7 +364,7 @@ turn_replies setting p t q b s front rest y d w numbered me ok opens notes e =
     let word = word-is q (after_notes q s front) y d w e in
     let word' : reply_to q (after_notes q s (map (Delivers p.pool.view.number) cut.before)) p.pool.view.number d ≡ Signed w =
     subst (λ x. reply_to q (after_notes q s (map (Delivers p.pool.view.number) cut.before)) x d ≡ Signed w) (sym cut.view)
-    (subst (λ f. reply_to q (after_notes q s f) y d ≡ Signed w) cut.told word) in
-    subst (λ f. Replies (account_of r) b (after_notes q s f).delivered w) (sym cut.told)
+    (subst (λ f. reply_to q (after_notes q s f) y d ≡ Signed w) cut.reported word) in
+    subst (λ f. Replies (account_of r) b (after_notes q s f).delivered w) (sym cut.reported)
     (still-replies so.done r so.later b (after_notes q s (map (Delivers p.pool.view.number) cut.before)).delivered w
     (replies-so p so.done so.on numbered q me b s ok opens cut.before cut.behind d cut.parts w word'))

@@ -87,19 +87,19 @@ module _ (setting : Setting) (q : Place) (m : Moment) (t : Turn) (valid : List �
   abbrev so : TurnSo m.process (after setting m.process t) (outcome setting m.process t).notes
   so = turn-so setting m.process t
 
-  abbrev told : Server
-  told = after_notes q m.server (map (Delivers m.process.pool.view.number) so.on.more)
+  abbrev reported : Server
+  reported = after_notes q m.server (map (Delivers m.process.pool.view.number) so.on.more)
 
   collects-by : (i : Bool) → Collects valid group (if i then [] else m.offered)
-      (after_notes q told (note_if i (Installs r.pool.view) ++ so.rest))
+      (after_notes q reported (note_if i (Installs r.pool.view) ++ so.rest))
   unfolding after_notes after_note transfer_after
-  collects-by true = subst (Collects valid group []) (sym (quiet-stays q (after_view q told r.pool.view) so.rest so.quiet)) (record {
+  collects-by true = subst (Collects valid group []) (sym (quiet-stays q (after_view q reported r.pool.view) so.rest so.quiet)) (record {
     transfer = refl;
     waiting = λ e. refl;
   })
   collects-by false =
       let waits = messages-wait q p.pool.view.number so.on.more m.server in
-      subst (Collects valid group m.offered) (sym (quiet-stays q told so.rest so.quiet)) (record {
+      subst (Collects valid group m.offered) (sym (quiet-stays q reported so.rest so.quiet)) (record {
         transfer = waits.transfer ∙ collects.transfer ∙ ap (λ v. transfer_after valid group (new_transfer v) m.offered) (sym waits.view);
         waiting = λ e. ap (λ (t : Transfer). t.state) waits.transfer ∙ collects.waiting (waits.store e);
       })
@@ -339,7 +339,7 @@ module _ (sv : Services) (c : Correct) (q : Place) (steps : List Step) (it : Ser
     replies-then : Replies (account_of turned) ok.beginning leaf r
     replies-then = subst (λ n. Replies (account_of turned) ok.beginning n r) (sym w.leaf_is)
         (turn_replies s m.process w.turn q ok.beginning m.server w.front w.rest w.view w.delivered r ok.numbered ok.me ok.follows ok.opens
-        w.notes_are w.told)
+        w.notes_are w.reported)
 
     end-turned : end ≡ run s turned (turns_in w.behind ++ it.later)
     unfolding run

@@ -8,7 +8,7 @@ use Rattle.store_defs.specs.Records.{Reply, StateRecord, state_record_of}
 use Rattle.store_defs.specs.Votes.{Valid}
 use Rattle.store_defs.specs.Transfers.{new_transfer, transfer_after}
 use Rattle.store_defs.specs.Holding.{Beginning, Gives, Replies, payloads_of}
-use Rattle.store_defs.specs.Serving.{Place, Server, Ready, Signed, ToldReply, after_notes, after_offer, handed_key, offer_word, position_at, told_of}
+use Rattle.store_defs.specs.Serving.{Place, Server, Ready, Signed, ReportedReply, after_notes, after_offer, handed_key, offer_word, position_at, reported_of}
 use Rattle.store_defs.specs.Laws.{Follows, Services, TookIn}
 
 -- ---- replies
@@ -23,7 +23,7 @@ abbrev pub TurnReplies : Type 0
 TurnReplies = (setting : Setting) (p : Process) (t : Turn) (q : Place) (b : Beginning) (s : Server) (front rest : List Note) (x : ℕ)
     (d : Delivered) (r : Reply) → p.pool.view.number ≡ length p.left → q.me ≡ p.me → Follows p b s → OpensPlaces p s
     → (outcome setting p t).notes ≡ front ++ Delivers x d ∷ rest
-    → told_of q (after_notes q s front) (Delivers x d) ≡ ToldReply (Signed r)
+    → reported_of q (after_notes q s front) (Delivers x d) ≡ ReportedReply (Signed r)
     → Replies (account_of (after setting p t)) b (after_notes q s front).delivered r
 
 -- and a turn keeps it so that the places that come next open at position 0

@@ -7,7 +7,7 @@ use Rattle.group_defs.specs.Events.{Note, Delivers, Turn, after, outcome, run}
 use Rattle.store_defs.specs.Records.{Reply, StateRecord, reply_body, state_body}
 use Rattle.store_defs.specs.Stores.{Store, store_after}
 use Rattle.store_defs.specs.Holding.{payloads_of, store_below}
-use Rattle.store_defs.specs.Serving.{Given, Place, Server, Signed, ToldReply, after_notes, server_of, state_given, told_of}
+use Rattle.store_defs.specs.Serving.{Given, Place, Server, Signed, ReportedReply, after_notes, server_of, state_given, reported_of}
 use Rattle.store_defs.specs.Words.{Word, Give, State, StateKey}
 use Rattle.store_defs.specs.Services.{worded}
 use Rattle.store_defs.specs.Laws.{MadeReply, MadeState, ServicePremises, Services}
@@ -75,7 +75,7 @@ pub record WritesReply (setting : Setting) (q : Place) (m : Moment) (steps : Lis
   pub delivered : Delivered
   pub rest : List Note
   pub notes_are : (outcome setting (reached setting q m before).process turn).notes ≡ front ++ Delivers view delivered ∷ rest
-  pub told : told_of q (after_notes q (reached setting q m before).server front) (Delivers view delivered) ≡ ToldReply (Signed r)
+  pub reported : reported_of q (after_notes q (reached setting q m before).server front) (Delivers view delivered) ≡ ReportedReply (Signed r)
   pub leaf_is : leaf ≡ (after_notes q (reached setting q m before).server front).delivered
 
 -- in the run the server writes this state after a `give`

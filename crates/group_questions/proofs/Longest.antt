@@ -3,7 +3,7 @@ use Rattle.std.proofs.Common.{◌≡◌, ℕ, ◌+◌, ◌<◌, ◌≤◌, List,
 use Rattle.std.specs.Prelude.{if◌then◌else◌, nat_lt}
 use Rattle.std.proofs.lemmas.Bool.{ltb-true, ltb-false, lt-ltb}
 use Rattle.std.proofs.lemmas.List.{length-map, map-append, take_more}
-use Rattle.group_defs.specs.Accounts as told
+use Rattle.group_defs.specs.Accounts as reported
 use Rattle.group_defs.specs.Accounts.{longest, group_of, messages_in, delivered_in}
 use Rattle.group_defs.specs.Process.{without_places, letter_of}
 use Rattle.accounts.specs.declared.account.Account.{Account}
@@ -87,10 +87,10 @@ longest-next {X} g xs i x before now lt at so_far is =
 -- ---- the group
 
 pub views-of_group : (accounts : List Account) → (group_of (map account accounts)).views ≡ longest (map (λ a. a.views.items) accounts)
-views-of_group accounts = ap longest (map-map (λ (a : told.Account). a.views) account accounts)
+views-of_group accounts = ap longest (map-map (λ (a : reported.Account). a.views) account accounts)
 
 pub sequence-of_group : (accounts : List Account) (x : ℕ)
     → (group_of (map account accounts)).sequence x ≡ without_places (longest (map (λ a. delivered_in (account a) x) accounts))
 sequence-of_group accounts x =
-    ap longest (map-map (λ (a : told.Account). messages_in a x) account accounts) ∙ longest-map letter_of
+    ap longest (map-map (λ (a : reported.Account). messages_in a x) account accounts) ∙ longest-map letter_of
     (λ (a : Account). delivered_in (account a) x) accounts

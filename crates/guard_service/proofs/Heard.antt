@@ -29,7 +29,7 @@ module _ {V : Type 0} (service : V) (h : List Asked) (c : Cast) (are : AreGuards
       → Tells (λ (v : V) (i : List Asked). AreGuards i) service h c shown call old old
   tells_nothing shown call old is = record {
     text = [];
-    told = sym (append-nil old);
+    reported = sym (append-nil old);
     has = one_more h c shown call (Said [] []) are is;
   }
 
@@ -50,7 +50,7 @@ module _ {V : Type 0} (service : V) (h : List Asked) (c : Cast) (are : AreGuards
     says_to q new sends' is it = record {
       text = accuse_line now q;
       more = it.more;
-      told = it.told;
+      reported = it.reported;
       sent = it.grown;
       can = it.can;
       has = answers (Some q) (Said (accuse_line now q) (letters_in it.more)) is

@@ -107,9 +107,9 @@ can-go c p now a b to (Some bytes) number others packs = mem-All (CanBeSent c p)
 
 pub accused-none : (c : Cast) (p : ℕ) (now : Process) (q me : ℕ) (old new : List ℕ) (sends : List Sending) → now.me ≡ me
     → conflict_of now q ≡ None → new ≡ old ++ accuse_text me None → HasAccused c p now q old new sends sends
-accused-none c p now q me old new sends number none told = record {
+accused-none c p now q me old new sends number none reported = record {
   more = [];
-  told = told ∙ ap (λ (line : List ℕ). old ++ line) (line-of-none now q me number none);
+  reported = reported ∙ ap (λ (line : List ℕ). old ++ line) (line-of-none now q me number none);
   grown = sym (append-nil sends);
   can = mem-All (CanBeSent c p) [] (λ letter m. absurd m);
   are = no-letters c.setting now q none;
@@ -119,9 +119,9 @@ pub accused-some : (c : Cast) (p : ℕ) (now : Process) (q me : ℕ) (a b : Clai
     (sends between sends' : List Sending) → now.me ≡ p → now.me ≡ me → conflict_of now q ≡ Some (a, b) → to ≡ listed_others c.setting now
     → Packs a b frame → new ≡ old ++ accuse_text me (Some q) → between ≡ sends → sends' ≡ between ++ sent to frame
     → HasAccused c p now q old new sends sends'
-accused-some c p now q me a b to frame old new sends between sends' number me-is some others packs told same grown = record {
+accused-some c p now q me a b to frame old new sends between sends' number me-is some others packs reported same grown = record {
   more = sent to frame;
-  told = told ∙ ap (λ (line : List ℕ). old ++ line) (line-of-some now q me (a, b) me-is some);
+  reported = reported ∙ ap (λ (line : List ℕ). old ++ line) (line-of-some now q me (a, b) me-is some);
   grown = grown ∙ ap (λ (ss : List Sending). ss ++ sent to frame) same;
   can = can-go c p now a b to frame number others packs;
   are = are-letters c.setting now q a b to frame some others packs;

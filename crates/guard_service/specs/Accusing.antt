@@ -52,7 +52,7 @@ pub record Accuses (s : Setting) (now : Process) (q : ℕ) (a : Answer) : Type 0
 -- process p of the cast accuses q: the lines grew by the line of it, and what is to be sent by its letters
 pub record HasAccused (c : Cast) (p : ℕ) (now : Process) (q : ℕ) (old new : List ℕ) (sends sends_now : List Sending) : Type 0 where
   pub more : List Sending
-  pub told : new ≡ old ++ accuse_line now q
+  pub reported : new ≡ old ++ accuse_line now q
   pub grown : sends_now ≡ sends ++ more
   pub can : All (CanBeSent c p) (letters_in more)
   pub are : AreLetters c.setting now q (letters_in more)

@@ -12,7 +12,7 @@ use Rattle.stmt_codec.specs.declared.events.Outcome.{Outcome}
 use Rattle.stmt_codec.specs.declared.events.Sending.{Sending}
 use Rattle.member_state.specs.Events.{refusal, note, frame_to, frames_to, IsOutcome}
 use Rattle.happenings.specs.declared.seen.Seen.{Seen}
-use Rattle.happenings.specs.Told.{seen, IsSeenOf, OutcomeIsSeen}
+use Rattle.happenings.specs.Reported.{seen, IsSeenOf, OutcomeIsSeen}
 
 -- to whom the frames of a sending go
 addressed_is : (out : parcels.Sending) (frames : List (List ℕ))
@@ -41,5 +41,5 @@ outcome_is_seen o r s is of =
     let heard : o.heard ≡ s.heard = is.heard ∙ sym of.heard in
     let claims = is.signed_now ∙ sym (ap (λ xs. map signed xs.items) of.signed) in
     let spent = is.spent ∙ sym of.spent in
-    let told = is.told ∙ sym (ap (λ xs. map note xs.items) of.notes) in
-    λ i. record { verdict = verdict i; heard = heard i; signed = claims i; spent = spent i; sends = to i; notes = told i }
+    let reported = is.reported ∙ sym (ap (λ xs. map note xs.items) of.notes) in
+    λ i. record { verdict = verdict i; heard = heard i; signed = claims i; spent = spent i; sends = to i; notes = reported i }

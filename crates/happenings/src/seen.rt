@@ -1,6 +1,6 @@
 //! What came of an event, as it is seen from outside.
 ghost use Rattle.std.specs.Prelude.{◌≡◌, map, IfOk};
-ghost use Rattle.happenings.specs.Told.{IsSeenOf};
+ghost use Rattle.happenings.specs.Reported.{IsSeenOf};
 
 use rp_base::{NoMemory, PidSet};
 use std::alloc::Global;

@@ -53,12 +53,12 @@ ready_said (Ready x r v) = Some (r, v)
 ready_said _ = None
 
 -- what a commit certificate says; it has at least one claim
-abbrev pub told_by : List Claim → ℕ × Value
-told_by [] = (0, record { update = Renew; cut = 0 })
-told_by (c ∷ cs) = unwrap_or (ready_said c.statement) (0, record { update = Renew; cut = 0 })
+abbrev pub reported_by : List Claim → ℕ × Value
+reported_by [] = (0, record { update = Renew; cut = 0 })
+reported_by (c ∷ cs) = unwrap_or (ready_said c.statement) (0, record { update = Renew; cut = 0 })
 
 abbrev pub left_by : List Claim → LeftView
-left_by commit = record { rank = (told_by commit).0; value = (told_by commit).1; commit = commit }
+left_by commit = record { rank = (reported_by commit).0; value = (reported_by commit).1; commit = commit }
 
 abbrev pub image_of : Process → Image
 image_of p = record {

@@ -18,7 +18,7 @@ use Rattle.pool_laws.proofs.Members.{Mem, All-mem, mem-All, mem-append}
 use Rattle.pool_laws.proofs.Tests.{and-first, none-is}
 use Rattle.safety_laws.proofs.Induction.{Keeps, AreFrom, after-keeps}
 use Rattle.safety_laws.proofs.Installed.{IsDecided}
-use Rattle.image_defs.specs.Images.{LeftView, left_by, told_by, view_behind}
+use Rattle.image_defs.specs.Images.{LeftView, left_by, reported_by, view_behind}
 use Rattle.image_defs.specs.Kept.{IsLeft, AreLeft, CommitsLast}
 use Rattle.image_laws.specs.Keeping.{LeftFits, LeftIsKept}
 use Rattle.image_laws.proofs.Certificates.{certificate-first}
@@ -58,10 +58,10 @@ module _ (s : Setting) (p : Process) (d : ℕ × Value) (hears : Hears s p) (by 
   certifies : Certifies p.pool (Ready p.pool.view.number d.0 d.1) commit
   certifies = certificate-is p.pool (Ready p.pool.view.number d.0 d.1) view.distinct by.1
 
-  tells : told_by commit ≡ d
+  tells : reported_by commit ≡ d
   tells =
       let first = certificate-first p.pool (Ready p.pool.view.number d.0 d.1) view.some by.1 in
-      ap told_by first.is ∙ ap (λ st. told_by (record { signer = first.claim.signer; statement = st; signature = first.claim.signature } ∷ first.more)) first.says
+      ap reported_by first.is ∙ ap (λ st. reported_by (record { signer = first.claim.signer; statement = st; signature = first.claim.signature } ∷ first.more)) first.says
 
   -- a heard Ready has the rank of a member
   rank-is : d.0 < length p.pool.view.members
@@ -84,8 +84,8 @@ module _ (s : Setting) (p : Process) (d : ℕ × Value) (hears : Hears s p) (by 
   }
 
   -- as the certificate itself tells
-  is-told : left_by commit ≡ record { rank = d.0; value = d.1; commit = commit }
-  is-told = ap (λ (e : ℕ × Value). record { rank = e.0; value = e.1; commit = commit }) tells
+  is-reported : left_by commit ≡ record { rank = d.0; value = d.1; commit = commit }
+  is-reported = ap (λ (e : ℕ × Value). record { rank = e.0; value = e.1; commit = commit }) tells
 
   follows : IsView (next_view p.pool.view d.1.update)
   follows = next_is_view p.pool.view d.1.update
@@ -95,7 +95,7 @@ module _ (s : Setting) (p : Process) (d : ℕ × Value) (hears : Hears s p) (by 
 
 installs : (s : Setting) (p : Process) (d : ℕ × Value) → Hears s p → IsDecided s p.pool d → LeftFits s p → LeftFits s (install d p)
 installs s p d hears by ok =
-    let more = map-append (λ (l : Left). left_by l.commit) p.left (now ∷ []) ∙ ap (λ (l : LeftView). tellings p.left ++ l ∷ []) (is-told s p d hears by ok.view) in
+    let more = map-append (λ (l : Left). left_by l.commit) p.left (now ∷ []) ∙ ap (λ (l : LeftView). tellings p.left ++ l ∷ []) (is-reported s p d hears by ok.view) in
     record {
       left = subst (AreLeft s s.genesis) (sym more) (left-more s s.genesis (tellings p.left) left ok.left
           (subst (λ v. IsLeft s v left) (sym ok.current) (is-left s p d hears by ok.view)));

@@ -16,7 +16,7 @@ use Rattle.pool_laws.proofs.Growing.{is_certified-stays}
 use Rattle.pool_laws.proofs.Tests.{and-first, none-is, none-some, option_or-is}
 use Rattle.safety_laws.proofs.Induction.{Keeps, run-keeps}
 use Rattle.safety_laws.proofs.Installed.{decided_by-is}
-use Rattle.image_defs.specs.Images.{LeftView, left_by, told_by, image_of, lefts_from, view_behind, previous_from, process_of, in_order, ProcessIsRestored}
+use Rattle.image_defs.specs.Images.{LeftView, left_by, reported_by, image_of, lefts_from, view_behind, previous_from, process_of, in_order, ProcessIsRestored}
 use Rattle.image_laws.proofs.Certificates.{certificate-first}
 
 -- the views of these, by what their commit certificates tell
@@ -29,26 +29,26 @@ delivered-in ls = map (λ (l : Left). l.delivered) ls
 -- ---- one view more
 
 -- from v on, these views are what their certificates tell, and w stands behind them
-abbrev AreTold : View → List Left → View → Type 0
-AreTold v [] w = v ≡ w
-AreTold v (l ∷ ls) w = (l.view ≡ v) × AreTold (next_view v (told_by l.commit).1.update) ls w
+abbrev AreReported : View → List Left → View → Type 0
+AreReported v [] w = v ≡ w
+AreReported v (l ∷ ls) w = (l.view ≡ v) × AreReported (next_view v (reported_by l.commit).1.update) ls w
 
-told-more : (v : View) (ls : List Left) (w : View) (l : Left) → AreTold v ls w → l.view ≡ w
-    → AreTold v (ls ++ l ∷ []) (next_view w (told_by l.commit).1.update)
-told-more v [] w l told is = (is ∙ sym told, ap (λ x. next_view x (told_by l.commit).1.update) told)
-told-more v (x ∷ ls) w l told is = (told.0, told-more (next_view v (told_by x.commit).1.update) ls w l told.1 is)
+reported-more : (v : View) (ls : List Left) (w : View) (l : Left) → AreReported v ls w → l.view ≡ w
+    → AreReported v (ls ++ l ∷ []) (next_view w (reported_by l.commit).1.update)
+reported-more v [] w l reported is = (is ∙ sym reported, ap (λ x. next_view x (reported_by l.commit).1.update) reported)
+reported-more v (x ∷ ls) w l reported is = (reported.0, reported-more (next_view v (reported_by x.commit).1.update) ls w l reported.1 is)
 
-lefts-told : (v : View) (ls : List Left) (w : View) (tail : List (List Delivered)) → AreTold v ls w
+lefts-reported : (v : View) (ls : List Left) (w : View) (tail : List (List Delivered)) → AreReported v ls w
     → lefts_from v (tellings ls) (delivered-in ls ++ tail) ≡ ls
-lefts-told v [] w tail told = refl
-lefts-told v (l ∷ ls) w tail told =
+lefts-reported v [] w tail reported = refl
+lefts-reported v (l ∷ ls) w tail reported =
     ap (λ x. record { view = x; delivered = l.delivered; commit = l.commit }
-    ∷ lefts_from (next_view v (told_by l.commit).1.update) (tellings ls) (delivered-in ls ++ tail)) (sym told.0)
-    ∙ ap (λ more. l ∷ more) (lefts-told (next_view v (told_by l.commit).1.update) ls w tail told.1)
+    ∷ lefts_from (next_view v (reported_by l.commit).1.update) (tellings ls) (delivered-in ls ++ tail)) (sym reported.0)
+    ∙ ap (λ more. l ∷ more) (lefts-reported (next_view v (reported_by l.commit).1.update) ls w tail reported.1)
 
-behind-told : (v : View) (ls : List Left) (w : View) → AreTold v ls w → view_behind v (tellings ls) ≡ w
-behind-told v [] w told = told
-behind-told v (l ∷ ls) w told = behind-told (next_view v (told_by l.commit).1.update) ls w told.1
+behind-reported : (v : View) (ls : List Left) (w : View) → AreReported v ls w → view_behind v (tellings ls) ≡ w
+behind-reported v [] w reported = reported
+behind-reported v (l ∷ ls) w reported = behind-reported (next_view v (reported_by l.commit).1.update) ls w reported.1
 
 -- the pool that is kept of the view that was left last
 abbrev IsPrevious : List Left → Option Pool → Type 0
@@ -64,14 +64,14 @@ previous-more (x ∷ y ∷ ls) l h is = previous-more (y ∷ ls) l h is
 abbrev heard-before : Option Pool → List Claim
 heard-before o = option_map_or (λ (h : Pool). h.heard) o []
 
-previous-told : (v : View) (ls : List Left) (w : View) (o : Option Pool) → AreTold v ls w → IsPrevious ls o
+previous-reported : (v : View) (ls : List Left) (w : View) (o : Option Pool) → AreReported v ls w → IsPrevious ls o
     → previous_from v (heard-before o) (tellings ls) ≡ o
-previous-told v [] w o told is = sym is
-previous-told v (l ∷ []) w o told is =
-    let view : is.0.view ≡ v = is.2 ∙ told.0 in
+previous-reported v [] w o reported is = sym is
+previous-reported v (l ∷ []) w o reported is =
+    let view : is.0.view ≡ v = is.2 ∙ reported.0 in
     ap (λ (p : Option Pool). Some (record { view = v; heard = heard-before p })) is.1
     ∙ ap (λ x. Some (record { view = x; heard = is.0.heard })) (sym view) ∙ sym is.1
-previous-told v (l ∷ m ∷ ls) w o told is = previous-told (next_view v (told_by l.commit).1.update) (m ∷ ls) w o told.1 is
+previous-reported v (l ∷ m ∷ ls) w o reported is = previous-reported (next_view v (reported_by l.commit).1.update) (m ∷ ls) w o reported.1 is
 
 last-delivered : (ls : List Left) (ds : List Delivered) → slice_index_or (delivered-in ls ++ ds ∷ []) (length (tellings ls)) [] ≡ ds
 last-delivered [] ds = refl
@@ -79,9 +79,9 @@ last-delivered (l ∷ ls) ds = last-delivered ls ds
 
 -- ---- of a process
 
-record IsTold (s : Setting) (limit : ℕ) (p : Process) : Type 0 where
+record IsReported (s : Setting) (limit : ℕ) (p : Process) : Type 0 where
   limit_is : p.batch_limit ≡ limit
-  told : AreTold s.genesis p.left p.pool.view
+  reported : AreReported s.genesis p.left p.pool.view
   previous : IsPrevious p.left p.previous
   view : IsView p.pool.view
   decided : (d : ℕ × Value) → p.decision ≡ Some d → (is_possible (keyed s) p.pool.view d.1.update ≡ true)
@@ -89,10 +89,10 @@ record IsTold (s : Setting) (limit : ℕ) (p : Process) : Type 0 where
 
 same : (s : Setting) (limit : ℕ) (p q : Process) → q.batch_limit ≡ p.batch_limit → q.left ≡ p.left → q.pool.view ≡ p.pool.view → q.previous ≡ p.previous → q.decision ≡ p.decision
     → ((d : ℕ × Value) → is_certified p.pool (Ready p.pool.view.number d.0 d.1) ≡ true
-    → is_certified q.pool (Ready q.pool.view.number d.0 d.1) ≡ true) → IsTold s limit p → IsTold s limit q
+    → is_certified q.pool (Ready q.pool.view.number d.0 d.1) ≡ true) → IsReported s limit p → IsReported s limit q
 same s limit p q same-limit left view previous decision stays t = record {
   limit_is = same-limit ∙ t.limit_is;
-  told = subst (λ ls. AreTold s.genesis ls q.pool.view) (sym left) (subst (AreTold s.genesis p.left) (sym view) t.told);
+  reported = subst (λ ls. AreReported s.genesis ls q.pool.view) (sym left) (subst (AreReported s.genesis p.left) (sym view) t.reported);
   previous = subst (λ ls. IsPrevious ls q.previous) (sym left) (subst (IsPrevious p.left) (sym previous) t.previous);
   view = subst IsView (sym view) t.view;
   decided = λ d e. (
@@ -101,17 +101,17 @@ same s limit p q same-limit left view previous decision stays t = record {
       );
 }
 
-installed : (s : Setting) (limit : ℕ) (p : Process) (d : ℕ × Value) → p.decision ≡ Some d → IsTold s limit p → IsTold s limit (install d p)
+installed : (s : Setting) (limit : ℕ) (p : Process) (d : ℕ × Value) → p.decision ≡ Some d → IsReported s limit p → IsReported s limit (install d p)
 installed s limit p d decided t =
     let was = t.decided d decided in
     let first = certificate-first p.pool (Ready p.pool.view.number d.0 d.1) t.view.some was.1 in
     let commit : List Claim = certificate p.pool (Ready p.pool.view.number d.0 d.1) in
-    let tells : told_by commit ≡ d = ap told_by first.is ∙ ap (λ st. told_by (record { signer = first.claim.signer; statement = st; signature = first.claim.signature } ∷ first.more)) first.says in
+    let tells : reported_by commit ≡ d = ap reported_by first.is ∙ ap (λ st. reported_by (record { signer = first.claim.signer; statement = st; signature = first.claim.signature } ∷ first.more)) first.says in
     let l : Left = record { view = p.pool.view; delivered = p.delivered; commit = commit } in
     record {
       limit_is = t.limit_is;
-      told = subst (λ (e : ℕ × Value). AreTold s.genesis (p.left ++ l ∷ []) (next_view p.pool.view e.1.update)) tells
-          (told-more s.genesis p.left p.pool.view l t.told refl);
+      reported = subst (λ (e : ℕ × Value). AreReported s.genesis (p.left ++ l ∷ []) (next_view p.pool.view e.1.update)) tells
+          (reported-more s.genesis p.left p.pool.view l t.reported refl);
       previous = previous-more p.left l p.pool refl;
       view = next_is_view p.pool.view d.1.update
           (none-is (next_fault p.pool.view d.1.update)
@@ -119,7 +119,7 @@ installed s limit p d decided t =
       decided = λ d e. absurd cc;
     }
 
-keeps : (s : Setting) (limit : ℕ) (from : List Claim) → Keeps s from (IsTold s limit)
+keeps : (s : Setting) (limit : ℕ) (from : List Claim) → Keeps s from (IsReported s limit)
 keeps s limit from = record {
   accepts = λ p payload t. same s limit p _ refl refl refl refl refl (λ d c. c) t;
   perceives = λ p e t. same s limit p _ refl refl refl refl refl (λ d c. c) t;
@@ -128,14 +128,14 @@ keeps s limit from = record {
   doubts = λ p conflicts t. same s limit p _ refl refl refl refl refl (λ d c. c) t;
   signs = λ p signer st next none t. record {
     limit_is = t.limit_is;
-    told = t.told;
+    reported = t.reported;
     previous = t.previous;
     view = t.view;
     decided = λ d e. absurd (none-some none e);
   };
   decides = λ p t. record {
     limit_is = t.limit_is;
-    told = t.told;
+    reported = t.reported;
     previous = t.previous;
     view = t.view;
     decided = λ d e. elim (option_or-is p.decision (decided_by s p.pool) d e) [
@@ -149,11 +149,11 @@ keeps s limit from = record {
 }
 
 -- what is told gives the process back, with its conflicts in order
-gives-back : (s : Setting) (limit : ℕ) (p : Process) → IsTold s limit p → process_of s limit (image_of p) ≡ in_order p
+gives-back : (s : Setting) (limit : ℕ) (p : Process) → IsReported s limit p → process_of s limit (image_of p) ≡ in_order p
 gives-back s limit p t =
-    let left = lefts-told s.genesis p.left p.pool.view (p.delivered ∷ []) t.told in
-    let previous = previous-told s.genesis p.left p.pool.view p.previous t.told t.previous in
-    let view = behind-told s.genesis p.left p.pool.view t.told in
+    let left = lefts-reported s.genesis p.left p.pool.view (p.delivered ∷ []) t.reported in
+    let previous = previous-reported s.genesis p.left p.pool.view p.previous t.reported t.previous in
+    let view = behind-reported s.genesis p.left p.pool.view t.reported in
     let delivered = last-delivered p.left p.delivered in
     ap (λ n. record (process_of s p.batch_limit (image_of p)) { batch_limit = n }) (sym t.limit_is)
     ∙ ap (λ ls. with-parts ls (previous_from s.genesis (heard-before p.previous) (tellings p.left)) (view_behind s.genesis (tellings p.left))
@@ -173,5 +173,5 @@ gives-back s limit p t =
 
 pub process_is_restored : ProcessIsRestored
 process_is_restored s me limit turns genesis =
-    gives-back s limit (run s (start s me limit) turns) (run-keeps s (IsTold s limit) turns (keeps s limit (handed_to turns)) (start s me limit)
-    (record { limit_is = refl; told = refl; previous = refl; view = genesis; decided = λ d e. absurd cc }))
+    gives-back s limit (run s (start s me limit) turns) (run-keeps s (IsReported s limit) turns (keeps s limit (handed_to turns)) (start s me limit)
+    (record { limit_is = refl; reported = refl; previous = refl; view = genesis; decided = λ d e. absurd cc }))

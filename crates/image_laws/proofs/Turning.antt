@@ -87,8 +87,8 @@ module _ (s : Setting) (p : Process) (cs : List (Claim × Claim)) (t : Turn) (is
   -- the outcome
 
   -- the notes, where these pairs are new
-  abbrev told : List (Claim × Claim) → List Note
-  told ds =
+  abbrev reported : List (Claim × Claim) → List Note
+  reported ds =
       map (Delivers p.pool.view.number) (drop (length p.delivered) done.delivered)
       ++ note_if (nat_lt (length p.left) (length last.left)) (Installs last.pool.view)
       ++ map (λ pair. Liar pair.1.signer) ds
@@ -101,7 +101,7 @@ module _ (s : Setting) (p : Process) (cs : List (Claim × Claim)) (t : Turn) (is
 
   notes-same : notes (holding cs p) (held s more one) (deliver (decide s (holding more one.now))) (leave (deliver (decide s (holding more one.now))))
       ≡ notes p one done last
-  notes-same = (λ i. notes (holding cs p) (held s more one) (done-same i) (last-same i)) ∙ ap told news-same
+  notes-same = (λ i. notes (holding cs p) (held s more one) (done-same i) (last-same i)) ∙ ap reported news-same
 
   sent-same : answers s (leave (deliver (decide s (holding more one.now)))) t.event ≡ answers s last t.event
   sent-same = ap (λ x. answers s x t.event) last-same ∙ answers-same s more last t.event

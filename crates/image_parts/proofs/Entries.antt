@@ -59,8 +59,8 @@ module _ (number : ℕ) (u : Update) where
       go false is put left = left ∙ ap (λ b. has_update set u || (b || list_any is_asked es)) (not-asked e is)
 
 -- of a set that was empty
-pub all-told : (number : ℕ) (set : Perceived) (es : List (ℕ × Update)) → ((u : Update) → has_update set u ≡ false)
+pub all-reported : (number : ℕ) (set : Perceived) (es : List (ℕ × Update)) → ((u : Update) → has_update set u ≡ false)
     → (p : Process) → p.pool.view.number ≡ number → p.perceived ≡ es → TellsPerceived (with_entries number set es) p
-all-told number set es none p at is u =
+all-reported number set es none p at is u =
     ap (λ n. list_any (is_asked n u) p.perceived) at ∙ ap (list_any (is_asked number u)) is
     ∙ ap (λ b. b || list_any (is_asked number u) es) (sym (none u)) ∙ sym (entries-tell number u set es)

@@ -72,26 +72,26 @@ fn push_claims(out: &mut Vec<u8>, claims: Claims<'_>) -> Result<(), NoMemory>
 // The word, and the claims.
 fn with_claims(alloc: Global, word: &[u8], claims: Claims<'_>) -> Result<Vec<u8>, NoMemory>
     requires { AllByRecursion IsClaim (claims_left claims) }
-    ensures { IfOk result (λ told. told.items ≡ word.now ++ flat_map claim_words (claims_left claims.entry)) }
+    ensures { IfOk result (λ reported. reported.items ≡ word.now ++ flat_map claim_words (claims_left claims.entry)) }
 {
-    let mut told = word.to_vec(alloc)?;
-    push_claims(&mut told, claims)?;
-    Ok(told)
+    let mut reported = word.to_vec(alloc)?;
+    push_claims(&mut reported, claims)?;
+    Ok(reported)
 }
 
 fn want_words(alloc: Global, view: u16, place: u16) -> Result<Vec<u8>, NoMemory>
-    ensures { IfOk result (λ told. told.items ≡ codes "want " ++ (decimal view ++ (codes " " ++ decimal place))) }
+    ensures { IfOk result (λ reported. reported.items ≡ codes "want " ++ (decimal view ++ (codes " " ++ decimal place))) }
 {
-    let mut told = b"want ".to_vec(alloc)?;
-    push_number(&mut told, view.into())?;
-    told.extend_from_slice(b" ")?;
-    push_number(&mut told, place.into())?;
-    Ok(told)
+    let mut reported = b"want ".to_vec(alloc)?;
+    push_number(&mut reported, view.into())?;
+    reported.extend_from_slice(b" ")?;
+    push_number(&mut reported, place.into())?;
+    Ok(reported)
 }
 
 // What a frame says whose groups can be read.
 fn frame_words(alloc: Global, frame: &FrameView<'_>) -> Result<Vec<u8>, NoMemory>
-    ensures { IfOk result (λ told. told.items ≡ said (frame_view frame.now) (claims.claims_of (frame_view frame.now))) }
+    ensures { IfOk result (λ reported. reported.items ≡ said (frame_view frame.now) (claims.claims_of (frame_view frame.now))) }
 {
     let claims = match claims_of(frame) {
         Ok(claims) => claims,
@@ -107,7 +107,7 @@ fn frame_words(alloc: Global, frame: &FrameView<'_>) -> Result<Vec<u8>, NoMemory
 /// What the bytes say as a frame: the word of their first fault (docs/FORMATS.md, «Frames»), or `bundle` or `proof` and
 /// for each claim ` SIGNER STATEMENT SIGNATURE`, or `want VIEW PLACE`.
 fn answer_frame(alloc: Global, bytes: &[u8]) -> Result<Vec<u8>, NoMemory>
-    ensures { IfOk result (λ told. told.items ≡ frame_answer bytes.now) }
+    ensures { IfOk result (λ reported. reported.items ≡ frame_answer bytes.now) }
 {
     match split_frame(bytes) {
         Ok(frame) => frame_words(alloc, &frame),
@@ -117,17 +117,17 @@ fn answer_frame(alloc: Global, bytes: &[u8]) -> Result<Vec<u8>, NoMemory>
 
 fn ok_words(alloc: Global, st: &Statement<'_>) -> Result<Vec<u8>, NoMemory>
     requires { IsStatement (stmt st.now) }
-    ensures { IfOk result (λ told. told.items ≡ codes "ok " ++ bytes_word (spelling (stmt st.now))) }
+    ensures { IfOk result (λ reported. reported.items ≡ codes "ok " ++ bytes_word (spelling (stmt st.now))) }
 {
-    let mut told = b"ok ".to_vec(alloc)?;
-    push_statement(&mut told, st)?;
-    Ok(told)
+    let mut reported = b"ok ".to_vec(alloc)?;
+    push_statement(&mut reported, st)?;
+    Ok(reported)
 }
 
 /// What the bytes say as a statement: the word of their fault (docs/FORMATS.md, «Statements»), or `ok` and the statement
 /// spelled from what was read.
 fn answer_statement(alloc: Global, bytes: &[u8]) -> Result<Vec<u8>, NoMemory>
-    ensures { IfOk result (λ told. told.items ≡ statement_answer bytes.now) }
+    ensures { IfOk result (λ reported. reported.items ≡ statement_answer bytes.now) }
 {
     match read_statement(bytes) {
         Ok(st) => ok_words(alloc, &st),
@@ -137,9 +137,9 @@ fn answer_statement(alloc: Global, bytes: &[u8]) -> Result<Vec<u8>, NoMemory>
 
 // The answer to `frame WORD`.
 fn answer_on_frame(alloc: Global, word: &[u8]) -> Result<Vec<u8>, LineFault>
-    ensures answers { IfOk result (λ told. Answers (codes "frame" ∷ word.now ∷ []) told.items) }
+    ensures answers { IfOk result (λ reported. Answers (codes "frame" ∷ word.now ∷ []) reported.items) }
     ensures no_question { IsErrOf result LineFault.NoQuestion
-        → (told : List ℕ) → ¬ Answers (codes "frame" ∷ word.now ∷ []) told }
+        → (reported : List ℕ) → ¬ Answers (codes "frame" ∷ word.now ∷ []) reported }
 {
     let bytes = read_bytes(alloc, word)?;
     Ok(answer_frame(alloc, &bytes)?)
@@ -147,9 +147,9 @@ fn answer_on_frame(alloc: Global, word: &[u8]) -> Result<Vec<u8>, LineFault>
 
 // The answer to `statement WORD`.
 fn answer_on_statement(alloc: Global, word: &[u8]) -> Result<Vec<u8>, LineFault>
-    ensures answers { IfOk result (λ told. Answers (codes "statement" ∷ word.now ∷ []) told.items) }
+    ensures answers { IfOk result (λ reported. Answers (codes "statement" ∷ word.now ∷ []) reported.items) }
     ensures no_question { IsErrOf result LineFault.NoQuestion
-        → (told : List ℕ) → ¬ Answers (codes "statement" ∷ word.now ∷ []) told }
+        → (reported : List ℕ) → ¬ Answers (codes "statement" ∷ word.now ∷ []) reported }
 {
     let bytes = read_bytes(alloc, word)?;
     Ok(answer_statement(alloc, &bytes)?)
@@ -157,9 +157,9 @@ fn answer_on_statement(alloc: Global, word: &[u8]) -> Result<Vec<u8>, LineFault>
 
 /// The answer to a question on a frame or a statement, by the words of a line.
 pub fn answer_frames(alloc: Global, words: &[&[u8]]) -> Result<Vec<u8>, LineFault>
-    ensures answers { IfOk result (λ told. Answers (map (λ word. word.now) words.now) told.items) }
+    ensures answers { IfOk result (λ reported. Answers (map (λ word. word.now) words.now) reported.items) }
     ensures no_question { IsErrOf result LineFault.NoQuestion
-        → (told : List ℕ) → ¬ Answers (map (λ word. word.now) words.now) told }
+        → (reported : List ℕ) → ¬ Answers (map (λ word. word.now) words.now) reported }
 {
     match words {
         [verb, bytes] if *verb == b"frame".as_slice() => answer_on_frame(alloc, bytes),

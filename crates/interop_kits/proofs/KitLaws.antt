@@ -8,24 +8,24 @@ use Rattle.text_defs.specs.Words.{Spells, bytes_word}
 use Rattle.interop_kits.specs.Kits.{Answers, IsQuestion, OfKit, Question, answer_to, fault_words, said, spelled}
 use Rattle.text_codec.proofs.Spelled.{spelled_once}
 
-pub kit_answers : (word bytes told : List ℕ) → Spells word bytes → told ≡ said (kit_of bytes) → Answers (codes "kit" ∷ word ∷ []) told
-kit_answers word bytes told s is = record {
+pub kit_answers : (word bytes reported : List ℕ) → Spells word bytes → reported ≡ said (kit_of bytes) → Answers (codes "kit" ∷ word ∷ []) reported
+kit_answers word bytes reported s is = record {
   question = OfKit bytes;
   fits = s.0;
   asked = ap (λ (w : List ℕ). codes "kit" ∷ w ∷ []) s.1;
-  told_is = is;
+  reported_is = is;
 }
 
 -- what is told of a fault is what reading has as its fault
-pub fault_told : {E : Type 0} (fault : Option KitFault) (read : Result Kit KitFault) (r : Result (Vec ℕ Global) E)
+pub fault_reported : {E : Type 0} (fault : Option KitFault) (read : Result Kit KitFault) (r : Result (Vec ℕ Global) E)
     → IfSome fault (λ f. read ≡ Err f)
-    → IfOk r (λ told. option_map fault_words fault ≡ Some told.items) → IfOk r (λ told. told.items ≡ said read)
-fault_told fault read (Err e) is told = tt
-fault_told (Some f) read (Ok words) is told = sym (ap (λ (o : Option (List ℕ)). unwrap_or o []) told) ∙ ap said (sym is)
-fault_told None read (Ok words) is told = absurd cc
+    → IfOk r (λ reported. option_map fault_words fault ≡ Some reported.items) → IfOk r (λ reported. reported.items ≡ said read)
+fault_reported fault read (Err e) is reported = tt
+fault_reported (Some f) read (Ok words) is reported = sym (ap (λ (o : Option (List ℕ)). unwrap_or o []) reported) ∙ ap said (sym is)
+fault_reported None read (Ok words) is reported = absurd cc
 
 pub one_answer : (words : List (List ℕ)) (x y : List ℕ) → Answers words x → Answers words y → x ≡ y
-one_answer words x y a b = of a.question b.question a.fits b.fits a.asked b.asked a.told_is b.told_is
+one_answer words x y a b = of a.question b.question a.fits b.fits a.asked b.asked a.reported_is b.reported_is
   where
     of : (p q : Question) → IsQuestion p → IsQuestion q → words ≡ spelled p → words ≡ spelled q → x ≡ answer_to p → y ≡ answer_to q → x ≡ y
     of (OfKit m) (OfKit n) fm fn is also t u = t ∙ ap (λ (bytes : List ℕ). said (kit_of bytes))

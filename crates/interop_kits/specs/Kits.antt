@@ -37,8 +37,8 @@ abbrev pub answer_to : Question → List ℕ
 answer_to (OfKit bytes) = said (kit_of bytes)
 
 -- the words are those of a question on a kit, and this is what is answered
-pub record Answers (words : List (List ℕ)) (told : List ℕ) : Type 0 where
+pub record Answers (words : List (List ℕ)) (reported : List ℕ) : Type 0 where
   pub question : Question
   pub fits : IsQuestion question
   pub asked : words ≡ spelled question
-  pub told_is : told ≡ answer_to question
+  pub reported_is : reported ≡ answer_to question

@@ -27,19 +27,19 @@ abbrev pub verdict : List ℕ → List ℕ → List ℕ → List ℕ
 verdict key body sig = if hss_valid key body sig then codes "true" else codes "false"
 
 -- the three words spell bytes, and this is what is answered
-pub record Verified (k b s told : List ℕ) : Type 0 where
+pub record Verified (k b s reported : List ℕ) : Type 0 where
   pub key : List ℕ
   pub body : List ℕ
   pub sig : List ℕ
   pub has_key : Spells k key
   pub has_body : Spells b body
   pub has_sig : Spells s sig
-  pub told_is : told ≡ verdict key body sig
+  pub reported_is : reported ≡ verdict key body sig
 
-pub verified : (k b s told : List ℕ) → Answers (verify_words k b s) told → Verified k b s told
-verified k b s told a = of a.question a.fits a.asked a.told_is
+pub verified : (k b s reported : List ℕ) → Answers (verify_words k b s) reported → Verified k b s reported
+verified k b s reported a = of a.question a.fits a.asked a.reported_is
   where
-    of : (q : Question) → IsQuestion q → verify_words k b s ≡ spelled q → told ≡ answer_to q → Verified k b s told
+    of : (q : Question) → IsQuestion q → verify_words k b s ≡ spelled q → reported ≡ answer_to q → Verified k b s reported
     of (Verify key body sig) fits is t = record {
       key = key;
       body = body;
@@ -47,7 +47,7 @@ verified k b s told a = of a.question a.fits a.asked a.told_is
       has_key = (fits.0, cc);
       has_body = (fits.1, cc);
       has_sig = (fits.2, cc);
-      told_is = t;
+      reported_is = t;
     }
     of (Sign asked) fits is t = absurd cc
 
@@ -57,7 +57,7 @@ verify_answers k b s key body sig hk hb hs = record {
   question = Verify key body sig;
   fits = (hk.0, hb.0, hs.0);
   asked = cc (hk.1, hb.1, hs.1);
-  told_is = refl;
+  reported_is = refl;
 }
 
 -- ---- hss
@@ -65,28 +65,28 @@ verify_answers k b s key body sig hk hb hs = record {
 abbrev pub sign_words : List ℕ → List ℕ → List ℕ → List ℕ → List ℕ → List ℕ → List ℕ → List (List ℕ)
 sign_words l h w i seed c body = codes "hss" ∷ l ∷ h ∷ w ∷ i ∷ seed ∷ c ∷ body ∷ []
 
-pub sign_answers : (l h w i seed c body told : List ℕ) (s : Signing) → AskedBy l h w i seed c body s → IsMade s × (told ≡ signed s)
-    → Answers (sign_words l h w i seed c body) told
-sign_answers l h w i seed c body told s asked made =
+pub sign_answers : (l h w i seed c body reported : List ℕ) (s : Signing) → AskedBy l h w i seed c body s → IsMade s × (reported ≡ signed s)
+    → Answers (sign_words l h w i seed c body) reported
+sign_answers l h w i seed c body reported s asked made =
     record {
       question = Sign s;
       fits = (asked.fits, made.0);
       asked = ap (λ (ws : List (List ℕ)). codes "hss" ∷ ws) asked.words;
-      told_is = made.1;
+      reported_is = made.1;
     }
 
 -- what is told, where anything is
-pub sign_told : (r : Result (Vec ℕ Global) LineFault) (l h w i seed c body : List ℕ) (s : Signing) → AskedBy l h w i seed c body s
-    → IfOk r (λ told. IsMade s × (told.items ≡ signed s)) → IfOk r (λ told. Answers (sign_words l h w i seed c body) told.items)
-sign_told (Ok told) l h w i seed c body s asked made = sign_answers l h w i seed c body told.items s asked made
-sign_told (Err e) l h w i seed c body s asked made = tt
+pub sign_reported : (r : Result (Vec ℕ Global) LineFault) (l h w i seed c body : List ℕ) (s : Signing) → AskedBy l h w i seed c body s
+    → IfOk r (λ reported. IsMade s × (reported.items ≡ signed s)) → IfOk r (λ reported. Answers (sign_words l h w i seed c body) reported.items)
+sign_reported (Ok reported) l h w i seed c body s asked made = sign_answers l h w i seed c body reported.items s asked made
+sign_reported (Err e) l h w i seed c body s asked made = tt
 
-pub sign_asked : (l h w i seed c body told : List ℕ) → Answers (sign_words l h w i seed c body) told
-    → (s : Signing) × AskedBy l h w i seed c body s × IsMade s × (told ≡ signed s)
-sign_asked l h w i seed c body told a = of a.question a.fits a.asked a.told_is
+pub sign_asked : (l h w i seed c body reported : List ℕ) → Answers (sign_words l h w i seed c body) reported
+    → (s : Signing) × AskedBy l h w i seed c body s × IsMade s × (reported ≡ signed s)
+sign_asked l h w i seed c body reported a = of a.question a.fits a.asked a.reported_is
   where
-    of : (x : Question) → IsQuestion x → sign_words l h w i seed c body ≡ spelled x → told ≡ answer_to x
-        → (s : Signing) × AskedBy l h w i seed c body s × IsMade s × (told ≡ signed s)
+    of : (x : Question) → IsQuestion x → sign_words l h w i seed c body ≡ spelled x → reported ≡ answer_to x
+        → (s : Signing) × AskedBy l h w i seed c body s × IsMade s × (reported ≡ signed s)
     of (Verify k b g) fits is t = absurd cc
     of (Sign s) fits is t = (s, record { fits = fits.0; words = cc }, fits.1, t)
 
@@ -143,10 +143,10 @@ same_verdict k b s x y v w =
     let key = spelled_once k v.key w.key v.has_key w.has_key in
     let body = spelled_once b v.body w.body v.has_body w.has_body in
     let sig = spelled_once s v.sig w.sig v.has_sig w.has_sig in
-    v.told_is ∙ rw (key, body, sig) (sym w.told_is)
+    v.reported_is ∙ rw (key, body, sig) (sym w.reported_is)
 
 pub one_answer : (words : List (List ℕ)) (x y : List ℕ) → Answers words x → Answers words y → x ≡ y
-one_answer words x y a b = of a.question a.fits a.asked a.told_is
+one_answer words x y a b = of a.question a.fits a.asked a.reported_is
   where
     of : (q : Question) → IsQuestion q → words ≡ spelled q → x ≡ answer_to q → x ≡ y
     of (Verify key body sig) fits is t =
@@ -161,10 +161,10 @@ one_answer words x y a b = of a.question a.fits a.asked a.told_is
         t ∙ ap signed (same_signing s other.0 fits.0 other.1.fits other.1.words) ∙ sym other.3
 
 -- the asked signing is the read one, so what cannot be made has no answer
-pub not_made : (l h w i seed c body told : List ℕ) (s : Signing) → AskedBy l h w i seed c body s → (IsMade s → ⊥)
-    → Answers (sign_words l h w i seed c body) told → ⊥
-not_made l h w i seed c body told s asked none a =
-    let other = sign_asked l h w i seed c body told a in
+pub not_made : (l h w i seed c body reported : List ℕ) (s : Signing) → AskedBy l h w i seed c body s → (IsMade s → ⊥)
+    → Answers (sign_words l h w i seed c body) reported → ⊥
+not_made l h w i seed c body reported s asked none a =
+    let other = sign_asked l h w i seed c body reported a in
     let same : other.0 ≡ s = same_signing other.0 s other.1.fits asked.fits (sym other.1.words ∙ asked.words) in
     none (subst IsMade same other.2)
 

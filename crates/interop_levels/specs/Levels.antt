@@ -69,11 +69,11 @@ answer_to (Verify key body sig) = if hss_valid key body sig then codes "true" el
 answer_to (Sign s) = signed s
 
 -- the words are those of a question on trees in levels, and this is what is answered
-pub record Answers (words : List (List ℕ)) (told : List ℕ) : Type 0 where
+pub record Answers (words : List (List ℕ)) (reported : List ℕ) : Type 0 where
   pub question : Question
   pub fits : IsQuestion question
   pub asked : words ≡ spelled question
-  pub told_is : told ≡ answer_to question
+  pub reported_is : reported ≡ answer_to question
 
 -- the seven words after `hss` spell these
 pub record AskedBy (levels typecode ots id seed number body : List ℕ) (s : Signing) : Type 0 where

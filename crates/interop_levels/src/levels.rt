@@ -92,18 +92,18 @@ fn next_signature(alloc: Global, key: &mut HssKey, body: &[u8]) -> Result<Vec<u8
 /// The public key, and the next signature on the asked body.
 fn tell(alloc: Global, key: &mut HssKey, asked: &Signing) -> Result<Vec<u8>, NoMemory>
     requires { IsReady (signing asked.now) key.old }
-    ensures { IfOk result (λ told. told.items ≡ signed (signing asked.now)) }
+    ensures { IfOk result (λ reported. reported.items ≡ signed (signing asked.now)) }
 {
     let sig = next_signature(alloc, key, &asked.body)?;
-    let mut told = Vec::new(alloc);
-    push_hex(&mut told, key.public())?;
-    told.push(b' ')?;
-    push_hex(&mut told, &sig)?;
-    Ok(told)
+    let mut reported = Vec::new(alloc);
+    push_hex(&mut reported, key.public())?;
+    reported.push(b' ')?;
+    push_hex(&mut reported, &sig)?;
+    Ok(reported)
 }
 
 fn make_and_sign(alloc: Global, asked: &Signing) -> Result<Vec<u8>, LineFault>
-    ensures made { IfOk result (λ told. IsMade (signing asked.now) × (told.items ≡ signed (signing asked.now))) }
+    ensures made { IfOk result (λ reported. IsMade (signing asked.now) × (reported.items ≡ signed (signing asked.now))) }
     ensures none { IsErrOf result LineFault.NoQuestion → ¬ IsMade (signing asked.now) }
 {
     let mut key = key_at(alloc, asked)?;
@@ -117,10 +117,10 @@ fn answer_verify(
     body: &[u8],
     sig: &[u8],
 ) -> Result<Vec<u8>, LineFault>
-    ensures answers { IfOk result (λ told.
-        Answers (codes "verify" ∷ scheme.now ∷ key.now ∷ body.now ∷ sig.now ∷ []) told.items) }
+    ensures answers { IfOk result (λ reported.
+        Answers (codes "verify" ∷ scheme.now ∷ key.now ∷ body.now ∷ sig.now ∷ []) reported.items) }
     ensures no_question { IsErrOf result LineFault.NoQuestion
-        → (told : List ℕ) → ¬ Answers (codes "verify" ∷ scheme.now ∷ key.now ∷ body.now ∷ sig.now ∷ []) told }
+        → (reported : List ℕ) → ¬ Answers (codes "verify" ∷ scheme.now ∷ key.now ∷ body.now ∷ sig.now ∷ []) reported }
 {
     if scheme != b"hss".as_slice() {
         return Err(LineFault::NoQuestion);
@@ -142,10 +142,10 @@ fn answer_sign(
     number: &[u8],
     body: &[u8],
 ) -> Result<Vec<u8>, LineFault>
-    ensures answers { IfOk result (λ told. Answers
-        (codes "hss" ∷ levels.now ∷ typecode.now ∷ ots.now ∷ id.now ∷ seed.now ∷ number.now ∷ body.now ∷ []) told.items) }
-    ensures no_question { IsErrOf result LineFault.NoQuestion → (told : List ℕ) → ¬ Answers
-        (codes "hss" ∷ levels.now ∷ typecode.now ∷ ots.now ∷ id.now ∷ seed.now ∷ number.now ∷ body.now ∷ []) told }
+    ensures answers { IfOk result (λ reported. Answers
+        (codes "hss" ∷ levels.now ∷ typecode.now ∷ ots.now ∷ id.now ∷ seed.now ∷ number.now ∷ body.now ∷ []) reported.items) }
+    ensures no_question { IsErrOf result LineFault.NoQuestion → (reported : List ℕ) → ¬ Answers
+        (codes "hss" ∷ levels.now ∷ typecode.now ∷ ots.now ∷ id.now ∷ seed.now ∷ number.now ∷ body.now ∷ []) reported }
 {
     let asked = read_signing(alloc, levels, typecode, ots, id, seed, number, body)?;
     make_and_sign(alloc, &asked)
@@ -153,9 +153,9 @@ fn answer_sign(
 
 /// The answer to a question that begins with `verify`, by the words after it.
 fn verify(alloc: Global, words: &[&[u8]]) -> Result<Vec<u8>, LineFault>
-    ensures answers { IfOk result (λ told. Answers (codes "verify" ∷ map (λ word. word.now) words.now) told.items) }
+    ensures answers { IfOk result (λ reported. Answers (codes "verify" ∷ map (λ word. word.now) words.now) reported.items) }
     ensures no_question { IsErrOf result LineFault.NoQuestion
-        → (told : List ℕ) → ¬ Answers (codes "verify" ∷ map (λ word. word.now) words.now) told }
+        → (reported : List ℕ) → ¬ Answers (codes "verify" ∷ map (λ word. word.now) words.now) reported }
 {
     if words.len() == 4 {
         answer_verify(alloc, words[0], words[1], words[2], words[3])
@@ -166,9 +166,9 @@ fn verify(alloc: Global, words: &[&[u8]]) -> Result<Vec<u8>, LineFault>
 
 /// The answer to a question that begins with `hss`, by the words after it.
 fn sign(alloc: Global, words: &[&[u8]]) -> Result<Vec<u8>, LineFault>
-    ensures answers { IfOk result (λ told. Answers (codes "hss" ∷ map (λ word. word.now) words.now) told.items) }
+    ensures answers { IfOk result (λ reported. Answers (codes "hss" ∷ map (λ word. word.now) words.now) reported.items) }
     ensures no_question { IsErrOf result LineFault.NoQuestion
-        → (told : List ℕ) → ¬ Answers (codes "hss" ∷ map (λ word. word.now) words.now) told }
+        → (reported : List ℕ) → ¬ Answers (codes "hss" ∷ map (λ word. word.now) words.now) reported }
 {
     if words.len() == 7 {
         answer_sign(
@@ -181,9 +181,9 @@ fn sign(alloc: Global, words: &[&[u8]]) -> Result<Vec<u8>, LineFault>
 
 /// The answer to a question on signatures of trees in levels, by the words of a line.
 pub fn answer_levels(alloc: Global, words: &[&[u8]]) -> Result<Vec<u8>, LineFault>
-    ensures answers { IfOk result (λ told. Answers (map (λ word. word.now) words.now) told.items) }
+    ensures answers { IfOk result (λ reported. Answers (map (λ word. word.now) words.now) reported.items) }
     ensures no_question { IsErrOf result LineFault.NoQuestion
-        → (told : List ℕ) → ¬ Answers (map (λ word. word.now) words.now) told }
+        → (reported : List ℕ) → ¬ Answers (map (λ word. word.now) words.now) reported }
 {
     let Some((verb, words)) = words.split_first() else {
         return Err(LineFault::NoQuestion);

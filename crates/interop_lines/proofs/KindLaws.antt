@@ -23,39 +23,39 @@ use Rattle.interop_pool.proofs.QuestionLaws as of_pools
 use Rattle.interop_store.proofs.QuestionLaws as of_stores
 
 -- a line that asks on no signature, no frame, no kit, no schedule, no journal and no datagram, on no pool and no conviction, and on no store
-none_once : (line told : List ℕ) (ws ls vs us ss ns ps ts : List (List ℕ)) → ws ≡ words_of line → ls ≡ words_of line → vs ≡ words_of line
+none_once : (line reported : List ℕ) (ws ls vs us ss ns ps ts : List (List ℕ)) → ws ≡ words_of line → ls ≡ words_of line → vs ≡ words_of line
     → us ≡ words_of line → ss ≡ words_of line → ns ≡ words_of line → ps ≡ words_of line → ts ≡ words_of line
-    → (signatures.Answers ws told → ⊥) → (levels.Answers ls told → ⊥) → (frames.Answers vs told → ⊥) → (kits.Answers us told → ⊥)
-    → (schedules.Answers ss told → ⊥) → (nodes.Answers ns told → ⊥) → (pools.Answers ps told → ⊥) → (stores.Answers ts told → ⊥)
-    → AnswersOnce line told → ⊥
-none_once line told ws ls vs us ss ns ps ts e l f g h k m n one two three four five six seven eight (inl a) =
-    one (subst (λ w. signatures.Answers w told) (sym e) a)
-none_once line told ws ls vs us ss ns ps ts e l f g h k m n one two three four five six seven eight (inr (inl a)) =
-    two (subst (λ w. levels.Answers w told) (sym l) a)
-none_once line told ws ls vs us ss ns ps ts e l f g h k m n one two three four five six seven eight (inr (inr (inl a))) =
-    three (subst (λ w. frames.Answers w told) (sym f) a)
-none_once line told ws ls vs us ss ns ps ts e l f g h k m n one two three four five six seven eight (inr (inr (inr (inl a)))) =
-    four (subst (λ w. kits.Answers w told) (sym g) a)
-none_once line told ws ls vs us ss ns ps ts e l f g h k m n one two three four five six seven eight (inr (inr (inr (inr (inl a))))) =
-    five (subst (λ w. schedules.Answers w told) (sym h) a)
-none_once line told ws ls vs us ss ns ps ts e l f g h k m n one two three four five six seven eight (inr (inr (inr (inr (inr (inl a)))))) =
-    six (subst (λ w. nodes.Answers w told) (sym k) a)
-none_once line told ws ls vs us ss ns ps ts e l f g h k m n one two three four five six seven eight (inr (inr (inr (inr (inr (inr (inl a))))))) =
-    seven (subst (λ w. pools.Answers w told) (sym m) a)
-none_once line told ws ls vs us ss ns ps ts e l f g h k m n one two three four five six seven eight (inr (inr (inr (inr (inr (inr (inr a))))))) =
-    eight (subst (λ w. stores.Answers w told) (sym n) a)
+    → (signatures.Answers ws reported → ⊥) → (levels.Answers ls reported → ⊥) → (frames.Answers vs reported → ⊥) → (kits.Answers us reported → ⊥)
+    → (schedules.Answers ss reported → ⊥) → (nodes.Answers ns reported → ⊥) → (pools.Answers ps reported → ⊥) → (stores.Answers ts reported → ⊥)
+    → AnswersOnce line reported → ⊥
+none_once line reported ws ls vs us ss ns ps ts e l f g h k m n one two three four five six seven eight (inl a) =
+    one (subst (λ w. signatures.Answers w reported) (sym e) a)
+none_once line reported ws ls vs us ss ns ps ts e l f g h k m n one two three four five six seven eight (inr (inl a)) =
+    two (subst (λ w. levels.Answers w reported) (sym l) a)
+none_once line reported ws ls vs us ss ns ps ts e l f g h k m n one two three four five six seven eight (inr (inr (inl a))) =
+    three (subst (λ w. frames.Answers w reported) (sym f) a)
+none_once line reported ws ls vs us ss ns ps ts e l f g h k m n one two three four five six seven eight (inr (inr (inr (inl a)))) =
+    four (subst (λ w. kits.Answers w reported) (sym g) a)
+none_once line reported ws ls vs us ss ns ps ts e l f g h k m n one two three four five six seven eight (inr (inr (inr (inr (inl a))))) =
+    five (subst (λ w. schedules.Answers w reported) (sym h) a)
+none_once line reported ws ls vs us ss ns ps ts e l f g h k m n one two three four five six seven eight (inr (inr (inr (inr (inr (inl a)))))) =
+    six (subst (λ w. nodes.Answers w reported) (sym k) a)
+none_once line reported ws ls vs us ss ns ps ts e l f g h k m n one two three four five six seven eight (inr (inr (inr (inr (inr (inr (inl a))))))) =
+    seven (subst (λ w. pools.Answers w reported) (sym m) a)
+none_once line reported ws ls vs us ss ns ps ts e l f g h k m n one two three four five six seven eight (inr (inr (inr (inr (inr (inr (inr a))))))) =
+    eight (subst (λ w. stores.Answers w reported) (sym n) a)
 
 -- and for no run
-pub none : (R : Runs) (line told : List ℕ) (ws ls vs us ss ns ps ts rs : List (List ℕ)) → ws ≡ words_of line → ls ≡ words_of line
+pub none : (R : Runs) (line reported : List ℕ) (ws ls vs us ss ns ps ts rs : List (List ℕ)) → ws ≡ words_of line → ls ≡ words_of line
     → vs ≡ words_of line → us ≡ words_of line → ss ≡ words_of line → ns ≡ words_of line → ps ≡ words_of line → ts ≡ words_of line
     → rs ≡ words_of line
-    → (signatures.Answers ws told → ⊥) → (levels.Answers ls told → ⊥) → (frames.Answers vs told → ⊥) → (kits.Answers us told → ⊥)
-    → (schedules.Answers ss told → ⊥) → (nodes.Answers ns told → ⊥) → (pools.Answers ps told → ⊥) → (stores.Answers ts told → ⊥)
-    → (runs.Answers R rs told → ⊥) → Answers R line told → ⊥
-none R line told ws ls vs us ss ns ps ts rs e l f g h k m n r one two three four five six seven eight nine (inl a) =
-    none_once line told ws ls vs us ss ns ps ts e l f g h k m n one two three four five six seven eight a
-none R line told ws ls vs us ss ns ps ts rs e l f g h k m n r one two three four five six seven eight nine (inr a) =
-    nine (subst (λ w. runs.Answers R w told) (sym r) a)
+    → (signatures.Answers ws reported → ⊥) → (levels.Answers ls reported → ⊥) → (frames.Answers vs reported → ⊥) → (kits.Answers us reported → ⊥)
+    → (schedules.Answers ss reported → ⊥) → (nodes.Answers ns reported → ⊥) → (pools.Answers ps reported → ⊥) → (stores.Answers ts reported → ⊥)
+    → (runs.Answers R rs reported → ⊥) → Answers R line reported → ⊥
+none R line reported ws ls vs us ss ns ps ts rs e l f g h k m n r one two three four five six seven eight nine (inl a) =
+    none_once line reported ws ls vs us ss ns ps ts e l f g h k m n one two three four five six seven eight a
+none R line reported ws ls vs us ss ns ps ts rs e l f g h k m n r one two three four five six seven eight nine (inr a) =
+    nine (subst (λ w. runs.Answers R w reported) (sym r) a)
 
 -- ---- a number for each kind of question
 
@@ -289,12 +289,12 @@ module _ (ws rest : List (List ℕ)) (is : ws ≡ codes "run" ∷ rest) where
   no_store (stores.OfReply bytes) e = absurd (omega (arith, next_other (stores.spelled (stores.OfReply bytes)) 101 e refl))
   no_store (stores.OfState bytes) e = absurd (omega (arith, other (stores.spelled (stores.OfState bytes)) 115 e refl))
 
-pub run_alone : (line told : List ℕ) (rest : List (List ℕ)) → words_of line ≡ codes "run" ∷ rest → AnswersOnce line told → ⊥
-run_alone line told rest is (inl a) = no_signature (words_of line) rest is a.question a.asked
-run_alone line told rest is (inr (inl a)) = no_levels (words_of line) rest is a.question a.asked
-run_alone line told rest is (inr (inr (inl a))) = no_frame (words_of line) rest is a.question a.asked
-run_alone line told rest is (inr (inr (inr (inl a)))) = no_kit (words_of line) rest is a.question a.asked
-run_alone line told rest is (inr (inr (inr (inr (inl a))))) = no_schedule (words_of line) rest is a.question a.asked
-run_alone line told rest is (inr (inr (inr (inr (inr (inl a)))))) = no_node (words_of line) rest is a.question a.asked
-run_alone line told rest is (inr (inr (inr (inr (inr (inr (inl a))))))) = no_pool (words_of line) rest is a.question a.asked
-run_alone line told rest is (inr (inr (inr (inr (inr (inr (inr a))))))) = no_store (words_of line) rest is a.question a.asked
+pub run_alone : (line reported : List ℕ) (rest : List (List ℕ)) → words_of line ≡ codes "run" ∷ rest → AnswersOnce line reported → ⊥
+run_alone line reported rest is (inl a) = no_signature (words_of line) rest is a.question a.asked
+run_alone line reported rest is (inr (inl a)) = no_levels (words_of line) rest is a.question a.asked
+run_alone line reported rest is (inr (inr (inl a))) = no_frame (words_of line) rest is a.question a.asked
+run_alone line reported rest is (inr (inr (inr (inl a)))) = no_kit (words_of line) rest is a.question a.asked
+run_alone line reported rest is (inr (inr (inr (inr (inl a))))) = no_schedule (words_of line) rest is a.question a.asked
+run_alone line reported rest is (inr (inr (inr (inr (inr (inl a)))))) = no_node (words_of line) rest is a.question a.asked
+run_alone line reported rest is (inr (inr (inr (inr (inr (inr (inl a))))))) = no_pool (words_of line) rest is a.question a.asked
+run_alone line reported rest is (inr (inr (inr (inr (inr (inr (inr a))))))) = no_store (words_of line) rest is a.question a.asked

@@ -75,21 +75,21 @@ module _ (R : Runs) where
       subst (λ (bytes : List ℕ). HasServed R n bytes before now old new) (sym read.2) more
 
   -- a line was taken and answered
-  pub served_one_more : (n : ℕ) (ahead line rest told : List ℕ) (before now old mid new : Option (List ℕ))
+  pub served_one_more : (n : ℕ) (ahead line rest reported : List ℕ) (before now old mid new : Option (List ℕ))
       → HasServed R n ahead before now old mid
-      → IsLine line → ahead ≡ ended line ++ rest → Answers R line told → Appends mid new (ended told)
+      → IsLine line → ahead ≡ ended line ++ rest → Answers R line reported → Appends mid new (ended reported)
       → HasServed R (suc n) rest before now old new
-  served_one_more n ahead line rest told before now old mid new s fits is answers wrote = record {
+  served_one_more n ahead line rest reported before now old mid new s fits is answers wrote = record {
     input = s.input ++ ended line;
-    output = s.output ++ ended told;
-    served = OneMore n s.input s.output line told s.served fits answers;
+    output = s.output ++ ended reported;
+    served = OneMore n s.input s.output line reported s.served fits answers;
     taken = subst (Consumes before now) (ap (λ (t : List ℕ). s.input ++ t) is ∙ sym (append_assoc s.input (ended line) rest)) s.taken;
-    written = Appends-trans old mid new s.output (ended told) s.written wrote;
+    written = Appends-trans old mid new s.output (ended reported) s.written wrote;
   }
 
-  pub in_part : (n : ℕ) (ahead line told : List ℕ) (before now old mid new : Option (List ℕ)) → HasServed R n ahead before now old mid
-      → Answers R line told → AppendsPrefix mid new (ended told) → ServedInPart R before now old new
-  in_part n ahead line told before now old mid new s answers wrote = (mid, (n, ahead, s), (line, told, answers, wrote))
+  pub in_part : (n : ℕ) (ahead line reported : List ℕ) (before now old mid new : Option (List ℕ)) → HasServed R n ahead before now old mid
+      → Answers R line reported → AppendsPrefix mid new (ended reported) → ServedInPart R before now old new
+  in_part n ahead line reported before now old mid new s answers wrote = (mid, (n, ahead, s), (line, reported, answers, wrote))
 
   -- no line was taken
   pub no_line : (ahead : List ℕ) (now : Option (List ℕ)) → 0 < length ahead → HasNoLine ahead

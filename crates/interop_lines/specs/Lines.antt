@@ -14,18 +14,18 @@ use Rattle.interop_runs.specs.Runs.{Runs}
 
 -- the line's words are those of a question that is about the line alone, and this is what is answered
 abbrev pub AnswersOnce : List ℕ → List ℕ → Type 0
-AnswersOnce line told =
-    signatures.Answers (words_of line) told ⊎ levels.Answers (words_of line) told ⊎ frames.Answers (words_of line) told
-    ⊎ kits.Answers (words_of line) told
-    ⊎ schedules.Answers (words_of line) told ⊎ nodes.Answers (words_of line) told
-    ⊎ pools.Answers (words_of line) told ⊎ stores.Answers (words_of line) told
+AnswersOnce line reported =
+    signatures.Answers (words_of line) reported ⊎ levels.Answers (words_of line) reported ⊎ frames.Answers (words_of line) reported
+    ⊎ kits.Answers (words_of line) reported
+    ⊎ schedules.Answers (words_of line) reported ⊎ nodes.Answers (words_of line) reported
+    ⊎ pools.Answers (words_of line) reported ⊎ stores.Answers (words_of line) reported
 
 -- the line's words are those of a question, one about the line alone or one about a run of the program, and this is what is answered, by what
 -- a run may come to
 abbrev pub Answers : Runs → List ℕ → List ℕ → Type 0
-Answers comes_to line told = AnswersOnce line told ⊎ runs.Answers comes_to (words_of line) told
+Answers comes_to line reported = AnswersOnce line reported ⊎ runs.Answers comes_to (words_of line) reported
 
 -- No line has two answers that are about it alone, and one that asks for a run has none of these.
 pub record OneAnswer : Type 0 where
   pub one : (line a b : List ℕ) → AnswersOnce line a → AnswersOnce line b → a ≡ b
-  pub apart : (line told : List ℕ) (rest : List (List ℕ)) → words_of line ≡ codes "run" ∷ rest → ¬ AnswersOnce line told
+  pub apart : (line reported : List ℕ) (rest : List (List ℕ)) → words_of line ≡ codes "run" ∷ rest → ¬ AnswersOnce line reported

@@ -21,8 +21,8 @@ ended line = line ++ codes "\n"
 -- Lines, how many they are, and what is written for them: the answer to each, on a line.
 pub data Served (R : Runs) : ℕ → List ℕ → List ℕ → Type 0 where
   Nothing : Served R 0 [] []
-  OneMore : (n : ℕ) (input output line told : List ℕ) → Served R n input output → IsLine line → Answers R line told
-      → Served R (suc n) (input ++ ended line) (output ++ ended told)
+  OneMore : (n : ℕ) (input output line reported : List ℕ) → Served R n input output → IsLine line → Answers R line reported
+      → Served R (suc n) (input ++ ended line) (output ++ ended reported)
 
 -- By what a source had left before and what it has left now, and by what a sink held before and holds now: n lines
 -- were served, and these bytes were read after them.
@@ -40,7 +40,7 @@ HasNoLine bytes = (line more : List ℕ) → bytes ≡ ended line ++ more → ¬
 -- The bytes, and whatever the source may have left, begin with a line that is no question, or with no line.
 abbrev pub HasNoQuestion : Runs → List ℕ → Option (List ℕ) → Type 0
 HasNoQuestion R bytes now =
-    ((line more : List ℕ) × (bytes ≡ ended line ++ more) × IsLine line × ((told : List ℕ) → ¬ Answers R line told))
+    ((line more : List ℕ) × (bytes ≡ ended line ++ more) × IsLine line × ((reported : List ℕ) → ¬ Answers R line reported))
     ⊎ (HasNoLine bytes × (0 < length bytes) × ((1000000 < length bytes) ⊎ IsAtEnd now))
 
 -- all lines were served
@@ -55,7 +55,7 @@ SomeServed R before now old new = (n : ℕ) × (ahead : List ℕ) × HasServed R
 abbrev pub ServedInPart : Runs → Option (List ℕ) → Option (List ℕ) → Option (List ℕ) → Option (List ℕ) → Type 0
 ServedInPart R before now old new =
     (mid : Option (List ℕ)) × SomeServed R before now old mid
-    × ((line told : List ℕ) × Answers R line told × AppendsPrefix mid new (ended told))
+    × ((line reported : List ℕ) × Answers R line reported × AppendsPrefix mid new (ended reported))
 
 -- some lines were served, and then why the run stops was written: by the counts of the sink's faults before and now
 abbrev pub ServedAndSays : Runs → Stop → Option (List ℕ) → Option (List ℕ) → Option (List ℕ) → Option (List ℕ) → ℕ → ℕ → Type 0

@@ -37,8 +37,8 @@ use std::alloc::Global;
 /// Words are parted by single spaces. Bytes are in lower-case hexadecimal, or `-` where there are none; I has 16 bytes and
 /// SEED 32. Numbers are decimal, without sign or leading zero. `NoQuestion` comes exactly where the line is none of these.
 pub fn answer<P: Program>(alloc: Global, program: &P, line: &[u8]) -> Result<Vec<u8>, LineFault>
-    ensures answers { IfOk result (λ told. Answers (P.comes_to program.now) line.now told.items) }
-    ensures no_question { IsErrOf result LineFault.NoQuestion → (told : List ℕ) → ¬ Answers (P.comes_to program.now) line.now told }
+    ensures answers { IfOk result (λ reported. Answers (P.comes_to program.now) line.now reported.items) }
+    ensures no_question { IsErrOf result LineFault.NoQuestion → (reported : List ℕ) → ¬ Answers (P.comes_to program.now) line.now reported }
 {
     let words = words_of(alloc, line)?;
     match answer_signatures(alloc, &words) {

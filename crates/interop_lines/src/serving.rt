@@ -23,25 +23,25 @@ fn answer_line<K: Sink, P: Program>(
     output: &mut K,
 ) -> Result<(), Stop>
     ensures answered { OnOk result
-        ((told : List ℕ) × Answers (P.comes_to program.now) line.now told
-        × Appends (K.written output.old) (K.written output.new) (ended told)) }
+        ((reported : List ℕ) × Answers (P.comes_to program.now) line.now reported
+        × Appends (K.written output.old) (K.written output.new) (ended reported)) }
     ensures steady { OnOk result (K.faults output.new ≡ K.faults output.old) }
     ensures refused { (n : ℕ) → IsErrOf result (Stop.Line n) → (n ≡ number)
-        × ((told : List ℕ) → ¬ Answers (P.comes_to program.now) line.now told) }
+        × ((reported : List ℕ) → ¬ Answers (P.comes_to program.now) line.now reported) }
     ensures part { IsErrOf result Stop.Write
-        → (told : List ℕ) × Answers (P.comes_to program.now) line.now told
-        × AppendsPrefix (K.written output.old) (K.written output.new) (ended told) }
+        → (reported : List ℕ) × Answers (P.comes_to program.now) line.now reported
+        × AppendsPrefix (K.written output.old) (K.written output.new) (ended reported) }
     ensures failed { IsErrOf result Stop.Write → Rose (K.faults output.old) (K.faults output.new) }
     ensures untouched { IfErr result (λ stop. (stop ≡ Stop.Write) ⊎ (output.new ≡ output.old)) }
     ensures no_read { ¬ IsErrOf result Stop.Read }
 {
-    let mut told = match answer(alloc, program, line) {
-        Ok(told) => told,
+    let mut reported = match answer(alloc, program, line) {
+        Ok(reported) => reported,
         Err(LineFault::NoQuestion) => return Err(Stop::Line(number)),
         Err(LineFault::NoMemory) => return Err(Stop::NoMemory),
     };
-    told.extend_from_slice(b"\n")?;
-    match write_all(output, &told) {
+    reported.extend_from_slice(b"\n")?;
+    match write_all(output, &reported) {
         Ok(()) => Ok(()),
         Err(_) => Err(Stop::Write),
     }

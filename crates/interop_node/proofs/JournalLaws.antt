@@ -126,14 +126,14 @@ pub one_said : OneSaid
 one_said bytes x y (inl a) (inl b) =
     let version = one_version bytes a.version b.version a.begins b.begins in
     let entries = one_reading (header_of bytes) bytes a.entries b.entries a.reads b.reads in
-    a.told_is ∙ ap (λ (v : Version). (codes "journal " ++ decimal (batch_limit v)) ++ flat_map entry_words a.entries) version
-    ∙ ap (λ (es : List Entry). (codes "journal " ++ decimal (batch_limit b.version)) ++ flat_map entry_words es) entries ∙ sym b.told_is
+    a.reported_is ∙ ap (λ (v : Version). (codes "journal " ++ decimal (batch_limit v)) ++ flat_map entry_words a.entries) version
+    ∙ ap (λ (es : List Entry). (codes "journal " ++ decimal (batch_limit b.version)) ++ flat_map entry_words es) entries ∙ sym b.reported_is
 one_said bytes x y (inl a) (inr (inl b)) = absurd (reads_or_breaks (header_of bytes) bytes a.entries b.place a.reads b.breaks)
 one_said bytes x y (inl a) (inr (inr b)) = absurd (b.no_journal a.version a.begins)
 one_said bytes x y (inr (inl a)) (inl b) = absurd (reads_or_breaks (header_of bytes) bytes b.entries a.place b.reads a.breaks)
-one_said bytes x y (inr (inl a)) (inr (inl b)) = a.told_is ∙ ap (λ (p : ℕ). codes "entry " ++ decimal p)
-    (one_place (header_of bytes) bytes a.place b.place a.breaks b.breaks) ∙ sym b.told_is
+one_said bytes x y (inr (inl a)) (inr (inl b)) = a.reported_is ∙ ap (λ (p : ℕ). codes "entry " ++ decimal p)
+    (one_place (header_of bytes) bytes a.place b.place a.breaks b.breaks) ∙ sym b.reported_is
 one_said bytes x y (inr (inl a)) (inr (inr b)) = absurd (b.no_journal a.version a.begins)
 one_said bytes x y (inr (inr a)) (inl b) = absurd (a.no_journal b.version b.begins)
 one_said bytes x y (inr (inr a)) (inr (inl b)) = absurd (a.no_journal b.version b.begins)
-one_said bytes x y (inr (inr a)) (inr (inr b)) = a.told_is ∙ sym b.told_is
+one_said bytes x y (inr (inr a)) (inr (inr b)) = a.reported_is ∙ sym b.reported_is

@@ -11,23 +11,23 @@ use Rattle.interop_node.specs.Datagrams.{datagram_answer}
 use Rattle.interop_node.specs.Questions.{Answers, IsAnswerTo, IsQuestion, OfDatagram, OfJournal, Question, spelled}
 use Rattle.interop_node.proofs.JournalLaws.{one_said}
 
-pub journal_answers : (word bytes told : List ℕ) → Spells word bytes → Says bytes told → Answers (codes "journal" ∷ word ∷ []) told
-journal_answers word bytes told s says = record {
+pub journal_answers : (word bytes reported : List ℕ) → Spells word bytes → Says bytes reported → Answers (codes "journal" ∷ word ∷ []) reported
+journal_answers word bytes reported s says = record {
   question = OfJournal bytes;
   fits = s.0;
   asked = ap (λ (w : List ℕ). codes "journal" ∷ w ∷ []) s.1;
-  is_told = says;
+  is_reported = says;
 }
 
-pub datagram_answers : (key_word word key bytes told : List ℕ) → AreBytes 32 key → key_word ≡ encode_lower key → Spells word bytes
-    → told ≡ datagram_answer key bytes → Answers (codes "datagram" ∷ key_word ∷ word ∷ []) told
-datagram_answers key_word word key bytes told fits spells s is =
+pub datagram_answers : (key_word word key bytes reported : List ℕ) → AreBytes 32 key → key_word ≡ encode_lower key → Spells word bytes
+    → reported ≡ datagram_answer key bytes → Answers (codes "datagram" ∷ key_word ∷ word ∷ []) reported
+datagram_answers key_word word key bytes reported fits spells s is =
     record {
       question = OfDatagram key bytes;
       fits = (fits, s.0);
       asked = ap (λ (w : List ℕ). codes "datagram" ∷ w ∷ word ∷ []) spells ∙ ap
           (λ (w : List ℕ). codes "datagram" ∷ encode_lower key ∷ w ∷ []) s.1;
-      is_told = is;
+      is_reported = is;
     }
 
 -- ---- the words of a line
@@ -51,7 +51,7 @@ begun words rest v as_slice word is same spelled =
 -- ---- one answer
 
 pub one_answer : (words : List (List ℕ)) (x y : List ℕ) → Answers words x → Answers words y → x ≡ y
-one_answer words x y a b = of a.question b.question a.fits b.fits a.asked b.asked a.is_told b.is_told
+one_answer words x y a b = of a.question b.question a.fits b.fits a.asked b.asked a.is_reported b.is_reported
   where
     of : (p q : Question) → IsQuestion p → IsQuestion q → words ≡ spelled p → words ≡ spelled q → IsAnswerTo p x → IsAnswerTo q y → x ≡ y
     of (OfJournal m) (OfJournal n) fm fn is also t u = one_said m x y t

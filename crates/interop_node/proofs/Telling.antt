@@ -8,12 +8,12 @@ use Rattle.journal_defs.specs.Journals.{HasEntryAt, StandsBefore, up_to_gate}
 use Rattle.journal_defs.proofs.Gates.{entry_goes_on}
 use Rattle.interop_node.specs.Journals.{entry_words, header_of}
 
-abbrev told : List Entry → List ℕ
-told es = flat_map entry_words es
+abbrev reported : List Entry → List ℕ
+reported es = flat_map entry_words es
 
 -- no entry stands before the first gate, and none was told
 pub starts : (bytes out : List ℕ) → 60 < length bytes
-    → (es : List Entry) × StandsBefore (header_of bytes) bytes es 60 × (out ≡ out ++ told es)
+    → (es : List Entry) × StandsBefore (header_of bytes) bytes es 60 × (out ≡ out ++ reported es)
 starts bytes out long = (
   [],
   record {
@@ -37,15 +37,15 @@ goes_less bytes place e next less h = omega (arith, less, h.next_is)
 
 module _ (head bytes : List ℕ) (place next : ℕ) (e : Entry) (first before after : List ℕ) where
   -- one entry more was told
-  pub next_told : (before_it : (es : List Entry) × StandsBefore head bytes es place × (before ≡ first ++ told es))
+  pub next_reported : (before_it : (es : List Entry) × StandsBefore head bytes es place × (before ≡ first ++ reported es))
       → HasEntryAt bytes place e next → after ≡ before ++ entry_words e
-      → (es : List Entry) × StandsBefore head bytes es next × (after ≡ first ++ told es)
-  next_told b h is =
+      → (es : List Entry) × StandsBefore head bytes es next × (after ≡ first ++ reported es)
+  next_reported b h is =
       let es = b.0 in
-      let one : told (es ++ e ∷ []) ≡ told es
-      ++ entry_words e = flat_map-append entry_words es (e ∷ []) ∙ ap (λ (l : List ℕ). told es ++ l) (append-nil (entry_words e)) in (
+      let one : reported (es ++ e ∷ []) ≡ reported es
+      ++ entry_words e = flat_map-append entry_words es (e ∷ []) ∙ ap (λ (l : List ℕ). reported es ++ l) (append-nil (entry_words e)) in (
         es ++ e ∷ [],
         entry_goes_on head bytes es place e next b.1 h,
-        is ∙ ap (λ (l : List ℕ). l ++ entry_words e) b.2 ∙ append_assoc first (told es) (entry_words e) ∙ ap (λ (l : List ℕ). first ++ l)
+        is ∙ ap (λ (l : List ℕ). l ++ entry_words e) b.2 ∙ append_assoc first (reported es) (entry_words e) ∙ ap (λ (l : List ℕ). first ++ l)
             (sym one),
       )

@@ -40,28 +40,28 @@ abbrev pub BeginsAs : Version → List ℕ → Type 0
 BeginsAs v bytes = (take 4 bytes ≡ magic v) × (60 < length bytes)
 
 -- `journal LIMIT` and the entries in order: how many messages a process orders at a place, and each entry before the first closed gate
-pub record SaysEntries (bytes told : List ℕ) : Type 0 where
+pub record SaysEntries (bytes reported : List ℕ) : Type 0 where
   pub version : Version
   pub entries : List Entry
   pub begins : BeginsAs version bytes
   pub reads : ReadsAs (header_of bytes) bytes entries
-  pub told_is : told ≡ (codes "journal " ++ decimal (batch_limit version)) ++ flat_map entry_words entries
+  pub reported_is : reported ≡ (codes "journal " ++ decimal (batch_limit version)) ++ flat_map entry_words entries
 
 -- `entry PLACE`: the gate there is open, and no whole entry and next gate follow it
-pub record SaysBroken (bytes told : List ℕ) : Type 0 where
+pub record SaysBroken (bytes reported : List ℕ) : Type 0 where
   pub version : Version
   pub place : ℕ
   pub begins : BeginsAs version bytes
   pub breaks : BreaksAt (header_of bytes) bytes place
-  pub told_is : told ≡ codes "entry " ++ decimal place
+  pub reported_is : reported ≡ codes "entry " ++ decimal place
 
 -- `notajournal`: the bytes begin with a header of neither kind, or end after it
-pub record SaysNothing (bytes told : List ℕ) : Type 0 where
+pub record SaysNothing (bytes reported : List ℕ) : Type 0 where
   pub no_journal : (v : Version) → ¬ BeginsAs v bytes
-  pub told_is : told ≡ codes "notajournal"
+  pub reported_is : reported ≡ codes "notajournal"
 
 abbrev pub Says : List ℕ → List ℕ → Type 0
-Says bytes told = SaysEntries bytes told ⊎ SaysBroken bytes told ⊎ SaysNothing bytes told
+Says bytes reported = SaysEntries bytes reported ⊎ SaysBroken bytes reported ⊎ SaysNothing bytes reported
 
 -- of the same bytes one thing is said
 abbrev pub OneSaid : Type 0

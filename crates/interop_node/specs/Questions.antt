@@ -21,12 +21,12 @@ spelled (OfJournal bytes) = codes "journal" ∷ bytes_word bytes ∷ []
 spelled (OfDatagram key bytes) = codes "datagram" ∷ encode_lower key ∷ bytes_word bytes ∷ []
 
 abbrev pub IsAnswerTo : Question → List ℕ → Type 0
-IsAnswerTo (OfJournal bytes) told = Says bytes told
-IsAnswerTo (OfDatagram key bytes) told = told ≡ datagram_answer key bytes
+IsAnswerTo (OfJournal bytes) reported = Says bytes reported
+IsAnswerTo (OfDatagram key bytes) reported = reported ≡ datagram_answer key bytes
 
 -- the words are those of a question on a journal or a datagram, and this is what is answered
-pub record Answers (words : List (List ℕ)) (told : List ℕ) : Type 0 where
+pub record Answers (words : List (List ℕ)) (reported : List ℕ) : Type 0 where
   pub question : Question
   pub fits : IsQuestion question
   pub asked : words ≡ spelled question
-  pub is_told : IsAnswerTo question told
+  pub is_reported : IsAnswerTo question reported

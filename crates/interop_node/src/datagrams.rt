@@ -43,13 +43,13 @@ fn fault_word(fault: LinkFault) -> &'static [u8]
 
 // `opened`, the sender and the frame.
 fn opened_words(alloc: Global, found: &Opened<'_>) -> Result<Vec<u8>, NoMemory>
-    ensures { IfOk result (λ told. told.items ≡ said (Ok (parts found.now))) }
+    ensures { IfOk result (λ reported. reported.items ≡ said (Ok (parts found.now))) }
 {
-    let mut told = b"opened ".to_vec(alloc)?;
-    push_number(&mut told, found.from.get().into())?;
-    told.extend_from_slice(b" ")?;
-    push_byte_list(&mut told, found.frame)?;
-    Ok(told)
+    let mut reported = b"opened ".to_vec(alloc)?;
+    push_number(&mut reported, found.from.get().into())?;
+    reported.extend_from_slice(b" ")?;
+    push_byte_list(&mut reported, found.frame)?;
+    Ok(reported)
 }
 
 /// What process 2 of the group 000102..0f opens of the bytes as a datagram, which shares the key with process 1: `opened FROM FRAME`, or
@@ -59,7 +59,7 @@ pub(crate) fn answer_datagram(
     key: &[u8; 32],
     bytes: &[u8],
 ) -> Result<Vec<u8>, NoMemory>
-    ensures { IfOk result (λ told. told.items ≡ datagram_answer key.now bytes.now) }
+    ensures { IfOk result (λ reported. reported.items ≡ datagram_answer key.now bytes.now) }
 {
     let keys = keys_with(key);
     match unseal(&keys, bytes) {

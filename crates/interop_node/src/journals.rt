@@ -145,33 +145,33 @@ fn limit_of(version: Version) -> u64
 
 // `journal`, and that limit.
 fn limit_words(alloc: Global, version: Version) -> Result<Vec<u8>, NoMemory>
-    ensures { IfOk result (λ told. told.items ≡ codes "journal " ++ decimal (batch_limit version)) }
+    ensures { IfOk result (λ reported. reported.items ≡ codes "journal " ++ decimal (batch_limit version)) }
 {
-    let mut told = b"journal ".to_vec(alloc)?;
-    push_number(&mut told, limit_of(version))?;
-    Ok(told)
+    let mut reported = b"journal ".to_vec(alloc)?;
+    push_number(&mut reported, limit_of(version))?;
+    Ok(reported)
 }
 
 // `entry`, and the place.
 fn place_words(alloc: Global, place: u64) -> Result<Vec<u8>, NoMemory>
-    ensures { IfOk result (λ told. told.items ≡ codes "entry " ++ decimal place) }
+    ensures { IfOk result (λ reported. reported.items ≡ codes "entry " ++ decimal place) }
 {
-    let mut told = b"entry ".to_vec(alloc)?;
-    push_number(&mut told, place)?;
-    Ok(told)
+    let mut reported = b"entry ".to_vec(alloc)?;
+    push_number(&mut reported, place)?;
+    Ok(reported)
 }
 
 /// What the bytes say as a journal: `journal LIMIT` and for each entry ` entry PROCESS EVENT SPENT` and its signatures; or `entry PLACE`,
 /// the place of a gate that is open and that no whole entry and next gate follow; or `notajournal`.
 pub(crate) fn answer_journal(alloc: Global, bytes: &[u8]) -> Result<Vec<u8>, NoMemory>
-    ensures { IfOk result (λ told. Says bytes.now told.items) }
+    ensures { IfOk result (λ reported. Says bytes.now reported.items) }
 {
     let Some(version) = version_of(bytes) else {
         return Ok(b"notajournal".to_vec(alloc)?);
     };
-    let mut told = limit_words(alloc, version)?;
-    match push_entries(&mut told, bytes)? {
-        None => Ok(told),
+    let mut reported = limit_words(alloc, version)?;
+    match push_entries(&mut reported, bytes)? {
+        None => Ok(reported),
         Some(place) => place_words(alloc, place),
     }
 }

@@ -38,33 +38,33 @@ heard-is s p c v before now is same changed =
 
 -- ---- what is told
 
-abbrev pub told : Setting → Process → List Claim → List ℕ
-told s p cs = flat_map verdict_word (verdicts s p cs)
+abbrev pub reported : Setting → Process → List Claim → List ℕ
+reported s p cs = flat_map verdict_word (verdicts s p cs)
 
 -- one verdict more is told
-pub one-told : (s : Setting) (p : Process) (c : Claim) (old left : List Claim) (before now first : List ℕ) (v : Verdict) → old ≡ c ∷ left
-    → v ≡ verdict s p c → now ≡ before ++ verdict_word v → before ++ told s p old ≡ first → now ++ told s (hear s p c) left ≡ first
+pub one-reported : (s : Setting) (p : Process) (c : Claim) (old left : List Claim) (before now first : List ℕ) (v : Verdict) → old ≡ c ∷ left
+    → v ≡ verdict s p c → now ≡ before ++ verdict_word v → before ++ reported s p old ≡ first → now ++ reported s (hear s p c) left ≡ first
 unfolding verdicts
-one-told s p c old left before now first v steps is more so =
-    ap (λ (t : List ℕ). t ++ told s (hear s p c) left) (more ∙ ap (λ v. before ++ verdict_word v) is)
-    ∙ append_assoc before (verdict_word (verdict s p c)) (told s (hear s p c) left)
-    ∙ ap (λ cs. before ++ told s p cs) (sym steps) ∙ so
+one-reported s p c old left before now first v steps is more so =
+    ap (λ (t : List ℕ). t ++ reported s (hear s p c) left) (more ∙ ap (λ v. before ++ verdict_word v) is)
+    ∙ append_assoc before (verdict_word (verdict s p c)) (reported s (hear s p c) left)
+    ∙ ap (λ cs. before ++ reported s p cs) (sym steps) ∙ so
 
-pub all-told : (s : Setting) (p : Process) (left : List Claim) (now : List ℕ) → left ≡ [] → now ++ told s p left ≡ now
+pub all-reported : (s : Setting) (p : Process) (left : List Claim) (now : List ℕ) → left ≡ [] → now ++ reported s p left ≡ now
 unfolding verdicts
-all-told s p left now none = ap (λ cs. now ++ told s p cs) none ∙ append-nil now
+all-reported s p left now none = ap (λ cs. now ++ reported s p cs) none ∙ append-nil now
 
 -- all verdicts are told, and then what is heard
-pub heard-told : (roster : List (ℕ × List ℕ)) (p : Process) (cs : List Claim) (h : Pool) (first some all : List ℕ) → roster ≡ plain_keys 48
-    → first ≡ codes "pool" ++ told (setting_with roster) p cs → (hear_all (setting_with roster) p cs).pool ≡ h
+pub heard-reported : (roster : List (ℕ × List ℕ)) (p : Process) (cs : List Claim) (h : Pool) (first some all : List ℕ) → roster ≡ plain_keys 48
+    → first ≡ codes "pool" ++ reported (setting_with roster) p cs → (hear_all (setting_with roster) p cs).pool ≡ h
     → some ≡ first ++ total_words h → all ≡ some ++ flat_map (claim_words h) cs → all ≡ heard_words p cs
-heard-told roster p cs h first some all keys verdicts' heard totals claims =
+heard-reported roster p cs h first some all keys verdicts' heard totals claims =
     let same : h ≡ (hear_all setting p cs).pool = sym heard ∙ ap (λ r. (hear_all (setting_with r) p cs).pool) keys in
     claims ∙ ap (λ (t : List ℕ). t ++ flat_map (claim_words h) cs) (totals ∙ ap (λ (t : List ℕ). t ++ total_words h) verdicts')
-    ∙ (λ i. ((codes "pool" ++ told (setting_with (keys i)) p cs) ++ total_words (same i)) ++ flat_map (claim_words (same i)) cs)
-    ∙ append_assoc (codes "pool" ++ told setting p cs)
+    ∙ (λ i. ((codes "pool" ++ reported (setting_with (keys i)) p cs) ++ total_words (same i)) ++ flat_map (claim_words (same i)) cs)
+    ∙ append_assoc (codes "pool" ++ reported setting p cs)
     (total_words (hear_all setting p cs).pool) (flat_map (claim_words (hear_all setting p cs).pool) cs)
-    ∙ append_assoc (codes "pool") (told setting p cs)
+    ∙ append_assoc (codes "pool") (reported setting p cs)
     (total_words (hear_all setting p cs).pool ++ flat_map (claim_words (hear_all setting p cs).pool) cs)
 
 -- two statements on one slot are equal where they do not conflict
@@ -88,10 +88,10 @@ certified-there h st kind about o is at so =
     sym (so ∙ ap (λ k. option_and_then (certified_on h) (slot_at k about)) is ∙ ap (option_and_then (certified_on h)) at)
 
 -- a certificate is told
-pub certificate-told : (h : Pool) (st found : Statement) (there : Option Statement) (signers before mid now : List ℕ) → there ≡ Some found
+pub certificate-reported : (h : Pool) (st found : Statement) (there : Option Statement) (signers before mid now : List ℕ) → there ≡ Some found
     → mid ≡ before ++ same_word (same_statement found st) → signers ≡ sorted by_number (backers h found)
     → now ≡ mid ++ flat_map signer_word signers → now ≡ before ++ certificate_words h st there
-certificate-told h st found there signers before mid now is same who more =
+certificate-reported h st found there signers before mid now is same who more =
     more ∙ (λ i. same i ++ flat_map signer_word (who i))
     ∙ append_assoc before (same_word (same_statement found st)) (flat_map signer_word (sorted by_number (backers h found)))
     ∙ ap (λ o. before ++ certificate_words h st o) (sym is)

@@ -13,22 +13,22 @@ use Rattle.interop_pool.specs.Questions.{Answers, IsAnswerTo, IsQuestion, OfConv
 abbrev pub asking : List ℕ → List ℕ → List ℕ → List ℕ → List (List ℕ)
 asking number members counts frame = codes "pool" ∷ number ∷ members ∷ counts ∷ frame ∷ []
 
-pub pool_answers : (n m c f : List ℕ) (number : ℕ) (members counts frame told : List ℕ) → n ≡ decimal number → number ≤ 1023
-    → Spells m members → Spells c counts → Spells f frame → Says number members counts frame told → Answers (asking n m c f) told
-pool_answers n m c f number members counts frame told sn low sm sc sf says = record {
+pub pool_answers : (n m c f : List ℕ) (number : ℕ) (members counts frame reported : List ℕ) → n ≡ decimal number → number ≤ 1023
+    → Spells m members → Spells c counts → Spells f frame → Says number members counts frame reported → Answers (asking n m c f) reported
+pool_answers n m c f number members counts frame reported sn low sm sc sf says = record {
   question = OfPool number members counts frame;
   fits = (low, sm.0, sc.0, sf.0);
   asked = λ i. asking (sn i) (sm.1 i) (sc.1 i) (sf.1 i);
-  is_told = says;
+  is_reported = says;
 }
 
-pub convicted_answers : (word bytes told : List ℕ) → Spells word bytes → told ≡ convicted_words (claims_in bytes)
-    → Answers (codes "convicted" ∷ word ∷ []) told
-convicted_answers word bytes told s is = record {
+pub convicted_answers : (word bytes reported : List ℕ) → Spells word bytes → reported ≡ convicted_words (claims_in bytes)
+    → Answers (codes "convicted" ∷ word ∷ []) reported
+convicted_answers word bytes reported s is = record {
   question = OfConvicted bytes;
   fits = s.0;
   asked = ap (λ (w : List ℕ). codes "convicted" ∷ w ∷ []) s.1;
-  is_told = is;
+  is_reported = is;
 }
 
 -- ---- the words of a line
@@ -54,7 +54,7 @@ one_said number members counts frame x y (inr a) (inl b) = absurd (a.0 b.0)
 one_said number members counts frame x y (inr a) (inr b) = a.1 ∙ sym b.1
 
 pub one_answer : (words : List (List ℕ)) (x y : List ℕ) → Answers words x → Answers words y → x ≡ y
-one_answer words x y a b = of a.question b.question a.fits b.fits a.asked b.asked a.is_told b.is_told
+one_answer words x y a b = of a.question b.question a.fits b.fits a.asked b.asked a.is_reported b.is_reported
   where
     of : (p q : Question) → IsQuestion p → IsQuestion q → words ≡ spelled p → words ≡ spelled q → IsAnswerTo p x → IsAnswerTo q y → x ≡ y
     of (OfPool m ms cs f) (OfPool n ns ds g) fm fn is also t u =

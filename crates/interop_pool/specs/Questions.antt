@@ -27,9 +27,9 @@ said v counts (Err fault) = fault_word fault
 
 -- what a process that has delivered `counts` of the messages of each member hears of the frame in this view; or `noview`
 abbrev pub Says : ℕ → List ℕ → List ℕ → List ℕ → List ℕ → Type 0
-Says number members counts frame told =
-    (IsHearer number members counts × (told ≡ said (as_view number members) counts (claims_in frame)))
-    ⊎ ((¬ IsHearer number members counts) × (told ≡ codes "noview"))
+Says number members counts frame reported =
+    (IsHearer number members counts × (reported ≡ said (as_view number members) counts (claims_in frame)))
+    ⊎ ((¬ IsHearer number members counts) × (reported ≡ codes "noview"))
 
 -- `convicted` and each whom the claims convict, by rising number, or the word of the fault
 abbrev pub convicted_words : Result (List Claim) FrameFault → List ℕ
@@ -55,12 +55,12 @@ spelled (OfPool number members counts frame) =
 spelled (OfConvicted frame) = codes "convicted" ∷ bytes_word frame ∷ []
 
 abbrev pub IsAnswerTo : Question → List ℕ → Type 0
-IsAnswerTo (OfPool number members counts frame) told = Says number members counts frame told
-IsAnswerTo (OfConvicted frame) told = told ≡ convicted_words (claims_in frame)
+IsAnswerTo (OfPool number members counts frame) reported = Says number members counts frame reported
+IsAnswerTo (OfConvicted frame) reported = reported ≡ convicted_words (claims_in frame)
 
 -- the words are those of a question on a pool or on convictions, and this is what is answered
-pub record Answers (words : List (List ℕ)) (told : List ℕ) : Type 0 where
+pub record Answers (words : List (List ℕ)) (reported : List ℕ) : Type 0 where
   pub question : Question
   pub fits : IsQuestion question
   pub asked : words ≡ spelled question
-  pub is_told : IsAnswerTo question told
+  pub is_reported : IsAnswerTo question reported

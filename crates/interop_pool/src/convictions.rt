@@ -23,21 +23,21 @@ use stmt_codec::claims_of;
 
 // `convicted` and each whom the claims of the frame convict, by rising number.
 fn words_of(alloc: Global, frame: &FrameView<'_>) -> Result<Vec<u8>, NoMemory>
-    ensures { IfOk result (λ told. told.items
+    ensures { IfOk result (λ reported. reported.items
         ≡ codes "convicted" ++ flat_map signer_word (convicted setting (given (claims.claims_of (frame_view frame.now))))) }
 {
     let roster = plain_roster(alloc, KEYED)?;
-    let mut told = b"convicted".to_vec(alloc)?;
+    let mut reported = b"convicted".to_vec(alloc)?;
     push_signers(
-        &mut told,
+        &mut reported,
         convicted_in(&PlainScheme, &roster, &GROUP, frame),
     )?;
-    Ok(told)
+    Ok(reported)
 }
 
 // Whom the claims of the frame convict, or the word of its first fault.
 fn answer_convicted(alloc: Global, bytes: &[u8]) -> Result<Vec<u8>, NoMemory>
-    ensures { IfOk result (λ told. told.items ≡ convicted_words (claims_in bytes.now)) }
+    ensures { IfOk result (λ reported. reported.items ≡ convicted_words (claims_in bytes.now)) }
 {
     let frame = match split_frame(bytes) {
         Ok(frame) => frame,
@@ -52,9 +52,9 @@ fn answer_convicted(alloc: Global, bytes: &[u8]) -> Result<Vec<u8>, NoMemory>
 /// The answer to `convicted WORD`: whom the claims of the frame that the word spells convict, or the word of the frame's first
 /// fault.
 pub(crate) fn answer_on_convicted(alloc: Global, word: &[u8]) -> Result<Vec<u8>, LineFault>
-    ensures answers { IfOk result (λ told. Answers (codes "convicted" ∷ word.now ∷ []) told.items) }
+    ensures answers { IfOk result (λ reported. Answers (codes "convicted" ∷ word.now ∷ []) reported.items) }
     ensures no_question { IsErrOf result LineFault.NoQuestion
-        → (told : List ℕ) → ¬ Answers (codes "convicted" ∷ word.now ∷ []) told }
+        → (reported : List ℕ) → ¬ Answers (codes "convicted" ∷ word.now ∷ []) reported }
 {
     let bytes = read_bytes(alloc, word)?;
     Ok(answer_convicted(alloc, &bytes)?)

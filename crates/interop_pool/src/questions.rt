@@ -42,13 +42,13 @@ fn heard_words(
     requires counted { length own.now.counts.items ≡ number_of_members pool.old.pool }
     requires range { AllByRecursion IsClaim (claims_left claims) }
     ensures { (p : Process) → HasDelivered own.now p → p.pool ≡ pool.old.pool
-        → IfOk result (λ told. told.items ≡ words.heard_words p (claims_left claims.entry)) }
+        → IfOk result (λ reported. reported.items ≡ words.heard_words p (claims_left claims.entry)) }
 {
-    let mut told = b"pool".to_vec(alloc)?;
-    take_all(&mut told, roster, own, pool, claims)?;
-    push_totals(&mut told, pool)?;
-    push_claims(&mut told, pool, claims)?;
-    Ok(told)
+    let mut reported = b"pool".to_vec(alloc)?;
+    take_all(&mut reported, roster, own, pool, claims)?;
+    push_totals(&mut reported, pool)?;
+    push_claims(&mut reported, pool, claims)?;
+    Ok(reported)
 }
 
 // The same, where nothing is heard of the view yet.
@@ -63,7 +63,7 @@ fn words_in(
     requires counted { length own.now.counts.items ≡ length view.members }
     requires range { AllByRecursion IsClaim (claims_left claims) }
     ensures { (p : Process) → HasDelivered own.now p → p.pool ≡ empty_pool view
-        → IfOk result (λ told. told.items ≡ words.heard_words p (claims_left claims.entry)) }
+        → IfOk result (λ reported. reported.items ≡ words.heard_words p (claims_left claims.entry)) }
 {
     let mut pool = Pool::new(alloc, view)?;
     heard_words(alloc, roster, own, &mut pool, claims)
@@ -78,7 +78,7 @@ fn pool_words(
 ) -> Result<Vec<u8>, NoMemory>
     requires counted { length counts.now ≡ length view.members }
     requires range { AllByRecursion IsClaim (claims_left claims) }
-    ensures { IfOk result (λ told. told.items ≡ words.heard_words (hearer view counts.now) (claims_left claims.entry)) }
+    ensures { IfOk result (λ reported. reported.items ≡ words.heard_words (hearer view counts.now) (claims_left claims.entry)) }
 {
     let roster = plain_roster(alloc, KEYED)?;
     let own = own(alloc, &view, counts);
@@ -97,7 +97,7 @@ fn claims_in(bytes: &[u8]) -> Result<Claims<'_>, FrameFault>
 // What is heard of the frame in the view, or the word of its fault.
 fn answer_in(alloc: Global, view: View, counts: &[u8], frame: &[u8]) -> Result<Vec<u8>, NoMemory>
     requires { length counts.now ≡ length view.members }
-    ensures { IfOk result (λ told. told.items ≡ said view counts.now (plain.claims_in frame.now)) }
+    ensures { IfOk result (λ reported. reported.items ≡ said view counts.now (plain.claims_in frame.now)) }
 {
     match claims_in(frame) {
         Ok(claims) => pool_words(alloc, view, counts, claims),
@@ -115,7 +115,7 @@ fn answer_pool(
     counts: &[u8],
     frame: &[u8],
 ) -> Result<Vec<u8>, NoMemory>
-    ensures { IfOk result (λ told. Says number members.now counts.now frame.now told.items) }
+    ensures { IfOk result (λ reported. Says number members.now counts.now frame.now reported.items) }
 {
     match view_of(number, members, counts) {
         Some(view) => answer_in(alloc, view, counts, frame),
@@ -132,9 +132,9 @@ fn answer_on_pool(
     frame: &[u8],
 ) -> Result<Vec<u8>, LineFault>
     ensures answers { IfOk result
-        (λ told. Answers (codes "pool" ∷ number.now ∷ members.now ∷ counts.now ∷ frame.now ∷ []) told.items) }
+        (λ reported. Answers (codes "pool" ∷ number.now ∷ members.now ∷ counts.now ∷ frame.now ∷ []) reported.items) }
     ensures no_question { IsErrOf result LineFault.NoQuestion
-        → (told : List ℕ) → ¬ Answers (codes "pool" ∷ number.now ∷ members.now ∷ counts.now ∷ frame.now ∷ []) told }
+        → (reported : List ℕ) → ¬ Answers (codes "pool" ∷ number.now ∷ members.now ∷ counts.now ∷ frame.now ∷ []) reported }
 {
     let number = read_number(number, 0, LAST_NUMBER)?;
     let members = read_bytes(alloc, members)?;
@@ -145,9 +145,9 @@ fn answer_on_pool(
 
 /// The answer to a question on a pool or on convictions, by the words of a line.
 pub fn answer_pools(alloc: Global, words: &[&[u8]]) -> Result<Vec<u8>, LineFault>
-    ensures answers { IfOk result (λ told. Answers (map (λ word. word.now) words.now) told.items) }
+    ensures answers { IfOk result (λ reported. Answers (map (λ word. word.now) words.now) reported.items) }
     ensures no_question { IsErrOf result LineFault.NoQuestion
-        → (told : List ℕ) → ¬ Answers (map (λ word. word.now) words.now) told }
+        → (reported : List ℕ) → ¬ Answers (map (λ word. word.now) words.now) reported }
 {
     match words {
         [verb, number, members, counts, frame] if *verb == b"pool".as_slice() => {

@@ -18,29 +18,29 @@ module _ {A B : Type 0} (R : A → B → Type 0) where
   beside (x ∷ before) rest a (y ∷ ys) each = beside before rest a ys each.1
 
 -- what stands in the items of a list
-abbrev pub told : List (Bor (List ℕ)) → List (List ℕ)
-told items = map (λ item. item.now) items
+abbrev pub reported : List (Bor (List ℕ)) → List (List ℕ)
+reported items = map (λ item. item.now) items
 
 module _ (items : List (Bor (List ℕ))) (i : ℕ) (d : Bor (List ℕ)) (within : i < length items) where
-  parted : told items ≡ told (take i items) ++ (get_or items i d).now ∷ told (drop (i + 1) items)
-  parted = ap told (sym (take-append-drop i items))
+  parted : reported items ≡ reported (take i items) ++ (get_or items i d).now ∷ reported (drop (i + 1) items)
+  parted = ap reported (sym (take-append-drop i items))
       ∙ map-append (λ (item : Bor (List ℕ)). item.now) (take i items) (drop i items)
-      ∙ ap (λ (l : List (Bor (List ℕ))). told (take i items) ++ told l) (drop_more items i d within)
+      ∙ ap (λ (l : List (Bor (List ℕ))). reported (take i items) ++ reported l) (drop_more items i d within)
 
-  front : told (take (i + 1) items) ≡ told (take i items) ++ (get_or items i d).now ∷ []
-  front = ap told (take_more items i d within)
+  front : reported (take (i + 1) items) ≡ reported (take i items) ++ (get_or items i d).now ∷ []
+  front = ap reported (take_more items i d within)
       ∙ map-append (λ (item : Bor (List ℕ)). item.now) (take i items) (get_or items i d ∷ [])
 
   module _ {B : Type 0} (R : List ℕ → B → Type 0) where
     -- one item more was read
-    pub next_read : (ys : List B) (b : B) → Each R (told (take i items)) ys → R (get_or items i d).now b
-        → Each R (told (take (i + 1) items)) (ys ++ b ∷ [])
+    pub next_read : (ys : List B) (b : B) → Each R (reported (take i items)) ys → R (get_or items i d).now b
+        → Each R (reported (take (i + 1) items)) (ys ++ b ∷ [])
     next_read ys b each r = subst (λ (l : List (List ℕ)). Each R l (ys ++ b ∷ [])) (sym front)
-        (one_more R (told (take i items)) ys (get_or items i d).now b each r)
+        (one_more R (reported (take i items)) ys (get_or items i d).now b each r)
 
     -- each item has one beside it
-    pub item_beside : (ys : List B) → Each R (told items) ys → (b : B) × R (get_or items i d).now b
-    item_beside ys each = beside R (told (take i items)) (told (drop (i + 1) items)) (get_or items i d).now ys
+    pub item_beside : (ys : List B) → Each R (reported items) ys → (b : B) × R (get_or items i d).now b
+    item_beside ys each = beside R (reported (take i items)) (reported (drop (i + 1) items)) (get_or items i d).now ys
         (subst (λ (l : List (List ℕ)). Each R l ys) parted each)
 
 -- no word is two lists

@@ -33,17 +33,17 @@ Runs = List (String Global) → Outside → Outside → ℕ → Type 0
 
 -- This is written of a run that came to its end, or was cut off, on the outside that the question wants. Where there was no memory
 -- nothing is written.
-pub record IsToldOf (comes_to : Runs) (q : Question) (told : List ℕ) : Type 0 where
+pub record IsReportedOf (comes_to : Runs) (q : Question) (reported : List ℕ) : Type 0 where
   pub before : Outside
   pub after : Outside
   pub status : ℕ
   pub set_up : IsSetUp q before
   pub ran : comes_to q.words before after status
   pub memory : status ≢ 1
-  pub is_told : told ≡ end_text (length q.coming) status after
+  pub is_reported : reported ≡ end_text (length q.coming) status after
 
 -- the words are those of a question on a run, and this is what is answered
-pub record Answers (comes_to : Runs) (words : List (List ℕ)) (told : List ℕ) : Type 0 where
+pub record Answers (comes_to : Runs) (words : List (List ℕ)) (reported : List ℕ) : Type 0 where
   pub question : Question
   pub asked : Asks words question
-  pub is_told : IsToldOf comes_to question told
+  pub is_reported : IsReportedOf comes_to question reported

@@ -58,9 +58,9 @@ pub fn answer_runs<P: Program>(
     program: &P,
     words: &[&[u8]],
 ) -> Result<Vec<u8>, LineFault>
-    ensures answers { IfOk result (λ told. Answers (P.comes_to program.now) (map (λ word. word.now) words.now) told.items) }
+    ensures answers { IfOk result (λ reported. Answers (P.comes_to program.now) (map (λ word. word.now) words.now) reported.items) }
     ensures no_question { IsErrOf result LineFault.NoQuestion
-        → (told : List ℕ) → ¬ Answers (P.comes_to program.now) (map (λ word. word.now) words.now) told }
+        → (reported : List ℕ) → ¬ Answers (P.comes_to program.now) (map (λ word. word.now) words.now) reported }
 {
     match words {
         [verb, said, input, journal, fails, coming, stop] if *verb == b"run".as_slice() => {

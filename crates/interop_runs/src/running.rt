@@ -2,7 +2,7 @@ ghost use Rattle.std.specs.Prelude.{◌≡◌, ℕ, List, String, IfOk};
 ghost use Rattle.std.specs.declared.alloc.Global.{Global as Heap};
 ghost use Rattle.interop_runs.specs.declared.outside.Outside.{Outside as Devices};
 ghost use Rattle.interop_runs.specs.Questions.{question as plain};
-ghost use Rattle.interop_runs.specs.Runs.{IsToldOf};
+ghost use Rattle.interop_runs.specs.Runs.{IsReportedOf};
 
 use crate::outside::{Outside, set_up};
 use crate::questions::Question;
@@ -32,14 +32,14 @@ pub(crate) fn run<P: Program>(
     program: &P,
     asked: &Question,
 ) -> Result<Vec<u8>, NoMemory>
-    ensures { IfOk result (λ told. IsToldOf (P.comes_to program.now) (plain asked.now) told.items) }
+    ensures { IfOk result (λ reported. IsReportedOf (P.comes_to program.now) (plain asked.now) reported.items) }
 {
     let mut outside = set_up(alloc, asked)?;
     let status = program.run(alloc, &asked.words, &mut outside);
     if status == NO_MEMORY {
         return Err(NoMemory);
     }
-    let mut told = Vec::new(alloc);
-    push_end(&mut told, status, &outside, asked.coming.len())?;
-    Ok(told)
+    let mut reported = Vec::new(alloc);
+    push_end(&mut reported, status, &outside, asked.coming.len())?;
+    Ok(reported)
 }

@@ -17,16 +17,16 @@ use text_codec::{push_hex, push_number};
 
 // The word, and a place.
 fn at_place(alloc: Global, word: &[u8], place: usize) -> Result<Vec<u8>, NoMemory>
-    ensures { IfOk result (λ told. told.items ≡ word.now ++ decimal place) }
+    ensures { IfOk result (λ reported. reported.items ≡ word.now ++ decimal place) }
 {
-    let mut told = word.to_vec(alloc)?;
-    push_number(&mut told, place as u64)?;
-    Ok(told)
+    let mut reported = word.to_vec(alloc)?;
+    push_number(&mut reported, place as u64)?;
+    Ok(reported)
 }
 
 // What is said of a fault, unless it is want of memory.
 fn fault_words(alloc: Global, fault: ScheduleFault) -> Result<Vec<u8>, NoMemory>
-    ensures { IfOk result (λ told. option_map plain.fault_words (fault_of fault) ≡ Some told.items) }
+    ensures { IfOk result (λ reported. option_map plain.fault_words (fault_of fault) ≡ Some reported.items) }
 {
     match fault {
         ScheduleFault::Short { place } => at_place(alloc, b"short ", place),
@@ -45,18 +45,18 @@ fn fault_words(alloc: Global, fault: ScheduleFault) -> Result<Vec<u8>, NoMemory>
 // The schedule, spelled again.
 fn schedule_words(alloc: Global, schedule: &Schedule) -> Result<Vec<u8>, NoMemory>
     requires { IsSchedule (views.schedule schedule.now) }
-    ensures { IfOk result (λ told. told.items ≡ codes "schedule " ++ encode_lower (schedule_bytes (views.schedule schedule.now))) }
+    ensures { IfOk result (λ reported. reported.items ≡ codes "schedule " ++ encode_lower (schedule_bytes (views.schedule schedule.now))) }
 {
     let mut bytes = Vec::new(alloc);
     write_schedule(schedule, &mut bytes)?;
-    let mut told = b"schedule ".to_vec(alloc)?;
-    push_hex(&mut told, &bytes)?;
-    Ok(told)
+    let mut reported = b"schedule ".to_vec(alloc)?;
+    push_hex(&mut reported, &bytes)?;
+    Ok(reported)
 }
 
 /// What the bytes say as a schedule: `schedule` and the schedule spelled again from what was read, or its fault and the fault's place.
 fn answer_schedule(alloc: Global, bytes: &[u8]) -> Result<Vec<u8>, NoMemory>
-    ensures { IfOk result (λ told. told.items ≡ said (schedule_of bytes.now)) }
+    ensures { IfOk result (λ reported. reported.items ≡ said (schedule_of bytes.now)) }
 {
     match read_schedule(alloc, bytes) {
         Ok(schedule) => schedule_words(alloc, &schedule),
@@ -66,9 +66,9 @@ fn answer_schedule(alloc: Global, bytes: &[u8]) -> Result<Vec<u8>, NoMemory>
 
 // The answer to `schedule WORD`.
 fn answer_on_schedule(alloc: Global, word: &[u8]) -> Result<Vec<u8>, LineFault>
-    ensures answers { IfOk result (λ told. Answers (codes "schedule" ∷ word.now ∷ []) told.items) }
+    ensures answers { IfOk result (λ reported. Answers (codes "schedule" ∷ word.now ∷ []) reported.items) }
     ensures no_question { IsErrOf result LineFault.NoQuestion
-        → (told : List ℕ) → ¬ Answers (codes "schedule" ∷ word.now ∷ []) told }
+        → (reported : List ℕ) → ¬ Answers (codes "schedule" ∷ word.now ∷ []) reported }
 {
     let bytes = read_bytes(alloc, word)?;
     Ok(answer_schedule(alloc, &bytes)?)
@@ -76,9 +76,9 @@ fn answer_on_schedule(alloc: Global, word: &[u8]) -> Result<Vec<u8>, LineFault>
 
 /// The answer to a question on a schedule, by the words of a line.
 pub fn answer_schedules(alloc: Global, words: &[&[u8]]) -> Result<Vec<u8>, LineFault>
-    ensures answers { IfOk result (λ told. Answers (map (λ word. word.now) words.now) told.items) }
+    ensures answers { IfOk result (λ reported. Answers (map (λ word. word.now) words.now) reported.items) }
     ensures no_question { IsErrOf result LineFault.NoQuestion
-        → (told : List ℕ) → ¬ Answers (map (λ word. word.now) words.now) told }
+        → (reported : List ℕ) → ¬ Answers (map (λ word. word.now) words.now) reported }
 {
     match words {
         [verb, bytes] if *verb == b"schedule".as_slice() => answer_on_schedule(alloc, bytes),

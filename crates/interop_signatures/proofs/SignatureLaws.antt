@@ -28,19 +28,19 @@ abbrev pub verdict : List ℕ → List ℕ → List ℕ → List ℕ
 verdict key body sig = if lms_valid key body sig then codes "true" else codes "false"
 
 -- the three words spell bytes, and this is what is answered
-pub record Verified (k b s told : List ℕ) : Type 0 where
+pub record Verified (k b s reported : List ℕ) : Type 0 where
   pub key : List ℕ
   pub body : List ℕ
   pub sig : List ℕ
   pub has_key : Spells k key
   pub has_body : Spells b body
   pub has_sig : Spells s sig
-  pub told_is : told ≡ verdict key body sig
+  pub reported_is : reported ≡ verdict key body sig
 
-pub verified : (k b s told : List ℕ) → Answers (verify_words k b s) told → Verified k b s told
-verified k b s told a = of a.question a.fits a.asked a.told_is
+pub verified : (k b s reported : List ℕ) → Answers (verify_words k b s) reported → Verified k b s reported
+verified k b s reported a = of a.question a.fits a.asked a.reported_is
   where
-    of : (q : Question) → IsQuestion q → verify_words k b s ≡ spelled q → told ≡ answer_to q → Verified k b s told
+    of : (q : Question) → IsQuestion q → verify_words k b s ≡ spelled q → reported ≡ answer_to q → Verified k b s reported
     of (Verify key body sig) fits is t = record {
       key = key;
       body = body;
@@ -48,7 +48,7 @@ verified k b s told a = of a.question a.fits a.asked a.told_is
       has_key = (fits.0, cc);
       has_body = (fits.1, cc);
       has_sig = (fits.2, cc);
-      told_is = t;
+      reported_is = t;
     }
     of (Sign asked) fits is t = absurd cc
 
@@ -58,7 +58,7 @@ verify_answers k b s key body sig hk hb hs = record {
   question = Verify key body sig;
   fits = (hk.0, hb.0, hs.0);
   asked = cc (hk.1, hb.1, hs.1);
-  told_is = refl;
+  reported_is = refl;
 }
 
 -- ---- lms
@@ -66,21 +66,21 @@ verify_answers k b s key body sig hk hb hs = record {
 abbrev pub sign_words : List ℕ → List ℕ → List ℕ → List ℕ → List ℕ → List ℕ → List (List ℕ)
 sign_words h w i seed q body = codes "lms" ∷ h ∷ w ∷ i ∷ seed ∷ q ∷ body ∷ []
 
-pub sign_answers : (h w i seed q body told : List ℕ) (s : Signing) → AskedBy h w i seed q body s → told ≡ signed s
-    → Answers (sign_words h w i seed q body) told
-sign_answers h w i seed q body told s asked is = record {
+pub sign_answers : (h w i seed q body reported : List ℕ) (s : Signing) → AskedBy h w i seed q body s → reported ≡ signed s
+    → Answers (sign_words h w i seed q body) reported
+sign_answers h w i seed q body reported s asked is = record {
   question = Sign s;
   fits = asked.fits;
   asked = ap (λ (ws : List (List ℕ)). codes "lms" ∷ ws) asked.words;
-  told_is = is;
+  reported_is = is;
 }
 
-pub sign_asked : (h w i seed q body told : List ℕ) → Answers (sign_words h w i seed q body) told
-    → (s : Signing) × AskedBy h w i seed q body s × (told ≡ signed s)
-sign_asked h w i seed q body told a = of a.question a.fits a.asked a.told_is
+pub sign_asked : (h w i seed q body reported : List ℕ) → Answers (sign_words h w i seed q body) reported
+    → (s : Signing) × AskedBy h w i seed q body s × (reported ≡ signed s)
+sign_asked h w i seed q body reported a = of a.question a.fits a.asked a.reported_is
   where
-    of : (x : Question) → IsQuestion x → sign_words h w i seed q body ≡ spelled x → told ≡ answer_to x
-        → (s : Signing) × AskedBy h w i seed q body s × (told ≡ signed s)
+    of : (x : Question) → IsQuestion x → sign_words h w i seed q body ≡ spelled x → reported ≡ answer_to x
+        → (s : Signing) × AskedBy h w i seed q body s × (reported ≡ signed s)
     of (Verify k b g) fits is t = absurd cc
     of (Sign s) fits is t = (s, record { fits = fits; words = cc }, t)
 
@@ -187,10 +187,10 @@ same_verdict k b s x y v w =
     let key = spelled_once k v.key w.key v.has_key w.has_key in
     let body = spelled_once b v.body w.body v.has_body w.has_body in
     let sig = spelled_once s v.sig w.sig v.has_sig w.has_sig in
-    v.told_is ∙ rw (key, body, sig) (sym w.told_is)
+    v.reported_is ∙ rw (key, body, sig) (sym w.reported_is)
 
 pub one_answer : (words : List (List ℕ)) (x y : List ℕ) → Answers words x → Answers words y → x ≡ y
-one_answer words x y a b = of a.question a.fits a.asked a.told_is
+one_answer words x y a b = of a.question a.fits a.asked a.reported_is
   where
     of : (q : Question) → IsQuestion q → words ≡ spelled q → x ≡ answer_to q → x ≡ y
     of (Verify key body sig) fits is t =

@@ -60,11 +60,11 @@ answer_to (Verify key body sig) = if lms_valid key body sig then codes "true" el
 answer_to (Sign s) = signed s
 
 -- the words are those of a question on signatures, and this is what is answered
-pub record Answers (words : List (List ℕ)) (told : List ℕ) : Type 0 where
+pub record Answers (words : List (List ℕ)) (reported : List ℕ) : Type 0 where
   pub question : Question
   pub fits : IsQuestion question
   pub asked : words ≡ spelled question
-  pub told_is : told ≡ answer_to question
+  pub reported_is : reported ≡ answer_to question
 
 -- the six words after `lms` are those of this signing
 pub record AskedBy (typecode ots id seed leaf body : List ℕ) (s : Signing) : Type 0 where

@@ -106,15 +106,15 @@ fn next_signature(alloc: Global, key: &mut LmsKey, body: &[u8]) -> Result<Vec<u8
 /// The tree's public key, and the leaf's signature on the body.
 fn make_and_sign(alloc: Global, asked: &Signing) -> Result<Vec<u8>, NoMemory>
     requires { IsSigning (signing asked.now) }
-    ensures { IfOk result (λ told. told.items ≡ signed (signing asked.now)) }
+    ensures { IfOk result (λ reported. reported.items ≡ signed (signing asked.now)) }
 {
     let mut key = key_at(alloc, asked)?;
     let sig = next_signature(alloc, &mut key, &asked.body)?;
-    let mut told = Vec::new(alloc);
-    push_hex(&mut told, key.public())?;
-    told.push(b' ')?;
-    push_hex(&mut told, &sig)?;
-    Ok(told)
+    let mut reported = Vec::new(alloc);
+    push_hex(&mut reported, key.public())?;
+    reported.push(b' ')?;
+    push_hex(&mut reported, &sig)?;
+    Ok(reported)
 }
 
 /// How a verdict is written.
@@ -131,10 +131,10 @@ fn answer_verify(
     body: &[u8],
     sig: &[u8],
 ) -> Result<Vec<u8>, LineFault>
-    ensures answers { IfOk result (λ told.
-        Answers (codes "verify" ∷ scheme.now ∷ key.now ∷ body.now ∷ sig.now ∷ []) told.items) }
+    ensures answers { IfOk result (λ reported.
+        Answers (codes "verify" ∷ scheme.now ∷ key.now ∷ body.now ∷ sig.now ∷ []) reported.items) }
     ensures no_question { IsErrOf result LineFault.NoQuestion
-        → (told : List ℕ) → ¬ Answers (codes "verify" ∷ scheme.now ∷ key.now ∷ body.now ∷ sig.now ∷ []) told }
+        → (reported : List ℕ) → ¬ Answers (codes "verify" ∷ scheme.now ∷ key.now ∷ body.now ∷ sig.now ∷ []) reported }
 {
     if scheme != b"lms".as_slice() {
         return Err(LineFault::NoQuestion);
@@ -155,10 +155,10 @@ fn answer_sign(
     leaf: &[u8],
     body: &[u8],
 ) -> Result<Vec<u8>, LineFault>
-    ensures answers { IfOk result (λ told.
-        Answers (codes "lms" ∷ typecode.now ∷ ots.now ∷ id.now ∷ seed.now ∷ leaf.now ∷ body.now ∷ []) told.items) }
-    ensures no_question { IsErrOf result LineFault.NoQuestion → (told : List ℕ)
-        → ¬ Answers (codes "lms" ∷ typecode.now ∷ ots.now ∷ id.now ∷ seed.now ∷ leaf.now ∷ body.now ∷ []) told }
+    ensures answers { IfOk result (λ reported.
+        Answers (codes "lms" ∷ typecode.now ∷ ots.now ∷ id.now ∷ seed.now ∷ leaf.now ∷ body.now ∷ []) reported.items) }
+    ensures no_question { IsErrOf result LineFault.NoQuestion → (reported : List ℕ)
+        → ¬ Answers (codes "lms" ∷ typecode.now ∷ ots.now ∷ id.now ∷ seed.now ∷ leaf.now ∷ body.now ∷ []) reported }
 {
     let asked = read_signing(alloc, typecode, ots, id, seed, leaf, body)?;
     Ok(make_and_sign(alloc, &asked)?)
@@ -166,9 +166,9 @@ fn answer_sign(
 
 /// The answer to a question that begins with `verify`, by the words after it.
 fn verify(alloc: Global, words: &[&[u8]]) -> Result<Vec<u8>, LineFault>
-    ensures answers { IfOk result (λ told. Answers (codes "verify" ∷ map (λ word. word.now) words.now) told.items) }
+    ensures answers { IfOk result (λ reported. Answers (codes "verify" ∷ map (λ word. word.now) words.now) reported.items) }
     ensures no_question { IsErrOf result LineFault.NoQuestion
-        → (told : List ℕ) → ¬ Answers (codes "verify" ∷ map (λ word. word.now) words.now) told }
+        → (reported : List ℕ) → ¬ Answers (codes "verify" ∷ map (λ word. word.now) words.now) reported }
 {
     if words.len() == 4 {
         answer_verify(alloc, words[0], words[1], words[2], words[3])
@@ -179,9 +179,9 @@ fn verify(alloc: Global, words: &[&[u8]]) -> Result<Vec<u8>, LineFault>
 
 /// The answer to a question that begins with `lms`, by the words after it.
 fn sign(alloc: Global, words: &[&[u8]]) -> Result<Vec<u8>, LineFault>
-    ensures answers { IfOk result (λ told. Answers (codes "lms" ∷ map (λ word. word.now) words.now) told.items) }
+    ensures answers { IfOk result (λ reported. Answers (codes "lms" ∷ map (λ word. word.now) words.now) reported.items) }
     ensures no_question { IsErrOf result LineFault.NoQuestion
-        → (told : List ℕ) → ¬ Answers (codes "lms" ∷ map (λ word. word.now) words.now) told }
+        → (reported : List ℕ) → ¬ Answers (codes "lms" ∷ map (λ word. word.now) words.now) reported }
 {
     if words.len() == 6 {
         answer_sign(
@@ -194,9 +194,9 @@ fn sign(alloc: Global, words: &[&[u8]]) -> Result<Vec<u8>, LineFault>
 
 /// The answer to a question on signatures, by the words of a line.
 pub fn answer_signatures(alloc: Global, words: &[&[u8]]) -> Result<Vec<u8>, LineFault>
-    ensures answers { IfOk result (λ told. Answers (map (λ word. word.now) words.now) told.items) }
+    ensures answers { IfOk result (λ reported. Answers (map (λ word. word.now) words.now) reported.items) }
     ensures no_question { IsErrOf result LineFault.NoQuestion
-        → (told : List ℕ) → ¬ Answers (map (λ word. word.now) words.now) told }
+        → (reported : List ℕ) → ¬ Answers (map (λ word. word.now) words.now) reported }
 {
     let Some((verb, words)) = words.split_first() else {
         return Err(LineFault::NoQuestion);

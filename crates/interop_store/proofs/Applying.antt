@@ -17,9 +17,9 @@ module _ (s t : Store) (payload : List ℕ) (left rest : List (List ℕ)) (first
   unfolding store_after
   stored-more = ap (λ (u : Store). store_after u rest) comes ∙ sym (ap (store_after s) first)
 
-  pub told-more : (out more : List ℕ) → more ≡ out ++ bytes_next (answer_to s payload) → more ++ answer_words t rest ≡ out ++ answer_words s left
-  told-more out more told =
-      (λ i. told i ++ answer_words (comes i) rest)
+  pub reported-more : (out more : List ℕ) → more ≡ out ++ bytes_next (answer_to s payload) → more ++ answer_words t rest ≡ out ++ answer_words s left
+  reported-more out more reported =
+      (λ i. reported i ++ answer_words (comes i) rest)
       ∙ append_assoc out (bytes_next (answer_to s payload)) (answer_words (applied s payload).1 rest)
       ∙ ap (λ (l : List (List ℕ)). out ++ answer_words s l) (sym first)
 

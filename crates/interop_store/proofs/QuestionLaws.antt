@@ -70,29 +70,29 @@ each-once (p ∷ ps) (q ∷ qs) f g e =
 
 -- ---- what is answered
 
-pub apply_answers : (words : List (Bor (List ℕ))) (payloads : List (List ℕ)) (told : List ℕ) → 1 ≤ length words
-    → SpellEach (letters words) payloads → told ≡ apply_words payloads → Answers (codes "apply" ∷ letters words) told
-apply_answers words payloads told some s is = record {
+pub apply_answers : (words : List (Bor (List ℕ))) (payloads : List (List ℕ)) (reported : List ℕ) → 1 ≤ length words
+    → SpellEach (letters words) payloads → reported ≡ apply_words payloads → Answers (codes "apply" ∷ letters words) reported
+apply_answers words payloads reported some s is = record {
   question = OfApply payloads;
   fits = (omega (arith, some, ap length s.1, length-map words (λ (w : Bor (List ℕ)). w.now), length-map payloads bytes_word), s.0);
   asked = ap (λ (ws : List (List ℕ)). codes "apply" ∷ ws) s.1;
-  told_is = is;
+  reported_is = is;
 }
 
-pub reply_answers : (word bytes told : List ℕ) → Spells word bytes → told ≡ reply_answer bytes → Answers (codes "reply" ∷ word ∷ []) told
-reply_answers word bytes told s is = record {
+pub reply_answers : (word bytes reported : List ℕ) → Spells word bytes → reported ≡ reply_answer bytes → Answers (codes "reply" ∷ word ∷ []) reported
+reply_answers word bytes reported s is = record {
   question = OfReply bytes;
   fits = s.0;
   asked = ap (λ (w : List ℕ). codes "reply" ∷ w ∷ []) s.1;
-  told_is = is;
+  reported_is = is;
 }
 
-pub state_answers : (word bytes told : List ℕ) → Spells word bytes → told ≡ state_answer bytes → Answers (codes "state" ∷ word ∷ []) told
-state_answers word bytes told s is = record {
+pub state_answers : (word bytes reported : List ℕ) → Spells word bytes → reported ≡ state_answer bytes → Answers (codes "state" ∷ word ∷ []) reported
+state_answers word bytes reported s is = record {
   question = OfState bytes;
   fits = s.0;
   asked = ap (λ (w : List ℕ). codes "state" ∷ w ∷ []) s.1;
-  told_is = is;
+  reported_is = is;
 }
 
 -- ---- one answer
@@ -111,7 +111,7 @@ second (first ∷ word ∷ words) = word
 second _ = []
 
 pub one_answer : (words : List (List ℕ)) (x y : List ℕ) → Answers words x → Answers words y → x ≡ y
-one_answer words x y a b = of a.question b.question a.fits b.fits (sym a.asked ∙ b.asked) a.told_is b.told_is
+one_answer words x y a b = of a.question b.question a.fits b.fits (sym a.asked ∙ b.asked) a.reported_is b.reported_is
   where
     of : (p q : Question) → IsQuestion p → IsQuestion q → spelled p ≡ spelled q → x ≡ answer_to p → y ≡ answer_to q → x ≡ y
     of (OfApply ps) (OfApply qs) fm fn is t u =

@@ -35,8 +35,8 @@ answer_to (OfReply bytes) = reply_answer bytes
 answer_to (OfState bytes) = state_answer bytes
 
 -- the words are those of a question on a store, and this is what is answered
-pub record Answers (words : List (List ℕ)) (told : List ℕ) : Type 0 where
+pub record Answers (words : List (List ℕ)) (reported : List ℕ) : Type 0 where
   pub question : Question
   pub fits : IsQuestion question
   pub asked : words ≡ spelled question
-  pub told_is : told ≡ answer_to question
+  pub reported_is : reported ≡ answer_to question

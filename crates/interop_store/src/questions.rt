@@ -31,9 +31,9 @@ fn read_payloads(alloc: Global, words: &[&[u8]]) -> Result<Vec<Vec<u8>>, LineFau
 
 // The answer to a question that begins with `apply`, by the words after it.
 fn apply(alloc: Global, words: &[&[u8]]) -> Result<Vec<u8>, LineFault>
-    ensures answers { IfOk result (λ told. Answers (codes "apply" ∷ map (λ word. word.now) words.now) told.items) }
+    ensures answers { IfOk result (λ reported. Answers (codes "apply" ∷ map (λ word. word.now) words.now) reported.items) }
     ensures no_question { IsErrOf result LineFault.NoQuestion
-        → (told : List ℕ) → ¬ Answers (codes "apply" ∷ map (λ word. word.now) words.now) told }
+        → (reported : List ℕ) → ¬ Answers (codes "apply" ∷ map (λ word. word.now) words.now) reported }
 {
     if words.is_empty() {
         return Err(LineFault::NoQuestion);
@@ -44,9 +44,9 @@ fn apply(alloc: Global, words: &[&[u8]]) -> Result<Vec<u8>, LineFault>
 
 // The answer to `reply WORD`.
 fn answer_on_reply(alloc: Global, word: &[u8]) -> Result<Vec<u8>, LineFault>
-    ensures answers { IfOk result (λ told. Answers (codes "reply" ∷ word.now ∷ []) told.items) }
+    ensures answers { IfOk result (λ reported. Answers (codes "reply" ∷ word.now ∷ []) reported.items) }
     ensures no_question { IsErrOf result LineFault.NoQuestion
-        → (told : List ℕ) → ¬ Answers (codes "reply" ∷ word.now ∷ []) told }
+        → (reported : List ℕ) → ¬ Answers (codes "reply" ∷ word.now ∷ []) reported }
 {
     let bytes = read_bytes(alloc, word)?;
     Ok(answer_reply(alloc, &bytes)?)
@@ -54,9 +54,9 @@ fn answer_on_reply(alloc: Global, word: &[u8]) -> Result<Vec<u8>, LineFault>
 
 // The answer to `state WORD`.
 fn answer_on_state(alloc: Global, word: &[u8]) -> Result<Vec<u8>, LineFault>
-    ensures answers { IfOk result (λ told. Answers (codes "state" ∷ word.now ∷ []) told.items) }
+    ensures answers { IfOk result (λ reported. Answers (codes "state" ∷ word.now ∷ []) reported.items) }
     ensures no_question { IsErrOf result LineFault.NoQuestion
-        → (told : List ℕ) → ¬ Answers (codes "state" ∷ word.now ∷ []) told }
+        → (reported : List ℕ) → ¬ Answers (codes "state" ∷ word.now ∷ []) reported }
 {
     let bytes = read_bytes(alloc, word)?;
     Ok(answer_state(alloc, &bytes)?)
@@ -64,9 +64,9 @@ fn answer_on_state(alloc: Global, word: &[u8]) -> Result<Vec<u8>, LineFault>
 
 // The answer to a question that begins with `reply`, by the words after it.
 fn reply(alloc: Global, words: &[&[u8]]) -> Result<Vec<u8>, LineFault>
-    ensures answers { IfOk result (λ told. Answers (codes "reply" ∷ map (λ word. word.now) words.now) told.items) }
+    ensures answers { IfOk result (λ reported. Answers (codes "reply" ∷ map (λ word. word.now) words.now) reported.items) }
     ensures no_question { IsErrOf result LineFault.NoQuestion
-        → (told : List ℕ) → ¬ Answers (codes "reply" ∷ map (λ word. word.now) words.now) told }
+        → (reported : List ℕ) → ¬ Answers (codes "reply" ∷ map (λ word. word.now) words.now) reported }
 {
     if words.len() == 1 {
         answer_on_reply(alloc, words[0])
@@ -77,9 +77,9 @@ fn reply(alloc: Global, words: &[&[u8]]) -> Result<Vec<u8>, LineFault>
 
 // The answer to a question that begins with `state`, by the words after it.
 fn state(alloc: Global, words: &[&[u8]]) -> Result<Vec<u8>, LineFault>
-    ensures answers { IfOk result (λ told. Answers (codes "state" ∷ map (λ word. word.now) words.now) told.items) }
+    ensures answers { IfOk result (λ reported. Answers (codes "state" ∷ map (λ word. word.now) words.now) reported.items) }
     ensures no_question { IsErrOf result LineFault.NoQuestion
-        → (told : List ℕ) → ¬ Answers (codes "state" ∷ map (λ word. word.now) words.now) told }
+        → (reported : List ℕ) → ¬ Answers (codes "state" ∷ map (λ word. word.now) words.now) reported }
 {
     if words.len() == 1 {
         answer_on_state(alloc, words[0])
@@ -90,9 +90,9 @@ fn state(alloc: Global, words: &[&[u8]]) -> Result<Vec<u8>, LineFault>
 
 /// The answer to a question on a store, a reply or a state, by the words of a line.
 pub fn answer_stores(alloc: Global, words: &[&[u8]]) -> Result<Vec<u8>, LineFault>
-    ensures answers { IfOk result (λ told. Answers (map (λ word. word.now) words.now) told.items) }
+    ensures answers { IfOk result (λ reported. Answers (map (λ word. word.now) words.now) reported.items) }
     ensures no_question { IsErrOf result LineFault.NoQuestion
-        → (told : List ℕ) → ¬ Answers (map (λ word. word.now) words.now) told }
+        → (reported : List ℕ) → ¬ Answers (map (λ word. word.now) words.now) reported }
 {
     let Some((verb, words)) = words.split_first() else {
         return Err(LineFault::NoQuestion);

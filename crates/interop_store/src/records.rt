@@ -35,17 +35,17 @@ fn push_content(out: &mut Vec<u8>, reply: &Reply<'_>) -> Result<(), NoMemory>
 }
 
 fn reply_words(alloc: Global, reply: &Reply<'_>) -> Result<Vec<u8>, NoMemory>
-    ensures { IfOk result (λ told. told.items ≡ plain.reply_words (reply_in reply.now)) }
+    ensures { IfOk result (λ reported. reported.items ≡ plain.reply_words (reply_in reply.now)) }
 {
-    let mut told = b"reply".to_vec(alloc)?;
-    push_position(&mut told, reply)?;
-    push_content(&mut told, reply)?;
-    Ok(told)
+    let mut reported = b"reply".to_vec(alloc)?;
+    push_position(&mut reported, reply)?;
+    push_content(&mut reported, reply)?;
+    Ok(reported)
 }
 
 /// What the bytes say as a reply: `reply SIGNER VIEW PLACE POSITION PAYLOAD ANSWER SIGNATURE`, or `noreply`.
 pub(crate) fn answer_reply(alloc: Global, bytes: &[u8]) -> Result<Vec<u8>, NoMemory>
-    ensures { IfOk result (λ told. told.items ≡ reply_answer bytes.now) }
+    ensures { IfOk result (λ reported. reported.items ≡ reply_answer bytes.now) }
 {
     match read_reply(bytes) {
         Some(reply) => reply_words(alloc, &reply),
@@ -70,21 +70,21 @@ fn spelled_again(alloc: Global, state: &[u8]) -> Result<Vec<u8>, NoMemory>
 
 fn state_words(alloc: Global, given: &StateRecord<'_>) -> Result<Vec<u8>, NoMemory>
     requires { IsStateRecord (record_in given.now) }
-    ensures { IfOk result (λ told. told.items ≡ plain.state_words (record_in given.now)) }
+    ensures { IfOk result (λ reported. reported.items ≡ plain.state_words (record_in given.now)) }
 {
     let state = spelled_again(alloc, given.state)?;
-    let mut told = b"state".to_vec(alloc)?;
-    push_next_number(&mut told, given.signer.get().into())?;
-    push_next_number(&mut told, given.view.into())?;
-    push_next_bytes(&mut told, &state)?;
-    push_next_bytes(&mut told, given.signature)?;
-    Ok(told)
+    let mut reported = b"state".to_vec(alloc)?;
+    push_next_number(&mut reported, given.signer.get().into())?;
+    push_next_number(&mut reported, given.view.into())?;
+    push_next_bytes(&mut reported, &state)?;
+    push_next_bytes(&mut reported, given.signature)?;
+    Ok(reported)
 }
 
 /// What the bytes say as a state record: `state SIGNER VIEW STATE SIGNATURE`, with the store's spelling made again from what was read; or
 /// `nostate`.
 pub(crate) fn answer_state(alloc: Global, bytes: &[u8]) -> Result<Vec<u8>, NoMemory>
-    ensures { IfOk result (λ told. told.items ≡ state_answer bytes.now) }
+    ensures { IfOk result (λ reported. reported.items ≡ state_answer bytes.now) }
 {
     match read_state(bytes) {
         Some(given) => state_words(alloc, &given),

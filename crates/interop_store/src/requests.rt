@@ -15,7 +15,7 @@ fn push_answer(
     store: &mut Store,
     payload: &[u8],
 ) -> Result<(), NoMemory>
-    ensures told { OnOk result (out.new.items ≡ out.old.items ++ bytes_next (answer_to store.old payload.now)) }
+    ensures reported { OnOk result (out.new.items ≡ out.old.items ++ bytes_next (answer_to store.old payload.now)) }
     ensures store { OnOk result (store.new ≡ (applied store.old payload.now).1) }
 {
     let mut answer = Vec::new(alloc);
@@ -30,7 +30,7 @@ fn push_answers(
     store: &mut Store,
     payloads: &[Vec<u8>],
 ) -> Result<(), NoMemory>
-    ensures told { OnOk result (out.new.items ≡ out.old.items ++ answer_words store.old (payloads_in payloads.now)) }
+    ensures reported { OnOk result (out.new.items ≡ out.old.items ++ answer_words store.old (payloads_in payloads.now)) }
     ensures store { OnOk result (store.new ≡ store_after store.old (payloads_in payloads.now)) }
 {
     for payload in payloads {
@@ -51,11 +51,11 @@ fn push_state(alloc: Global, out: &mut Vec<u8>, store: &Store) -> Result<(), NoM
 
 /// `applied`, the answer to each payload of a store that has no key before the first one, `state` and its state after the last one.
 pub(crate) fn answer_apply(alloc: Global, payloads: &[Vec<u8>]) -> Result<Vec<u8>, NoMemory>
-    ensures { IfOk result (λ told. told.items ≡ apply_words (payloads_in payloads.now)) }
+    ensures { IfOk result (λ reported. reported.items ≡ apply_words (payloads_in payloads.now)) }
 {
     let mut store = Store::new(alloc);
-    let mut told = b"applied".to_vec(alloc)?;
-    push_answers(alloc, &mut told, &mut store, payloads)?;
-    push_state(alloc, &mut told, &store)?;
-    Ok(told)
+    let mut reported = b"applied".to_vec(alloc)?;
+    push_answers(alloc, &mut reported, &mut store, payloads)?;
+    push_state(alloc, &mut reported, &store)?;
+    Ok(reported)
 }

@@ -20,7 +20,7 @@ begun_rest seen mid last after head piece is empty writes same only = by mid ref
         let written : new ≡ piece = is_new ∙ ap (λ (l : List ℕ). piece ++ l) (drop-nil (0 + length piece)) ∙ append-nil piece in
         record {
           file = new;
-          told = same ∙ m;
+          reported = same ∙ m;
           rest = record { behind = []; parts = written ∙ is ∙ ap (λ (l : List ℕ). l ++ closed_gate ∷ []) (sym (append-nil head)) };
           place = ap length (sym (append-nil head));
           only = subst (λ (o : Option (List ℕ)). IfSome o (λ file. Only file after)) m only;

@@ -3,4 +3,4 @@ pub mod Moments
 pub mod OnceRead
 pub mod Shutting
 pub mod Steps
-pub mod Told
+pub mod Reported

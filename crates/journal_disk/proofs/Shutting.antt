@@ -15,12 +15,12 @@ use Rattle.journal_disk.specs.Disks.{HasRest, HasStaged, EndsAt, EndsClosed, Has
 
 module _ (seen : Option (List ℕ)) (head : List ℕ) (fs : List Entry) (gate : ℕ) where
   abbrev pub ends_moved : (later : Option (List ℕ)) → later ≡ seen → EndsAt seen head fs gate → EndsAt later head fs gate
-  ends_moved later same ends = record { file = ends.file; told = same ∙ ends.told; reads = ends.reads; place = ends.place }
+  ends_moved later same ends = record { file = ends.file; reported = same ∙ ends.reported; reads = ends.reads; place = ends.place }
 
   -- the byte there is the gate
   pub byte_is : (b : ℕ) → (ends : EndsAt seen head fs gate) → IfSome seen (λ file. BeginsAt file gate (b ∷ [])) → ends.reads.gate ≡ b
   byte_is b ends there =
-      let here = subst (λ (o : Option (List ℕ)). IfSome o (λ file. BeginsAt file gate (b ∷ []))) ends.told there in
+      let here = subst (λ (o : Option (List ℕ)). IfSome o (λ file. BeginsAt file gate (b ∷ []))) ends.reported there in
       let gate_there : drop gate ends.file
       ≡ ends.reads.gate ∷ ends.reads.unread = ap (λ (l : List ℕ). drop gate l) ends.reads.parts ∙ drop_at (up_to_gate head fs)
       (ends.reads.gate ∷ ends.reads.unread) gate (sym ends.place) in
@@ -37,17 +37,17 @@ module _ (seen : Option (List ℕ)) (head : List ℕ) (fs : List Entry) (gate : 
       let ends = closed.ends in
       record {
         file = ends.file;
-        told = same ∙ ends.told;
+        reported = same ∙ ends.reported;
         rest = running.closed_rests head ends.file fs ends.reads closed.written;
         place = ends.place;
-        only = subst (λ (o : Option (List ℕ)). IfSome o (λ file. Only file after)) ends.told only;
+        only = subst (λ (o : Option (List ℕ)). IfSome o (λ file. Only file after)) ends.reported only;
         each = ends.reads.each;
       }
 
   pub shut_rest : (mid last : Option (List ℕ)) (after : List ℕ → Type 0) → (ends : EndsAt seen head fs gate)
       → Writes seen mid gate (closed_gate ∷ []) → last ≡ mid → IfSome mid (λ file. Only file after) → HasRest last after head fs gate
   shut_rest mid last after ends writes same only = by mid refl
-      (subst (λ (o : Option (List ℕ)). Writes o mid gate (closed_gate ∷ [])) ends.told writes)
+      (subst (λ (o : Option (List ℕ)). Writes o mid gate (closed_gate ∷ [])) ends.reported writes)
     where
       by : (m : Option (List ℕ)) → mid ≡ m → Writes (Some ends.file) mid gate (closed_gate ∷ []) → HasRest last after head fs gate
       by None m w = absurd (subst (λ (o : Option (List ℕ)). Writes (Some ends.file) o gate (closed_gate ∷ [])) m w)
@@ -58,7 +58,7 @@ module _ (seen : Option (List ℕ)) (head : List ℕ) (fs : List Entry) (gate : 
           is_new ∙ ap (λ (g : ℕ). take g ends.file ++ (closed_gate ∷ []) ++ drop (g + 1) ends.file) ends.place in
           record {
             file = new;
-            told = same ∙ m;
+            reported = same ∙ m;
             rest = running.written_rests head ends.file new fs ends.reads written;
             place = ends.place;
             only = subst (λ (o : Option (List ℕ)). IfSome o (λ file. Only file after)) m only;
@@ -71,7 +71,7 @@ pub torn_there : (seen : Option (List ℕ)) (images : List ℕ → Type 0) (head
     → b ≢ closed_gate
     → (e : Entry) × IsEntry e × (fs ≡ es) × AllOpening head es e images
 torn_there seen images head es fs gate b s image ends there torn =
-    running.torn_stands head ends.file es fs images s (subst (λ (o : Option (List ℕ)). IfSome o images) ends.told image) ends.reads
+    running.torn_stands head ends.file es fs images s (subst (λ (o : Option (List ℕ)). IfSome o images) ends.reported image) ends.reads
     (λ is. torn (sym (byte_is seen head fs gate b ends there) ∙ is))
 
 -- ---- while it is closed

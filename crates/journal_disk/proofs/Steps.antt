@@ -29,7 +29,7 @@ module _ (seen : Option (List ℕ)) (may_leave : List ℕ → Type 0) (head : Li
   pub has_staged : (e : Entry) (bytes : List ℕ) (mid last : Option (List ℕ)) (after : List ℕ → Type 0) → IsEntry e → bytes ≡ staged e
       → Writes seen mid (gate + 1) bytes → last ≡ mid → IfSome mid (λ file. Only file after) → HasStaged last after head es e gate
   has_staged e bytes mid last after is spelled writes same only = by mid refl
-      (subst (λ (o : Option (List ℕ)). Writes o mid (gate + 1) bytes) r.told writes)
+      (subst (λ (o : Option (List ℕ)). Writes o mid (gate + 1) bytes) r.reported writes)
     where
       by : (m : Option (List ℕ)) → mid ≡ m → Writes (Some r.file) mid (gate + 1) bytes → HasStaged last after head es e gate
       by None m w = absurd (subst (λ (o : Option (List ℕ)). Writes (Some r.file) o (gate + 1) bytes) m w)
@@ -42,7 +42,7 @@ module _ (seen : Option (List ℕ)) (may_leave : List ℕ → Type 0) (head : Li
           let w2 = laws.written_behind_the_gate head es e r.file new r.rest written in
           record {
             file = new;
-            told = same ∙ m;
+            reported = same ∙ m;
             more = w2.0;
             opening = record { gate = closed_gate; parts = w2.1 };
             place = r.place;
@@ -69,7 +69,7 @@ module _ (seen : Option (List ℕ)) (may_leave : List ℕ → Type 0) (head : Li
   -- the second write, made and synced
   pub has_rest : (mid last : Option (List ℕ)) (after : List ℕ → Type 0) → Writes seen mid gate (open_gate ∷ []) → last ≡ mid
       → IfSome mid (λ file. Only file after) → HasRest last after head (es ++ e ∷ []) (gate + length (staged e))
-  has_rest mid last after writes same only = by mid refl (subst (λ (o : Option (List ℕ)). Writes o mid gate (open_gate ∷ [])) s.told writes)
+  has_rest mid last after writes same only = by mid refl (subst (λ (o : Option (List ℕ)). Writes o mid gate (open_gate ∷ [])) s.reported writes)
     where
       by : (m : Option (List ℕ)) → mid ≡ m → Writes (Some s.file) mid gate (open_gate ∷ [])
           → HasRest last after head (es ++ e ∷ []) (gate + length (staged e))
@@ -81,7 +81,7 @@ module _ (seen : Option (List ℕ)) (may_leave : List ℕ → Type 0) (head : Li
           ++ drop (k + 1) s.file = is_new ∙ ap (λ (g : ℕ). take g s.file ++ (open_gate ∷ []) ++ drop (g + 1) s.file) s.place in
           record {
             file = new;
-            told = same ∙ m;
+            reported = same ∙ m;
             rest = laws.opened_to_rest head es e s.more s.file new s.opening written;
             place = ap (λ (g : ℕ). g + length (staged e)) s.place ∙ laws.next_place head es e;
             only = subst (λ (o : Option (List ℕ)). IfSome o (λ file. Only file after)) m only;

@@ -9,7 +9,7 @@ use Rattle.journal_defs.specs.Crashes.{IsAtRest, IsOpening, IsImageOf, IsWithOrW
 -- the journal is at rest with these entries, its closed gate is at this place, and every crash leaves it so
 pub record HasRest (seen : Option (List ℕ)) (may_leave : List ℕ → Type 0) (head : List ℕ) (es : List Entry) (gate : ℕ) : Type 0 where
   pub file : List ℕ
-  pub told : seen ≡ Some file
+  pub reported : seen ≡ Some file
   pub rest : IsAtRest head es file
   pub place : gate ≡ length (up_to_gate head es)
   pub only : Only file may_leave
@@ -19,7 +19,7 @@ pub record HasRest (seen : Option (List ℕ)) (may_leave : List ℕ → Type 0) 
 pub record HasStaged (seen : Option (List ℕ)) (may_leave : List ℕ → Type 0) (head : List ℕ) (es : List Entry) (e : Entry)
     (gate : ℕ) : Type 0 where
   pub file : List ℕ
-  pub told : seen ≡ Some file
+  pub reported : seen ≡ Some file
   pub more : List ℕ
   pub opening : IsOpening head es e more file
   pub place : gate ≡ length (up_to_gate head es)
@@ -30,7 +30,7 @@ pub record HasStaged (seen : Option (List ℕ)) (may_leave : List ℕ → Type 0
 -- entries lie on the disk, and after them a closed gate, at this place
 pub record EndsAt (seen : Option (List ℕ)) (head : List ℕ) (fs : List Entry) (gate : ℕ) : Type 0 where
   pub file : List ℕ
-  pub told : seen ≡ Some file
+  pub reported : seen ≡ Some file
   pub reads : ReadsAs head file fs
   pub place : gate ≡ length (up_to_gate head fs)
 

@@ -1,2 +1,2 @@
 pub mod AtDisk
-pub mod OnTold
+pub mod OnReported

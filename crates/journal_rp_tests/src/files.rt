@@ -74,7 +74,7 @@ fn what_begins_otherwise_is_no_journal(rt: HostRuntime) -> Result<(), Fail> {
 }
 
 #[test]
-fn an_open_gate_before_no_entry_is_told(rt: HostRuntime) -> Result<(), Fail> {
+fn an_open_gate_before_no_entry_is_reported(rt: HostRuntime) -> Result<(), Fail> {
     let mut bytes = old_journal(rt.alloc())?;
     assert!(rt; bytes.len() == 71);
     bytes[66] = 255;

@@ -166,7 +166,7 @@ pub line_spelled : (scheme : Scheme) (said : KitLine) → IsLine (is_scheme sche
     → line_by (is_scheme scheme) (line_words said) ≡ Some said
 unfolding line_by
 line_spelled scheme (Version version) h = version_spelled (is_scheme scheme) version
-line_spelled scheme (SchemeIs told) h = scheme_line_spelled (is_scheme scheme) told h
+line_spelled scheme (SchemeIs reported) h = scheme_line_spelled (is_scheme scheme) reported h
 line_spelled scheme (GroupIs group) h = ap (option_map GroupIs) (bytes_spelled 16 group h)
 line_spelled scheme (Key p key) h = key_spelled scheme p key h.0 h.1
 line_spelled scheme (Genesis members) h = genesis_spelled members h

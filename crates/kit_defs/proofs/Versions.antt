@@ -11,7 +11,7 @@ use Rattle.kit_defs.specs.Kits.{KitVersion, One, Two, version_of}
 use Rattle.kit_defs.specs.KitReading.{is_of, is_scheme}
 
 -- the scheme that is told is the only one
-pub scheme_is : (told scheme : Scheme) → is_scheme told scheme ≡ true → scheme ≡ told
+pub scheme_is : (reported scheme : Scheme) → is_scheme reported scheme ≡ true → scheme ≡ reported
 scheme_is schemes.Plain schemes.Plain e = refl
 scheme_is schemes.Lms schemes.Lms e = refl
 scheme_is schemes.Hss schemes.Hss e = refl

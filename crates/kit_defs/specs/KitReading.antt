@@ -67,8 +67,8 @@ is_scheme schemes.Hss schemes.Hss = true
 abbrev pub may_be : Option KitVersion → Option Scheme → Scheme → Bool
 may_be None None scheme = true
 may_be (Some version) None scheme = is_of version scheme
-may_be None (Some told) scheme = is_scheme told scheme
-may_be (Some version) (Some told) scheme = is_scheme told scheme
+may_be None (Some reported) scheme = is_scheme reported scheme
+may_be (Some version) (Some reported) scheme = is_scheme reported scheme
 
 -- In what follows `may` says which schemes the kit may have.
 

@@ -364,9 +364,9 @@ module _ (d : Draft) (ok : IsDraft d) (ws : List (List ℕ)) where
       ∙ both (first_process ws) (first_process (drop 1 ws))
 
 -- a scheme is told where its view is
-pub is_told : {A B : Type 0} (f : A → B) (o : Option A) → is_some (option_map f o) ≡ is_some o
-is_told f None = refl
-is_told f (Some a) = refl
+pub is_reported : {A B : Type 0} (f : A → B) (o : Option A) → is_some (option_map f o) ≡ is_some o
+is_reported f None = refl
+is_reported f (Some a) = refl
 
 -- ---- for all words
 

@@ -7,7 +7,7 @@ use Rattle.kit_defs.specs.Kits.{key_length}
 use Rattle.kit_defs.specs.KitReading.{Draft}
 use Rattle.kit_file.specs.declared.parts.Host.{Host}
 use Rattle.kit_file.specs.Views.{hosts, AreRising}
-use Rattle.kit_lines.specs.declared.told.Version.{Version}
+use Rattle.kit_lines.specs.declared.reported.Version.{Version}
 use Rattle.kit_lines.specs.LineViews as lines
 
 abbrev pub draft : Option Version → Option AnyScheme → Option (List ℕ) → List (ℕ × List ℕ) → List ℕ → List (ℕ × ℕ) → List Host → Draft
@@ -27,7 +27,7 @@ IsNumber p = p ≤ 63
 
 pub record IsDraft (d : Draft) : Type 0 where
   -- the scheme was read where the group was
-  pub told_first : IsTrue (is_some d.group) → IsTrue (is_some d.scheme)
+  pub reported_first : IsTrue (is_some d.group) → IsTrue (is_some d.scheme)
   -- and where a key does, whose length is the scheme's
   pub keys : AllByRecursion (λ k. IsNumber k.0 × (Some (length k.1) ≡ option_map key_length d.scheme)) d.keys
   pub ports : AllByRecursion (λ p. IsNumber p.0) d.ports

@@ -11,7 +11,7 @@ ghost use Rattle.kit_lines.specs.LineViews.{line, may};
 
 use arrayvec::ArrayVec;
 use kit_file::Host;
-use kit_lines::{FirstWord, KitLine, Told, Version, first_word, next_process};
+use kit_lines::{FirstWord, KitLine, Reported, Version, first_word, next_process};
 use rp_base::{GroupId, NoMemory, Pid, PidSet, Roster};
 use sig_scheme::AnyScheme;
 use std::alloc::Global;
@@ -66,11 +66,11 @@ impl Draft {
     }
 
     /// What the lines so far say of the scheme.
-    pub fn told(&self) -> Told
+    pub fn reported(&self) -> Reported
         ensures value { may result ≡ plain.may_of self.now }
         ensures holds { IsDraft self.now }
     {
-        Told {
+        Reported {
             version: self.version,
             scheme: self.scheme,
         }

@@ -7,9 +7,9 @@ use Rattle.kit_defs.specs.Kits as plain
 use Rattle.kit_defs.specs.KitReading.{may_be}
 use Rattle.kit_lines.specs.declared.lines.KitLine.{KitLine}
 use Rattle.kit_lines.specs.declared.lines.KitLine.TheVariants.{Version, SchemeIs, GroupIs, Key, Genesis, Port, PlainHost, LmsHost, HssHost, Pair}
-use Rattle.kit_lines.specs.declared.told.Told.{Told}
-use Rattle.kit_lines.specs.declared.told.Version as numbers
-use Rattle.kit_lines.specs.declared.told.Version.TheVariants.{One, Two}
+use Rattle.kit_lines.specs.declared.reported.Reported.{Reported}
+use Rattle.kit_lines.specs.declared.reported.Version as numbers
+use Rattle.kit_lines.specs.declared.reported.Version.TheVariants.{One, Two}
 
 abbrev pub version : numbers.Version → plain.KitVersion
 version One = plain.One
@@ -28,5 +28,5 @@ line (HssHost process levels height ots id seed) = plain.HssHost process levels 
 line (Pair process other key) = plain.Pair process other key
 
 -- which schemes the kit may have
-abbrev pub may : Told → Scheme → Bool
-may told = may_be (option_map version told.version) (option_map views.scheme told.scheme)
+abbrev pub may : Reported → Scheme → Bool
+may reported = may_be (option_map version reported.version) (option_map views.scheme reported.scheme)

@@ -3,8 +3,8 @@
 
 mod first_words;
 mod lines;
-mod told;
+mod reported;
 
 pub use first_words::{FirstWord, first_word};
 pub use lines::{KitLine, line_by, next_process};
-pub use told::{Told, Version};
+pub use reported::{Reported, Version};

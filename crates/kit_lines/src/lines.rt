@@ -23,7 +23,7 @@ ghost use Rattle.kit_lines.specs.FirstWords.{only_word, first_process};
 ghost use Rattle.kit_lines.specs.LineViews.{line, may};
 
 use crate::first_words::{FirstWord, first_word};
-use crate::told::{Told, Version};
+use crate::reported::{Reported, Version};
 use arrayvec::ArrayVec;
 use lms_ots::ots_type_of;
 use rp_base::{GroupId, Pid};
@@ -134,21 +134,21 @@ fn scheme_of_word(word: &[u8]) -> Option<AnyScheme>
 }
 
 // The scheme that the word names, if this kit may have it.
-fn scheme_in(told: Told, word: &[u8]) -> Option<AnyScheme>
-    ensures { option_map views.scheme result ≡ plain.scheme_in (may told) word.now }
+fn scheme_in(reported: Reported, word: &[u8]) -> Option<AnyScheme>
+    ensures { option_map views.scheme result ≡ plain.scheme_in (may reported) word.now }
 {
     let scheme = scheme_of_word(word)?;
-    if told.may_be(scheme) {
+    if reported.may_be(scheme) {
         Some(scheme)
     } else {
         None
     }
 }
 
-fn scheme_by(told: Told, mut words: Words<'_>) -> Option<KitLine>
-    ensures { option_map line result ≡ plain.scheme_by (may told) (parts_left words.entry) }
+fn scheme_by(reported: Reported, mut words: Words<'_>) -> Option<KitLine>
+    ensures { option_map line result ≡ plain.scheme_by (may reported) (parts_left words.entry) }
 {
-    Some(KitLine::SchemeIs(scheme_in(told, last(&mut words)?)?))
+    Some(KitLine::SchemeIs(scheme_in(reported, last(&mut words)?)?))
 }
 
 fn group_by(mut words: Words<'_>) -> Option<KitLine>
@@ -158,10 +158,10 @@ fn group_by(mut words: Words<'_>) -> Option<KitLine>
 }
 
 // A public key of this scheme, where the kit may be of it.
-fn key_in(told: Told, word: &[u8], scheme: AnyScheme) -> Option<PublicKey>
-    ensures { option_map key_bytes result ≡ plain.key_in (may told) word.now (views.scheme scheme) }
+fn key_in(reported: Reported, word: &[u8], scheme: AnyScheme) -> Option<PublicKey>
+    ensures { option_map key_bytes result ≡ plain.key_in (may reported) word.now (views.scheme scheme) }
 {
-    if !told.may_be(scheme) {
+    if !reported.may_be(scheme) {
         return None;
     }
     match scheme {
@@ -172,23 +172,23 @@ fn key_in(told: Told, word: &[u8], scheme: AnyScheme) -> Option<PublicKey>
 }
 
 // A public key of one of the schemes.
-fn public_key_by(told: Told, word: &[u8]) -> Option<PublicKey>
-    ensures { option_map key_bytes result ≡ plain.public_key_by (may told) word.now }
+fn public_key_by(reported: Reported, word: &[u8]) -> Option<PublicKey>
+    ensures { option_map key_bytes result ≡ plain.public_key_by (may reported) word.now }
 {
-    match key_in(told, word, AnyScheme::Plain) {
+    match key_in(reported, word, AnyScheme::Plain) {
         Some(key) => Some(key),
-        None => match key_in(told, word, AnyScheme::Lms) {
+        None => match key_in(reported, word, AnyScheme::Lms) {
             Some(key) => Some(key),
-            None => key_in(told, word, AnyScheme::Hss),
+            None => key_in(reported, word, AnyScheme::Hss),
         },
     }
 }
 
-fn key_by(told: Told, mut words: Words<'_>) -> Option<KitLine>
-    ensures { option_map line result ≡ plain.key_by (may told) (parts_left words.entry) }
+fn key_by(reported: Reported, mut words: Words<'_>) -> Option<KitLine>
+    ensures { option_map line result ≡ plain.key_by (may reported) (parts_left words.entry) }
 {
     let process = next_process(&mut words)?;
-    let key = public_key_by(told, last(&mut words)?)?;
+    let key = public_key_by(reported, last(&mut words)?)?;
     Some(KitLine::Key { process, key })
 }
 
@@ -276,11 +276,11 @@ fn hss_host_by(process: Pid, mut words: Words<'_>) -> Option<KitLine>
     })
 }
 
-fn host_by(told: Told, mut words: Words<'_>) -> Option<KitLine>
-    ensures { option_map line result ≡ plain.host_by (may told) (parts_left words.entry) }
+fn host_by(reported: Reported, mut words: Words<'_>) -> Option<KitLine>
+    ensures { option_map line result ≡ plain.host_by (may reported) (parts_left words.entry) }
 {
     let process = next_process(&mut words)?;
-    match scheme_in(told, words.next()?)? {
+    match scheme_in(reported, words.next()?)? {
         AnyScheme::Plain => plain_host_by(process, words),
         AnyScheme::Lms => lms_host_by(process, words),
         AnyScheme::Hss => hss_host_by(process, words),
@@ -304,17 +304,17 @@ fn pair_by(mut words: Words<'_>) -> Option<KitLine>
 }
 
 /// The line that these words are, given the version and scheme so far; None exactly where they are none.
-pub fn line_by(told: Told, mut words: Words<'_>) -> Option<KitLine>
-    ensures { option_map line result ≡ plain.line_by (may told) (parts_left words.entry) }
+pub fn line_by(reported: Reported, mut words: Words<'_>) -> Option<KitLine>
+    ensures { option_map line result ≡ plain.line_by (may reported) (parts_left words.entry) }
 {
     match first_word(words.next()?)? {
         FirstWord::Rampart => version_by(words),
-        FirstWord::Scheme => scheme_by(told, words),
+        FirstWord::Scheme => scheme_by(reported, words),
         FirstWord::Group => group_by(words),
-        FirstWord::Key => key_by(told, words),
+        FirstWord::Key => key_by(reported, words),
         FirstWord::Genesis => genesis_by(words),
         FirstWord::Port => port_by(words),
-        FirstWord::Host => host_by(told, words),
+        FirstWord::Host => host_by(reported, words),
         FirstWord::Pair => pair_by(words),
     }
 }

@@ -38,21 +38,21 @@ IsHostIn h = IsNumber h.process × AllByRecursion (λ p. IsNumber p.0) h.pairs
 
 -- ---- schemes
 
-is_told : (o : Option Scheme) → is_none o ≡ false → (s : Scheme) × (o ≡ Some s)
-is_told None e = absurd (true≢false e)
-is_told (Some s) e = (s, refl)
+is_reported : (o : Option Scheme) → is_none o ≡ false → (s : Scheme) × (o ≡ Some s)
+is_reported None e = absurd (true≢false e)
+is_reported (Some s) e = (s, refl)
 
-not_told : (o : Option Scheme) → is_some o ≡ false → o ≡ None
-not_told None e = refl
-not_told (Some s) e = absurd (true≢false e)
+not_reported : (o : Option Scheme) → is_some o ≡ false → o ≡ None
+not_reported None e = refl
+not_reported (Some s) e = absurd (true≢false e)
 
 some_true : {A : Type 0} (o : Option A) → is_none o ≡ false → IsTrue (is_some o)
 some_true None e = absurd (true≢false e)
 some_true (Some a) e = refl
 
-told_scheme : (o : Option Scheme) → IsTrue (is_some o) → (s : Scheme) × (o ≡ Some s)
-told_scheme None e = absurd (true≢false (sym e))
-told_scheme (Some s) e = (s, refl)
+reported_scheme : (o : Option Scheme) → IsTrue (is_some o) → (s : Scheme) × (o ≡ Some s)
+reported_scheme None e = absurd (true≢false (sym e))
+reported_scheme (Some s) e = (s, refl)
 
 no_key : (o : Option Scheme) (k : ℕ × List ℕ) → o ≡ None → IsKeyIn o k → {P : Type 0} → P
 no_key o k none is = none_some (length k.1) (sym (ap (option_map key_length) none) ∙ sym is.1)
@@ -71,14 +71,14 @@ listed_size o (k ∷ keys) p each e = by (k.0 == p) refl (listed_size o keys p e
     by false is later = rw is (later (sym (ap (λ t. t || has (roster_of keys) p) is) ∙ e))
 
 -- where a scheme is told, the kit is of no other
-told_only : (v : Option KitVersion) (s k : Scheme) → may_be v (Some s) k ≡ true → k ≡ s
-told_only None s k may = scheme_is s k may
-told_only (Some _) s k may = scheme_is s k may
+reported_only : (v : Option KitVersion) (s k : Scheme) → may_be v (Some s) k ≡ true → k ≡ s
+reported_only None s k may = scheme_is s k may
+reported_only (Some _) s k may = scheme_is s k may
 
 size_of : (v : Option KitVersion) (o : Option Scheme) (k : Scheme) (n : ℕ) → may_be v o k ≡ true → Some n ≡ option_map key_length o
     → n ≡ key_length k
 size_of v None k n may is = none_some n (sym is)
-size_of v (Some s) k n may is = some_is n (key_length s) is ∙ ap key_length (sym (told_only v s k may))
+size_of v (Some s) k n may is = some_is n (key_length s) is ∙ ap key_length (sym (reported_only v s k may))
 
 -- ---- pairs
 
@@ -130,7 +130,7 @@ with_host_is : (d : Draft) (p : ℕ) (s : Secret) → IsDraft d → IsNumber p �
 with_host_is d p s ok small low =
     let new : Host = record { process = p; secret = s; pairs = [] } in
     record {
-      told_first = ok.told_first;
+      reported_first = ok.reported_first;
       keys = ok.keys;
       ports = ok.ports;
       hosts = each_push IsHostIn d.hosts new ok.hosts (small, tt);
@@ -155,11 +155,11 @@ module _ (n : ℕ) (d : Draft) (ok : IsDraft d) where
   unfolding begin_with
   scheme_can s new =
       let and_true : (b : Bool) → (b && true) ≡ false → b ≡ false = λ b e. right b e in
-      let none : d.scheme ≡ None = not_told d.scheme (and_true (is_some d.scheme) new.scheme) in
+      let none : d.scheme ≡ None = not_reported d.scheme (and_true (is_some d.scheme) new.scheme) in
       record {
         fits = tt;
         keeps = λ e t. subst IsDraft (ok_is _ e t) (record {
-          told_first = λ _. refl;
+          reported_first = λ _. refl;
           keys = each_weaker (IsKeyIn d.scheme) (IsKeyIn (Some s)) (λ k is. no_key d.scheme k none is) d.keys ok.keys;
           ports = ok.ports;
           hosts = ok.hosts;
@@ -174,21 +174,21 @@ module _ (n : ℕ) (d : Draft) (ok : IsDraft d) where
   key_can : (p : ℕ) (key : List ℕ) → IsFresh d (line_words (Key p key)) → IsLine (may_of d) (Key p key) → is_late d (Key p key) ≡ false
       → is_early d (Key p key) ≡ false → CanAdd n d (Key p key)
   key_can p key new ranges in_time due =
-      let told = told_scheme d.scheme (ok.told_first (some_true d.group due)) in
+      let reported = reported_scheme d.scheme (ok.reported_first (some_true d.group due)) in
       let late = or_parts (has_genesis d) (list_any (λ k. nat_lt p k.0) d.keys) in_time in
       let low = each_weaker (λ k. nat_lt p k.0 ≡ false) (λ k. k.0 ≤ p)
       (λ k. ltb-false p k.0) d.keys (each_fails (λ k. nat_lt p k.0) d.keys late.1) in
       let above = each_with (λ k. k.0 ≤ p) (λ k. k.0 ≢ p) (λ k. k.0 < p)
       (λ k le ne. omega arith) d.keys low (new_key d.keys p key new.keys) in
-      let only : ranges.1.0 ≡ told.0 = told_only d.version told.0 ranges.1.0
-      (subst (λ o. may_be d.version o ranges.1.0 ≡ true) told.1 ranges.1.1) in
-      let size : length key ≡ key_length told.0 = ranges.1.2.0 ∙ ap key_length only in
+      let only : ranges.1.0 ≡ reported.0 = reported_only d.version reported.0 ranges.1.0
+      (subst (λ o. may_be d.version o ranges.1.0 ≡ true) reported.1 ranges.1.1) in
+      let size : length key ≡ key_length reported.0 = ranges.1.2.0 ∙ ap key_length only in
       let of_scheme : Some (length key)
-      ≡ option_map key_length d.scheme = ap (λ (m : ℕ). Some m) size ∙ sym (ap (option_map key_length) told.1) in
+      ≡ option_map key_length d.scheme = ap (λ (m : ℕ). Some m) size ∙ sym (ap (option_map key_length) reported.1) in
       record {
         fits = All-from_recursion (λ k. k.0 < p) d.keys above;
         keeps = λ e t. subst IsDraft (ok_is _ e t) (record {
-          told_first = ok.told_first;
+          reported_first = ok.reported_first;
           keys = each_push (IsKeyIn d.scheme) d.keys (p, key) ok.keys (ranges.0, of_scheme);
           ports = ok.ports;
           hosts = ok.hosts;
@@ -240,25 +240,25 @@ module _ (n : ℕ) (d : Draft) (ok : IsDraft d) where
   can (Version version) new ranges inside in_time due = record {
     fits = tt;
     keeps = λ e t. subst IsDraft (ok_is _ e t)
-        (record { told_first = ok.told_first; keys = ok.keys; ports = ok.ports; hosts = ok.hosts; rising = ok.rising });
+        (record { reported_first = ok.reported_first; keys = ok.keys; ports = ok.ports; hosts = ok.hosts; rising = ok.rising });
   }
   can (SchemeIs s) new ranges inside in_time due = scheme_can s new
   can (GroupIs group) new ranges inside in_time due = record {
     fits = tt;
     keeps = λ e t. subst IsDraft (ok_is _ e t)
-        (record { told_first = λ _. some_true d.scheme due; keys = ok.keys; ports = ok.ports; hosts = ok.hosts; rising = ok.rising });
+        (record { reported_first = λ _. some_true d.scheme due; keys = ok.keys; ports = ok.ports; hosts = ok.hosts; rising = ok.rising });
   }
   can (Key p key) new ranges inside in_time due = key_can p key new ranges in_time due
   can (Genesis members) new ranges inside in_time due = record {
     fits = tt;
     keeps = λ e t. subst IsDraft (ok_is _ e t)
-        (record { told_first = ok.told_first; keys = ok.keys; ports = ok.ports; hosts = ok.hosts; rising = ok.rising });
+        (record { reported_first = ok.reported_first; keys = ok.keys; ports = ok.ports; hosts = ok.hosts; rising = ok.rising });
   }
   can (Port p port) new ranges inside in_time due = record {
     fits = tt;
     keeps = λ e t. subst IsDraft (ok_is _ e t)
         (record {
-          told_first = ok.told_first;
+          reported_first = ok.reported_first;
           keys = ok.keys;
           ports = each_push (λ r. IsNumber r.0) d.ports (p, port) ok.ports ranges.0;
           hosts = ok.hosts;
@@ -272,7 +272,7 @@ module _ (n : ℕ) (d : Draft) (ok : IsDraft d) where
     fits = tt;
     keeps = λ e t. subst IsDraft (ok_is _ e t)
         (record {
-          told_first = ok.told_first;
+          reported_first = ok.reported_first;
           keys = ok.keys;
           ports = ok.ports;
           hosts = still_numbered (q, key) d.hosts ranges.1 ok.hosts;

@@ -203,7 +203,7 @@ fn said_by(draft: &Draft, words: Words<'_>) -> Option<KitLine>
     ensures said { option_map line result ≡ plain.line_by (plain.may_of draft.now) (parts_left words.entry) }
     ensures holds { IsDraft draft.now }
 {
-    line_by(draft.told(), words)
+    line_by(draft.reported(), words)
 }
 
 /// Takes the line of this number, without its line feed, after those so far, or answers its first fault.

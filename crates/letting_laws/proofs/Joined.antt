@@ -12,7 +12,7 @@ use Rattle.node_traces.specs.Ways.{Through}
 use Rattle.node_traces.specs.Outside.{LinkSeen, LinkStep, LinkAnswered}
 use Rattle.node_traces.specs.Service.{Asked, asking, hears}
 use Rattle.node_traces.proofs.Joined.{one-after-the-other}
-use Rattle.letting_laws.specs.Letting.{Fits, asked, told_by, failed_by, Edge, edge, LetOut, HasBegun, LetOutInARow}
+use Rattle.letting_laws.specs.Letting.{Fits, asked, reported_by, failed_by, Edge, edge, LetOut, HasBegun, LetOutInARow}
 
 all_zip-append : (ls ms : List Leaving) (ws bs : List Answer) → AllZip Fits ls ws → AllZip Fits ms bs → AllZip Fits (ls ++ ms) (ws ++ bs)
 all_zip-append [] ms [] bs first more = more
@@ -45,13 +45,13 @@ let-nothing c at e = record {
 }
 
 -- of both lists
-of-both : (told : Leaving × Answer → List ℕ) (ls ms : List Leaving) (ws bs : List Answer) (old mid new : List ℕ) → AllZip Fits ls ws
-    → mid ≡ old ++ flat_map told (zip ls ws) → new ≡ mid ++ flat_map told (zip ms bs)
-    → new ≡ old ++ flat_map told (zip (ls ++ ms) (ws ++ bs))
-of-both told ls ms ws bs old mid new first one two =
-    two ∙ ap (λ (t : List ℕ). t ++ flat_map told (zip ms bs)) one ∙ append_assoc old (flat_map told (zip ls ws)) (flat_map told (zip ms bs))
-    ∙ ap (λ (t : List ℕ). old ++ t) (sym (flat_map-append told (zip ls ws) (zip ms bs))
-    ∙ ap (flat_map told) (sym (zip-append ls ms ws bs first)))
+of-both : (reported : Leaving × Answer → List ℕ) (ls ms : List Leaving) (ws bs : List Answer) (old mid new : List ℕ) → AllZip Fits ls ws
+    → mid ≡ old ++ flat_map reported (zip ls ws) → new ≡ mid ++ flat_map reported (zip ms bs)
+    → new ≡ old ++ flat_map reported (zip (ls ++ ms) (ws ++ bs))
+of-both reported ls ms ws bs old mid new first one two =
+    two ∙ ap (λ (t : List ℕ). t ++ flat_map reported (zip ms bs)) one ∙ append_assoc old (flat_map reported (zip ls ws)) (flat_map reported (zip ms bs))
+    ∙ ap (λ (t : List ℕ). old ++ t) (sym (flat_map-append reported (zip ls ws) (zip ms bs))
+    ∙ ap (flat_map reported) (sym (zip-append ls ms ws bs first)))
 
 calls-of-both : (c : Cast) (ls ms : List Leaving) (ws bs : List Answer) (k l m : LinkSeen) → AllZip Fits ls ws
     → LinkAnswered k (asked c ls ws) l → LinkAnswered l (asked c ms bs) m → LinkAnswered k (asked c (ls ++ ms) (ws ++ bs)) m
@@ -76,7 +76,7 @@ let-both c at ls ms e f g first more = record {
   answers = first.answers ++ more.answers;
   each = all_zip-append ls ms first.answers more.answers first.each more.each;
   link = calls-of-both c ls ms first.answers more.answers e.link f.link g.link first.each first.link more.link;
-  text = of-both told_by ls ms first.answers more.answers e.text f.text g.text first.each first.text more.text;
+  text = of-both reported_by ls ms first.answers more.answers e.text f.text g.text first.each first.text more.text;
   late = of-both failed_by ls ms first.answers more.answers e.late f.late g.late first.each first.late more.late;
   service = heard-of-both c at ls ms first.answers more.answers e.service f.service g.service first.each first.service more.service;
 }

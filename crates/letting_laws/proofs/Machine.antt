@@ -7,7 +7,7 @@ use Rattle.node_defs.specs.Casts.{Cast}
 use Rattle.node_defs.specs.Lines.{note_line, fault_line}
 use Rattle.node_defs.specs.Nodes.{Leaving, Sends, Tells, Call, leaving_call, Answer, Done, Failed, Said, Node, Snapper, call_of, after_leaving, answered, run, calls}
 use Rattle.node_traces.specs.Service.{Asked, asking, hears, asked_by}
-use Rattle.letting_laws.specs.Letting.{Fits, asked, told_by, failed_by, EachLetsOut}
+use Rattle.letting_laws.specs.Letting.{Fits, asked, reported_by, failed_by, EachLetsOut}
 
 -- the node, open and running, with this to let out
 abbrev letting : Node → List Leaving → Node
@@ -18,7 +18,7 @@ abbrev with_lines : Node → List ℕ → List ℕ → Node
 with_lines n text late = record n { text = n.text ++ text; late = n.late ++ late }
 
 answered-so : (c : Cast) (snap : Snapper) (n : Node) (ls : List Leaving) (l : Leaving) (a : Answer) → Fits l a
-    → answered c snap (letting n (l ∷ ls)) a ≡ letting (with_lines n (told_by (l, a)) (failed_by (l, a))) ls
+    → answered c snap (letting n (l ∷ ls)) a ≡ letting (with_lines n (reported_by (l, a)) (failed_by (l, a))) ls
 unfolding answered after_leaving
 answered-so c snap n ls (Sends p q frame) Done fits = λ i. record n {
   kept = append-nil n.kept i;
@@ -73,11 +73,11 @@ calls-so c snap n (l ∷ ls) others (a ∷ more) each =
     ap (λ (call : Call). (call, a) ∷ calls c snap (answered c snap (letting n (l ∷ ls ++ others)) a) more) (asks-so c n (ls ++ others) l)
     ∙ ap (λ (cs : List (Call × Answer)). (leaving_call c l, a) ∷ cs)
     (ap (λ (m : Node). calls c snap m more) (answered-so c snap n (ls ++ others) l a each.0)
-    ∙ calls-so c snap (with_lines n (told_by (l, a)) (failed_by (l, a))) ls others more each.1)
+    ∙ calls-so c snap (with_lines n (reported_by (l, a)) (failed_by (l, a))) ls others more each.1)
 
 run-so : (c : Cast) (snap : Snapper) (n : Node) (ls others : List Leaving) (answers : List Answer) → AllZip Fits ls answers
     → run c snap (letting n (ls ++ others)) answers
-    ≡ letting (with_lines n (flat_map told_by (zip ls answers)) (flat_map failed_by (zip ls answers))) others
+    ≡ letting (with_lines n (flat_map reported_by (zip ls answers)) (flat_map failed_by (zip ls answers))) others
 unfolding run
 run-so c snap n [] others [] each = λ i. record n {
   stopped = None;
@@ -90,8 +90,8 @@ run-so c snap n [] others (a ∷ more) each = absurd each
 run-so c snap n (l ∷ ls) others [] each = absurd each
 run-so c snap n (l ∷ ls) others (a ∷ more) each =
     ap (λ (m : Node). run c snap m more) (answered-so c snap n (ls ++ others) l a each.0)
-    ∙ run-so c snap (with_lines n (told_by (l, a)) (failed_by (l, a))) ls others more each.1
-    ∙ lines-more n (told_by (l, a)) (failed_by (l, a)) (flat_map told_by (zip ls more)) (flat_map failed_by (zip ls more)) others
+    ∙ run-so c snap (with_lines n (reported_by (l, a)) (failed_by (l, a))) ls others more each.1
+    ∙ lines-more n (reported_by (l, a)) (failed_by (l, a)) (flat_map reported_by (zip ls more)) (flat_map failed_by (zip ls more)) others
 
 heard-so : (c : Cast) (snap : Snapper) (n : Node) (ls others : List Leaving) (answers : List Answer) → AllZip Fits ls answers
     → asked_by c snap (letting n (ls ++ others)) answers ≡ hears c n.now (asked c ls answers)
@@ -104,7 +104,7 @@ heard-so c snap n (l ∷ ls) others (a ∷ more) each =
     (asks-so c n (ls ++ others) l)
     ∙ ap (λ (h : List Asked). asking c n.now (leaving_call c l) a ++ h)
     (ap (λ (m : Node). asked_by c snap m more) (answered-so c snap n (ls ++ others) l a each.0)
-    ∙ heard-so c snap (with_lines n (told_by (l, a)) (failed_by (l, a))) ls others more each.1)
+    ∙ heard-so c snap (with_lines n (reported_by (l, a)) (failed_by (l, a))) ls others more each.1)
 
 pub each_lets_out : EachLetsOut
 each_lets_out c snap n first others answers is each =
@@ -115,16 +115,16 @@ each_lets_out c snap n first others answers is each =
       run_is = ap (λ (m : Node). run c snap m answers) same ∙ run-so c snap n first others answers each ∙ back;
     }
   where
-    back : letting (with_lines n (flat_map told_by (zip first answers)) (flat_map failed_by (zip first answers))) others
+    back : letting (with_lines n (flat_map reported_by (zip first answers)) (flat_map failed_by (zip first answers))) others
         ≡ record n {
           leaving = others;
-          text = n.text ++ flat_map told_by (zip first answers);
+          text = n.text ++ flat_map reported_by (zip first answers);
           late = n.late ++ flat_map failed_by (zip first answers);
         }
     back = λ i. record n {
       stopped = sym is.runs i;
       opening = sym is.ready i;
       leaving = others;
-      text = n.text ++ flat_map told_by (zip first answers);
+      text = n.text ++ flat_map reported_by (zip first answers);
       late = n.late ++ flat_map failed_by (zip first answers);
     }

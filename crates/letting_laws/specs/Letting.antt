@@ -23,9 +23,9 @@ abbrev pub asked : Cast → List Leaving → List Answer → List (Call × Answe
 asked c ls answers = zip (map (leaving_call c) ls) answers
 
 -- the note's line, and after it what the service said
-abbrev pub told_by : Leaving × Answer → List ℕ
-told_by (Tells p note, Said text sends) = note_line p note ++ text
-told_by _ = []
+abbrev pub reported_by : Leaving × Answer → List ℕ
+reported_by (Tells p note, Said text sends) = note_line p note ++ text
+reported_by _ = []
 
 -- the line of a send that failed
 abbrev pub failed_by : Leaving × Answer → List ℕ
@@ -55,7 +55,7 @@ pub record LetOut (c : Cast) (at : ℕ → Process) (ls : List Leaving) (before 
   pub answers : List Answer
   pub each : AllZip Fits ls answers
   pub link : LinkAnswered before.link (asked c ls answers) now.link
-  pub text : now.text ≡ before.text ++ flat_map told_by (zip ls answers)
+  pub text : now.text ≡ before.text ++ flat_map reported_by (zip ls answers)
   pub late : now.late ≡ before.late ++ flat_map failed_by (zip ls answers)
   pub service : now.service ≡ before.service ++ hears c at (asked c ls answers)
 
@@ -97,7 +97,7 @@ pub record LetsFirstOut (c : Cast) (snap : Snapper) (n : Node) (first others : L
   pub asked_are : asked_by c snap n answers ≡ hears c n.now (asked c first answers)
   pub run_is : run c snap n answers ≡ record n {
     leaving = others;
-    text = n.text ++ flat_map told_by (zip first answers);
+    text = n.text ++ flat_map reported_by (zip first answers);
     late = n.late ++ flat_map failed_by (zip first answers);
   }
 

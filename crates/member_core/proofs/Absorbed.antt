@@ -86,12 +86,12 @@ module _ (o : Outcome) (r : Came) (count : ℕ) (spent fits valid : Bool) (is : 
   pub unfit-so : fits ≡ false → IsTrue false ↔ ((length o.signed ≡ count) × (o.spent ≡ spent) × IsTrue valid)
   unfit-so fails = (
     λ e. absurd (refuted false e refl ⊥),
-    λ told. refuted fits (same.1 (sym (counted-so o r is) ∙ told.0, sym is.spent ∙ told.1)) fails (IsTrue false),
+    λ reported. refuted fits (same.1 (sym (counted-so o r is) ∙ reported.0, sym is.spent ∙ reported.1)) fails (IsTrue false),
   )
 
   pub fit-so : (result : Bool) → fits ≡ true → result ≡ valid
       → IsTrue result ↔ ((length o.signed ≡ count) × (o.spent ≡ spent) × IsTrue valid)
   fit-so result holds judged = (
     λ e. (counted-so o r is ∙ (same.0 holds).0, is.spent ∙ (same.0 holds).1, sym judged ∙ e),
-    λ told. judged ∙ told.2,
+    λ reported. judged ∙ reported.2,
   )

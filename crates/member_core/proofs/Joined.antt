@@ -140,7 +140,7 @@ module _ (s : Setting) (p : Process) (t : Turn) (st : ProcessState) (total many 
       → IsSigned s (take_in s p t.event) (signing s p t) st total many before (map signed xs) lacks
       → map signed xs ≡ map signed_of (drop (length p.signed) (signing s p t).now.signed)
   signed-here-so xs lacks is =
-      is.told ∙ ap (λ (cs : List Signed). cs ++ map signed_of (drop (length (take_in s p t.event).signed) (signing s p t).now.signed)) none
+      is.reported ∙ ap (λ (cs : List Signed). cs ++ map signed_of (drop (length (take_in s p t.event).signed) (signing s p t).now.signed)) none
       ∙ ap (λ (cs : List Claim). map signed_of (drop (length cs) (signing s p t).now.signed)) (signed-still s p t.event)
 
   pub began-here : (n : ℕ) (xs : List OwnClaim) (lacks : Bool)
@@ -155,7 +155,7 @@ module _ (s : Setting) (p : Process) (t : Turn) (st : ProcessState) (total many 
       → map frame_to r.sends.items ≡ sends
       ++ flat_map frames_to (unless_empty (bundle tick p (signing s p t).now) Bundle (others p p.pool.view)) → map note r.notes.items ≡ []
       → HasBegun s p t st many r
-  begun-so r tick sends was before is verdict heard same empty sent told = record {
+  begun-so r tick sends was before is verdict heard same empty sent reported = record {
     state = is.state;
     used = is.used;
     few = few-so s p t was st before is.state;
@@ -165,7 +165,7 @@ module _ (s : Setting) (p : Process) (t : Turn) (st : ProcessState) (total many 
     spent = is.spent;
     sends = sent ∙ (λ i. empty i ++ flat_map frames_to
         (unless_empty (bundle (same i) p (signing s p t).now) Bundle (others p p.pool.view)));
-    notes = told;
+    notes = reported;
   }
 
 -- ---- the outcome
@@ -188,7 +188,7 @@ answered-so s p t st st' many pairs was r first begun ended =
       spent = begun.spent ∙ sym ended.spent;
       sends = flat-both frames_to (unless_empty (bundle (is_tick t.event) p one.now) Bundle (others p p.pool.view)) (answers s q t.event)
           ∙ sym (ended.sends ∙ ap (λ fs. fs ++ flat_map frames_to (answers s q t.event)) begun.sends);
-      told = sym (ended.notes ∙ (λ i. begun.notes i
+      reported = sym (ended.notes ∙ (λ i. begun.notes i
           ++ map (Delivers (same.view i).number) (drop (length (same.delivered i)) (deliver (decide s one.now)).delivered)
           ++ note_if (nat_lt (length (same.left i)) (length q.left)) (Installs q.pool.view)
           ++ liars_from (first i) q.conflicts ++ note_if (sym begun.spent i) Spent ++ halts q));

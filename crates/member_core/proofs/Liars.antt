@@ -24,22 +24,22 @@ no-liar (pair ∷ pairs) zero e = absurd cc
 no-liar (pair ∷ pairs) (suc k) e = no-liar pairs k e
 
 -- one pair more is told
-pub liar-told : (pairs : List (Claim × Claim)) (k : ℕ) (c : Claim) (was now whole : List Note)
+pub liar-reported : (pairs : List (Claim × Claim)) (k : ℕ) (c : Claim) (was now whole : List Note)
     → Some c ≡ option_map (λ (pair : Claim × Claim). pair.1) (slice_get pairs k) → now ≡ was ++ Liar c.signer ∷ []
     → was ++ liars_from k pairs ≡ whole → now ++ liars_from (k + 1) pairs ≡ whole
-liar-told pairs k c was now whole at more way =
+liar-reported pairs k c was now whole at more way =
     ap (λ ns. ns ++ liars_from (k + 1) pairs) more ∙ append_assoc was (Liar c.signer ∷ []) (liars_from (k + 1) pairs)
     ∙ ap (λ ns. was ++ ns) (ap (λ (n : ℕ). Liar c.signer ∷ liars_from n pairs) (add-one k) ∙ sym (next-liar pairs k c at)) ∙ way
 
-pub none-told : (pairs : List (Claim × Claim)) (k : ℕ) (was whole : List Note)
+pub none-reported : (pairs : List (Claim × Claim)) (k : ℕ) (was whole : List Note)
     → None ≡ option_map (λ (pair : Claim × Claim). pair.1) (slice_get pairs k) → was ++ liars_from k pairs ≡ whole
     → was ++ liars_from (k + 1) pairs ≡ whole
-none-told pairs k was whole none way = ap (λ ns. was ++ ns)
+none-reported pairs k was whole none way = ap (λ ns. was ++ ns)
     (ap (λ (n : ℕ). liars_from n pairs) (add-one k) ∙ sym (no-liar pairs k none)) ∙ way
 
 -- behind the last pair all are told
-pub all-told : (pairs : List (Claim × Claim)) (k : ℕ) (was whole : List Note) → length pairs ≤ k → was ++ liars_from k pairs ≡ whole
+pub all-reported : (pairs : List (Claim × Claim)) (k : ℕ) (was whole : List Note) → length pairs ≤ k → was ++ liars_from k pairs ≡ whole
     → was ≡ whole
-all-told pairs k was whole past way =
+all-reported pairs k was whole past way =
     sym (append-nil was) ∙ ap (λ (ps : List (Claim × Claim)). was ++ map (λ (pair : Claim × Claim). Liar pair.1.signer) ps)
     (sym (drop-past pairs k past)) ∙ way

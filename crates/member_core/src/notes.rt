@@ -23,7 +23,7 @@ fn tell_liars(conflicts: &Conflicts, from: usize, notes: &mut Vec<Note>) -> Resu
 
 // Reports that a signature was missing, where one was.
 fn tell_spent(spent: bool, notes: &mut Vec<Note>) -> Result<(), NoMemory>
-    ensures told { OnOk result (map note notes.new.items ≡ map note notes.old.items ++ defs.note_if spent defs.Spent) }
+    ensures reported { OnOk result (map note notes.new.items ≡ map note notes.old.items ++ defs.note_if spent defs.Spent) }
     ensures none { spent ≡ false → IsOk result }
 {
     if spent {

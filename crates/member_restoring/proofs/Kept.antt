@@ -6,7 +6,7 @@ use Rattle.group_defs.specs.Process.{Setting, Process, Delivered, earlier, deliv
 use Rattle.image_defs.specs.Images.{Image, LeftView, lefts_from, process_of, view_behind}
 use Rattle.image_defs.specs.Kept.{IsKept}
 use Rattle.restored_present.specs.Left.{IsLeftSo, StandByPlace}
-use Rattle.restored_present.specs.Parts.{IsToldSo, IsPresentSo}
+use Rattle.restored_present.specs.Parts.{IsReportedSo, IsPresentSo}
 use Rattle.member_restoring.proofs.Lists.{own-are}
 
 module _ (s : Setting) (i : Image) (lists : length i.delivered ≡ length i.left + 1) where
@@ -27,16 +27,16 @@ module _ (s : Setting) (i : Image) (lists : length i.delivered ≡ length i.left
   own-all : earlier p + delivered_from p.me p.delivered ≡ sum_by (λ ds. delivered_from i.me ds) i.delivered
   own-all = own-are i.me s.genesis i.left i.delivered lists
 
-  pub kept-is : StandByPlace i.delivered → IsLeftSo s i → IsToldSo s v i → IsPresentSo s p → IsKept s i
-  kept-is placed left told present = record {
+  pub kept-is : StandByPlace i.delivered → IsLeftSo s i → IsReportedSo s v i → IsPresentSo s p → IsKept s i
+  kept-is placed left reported present = record {
     left = left.left;
     last = left.last;
     none_before = λ none. left.none_before (none-left s.genesis i.left i.delivered none);
     heard = present.heard;
     was_heard = left.was_heard;
-    conflicts = told.conflicts.each;
-    one_each = told.conflicts.one_each;
-    own = told.own;
+    conflicts = reported.conflicts.each;
+    one_each = reported.conflicts.one_each;
+    own = reported.own;
     signed_once = present.said.once;
     heard_own = present.said.heard_own;
     by_place = placed.by_place;
@@ -46,9 +46,9 @@ module _ (s : Setting) (i : Image) (lists : length i.delivered ≡ length i.left
     paid = present.shown.paid;
     decided = λ d is. (let so = present.decided d is in (so.0, so.1.0, so.1.1, so.1.2));
     halted = present.halted;
-    short = told.accepted.short;
-    backlog = (let le = told.accepted.backlog in omega (arith, le, own-all));
-    perceived = told.perceived;
+    short = reported.accepted.short;
+    backlog = (let le = reported.accepted.backlog in omega (arith, le, own-all));
+    perceived = reported.perceived;
   }
 
   module _ (kept : IsKept s i) where
@@ -63,8 +63,8 @@ module _ (s : Setting) (i : Image) (lists : length i.delivered ≡ length i.left
       was_heard = kept.was_heard;
     }
 
-    pub told-so : IsToldSo s v i
-    told-so = record {
+    pub reported-so : IsReportedSo s v i
+    reported-so = record {
       accepted = record { short = kept.short; backlog = (let le = kept.backlog in omega (arith, le, own-all)) };
       perceived = kept.perceived;
       conflicts = record { each = kept.conflicts; one_each = kept.one_each };

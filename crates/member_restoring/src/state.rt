@@ -16,7 +16,7 @@ ghost use Rattle.member_restoring.specs.Parts.{HasParts, IsOf};
 
 use restored_present::{
     Account, Judge, Left, Present, ProcessState, SaidBefore, asked_in, claims_of, conflicts_of,
-    installed, is_told, left_in, present_in, said_in, stand_by_place,
+    installed, is_reported, left_in, present_in, said_in, stand_by_place,
 };
 use rp_base::{NoMemory, Scheme};
 use snapshot_rp::{Image, KeptClaim};
@@ -143,7 +143,7 @@ pub fn state_of<V: Scheme>(
     let Some(left) = left_in(alloc, judge, &genesis, &image)? else {
         return Ok(None);
     };
-    if !is_told(judge, &left.view, &image) {
+    if !is_reported(judge, &left.view, &image) {
         return Ok(None);
     }
     let Some(present) = present_after(alloc, judge, &left.view, &image)? else {

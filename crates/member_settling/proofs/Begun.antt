@@ -20,7 +20,7 @@ use Rattle.group_defs.specs.Accounts.{Account, account_of}
 use Rattle.group_defs.specs.Events.{Note, Installs, note_if}
 use Rattle.stmt_codec.specs.declared.events.Note as code
 use Rattle.member_state.specs.Events.{note}
-use Rattle.member_settling.specs.Told.{TellsInstalled}
+use Rattle.member_settling.specs.Reported.{TellsInstalled}
 use Rattle.member_settling.specs.Begun.{IsLast}
 use Rattle.member_settling.proofs.Real.{last}
 use Rattle.pool_laws.proofs.Members.{All-mem, mem-All}
@@ -129,8 +129,8 @@ module _ (s : Setting) (p : Process) (d : ℕ × Value) (old new : ProcessState)
     perceived = p.perceived;
   }
 
-  told : account_of q ≡ account new.account
-  told =
+  reported : account_of q ≡ account new.account
+  reported =
       with_view
       ∙ ap (λ (a : Account). record a {
         views = a.views ++ next_view p.pool.view d.1.update ∷ [];
@@ -181,7 +181,7 @@ module _ (s : Setting) (p : Process) (d : ℕ × Value) (old new : ProcessState)
       previous = ap (λ h. Some h) ok.place.pool ∙ sym begun.previous;
       commits = commits;
     };
-    account = told;
+    account = reported;
   }
     where
       none : next_fault p.pool.view d.1.update ≡ None
@@ -200,9 +200,9 @@ module _ (s : Setting) (p : Process) (d : ℕ × Value) (old new : ProcessState)
       view = next_is_view p.pool.view d.1.update none ok.lawful.pool.view
 
 -- the view is told
-pub installs-told : (p : Process) (d : ℕ × Value) (v : View) (was now : List code.Note) (n : code.Note) → now ≡ was ++ n ∷ []
+pub installs-reported : (p : Process) (d : ℕ × Value) (v : View) (was now : List code.Note) (n : code.Note) → now ≡ was ++ n ∷ []
     → note n ≡ Installs v → v ≡ next_view p.pool.view d.1.update → TellsInstalled p (install d p) was now
-installs-told p d v was now n more says is =
+installs-reported p d v was now n more says is =
     ap (map note) more
     ∙ map-append note was (n ∷ [])
     ∙ ap (λ (x : Note). map note was ++ x ∷ []) (says ∙ ap Installs is)

@@ -22,7 +22,7 @@ use Rattle.member_state.specs.declared.state.ProcessState.{ProcessState}
 use Rattle.stmt_codec.specs.declared.events.Note as notes
 use Rattle.member_state.specs.Events.{note}
 use Rattle.member_state.specs.States.{IsStateOf}
-use Rattle.member_settling.specs.Told.{ArePutLast}
+use Rattle.member_settling.specs.Reported.{ArePutLast}
 use Rattle.member_settling.specs.Steps as steps
 use Rattle.member_settling.specs.Steps.{ComesNext}
 use Rattle.member_settling.proofs.Bounded.{IsNext, delivering-bounded, is-next}
@@ -72,11 +72,11 @@ module _ (p : Process) (ds : List defs.Delivered) where
       } in
       same ∙ sym rest
 
-  pub delivers-state : (s : Setting) (st : ProcessState) (own : Own) (told : code.Account) → IsStateOf s p st → (next : IsNext p ds)
+  pub delivers-state : (s : Setting) (st : ProcessState) (own : Own) (reported : code.Account) → IsStateOf s p st → (next : IsNext p ds)
       → places_in p.delivered < limit p
-      → OnePlaceMore p.pool.view next.batch p.delivered st.own own → account_of further ≡ account told
-      → IsStateOf s further (record st { own = own; account = told })
-  delivers-state s st own told ok next below more tells = record {
+      → OnePlaceMore p.pool.view next.batch p.delivered st.own own → account_of further ≡ account reported
+      → IsStateOf s further (record st { own = own; account = reported })
+  delivers-state s st own reported ok next below more tells = record {
     lawful = lawful-so ok.lawful;
     bounded = delivering-bounded p ds next ok.bounded;
     number = ok.number;
@@ -107,14 +107,14 @@ module _ (p : Process) (ds : List defs.Delivered) where
 
 -- the next place is put, counted and told
 pub place-delivered : (s : Setting) (p : Process) (st : ProcessState) → IsStateOf s p st
-    → (ds : List defs.Delivered) (b : Batch) (own : Own) (told : code.Account) (was now : List notes.Note) → ComesNext p ds b
+    → (ds : List defs.Delivered) (b : Batch) (own : Own) (reported : code.Account) (was now : List notes.Note) → ComesNext p ds b
     → OnePlaceMore st.pool.pool.view b p.delivered st.own own
-    → account told ≡ record (account st.account) { delivered = (account told).delivered }
+    → account reported ≡ record (account st.account) { delivered = (account reported).delivered }
     → (delivery st.pool.pool st.own.delivered b ≡ Some ds → (before : List (List defs.Delivered)) (last : List defs.Delivered)
     → (account st.account).delivered ≡ before ++ last ∷ []
-    → ArePutLast st.pool.pool.view.number ds before last (account told).delivered was now)
-    → steps.Delivers s p (record p { delivered = p.delivered ++ ds }) (record st { own = own; account = told }) was now
-place-delivered s p st ok ds b own told was now comes more rest puts =
+    → ArePutLast st.pool.pool.view.number ds before last (account reported).delivered was now)
+    → steps.Delivers s p (record p { delivered = p.delivered ++ ds }) (record st { own = own; account = reported }) was now
+place-delivered s p st ok ds b own reported was now comes more rest puts =
     let next = is-next p ds ok.lawful.pool comes.delivers in
     let batch : next.batch ≡ b = sym next.names ∙ comes.batch in
     let moved : delivery p.pool (places_in p.delivered) next.batch
@@ -125,11 +125,11 @@ place-delivered s p st ok ds b own told was now comes more rest puts =
     (λ c. OnePlaceMore p.pool.view c p.delivered st.own own) (sym batch)
     (subst (λ (h : defs.Pool). OnePlaceMore h.view b p.delivered st.own own) (sym ok.place.pool) more) in
     record {
-      state = delivers-state p ds s st own told ok next comes.below counted
-          (account-so p ds (account st.account) (account told) ok.account rest put.delivered);
-      told = record {
+      state = delivers-state p ds s st own reported ok next comes.below counted
+          (account-so p ds (account st.account) (account reported) ok.account rest put.delivered);
+      reported = record {
         more = ds;
         delivered = refl;
-        told = subst (λ (h : defs.Pool). map note now ≡ map note was ++ map (Delivers h.view.number) ds) (sym ok.place.pool) put.told;
+        reported = subst (λ (h : defs.Pool). map note now ≡ map note was ++ map (Delivers h.view.number) ds) (sym ok.place.pool) put.reported;
       };
     }

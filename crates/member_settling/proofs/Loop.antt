@@ -18,7 +18,7 @@ use Rattle.view_phases.specs.Delivering.{batch_in}
 use Rattle.member_state.specs.declared.state.ProcessState.{ProcessState}
 use Rattle.member_state.specs.Events.{note}
 use Rattle.member_state.specs.States.{IsStateOf, HasProcess}
-use Rattle.member_settling.specs.Told.{TellsDelivered}
+use Rattle.member_settling.specs.Reported.{TellsDelivered}
 use Rattle.member_settling.specs.Steps as steps
 use Rattle.member_settling.specs.Steps.{ComesNext}
 use Rattle.member_settling.proofs.Bounded.{is-next}
@@ -27,17 +27,17 @@ use Rattle.member_settling.proofs.Deliveries.{no-more, none-more, one-more, memb
 -- ---- what is told
 
 pub tells-nothing : (p : Process) (was : List code.Note) → TellsDelivered p p was was
-tells-nothing p was = record { more = []; delivered = sym (append-nil p.delivered); told = sym (append-nil (map note was)) }
+tells-nothing p was = record { more = []; delivered = sym (append-nil p.delivered); reported = sym (append-nil (map note was)) }
 
 pub tells-both : (p q r : Process) (was now then_ : List code.Note) → q.pool.view.number ≡ p.pool.view.number → TellsDelivered p q was now
     → TellsDelivered q r now then_ → TellsDelivered p r was then_
 tells-both p q r was now then_ same a b = record {
   more = a.more ++ b.more;
   delivered = b.delivered ∙ ap (λ (ds : List defs.Delivered). ds ++ b.more) a.delivered ∙ append_assoc p.delivered a.more b.more;
-  told =
-      b.told
+  reported =
+      b.reported
       ∙ ap (λ x. map note now ++ map (Delivers x) b.more) same
-      ∙ ap (λ (ns : List Note). ns ++ map (Delivers p.pool.view.number) b.more) a.told
+      ∙ ap (λ (ns : List Note). ns ++ map (Delivers p.pool.view.number) b.more) a.reported
       ∙ append_assoc (map note was) (map (Delivers p.pool.view.number) a.more) (map (Delivers p.pool.view.number) b.more)
       ∙ ap (λ (ns : List Note). map note was ++ ns) (sym (map-append (Delivers p.pool.view.number) a.more b.more));
 }
@@ -62,7 +62,7 @@ pub begins : (s : Setting) (p : Process) (most : ℕ) (st : ProcessState) (was :
     → GoesOn s p most st.own.delivered st was was
 begins s p most st was lim ok = record {
   q = p;
-  delivers = record { state = ok; told = tells-nothing p was };
+  delivers = record { state = ok; reported = tells-nothing p was };
   rest = ap (λ n. deliver_more (most - n) p) (sym ok.place.delivered.places);
   place = ok.place.delivered.places;
   limit = lim;
@@ -93,7 +93,7 @@ goes-on s p most i st st' was now now' b lt answer on step =
     let is = is-next on.q next.0 on.delivers.state.lawful.pool next.1.delivers in
     record {
       q = record on.q { delivered = on.q.delivered ++ next.0 };
-      delivers = record { state = made.state; told = tells-both p on.q _ was now now' on.view on.delivers.told made.told };
+      delivers = record { state = made.state; reported = tells-both p on.q _ was now now' on.view on.delivers.reported made.reported };
       rest = sym (one-more (most - (i + 1)) on.q next.0 next.1.delivers) ∙ ap (λ n. deliver_more n on.q)
           (let same : suc (most - (i + 1)) ≡ most - i = omega (arith, lt) in same) ∙ on.rest;
       place = (let more = is.more in let at = on.place in omega (arith, more, at));
@@ -134,16 +134,16 @@ seat : (s : Setting) (p : Process) (st : ProcessState) → IsStateOf s p st
 seat s p st ok = λ i. is_member (ok.place.pool i).view (ok.place.number i)
 
 -- what was delivered stands behind what was there
-pub told-behind : (p q : Process) (was now : List code.Note) → (told : TellsDelivered p q was now)
+pub reported-behind : (p q : Process) (was now : List code.Note) → (reported : TellsDelivered p q was now)
     → map note now ≡ map note was ++ map (Delivers p.pool.view.number) (drop (length p.delivered) q.delivered)
-told-behind p q was now told =
-    told.told ∙ ap (λ (ds : List defs.Delivered). map note was ++ map (Delivers p.pool.view.number) ds)
-    (sym (ap (drop (length p.delivered)) told.delivered ∙ drop-append_seam p.delivered told.more))
+reported-behind p q was now reported =
+    reported.reported ∙ ap (λ (ds : List defs.Delivered). map note was ++ map (Delivers p.pool.view.number) ds)
+    (sym (ap (drop (length p.delivered)) reported.delivered ∙ drop-append_seam p.delivered reported.more))
 
 pub outsider_so : (s : Setting) (p : Process) (st : ProcessState) (was : List code.Note) → IsStateOf s p st
     → is_member st.pool.pool.view st.own.me ≡ false → steps.Delivers s p (deliver p) st was was
 outsider_so s p st was ok outside = subst (λ q. steps.Delivers s p q st was was) (sym (outsider-delivers p (seat s p st ok ∙ outside)))
-    (record { state = ok; told = tells-nothing p was })
+    (record { state = ok; reported = tells-nothing p was })
 
 pub member_so : (s : Setting) (p : Process) (st st' : ProcessState) (was now : List code.Note) → IsStateOf s p st
     → is_member st.pool.pool.view st.own.me ≡ true → (most : ℕ) → most ≡ limit p

@@ -20,7 +20,7 @@ use Rattle.member_state.specs.declared.left.LeftView.{LeftView}
 use Rattle.member_state.specs.declared.left.SaidBefore.{SaidBefore}
 use Rattle.member_state.specs.declared.state.ProcessState.{ProcessState}
 use Rattle.member_state.specs.Marks.{Stays, HasLeft, Since}
-use Rattle.member_settling.specs.Told.{HasMoreLast}
+use Rattle.member_settling.specs.Reported.{HasMoreLast}
 use Rattle.member_settling.specs.Steps.{in_phase}
 
 -- ---- the account without its last view
@@ -61,13 +61,13 @@ module _ (b : Before) (was now : ProcessState) (is : Stays b was now) where
   }
 
   -- more is delivered in the last list
-  pub delivers-stays : (own : Own) (told : code.Account) → own.signed.marked ≡ now.own.signed.marked
-      → account told ≡ record (account now.account) { delivered = (account told).delivered }
+  pub delivers-stays : (own : Own) (reported : code.Account) → own.signed.marked ≡ now.own.signed.marked
+      → account reported ≡ record (account now.account) { delivered = (account reported).delivered }
       → ((before : List (List defs.Delivered)) (last : List defs.Delivered) → (account now.account).delivered ≡ before ++ last ∷ []
-      → HasMoreLast before last (account told).delivered) → Stays b was (record now { own = own; account = told })
-  delivers-stays own told slots rest puts =
+      → HasMoreLast before last (account reported).delivered) → Stays b was (record now { own = own; account = reported })
+  delivers-stays own reported slots rest puts =
       let put = puts is.account.before is.account.last is.account.lists in
-      let tells : account told ≡ record (account now.account) { delivered = is.account.before ++ (is.account.last ++ put.more) ∷ [] } =
+      let tells : account reported ≡ record (account now.account) { delivered = is.account.before ++ (is.account.last ++ put.more) ∷ [] } =
       rest ∙ ap (λ (ls : List (List defs.Delivered)). record (account now.account) { delivered = ls }) put.delivered in
       record {
         kept = is.kept;
@@ -93,7 +93,7 @@ module _ (b : Before) (was now : ProcessState) (is : Stays b was now) where
         said_before = then_.said_before;
         account = then_.account;
       } → Stays b was then_
-  stays-same then_ pool archive before told rest = record {
+  stays-same then_ pool archive before reported rest = record {
     kept = is.kept;
     pool = ap (λ (h : Holding). h.marked) pool ∙ is.pool;
     slots = ap (λ (st : ProcessState). st.own.signed.marked) rest ∙ is.slots;
@@ -103,7 +103,7 @@ module _ (b : Before) (was now : ProcessState) (is : Stays b was now) where
     pairs = ap (λ (st : ProcessState). st.conflicts.marked) rest ∙ is.pairs;
     previous = ap (λ (a : Archived). a.previous) archive ∙ is.previous;
     commits = ap (λ (a : Archived). a.commits) archive ∙ is.commits;
-    account = subst (λ (a : Account). TellsSince b.account (account was.account) a) (sym told) is.account;
+    account = subst (λ (a : Account). TellsSince b.account (account was.account) a) (sym reported) is.account;
     limit = ap (λ (st : ProcessState). st.batch_limit) rest ∙ is.limit;
   }
 

@@ -13,7 +13,7 @@ use Rattle.stmt_codec.specs.declared.events.Delivered.{Delivered}
 use Rattle.stmt_codec.specs.declared.events.Note.{Note}
 use Rattle.accounts.specs.Views as accounts
 use Rattle.member_state.specs.Events.{note}
-use Rattle.member_settling.specs.Told.{ArePut, HasMore}
+use Rattle.member_settling.specs.Reported.{ArePut, HasMore}
 
 -- ---- more behind what was
 
@@ -48,7 +48,7 @@ pub record Putting (h : Pool) (k : ℕ) (left : List (ℕ × ℕ)) (ds : List de
   pub rest : List defs.Delivered
   pub delivers : delivery h k (map message_of left) ≡ Some rest
   pub delivered : map accounts.delivery now ++ rest ≡ map accounts.delivery was ++ ds
-  pub told : map note notes_now ++ map (Delivers h.view.number) rest ≡ map note notes_was ++ map (Delivers h.view.number) ds
+  pub reported : map note notes_now ++ map (Delivers h.view.number) rest ≡ map note notes_was ++ map (Delivers h.view.number) ds
 
 -- whatever the messages deliver
 abbrev pub ArePutting : Pool → ℕ → List (ℕ × ℕ) → List (ℕ × ℕ) → List Delivered → List Delivered → List Note → List Note → Type 0
@@ -71,7 +71,7 @@ drop-all (m ∷ ms) (suc n) le = drop-all ms n (omega (arith, le))
 
 module _ (h : Pool) (k : ℕ) (ms : List (ℕ × ℕ)) (was : List Delivered) (notes_was : List Note) where
   pub begins : ArePutting h k ms (drop 0 ms) was was notes_was notes_was
-  begins ds e = record { rest = ds; delivers = e; delivered = refl; told = refl }
+  begins ds e = record { rest = ds; delivers = e; delivered = refl; reported = refl }
 
   pub one-put : (i : ℕ) (m : ℕ × ℕ) (now now' : List Delivered) (notes notes' : List Note) → slice_get ms i ≡ Some m
       → ArePutting h k ms (drop i ms) was now notes_was notes
@@ -94,11 +94,11 @@ module _ (h : Pool) (k : ℕ) (ms : List (ℕ × ℕ)) (was : List Delivered) (n
             ∙ append_assoc (map accounts.delivery now) (one k m paid.0 ∷ []) tail.0
             ∙ ap (λ (xs : List defs.Delivered). map accounts.delivery now ++ xs) tail.2
             ∙ before.delivered;
-        told =
-            ap (λ ns. ns ++ map (Delivers h.view.number) tail.0) now_put.told
+        reported =
+            ap (λ ns. ns ++ map (Delivers h.view.number) tail.0) now_put.reported
             ∙ append_assoc (map note notes) (Delivers h.view.number (one k m paid.0) ∷ []) (map (Delivers h.view.number) tail.0)
             ∙ ap (λ (xs : List defs.Delivered). map note notes ++ map (Delivers h.view.number) xs) tail.2
-            ∙ before.told;
+            ∙ before.reported;
       }
 
   pub all-put : (n : ℕ) (now : List Delivered) (notes : List Note) → length ms ≤ n → ArePutting h k ms (drop n ms) was now notes_was notes
@@ -110,6 +110,6 @@ module _ (h : Pool) (k : ℕ) (ms : List (ℕ × ℕ)) (was : List Delivered) (n
       record {
         delivered = sym (append-nil (map accounts.delivery now)) ∙ ap (λ (xs : List defs.Delivered). map accounts.delivery now ++ xs)
             (sym none) ∙ it.delivered;
-        told = sym (append-nil (map note notes)) ∙ ap (λ (xs : List defs.Delivered). map note notes ++ map (Delivers h.view.number) xs)
-            (sym none) ∙ it.told;
+        reported = sym (append-nil (map note notes)) ∙ ap (λ (xs : List defs.Delivered). map note notes ++ map (Delivers h.view.number) xs)
+            (sym none) ∙ it.reported;
       }

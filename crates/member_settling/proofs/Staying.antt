@@ -17,11 +17,11 @@ use Rattle.view_phases.specs.Phases.{IsIn, IsHalted, counts, decided}
 use Rattle.member_state.specs.declared.state.ProcessState.{ProcessState}
 use Rattle.member_state.specs.Events.{note}
 use Rattle.member_state.specs.States.{IsStateOf}
-use Rattle.member_settling.specs.Told.{TellsDelivered, TellsInstalled}
+use Rattle.member_settling.specs.Reported.{TellsDelivered, TellsInstalled}
 use Rattle.member_settling.specs.Steps as steps
 use Rattle.member_settling.specs.Steps.{in_phase}
 use Rattle.member_settling.proofs.Changed.{state-so}
-use Rattle.member_settling.proofs.Loop.{told-behind}
+use Rattle.member_settling.proofs.Loop.{reported-behind}
 use Rattle.member_settling.proofs.Phases.{observing, open_, closing, undecided, halted}
 
 -- ---- who stays
@@ -69,7 +69,7 @@ none-installed p was = sym (append-nil (map note was)) ∙ ap (λ b. map note wa
 
 pub stays-so : (s : Setting) (p q : Process) (st : ProcessState) (was : List code.Note) → q ≡ p → IsStateOf s p st
     → steps.Leaves s p q st was was
-stays-so s p q st was same ok = subst (λ q. steps.Leaves s p q st was was) (sym same) (record { state = ok; told = none-installed p was })
+stays-so s p q st was same ok = subst (λ q. steps.Leaves s p q st was was) (sym same) (record { state = ok; reported = none-installed p was })
 
 -- ---- who halts
 
@@ -91,7 +91,7 @@ halts-so s p q st was d h ok same is beyond =
     subst (λ q. steps.Leaves s p q (in_phase (phases.HaltedView h) st) was was) (sym same) (record {
       state = state-so p p.decision true s (in_phase (phases.DecidedView d) st) (phases.HaltedView h) ok.decided (λ e. there.0)
           (λ e d' e'. cut-beyond d' e' there.1) now ok;
-      told = none-installed p was;
+      reported = none-installed p was;
     })
   where
     cut-beyond : (d' : ℕ × Value) → p.decision ≡ Some d' → (decided d).1.cut < places_in p.delivered → d'.1.cut < places_in p.delivered
@@ -100,15 +100,15 @@ halts-so s p q st was d h ok same is beyond =
 
 -- ---- all that is told of settling
 
-pub all-told : (p q r : Process) (was then_ now : List code.Note) → TellsDelivered p q was then_ → q.left ≡ p.left
+pub all-reported : (p q r : Process) (was then_ now : List code.Note) → TellsDelivered p q was then_ → q.left ≡ p.left
     → TellsInstalled q r then_ now
     → map note now ≡ map note was ++ map (Delivers p.pool.view.number) (drop (length p.delivered) q.delivered)
     ++ note_if (nat_lt (length p.left) (length r.left)) (Installs r.pool.view)
-all-told p q r was then_ now delivered same installed =
+all-reported p q r was then_ now delivered same installed =
     installed
     ∙ ap (λ ls. map note then_ ++ note_if (nat_lt (length ls) (length r.left)) (Installs r.pool.view)) same
     ∙ ap (λ (ns : List Note). ns ++ note_if (nat_lt (length p.left) (length r.left)) (Installs r.pool.view))
-    (told-behind p q was then_ delivered)
+    (reported-behind p q was then_ delivered)
 
 -- the state, put back into its phase
 pub same-phase : (st : ProcessState) (begun phase : Phase) → st.phase ≡ phase → in_phase phase (in_phase begun st) ≡ st

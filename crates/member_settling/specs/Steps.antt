@@ -10,7 +10,7 @@ use Rattle.view_phases.specs.Delivering.{batch_in}
 use Rattle.view_phases.specs.declared.phases.Phase.{Phase}
 use Rattle.member_state.specs.declared.state.ProcessState.{ProcessState}
 use Rattle.member_state.specs.States.{IsStateOf}
-use Rattle.member_settling.specs.Told.{TellsDelivered, TellsInstalled}
+use Rattle.member_settling.specs.Reported.{TellsDelivered, TellsInstalled}
 
 -- ---- delivering
 
@@ -23,7 +23,7 @@ pub record ComesNext (p : Process) (ds : List defs.Delivered) (b : Batch) : Type
 -- the state is that of q, which delivered more than p, and each of these deliveries is reported
 pub record Delivers (s : Setting) (p q : Process) (st : ProcessState) (was now : List Note) : Type 0 where
   pub state : IsStateOf s q st
-  pub told : TellsDelivered p q was now
+  pub reported : TellsDelivered p q was now
 
 -- ---- leaving
 
@@ -51,4 +51,4 @@ CanLeave d st = ∥ HasLeaving d st ∥₁
 -- the state is that of q, which came of p, and a view that was installed is reported
 pub record Leaves (s : Setting) (p q : Process) (st : ProcessState) (was now : List Note) : Type 0 where
   pub state : IsStateOf s q st
-  pub told : TellsInstalled p q was now
+  pub reported : TellsInstalled p q was now

@@ -9,7 +9,7 @@ ghost use Rattle.stmt_codec.specs.Batches.{message_of};
 ghost use Rattle.view_phases.specs.Phases.{IsIn};
 ghost use Rattle.member_state.specs.Marks.{Stays};
 ghost use Rattle.member_state.specs.States.{IsStateOf, IsReal};
-ghost use Rattle.member_settling.specs.Told.{ArePut, ArePutLast, HasMore, HasMoreLast};
+ghost use Rattle.member_settling.specs.Reported.{ArePut, ArePutLast, HasMore, HasMoreLast};
 ghost use Rattle.member_settling.specs.Steps.{ComesNext, Delivers};
 
 use claim_pool::Pool;

@@ -13,7 +13,7 @@ ghost use Rattle.group_defs.specs.Settle as settle;
 ghost use Rattle.group_defs.specs.Events.{Installs};
 ghost use Rattle.rp_base.specs.Views as base;
 ghost use Rattle.rp_base.specs.Views.{value};
-ghost use Rattle.accounts.specs.Views.{account as told, delivery};
+ghost use Rattle.accounts.specs.Views.{account as reported, delivery};
 ghost use Rattle.claim_index.specs.Kept.{empty_pool};
 ghost use Rattle.own_place.specs.Owns.{Tells};
 ghost use Rattle.member_state.specs.Parts.{has_update};
@@ -60,8 +60,8 @@ fn count_own(delivered: &[Delivered], me: Pid) -> u16
 
 // How many own messages were delivered in the current view, whose list is the account's last one.
 fn own_delivered(account: &Account) -> u16
-    requires { HasShortLast (told account.now).delivered }
-    ensures { (ds : List defs.Delivered) → IsLast (told account.now).delivered ds → result ≡ delivered_from account.now.me ds }
+    requires { HasShortLast (reported account.now).delivered }
+    ensures { (ds : List defs.Delivered) → IsLast (reported account.now).delivered ds → result ≡ delivered_from account.now.me ds }
 {
     match account.delivered.last() {
         Some(delivered) => count_own(delivered, account.me),
@@ -71,12 +71,12 @@ fn own_delivered(account: &Account) -> u16
 
 // Puts the view, in which nothing is delivered yet, after those of the account. Without memory, the account is as before.
 fn put_view(account: &mut Account, view: &View, alloc: Global) -> Result<(), NoMemory>
-    ensures put { OnOk result (told account.new
-        ≡ record (told account.old) {
-          views = (told account.old).views ++ view.now ∷ [];
-          delivered = (told account.old).delivered ++ [] ∷ [];
+    ensures put { OnOk result (reported account.new
+        ≡ record (reported account.old) {
+          views = (reported account.old).views ++ view.now ∷ [];
+          delivered = (reported account.old).delivered ++ [] ∷ [];
         }) }
-    ensures same { OnErr result (told account.new ≡ told account.old) }
+    ensures same { OnErr result (reported account.new ≡ reported account.old) }
 {
     account.views.push(view.clone()?)?;
     match account.delivered.push(Vec::new(alloc)) {
@@ -106,15 +106,15 @@ fn keep_left(
     ensures commits { OnOk result (state.new.archive.commits ≡ state.old.archive.commits
         ++ all_signed (certificate state.old.pool.pool (Ready state.old.pool.pool.view.number decision.rank (value decision.value))) ∷ []) }
     ensures older { IfOk result (λ older. older ≡ state.old.archive.previous) }
-    ensures put { OnOk result (told state.new.account
-        ≡ record (told state.old.account) {
-          views = (told state.old.account).views ++ view.now ∷ [];
-          delivered = (told state.old.account).delivered ++ [] ∷ [];
+    ensures put { OnOk result (reported state.new.account
+        ≡ record (reported state.old.account) {
+          views = (reported state.old.account).views ++ view.now ∷ [];
+          delivered = (reported state.old.account).delivered ++ [] ∷ [];
         }) }
     ensures room { OnOk result (vec_len state.new.said_before < vec_capacity state.new.said_before) }
     ensures lists { state.new.said_before.items ≡ state.old.said_before.items }
     ensures same { OnErr result ((state.new.pool ≡ state.old.pool) × (state.new.archive ≡ state.old.archive)
-        × (told state.new.account ≡ told state.old.account)) }
+        × (reported state.new.account ≡ reported state.old.account)) }
     ensures rest { state.new ≡ record state.old {
       pool = state.new.pool;
       said_before = state.new.said_before;

@@ -25,7 +25,7 @@ pub fn settle(
     requires real { IsReal state.old }
     requires here { state.old.left ≡ None }
     ensures settles { (s : Setting) (p : Process) → IsStateOf s p state.old → OnOk result (IsStateOf s (defs.settle s p) state.new) }
-    ensures told { (s : Setting) (p : Process) → IsStateOf s p state.old
+    ensures reported { (s : Setting) (p : Process) → IsStateOf s p state.old
         → OnOk result (map note notes.new.items ≡ map note notes.old.items
         ++ map (Delivers p.pool.view.number) (drop (length p.delivered) (defs.deliver (defs.decide s p)).delivered)
         ++ note_if (nat_lt (length p.left) (length (defs.settle s p).left)) (Installs (defs.settle s p).pool.view)) }

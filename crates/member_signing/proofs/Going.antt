@@ -22,7 +22,7 @@ begins s p st total used before is count = record {
   used = count;
   left = refl;
   grown = ap (λ rest. p.signed ++ rest) (rest-of p.signed) ∙ append-nil p.signed;
-  told = sym (append-nil before) ∙ ap (λ (rest : List Claim). before ++ map signed_of rest) (sym (rest-of p.signed));
+  reported = sym (append-nil before) ∙ ap (λ (rest : List Claim). before ++ map signed_of rest) (sym (rest-of p.signed));
 }
 
 -- one statement
@@ -35,7 +35,7 @@ signs-one s sig q st total used before said own is count e = record {
   used = length-more q.signed (own_claim s sig q said) ∙ count;
   left = refl;
   grown = ap (λ rest. q.signed ++ rest) (behind q.signed (own_claim s sig q said ∷ []));
-  told = ap (λ c. before ++ c ∷ []) e ∙ ap (λ (rest : List Claim). before ++ map signed_of rest)
+  reported = ap (λ c. before ++ c ∷ []) e ∙ ap (λ (rest : List Claim). before ++ map signed_of rest)
       (sym (behind q.signed (own_claim s sig q said ∷ [])));
 }
   where
@@ -54,7 +54,7 @@ goes-on s p q one st st' total left used used' before now now' lacks first then 
   used = then.used;
   left = then.left;
   grown = grown-twice p.signed q.signed one.now.signed first.grown then.grown;
-  told = then.told ∙ ap (λ told. told ++ map signed_of (drop (length q.signed) one.now.signed)) first.told ∙ append_assoc before _ _
+  reported = then.reported ∙ ap (λ reported. reported ++ map signed_of (drop (length q.signed) one.now.signed)) first.reported ∙ append_assoc before _ _
       ∙ ap (λ rest. before ++ rest) (sym
       (ap (map signed_of) (grew-twice p.signed q.signed one.now.signed first.grown then.grown) ∙ map-append signed_of
       (drop (length p.signed) q.signed) (drop (length q.signed) one.now.signed)));
@@ -83,7 +83,7 @@ pub ends-spent : (s : Setting) (sig : Signer) (kind : Kind) (p q : Process) (st 
 ends-spent s sig kind p q st total used before now lacks none due is =
     let left : total - used ≡ zero = omega arith in
     subst (λ one. IsSigned s p one st total used before now lacks) (sym (ap (λ n. sign_kind s sig kind n q) left ∙ none_left s sig kind q))
-    (record { state = is.state; spent = sym due; used = is.used; left = sym left; grown = is.grown; told = is.told })
+    (record { state = is.state; spent = sym due; used = is.used; left = sym left; grown = is.grown; reported = is.reported })
 
 -- ---- kinds
 
@@ -96,7 +96,7 @@ pub kind-more : (s : Setting) (sig : Signer) (kind : Kind) (more : List Kind) (p
 kind-more s sig kind more p q st st' total used used' before now now' first then =
     let on = goes-on s p q (sign_kind s sig kind (total - used) q) st st' total (total - used) used used' before now now' false first
     then in (
-      record { state = on.state; spent = refl; used = on.used; left = refl; grown = on.grown; told = on.told },
+      record { state = on.state; spent = refl; used = on.used; left = refl; grown = on.grown; reported = on.reported },
       ap (λ left. sign_kinds s sig more left (sign_kind s sig kind (total - used) q).now)
           (sym then.left) ∙ sym (kind_done s sig kind more (total - used) q then.spent),
     )

@@ -49,9 +49,9 @@ pub end-of-view : (s : Setting) (signer : Signer) (p : Process) (x k : ℕ) (c :
 end-of-view s signer p x k c may = subst (λ x. IsClosing c (signs s signer p (End x k))) (sym (may-parts s p (End x k) may).current)
 
 -- a statement that tells a length is an End of its view
-pub end-told : (st : Statement) (k : ℕ) → Some k ≡ length_said st → st ≡ End (view_of st) k
-end-told (End x n) k e = let same : k ≡ n = cc in ap (End x) (sym same)
-end-told _ k e = absurd cc
+pub end-reported : (st : Statement) (k : ℕ) → Some k ≡ length_said st → st ≡ End (view_of st) k
+end-reported (End x n) k e = let same : k ≡ n = cc in ap (End x) (sym same)
+end-reported _ k e = absurd cc
 
 -- one that tells none is no End
 pub not-end : (st : Statement) → None ≡ length_said st → is_end st ≡ false

@@ -55,4 +55,4 @@ pub record IsSigned (s : Setting) (p : Process) (one : Signing) (st : ProcessSta
   pub used : length one.now.signed ≡ many
   pub left : one.left ≡ total - many
   pub grown : p.signed ++ drop (length p.signed) one.now.signed ≡ one.now.signed
-  pub told : now ≡ before ++ map signed_of (drop (length p.signed) one.now.signed)
+  pub reported : now ≡ before ++ map signed_of (drop (length p.signed) one.now.signed)

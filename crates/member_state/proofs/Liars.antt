@@ -82,20 +82,20 @@ get-is (x ∷ xs) (suc i) y e = get-is xs i y e
 -- the pairs from this place on are told
 pub record Rest (pairs : List (Claim × Claim)) (left : ℕ) (liars : List ℕ) : Type 0 where
   pub within : left ≤ length pairs
-  pub told : ArePairs pairs → liars ≡ signers_in (drop left pairs)
+  pub reported : ArePairs pairs → liars ≡ signers_in (drop left pairs)
 
-pub none-told : (pairs : List (Claim × Claim)) (n : ℕ) (liars : List ℕ) → n ≡ length pairs → liars ≡ [] → Rest pairs n liars
-none-told pairs n liars e none = record {
+pub none-reported : (pairs : List (Claim × Claim)) (n : ℕ) (liars : List ℕ) → n ≡ length pairs → liars ≡ [] → Rest pairs n liars
+none-reported pairs n liars e none = record {
   within = omega (arith, e);
-  told = λ are. none ∙ sym (ap signers_in (ap (λ k. drop k pairs) e ∙ drop_of_length-le pairs (omega arith)));
+  reported = λ are. none ∙ sym (ap signers_in (ap (λ k. drop k pairs) e ∙ drop_of_length-le pairs (omega arith)));
 }
 
 -- one pair more
-pub one-told : (pairs : List (Claim × Claim)) (n m : ℕ) (liars more : List ℕ) (c : Claim) → Rest pairs n liars → n ≡ m + 1
+pub one-reported : (pairs : List (Claim × Claim)) (n m : ℕ) (liars more : List ℕ) (c : Claim) → Rest pairs n liars → n ≡ m + 1
     → Some c ≡ option_map (λ (pair : Claim × Claim). pair.0) (slice_get pairs m) → more ≡ put_once c.signer liars → Rest pairs m more
-one-told pairs n m liars more c rest e at put' = record {
+one-reported pairs n m liars more c rest e at put' = record {
   within = (let le = rest.within in omega (arith, le, e));
-  told = λ are. go are (slice_get pairs m) refl at;
+  reported = λ are. go are (slice_get pairs m) refl at;
 }
   where
     go : ArePairs pairs → (o : Option (Claim × Claim)) → slice_get pairs m ≡ o → Some c ≡ option_map (λ (pair : Claim × Claim). pair.0) o
@@ -104,7 +104,7 @@ one-told pairs n m liars more c rest e at put' = record {
     go are (Some pair) is there =
         let lt = slice_get-length pairs m pair is in
         let at' : get_or pairs m pair ≡ pair = get-is pairs m pair is in
-        put' ∙ ap (put_once c.signer) (rest.told are ∙ ap (λ k. signers_in (drop k pairs)) e)
+        put' ∙ ap (put_once c.signer) (rest.reported are ∙ ap (λ k. signers_in (drop k pairs)) e)
         ∙ ap (λ (q : ℕ). put_once q (signers_in (drop (m + 1) pairs)))
         (ap (λ (o : Option Claim). elim o [ None ↦ 0 | Some d ↦ d.signer ]) there)
         ∙ next-liar pairs m pair are lt at'

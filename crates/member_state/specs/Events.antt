@@ -56,4 +56,4 @@ pub record IsOutcome (o : defs.Outcome) (r : Outcome) : Type 0 where
   pub signed_now : map signed_of o.signed ≡ map signed r.signed.items
   pub spent : o.spent ≡ r.spent
   pub sends : flat_map frames_to o.sends ≡ map frame_to r.sends.items
-  pub told : o.notes ≡ map note r.notes.items
+  pub reported : o.notes ≡ map note r.notes.items

@@ -26,11 +26,11 @@ has-decided (ClosingView k) p at e = (let clash : defs.ClosingView ≡ defs.Halt
 has-decided (DecidedView d) p at e = ap is_some at.decision
 has-decided (HaltedView h) p at e = ap is_some at.decision
 
-told : (halted : Bool) (o : Option (ℕ × Value)) (places : ℕ) → halted ≡ true → is_some o ≡ true
+reported : (halted : Bool) (o : Option (ℕ × Value)) (places : ℕ) → halted ≡ true → is_some o ≡ true
     → option_and_then {U = ℕ × ℕ} (λ d. if halted then Some (places, d.1.cut) else None) o ≡ None → ⊥
-told true (Some d) places e some none = cc
-told true None places e some none = cc
-told false o places e some none = cc
+reported true (Some d) places e some none = cc
+reported true None places e some none = cc
+reported false o places e some none = cc
 
 -- where no halt is told, the process has not halted
 pub running : (s : Setting) (p : Process) (st : ProcessState) → IsStateOf s p st → halted_at p ≡ None → p.halted ≡ false
@@ -38,7 +38,7 @@ running s p st is none = go p.halted refl
   where
     go : (halted : Bool) → p.halted ≡ halted → halted ≡ false
     go false e = refl
-    go true e = absurd (told p.halted p.decision (places_in p.delivered) e (has-decided st.phase p is.phase (halted-phase p e)) none)
+    go true e = absurd (reported p.halted p.decision (places_in p.delivered) e (has-decided st.phase p is.phase (halted-phase p e)) none)
 
 module _ {A F G : Type 0} (fault : F → G) (refused : Setting → Process → Option G) (st : ProcessState) where
   -- what is admitted is refused by no process with the state

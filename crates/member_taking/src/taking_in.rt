@@ -90,7 +90,7 @@ fn place_among(all: &[(u16, Update)], view: u16, update: &Update) -> usize
 
 // Puts the update, with the number of the view, into its place among those that the process reports.
 fn tell_perceived(account: &mut Account, view: u16, update: &Update) -> Result<(), NoMemory>
-    ensures told { OnOk result (account_of account.new
+    ensures reported { OnOk result (account_of account.new
         ≡ record (account_of account.old) {
           perceived = put perceived_numbers (perceived_of (view, update.now))
               (account_of account.old).perceived;

@@ -10,7 +10,7 @@ fn pid(n: u8) -> Result<Pid, Fail> {
 }
 
 // A process that delivered one message of process 3 in a view of four.
-fn told(alloc: Global, me: u8, payload: &[u8]) -> Result<Account, Fail> {
+fn reported(alloc: Global, me: u8, payload: &[u8]) -> Result<Account, Fail> {
     let members = [pid(0)?, pid(1)?, pid(2)?, pid(3)?];
     let mut views = Vec::new(alloc);
     views.push(View::new(0, &members).ok_or("no view")?)?;
@@ -36,8 +36,8 @@ fn told(alloc: Global, me: u8, payload: &[u8]) -> Result<Account, Fail> {
 #[test]
 fn too_many_corrupt_members(rt: HostRuntime) -> Result<(), Fail> {
     let mut accounts = Vec::new(rt.alloc());
-    accounts.push(told(rt.alloc(), 0, b"\x61")?)?;
-    accounts.push(told(rt.alloc(), 1, b"\x62")?)?;
+    accounts.push(reported(rt.alloc(), 0, b"\x61")?)?;
+    accounts.push(reported(rt.alloc(), 1, b"\x62")?)?;
     let mut correct = PidSet::new();
     correct.insert(pid(0)?);
     correct.insert(pid(1)?);
@@ -52,7 +52,7 @@ fn one_corrupt_member(rt: HostRuntime) -> Result<(), Fail> {
     let mut accounts = Vec::new(rt.alloc());
     let mut correct = PidSet::new();
     for me in 0..3 {
-        accounts.push(told(rt.alloc(), me, b"\x61")?)?;
+        accounts.push(reported(rt.alloc(), me, b"\x61")?)?;
         correct.insert(pid(me)?);
     }
     assert!(rt; bounded(&accounts, correct));

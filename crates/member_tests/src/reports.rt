@@ -16,7 +16,7 @@ fn pid(n: u8) -> Result<Pid, Fail> {
 }
 
 // A process that delivered one message of process 3 in a view of four.
-fn told(alloc: Global, me: u8, payload: &[u8]) -> Result<Account, Fail> {
+fn reported(alloc: Global, me: u8, payload: &[u8]) -> Result<Account, Fail> {
     let members = [pid(0)?, pid(1)?, pid(2)?, pid(3)?];
     let mut views = Vec::new(alloc);
     views.push(View::new(0, &members).ok_or("no view")?)?;
@@ -40,7 +40,7 @@ fn told(alloc: Global, me: u8, payload: &[u8]) -> Result<Account, Fail> {
 
 #[test]
 fn a_process_with_two_liars(rt: HostRuntime) -> Result<(), Fail> {
-    let account = told(rt.alloc(), 1, b"\x62")?;
+    let account = reported(rt.alloc(), 1, b"\x62")?;
     let mut liars = PidSet::new();
     liars.insert(pid(3)?);
     liars.insert(pid(2)?);
@@ -62,7 +62,7 @@ fn a_process_with_two_liars(rt: HostRuntime) -> Result<(), Fail> {
 
 #[test]
 fn a_process_that_halted(rt: HostRuntime) -> Result<(), Fail> {
-    let account = told(rt.alloc(), 2, b"")?;
+    let account = reported(rt.alloc(), 2, b"")?;
     let standing = Standing {
         account: &account,
         phase: PhaseWord::HaltedView,

@@ -36,7 +36,7 @@ fn letter(
 
 // A process that was in view 0 of 0 and 1, and in view 1 of 0, 1 and 2. In view 0 it delivered two messages of 0 at place 0 and one of 1
 // at place 1, in view 1 nothing. It accepted the messages of 0, and perceived nothing.
-fn told(alloc: Global, me: u8) -> Result<Account, Fail> {
+fn reported(alloc: Global, me: u8) -> Result<Account, Fail> {
     let members = [pid(0)?, pid(1)?, pid(2)?];
     let mut views = Vec::new(alloc);
     views.push(View::new(0, &members[..2]).ok_or("no view")?)?;
@@ -62,14 +62,14 @@ fn told(alloc: Global, me: u8) -> Result<Account, Fail> {
 
 // Process 0, which perceived in view 0 that 2 is to be added.
 fn cause(alloc: Global) -> Result<Account, Fail> {
-    let mut account = told(alloc, 0)?;
+    let mut account = reported(alloc, 0)?;
     account.perceived.push((0, Update::Add(pid(2)?)))?;
     Ok(account)
 }
 
 // Process 2, which was no member of view 0 and accepted nothing.
 fn newcomer(alloc: Global) -> Result<Account, Fail> {
-    let mut account = told(alloc, 2)?;
+    let mut account = reported(alloc, 2)?;
     if let Some(first) = account.delivered.get_mut(0) {
         first.truncate(2);
     }
@@ -97,11 +97,11 @@ fn sound_family(rt: HostRuntime) -> Result<(), Fail> {
 #[test]
 fn view_without_cause(rt: HostRuntime) -> Result<(), Fail> {
     let alloc = rt.alloc();
-    let accounts = family(alloc, told(alloc, 0)?, newcomer(alloc)?)?;
+    let accounts = family(alloc, reported(alloc, 0)?, newcomer(alloc)?)?;
     assert!(rt; !sound(&accounts, keyed()?));
     let mut stranger = newcomer(alloc)?;
     stranger.perceived.push((0, Update::Add(pid(2)?)))?;
-    let accounts = family(alloc, told(alloc, 0)?, stranger)?;
+    let accounts = family(alloc, reported(alloc, 0)?, stranger)?;
     assert!(rt; !sound(&accounts, keyed()?));
     let mut two = PidSet::new();
     two.insert(pid(0)?);
@@ -116,9 +116,9 @@ fn view_without_cause(rt: HostRuntime) -> Result<(), Fail> {
 fn number_left_out(rt: HostRuntime) -> Result<(), Fail> {
     let alloc = rt.alloc();
     let mut first = cause(alloc)?;
-    if let Some(told) = first.delivered.get_mut(0) {
-        told.truncate(2);
-        told.push(letter(alloc, 1, 1, 1, 0x63)?)?;
+    if let Some(reported) = first.delivered.get_mut(0) {
+        reported.truncate(2);
+        reported.push(letter(alloc, 1, 1, 1, 0x63)?)?;
     }
     let accounts = family(alloc, first, newcomer(alloc)?)?;
     assert!(rt; !sound(&accounts, keyed()?));
@@ -144,8 +144,8 @@ fn payload_that_was_not_accepted(rt: HostRuntime) -> Result<(), Fail> {
 fn place_that_is_not_whole(rt: HostRuntime) -> Result<(), Fail> {
     let alloc = rt.alloc();
     let mut other = newcomer(alloc)?;
-    if let Some(told) = other.delivered.get_mut(0) {
-        told.truncate(1);
+    if let Some(reported) = other.delivered.get_mut(0) {
+        reported.truncate(1);
     }
     let accounts = family(alloc, cause(alloc)?, other)?;
     assert!(rt; !sound(&accounts, keyed()?));
@@ -157,9 +157,9 @@ fn place_that_is_not_whole(rt: HostRuntime) -> Result<(), Fail> {
 fn place_left_out(rt: HostRuntime) -> Result<(), Fail> {
     let alloc = rt.alloc();
     let mut first = cause(alloc)?;
-    if let Some(told) = first.delivered.get_mut(0) {
-        told.truncate(2);
-        told.push(letter(alloc, 2, 1, 0, 0x63)?)?;
+    if let Some(reported) = first.delivered.get_mut(0) {
+        reported.truncate(2);
+        reported.push(letter(alloc, 2, 1, 0, 0x63)?)?;
     }
     let accounts = family(alloc, first, newcomer(alloc)?)?;
     assert!(rt; !sound(&accounts, keyed()?));

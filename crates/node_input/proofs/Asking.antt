@@ -61,7 +61,7 @@ module _ (most : ℕ) (hosted : List ℕ) (number : ℕ) (k : SourceSeen) (line 
   pub asks-nothing : line_said hosted line ≡ None → SeenAs (λ l. SourceTook most k l line) ahead now faults
       → SeenAs (λ l. AsksNone most hosted number k l (BadLine number)) ahead now faults
   asks-nothing is way = only (λ l. SourceTook most k l line) (λ l. AsksNone most hosted number k l (BadLine number)) ahead now faults
-      (λ l took. inr (record { line = line; took = took; bad = is; told = refl })) way
+      (λ l took. inr (record { line = line; took = took; bad = is; reported = refl })) way
 
   -- memory ran out: it is as if the line had not been taken
   pub forgets : SeenAs (λ l. SourceTook most k l line) ahead now faults
@@ -78,7 +78,7 @@ module _ (most : ℕ) (hosted : List ℕ) (number : ℕ) (k : SourceSeen) (line 
   pub one-too-many : SeenAs (λ l. SourceTook most k l line) ahead now faults
       → SeenAs (λ l. EndsAfter most number k l (BadLine number)) ahead now faults
   one-too-many way = only (λ l. SourceTook most k l line) (λ l. EndsAfter most number k l (BadLine number)) ahead now faults
-      (λ l took. inr (record { line = line; took = took; bad = tt; told = refl })) way
+      (λ l took. inr (record { line = line; took = took; bad = tt; reported = refl })) way
 
   -- as the code says why it asks for nothing
   pub unasked : (line' : List ℕ) (why : CodeStop) → line' ≡ line

@@ -27,7 +27,7 @@ pub record TakesBad (P : List ℕ → Type 0) (most number : ℕ) (k l : SourceS
   pub line : List ℕ
   pub took : SourceTook most k l line
   pub bad : P line
-  pub told : why ≡ BadLine number
+  pub reported : why ≡ BadLine number
 
 -- no line was taken, or one that asks for nothing
 abbrev pub AsksNone : ℕ → List ℕ → ℕ → SourceSeen → SourceSeen → Stop → Type 0

@@ -48,7 +48,7 @@ no-fault _ can other = tt
 -- the script of this kit is left, and the file is its node's
 record InOrder (most : ℕ) (kit : Kit) (left : Option (List ℕ)) (file : List ℕ) : Type 0 where
   rest : List ℕ
-  told : left ≡ Some rest
+  reported : left ≡ Some rest
   script : IsScript most (hosted_by kit) most_lines rest
   journal : (file ≡ []) ⊎ IsJournalOf kit file
 
@@ -61,7 +61,7 @@ after-kit most bytes file kit go (Some rest) order begins =
     let same : order.front ≡ read = cc in
     record {
       rest = rest;
-      told = refl;
+      reported = refl;
       script = subst (λ (f : Front). IsScript most (hosted_by f.kit) most_lines f.rest) same order.script;
       journal = subst (λ (f : Front). (file ≡ []) ⊎ IsJournalOf f.kit file) same order.journal;
     }
@@ -92,7 +92,7 @@ module _ (kit : Kit) (snap : Snapper) (most : ℕ) (go : ℕ) (file : List ℕ) 
       let opened = opens_sound c (from_start c) go es (fits-there kit file v es order.journal holds) in
       let few : n.script + most_lines ≤ most_lines = omega (arith, reads-script c (at_first (from_start c) go) es) in
       record {
-        carries = script_is_carried_out c snap most n last x y most_lines order.rest goes opened.goes_on opened.tasks few order.told
+        carries = script_is_carried_out c snap most n last x y most_lines order.rest goes opened.goes_on opened.tasks few order.reported
             order.script;
         can = stops_only_so c snap most n last x y goes opened.goes_on;
       }

@@ -38,10 +38,10 @@ module _ (why : Stop) (status faults now : ℕ) (sink before new : SinkSeen) (li
   pub ends-untold : status ≡ 6 → (link_now.sent ≡ link.sent) × SaysLast (codes "stop 6 link\n") sink new
   ends-untold six =
       let is = bind-by why status before new ends six in
-      let told = counts.untold is in
+      let reported = counts.untold is in
       let said = said-by why status before new ends (λ one. absurd (omega (arith, six, one))) in (
-        told.0,
-        subst (λ (s : SinkSeen). SaysLast (codes "stop 6 link\n") s new) told.1
+        reported.0,
+        subst (λ (s : SinkSeen). SaysLast (codes "stop 6 link\n") s new) reported.1
             (subst (λ (line : List ℕ). SaysLast line before new) (ap stop_line is) said),
       )
 
@@ -68,5 +68,5 @@ module _ {D : Type 0} (seen : D → Option (List ℕ)) (may_leave : D → List �
   by-input None tells order = absurd order
   by-input (Some bytes) tells order = by-disk bytes (seen old) tells refl order
 
-  pub told-in-order : TellInOrder most k.left (seen old) → IsNoFault why
-  told-in-order order = by-input k.left refl order
+  pub reported-in-order : TellInOrder most k.left (seen old) → IsNoFault why
+  reported-in-order order = by-input k.left refl order

@@ -28,14 +28,14 @@ abbrev pub lines_of : (ℕ → Process) → Counts → List ℕ → List ℕ
 lines_of now counts ps = flat_map (λ p. host_line (now p) (count_in counts p)) ps
 
 -- one line more
-pub one-told : (now : ℕ → Process) (counts : Counts) (p : ℕ) (left old text new : List ℕ) (all : List ℕ) → old ≡ p ∷ left
+pub one-reported : (now : ℕ → Process) (counts : Counts) (p : ℕ) (left old text new : List ℕ) (all : List ℕ) → old ≡ p ∷ left
     → text ++ lines_of now counts old ≡ all → new ≡ text ++ host_line (now p) (count_in counts p)
     → new ++ lines_of now counts left ≡ all
-one-told now counts p left old text new all steps before told =
-    ap (λ t. t ++ lines_of now counts left) told
+one-reported now counts p left old text new all steps before reported =
+    ap (λ t. t ++ lines_of now counts left) reported
     ∙ append_assoc text (host_line (now p) (count_in counts p)) (lines_of now counts left)
     ∙ ap (λ ps. text ++ lines_of now counts ps) (sym steps) ∙ before
 
-pub all-told : (now : ℕ → Process) (counts : Counts) (left text all : List ℕ) → left ≡ [] → text ++ lines_of now counts left ≡ all → text ≡ all
-all-told now counts left text all none before =
+pub all-reported : (now : ℕ → Process) (counts : Counts) (left text all : List ℕ) → left ≡ [] → text ++ lines_of now counts left ≡ all → text ≡ all
+all-reported now counts left text all none before =
     sym (append-nil text) ∙ ap (λ ps. text ++ lines_of now counts ps) (sym none) ∙ before

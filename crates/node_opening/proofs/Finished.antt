@@ -50,7 +50,7 @@ pub ends-at : (seen : Option (List ℕ)) (head : List ℕ) (es : List Entry) (ga
 ends-at None head es gate some stands closed = absurd cc
 ends-at (Some file) head es gate some stands closed = record {
   file = file;
-  told = refl;
+  reported = refl;
   reads = closed_gate_ends head file es gate stands closed;
   place = stands.where_it_is;
 }
@@ -75,7 +75,7 @@ module _ (seen new : Option (List ℕ)) (may_leave : List ℕ → Type 0) (gate 
       → IfSome seen (λ file. IsClosedAt file gate) → IsSome seen → IsSome new
   tells-at head es stands closed some =
       let has = ok head es (ends-at seen head es gate some stands closed) in
-      subst (λ (o : Option (List ℕ)). IsSome o) (sym has.told) refl
+      subst (λ (o : Option (List ℕ)). IsSome o) (sym has.reported) refl
 
 -- ---- the node
 
@@ -89,7 +89,7 @@ pub record IsReady (kit : Kit) (v : Version) (snap : Snapper) (most lines : ℕ)
 
 module _ (r : Running) (snap : Snapper) (most lines : ℕ) (held seen new : Option (List ℕ)) (may_leave : List ℕ → Type 0) (x y : Outside)
     (few : (p : ℕ) → count_in r.counts p < gate_of r.journal) (untold : StaysUntold seen new) (long : HasLength new (len_of r.journal))
-    (told : IsSome held → IsSome seen) where
+    (reported : IsSome held → IsSome seen) where
   opened-at : ((head : List ℕ) (fs : List Entry) → EndsAt seen head fs (gate_of r.journal) → HasRest new may_leave head fs (gate_of r.journal))
       → IsReady r.kit.now (version_of r.journal) snap most lines held seen x y (gate_of r.journal) r.hosts r.counts
       → HasOpened r snap most lines held x y new may_leave
@@ -131,7 +131,7 @@ module _ (r : Running) (snap : Snapper) (most lines : ℕ) (held seen new : Opti
         };
         read = idle.lines;
         script = idle.script;
-        tells = λ some. tells-at seen new may_leave (gate_of r.journal) ok c.header es read.stands ready.all.closed (told some);
+        tells = λ some. tells-at seen new may_leave (gate_of r.journal) ok c.header es read.stands ready.all.closed (reported some);
       }
 
   -- the journal that is written is where it was as it was read

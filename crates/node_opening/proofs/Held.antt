@@ -13,7 +13,7 @@ use Rattle.journal_defs.specs.Crashes.{IsAtRest}
 use Rattle.journal_defs.proofs.Crashing.{not_open}
 use Rattle.journal_defs.proofs.Recording.{one_reading}
 use Rattle.journal_disk.specs.Disks.{HasRest, StaysUntold}
-use Rattle.journal_disk.proofs.Told.{told}
+use Rattle.journal_disk.proofs.Reported.{reported}
 use Rattle.journal_rp.specs.declared.fault.JournalFault.{JournalFault}
 use Rattle.journal_rp.specs.declared.fault.JournalFault.TheVariants.{DiskFault, NotAJournal, Entry as NoEntry, Other, Full, NoMemory}
 use Rattle.journal_rp.specs.Answers.{HasCauses, IfNotAJournal, of_start}
@@ -27,7 +27,7 @@ use Rattle.node_opening.specs.Reading.{Unread, no_disk, no_header}
 -- a journal that every crash leaves at rest has its entries before its gate
 rest-stands : (seen : Option (List ℕ)) (may_leave : List ℕ → Type 0) (head : List ℕ) (es : List Entry) (gate : ℕ)
     → HasRest seen may_leave head es gate → IfSome seen (λ file. StandsBefore head file es gate)
-rest-stands seen may_leave head es gate has = subst (λ (o : Option (List ℕ)). IfSome o (λ file. StandsBefore head file es gate)) (sym has.told)
+rest-stands seen may_leave head es gate has = subst (λ (o : Option (List ℕ)). IfSome o (λ file. StandsBefore head file es gate)) (sym has.reported)
     (record {
       rest = closed_gate ∷ has.rest.behind;
       parts = has.rest.parts;
@@ -38,13 +38,13 @@ rest-stands seen may_leave head es gate has = subst (λ (o : Option (List ℕ)).
 
 rest-there : (seen : Option (List ℕ)) (may_leave : List ℕ → Type 0) (head : List ℕ) (gate : ℕ) → HasRest seen may_leave head [] gate
     → IfSome seen (IsAtRest head [])
-rest-there seen may_leave head gate has = subst (λ (o : Option (List ℕ)). IfSome o (IsAtRest head [])) (sym has.told) has.rest
+rest-there seen may_leave head gate has = subst (λ (o : Option (List ℕ)). IfSome o (IsAtRest head [])) (sym has.reported) has.rest
 
 -- and reads as them alone
 rest-reads : (seen : Option (List ℕ)) (may_leave : List ℕ → Type 0) (head : List ℕ) (es fs : List Entry) (gate : ℕ)
     → HasRest seen may_leave head es gate → IfSome seen (λ file. ReadsAs head file fs) → fs ≡ es
 rest-reads seen may_leave head es fs gate has reads =
-    one_reading head has.file fs es (subst (λ (o : Option (List ℕ)). IfSome o (λ file. ReadsAs head file fs)) has.told reads)
+    one_reading head has.file fs es (subst (λ (o : Option (List ℕ)). IfSome o (λ file. ReadsAs head file fs)) has.reported reads)
     (record { gate = closed_gate; unread = has.rest.behind; parts = has.rest.parts; closed = not_open; each = has.each })
 
 some-of : (o : Option (List ℕ)) (file : List ℕ) → o ≡ Some file → IsSome o
@@ -59,7 +59,7 @@ module _ (kit : Kit) (v : Version) (old new : Option (List ℕ)) (may_leave : Li
       go : (o : Option (List ℕ)) → (IsSomeAnd o (λ file. file ≡ []) → HasRest new may_leave (header_bytes Two (header_in kit)) [] gate)
           → (IsSomeAnd o (λ file. file ≢ []) → new ≡ o) → IsSome o → IsSome new
       go None empty same is = absurd cc
-      go (Some []) empty same is = let has = empty refl in some-of new has.file has.told
+      go (Some []) empty same is = let has = empty refl in some-of new has.file has.reported
       go (Some (b ∷ bs)) empty same is = some-of new (b ∷ bs) (same (λ e. cc))
 
   module _ (untold : StaysUntold old new) (kind : IsSomeAnd old (λ file. file ≡ []) → v ≡ Two) where
@@ -129,7 +129,7 @@ not-started T kit lines before now held h fault why same other causes is = subst
     go : (f : JournalFault) → IfNotAJournal {T = T} (Err f) (IfSome held (λ file. (file ≢ []) × ((v : Version) → ¬ IsJournal v h file)))
         → HasCauses {T = T} of_start before now (Err f) → Unread kit lines held (stop_of_fault f)
     go DiskFault there cause = no_disk
-    go NotAJournal there cause = no_header (told held (λ file is. record {
+    go NotAJournal there cause = no_header (reported held (λ file is. record {
       some = is.0;
       neither = λ v. subst (λ (g : Header). ¬ IsJournal v g file) same (is.1 v);
     }) there)

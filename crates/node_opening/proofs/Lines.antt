@@ -26,7 +26,7 @@ module _ (c : Cast) (kit : Kit) (lines : ℕ) (seen : Option (List ℕ)) (es : L
   -- with these lines the node is to open
   pub to-open : (text : List ℕ) → text ≡ lines_of (node_after c lines es).now counts c.hosted
       → HasToOpen (opens c (from_start c) lines es) (binds c c.hosted ++ to_tell text)
-  to-open text told = record {
+  to-open text reported = record {
     runs = read.runs;
-    opening = ap (λ t. binds c c.hosted ++ to_tell t) (lines-are ∙ sym told);
+    opening = ap (λ t. binds c c.hosted ++ to_tell t) (lines-are ∙ sym reported);
   }

@@ -40,16 +40,16 @@ module _ {D : Type 0} (seen : D → Option (List ℕ)) (may_leave : D → List �
     (kit : Kit) (v : Version) (es : List Entry) (old : D) (image : IfSome (seen old) (may_leave old)) (some : IsSome (seen old))
     (stands : Stands (cast_of kit v).header es (may_leave old)) where
   front-there : (file : List ℕ) → seen old ≡ Some file → HasFront (cast_of kit v).header es file
-  front-there file told = front-of (cast_of kit v).header es (may_leave old) stands file
-      (subst (λ (o : Option (List ℕ)). IfSome o (may_leave old)) told image)
+  front-there file reported = front-of (cast_of kit v).header es (may_leave old) stands file
+      (subst (λ (o : Option (List ℕ)). IfSome o (may_leave old)) reported image)
 
   not-empty : IsSomeAnd (seen old) (λ file. file ≢ [])
   not-empty = go (seen old) refl some
     where
       go : (o : Option (List ℕ)) → seen old ≡ o → IsSome o → IsSomeAnd o (λ file. file ≢ [])
-      go None told is = absurd cc
-      go (Some file) told is =
-          let front = front-there file told in
+      go None reported is = absurd cc
+      go (Some file) reported is =
+          let front = front-there file reported in
           λ e. absurd (omega (arith, ap length front.parts, ap length e, length-append (up_to_gate (cast_of kit v).header es) (front.gate ∷ front.behind)))
 
   -- as long as the disk is only read
@@ -71,7 +71,7 @@ module _ {D : Type 0} (seen : D → Option (List ℕ)) (may_leave : D → List �
     ends-here =
         let reads = (only not-empty).reads in
         let ends = ending (subst (λ (o : Option (List ℕ)). IsSome o) (sym reads) some) in
-        let front = front-there ends.file (sym reads ∙ ends.told) in
+        let front = front-there ends.file (sym reads ∙ ends.reported) in
         let same : w ≡ v = one-kind (header_in kit) w v fs es (ends.reads.gate ∷ ends.reads.unread) (front.gate ∷ front.behind)
         (sym ends.reads.parts ∙ front.parts) in
         subst (λ (u : Version). EndsAt (seen mid) (cast_of kit u).header fs gate) same ends

@@ -57,8 +57,8 @@ served-untold c snap most n link s t source h text has failed =
     }
 
 -- what was told after no lines is all there is
-said-is : (told first text : List ℕ) → first ≡ [] → text ≡ first ++ told → text ≡ told
-said-is told first text none is = is ∙ ap (λ (t : List ℕ). t ++ told) none
+said-is : (reported first text : List ℕ) → first ≡ [] → text ≡ first ++ reported → text ≡ reported
+said-is reported first text none is = is ∙ ap (λ (t : List ℕ). t ++ reported) none
 
 module _ {V : Type 0} (heard : V → List Asked → Type 0) (service : V) (c : Cast) (snap : Snapper) (most : ℕ) (n : Node) (link : LinkSeen)
     (source : SourceSeen) (h : List Asked) (ready : HasToOpen n (Serve ∷ Finish ∷ [])) where
@@ -70,7 +70,7 @@ module _ {V : Type 0} (heard : V → List Asked → Type 0) (service : V) (c : C
     history = h ++ one_asked c (map n.now c.hosted) Serves (Said tells.text []);
     has = tells.has;
     holds = served-so c snap most n link s t source h tells.text ready
-        (subst (λ (b : List ℕ). SinkWrote s t b) (lent ∙ said-is tells.text first text none tells.told) wrote);
+        (subst (λ (b : List ℕ). SinkWrote s t b) (lent ∙ said-is tells.text first text none tells.reported) wrote);
   }
 
   pub serves-untold : (s t : SinkSeen) (first text bytes : List ℕ) → first ≡ [] → bytes ≡ text
@@ -80,7 +80,7 @@ module _ {V : Type 0} (heard : V → List Asked → Type 0) (service : V) (c : C
     history = h ++ one_asked c (map n.now c.hosted) Serves (Said tells.text []);
     has = tells.has;
     holds = served-untold c snap most n link s t source h tells.text ready
-        (subst (λ (b : List ℕ). SinkFailed s t b) (lent ∙ said-is tells.text first text none tells.told) failed);
+        (subst (λ (b : List ℕ). SinkFailed s t b) (lent ∙ said-is tells.text first text none tells.reported) failed);
   }
 
   -- memory ran out, and the service has heard nothing
@@ -104,9 +104,9 @@ module _ (c : Cast) (snap : Snapper) (most : ℕ) (n : Node) (source : SourceSee
   bound x = (opens_in_order c snap most n x).bound c.hosted (to_tell text) ready
 
   -- the greeting is written
-  told : (k l : LinkSeen) (s t : SinkSeen) → l ≡ k → SinkWrote s t text
+  reported : (k l : LinkSeen) (s t : SinkSeen) → l ≡ k → SinkWrote s t text
       → Goes c snap most n (outside k s source h) (left_to_open n (Serve ∷ Finish ∷ [])) (outside l t source h)
-  told k l s t still wrote =
+  reported k l s t still wrote =
       let x = outside k s source h in
       let y = outside k t source h in
       let first = left_to_open n (to_tell text) in
@@ -126,7 +126,7 @@ module _ (c : Cast) (snap : Snapper) (most : ℕ) (n : Node) (source : SourceSee
     history = begun.history;
     has = begun.has;
     holds = parts_go_on c snap most n (left_to_open n (Serve ∷ Finish ∷ [])) (left_to_open n (Finish ∷ [])) (outside k s source h)
-        (outside l t source h) (outside l u source begun.history) (told k l s t still wrote) begun.holds;
+        (outside l t source h) (outside l u source begun.history) (reported k l s t still wrote) begun.holds;
   }
 
   pub presents-part : {V : Type 0} (heard : V → List Asked → Type 0) (service : V) (why : Stop) (k l : LinkSeen) (s t u : SinkSeen) → l ≡ k
@@ -140,7 +140,7 @@ module _ (c : Cast) (snap : Snapper) (most : ℕ) (n : Node) (source : SourceSee
       last = begun.holds.last;
       stops = begun.holds.stops;
       goes = parts_go_on c snap most n (left_to_open n (Serve ∷ Finish ∷ [])) begun.holds.last (outside k s source h)
-          (outside l t source h) (outside l u source begun.history) (told k l s t still wrote) begun.holds.goes;
+          (outside l t source h) (outside l u source begun.history) (reported k l s t still wrote) begun.holds.goes;
     };
   }
 
@@ -157,9 +157,9 @@ module _ (c : Cast) (snap : Snapper) (most : ℕ) (n : Node) (source : SourceSee
       }
 
   -- the output failed
-  pub not-told : (k l : LinkSeen) (s t : SinkSeen) → l ≡ k → SinkFailed s t text
+  pub not-reported : (k l : LinkSeen) (s t : SinkSeen) → l ≡ k → SinkFailed s t text
       → StopsBy c snap most n (outside k s source h) WriteFailed (outside l t source h)
-  not-told k l s t still failed =
+  not-reported k l s t still failed =
       let x = outside k s source h in
       let y = outside k t source h in
       let first = left_to_open n (to_tell text) in

@@ -7,7 +7,7 @@ use Rattle.group_defs.specs.Process.{Process}
 use Rattle.journal_defs.specs.Entries.{Entry}
 use Rattle.journal_defs.specs.Journals.{HasEntryAt, IsBrokenAt, record_bytes}
 use Rattle.journal_defs.proofs.Gates.{entry_goes_on}
-use Rattle.journal_disk.proofs.Told.{told_both}
+use Rattle.journal_disk.proofs.Reported.{reported_both}
 use Rattle.journal_rp.specs.declared.fault.JournalFault.{JournalFault}
 use Rattle.journal_rp.specs.declared.fault.JournalFault.TheVariants as faults
 use Rattle.journal_rp.specs.Answers.{HasCauses, IfEntry, of_read}
@@ -74,13 +74,13 @@ module _ (c : Cast) (lines : ℕ) where
           fits = fits-more es e read.fits takes;
           hosts_are = subst (λ (m : Node). AreHosts c kit m.now None new) (sym grown) are;
           counted = λ p. counted p ∙ ap (λ n. n + (if e.process == p then 1 else 0)) (read.counted p) ∙ sym (one_more_counts p es e);
-          stands = told_both seen (λ file stands here. entry_goes_on c.header file es gate e next stands here) read.stands there;
+          stands = reported_both seen (λ file stands here. entry_goes_on c.header file es gate e next stands here) read.stands there;
         }
 
     -- what is there is no entry
     pub broken-at : (place : ℕ) → place ≡ gate → IfSome seen (λ file. IsBrokenAt file place) → BreaksOff c lines seen (BadJournal place)
     broken-at place same broken = subst (λ n. IfSome seen (λ file. IsBrokenAt file n) → BreaksOff c lines seen (BadJournal n)) (sym same)
-        (λ here. breaks es gate (told_both seen
+        (λ here. breaks es gate (reported_both seen
         (λ file stands is. record { stands = stands; runs = read.runs; gate = read.gate_is; bad = inl is }) read.stands here)) broken
 
     -- the entry there is not taken up
@@ -90,7 +90,7 @@ module _ (c : Cast) (lines : ℕ) where
       where
         go : {w : Stop} → RefusesEntry c (node_after c lines es) e place w → BreaksOff c lines seen w
         go forgets = lacks_memory
-        go (strange never) = subst (λ k. BreaksOff c lines seen (BadJournal k)) (sym same) (breaks es gate (told_both seen
+        go (strange never) = subst (λ k. BreaksOff c lines seen (BadJournal k)) (sym same) (breaks es gate (reported_both seen
             (λ file stands is. record { stands = stands; runs = read.runs; gate = read.gate_is; bad = inr (e, next, is, never) })
             read.stands there))
 

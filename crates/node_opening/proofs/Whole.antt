@@ -11,7 +11,7 @@ use Rattle.journal_defs.specs.Journals.{ReadsAs, StandsBefore, behind_gate, clos
 use Rattle.journal_defs.specs.Crashes.{IsAtRest}
 use Rattle.journal_defs.proofs.Crashing.{not_open}
 use Rattle.journal_defs.proofs.Gates.{closed_gate_ends}
-use Rattle.journal_disk.proofs.Told.{told_both}
+use Rattle.journal_disk.proofs.Reported.{reported_both}
 use Rattle.node_defs.specs.Lines.{Stop}
 use Rattle.node_defs.specs.Casts.{Cast, cast_of, from_start}
 use Rattle.node_defs.specs.Nodes.{Node}
@@ -28,7 +28,7 @@ module _ (kit : Kit) (lines : ℕ) (held : Option (List ℕ)) (gate : ℕ) (host
       → HasReadJournal kit v lines held seen gate hosts counts
   journal-read v seen all holds = record {
     all = all;
-    holds = holds all.entries (told_both seen
+    holds = holds all.entries (reported_both seen
         (λ file stands closed. closed_gate_ends (cast_of kit v).header file all.entries gate stands closed) all.read.stands all.closed);
   }
 

@@ -56,7 +56,7 @@ module _ {D : Type 0} (seen : D → Option (List ℕ)) (may_leave : D → List �
     takes-bad : (P : List ℕ → Type 0) (number : ℕ) (o : SourceSeen) (why : Stop) → ((line : List ℕ) → P line → IsNoLine c n line)
         → number ≡ n.lines + 1 → TakesBad P most number k o why → Stops why o
     takes-bad P number o why each is bad =
-        subst (λ (w : Stop). Stops w o) (sym (bad.told ∙ ap BadLine is))
+        subst (λ (w : Stop). Stops w o) (sym (bad.reported ∙ ap BadLine is))
         (by-read (BadLine (n.lines + 1)) o (reads.refused bad.line o bad.took (each bad.line bad.bad)))
 
     pub asks-none : (hosted : List ℕ) (number : ℕ) (o : SourceSeen) (why : Stop) → hosted ≡ c.hosted → number ≡ n.lines + 1

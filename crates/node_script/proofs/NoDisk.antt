@@ -15,7 +15,7 @@ none-by-disk most number k o DiskFailed none is = none
 none-by-disk most number k o _ none is = absurd cc
 
 bad-by-disk : (P : List ℕ → Type 0) (most number : ℕ) (k o : SourceSeen) (why : Stop) → TakesBad P most number k o why → why ≡ DiskFailed → ⊥
-bad-by-disk P most number k o why bad is = let told = bad.told in cc
+bad-by-disk P most number k o why bad is = let reported = bad.reported in cc
 
 -- a line that asks for nothing
 pub asked-cause : (hosted : List ℕ) (most number count : ℕ) (k o : SourceSeen) (why : Why) → AsksNone most hosted number k o (stop_of why)

@@ -110,22 +110,22 @@ pub fn carry_out<'a, D: Disk, L: Link, K: Sink, V: Service>(
     requires node { HasNode (D.seen disk.old) (D.may_leave disk.old) running }
     requires asks { IsFor (numbers_of running.hosts) line.now (line_of said) }
 
-    // A node that has read this line does what it asks, and then has nothing to do. `told` says that the disk tells what it holds: then
+    // A node that has read this line does what it asks, and then has nothing to do. `reported` says that the disk tells what it holds: then
     // the digest in the line of a snapshot is the journal's.
-    ensures goes_on { (told : Bool) (most : ℕ) (f : Found) (source : SourceSeen) (h : List Asked) (n : Node)
-        → (IsTrue told → IsSome (D.seen disk.old)) → V.heard service.old h
+    ensures goes_on { (reported : Bool) (most : ℕ) (f : Found) (source : SourceSeen) (h : List Asked) (n : Node)
+        → (IsTrue reported → IsSome (D.seen disk.old)) → V.heard service.old h
         → IsNode (D.seen disk.old) (D.may_leave disk.old) running.entry n (tasks_of_line line.now (line_of said)) → n.lines ≡ number
         → IfOk result (λ r. HeardBy V.heard service.new (λ i. GoesOnTo D.seen D.may_leave D.moment D.left_since (cast_in running.entry)
-        (snapper told (cast_in running.entry)) most f n
+        (snapper reported (cast_in running.entry)) most f n
         (outside (link_seen L.sent L.coming L.faults link.old) (sink_seen K.written K.faults output.old) source h) disk.old []
         (outside (link_seen L.sent L.coming L.faults link.new) (sink_seen K.written K.faults output.new) source i) disk.new r)) }
 
     // Or it stops, after some calls and their answers.
-    ensures stops { (told : Bool) (most : ℕ) (f : Found) (source : SourceSeen) (h : List Asked) (n : Node)
-        → (IsTrue told → IsSome (D.seen disk.old)) → V.heard service.old h
+    ensures stops { (reported : Bool) (most : ℕ) (f : Found) (source : SourceSeen) (h : List Asked) (n : Node)
+        → (IsTrue reported → IsSome (D.seen disk.old)) → V.heard service.old h
         → IsNode (D.seen disk.old) (D.may_leave disk.old) running.entry n (tasks_of_line line.now (line_of said)) → n.lines ≡ number
         → IfErr result (λ why. HeardBy V.heard service.new (λ i. StopsSo D.seen D.may_leave D.moment D.left_since (cast_in running.entry)
-        (snapper told (cast_in running.entry)) most f n
+        (snapper reported (cast_in running.entry)) most f n
         (outside (link_seen L.sent L.coming L.faults link.old) (sink_seen K.written K.faults output.old) source h) disk.old (stop_of why)
         (outside (link_seen L.sent L.coming L.faults link.new) (sink_seen K.written K.faults output.new) source i) disk.new)) }
     ensures cause { HasDiskCause (D.faults disk.old) (D.faults disk.new) result }

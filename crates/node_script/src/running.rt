@@ -34,21 +34,21 @@ fn each_line<'a, S: Source, D: Disk, L: Link, K: Sink, V: Service>(
     service: &mut V,
 ) -> Result<Running<'a>, Stop>
     requires node { HasNode (D.seen disk.old) (D.may_leave disk.old) running }
-    ensures goes_on { (told : Bool) (f : Found) (k : SourceSeen) (h : List Asked) (n : Node)
-        → (IsTrue told → IsSome (D.seen disk.old)) → V.heard service.old h
+    ensures goes_on { (reported : Bool) (f : Found) (k : SourceSeen) (h : List Asked) (n : Node)
+        → (IsTrue reported → IsSome (D.seen disk.old)) → V.heard service.old h
         → IsSeen k lines.old.ahead (S.left input.old) (S.faults input.old)
         → IsNode (D.seen disk.old) (D.may_leave disk.old) running.entry n [] → n.lines ≡ go → n.script ≡ 0
         → IfOk result (λ r. HeardBy V.heard service.new (λ i. SeenAs (λ l. ReadsOn D.seen D.may_leave D.moment D.left_since
-        (cast_in running.entry) (snapper told (cast_in running.entry)) most f n
+        (cast_in running.entry) (snapper reported (cast_in running.entry)) most f n
         (outside (link_seen L.sent L.coming L.faults link.old) (sink_seen K.written K.faults output.old) k h) disk.old most_lines
         (outside (link_seen L.sent L.coming L.faults link.new) (sink_seen K.written K.faults output.new) l i) disk.new r)
         lines.new.ahead (S.left input.new) (S.faults input.new))) }
-    ensures stops { (told : Bool) (f : Found) (k : SourceSeen) (h : List Asked) (n : Node)
-        → (IsTrue told → IsSome (D.seen disk.old)) → V.heard service.old h
+    ensures stops { (reported : Bool) (f : Found) (k : SourceSeen) (h : List Asked) (n : Node)
+        → (IsTrue reported → IsSome (D.seen disk.old)) → V.heard service.old h
         → IsSeen k lines.old.ahead (S.left input.old) (S.faults input.old)
         → IsNode (D.seen disk.old) (D.may_leave disk.old) running.entry n [] → n.lines ≡ go → n.script ≡ 0
         → IfErr result (λ why. HeardBy V.heard service.new (λ i. (ahead : List ℕ) × SeenAs (λ l.
-        StopsSo D.seen D.may_leave D.moment D.left_since (cast_in running.entry) (snapper told (cast_in running.entry)) most f n
+        StopsSo D.seen D.may_leave D.moment D.left_since (cast_in running.entry) (snapper reported (cast_in running.entry)) most f n
         (outside (link_seen L.sent L.coming L.faults link.old) (sink_seen K.written K.faults output.old) k h) disk.old (stop_of why)
         (outside (link_seen L.sent L.coming L.faults link.new) (sink_seen K.written K.faults output.new) l i) disk.new)
         ahead (S.left input.new) (S.faults input.new))) }
@@ -81,12 +81,12 @@ fn run_within<'a, S: Source, D: Disk, L: Link, K: Sink, V: Service>(
     service: &mut V,
 ) -> Stop
     requires node { HasNode (D.seen disk.old) (D.may_leave disk.old) running }
-    ensures ends { (told : Bool) (f : Found) (k : SourceSeen) (h : List Asked) (n : Node)
-        → (IsTrue told → IsSome (D.seen disk.old)) → V.heard service.old h
+    ensures ends { (reported : Bool) (f : Found) (k : SourceSeen) (h : List Asked) (n : Node)
+        → (IsTrue reported → IsSome (D.seen disk.old)) → V.heard service.old h
         → IsSeen k lines.old.ahead (S.left input.old) (S.faults input.old)
         → IsNode (D.seen disk.old) (D.may_leave disk.old) running.entry n [] → n.lines ≡ go → n.script ≡ 0
         → HeardBy V.heard service.new (λ i. (ahead : List ℕ) × SeenAs (λ l.
-        StopsSo D.seen D.may_leave D.moment D.left_since (cast_in running.entry) (snapper told (cast_in running.entry)) most f n
+        StopsSo D.seen D.may_leave D.moment D.left_since (cast_in running.entry) (snapper reported (cast_in running.entry)) most f n
         (outside (link_seen L.sent L.coming L.faults link.old) (sink_seen K.written K.faults output.old) k h) disk.old (stop_of result)
         (outside (link_seen L.sent L.coming L.faults link.new) (sink_seen K.written K.faults output.new) l i) disk.new)
         ahead (S.left input.new) (S.faults input.new)) }
@@ -117,14 +117,14 @@ pub fn run_script<'a, S: Source, D: Disk, L: Link, K: Sink, V: Service>(
 ) -> Stop
     requires node { HasNode (D.seen disk.old) (D.may_leave disk.old) running }
 
-    // The node of the definitions goes on, line by line, to this stop. Its calls did this to input, link, output and disk. `told` says that
+    // The node of the definitions goes on, line by line, to this stop. Its calls did this to input, link, output and disk. `reported` says that
     // the disk tells what it holds: then the digest in the line of a snapshot is the journal's.
-    ensures ends { (told : Bool) (f : Found) (k : SourceSeen) (h : List Asked) (n : Node)
-        → (IsTrue told → IsSome (D.seen disk.old)) → V.heard service.old h
+    ensures ends { (reported : Bool) (f : Found) (k : SourceSeen) (h : List Asked) (n : Node)
+        → (IsTrue reported → IsSome (D.seen disk.old)) → V.heard service.old h
         → IsSeen k lines.old.ahead (S.left input.old) (S.faults input.old)
         → IsNode (D.seen disk.old) (D.may_leave disk.old) running.entry n [] → n.lines ≡ go → n.script ≡ 0
         → HeardBy V.heard service.new (λ i. (ahead : List ℕ) × SeenAs (λ l.
-        StopsSo D.seen D.may_leave D.moment D.left_since (cast_in running.entry) (snapper told (cast_in running.entry)) most f n
+        StopsSo D.seen D.may_leave D.moment D.left_since (cast_in running.entry) (snapper reported (cast_in running.entry)) most f n
         (outside (link_seen L.sent L.coming L.faults link.old) (sink_seen K.written K.faults output.old) k h) disk.old (stop_of result)
         (outside (link_seen L.sent L.coming L.faults link.new) (sink_seen K.written K.faults output.new) l i) disk.new)
         ahead (S.left input.new) (S.faults input.new)) }

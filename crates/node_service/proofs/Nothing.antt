@@ -27,7 +27,7 @@ module _ {V : Type 0} (service : V) (h : List Asked) (c : Cast) (are : AreNothin
       → Tells (λ (v : V) (i : List Asked). AreNothing i) service h c shown call old old
   tells_nothing shown call old is = record {
     text = [];
-    told = sym (append-nil old);
+    reported = sym (append-nil old);
     has = one_more h c shown call (Said [] []) are is;
   }
 

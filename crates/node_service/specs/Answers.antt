@@ -16,7 +16,7 @@ GoesOn before now = (more : List ℕ) × (now ≡ before ++ more)
 pub record Tells {V : Type 0} (heard : V → List Asked → Type 0) (service : V) (before : List Asked) (c : Cast) (shown : List Process)
     (call : Call) (old new : List ℕ) : Type 0 where
   pub text : List ℕ
-  pub told : new ≡ old ++ text
+  pub reported : new ≡ old ++ text
   pub has : heard service (before ++ one_asked c shown call (Said text []))
 
 -- ---- whom to suspect
@@ -52,7 +52,7 @@ pub record SaysTo {V : Type 0} (heard : V → List Asked → Type 0) (service : 
     (line old new : List ℕ) (sends sends_now : List Sending) : Type 0 where
   pub text : List ℕ
   pub more : List Sending
-  pub told : new ≡ old ++ text
+  pub reported : new ≡ old ++ text
   pub sent : sends_now ≡ sends ++ more
   pub can : All (CanBeSent c p) (letters_in more)
   pub has : heard service (before ++ one_asked c (now ∷ []) (Words p line) (Said text (letters_in more)))

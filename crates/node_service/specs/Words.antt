@@ -4,5 +4,5 @@ pub use Rattle.node_hosts.specs.Cores.{Core, Hosted, core_of}
 pub use Rattle.node_hosts.specs.Hosts.{AreHosts, numbers_of}
 pub use Rattle.node_hosts.specs.Places.{IsHosted}
 pub use Rattle.rp_base.specs.PidsLeft.{pids_left}
-pub use Rattle.node_text.specs.Told.{note}
+pub use Rattle.node_text.specs.Reported.{note}
 pub use Rattle.journal_entries.specs.Views.{event}

@@ -35,7 +35,7 @@ module _ {V : Type 0} (heard : V → List Asked → Type 0) (service : V) (h : L
     -- text and letters began with nothing: they are the service's
     module _ (none : old ≡ []) (silent : sends ≡ []) (says : SaysTo heard service h c p now lent old new sends sends_now) where
       text-is : new ≡ says.text
-      text-is = says.told ∙ ap (λ (t : List ℕ). t ++ says.text) none
+      text-is = says.reported ∙ ap (λ (t : List ℕ). t ++ says.text) none
 
       more-is : sends_now ≡ says.more
       more-is = says.sent ∙ ap (λ (t : List Sending). t ++ says.more) silent

@@ -1,2 +1,2 @@
 -- Laws of the crates below, passed on.
-pub use Rattle.node_serving.proofs.Handed.{Rests, has-hosts, if-told, rest-stands, still, stops-after, stops-still, told}
+pub use Rattle.node_serving.proofs.Handed.{Rests, has-hosts, if-reported, rest-stands, still, stops-after, stops-still, reported}

@@ -21,7 +21,7 @@ use Rattle.node_traces.specs.Stops.{LeftBy}
 use Rattle.node_traces.specs.Went.{Went}
 use Rattle.node_serving.specs.Hosts.{IsJournalOf}
 use Rattle.node_serving.specs.Taking.{StopsSo}
-use Rattle.node_serving.proofs.Handed.{Ends, Rests, at-rest, if-told, left-at-first, rest-stands, told}
+use Rattle.node_serving.proofs.Handed.{Ends, Rests, at-rest, if-reported, left-at-first, rest-stands, reported}
 use Rattle.node_snapping.specs.Snapping.{journal_digest, snapper}
 
 -- ---- the digest
@@ -31,7 +31,7 @@ digest-is : (seen : Option (List ℕ)) (may_leave : List ℕ → Type 0) (c : Ca
     → Rests seen may_leave c n → IfSome seen (λ file. digest ≡ sha256 (take n.gate file)) → digest ≡ journal_digest c n
 digest-is None may_leave c n digest some rests is = absurd cc
 digest-is (Some file) may_leave c n digest some rests is =
-    let told : Some file ≡ Some rests.file = rests.told in
+    let reported : Some file ≡ Some rests.file = rests.reported in
     let same : file ≡ rests.file = cc in
     is ∙ ap sha256 (ap (take n.gate) (same ∙ rests.rest.parts)
     ∙ take_at (up_to_gate c.header n.kept) (closed_gate ∷ rests.rest.behind) n.gate (sym rests.place))
@@ -53,7 +53,7 @@ module _ {D : Type 0} (seen : D → Option (List ℕ)) (may_leave : D → List �
       → HasRest (seen new) (may_leave new) head es gate
   rests-as-before head es gate is = record {
     file = is.file;
-    told = reads.reads ∙ is.told;
+    reported = reads.reads ∙ is.reported;
     rest = is.rest;
     place = is.place;
     only = λ image left. is.only image ((reads.images image).0 left);
@@ -61,8 +61,8 @@ module _ {D : Type 0} (seen : D → Option (List ℕ)) (may_leave : D → List �
   }
 
   pub rests-on : (c : Cast) (n : Node) → Rests (seen old) (may_leave old) c n → Rests (seen new) (may_leave new) c n
-  rests-on c n rests = if-told (seen new) (λ some. rests-as-before c.header n.kept n.gate
-      (told (seen old) rests (subst (λ (o : Option (List ℕ)). IsSome o) reads.reads some)))
+  rests-on c n rests = if-reported (seen new) (λ some. rests-as-before c.header n.kept n.gate
+      (reported (seen old) rests (subst (λ (o : Option (List ℕ)). IsSome o) reads.reads some)))
 
   -- and the node's still
   pub journal-on : (c : Cast) (n m : Node) (j k : Journal Writing) → k ≡ j → m.gate ≡ n.gate → m.kept ≡ n.kept
@@ -81,7 +81,7 @@ module _ {D : Type 0} (seen : D → Option (List ℕ)) (may_leave : D → List �
     leaves-as-before : (answers : List Answer) → IsSome (seen old) → LeavesOnly moment left_since old new (LeftBy c snap f n answers [])
     leaves-as-before answers some = weaker moment left_since old new (may_leave old) (LeftBy c snap f n answers [])
         (λ image left. left-at-first c snap f n answers image opened
-        (at-rest (seen old) (may_leave old) c.header n.kept n.gate (told (seen old) rests some) image left)) reads.moments
+        (at-rest (seen old) (may_leave old) c.header n.kept n.gate (reported (seen old) rests some) image left)) reads.moments
 
     pub went-reading : (m : Node) (x y : Outside) → Goes c snap most n x m y → Went seen moment left_since c snap most f n x old m y new
     went-reading m x y goes = record {
@@ -94,7 +94,7 @@ module _ {D : Type 0} (seen : D → Option (List ℕ)) (may_leave : D → List �
         → StopsSo seen may_leave moment left_since c snap most f n x old why y new
     stops-reading x y why ends = record {
       stop = record { last = ends.last; stops = ends.stops; goes = ends.goes; leaves = leaves-as-before ends.goes.answers };
-      stands = if-told (seen old) (λ some. subst (λ (es : List Entry). Stands c.header es (may_leave new)) (sym ends.keeps)
+      stands = if-reported (seen old) (λ some. subst (λ (es : List Entry). Stands c.header es (may_leave new)) (sym ends.keeps)
           (rest-stands (seen new) (may_leave new) c.header n.kept n.gate
-          (rests-as-before c.header n.kept n.gate (told (seen old) rests some))));
+          (rests-as-before c.header n.kept n.gate (reported (seen old) rests some))));
     }

@@ -30,10 +30,10 @@ fn line_of<D: Disk>(
     disk: &mut D,
 ) -> Result<Vec<u8>, Stop>
     requires as_left { HasLength (D.seen disk.old) (len_of journal.old) }
-    ensures line { (n : Node) (told : Bool) → let c = cast_of kit.now (version_of journal.old) in
+    ensures line { (n : Node) (reported : Bool) → let c = cast_of kit.now (version_of journal.old) in
         AreHosts c kit.now n.now None hosts.now → AreCountsOf n counts.now
-        → IsJournalOf c n journal.old (D.seen disk.old) (D.may_leave disk.old) → (IsTrue told → IsSome (D.seen disk.old))
-        → IfOk result (λ line. (digest : List ℕ) × (line.items ≡ snapper told c n digest)) }
+        → IsJournalOf c n journal.old (D.seen disk.old) (D.may_leave disk.old) → (IsTrue reported → IsSome (D.seen disk.old))
+        → IfOk result (λ line. (digest : List ℕ) × (line.items ≡ snapper reported c n digest)) }
     ensures same { journal.new ≡ journal.old }
     ensures as_left { HasLength (D.seen disk.new) (len_of journal.new) }
     ensures disk { OnlyReads D.seen D.may_leave D.moment D.left_since disk.old disk.new }
@@ -60,21 +60,21 @@ pub fn snap<'a, D: Disk, K: Sink>(
 ) -> Result<Running<'a>, Stop>
     requires node { HasNode (D.seen disk.old) (D.may_leave disk.old) running }
 
-    // A node that is asked for a snapshot writes its line, and goes on with its other tasks. `told` says that the disk tells what it holds:
+    // A node that is asked for a snapshot writes its line, and goes on with its other tasks. `reported` says that the disk tells what it holds:
     // then the digest in the line is the journal's.
-    ensures goes_on { (told : Bool) (most : ℕ) (f : Found) (link : LinkSeen) (source : SourceSeen) (h : List Asked) (n : Node)
-        (ts : List Task) → (IsTrue told → IsSome (D.seen disk.old))
+    ensures goes_on { (reported : Bool) (most : ℕ) (f : Found) (link : LinkSeen) (source : SourceSeen) (h : List Asked) (n : Node)
+        (ts : List Task) → (IsTrue reported → IsSome (D.seen disk.old))
         → IsNode (D.seen disk.old) (D.may_leave disk.old) running.entry n (Mark ∷ ts)
         → IfOk result (GoesOnTo D.seen D.may_leave D.moment D.left_since (cast_in running.entry)
-        (snapper told (cast_in running.entry)) most f n (outside link (sink_seen K.written K.faults output.old) source h) disk.old ts
+        (snapper reported (cast_in running.entry)) most f n (outside link (sink_seen K.written K.faults output.old) source h) disk.old ts
         (outside link (sink_seen K.written K.faults output.new) source h) disk.new) }
 
     // Or it stops, after some calls and their answers.
-    ensures stops { (told : Bool) (most : ℕ) (f : Found) (link : LinkSeen) (source : SourceSeen) (h : List Asked) (n : Node)
-        (ts : List Task) → (IsTrue told → IsSome (D.seen disk.old))
+    ensures stops { (reported : Bool) (most : ℕ) (f : Found) (link : LinkSeen) (source : SourceSeen) (h : List Asked) (n : Node)
+        (ts : List Task) → (IsTrue reported → IsSome (D.seen disk.old))
         → IsNode (D.seen disk.old) (D.may_leave disk.old) running.entry n (Mark ∷ ts)
         → IfErr result (λ why. StopsSo D.seen D.may_leave D.moment D.left_since (cast_in running.entry)
-        (snapper told (cast_in running.entry)) most f n (outside link (sink_seen K.written K.faults output.old) source h) disk.old (stop_of why)
+        (snapper reported (cast_in running.entry)) most f n (outside link (sink_seen K.written K.faults output.old) source h) disk.old (stop_of why)
         (outside link (sink_seen K.written K.faults output.new) source h) disk.new) }
     ensures cause { HasDiskCause (D.faults disk.old) (D.faults disk.new) result }
 {

@@ -28,7 +28,7 @@ use Rattle.node_taking.specs.declared.stepping.Away.{Away}
 use Rattle.node_taking.specs.Asking.{left_to_ask}
 use Rattle.node_taking.specs.Turns.{IsAway, IsTurnOf}
 use Rattle.node_taking.specs.Keeping.{grown, IsSameTurn}
-use Rattle.node_taking.proofs.Still.{if-told, told}
+use Rattle.node_taking.proofs.Still.{if-reported, reported}
 
 pub turn-of : (c : Cast) (kit : Kit) (p : ℕ) (now : Process) (e : Event) (away : Away Unsynced) → IsAway c kit p now e away
     → IsTurnOf c now e (staged_of away.turn)
@@ -40,14 +40,14 @@ turn-of c kit p now e away is = record { taken = is.takes.1; staged = is.takes.3
 pub last-so : (c : Cast) (kit : Kit) (n : Node) (p : ℕ) (e : Event) (was : Away Unsynced) (now : Away Synced) (j : Journal Writing)
     (seen : Option (List ℕ)) (may_leave : List ℕ → Type 0) → IsAway c kit p (n.now p) e was → IsSameTurn was now
     → IsJournalOf c (grown c n p e) j seen may_leave → IfSome seen (λ file. IsLast seen may_leave (staged_of now.turn))
-last-so c kit n p e was now j seen may_leave is same journal = if-told seen (λ some. record {
+last-so c kit n p e was now j seen may_leave is same journal = if-reported seen (λ some. record {
   head = c.header;
   before = n.kept;
   entry = entry_for c (n.now p) e;
   gate = (grown c n p e).gate;
   spells = is.takes.4;
   staged_as = same.entry ∙ is.takes.3;
-  rest = told seen journal.rest some;
+  rest = reported seen journal.rest some;
 })
 
 -- what a core's process has signed is in range
@@ -108,7 +108,7 @@ all-back c kit n p e old new h put are there is = put n.now (grown c n p e).now 
 pub asked-so : (p : ℕ) (e : Event) (ts : List Task) (o : PlainOutcome) (r came : Outcome) → came ≡ r → IsOutcome o r
     → left_to_ask p e (Some came) ++ ts ≡ asks p e o.notes ++ ts
 asked-so p e ts o r came same is = ap (λ (w : Outcome). asks p e (map note w.notes.items) ++ ts) same
-    ∙ ap (λ (notes : List Note). asks p e notes ++ ts) (sym is.told)
+    ∙ ap (λ (notes : List Note). asks p e notes ++ ts) (sym is.reported)
 
 -- some process is it
 pub real-so : (c : Cast) (p : ℕ) (now : Process) (h : Hosted AnySigner) → IsHosted c p now h → IsReal used h

@@ -31,7 +31,7 @@ use Rattle.node_taking.specs.Taking.{StopsSo}
 use Rattle.node_taking.specs.Turns.{IsTurnOf}
 use Rattle.node_taking.specs.Keeping.{at, grown, letting, Keeps}
 use Rattle.node_taking.proofs.Machine.{answers, append-failed, appended-so, appends-does, at-so, full-so, steps-does, taken-so}
-use Rattle.node_taking.proofs.Still.{if-told, left-at-first, still, stops-after, stops-still, told}
+use Rattle.node_taking.proofs.Still.{if-reported, left-at-first, still, stops-after, stops-still, reported}
 
 -- ---- sizes
 
@@ -76,7 +76,7 @@ module _ {D : Type 0} (seen : D → Option (List ℕ)) (may_leave : D → List �
   sizes = omega (arith, of.gate, ap length turn.staged, staged-length (entry_for c (n.now p) e))
 
   rest-at : IsSome (seen old) → HasRest (seen old) (may_leave old) c.header n.kept (gate_of journal)
-  rest-at some = subst (λ (g : ℕ). HasRest (seen old) (may_leave old) c.header n.kept g) of.gate (told (seen old) of.rest some)
+  rest-at some = subst (λ (g : ℕ). HasRest (seen old) (may_leave old) c.header n.kept g) of.gate (reported (seen old) of.rest some)
 
   abbrev over : Type 0
   over = 2 ^ 30 < gate_of journal + 1 + length bytes
@@ -118,7 +118,7 @@ module _ {D : Type 0} (seen : D → Option (List ℕ)) (may_leave : D → List �
       record {
         gate = here;
         length = length-is;
-        rest = if-told (seen new) (λ some. subst (λ (g : ℕ). HasRest (seen new) (may_leave new) c.header (grown c n p e).kept g) (sym here)
+        rest = if-reported (seen new) (λ some. subst (λ (g : ℕ). HasRest (seen new) (may_leave new) c.header (grown c n p e).kept g) (sym here)
             (ok c.header n.kept (entry_for c (n.now p) e) (rest-at (tells-before (seen old) (seen new) untold some)) turn.entry turn.staged));
       }
 
@@ -133,7 +133,7 @@ module _ {D : Type 0} (seen : D → Option (List ℕ)) (may_leave : D → List �
       let second : Went seen moment left_since c snap most f (at n (Append p e ∷ ts)) x old (letting c n p e ts) x new = record {
         goes = goes;
         tells = λ some. ap is_some
-            (ok c.header n.kept (entry_for c (n.now p) e) (rest-at some) turn.entry turn.staged).told;
+            (ok c.header n.kept (entry_for c (n.now p) e) (rest-at some) turn.entry turn.staged).reported;
         leaves = appending goes.answers any;
       } in
       record {
@@ -158,7 +158,7 @@ module _ {D : Type 0} (seen : D → Option (List ℕ)) (may_leave : D → List �
       stops-after seen may_leave moment left_since only_now c snap most f (at n (Take p e ∷ ts)) m x x x old old new DiskFailed (steps-on fits)
       (record {
         stop = record { last = last; stops = ends.0; goes = goes; leaves = appending goes.answers any };
-        stands = if-told (seen old) (λ some. subst (λ (es : List Entry). Stands c.header es (may_leave new)) (sym ends.1)
+        stands = if-reported (seen old) (λ some. subst (λ (es : List Entry). Stands c.header es (may_leave new)) (sym ends.1)
             (stands c.header n.kept (entry_for c (n.now p) e) (rest-at some) turn.entry turn.staged));
       })
 

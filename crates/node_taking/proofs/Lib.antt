@@ -3,7 +3,7 @@ pub mod Lines
 pub mod Still
 pub mod Kept
 pub mod Ends
-pub mod Told
+pub mod Reported
 pub mod Answered
 pub mod Stepped
 pub mod Away

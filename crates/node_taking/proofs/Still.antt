@@ -17,13 +17,13 @@ use Rattle.node_taking.specs.Taking.{StopsSo}
 
 -- ---- where the disk tells
 
-pub told : {A P : Type 0} (o : Option A) → IfSome o (λ x. P) → IsSome o → P
-told None if some = absurd (true≢false (sym some))
-told (Some x) if some = if
+pub reported : {A P : Type 0} (o : Option A) → IfSome o (λ x. P) → IsSome o → P
+reported None if some = absurd (true≢false (sym some))
+reported (Some x) if some = if
 
-pub if-told : {A P : Type 0} (o : Option A) → (IsSome o → P) → IfSome o (λ x. P)
-if-told None p = tt
-if-told (Some x) p = p refl
+pub if-reported : {A P : Type 0} (o : Option A) → (IsSome o → P) → IfSome o (λ x. P)
+if-reported None p = tt
+if-reported (Some x) p = p refl
 
 -- ---- a disk that is at rest
 
@@ -63,7 +63,7 @@ module _ {D : Type 0} (seen : D → Option (List ℕ)) (may_leave : D → List �
   nothing-new n d answers opened rests some = record {
     later = omega arith;
     each = λ image left. left-at-first c snap f n answers image opened
-        (at-rest (seen d) (may_leave d) c.header n.kept n.gate (told (seen d) rests some) image (only_now d image left));
+        (at-rest (seen d) (may_leave d) c.header n.kept n.gate (reported (seen d) rests some) image (only_now d image left));
     before = λ t image le left. inl left;
   }
 
@@ -86,8 +86,8 @@ module _ {D : Type 0} (seen : D → Option (List ℕ)) (may_leave : D → List �
       goes = goes;
       leaves = nothing-new n d goes.answers opened rests;
     };
-    stands = if-told (seen d) (λ some. subst (λ (es : List Entry). Stands c.header es (may_leave d)) (sym kept)
-        (rest-stands (seen d) (may_leave d) c.header n.kept n.gate (told (seen d) rests some)));
+    stands = if-reported (seen d) (λ some. subst (λ (es : List Entry). Stands c.header es (may_leave d)) (sym kept)
+        (rest-stands (seen d) (may_leave d) c.header n.kept n.gate (reported (seen d) rests some)));
   }
 
   -- A stop after another part. (That the disk tells is asked of its beginning alone: `first` says that it tells at the stop's beginning too.)
@@ -95,14 +95,14 @@ module _ {D : Type 0} (seen : D → Option (List ℕ)) (may_leave : D → List �
       → Went seen moment left_since c snap most f n x old m y mid → StopsSo seen may_leave moment left_since c snap most f m y mid why z new
       → StopsSo seen may_leave moment left_since c snap most f n x old why z new
   stops-after n m x y z old mid new why first stops =
-      let told-at-first : D → Option (List ℕ) = λ d. seen old in
+      let reported-at-first : D → Option (List ℕ) = λ d. seen old in
       let last : Node = stops.stop.last in
-      let before : Went told-at-first moment left_since c snap most f n x old m y mid
+      let before : Went reported-at-first moment left_since c snap most f n x old m y mid
       = record { goes = first.goes; tells = λ some. some; leaves = first.leaves } in
-      let behind : Went told-at-first moment left_since c snap most f m y mid last z new
+      let behind : Went reported-at-first moment left_since c snap most f m y mid last z new
       = record { goes = stops.stop.goes; tells = λ some. some; leaves = λ some. stops.stop.leaves (first.tells some) } in
-      let whole = went_on told-at-first moment left_since c snap most f n m last x y z old mid new before behind in
+      let whole = went_on reported-at-first moment left_since c snap most f n m last x y z old mid new before behind in
       record {
         stop = record { last = last; stops = stops.stop.stops; goes = whole.goes; leaves = whole.leaves };
-        stands = if-told (seen old) (λ some. told (seen mid) stops.stands (first.tells some));
+        stands = if-reported (seen old) (λ some. reported (seen mid) stops.stands (first.tells some));
       }

@@ -23,7 +23,7 @@ use Rattle.node_taking.specs.Telling.{Tells}
 use Rattle.node_taking.proofs.Machine.{answers, at-so, refused-so, steps-does}
 use Rattle.node_taking.proofs.Still.{still, stops-after, stops-still, Rests}
 use Rattle.node_taking.proofs.Ends.{Ends, forgets, says-on}
-use Rattle.node_taking.proofs.Told.{tells-on}
+use Rattle.node_taking.proofs.Reported.{tells-on}
 
 -- a sound node stays so
 pub sound-on : (c : Cast) (snap : Snapper) (most : ℕ) (n m : Node) (x y : Outside) → Goes c snap most n x m y

@@ -89,7 +89,7 @@ pub(crate) fn tell<D: Disk, L: Link, K: Sink, V: Service>(
     requires kept { IfSome (D.seen disk.now) (λ file. IsLast (D.seen disk.now) (D.may_leave disk.now) (staged_of away.now.turn)) }
     requires sealable { All (IsSealable kit.now me) (letters_in (outcome_of away.now.turn).sends.items) }
     requires room { 61054 ≤ length room.old }
-    ensures told { (version : Version) (o : Outcome) (at : ℕ → Process) (h : List Asked) → IsOutcome o (outcome_of away.now.turn)
+    ensures reported { (version : Version) (o : Outcome) (at : ℕ → Process) (h : List Asked) → IsOutcome o (outcome_of away.now.turn)
         → V.heard service.old h → IsHosted (cast_of kit.now version) me (at me) (process_of away.now.turn)
         → HeardBy V.heard service.new (λ i. TellsTurn result (cast_of kit.now version) at (leaving_of me o)
         (link_seen L.sent L.coming L.faults link.old) (link_seen L.sent L.coming L.faults link.new) h i

@@ -8,7 +8,7 @@ use std::alloc::Global;
 use std::test::Fail;
 
 /// Whether a node whose input is these lines ends with status 7 and says this. It has no kit of a node: neither disk nor link is asked.
-fn is_told(alloc: Global, parts: &[&[&[u8]]], told: &[u8]) -> Result<bool, NoMemory> {
+fn is_reported(alloc: Global, parts: &[&[&[u8]]], reported: &[u8]) -> Result<bool, NoMemory> {
     let mut input = Vec::new(alloc);
     for lines in parts {
         input.extend_from_slice(&joined(alloc, lines)?)?;
@@ -23,7 +23,7 @@ fn is_told(alloc: Global, parts: &[&[&[u8]]], told: &[u8]) -> Result<bool, NoMem
         &mut NoLink::new(),
         &mut NoService,
     );
-    Ok(status == 7 && sink.bytes() == told)
+    Ok(status == 7 && sink.bytes() == reported)
 }
 
 /// The key of process 0 with another last digit.
@@ -31,21 +31,21 @@ const OTHER_KEY: &[u8] =
     b"key 0 0000000500000004810e5b050b40914a3ceaa445223af68f5da715e941ff8904086b62654840ce0d3bc959584817765217da2e660dcb4d40\n";
 
 #[test]
-fn a_kit_that_is_none_is_told_by_its_line(rt: HostRuntime) -> Result<(), Fail> {
+fn a_kit_that_is_none_is_reported_by_its_line(rt: HostRuntime) -> Result<(), Fail> {
     let alloc = rt.alloc();
     let other_key: [&[&[u8]]; 3] = [&TREES[..3], &[OTHER_KEY], &TREES[4..]];
-    assert!(rt; is_told(alloc, &other_key, b"stop 7 keymismatch 9\n")?);
-    assert!(rt; is_told(alloc, &[&TREES[..2], &TREES[3..]], b"stop 7 missing 3\n")?);
-    assert!(rt; is_told(alloc, &[&TREES[..4], &TREES[3..]], b"stop 7 repeated 5\n")?);
+    assert!(rt; is_reported(alloc, &other_key, b"stop 7 keymismatch 9\n")?);
+    assert!(rt; is_reported(alloc, &[&TREES[..2], &TREES[3..]], b"stop 7 missing 3\n")?);
+    assert!(rt; is_reported(alloc, &[&TREES[..4], &TREES[3..]], b"stop 7 repeated 5\n")?);
     Ok(())
 }
 
 #[test]
 fn an_input_without_a_hosted_process_is_no_kit(rt: HostRuntime) -> Result<(), Fail> {
     let alloc = rt.alloc();
-    assert!(rt; is_told(alloc, &[&TREES[..8], &TREES[12..]], b"stop 7 missing 9\n")?);
-    assert!(rt; is_told(alloc, &[&TREES[..1]], b"stop 7 line 2\n")?);
-    assert!(rt; is_told(alloc, &[], b"stop 7 line 1\n")?);
+    assert!(rt; is_reported(alloc, &[&TREES[..8], &TREES[12..]], b"stop 7 missing 9\n")?);
+    assert!(rt; is_reported(alloc, &[&TREES[..1]], b"stop 7 line 2\n")?);
+    assert!(rt; is_reported(alloc, &[], b"stop 7 line 1\n")?);
     Ok(())
 }
 
@@ -81,18 +81,18 @@ fn changed(alloc: Global, journal: &[u8], at: usize) -> Result<Vec<u8>, NoMemory
 
 /// A file that is none, and a journal in which the byte at a place was changed.
 #[test]
-fn a_journal_that_is_another_is_told_by_its_place(rt: HostRuntime) -> Result<(), Fail> {
+fn a_journal_that_is_another_is_reported_by_its_place(rt: HostRuntime) -> Result<(), Fail> {
     let alloc = rt.alloc();
     let mut whole = disk_of(alloc, b"")?;
     let mut link = MemLink::new(alloc, Vec::new(alloc));
     let _ = answered(alloc, SCRIPT, &mut whole, &mut link)?;
-    for (at, told) in [
+    for (at, reported) in [
         (30, b"stop 8 journal 0 0\n".as_slice()),
         (100, b"stop 8 journal 0 60\n"),
     ] {
         let bytes = changed(alloc, whole.bytes(), at)?;
         let mut disk = disk_of(alloc, &bytes)?;
-        assert!(rt; is_answered(alloc, b"", &mut disk, &mut link, &[told], 8)?);
+        assert!(rt; is_answered(alloc, b"", &mut disk, &mut link, &[reported], 8)?);
     }
     Ok(())
 }

@@ -45,8 +45,8 @@ pub fn is_answered(
     ended: u8,
 ) -> Result<bool, NoMemory> {
     let (status, sink) = answered(alloc, script, disk, link)?;
-    let told = joined(alloc, texts)?;
-    Ok(status == ended && sink.bytes() == told.as_slice())
+    let reported = joined(alloc, texts)?;
+    Ok(status == ended && sink.bytes() == reported.as_slice())
 }
 
 /// The same on an empty disk and a link on which these datagrams wait for process 1.
@@ -114,7 +114,7 @@ fn no_more_come_than_were_asked_for(rt: HostRuntime) -> Result<(), Fail> {
 }
 
 #[test]
-fn what_an_event_is_refused_for_is_told(rt: HostRuntime) -> Result<(), Fail> {
+fn what_an_event_is_refused_for_is_reported(rt: HostRuntime) -> Result<(), Fail> {
     let script = b"0 tick\n0 renew\n0 join 3\n0 submit -\n";
     let texts = [HOSTS, b"refused 0 nokey\n"];
     assert!(rt; is_answered_at_first(rt.alloc(), script, &[], &texts, 0)?);

@@ -102,8 +102,8 @@ fn is_served(
     ended: u8,
 ) -> Result<bool, NoMemory> {
     let (status, sink) = served(alloc, script, names)?;
-    let told = joined(alloc, texts)?;
-    Ok(status == ended && sink.bytes() == told.as_slice())
+    let reported = joined(alloc, texts)?;
+    Ok(status == ended && sink.bytes() == reported.as_slice())
 }
 
 /// What it says as it begins is after the lines of the hosts, and what it says of a note is after the note's line.

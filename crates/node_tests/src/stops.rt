@@ -25,11 +25,11 @@ fn is_answered_though(
 /// The link's calls are two binds, and then a send or a receive.
 #[test]
 fn a_failed_call_of_the_link_has_its_line(rt: HostRuntime) -> Result<(), Fail> {
-    for (script, told) in [
+    for (script, reported) in [
         (ONE_TURN, b"fault 1\n".as_slice()),
         (b"0 recv 1\n", b"fault 0\nrecv 0 0\n"),
     ] {
-        assert!(rt; is_answered_though(rt.alloc(), script, 2, &[HOSTS, told], 0)?);
+        assert!(rt; is_answered_though(rt.alloc(), script, 2, &[HOSTS, reported], 0)?);
     }
     Ok(())
 }
@@ -41,7 +41,7 @@ fn a_port_that_is_not_bound_ends_the_node(rt: HostRuntime) -> Result<(), Fail> {
 }
 
 /// What was written: nothing before the opening is over, or the lines of the hosts, and then the stop.
-fn is_told(alloc: Global, written: &[u8]) -> Result<bool, NoMemory> {
+fn is_reported(alloc: Global, written: &[u8]) -> Result<bool, NoMemory> {
     let opened = joined(alloc, &[HOSTS, b"stop 5 disk\n"])?;
     Ok(written == b"stop 5 disk\n".as_slice() || written == opened.as_slice())
 }
@@ -51,7 +51,7 @@ fn is_ended_by(alloc: Global, call: u64) -> Result<bool, NoMemory> {
     let mut disk = MemDisk::new(alloc, Vec::new(alloc), vec_of(alloc, &[call])?)?;
     let mut link = MemLink::new(alloc, Vec::new(alloc));
     let (status, sink) = answered(alloc, ONE_TURN, &mut disk, &mut link)?;
-    Ok(status == 5 && link.sent().is_empty() && is_told(alloc, sink.bytes())?)
+    Ok(status == 5 && link.sent().is_empty() && is_reported(alloc, sink.bytes())?)
 }
 
 #[test]

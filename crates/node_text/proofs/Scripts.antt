@@ -57,5 +57,5 @@ no_bytes fault = Err fault
 pub payload-none : (word : List ℕ) (r : Read) (fault : WordFault) → (IsErrOf r words.NoBytes → (bytes : List ℕ) → Spells word bytes → ⊥)
     → r ≡ Err fault → fault ≡ words.NoBytes → payload_of word ≡ None
 payload-none word r fault none is no_such =
-    let told : r ≡ no_bytes words.NoBytes = is ∙ ap no_bytes no_such in
-    payload-is word ∙ hex_none word (none (subst (λ (x : Read). IsErrOf x words.NoBytes) (sym told) refl))
+    let reported : r ≡ no_bytes words.NoBytes = is ∙ ap no_bytes no_such in
+    payload-is word ∙ hex_none word (none (subst (λ (x : Read). IsErrOf x words.NoBytes) (sym reported) refl))

@@ -1,4 +1,4 @@
 pub mod Words
 pub mod Views
-pub mod Told
+pub mod Reported
 pub mod Outcomes

@@ -68,15 +68,15 @@ fn push_host_line(
 ///
 /// # Errors
 /// [`NoMemory`]; nothing is appended then.
-pub fn push_host(out: &mut Vec<u8>, told: &Account, entries: u64) -> Result<(), NoMemory>
-    ensures pushed { (p : Process) → account_of p ≡ account told.now → OnOk result (out.new.items ≡ out.old.items ++ plain.host_line p entries) }
+pub fn push_host(out: &mut Vec<u8>, reported: &Account, entries: u64) -> Result<(), NoMemory>
+    ensures pushed { (p : Process) → account_of p ≡ account reported.now → OnOk result (out.new.items ≡ out.old.items ++ plain.host_line p entries) }
     ensures unchanged { OnErr result (out.new.items ≡ out.old.items) }
 {
-    let delivered = delivered_in_all(&told.delivered)?;
+    let delivered = delivered_in_all(&reported.delivered)?;
     push_host_line(
         out,
-        told.me,
-        view_number(told.views.as_slice()),
+        reported.me,
+        view_number(reported.views.as_slice()),
         delivered,
         entries,
     )?;

@@ -1,5 +1,5 @@
 pub mod Handed
 pub mod Sent
-pub mod Told
+pub mod Reported
 pub mod Turned
 pub mod Passed

@@ -15,10 +15,10 @@ use Rattle.node_defs.specs.Casts.{Cast, letters_of}
 use Rattle.node_defs.specs.Nodes.{Leaving, Tells, leaving_of}
 use Rattle.node_traces.specs.Outside.{LinkSeen}
 use Rattle.node_traces.specs.Service.{Asked, HeardBy}
-use Rattle.letting_laws.specs.Letting.{told_by, edge, LetOut, HasBegun}
+use Rattle.letting_laws.specs.Letting.{reported_by, edge, LetOut, HasBegun}
 use Rattle.node_turns.specs.Letters.{letters_to, letters_in, sends_of, tells_of, LetsTurnOut, TellsNotes}
 use Rattle.letting_laws.proofs.Joined.{let-both, begun-after, begun-front}
-use Rattle.node_turns.proofs.Told.{told-anywhere}
+use Rattle.node_turns.proofs.Reported.{reported-anywhere}
 
 -- ---- letters
 
@@ -52,7 +52,7 @@ pub leaving-is : (me : ℕ) (o : defs.Outcome) (r : Outcome) → IsOutcome o r
     → sends_of me (letters_in r.sends.items) ++ tells_of me r.notes.items ≡ leaving_of me o
 leaving-is me o r is =
     ap (λ (ls : List Leaving). ls ++ tells_of me r.notes.items) (ap (sends_of me) (sym (letters-are o r is)))
-    ∙ ap (λ (ls : List Leaving). sends_of me (letters_of o) ++ ls) (sym (notes-are me r.notes.items) ∙ ap (map (Tells me)) (sym is.told))
+    ∙ ap (λ (ls : List Leaving). sends_of me (letters_of o) ++ ls) (sym (notes-are me r.notes.items) ∙ ap (map (Tells me)) (sym is.reported))
 
 -- ---- all of it
 
@@ -68,17 +68,17 @@ pub turn-out : (c : Cast) (at : ℕ → Process) (me : ℕ) (o : defs.Outcome) (
     (first late lent old new : List ℕ) (h i : List Asked) → IsOutcome o r → sends ≡ r.sends.items → ns ≡ r.notes.items → first ≡ []
     → lent ≡ late → LetOut c at (sends_of me (letters_in sends)) (edge k [] first h) (edge l [] late h)
     → TellsNotes c at me ns h i old lent new → LetsTurnOut c at (leaving_of me o) k l h i old new
-turn-out c at me o r k l sends ns first late lent old new h i is sends_are notes_are none lent_is sent told =
-    let out = told.out k in
-    let text = flat_map told_by (zip (tells_of me ns) out.answers) in
+turn-out c at me o r k l sends ns first late lent old new h i is sends_are notes_are none lent_is sent reported =
+    let out = reported.out k in
+    let text = flat_map reported_by (zip (tells_of me ns) out.answers) in
     record {
       text = text;
       late = late;
       out = subst (λ ls. LetOut c at ls (edge k [] [] h) (edge l text late i)) (lent-is me o r sends ns is sends_are notes_are)
           (let-both c at (sends_of me (letters_in sends)) (tells_of me ns) (edge k [] [] h) (edge l [] late h) (edge l text late i)
           (subst (λ (t : List ℕ). LetOut c at (sends_of me (letters_in sends)) (edge k [] t h) (edge l [] late h)) none sent)
-          (told-anywhere c at me ns k l old told.told [] late h i out));
-      whole = told.whole ∙ (λ j. out.text j ++ lent_is j) ∙ append_assoc old text late;
+          (reported-anywhere c at me ns k l old reported.reported [] late h i out));
+      whole = reported.whole ∙ (λ j. out.text j ++ lent_is j) ∙ append_assoc old text late;
     }
 
 -- some letters went out
@@ -112,8 +112,8 @@ pub turn-heard : {V : Type 0} (heard : V → List Asked → Type 0) (service : V
     → LetOut c at (sends_of me (letters_in sends)) (edge k [] first h) (edge l [] late h)
     → HeardBy heard service (λ i. TellsNotes c at me ns h i old lent new)
     → HeardBy heard service (λ i. LetsTurnOut c at (leaving_of me o) k l h i old new)
-turn-heard heard service c at me o r k l sends ns first late lent old new h is sends_are notes_are none lent_is sent told = record {
-  history = told.history;
-  has = told.has;
-  holds = turn-out c at me o r k l sends ns first late lent old new h told.history is sends_are notes_are none lent_is sent told.holds;
+turn-heard heard service c at me o r k l sends ns first late lent old new h is sends_are notes_are none lent_is sent reported = record {
+  history = reported.history;
+  has = reported.has;
+  holds = turn-out c at me o r k l sends ns first late lent old new h reported.history is sends_are notes_are none lent_is sent reported.holds;
 }

@@ -35,9 +35,9 @@ link_seen sent coming faults link = record { sent = sent link; coming = coming l
 -- These notes of the process were reported: each has its line and after it what the service said of it, and they follow the text that there
 -- was; the service heard of them, one after the other. After them are these lines.
 pub record TellsNotes (c : Cast) (at : ℕ → Process) (me : ℕ) (notes : List Note) (heard hears : List Asked) (old late new : List ℕ) : Type 0 where
-  pub told : List ℕ
-  pub out : (link : LinkSeen) → LetOut c at (tells_of me notes) (edge link old [] heard) (edge link told [] hears)
-  pub whole : new ≡ told ++ late
+  pub reported : List ℕ
+  pub out : (link : LinkSeen) → LetOut c at (tells_of me notes) (edge link old [] heard) (edge link reported [] hears)
+  pub whole : new ≡ reported ++ late
 
 -- A whole turn was let out, with the notes' lines and what the service said of them, and after them the lines of failed sends; all this
 -- follows the text that there was.

@@ -21,7 +21,7 @@ fn tell_note<V: Service>(
     text: &mut Vec<u8>,
     service: &mut V,
 ) -> Result<(), NoMemory>
-    ensures told { (c : Cast) (at : ℕ → Process) (link : LinkSeen) (h : List Asked) → V.heard service.old h → IsHosted c me (at me) process.now
+    ensures reported { (c : Cast) (at : ℕ → Process) (link : LinkSeen) (h : List Asked) → V.heard service.old h → IsHosted c me (at me) process.now
         → OnOk result (HeardBy V.heard service.new (λ i. LetOut c at (tells_of me (note.now ∷ []))
         (edge link text.old.items [] h) (edge link text.new.items [] i))) }
     ensures begun { (c : Cast) (at : ℕ → Process) (link : LinkSeen) (h : List Asked) → V.heard service.old h → IsHosted c me (at me) process.now
@@ -40,7 +40,7 @@ fn tell_each<V: Service>(
     text: &mut Vec<u8>,
     service: &mut V,
 ) -> Result<(), NoMemory>
-    ensures told { (c : Cast) (at : ℕ → Process) (link : LinkSeen) (h : List Asked) → V.heard service.old h → IsHosted c me (at me) process.now
+    ensures reported { (c : Cast) (at : ℕ → Process) (link : LinkSeen) (h : List Asked) → V.heard service.old h → IsHosted c me (at me) process.now
         → OnOk result (HeardBy V.heard service.new (λ i. LetOut c at (tells_of me notes.now)
         (edge link text.old.items [] h) (edge link text.new.items [] i))) }
     ensures begun { (c : Cast) (at : ℕ → Process) (link : LinkSeen) (h : List Asked) → V.heard service.old h → IsHosted c me (at me) process.now
@@ -62,7 +62,7 @@ fn tell_all<V: Service>(
     text: &mut Vec<u8>,
     service: &mut V,
 ) -> Result<(), NoMemory>
-    ensures told { (c : Cast) (at : ℕ → Process) (h : List Asked) → V.heard service.old h → IsHosted c me (at me) process.now
+    ensures reported { (c : Cast) (at : ℕ → Process) (h : List Asked) → V.heard service.old h → IsHosted c me (at me) process.now
         → OnOk result (HeardBy V.heard service.new (λ i. TellsNotes c at me notes.now h i text.old.items late.now text.new.items)) }
     ensures begun { (c : Cast) (at : ℕ → Process) (link : LinkSeen) (h : List Asked) → V.heard service.old h → IsHosted c me (at me) process.now
         → OnErr result (HeardBy V.heard service.new (λ i. HasBegun c at (tells_of me notes.now) link h link i)) }
@@ -86,7 +86,7 @@ pub(crate) fn tell_notes<V: Service>(
     text: &mut Vec<u8>,
     service: &mut V,
 ) -> Result<(), NoMemory>
-    ensures told { (c : Cast) (at : ℕ → Process) (h : List Asked) → V.heard service.old h → IsHosted c me (at me) process.now
+    ensures reported { (c : Cast) (at : ℕ → Process) (h : List Asked) → V.heard service.old h → IsHosted c me (at me) process.now
         → OnOk result (HeardBy V.heard service.new (λ i. TellsNotes c at me notes.now h i text.old.items late.now text.new.items)) }
     ensures begun { (c : Cast) (at : ℕ → Process) (link : LinkSeen) (h : List Asked) → V.heard service.old h → IsHosted c me (at me) process.now
         → OnErr result (HeardBy V.heard service.new (λ i. HasBegun c at (tells_of me notes.now) link h link i)) }

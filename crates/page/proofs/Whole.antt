@@ -10,9 +10,9 @@ use Rattle.replay_words.specs.Answers.{Reported, Stopped}
 use Rattle.page.specs.Answers.{HasNoReport, IsNoSchedule, IsNoStory, IsReport, Line}
 
 -- an input that tells what it holds, and was read to its end, is what was read
-whole : (told : List ℕ) (now : Option (List ℕ)) (input : List ℕ) → Consumes (Some told) now input → IsAtEnd now → input ≡ told
-whole told None input taken ended = absurd taken
-whole told (Some rest) input taken ended = sym (taken ∙ ap (λ (t : List ℕ). input ++ t) ended ∙ append-nil input)
+whole : (reported : List ℕ) (now : Option (List ℕ)) (input : List ℕ) → Consumes (Some reported) now input → IsAtEnd now → input ≡ reported
+whole reported None input taken ended = absurd taken
+whole reported (Some rest) input taken ended = sym (taken ∙ ap (λ (t : List ℕ). input ++ t) ended ∙ append-nil input)
 
 -- what was said to a sink that held nothing is the line, or a prefix of it
 said : (line bytes : List ℕ) (before now : ℕ) → Says line (Some []) (Some bytes) before now → Line line bytes
@@ -28,7 +28,7 @@ no_story_in : (input bytes : List ℕ) (now : Option (List ℕ)) (faults faults_
 no_story_in input bytes now faults faults_now n = record {
   fault = n.fault;
   none = subst (λ (i : List ℕ). story_of i ≡ Err n.fault) (whole input now n.input n.taken n.ended) n.none;
-  told = said _ bytes faults faults_now n.line;
+  reported = said _ bytes faults faults_now n.line;
 }
 
 pub no_story : (input bytes left sink : List ℕ) (now : Option (List ℕ)) (faults faults_now : ℕ) → left ≡ input → sink ≡ []
@@ -41,7 +41,7 @@ no_schedule_in : (input bytes : List ℕ) (now : Option (List ℕ)) (faults faul
 no_schedule_in input bytes now faults faults_now n = record {
   fault = n.fault;
   none = subst (λ (i : List ℕ). schedule_of i ≡ Err n.fault) (whole input now n.input n.taken n.ended) n.none;
-  told = said _ bytes faults faults_now n.line;
+  reported = said _ bytes faults faults_now n.line;
 }
 
 pub no_schedule : (input bytes left sink : List ℕ) (now : Option (List ℕ)) (faults faults_now : ℕ) → left ≡ input → sink ≡ []
@@ -64,8 +64,8 @@ no_report_in : (input bytes : List ℕ) (now : Option (List ℕ)) (faults faults
     → Stopped (Some input) now (Some []) (Some bytes) faults faults_now → HasNoReport input bytes
 no_report_in input bytes now faults faults_now s = record {
   fault = s.refused.none.fault;
-  none = s.refused.told;
-  told = said _ bytes faults faults_now s.line;
+  none = s.refused.reported;
+  reported = said _ bytes faults faults_now s.line;
 }
 
 pub no_report : (input bytes left sink : List ℕ) (now : Option (List ℕ)) (faults faults_now : ℕ) → left ≡ input → sink ≡ []

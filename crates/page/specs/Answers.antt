@@ -38,13 +38,13 @@ Line line bytes = AppendsPrefix (Some []) (Some bytes) line
 pub record IsNoStory (input bytes : List ℕ) : Type 0 where
   pub fault : StoryFault
   pub none : story_of input ≡ Err fault
-  pub told : Line (line_of (Story fault)) bytes
+  pub reported : Line (line_of (Story fault)) bytes
 
 -- The input is no schedule, and the bytes are the line that says why.
 pub record IsNoSchedule (input bytes : List ℕ) : Type 0 where
   pub fault : Fault
   pub none : schedule_of input ≡ Err fault
-  pub told : Line (line_of (Schedule fault)) bytes
+  pub reported : Line (line_of (Schedule fault)) bytes
 
 -- The input runs, the bytes are its report, long or short, and the headline holds of its family.
 pub record IsReport (short : Bool) (input bytes : List ℕ) : Type 0 where
@@ -56,4 +56,4 @@ pub record IsReport (short : Bool) (input bytes : List ℕ) : Type 0 where
 pub record HasNoReport (input bytes : List ℕ) : Type 0 where
   pub fault : ReplayFault
   pub none : (short : Bool) → report_of short input ≡ Err fault
-  pub told : Line (stop_line fault) bytes
+  pub reported : Line (stop_line fault) bytes

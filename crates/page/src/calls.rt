@@ -13,25 +13,25 @@ use story_cli::story;
 #[derive(Drop)]
 pub struct Ran {
     pub status: u8,
-    pub told: MemSink,
+    pub reported: MemSink,
 }
 
 // What a program wrote that ended with this status.
-fn told_at(status: u8, output: MemSink, errors: MemSink) -> MemSink
+fn reported_at(status: u8, output: MemSink, errors: MemSink) -> MemSink
     ensures made { status ≡ 0 → result ≡ output }
-    ensures told { status ≢ 0 → result ≡ errors }
+    ensures reported { status ≢ 0 → result ≡ errors }
 {
     if status == 0 { output } else { errors }
 }
 
 /// What `story` does at these words and this input.
 pub fn run_story(alloc: Global, words: &[String], input: Vec<u8>) -> Ran
-    ensures made { (c : Command) → story.Asks words.now c → result.status ≡ 0 → MakesOf c input.items (sink_bytes result.told) }
-    ensures silent { result.status ≡ 1 → sink_bytes result.told ≡ [] }
+    ensures made { (c : Command) → story.Asks words.now c → result.status ≡ 0 → MakesOf c input.items (sink_bytes result.reported) }
+    ensures silent { result.status ≡ 1 → sink_bytes result.reported ≡ [] }
     ensures words { result.status ≡ 2 → ¬ story.AskAny words.now }
-    ensures story { result.status ≡ 5 → IsNoStory input.items (sink_bytes result.told) }
+    ensures story { result.status ≡ 5 → IsNoStory input.items (sink_bytes result.reported) }
     ensures assembles { result.status ≡ 5 → story.Asks words.now Command.Assemble }
-    ensures schedule { result.status ≡ 7 → IsNoSchedule input.items (sink_bytes result.told) }
+    ensures schedule { result.status ≡ 7 → IsNoSchedule input.items (sink_bytes result.reported) }
     ensures reads { result.status ≡ 7 → story.AskOfSchedule words.now }
     ensures only { (result.status ≡ 0) ⊎ (result.status ≡ 1) ⊎ (result.status ≡ 2) ⊎ (result.status ≡ 3) ⊎ (result.status ≡ 4)
         ⊎ (result.status ≡ 5) ⊎ (result.status ≡ 7) }
@@ -40,20 +40,20 @@ pub fn run_story(alloc: Global, words: &[String], input: Vec<u8>) -> Ran
     let mut output = MemSink::new(alloc, Vec::new(alloc));
     let mut errors = MemSink::new(alloc, Vec::new(alloc));
     let status = story(alloc, words, &mut input, &mut output, &mut errors);
-    let told = told_at(status, output, errors);
-    Ran { status, told }
+    let reported = reported_at(status, output, errors);
+    Ran { status, reported }
 }
 
 /// What `rampart` does at this input where it is asked for a report, long or short.
 pub fn run_replay(alloc: Global, short: bool, input: Vec<u8>) -> Ran
-    ensures made { result.status ≡ 0 → IsReport short input.items (sink_bytes result.told) }
-    ensures silent { result.status ≡ 1 → sink_bytes result.told ≡ [] }
-    ensures none { result.status ≡ 7 → HasNoReport input.items (sink_bytes result.told) }
+    ensures made { result.status ≡ 0 → IsReport short input.items (sink_bytes result.reported) }
+    ensures silent { result.status ≡ 1 → sink_bytes result.reported ≡ [] }
+    ensures none { result.status ≡ 7 → HasNoReport input.items (sink_bytes result.reported) }
     ensures only { (result.status ≡ 0) ⊎ (result.status ≡ 1) ⊎ (result.status ≡ 3) ⊎ (result.status ≡ 4)
         ⊎ (result.status ≡ 7) }
 {
     let mut input = MemSource::new(input, Vec::new(alloc));
-    let mut told = MemSink::new(alloc, Vec::new(alloc));
-    let status = replay_words::run_replay(alloc, short, &mut input, &mut told);
-    Ran { status, told }
+    let mut reported = MemSink::new(alloc, Vec::new(alloc));
+    let status = replay_words::run_replay(alloc, short, &mut input, &mut reported);
+    Ran { status, reported }
 }

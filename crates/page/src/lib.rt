@@ -67,7 +67,7 @@ pub extern "C" fn page_story(
         return NO_MEMORY;
     };
     let ran = run_story(alloc, &words, input);
-    *count = put(ran.told.bytes(), room);
+    *count = put(ran.reported.bytes(), room);
     ran.status
 }
 
@@ -98,6 +98,6 @@ pub extern "C" fn page_replay(
         return NO_MEMORY;
     };
     let ran = run_replay(alloc, short, input);
-    *count = put(ran.told.bytes(), room);
+    *count = put(ran.reported.bytes(), room);
     ran.status
 }

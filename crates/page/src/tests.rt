@@ -101,7 +101,7 @@ fn replayed(alloc: Global, short: bool, input: &[u8], size: usize) -> Result<Lef
     })
 }
 
-fn told(alloc: Global, command: u8, input: &[u8], size: usize) -> Result<Left, AllocError> {
+fn reported(alloc: Global, command: u8, input: &[u8], size: usize) -> Result<Left, AllocError> {
     let mut room = vec![in alloc; FILL; size]?;
     let mut count = 0;
     let status = page_story(alloc, command, input, &mut room, &mut count);
@@ -129,7 +129,7 @@ fn a_room_of_any_size_holds_the_front_of_a_report(rt: HostRuntime) -> Result<(),
 fn each_command_answers_as_the_program_does(rt: HostRuntime) -> Result<(), Fail> {
     for (command, input, status, answer) in ANSWERS {
         for size in [0, 1, answer.len(), 4096] {
-            let left = told(rt.alloc(), command, input, size)?;
+            let left = reported(rt.alloc(), command, input, size)?;
             assert!(rt; left.holds(status, answer), "{command} at {size}");
         }
     }
@@ -137,8 +137,8 @@ fn each_command_answers_as_the_program_does(rt: HostRuntime) -> Result<(), Fail>
 }
 
 #[test]
-fn what_is_no_story_is_told_at_its_line(rt: HostRuntime) -> Result<(), Fail> {
-    let left = told(rt.alloc(), 0, b"grup 0 plain\n", 4096)?;
+fn what_is_no_story_is_reported_at_its_line(rt: HostRuntime) -> Result<(), Fail> {
+    let left = reported(rt.alloc(), 0, b"grup 0 plain\n", 4096)?;
     assert_eq!(rt; left.status, 5);
     assert!(rt; left.room.starts_with(b"line 1: expected group NAME SCHEME"));
     Ok(())

@@ -19,11 +19,11 @@ Row = ℕ × Happening
 
 -- what happens in the event of this number
 abbrev pub rows_in : ℕ → List Happening → List Row
-rows_in n told = map (λ x. (n, x)) told
+rows_in n reported = map (λ x. (n, x)) reported
 
 -- all that happens, in order
 abbrev pub rows_of : List (List Happening) → List Row
-rows_of told = flat_map (λ e. rows_in e.0 e.1) (enumerate_from 0 told)
+rows_of reported = flat_map (λ e. rows_in e.0 e.1) (enumerate_from 0 reported)
 
 -- the most rows that are drawn
 unfoldable pub most_drawn : ℕ
@@ -148,4 +148,4 @@ picture_of ls members rows stop = drawing ls members (take most_drawn rows) (len
 
 -- the picture of what happens in each event, and of why the run stops, where an event stops it
 abbrev pub picture : Header → List (List Happening) → Option WorldFault → List ℕ
-picture h told stop = picture_of h.processes h.genesis (rows_of told) stop
+picture h reported stop = picture_of h.processes h.genesis (rows_of reported) stop

@@ -5,7 +5,7 @@ ghost use Rattle.replay_defs.specs.Reports.{refusal_word as refusal_word_of};
 ghost use Rattle.happenings.specs.Events.{fault as fault_of};
 ghost use Rattle.schedule_file.specs.Views.{listed};
 ghost use Rattle.happenings.specs.Events.{note as note_of};
-ghost use Rattle.happenings.specs.Told.{handed as handed_of, seen as seen_of, happening as happening_of};
+ghost use Rattle.happenings.specs.Reported.{handed as handed_of, seen as seen_of, happening as happening_of};
 ghost use Rattle.picture_defs.specs.Elements as elements;
 ghost use Rattle.picture_defs.specs.Labels as plain;
 ghost use Rattle.picture_defs.specs.Layout as layouts;

@@ -44,7 +44,7 @@ fn said(claim: &Claim<'_>) -> Option<u16> {
 }
 
 // Who is convicted at this place, and by which two lengths.
-fn told(all: &[Conviction<'_>], place: usize) -> Option<(u8, Option<u16>, Option<u16>)> {
+fn reported(all: &[Conviction<'_>], place: usize) -> Option<(u8, Option<u16>, Option<u16>)> {
     match all.get(place) {
         Some(c) => Some((c.process.get(), said(&c.first), said(&c.second))),
         None => None,
@@ -52,15 +52,15 @@ fn told(all: &[Conviction<'_>], place: usize) -> Option<(u8, Option<u16>, Option
 }
 
 #[test]
-fn the_first_pair_of_each_is_told_by_process_number(rt: HostRuntime) -> Result<(), Fail> {
+fn the_first_pair_of_each_is_reported_by_process_number(rt: HostRuntime) -> Result<(), Fail> {
     let mut firsts = Firsts::new(rt.alloc());
     for (signer, length) in [(3, 1), (1, 3), (1, 4), (3, 2), (1, 5), (2, 7)] {
         see_end(&rt, &mut firsts, pid(signer), length);
     }
     assert_eq!(rt; firsts.convicted().mask(), 0b1010);
     let all = firsts.convictions(rt.alloc())?;
-    assert_eq!(rt; told(all.as_slice(), 0), Some((1, Some(3), Some(4))));
-    assert_eq!(rt; told(all.as_slice(), 1), Some((3, Some(1), Some(2))));
+    assert_eq!(rt; reported(all.as_slice(), 0), Some((1, Some(3), Some(4))));
+    assert_eq!(rt; reported(all.as_slice(), 1), Some((3, Some(1), Some(2))));
     assert_eq!(rt; all.len(), 2);
     Ok(())
 }
@@ -93,6 +93,6 @@ fn a_slot_is_answered_by_the_signers_own_word(rt: HostRuntime) -> Result<(), Fai
     let others = firsts.is_answered(PidSet::from_mask(0b0111));
     assert_eq!(rt; others, true);
     let all = firsts.convictions(rt.alloc())?;
-    assert_eq!(rt; told(all.as_slice(), 0), Some((3, Some(1), Some(2))));
+    assert_eq!(rt; reported(all.as_slice(), 0), Some((3, Some(1), Some(2))));
     Ok(())
 }

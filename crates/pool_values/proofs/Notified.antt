@@ -102,10 +102,10 @@ module _ (h : Pool) (c : Claim) (fresh : claim_on h.heard c.signer (slot_of c.st
   abbrev g : Pool
   g = with_heard h c
 
-  not-told : (o : Option Update) → update_said c.statement ≡ o → (if is_some_and o (is_notified g) then o else None) ≡ None → (u : Update)
+  not-reported : (o : Option Update) → update_said c.statement ≡ o → (if is_some_and o (is_notified g) then o else None) ≡ None → (u : Update)
       → notify u ≡ c.statement → is_notified g u ≡ false
-  not-told None said none u e = let both : Some u ≡ None = ap update_said e ∙ said in absurd cc
-  not-told (Some v) said none u e =
+  not-reported None said none u e = let both : Some u ≡ None = ap update_said e ∙ said in absurd cc
+  not-reported (Some v) said none u e =
       let same : v ≡ u = some-same v u (sym said ∙ sym (ap update_said e)) in
       subst (λ w. is_notified g w ≡ false) same (go (is_notified g v) none)
     where
@@ -115,7 +115,7 @@ module _ (h : Pool) (c : Claim) (fresh : claim_on h.heard c.signer (slot_of c.st
 
   -- none more is notified
   pub none-more : (s : UpdateSet) → AreNotified h s → notified_said g c.statement ≡ None → AreNotified g s
-  none-more s are none = as-before s are (not-told (update_said c.statement) refl none)
+  none-more s are none = as-before s are (not-reported (update_said c.statement) refl none)
 
   which : (o : Option Update) (v : Update) → (if is_some_and o (is_notified g) then o else None) ≡ Some v
       → (o ≡ Some v) × (is_notified g v ≡ true)

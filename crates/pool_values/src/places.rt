@@ -198,7 +198,7 @@ fn update_said(statement: &Statement<'_>) -> Option<Update>
 }
 
 // Whether more than f members notify the update that the statement names.
-fn is_told_enough(quorums: &Quorums, statement: &Statement<'_>) -> bool
+fn is_reported_enough(quorums: &Quorums, statement: &Statement<'_>) -> bool
     ensures { result ≡ is_some_and (defs.update_said (stmt statement.now)) (defs.is_notified quorums.now.pool) }
 {
     match update_said(statement) {
@@ -211,7 +211,7 @@ fn is_told_enough(quorums: &Quorums, statement: &Statement<'_>) -> bool
 fn notified_by(quorums: &Quorums, statement: &Statement<'_>) -> Option<Update>
     ensures { option_map update_of result ≡ notified_said quorums.now.pool (stmt statement.now) }
 {
-    if is_told_enough(quorums, statement) {
+    if is_reported_enough(quorums, statement) {
         update_said(statement)
     } else {
         None

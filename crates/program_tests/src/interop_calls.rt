@@ -151,8 +151,8 @@ fn a_kit_is_spelled_again(rt: HostRuntime) -> Result<(), Fail> {
 
 // Faults are those that the other program gives.
 #[test]
-fn faults_of_kits_are_told(rt: HostRuntime) -> Result<(), Fail> {
-    for (text, told) in [
+fn faults_of_kits_are_reported(rt: HostRuntime) -> Result<(), Fail> {
+    for (text, reported) in [
         (b"\n".as_slice(), b"line 1\n".as_slice()),
         (b"rampart kit 1\nscheme plain", b"line 2\n"),
         (b"rampart kit 1\nscheme plain\n", b"missing 3\n"),
@@ -163,7 +163,7 @@ fn faults_of_kits_are_told(rt: HostRuntime) -> Result<(), Fail> {
         ),
     ] {
         let line = kit_line(rt.alloc(), text)?;
-        assert!(rt; is_answered(rt.alloc(), &line, NONE, told, 0)?);
+        assert!(rt; is_answered(rt.alloc(), &line, NONE, reported, 0)?);
     }
     Ok(())
 }

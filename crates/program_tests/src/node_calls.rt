@@ -128,18 +128,18 @@ fn answered<D: Disk, L: Link>(
 }
 
 /// Whether a node of these processes, on its kit and this script, ends well and says this.
-fn is_told(
+fn is_reported(
     alloc: Global,
     hosts: &[&str],
     script: &str,
     disk: &mut MemDisk,
     link: &mut MemLink,
-    told: &[u8],
+    reported: &[u8],
 ) -> Result<bool, Fail> {
     let words = asked(alloc, &["node", FILE])?;
     let input = input(alloc, PORTS, hosts, script)?;
     let (status, sink) = answered(&words, alloc, input, disk, link);
-    Ok(status == 0 && sink.bytes() == told)
+    Ok(status == 0 && sink.bytes() == reported)
 }
 
 /// Each of two nodes has its own kit and journal, and none finds a process that runs: what they know is what the journals hold.
@@ -149,11 +149,11 @@ fn two_nodes_deliver_though_they_are_stopped_after_each_line(rt: HostRuntime) ->
     let mut link = MemLink::new(alloc, Vec::new(alloc));
     let mut first = MemDisk::new(alloc, Vec::new(alloc), Vec::new(alloc))?;
     let mut second = MemDisk::new(alloc, Vec::new(alloc), Vec::new(alloc))?;
-    for (is_first, script, told) in LINES {
+    for (is_first, script, reported) in LINES {
         let is_said = if is_first {
-            is_told(alloc, &[HOST_0], script, &mut first, &mut link, told)?
+            is_reported(alloc, &[HOST_0], script, &mut first, &mut link, reported)?
         } else {
-            is_told(alloc, &[HOST_1], script, &mut second, &mut link, told)?
+            is_reported(alloc, &[HOST_1], script, &mut second, &mut link, reported)?
         };
         assert!(rt; is_said, "{script}");
     }
@@ -165,19 +165,19 @@ fn is_refused(
     alloc: Global,
     words: &[&str],
     hosts: &[&str],
-    told: &[u8],
+    reported: &[u8],
     ended: u8,
 ) -> Result<bool, Fail> {
     let words = asked(alloc, words)?;
     let input = input(alloc, PORTS, hosts, "")?;
     let (status, sink) = answered(&words, alloc, input, &mut NoDisk::new(), &mut NoLink::new());
-    Ok(status == ended && sink.bytes() == told)
+    Ok(status == ended && sink.bytes() == reported)
 }
 
 /// No kit, one of another's processes alone, and no word or two for the file: neither disk nor link is asked.
 #[test]
 fn no_node_is_opened_without_a_kit_or_a_file(rt: HostRuntime) -> Result<(), Fail> {
-    for (words, hosts, told, ended) in [
+    for (words, hosts, reported, ended) in [
         (
             ["node", FILE].as_slice(),
             [].as_slice(),
@@ -193,7 +193,7 @@ fn no_node_is_opened_without_a_kit_or_a_file(rt: HostRuntime) -> Result<(), Fail
         (&["node"], &[HOST_0], b"stop 2 words\n", 2),
         (&["node", FILE, FILE], &[HOST_0], b"stop 2 words\n", 2),
     ] {
-        assert!(rt; is_refused(rt.alloc(), words, hosts, told, ended)?);
+        assert!(rt; is_refused(rt.alloc(), words, hosts, reported, ended)?);
     }
     Ok(())
 }
@@ -253,12 +253,12 @@ fn delivers_and_knows(
     ports: [u16; 2],
     script: &str,
 ) -> Result<Option<bool>, Fail> {
-    let (status, told) = on_system(rt, ports, script)?;
+    let (status, reported) = on_system(rt, ports, script)?;
     if status == 6 {
         return Ok(None);
     }
     let (again, known) = on_system(rt, ports, "")?;
-    let said = [told.as_slice(), known.as_slice()];
+    let said = [reported.as_slice(), known.as_slice()];
     Ok(Some([status, again] == [0, 0] && said == DELIVERED))
 }
 

@@ -152,7 +152,7 @@ fn a_schedule_gives_its_report(rt: HostRuntime) -> Result<(), Fail> {
 }
 
 #[test]
-fn an_input_without_a_report_is_told_why(rt: HostRuntime) -> Result<(), Fail> {
+fn an_input_without_a_report_is_reported_why(rt: HostRuntime) -> Result<(), Fail> {
     let alloc = rt.alloc();
     for (events, line) in STOPPED {
         let input = after_header(alloc, events)?;

@@ -32,16 +32,16 @@ start_in s line = start_by s (words_of line)
 -- ---- the answer
 
 -- the line of a view, and the answer to the lines from this number on after it
-abbrev pub told_from : Setting → ℕ → View → List (List ℕ) → Answer
-told_from s n v parts = behind (view_line v) (chain_at s n v parts)
+abbrev pub reported_from : Setting → ℕ → View → List (List ℕ) → Answer
+reported_from s n v parts = behind (view_line v) (chain_at s n v parts)
 
 -- the lines after a kit, from this number on: from the view of the first line, or from the kit's first view where it is no such line
 unfoldable pub started_at : Setting → ℕ → List (List ℕ) → Answer
-started_at s n [] = told_from s n s.genesis []
-started_at s n (rest ∷ []) = told_from s n s.genesis (rest ∷ [])
+started_at s n [] = reported_from s n s.genesis []
+started_at s n (rest ∷ []) = reported_from s n s.genesis (rest ∷ [])
 started_at s n (line ∷ next ∷ more) = elim (start_in s line) [
-  | None ↦ told_from s n s.genesis (line ∷ next ∷ more)
-  | Some v ↦ told_from s (n + 1) v (next ∷ more)
+  | None ↦ reported_from s n s.genesis (line ∷ next ∷ more)
+  | Some v ↦ reported_from s (n + 1) v (next ∷ more)
 ]
 
 -- the lines after a kit

@@ -16,7 +16,7 @@ use Rattle.pool_laws.proofs.Members.{Mem}
 use Rattle.pool_laws.proofs.Places.{get-drop}
 use Rattle.chain_text_defs.specs.Chains.{Answer, behind, chain_at, setting_of, view_line}
 use Rattle.proof_defs.specs.Lines.{proof_line}
-use Rattle.proof_defs.specs.Starts.{start_in, started_at, started_chain_of, started_from, told_from}
+use Rattle.proof_defs.specs.Starts.{start_in, started_at, started_chain_of, started_from, reported_from}
 use Rattle.proof_defs.specs.Laws.{Began, HasFrame}
 use Rattle.proof_laws.specs.Starts.{HasViewLine, LinesGoOn, without_feed}
 use Rattle.proof_laws.proofs.Frames.{frame_shows}
@@ -58,22 +58,22 @@ module _ (s : Setting) (v : View) (is : HasViewLine s v) where
       (decimal_has_no line_feed v.number (omega arith) (let few = is.number in omega (arith, few))) (members-none v.members is.members))
 
   -- the answer to it, and to lines of frames after it
-  started : (n : ℕ) (parts : List (List ℕ)) → started_at s n (without_feed v ∷ (parts ++ [] ∷ [])) ≡ told_from s (n + 1) v (parts ++ [] ∷ [])
+  started : (n : ℕ) (parts : List (List ℕ)) → started_at s n (without_feed v ∷ (parts ++ [] ∷ [])) ≡ reported_from s (n + 1) v (parts ++ [] ∷ [])
   unfolding started_at
   started n [] = by-start n [] []
     where
       by-start : (n : ℕ) (next : List ℕ) (more : List (List ℕ))
           → (let a : Answer = elim (start_in s (without_feed v)) [
-            | None ↦ told_from s n s.genesis (without_feed v ∷ next ∷ more)
-            | Some u ↦ told_from s (n + 1) u (next ∷ more)
-          ] in a) ≡ told_from s (n + 1) v (next ∷ more)
+            | None ↦ reported_from s n s.genesis (without_feed v ∷ next ∷ more)
+            | Some u ↦ reported_from s (n + 1) u (next ∷ more)
+          ] in a) ≡ reported_from s (n + 1) v (next ∷ more)
       by-start n next more = ap (λ (o : Option View). let a : Answer = elim o [
-        | None ↦ told_from s n s.genesis (without_feed v ∷ next ∷ more)
-        | Some u ↦ told_from s (n + 1) u (next ∷ more)
+        | None ↦ reported_from s n s.genesis (without_feed v ∷ next ∷ more)
+        | Some u ↦ reported_from s (n + 1) u (next ∷ more)
       ] in a) is.read
   started n (part ∷ parts) = ap (λ (o : Option View). let a : Answer = elim o [
-    | None ↦ told_from s n s.genesis (without_feed v ∷ part ∷ (parts ++ [] ∷ []))
-    | Some u ↦ told_from s (n + 1) u (part ∷ (parts ++ [] ∷ []))
+    | None ↦ reported_from s n s.genesis (without_feed v ∷ part ∷ (parts ++ [] ∷ []))
+    | Some u ↦ reported_from s (n + 1) u (part ∷ (parts ++ [] ∷ []))
   ] in a) is.read
 
   lines-started : (n : ℕ) (frames : List (List ℕ)) (ws : List View) → ((frame : List ℕ) → Mem frame frames → IsCarried frame) → Show s v frames ws

@@ -11,32 +11,32 @@ use Rattle.group_defs.specs.Laws.{IsViewOfAll}
 use Rattle.chain_defs.specs.Advance.{views_shown}
 use Rattle.chain_text_defs.specs.Chains.{Answer, kit_words, setting_of, stopped}
 use Rattle.chain_laws.specs.Chains.{IsInstalled}
-use Rattle.chain_laws.specs.Told.{proofs_in}
+use Rattle.chain_laws.specs.Reported.{proofs_in}
 use Rattle.chain_laws.proofs.Agreeing.{chain_is_installed, chain_is_of_all}
-use Rattle.chain_laws.proofs.Told.{Tells, one-more, tells-at}
-use Rattle.proof_defs.specs.Starts.{start_in, started_at, started_chain_of, started_from, told_from}
+use Rattle.chain_laws.proofs.Reported.{Tells, one-more, tells-at}
+use Rattle.proof_defs.specs.Starts.{start_in, started_at, started_chain_of, started_from, reported_from}
 use Rattle.proof_laws.specs.Starts.{IsQuotedFrom, Start, StartTellsViews, start_behind, start_of, views_from}
 
 module _ (s : Setting) where
-  told-so : (n : ℕ) (v : View) (parts : List (List ℕ)) → Tells (told_from s n v parts) (v ∷ views_shown s v (proofs_in parts))
-  told-so n v parts = one-more v _ (views_shown s v (proofs_in parts)) (tells-at s n v parts)
+  reported-so : (n : ℕ) (v : View) (parts : List (List ℕ)) → Tells (reported_from s n v parts) (v ∷ views_shown s v (proofs_in parts))
+  reported-so n v parts = one-more v _ (views_shown s v (proofs_in parts)) (tells-at s n v parts)
 
   started-tells : (n : ℕ) (parts : List (List ℕ)) → Tells (started_at s n parts) (views_from s (start_of s parts))
   unfolding started_at start_of
-  started-tells n [] = told-so n s.genesis []
-  started-tells n (rest ∷ []) = told-so n s.genesis (rest ∷ [])
+  started-tells n [] = reported-so n s.genesis []
+  started-tells n (rest ∷ []) = reported-so n s.genesis (rest ∷ [])
   started-tells n (line ∷ next ∷ more) = of (start_in s line)
     where
       of : (o : Option View)
           → let a : Answer = elim o [
-            | None ↦ told_from s n s.genesis (line ∷ next ∷ more)
-            | Some v ↦ told_from s (n + 1) v (next ∷ more)
+            | None ↦ reported_from s n s.genesis (line ∷ next ∷ more)
+            | Some v ↦ reported_from s (n + 1) v (next ∷ more)
           ] in let b : Start = elim o [
             | None ↦ record { view = s.genesis; lines = line ∷ next ∷ more }
             | Some v ↦ record { view = v; lines = next ∷ more }
           ] in Tells a (views_from s b)
-      of None = told-so n s.genesis (line ∷ next ∷ more)
-      of (Some v) = told-so (n + 1) v (next ∷ more)
+      of None = reported-so n s.genesis (line ∷ next ∷ more)
+      of (Some v) = reported-so (n + 1) v (next ∷ more)
 
 -- behind the kit
 pub opened : (bytes : List ℕ) (front : Front) → front_of bytes ≡ Ok front → started_chain_of bytes ≡ started_from front
@@ -62,11 +62,11 @@ module _ (front : Front) (f : Family) (quoted : IsQuotedFrom front f) where
 
 pub start_tells_views : StartTellsViews
 start_tells_views bytes front e =
-    let told = started-tells (setting_of front.kit) front.line (parts_of front.rest) in
+    let reported = started-tells (setting_of front.kit) front.line (parts_of front.rest) in
     record {
-      end = told.end;
-      ends = told.ends;
-      lines = opened bytes front e ∙ told.is;
+      end = reported.end;
+      ends = reported.ends;
+      lines = opened bytes front e ∙ reported.is;
       of_all = λ f quoted first. of-all front f quoted first;
       installed = λ f i a b quoted first at next. installed front f quoted first i a b at next;
     }

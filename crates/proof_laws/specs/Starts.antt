@@ -12,7 +12,7 @@ use Rattle.group_defs.specs.Laws.{IsViewOfAll, Premises}
 use Rattle.chain_defs.specs.Advance.{views_shown}
 use Rattle.chain_text_defs.specs.Chains.{Answer, behind, setting_of, view_line}
 use Rattle.chain_laws.specs.Chains.{IsInstalled, IsOwnWord}
-use Rattle.chain_laws.specs.Told.{IsEnd, proofs_in}
+use Rattle.chain_laws.specs.Reported.{IsEnd, proofs_in}
 use Rattle.proof_defs.specs.Lines.{proof_line}
 use Rattle.proof_defs.specs.Laws.{Began, HasFrame}
 use Rattle.proof_defs.specs.Starts.{start_in, started_chain_of}

@@ -43,30 +43,30 @@ next-of xs i x at = take-add i 1 xs ∙ ap (λ ys. take i xs ++ ys) (take-one xs
 
 module _ {A : Type 0} (f : A → List ℕ) (P : A → Type 0) (xs : List A) where
   -- the text of so many of them, of each of which P holds
-  pub record Told (i : ℕ) (before text : List ℕ) : Type 0 where
+  pub record Reported (i : ℕ) (before text : List ℕ) : Type 0 where
     pub text_is : text ≡ before ++ flat_map f (take i xs)
     pub each : (x : A) → Mem x (take i xs) → P x
 
-  pub none-told : (before : List ℕ) → Told 0 before before
-  none-told before = record { text_is = sym (append-nil before); each = λ x none. absurd none }
+  pub none-reported : (before : List ℕ) → Reported 0 before before
+  none-reported before = record { text_is = sym (append-nil before); each = λ x none. absurd none }
 
-  pub one-told : (i : ℕ) (before text more : List ℕ) (x : A) → Told i before text → slice_get xs i ≡ Some x → (more ≡ text ++ f x) × P x
-      → Told (i + 1) before more
-  one-told i before text more x told at is = record {
-    text_is = is.0 ∙ ap (λ t. t ++ f x) told.text_is ∙ append_assoc before (flat_map f (take i xs)) (f x)
+  pub one-reported : (i : ℕ) (before text more : List ℕ) (x : A) → Reported i before text → slice_get xs i ≡ Some x → (more ≡ text ++ f x) × P x
+      → Reported (i + 1) before more
+  one-reported i before text more x reported at is = record {
+    text_is = is.0 ∙ ap (λ t. t ++ f x) reported.text_is ∙ append_assoc before (flat_map f (take i xs)) (f x)
         ∙ ap (λ t. before ++ t) (ap (λ t. flat_map f (take i xs) ++ t) (sym (append-nil (f x))) ∙ sym (flat_map-append f (take i xs) (x ∷ []))
         ∙ ap (flat_map f) (sym (next-of xs i x at)));
     each = λ y m. elim (append-mem (take i xs) (x ∷ []) y (subst (λ (ys : List A). Mem y ys) (next-of xs i x at) m)) [
-      | inl earlier ↦ told.each y earlier
+      | inl earlier ↦ reported.each y earlier
       | inr (inl same) ↦ subst P same is.1
       | inr (inr none) ↦ absurd none
     ];
   }
 
-  pub all-told : (i : ℕ) (before text : List ℕ) → Told i before text → length xs ≤ i → (text ≡ before ++ flat_map f xs) × All P xs
-  all-told i before text told past =
+  pub all-reported : (i : ℕ) (before text : List ℕ) → Reported i before text → length xs ≤ i → (text ≡ before ++ flat_map f xs) × All P xs
+  all-reported i before text reported past =
       let whole : take i xs ≡ xs = take_all i xs past in
-      (told.text_is ∙ ap (λ ys. before ++ flat_map f ys) whole, mem-All P xs (λ x m. told.each x (subst (λ (ys : List A). Mem x ys) (sym whole) m)))
+      (reported.text_is ∙ ap (λ ys. before ++ flat_map f ys) whole, mem-All P xs (λ x m. reported.each x (subst (λ (ys : List A). Mem x ys) (sym whole) m)))
 
 -- ---- processes
 

@@ -1,4 +1,4 @@
 mod Orders
 mod ReadFaults
 mod Services
-mod Told
+mod Reported

@@ -1,3 +1,3 @@
 pub mod Top
 pub mod Hosts
-pub mod Told
+pub mod Reported

@@ -2,7 +2,7 @@ ghost use Rattle.std.specs.Prelude.{◌≡◌, ◌≢◌, ◌↔◌, ◌⊎◌, 
 ghost use Rattle.std.specs.Io.KnownBytes.{Appends, Consumes, Keeps};
 ghost use Rattle.rp_base.specs.Causes.{Rose};
 ghost use Rattle.replay_defs.specs.Reports.{report_of};
-ghost use Rattle.chain_laws.specs.Told.{AnswerTells};
+ghost use Rattle.chain_laws.specs.Reported.{AnswerTells};
 ghost use Rattle.chain_words.specs.Running as chains;
 ghost use Rattle.chain_words.specs.Running.{Answered, HasStatus, ShownAndSays, ShownInPart, SomeShown};
 ghost use Rattle.audit_words.specs.Running as audits;
@@ -20,7 +20,7 @@ ghost use Rattle.node_loop.specs.Inputs.{TellInOrder, most_line_bytes};
 ghost use Rattle.rp_base.specs.Streams.{AppendsPrefix, Says};
 ghost use Rattle.replay_words.specs.Answers.{Reported, ReportedInPart, Stopped, kit_of_order, schedule_of_number};
 ghost use Rattle.rampart_cli.specs.Hosts.{HasEndedWith};
-ghost use Rattle.rampart_cli.specs.Told.{AskTells};
+ghost use Rattle.rampart_cli.specs.Reported.{AskTells};
 ghost use Rattle.rampart_cli.specs.Top.{Asks, AskAny, AskAudit, AskHost};
 
 use crate::asking::run_ask;
@@ -183,11 +183,11 @@ pub fn rampart<S: Source, K: Sink, D: Disk, L: Link>(
     // replay: an input with a report gives 0, and other input 7, where memory is left and nothing failed. No status but 0, 1, 3, 4 and 7
     // comes.
     ensures completes { (short : Bool) → Asks words.now (Replay short)
-        → IsSomeAnd (S.left input.old) (λ told. IsOk (report_of short told))
+        → IsSomeAnd (S.left input.old) (λ reported. IsOk (report_of short reported))
         → ¬ Rose (S.faults input.old) (S.faults input.new) → ¬ Rose (K.faults output.old) (K.faults output.new)
         → (result ≡ 0) ⊎ (result ≡ 1) }
     ensures refuses { (short : Bool) → Asks words.now (Replay short)
-        → IsSomeAnd (S.left input.old) (λ told. IsErr (report_of short told))
+        → IsSomeAnd (S.left input.old) (λ reported. IsErr (report_of short reported))
         → ¬ Rose (S.faults input.old) (S.faults input.new)
         → (result ≡ 7) ⊎ (result ≡ 1) }
     ensures only_replayed { (short : Bool) → Asks words.now (Replay short)

@@ -57,8 +57,8 @@ abbrev pub is_bounded : Pool → ℕ → ℕ → Bool
 is_bounded h r r0 = is_quorum h (count_by (λ m. is_some_and (last_of h r m) (is_at_most r0)) h.view.members)
 
 -- some member's Last reports the value's Ready of the lower rank
-abbrev pub is_told : Pool → ℕ → ℕ → Value → Bool
-is_told h r r0 v = list_any (λ m. is_some_and (last_of h r m) (same_ready (Some (r0, v)))) h.view.members
+abbrev pub some_reports : Pool → ℕ → ℕ → Value → Bool
+some_reports h r r0 v = list_any (λ m. is_some_and (last_of h r m) (same_ready (Some (r0, v)))) h.view.members
 
 module _ (h : Pool) where
   -- the Lasts counted by members
@@ -75,7 +75,7 @@ module _ (h : Pool) where
 
   -- the four parts of the second way
   pub second-way-is : (r r0 : ℕ) (v : Value)
-      → (nat_lt r0 r && is_bounded h r r0 && is_told h r r0 v && is_certified h (Ack h.view.number r0 v)) ≡ is_second_way h r r0 v
+      → (nat_lt r0 r && is_bounded h r r0 && some_reports h r r0 v && is_certified h (Ack h.view.number r0 v)) ≡ is_second_way h r r0 v
   second-way-is r r0 v = sym (λ i. nat_lt r0 r && is_quorum h ((lasts_by_member h r (is_at_most r0)).0 i)
       && (lasts_by_member h r (same_ready (Some (r0, v)))).1 i && is_certified h (Ack h.view.number r0 v))
 

@@ -19,7 +19,7 @@ abbrev pub lie_of : List ℕ → Statement → Liar → Signed
 lie_of group st x = signed (spelling st) x.process (signature x.signer (used x.signer) (body group x.process st))
 
 -- the corrupt process had a signature left, and made it: `bytes` is the Bundle of its claim on the statement
-pub record Told (group : List ℕ) (st : Statement) (old new : Liar) (bytes : List ℕ) : Type 0 where
+pub record Reported (group : List ℕ) (st : Statement) (old new : Liar) (bytes : List ℕ) : Type 0 where
   pub able : used old.signer < total old.signer
   pub used : used new.signer ≡ used old.signer + 1
   pub frame : bytes ≡ bundle_of (lie_of group st old)

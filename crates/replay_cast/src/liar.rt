@@ -25,7 +25,7 @@ impl Liar {
     ghost use Rattle.message_defs.specs.Spelling.{IsStatement};
     ghost use Rattle.sig_scheme.specs.Signers.{total, signature};
     ghost use Rattle.stmt_codec.specs.Views.{stmt};
-    ghost use Rattle.replay_cast.specs.Liars.{Told, Silent, lie_of};
+    ghost use Rattle.replay_cast.specs.Liars.{Reported, Silent, lie_of};
 
     /// The process signs a statement, and the answer is the Bundle of this one claim. None comes exactly where its key is spent, and
     /// changes nothing.
@@ -36,7 +36,7 @@ impl Liar {
         statement: &Statement<'_>,
     ) -> Result<Option<Payload>, NoMemory>
         requires { IsStatement (stmt statement.now) }
-        ensures told { IfOk result (λ lie. IfSome lie (Told group.now (stmt statement.now) self.old self.new)) }
+        ensures reported { IfOk result (λ lie. IfSome lie (Reported group.now (stmt statement.now) self.old self.new)) }
         ensures silent { IfOk result (λ lie. IfNone lie (Silent self.old self.new)) }
         ensures process { self.new.process ≡ self.old.process }
         ensures total { total self.new.signer ≡ total self.old.signer }

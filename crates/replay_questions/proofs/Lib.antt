@@ -1,5 +1,5 @@
 pub mod Wants
-pub mod ToldWords
+pub mod ReportedWords
 pub mod Tested
 pub mod OwnWords
 pub mod Whole

@@ -8,4 +8,4 @@ mod honesty;
 mod words;
 
 pub use honesty::honest;
-pub use replay_world::{Player, Refused, Told, World, WorldFault};
+pub use replay_world::{Player, Refused, Reported, World, WorldFault};

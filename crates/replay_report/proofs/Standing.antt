@@ -21,8 +21,8 @@ core_own s p core is = is.keyless.state.lawful.own
 pub stands : (s : Setting) (p : Process) (core : Core AnySigner) (t : Standing) → IsCore used s p core
     → account_of p ≡ account t.account.now → phase_of p ≡ word t.phase → length p.signed ≡ t.signed
     → liars_of p ≡ t.liars → halted_at p ≡ t.halted → StandsAs t p
-stands s p core t is told phase signed liars halted = record {
-  account = told;
+stands s p core t is reported phase signed liars halted = record {
+  account = reported;
   phase = phase;
   signed = signed;
   own = core_own s p core is;

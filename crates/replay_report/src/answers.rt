@@ -20,11 +20,11 @@ pub(crate) fn answers_of(alloc: Global, world: &World) -> Result<Answers, NoMemo
 {
     let players = world.players();
     let accounts = accounts_of(alloc, players)?;
-    let told = accounts.as_slice();
+    let reported = accounts.as_slice();
     Ok(Answers {
         honest: honest(world),
-        bounded: bounded(told, numbers_of(players)),
-        agree: agree(told),
-        sound: sound(told, world.roster().processes()),
+        bounded: bounded(reported, numbers_of(players)),
+        agree: agree(reported),
+        sound: sound(reported, world.roster().processes()),
     })
 }

@@ -5,5 +5,5 @@ mod answers;
 mod reporting;
 mod standings;
 
-pub use replay_questions::{Told, World, WorldFault};
+pub use replay_questions::{Reported, World, WorldFault};
 pub use reporting::report;

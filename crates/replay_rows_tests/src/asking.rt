@@ -18,8 +18,8 @@ pub(crate) fn is_report(
     short: bool,
     wanted: &[u8],
 ) -> Result<bool, Fail> {
-    let told = report(alloc, schedule, short)?;
-    Ok(told.as_slice() == wanted)
+    let reported = report(alloc, schedule, short)?;
+    Ok(reported.as_slice() == wanted)
 }
 
 /// Why bytes have no report.

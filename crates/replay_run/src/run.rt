@@ -5,7 +5,7 @@ ghost use Rattle.schedule_file.specs.Views as views;
 ghost use Rattle.replay_run.specs.Running.{HasRun, CanCount, Begins, IsStoppedBy, RunsOn};
 
 use crate::fault::{ReplayFault, Stop};
-use replay_report::{Told, World, WorldFault};
+use replay_report::{Reported, World, WorldFault};
 use rp_base::NoMemory;
 use schedule_file::ScheduleEvent;
 use schedule_pieces::ScheduleReader;
@@ -53,7 +53,7 @@ pub(crate) fn run_event(alloc: Global, run: Run, event: &ScheduleEvent) -> Resul
     ensures { IfOk result (RunsOn (views.event event.now) run) }
 {
     match run {
-        Run::Runs(mut world) => match world.event(alloc, event, &mut Told::Unasked) {
+        Run::Runs(mut world) => match world.event(alloc, event, &mut Reported::Unasked) {
             Ok(()) => Ok(Run::Runs(world)),
             Err(fault) => stopped(fault),
         },

@@ -24,21 +24,21 @@ unfolding report_of
 of-read short bytes r read = ap (report_if_read short) read
 
 -- bytes with a report run
-pub record Tells (short : Bool) (bytes told : List ℕ) : Type 0 where
+pub record Tells (short : Bool) (bytes reported : List ℕ) : Type 0 where
   pub run : Runs bytes
-  pub told_is : told ≡ report_of_run short run
+  pub reported_is : reported ≡ report_of_run short run
 
-pub tells : (short : Bool) (bytes told : List ℕ) → IsBytes bytes → report_of short bytes ≡ Ok told → Tells short bytes told
-tells short bytes told fit e = of_reading (schedule_of bytes) refl (sym (of-read short bytes (schedule_of bytes) refl) ∙ e)
+pub tells : (short : Bool) (bytes reported : List ℕ) → IsBytes bytes → report_of short bytes ≡ Ok reported → Tells short bytes reported
+tells short bytes reported fit e = of_reading (schedule_of bytes) refl (sym (of-read short bytes (schedule_of bytes) refl) ∙ e)
   where
     of_world : (sch : Schedule) → schedule_of bytes ≡ Ok sch → (r : Result World WorldFault) → world_of sch ≡ r
-        → report_if_run short sch r ≡ Ok told → Tells short bytes told
+        → report_if_run short sch r ≡ Ok reported → Tells short bytes reported
     of_world sch read (Err fault) ran e = absurd cc
     of_world sch read (Ok w) ran e =
         let takes = schedule_takes bytes sch fit read in
-        record { run = record { schedule = sch; fits = takes.0; spelled = takes.1; read = read; world = w; ran = ran }; told_is = cc }
+        record { run = record { schedule = sch; fits = takes.0; spelled = takes.1; read = read; world = w; ran = ran }; reported_is = cc }
 
-    of_reading : (r : Result Schedule Fault) → schedule_of bytes ≡ r → report_if_read short r ≡ Ok told → Tells short bytes told
+    of_reading : (r : Result Schedule Fault) → schedule_of bytes ≡ r → report_if_read short r ≡ Ok reported → Tells short bytes reported
     of_reading (Ok sch) is e = of_world sch is (world_of sch) refl e
     of_reading (Err fault) is e = absurd cc
 
@@ -81,10 +81,10 @@ no_run short bytes fault e = record {
 }
 
 -- the line of their fault
-pub none_told : (short : Bool) (bytes : List ℕ) (fault : ReplayFault) (told : List ℕ) → report_of short bytes ≡ Err fault
-    → told ≡ stop_line fault → (none : HasNoRun bytes) × (told ≡ stop_line none.fault)
+pub none_reported : (short : Bool) (bytes : List ℕ) (fault : ReplayFault) (reported : List ℕ) → report_of short bytes ≡ Err fault
+    → reported ≡ stop_line fault → (none : HasNoRun bytes) × (reported ≡ stop_line none.fault)
 unfolding no_run
-none_told short bytes fault told e is = (no_run short bytes fault e, is)
+none_reported short bytes fault reported e is = (no_run short bytes fault e, is)
 
 -- ---- what was read
 
@@ -107,10 +107,10 @@ module _ (before now : Option (List ℕ)) (input : List ℕ) (taken : Consumes b
   replayed run = record { input = input; taken = taken; ended = ended (let e = run.spelled in rw e run.fits.size); run = run }
 
   -- all that the source had left has none either
-  all-told : (o : Option (List ℕ)) → before ≡ o → (none : HasNoRun input)
+  all-reported : (o : Option (List ℕ)) → before ≡ o → (none : HasNoRun input)
       → IfSome o (λ all. (short : Bool) → report_of short all ≡ Err none.fault)
-  all-told None is none = tt
-  all-told (Some all) is none = with_rest now refl (subst (λ b. Consumes b now input) is taken)
+  all-reported None is none = tt
+  all-reported (Some all) is none = with_rest now refl (subst (λ b. Consumes b now input) is taken)
     where
       with_rest : (n : Option (List ℕ)) → now ≡ n → Consumes (Some all) n input → (short : Bool) → report_of short all ≡ Err none.fault
       with_rest None at taken short = absurd taken
@@ -123,36 +123,36 @@ module _ (before now : Option (List ℕ)) (input : List ℕ) (taken : Consumes b
 
   pub refused : HasNoRun input → Refused before now
   unfolding most_bytes
-  refused none = record { input = input; taken = taken; ended = ended; none = none; told = all-told before refl none }
+  refused none = record { input = input; taken = taken; ended = ended; none = none; reported = all-reported before refl none }
 
   -- of a report that was made of it
-  pub as_replayed : {A E : Type 0} (short : Bool) (told : A → List ℕ) (r : Result A E)
-      → IfOk r (λ a. (run : Runs input) × (told a ≡ report_of_run short run))
-      → IfOk r (λ a. (done : Replayed before now) × (told a ≡ report_of_run short done.run))
+  pub as_replayed : {A E : Type 0} (short : Bool) (reported : A → List ℕ) (r : Result A E)
+      → IfOk r (λ a. (run : Runs input) × (reported a ≡ report_of_run short run))
+      → IfOk r (λ a. (done : Replayed before now) × (reported a ≡ report_of_run short done.run))
   unfolding replayed
-  as_replayed short told (Ok a) r = (replayed r.0, r.1)
-  as_replayed short told (Err e) r = tt
+  as_replayed short reported (Ok a) r = (replayed r.0, r.1)
+  as_replayed short reported (Err e) r = tt
 
   -- and of a line
-  pub as_refused : {A E : Type 0} (told : E → List ℕ) (r : Result A E)
-      → IfErr r (λ e. (none : HasNoRun input) × (told e ≡ stop_line none.fault))
-      → IfErr r (λ e. (none : Refused before now) × (told e ≡ stop_line none.none.fault))
+  pub as_refused : {A E : Type 0} (reported : E → List ℕ) (r : Result A E)
+      → IfErr r (λ e. (none : HasNoRun input) × (reported e ≡ stop_line none.fault))
+      → IfErr r (λ e. (none : Refused before now) × (reported e ≡ stop_line none.none.fault))
   unfolding refused
-  as_refused told (Ok a) r = tt
-  as_refused told (Err e) r = (refused r.0, r.1)
+  as_refused reported (Ok a) r = tt
+  as_refused reported (Err e) r = (refused r.0, r.1)
 
 -- ---- what was written
 
-module _ (short : Bool) (before now old new : Option (List ℕ)) (told : List ℕ)
-    (done : (replayed : Replayed before now) × (told ≡ report_of_run short replayed.run)) where
-  pub reported : Appends old new told → Reported short before now old new
-  reported wrote = record {
+module _ (short : Bool) (before now old new : Option (List ℕ)) (reported : List ℕ)
+    (done : (replayed : Replayed before now) × (reported ≡ report_of_run short replayed.run)) where
+  pub replay_is_reported : Appends old new reported → Reported short before now old new
+  replay_is_reported wrote = record {
     replayed = done.0;
     written = subst (Appends old new) done.1 wrote;
     headline = headline done.0.run.schedule done.0.run.world done.0.run.fits done.0.run.ran;
   }
 
-  pub reported_in_part : AppendsPrefix old new told → ReportedInPart short before now old new
+  pub reported_in_part : AppendsPrefix old new reported → ReportedInPart short before now old new
   reported_in_part wrote = record { replayed = done.0; written = subst (AppendsPrefix old new) done.1 wrote }
 
 pub stopped : (before now old new : Option (List ℕ)) (line : List ℕ) (f f' : ℕ)
@@ -166,17 +166,17 @@ ok-and-err (Ok a) ok err = absurd cc
 ok-and-err (Err e) ok err = absurd cc
 
 -- what was replayed has a report
-pub replayed_told : (short : Bool) (before now : Option (List ℕ)) → Replayed before now
-    → ¬ IsSomeAnd before (λ told. IsErr (report_of short told))
-replayed_told short None now replayed none = none
-replayed_told short (Some told) None replayed none = absurd replayed.taken
-replayed_told short (Some told) (Some rest) replayed none =
-    let whole : told ≡ replayed.input = replayed.taken ∙ ap
+pub replayed_reported : (short : Bool) (before now : Option (List ℕ)) → Replayed before now
+    → ¬ IsSomeAnd before (λ reported. IsErr (report_of short reported))
+replayed_reported short None now replayed none = none
+replayed_reported short (Some reported) None replayed none = absurd replayed.taken
+replayed_reported short (Some reported) (Some rest) replayed none =
+    let whole : reported ≡ replayed.input = replayed.taken ∙ ap
     (λ (t : List ℕ). replayed.input ++ t) replayed.ended ∙ append-nil replayed.input in
-    ok-and-err (report_of short told) (rw (ap (report_of short) whole ∙ has-report short replayed.run) refl) none
+    ok-and-err (report_of short reported) (rw (ap (report_of short) whole ∙ has-report short replayed.run) refl) none
 
 -- what was refused has none
-pub refused_told : (short : Bool) (before now : Option (List ℕ)) → Refused before now
-    → ¬ IsSomeAnd before (λ told. IsOk (report_of short told))
-refused_told short None now refused some = some
-refused_told short (Some told) now refused some = ok-and-err (report_of short told) some (rw (refused.told short) refl)
+pub refused_reported : (short : Bool) (before now : Option (List ℕ)) → Refused before now
+    → ¬ IsSomeAnd before (λ reported. IsOk (report_of short reported))
+refused_reported short None now refused some = some
+refused_reported short (Some reported) now refused some = ok-and-err (report_of short reported) some (rw (refused.reported short) refl)

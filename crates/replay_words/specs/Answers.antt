@@ -73,7 +73,7 @@ pub record Refused (before now : Option (List ℕ)) : Type 0 where
   pub taken : Consumes before now input
   pub ended : length input ≤ most_bytes → IsAtEnd now
   pub none : HasNoRun input
-  pub told : IfSome before (λ all. (short : Bool) → report_of short all ≡ Err none.fault)
+  pub reported : IfSome before (λ all. (short : Bool) → report_of short all ≡ Err none.fault)
 
 -- ---- the output: what a sink held before, and what it holds now
 

@@ -4,7 +4,7 @@ ghost use Rattle.std.specs.Fmt.{decimal};
 ghost use Rattle.text_defs.specs.Words.{space, line_feed};
 ghost use Rattle.replay_defs.specs.Reports as plain;
 ghost use Rattle.replay_run.specs.Faults as faults;
-ghost use Rattle.replay_words.specs.Answers as told;
+ghost use Rattle.replay_words.specs.Answers as reported;
 
 use replay_defs::FaultKind;
 use replay_run::ReplayFault;
@@ -49,7 +49,7 @@ fn push_word(line: &mut Vec<u8>, n: u64) -> Result<(), NoMemory>
 /// The line of a fault, with its place or its numbers; its line feed is still to come.
 #[tactic(auto, unfolding(crate::specs::Answers::stop_line))]
 fn words_of(alloc: Global, fault: ReplayFault) -> Result<Vec<u8>, NoMemory>
-    ensures { IfOk result (λ line. line.items ++ line_feed ∷ [] ≡ told.stop_line (faults.fault fault)) }
+    ensures { IfOk result (λ line. line.items ++ line_feed ∷ [] ≡ reported.stop_line (faults.fault fault)) }
 {
     match fault {
         ReplayFault::Schedule(fault) => {
@@ -75,7 +75,7 @@ fn words_of(alloc: Global, fault: ReplayFault) -> Result<Vec<u8>, NoMemory>
 
 /// The line that says why an input has no report.
 pub fn stop_line(alloc: Global, fault: ReplayFault) -> Result<Vec<u8>, NoMemory>
-    ensures { IfOk result (λ line. line.items ≡ told.stop_line (faults.fault fault)) }
+    ensures { IfOk result (λ line. line.items ≡ reported.stop_line (faults.fault fault)) }
 {
     let mut line = words_of(alloc, fault)?;
     line.push(b'\n')?;

@@ -1,7 +1,7 @@
 ghost use Rattle.std.specs.Prelude.{◌≡◌, ◌⊎◌, ℕ, List, OnOk, IfOk, IfErr, IsErrOf};
 ghost use Rattle.rp_base.specs.Causes.{Rose};
 ghost use Rattle.replay_run.specs.Fed.{HasFed};
-ghost use Rattle.replay_words.specs.Answers as told;
+ghost use Rattle.replay_words.specs.Answers as reported;
 ghost use Rattle.replay_words.specs.Answers.{Runs, HasNoRun, report_of_run, Replayed, Refused};
 
 use crate::faults::stop_line;
@@ -20,7 +20,7 @@ fn report_or_line(
     ensures report { (fed : List ℕ) → HasFed replay fed → IfOk result (λ r. IfOk r (λ report. (run : Runs fed)
         × (report.items ≡ report_of_run short run))) }
     ensures line { (fed : List ℕ) → HasFed replay fed → IfOk result (λ r. IfErr r (λ line. (none : HasNoRun fed)
-        × (line.items ≡ told.stop_line none.fault))) }
+        × (line.items ≡ reported.stop_line none.fault))) }
 {
     match replay.end(short)? {
         Ok(report) => Ok(Ok(report)),
@@ -41,7 +41,7 @@ pub fn replay_input<S: Source>(
     ensures report { IfOk result (λ r. IfOk r (λ report. (done : Replayed (S.left input.old) (S.left input.new))
         × (report.items ≡ report_of_run short done.run))) }
     ensures line { IfOk result (λ r. IfErr r (λ line. (none : Refused (S.left input.old) (S.left input.new))
-        × (line.items ≡ told.stop_line none.none.fault))) }
+        × (line.items ≡ reported.stop_line none.none.fault))) }
     ensures steady { OnOk result (S.faults input.new ≡ S.faults input.old) }
     ensures read { IsErrOf result Stop.Read → Rose (S.faults input.old) (S.faults input.new) }
     ensures only { IfErr result (λ stop. (stop ≡ Stop.NoMemory) ⊎ (stop ≡ Stop.Read)) }

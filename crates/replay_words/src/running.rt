@@ -72,10 +72,10 @@ pub fn run_replay<S: Source, K: Sink>(
     ensures whole { (result ≡ 4) ⊎ (result ≡ 7) → S.faults input.new ≡ S.faults input.old }
     ensures input { result ≡ 7 → Stopped (S.left input.old) (S.left input.new)
         (K.written output.old) (K.written output.new) (K.faults output.old) (K.faults output.new) }
-    ensures completes { IsSomeAnd (S.left input.old) (λ told. IsOk (report_of short told))
+    ensures completes { IsSomeAnd (S.left input.old) (λ reported. IsOk (report_of short reported))
         → ¬ Rose (S.faults input.old) (S.faults input.new) → ¬ Rose (K.faults output.old) (K.faults output.new)
         → (result ≡ 0) ⊎ (result ≡ 1) }
-    ensures refuses { IsSomeAnd (S.left input.old) (λ told. IsErr (report_of short told))
+    ensures refuses { IsSomeAnd (S.left input.old) (λ reported. IsErr (report_of short reported))
         → ¬ Rose (S.faults input.old) (S.faults input.new)
         → (result ≡ 7) ⊎ (result ≡ 1) }
     ensures only { (result ≡ 0) ⊎ (result ≡ 1) ⊎ (result ≡ 3) ⊎ (result ≡ 4) ⊎ (result ≡ 7) }

@@ -5,11 +5,11 @@ use Rattle.replay_defs.specs.Schedules.{Header}
 use Rattle.replay_defs.specs.Worlds as plain
 use Rattle.replay_defs.specs.Worlds.{setting_of, drains}
 use Rattle.trace_defs.specs.Happenings.{Happening}
-use Rattle.told_defs.specs.Told.{drain_tells}
-use Rattle.happenings.specs.declared.told.Told.{Told}
-use Rattle.happenings.specs.Told.{Tells}
+use Rattle.reported_defs.specs.Reported.{drain_tells}
+use Rattle.happenings.specs.declared.reported.Reported.{Reported}
+use Rattle.happenings.specs.Reported.{Tells}
 use Rattle.replay_world.specs.Telling.{TellsOf, oldest_tells}
-use Rattle.replay_world.proofs.Saying.{none_told, one_told, tells_more, tells_nothing, zero_told}
+use Rattle.replay_world.proofs.Saying.{none_reported, one_reported, tells_more, tells_nothing, zero_reported}
 use Rattle.replay_world.specs.declared.world.World.{World}
 use Rattle.replay_world.specs.declared.fault.WorldFault.{WorldFault}
 use Rattle.replay_world.specs.Traffic.{IsTooMuch}
@@ -101,29 +101,29 @@ drains_exceed mask all left first old fault on exceeds = λ h v shows.
 -- ---- what is told of deliveries
 
 -- What is told so far, and of what is left, is what is told of all.
-pub record ToldOnTheWay (mask all : ℕ) (first_told : Told) (left : ℕ) (now : World) (told : Told) (h : Header)
+pub record ReportedOnTheWay (mask all : ℕ) (first_reported : Reported) (left : ℕ) (now : World) (reported : Reported) (h : Header)
     (v : plain.World) : Type 0 where
   pub world : plain.World
   pub shows : Shows h now world
   pub so_far : List Happening
-  pub tells : Tells first_told so_far told
+  pub tells : Tells first_reported so_far reported
   pub leads : so_far ++ drain_tells (setting_of h) mask left world ≡ drain_tells (setting_of h) mask all v
 
 -- for each world that the first one shows
-abbrev pub ToldSoFar : ℕ → ℕ → World → Told → ℕ → World → Told → Type 0
-ToldSoFar mask all first first_told left now told = (h : Header) (v : plain.World) → Shows h first v
-    → ToldOnTheWay mask all first_told left now told h v
+abbrev pub ReportedSoFar : ℕ → ℕ → World → Reported → ℕ → World → Reported → Type 0
+ReportedSoFar mask all first first_reported left now reported = (h : Header) (v : plain.World) → Shows h first v
+    → ReportedOnTheWay mask all first_reported left now reported h v
 
-pub told_begin : (mask all : ℕ) (first : World) (told : Told) → ToldSoFar mask all first told all first told
-told_begin mask all first told = λ h v shows. record { world = v; shows = shows; so_far = []; tells = tells_nothing told; leads = refl }
+pub reported_begin : (mask all : ℕ) (first : World) (reported : Reported) → ReportedSoFar mask all first reported all first reported
+reported_begin mask all first reported = λ h v shows. record { world = v; shows = shows; so_far = []; tells = tells_nothing reported; leads = refl }
 
 -- one delivery more
-pub told_on : (mask all left : ℕ) (first old new : World) (first_told told new_told : Told)
-    → ToldSoFar mask all first first_told (suc left) old told
-    → Becomes (λ h v. oldest_arrives (setting_of h) mask v) old new → TellsOf (λ h v. oldest_tells (setting_of h) mask v) old told new_told
+pub reported_on : (mask all left : ℕ) (first old new : World) (first_reported reported new_reported : Reported)
+    → ReportedSoFar mask all first first_reported (suc left) old reported
+    → Becomes (λ h v. oldest_arrives (setting_of h) mask v) old new → TellsOf (λ h v. oldest_tells (setting_of h) mask v) old reported new_reported
     → ((h : Header) (v : plain.World) → Shows h old v → true ≡ is_some (slice_get v.pending 0))
-    → ToldSoFar mask all first first_told left new new_told
-told_on mask all left first old new first_told told new_told on becomes tells waits = λ h v shows.
+    → ReportedSoFar mask all first first_reported left new new_reported
+reported_on mask all left first old new first_reported reported new_reported on becomes tells waits = λ h v shows.
     let way = on h v shows in
     let s = setting_of h in
     let one = oldest_tells s mask way.world in
@@ -132,32 +132,32 @@ told_on mask all left first old new first_told told new_told on becomes tells wa
       world = oldest_arrives s mask way.world;
       shows = becomes h way.world way.shows;
       so_far = way.so_far ++ one;
-      tells = tells_more first_told told new_told way.so_far one way.tells (tells h way.world way.shows);
+      tells = tells_more first_reported reported new_reported way.so_far one way.tells (tells h way.world way.shows);
       leads = append_assoc way.so_far one rest
           ∙ ap (λ (xs : List Happening). way.so_far ++ xs)
-          (sym (one_told s mask left way.world (slice_get way.world.pending 0) refl (sym (waits h way.world way.shows))))
+          (sym (one_reported s mask left way.world (slice_get way.world.pending 0) refl (sym (waits h way.world way.shows))))
           ∙ way.leads;
     }
 
 -- none is left to make
-pub told_done : (mask all : ℕ) (first now : World) (first_told told : Told) → ToldSoFar mask all first first_told 0 now told
-    → TellsOf (λ h v. drain_tells (setting_of h) mask all v) first first_told told
-told_done mask all first now first_told told on = λ h v shows.
+pub reported_done : (mask all : ℕ) (first now : World) (first_reported reported : Reported) → ReportedSoFar mask all first first_reported 0 now reported
+    → TellsOf (λ h v. drain_tells (setting_of h) mask all v) first first_reported reported
+reported_done mask all first now first_reported reported on = λ h v shows.
     let way = on h v shows in
-    let P : List Happening → Type 0 = λ xs. Tells first_told xs told in
+    let P : List Happening → Type 0 = λ xs. Tells first_reported xs reported in
     subst P (sym (append-nil way.so_far) ∙ ap (λ (xs : List Happening). way.so_far ++ xs)
-    (sym (zero_told (setting_of h) mask way.world)) ∙ way.leads) way.tells
+    (sym (zero_reported (setting_of h) mask way.world)) ∙ way.leads) way.tells
 
 -- none waits any more
-pub told_out : (mask all left : ℕ) (first old : World) (first_told told new_told : Told) → ToldSoFar mask all first first_told left old told
-    → TellsOf (λ h v. oldest_tells (setting_of h) mask v) old told new_told
+pub reported_out : (mask all left : ℕ) (first old : World) (first_reported reported new_reported : Reported) → ReportedSoFar mask all first first_reported left old reported
+    → TellsOf (λ h v. oldest_tells (setting_of h) mask v) old reported new_reported
     → ((h : Header) (v : plain.World) → Shows h old v → false ≡ is_some (slice_get v.pending 0))
-    → TellsOf (λ h v. drain_tells (setting_of h) mask all v) first first_told new_told
-told_out mask all left first old first_told told new_told on tells waits = λ h v shows.
+    → TellsOf (λ h v. drain_tells (setting_of h) mask all v) first first_reported new_reported
+reported_out mask all left first old first_reported reported new_reported on tells waits = λ h v shows.
     let way = on h v shows in
     let one = oldest_tells (setting_of h) mask way.world in
-    let P : List Happening → Type 0 = λ xs. Tells first_told xs new_told in
+    let P : List Happening → Type 0 = λ xs. Tells first_reported xs new_reported in
     subst P (ap (λ (xs : List Happening). way.so_far ++ xs)
-    (sym (none_told (setting_of h) mask left way.world (slice_get way.world.pending 0) refl
+    (sym (none_reported (setting_of h) mask left way.world (slice_get way.world.pending 0) refl
     (sym (waits h way.world way.shows)))) ∙ way.leads)
-    (tells_more first_told told new_told way.so_far one way.tells (tells h way.world way.shows))
+    (tells_more first_reported reported new_reported way.so_far one way.tells (tells h way.world way.shows))

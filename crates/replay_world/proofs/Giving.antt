@@ -31,10 +31,10 @@ use Rattle.replay_world.specs.Worlds.{Shows, Becomes, handed_bytes}
 use Rattle.replay_world.specs.Steps.{noted, Notes, NotesTooMuch}
 use Rattle.trace_defs.specs.Outcomes.{seen}
 use Rattle.trace_defs.specs.Happenings as defs
-use Rattle.told_defs.specs.Told.{takes_in}
-use Rattle.happenings.specs.declared.told.Handed.{Handed}
-use Rattle.happenings.specs.declared.told.Told.{Told}
-use Rattle.happenings.specs.Told.{handed, Tells}
+use Rattle.reported_defs.specs.Reported.{takes_in}
+use Rattle.happenings.specs.declared.reported.Handed.{Handed}
+use Rattle.happenings.specs.declared.reported.Reported.{Reported}
+use Rattle.happenings.specs.Reported.{handed, Tells}
 use Rattle.replay_world.specs.Telling.{TellsStep}
 use Rattle.replay_world.proofs.Saying.{takes_placed}
 use Rattle.replay_world.proofs.Seats.{FindsAlike, PlacedAt, finds_alike}
@@ -74,7 +74,7 @@ pub record Given (h : Header) (stepped : World) (v : plain.World) (at : ℕ) (e 
   pub among : has (numbers world) at ≡ true
   pub is : IsOutcome out r
   pub hands : plain.hands (setting_of h) v at e ≡ noted at out world
-  pub told : (what : defs.Handed) → takes_in (setting_of h) v at what e ≡ defs.Takes at what (length v.frames) (seen out) ∷ []
+  pub reported : (what : defs.Handed) → takes_in (setting_of h) v at what e ≡ defs.Takes at what (length v.frames) (seen out) ∷ []
 
 pub given : (h : Header) (old stepped : World) (v : plain.World) (at i : ℕ) (ev : Event) (r : Outcome) → Shows h old v
     → place_in at old.players.items ≡ Some i
@@ -98,17 +98,17 @@ given h old stepped v at i ev r shows is steps same carries keeps =
           ∙ among_at v.players i at found.at get found.is;
       is = step.outcome;
       hands = hands_placed h v at (event ev) found.at i (players_rise h old v shows) get found.is found.found;
-      told = λ what. takes_placed (setting_of h) v at what (event ev) found.at found.found;
+      reported = λ what. takes_placed (setting_of h) v at what (event ev) found.at found.found;
     }
 
 -- what came of it is told
 pub given_tells : (h : Header) (stepped : World) (v : plain.World) (at : ℕ) (e : group.Event) (r : Outcome) (what : Handed) (first : ℕ)
-    (old new : Told)
+    (old new : Reported)
     → Given h stepped v at e r → length v.frames ≡ first → TellsStep old at what first r new
     → Tells old (takes_in (setting_of h) v at (handed what) e) new
 given_tells h stepped v at e r what first old new g counted step =
     let P : List defs.Happening → Type 0 = λ xs. Tells old xs new in
-    subst P (sym (g.told (handed what) ∙ ap (λ (n : ℕ). defs.Takes at (handed what) n (seen g.out) ∷ []) counted)) (step g.out g.is)
+    subst P (sym (g.reported (handed what) ∙ ap (λ (n : ℕ). defs.Takes at (handed what) n (seen g.out) ∷ []) counted)) (step g.out g.is)
 
 -- what came of it is noted
 pub given_becomes : (h : Header) (stepped new : World) (v : plain.World) (at : ℕ) (e : group.Event) (r : Outcome) → Given h stepped v at e r

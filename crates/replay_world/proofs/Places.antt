@@ -16,7 +16,7 @@ use Rattle.stmt_codec.specs.declared.events.Outcome.{Outcome}
 use Rattle.replay_cast.specs.declared.player.Player.{Player}
 use Rattle.replay_cast.specs.declared.liar.Liar.{Liar}
 use Rattle.replay_cast.specs.Players.{Plays, ArePlayers, Stepped}
-use Rattle.replay_cast.specs.Liars.{Told, Silent}
+use Rattle.replay_cast.specs.Liars.{Reported, Silent}
 use Rattle.replay_world.specs.Stepping.{StepsAt}
 use Rattle.replay_world.specs.Lying.{LiedAt, LiesAt, Lied}
 
@@ -56,19 +56,19 @@ steps_at scheme ps i p q e (Ok o) low at steps = λ s cs c valid all get.
 
 -- ---- liars
 
-lied_by : (group : List ℕ) (st : Statement) (x q : Liar) (lie : Option (List ℕ)) → IfSome lie (Told group st x q) → IfNone lie (Silent x q)
+lied_by : (group : List ℕ) (st : Statement) (x q : Liar) (lie : Option (List ℕ)) → IfSome lie (Reported group st x q) → IfNone lie (Silent x q)
     → Lied group st x q lie
-lied_by group st x q (Some frame) told silent = told
-lied_by group st x q None told silent = silent
+lied_by group st x q (Some frame) reported silent = reported
+lied_by group st x q None reported silent = silent
 
 -- the liar at a place lies
 pub lies_at : (group : List ℕ) (st : Statement) (xs : List Liar) (i : ℕ) (x q : Liar) (r : Result (Option (List ℕ)) NoMemory)
     → i < length xs → x ≡ get_or xs i x
-    → IfOk r (λ lie. IfSome lie (Told group st x q)) → IfOk r (λ lie. IfNone lie (Silent x q))
+    → IfOk r (λ lie. IfSome lie (Reported group st x q)) → IfOk r (λ lie. IfNone lie (Silent x q))
     → q.process ≡ x.process → total q.signer ≡ total x.signer → signature q.signer ≡ signature x.signer
     → IfOk r (LiesAt group st xs (slice_set xs i q) i)
-lies_at group st xs i x q (Err none) low at told silent process all secret = tt
-lies_at group st xs i x q (Ok lie) low at told silent process all secret = λ y get.
+lies_at group st xs i x q (Err none) low at reported silent process all secret = tt
+lies_at group st xs i x q (Ok lie) low at reported silent process all secret = λ y get.
     let first : slice_get xs i ≡ Some x = slice_get-get_or xs i x low ∙ ap (λ (z : Liar). Some z) (sym at) in
     let same : x ≡ y = cc in
     let P : Liar → Type 0 = λ z. LiedAt group st xs (slice_set xs i q) i z lie in
@@ -76,7 +76,7 @@ lies_at group st xs i x q (Ok lie) low at told silent process all secret = λ y 
       now = q;
       same = record { process = process; total = all; secret = secret };
       all = refl;
-      lied = lied_by group st x q lie told silent;
+      lied = lied_by group st x q lie reported silent;
     })
 
 -- ---- places

@@ -11,9 +11,9 @@ use Rattle.replay_defs.specs.Worlds as plain
 use Rattle.replay_defs.specs.Worlds.{setting_of, turn_of}
 use Rattle.trace_defs.specs.Outcomes.{seen}
 use Rattle.trace_defs.specs.Happenings.{Happening, Takes, Loses, Handed, Frame}
-use Rattle.told_defs.specs.Told.{takes_in, gets_frame, loses, next_tells, drain_tells}
-use Rattle.happenings.specs.declared.told.Told.{Told}
-use Rattle.happenings.specs.Told.{told_of, Tells}
+use Rattle.reported_defs.specs.Reported.{takes_in, gets_frame, loses, next_tells, drain_tells}
+use Rattle.happenings.specs.declared.reported.Reported.{Reported}
+use Rattle.happenings.specs.Reported.{reported_of, Tells}
 use Rattle.replay_world.specs.declared.traffic.Sent.{Sent}
 use Rattle.replay_world.specs.declared.world.World.{World}
 use Rattle.std.specs.VecDeque.{deque_items}
@@ -30,8 +30,8 @@ none_more : (o : Option (List Happening)) → o ≡ option_map (λ (before : Lis
 none_more None = refl
 none_more (Some before) = ap (λ (b : List Happening). Some b) (sym (append-nil before))
 
-pub tells_nothing : (a : Told) → Tells a [] a
-tells_nothing a = none_more (told_of a)
+pub tells_nothing : (a : Reported) → Tells a [] a
+tells_nothing a = none_more (reported_of a)
 
 both_more : (o : Option (List Happening)) (xs ys : List Happening)
     → option_map (λ (before : List Happening). before ++ ys) (option_map (λ (before : List Happening). before ++ xs) o)
@@ -39,9 +39,9 @@ both_more : (o : Option (List Happening)) (xs ys : List Happening)
 both_more None xs ys = refl
 both_more (Some before) xs ys = ap (λ (b : List Happening). Some b) (append_assoc before xs ys)
 
-pub tells_more : (a b c : Told) (xs ys : List Happening) → Tells a xs b → Tells b ys c → Tells a (xs ++ ys) c
+pub tells_more : (a b c : Reported) (xs ys : List Happening) → Tells a xs b → Tells b ys c → Tells a (xs ++ ys) c
 tells_more a b c xs ys first second =
-    second ∙ ap (option_map (λ (before : List Happening). before ++ ys)) first ∙ both_more (told_of a) xs ys
+    second ∙ ap (option_map (λ (before : List Happening). before ++ ys)) first ∙ both_more (reported_of a) xs ys
 
 -- ---- a process takes what it is handed
 
@@ -114,16 +114,16 @@ frames_counted h old v shows = omega (arith, length-map old.traffic.frames.items
 -- ---- deliveries, one after another
 
 -- no deliveries
-pub zero_told : (s : Setting) (mask : ℕ) (v : plain.World) → drain_tells s mask 0 v ≡ []
+pub zero_reported : (s : Setting) (mask : ℕ) (v : plain.World) → drain_tells s mask 0 v ≡ []
 unfolding drain_tells
-zero_told s mask v = refl
+zero_reported s mask v = refl
 
 -- what the oldest delivery tells, and those behind it
-pub one_told : (s : Setting) (mask left : ℕ) (v : plain.World) (r : Option (ℕ × ℕ)) → slice_get v.pending 0 ≡ r → is_some r ≡ true
+pub one_reported : (s : Setting) (mask left : ℕ) (v : plain.World) (r : Option (ℕ × ℕ)) → slice_get v.pending 0 ≡ r → is_some r ≡ true
     → drain_tells s mask (suc left) v ≡ oldest_tells s mask v ++ drain_tells s mask left (oldest_arrives s mask v)
 unfolding drain_tells
-one_told s mask left v None e waits = absurd cc
-one_told s mask left v (Some d) e waits =
+one_reported s mask left v None e waits = absurd cc
+one_reported s mask left v (Some d) e waits =
     let tells : Option (ℕ × ℕ) → List Happening = λ r. elim r as
     (λ (x : Option (ℕ × ℕ)). List Happening) [ None ↦ [] | Some d ↦ next_tells s mask v d ] in
     let leads : Option (ℕ × ℕ) → plain.World = λ r. elim r as
@@ -135,25 +135,25 @@ one_told s mask left v (Some d) e waits =
     ∙ ap (λ (xs : List Happening). xs ++ drain_tells s mask left (plain.next_delivery s mask v d)) (sym (ap tells e))
     ∙ ap (λ (w : plain.World). oldest_tells s mask v ++ drain_tells s mask left w) (sym (ap leads e))
 
-pub none_told : (s : Setting) (mask left : ℕ) (v : plain.World) (r : Option (ℕ × ℕ)) → slice_get v.pending 0 ≡ r → is_some r ≡ false
+pub none_reported : (s : Setting) (mask left : ℕ) (v : plain.World) (r : Option (ℕ × ℕ)) → slice_get v.pending 0 ≡ r → is_some r ≡ false
     → drain_tells s mask left v ≡ oldest_tells s mask v
 unfolding drain_tells
-none_told s mask zero v None e none = sym
+none_reported s mask zero v None e none = sym
     (ap (λ r. elim r as (λ (x : Option (ℕ × ℕ)). List Happening) [ None ↦ [] | Some d ↦ next_tells s mask v d ]) e)
-none_told s mask (suc left) v None e none =
+none_reported s mask (suc left) v None e none =
     ap (λ r. elim r as (λ (x : Option (ℕ × ℕ)). List Happening) [
       | None ↦ []
       | Some d ↦ next_tells s mask v d ++ drain_tells s mask left (plain.next_delivery s mask v d)
     ]) e
     ∙ sym (ap (λ r. elim r as (λ (x : Option (ℕ × ℕ)). List Happening) [ None ↦ [] | Some d ↦ next_tells s mask v d ]) e)
-none_told s mask left v (Some d) e none = absurd cc
+none_reported s mask left v (Some d) e none = absurd cc
 
 -- ---- the oldest delivery
 
 -- the oldest delivery tells what it does in a world where it waits no more
-pub oldest_told : (h : Header) (old mid : World) (v : plain.World) (d : Delivery) (mask : ℕ) → Shows h old v
+pub oldest_reported : (h : Header) (old mid : World) (v : plain.World) (d : Delivery) (mask : ℕ) → Shows h old v
     → deque_items old.traffic.pending ≡ d ∷ deque_items mid.traffic.pending
     → oldest_tells (setting_of h) mask v ≡ arrives_or_lost (setting_of h) mask (record v { pending = drop 1 v.pending }) (delivery d)
-oldest_told h old mid v d mask s popped =
+oldest_reported h old mid v d mask s popped =
     let oldest : slice_get v.pending 0 ≡ Some (delivery d) = ap (λ ds. slice_get ds 0) (sym s.traffic.pending ∙ ap (map delivery) popped) in
     ap (λ r. elim r as (λ (x : Option (ℕ × ℕ)). List Happening) [ None ↦ [] | Some e ↦ next_tells (setting_of h) mask v e ]) oldest

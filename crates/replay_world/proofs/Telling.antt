@@ -17,9 +17,9 @@ use Rattle.replay_defs.specs.Worlds as plain
 use Rattle.replay_defs.specs.Worlds.{Sent, lies_of, lie_claim, sends_lie, is_in}
 use Rattle.sig_scheme.specs.Signers.{used, total, signature}
 use Rattle.replay_cast.specs.declared.liar.Liar.{Liar}
-use Rattle.replay_cast.specs.Liars.{Lies, AreLiars, Told, bundle_of, lie_of}
+use Rattle.replay_cast.specs.Liars.{Lies, AreLiars, Reported, bundle_of, lie_of}
 use Rattle.trace_defs.specs.Happenings as defs
-use Rattle.told_defs.specs.Told.{lie_tells, liar_tells}
+use Rattle.reported_defs.specs.Reported.{lie_tells, liar_tells}
 use Rattle.replay_world.specs.Lying.{SameLiar, LiesAt}
 use Rattle.replay_world.proofs.Seats.{Rises, listed_rise}
 use Rattle.signature_defs.specs.Schemes.{is_valid}
@@ -296,10 +296,10 @@ pub record Tells (h : Header) (v : plain.World) (p m : ℕ) (to bytes : List ℕ
   pub sent : plain.send p (has to) v bytes ≡ sends_lie h v m listed st
 
 -- where the code told it, so do the definitions
-pub told : (h : Header) (old : World) (v : plain.World) (p i m : ℕ) (to bytes : List ℕ) (st : Statement) (now : Liar) (x : Liar)
+pub reported : (h : Header) (old : World) (v : plain.World) (p i m : ℕ) (to bytes : List ℕ) (st : Statement) (now : Liar) (x : Liar)
     (l : Listed) → Shows h old v → Lies v.frames x l → l.process ≡ p
-    → find (is_listed_as p) (corrupt_of h.processes) ≡ Some l → Told old.group st x now bytes → to ≡ members m → Tells h v p m to bytes st
-told h old v p i m to bytes st now x l s lies is found lie those = record {
+    → find (is_listed_as p) (corrupt_of h.processes) ≡ Some l → Reported old.group st x now bytes → to ≡ members m → Tells h v p m to bytes st
+reported h old v p i m to bytes st now x l s lies is found lie those = record {
   listed = l;
   found = found_in_all h.scheme 0 p h.processes l s.rising found;
   sent =
@@ -349,16 +349,16 @@ lie_by_nobody old p m bytes r xs none is same = λ h v s event.
     absurd (corrupt_found p h.processes event.0 (subst P place (finds_liar p 0 v.frames old.liars.items (corrupt_of h.processes) s.liars)))
 
 -- a lie that is told
-pub lie_told : (h : Header) (old new : World) (v : plain.World) (p i m : ℕ) (to bytes frame : List ℕ) (st : Statement) → Shows h old v
+pub lie_reported : (h : Header) (old new : World) (v : plain.World) (p i m : ℕ) (to bytes frame : List ℕ) (st : Statement) → Shows h old v
     → position_from (λ x. x.process == p) 0 old.liars.items ≡ Some i
     → LiesAt old.group st old.liars.items new.liars.items i (Some frame) → statement_of bytes ≡ Ok st → to ≡ members m
     → plain.happens h v (Lie p m bytes) ≡ Ok (plain.send p (has to) v frame)
-lie_told h old new v p i m to bytes frame st s place lie read those =
+lie_reported h old new v p i m to bytes frame st s place lie read those =
     let found = liar_found h old v p i s place in
     let same : found.place ≡ i = omega (arith, found.counted) in
     let get : slice_get old.liars.items i ≡ Some found.liar = ap (slice_get old.liars.items) (sym same) ∙ found.get in
     let lied = lie found.liar get in
-    let tells = told h old v p i m to frame st lied.now found.liar found.listed s found.lies found.is found.found lied.lied those in
+    let tells = reported h old v p i m to frame st lied.now found.liar found.listed s found.lies found.is found.found lied.lied those in
     lie_is h v p m bytes st tells.listed tells.found read ∙ ap goes_on (sym tells.sent)
 
 pub lie_shows : (h : Header) (old new : World) (v : plain.World) (p i : ℕ) (to frame : List ℕ) (st : Statement) → Shows h old v

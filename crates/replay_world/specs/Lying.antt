@@ -3,7 +3,7 @@ use Rattle.std.specs.Prelude.{◌≡◌, ℕ, List, Option, Some, None, slice_ge
 use Rattle.message_defs.specs.Statements.{Statement}
 use Rattle.sig_scheme.specs.Signers.{total, signature}
 use Rattle.replay_cast.specs.declared.liar.Liar.{Liar}
-use Rattle.replay_cast.specs.Liars.{Told, Silent}
+use Rattle.replay_cast.specs.Liars.{Reported, Silent}
 
 -- the liar at a place keeps its number and its key
 pub record SameLiar (old new : Liar) : Type 0 where
@@ -13,7 +13,7 @@ pub record SameLiar (old new : Liar) : Type 0 where
 
 -- the corrupt process lied in this frame; or it could not: its key is spent, and nothing changed
 abbrev pub Lied : List ℕ → Statement → Liar → Liar → Option (List ℕ) → Type 0
-Lied group st old new (Some frame) = Told group st old new frame
+Lied group st old new (Some frame) = Reported group st old new frame
 Lied group st old new None = Silent old new
 
 -- the corrupt process x, which is at place i, lied or could not, and all others are as before

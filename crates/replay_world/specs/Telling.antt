@@ -6,12 +6,12 @@ use Rattle.replay_defs.specs.Schedules.{Header}
 use Rattle.replay_defs.specs.Worlds as plain
 use Rattle.trace_defs.specs.Outcomes.{seen}
 use Rattle.trace_defs.specs.Happenings.{Happening, Takes}
-use Rattle.told_defs.specs.Told.{gets_frame, loses, next_tells}
+use Rattle.reported_defs.specs.Reported.{gets_frame, loses, next_tells}
 use Rattle.stmt_codec.specs.declared.events.Outcome.{Outcome}
 use Rattle.happenings.specs.Events.{IsOutcome}
-use Rattle.happenings.specs.declared.told.Handed.{Handed}
-use Rattle.happenings.specs.declared.told.Told.{Told}
-use Rattle.happenings.specs.Told.{handed, Tells}
+use Rattle.happenings.specs.declared.reported.Handed.{Handed}
+use Rattle.happenings.specs.declared.reported.Reported.{Reported}
+use Rattle.happenings.specs.Reported.{handed, Tells}
 use Rattle.replay_world.specs.declared.world.World.{World}
 use Rattle.replay_world.specs.Worlds.{Shows}
 
@@ -20,11 +20,11 @@ abbrev pub frame_count : World → ℕ
 frame_count w = length w.traffic.frames.items
 
 -- what came of an event at a process is reported
-abbrev pub TellsStep : Told → ℕ → Handed → ℕ → Outcome → Told → Type 0
+abbrev pub TellsStep : Reported → ℕ → Handed → ℕ → Outcome → Reported → Type 0
 TellsStep old p what first r new = (o : group.Outcome) → IsOutcome o r → Tells old (Takes p (handed what) first (seen o) ∷ []) new
 
 -- of a world that this one shows, this is reported
-abbrev pub TellsOf : (Header → plain.World → List Happening) → World → Told → Told → Type 0
+abbrev pub TellsOf : (Header → plain.World → List Happening) → World → Reported → Reported → Type 0
 TellsOf what w old new = (h : Header) (v : plain.World) → Shows h w v → Tells old (what h v) new
 
 -- a delivery that waits no more is made, or lost

@@ -9,7 +9,7 @@ mod traffic;
 mod world;
 
 pub use fault::WorldFault;
-pub use happenings::Told;
+pub use happenings::Reported;
 pub use replay_cast::Player;
 pub use traffic::Sent;
 pub use world::{Refused, World};

@@ -5,15 +5,15 @@ ghost use Rattle.message_defs.specs.Spelling.{IsStatement};
 ghost use Rattle.rp_base.specs.Pids.{mask_of};
 ghost use Rattle.replay_defs.specs.Schedules as schedules;
 ghost use Rattle.stmt_codec.specs.Views.{stmt};
-ghost use Rattle.happenings.specs.Told.{Tells};
+ghost use Rattle.happenings.specs.Reported.{Tells};
 ghost use Rattle.trace_defs.specs.Happenings as defs;
-ghost use Rattle.told_defs.specs.Told as told_defs;
+ghost use Rattle.reported_defs.specs.Reported as reported_defs;
 ghost use Rattle.replay_world.specs.Lying.{LiesAt};
 ghost use Rattle.replay_world.specs.Telling.{frame_count};
 
 use crate::fault::WorldFault;
 use crate::world::World;
-use happenings::{Happening, Told};
+use happenings::{Happening, Reported};
 use replay_cast::Liar;
 use rp_base::{GroupId, NoMemory, Pid, PidSet};
 use std::alloc::Global;
@@ -53,15 +53,15 @@ impl World {
         signer: Pid,
         to: PidSet,
         statement: &[u8],
-        told: &mut Told,
+        reported: &mut Reported,
     ) -> Result<(), NoMemory>
-        ensures { OnOk result (Tells told.old (defs.Lies signer statement.now (frame_count self.now) to ∷ []) told.new) }
+        ensures { OnOk result (Tells reported.old (defs.Lies signer statement.now (frame_count self.now) to ∷ []) reported.new) }
     {
-        if !told.is_asked() {
+        if !reported.is_asked() {
             return Ok(());
         }
         let statement = Payload::from_vec(Vec::from_slice(alloc, statement)?);
-        told.add(Happening::Lies {
+        reported.add(Happening::Lies {
             signer,
             statement,
             frame: self.traffic.frames.len() as u64,
@@ -76,11 +76,11 @@ impl World {
         signer: Pid,
         to: PidSet,
         statement: &[u8],
-        told: &mut Told,
+        reported: &mut Reported,
     ) -> Result<(), WorldFault>
         ensures tells { OnOk result ((h : schedules.Header) (v : plain.World) → Shows h self.old v
             → schedules.IsEvent h.processes (schedules.Lie signer (mask_of to) statement.now)
-            → Tells told.old (told_defs.liar_tells h v signer (mask_of to) statement.now) told.new) }
+            → Tells reported.old (reported_defs.liar_tells h v signer (mask_of to) statement.now) reported.new) }
         ensures happens { OnOk result (HappensYet self.old self.new (schedules.Lie signer (mask_of to) statement.now)) }
         ensures stops { IfErr result (Stops self.old (schedules.Lie signer (mask_of to) statement.now)) }
         ensures count { OnOk result (count_of self.new ≡ count_of self.old) }
@@ -92,11 +92,11 @@ impl World {
             return Ok(());
         };
         let Some(frame) = lie_at(alloc, &self.group, &mut self.liars, i, &said)? else {
-            told.add(Happening::Silent { signer })?;
+            reported.add(Happening::Silent { signer })?;
             return Ok(());
         };
         let to = PidSet::from_mask(to.mask());
-        self.tell_lie(alloc, signer, to, statement, told)?;
+        self.tell_lie(alloc, signer, to, statement, reported)?;
         self.traffic
             .send(&self.players, self.count, signer, to, frame)
     }

@@ -7,7 +7,7 @@ ghost use Rattle.schedule_file.specs.Views as views;
 use crate::fault::WorldFault;
 use crate::traffic::{Sent, Traffic};
 use crate::world::{Refused, World};
-use happenings::Told;
+use happenings::Reported;
 use replay_cast::{Cast, Player};
 use rp_base::{GroupId, NoMemory, Pid, Roster};
 use schedule_file::{Header, Schedule};
@@ -61,9 +61,9 @@ impl World {
         ensures stops { IfErr result (IsEarlyEnd (views.schedule what.now)) }
     {
         let mut world = World::new(alloc, &what.header)?;
-        let mut told = Told::Unasked;
+        let mut reported = Reported::Unasked;
         for happening in &what.events {
-            world.event(alloc, happening, &mut told)?;
+            world.event(alloc, happening, &mut reported)?;
         }
         Ok(world)
     }

@@ -8,15 +8,15 @@ ghost use Rattle.replay_defs.specs.Worlds.{setting_of};
 ghost use Rattle.replay_defs.specs.Schedules as schedules;
 ghost use Rattle.replay_defs.specs.Schedules.{IsEvent};
 ghost use Rattle.schedule_file.specs.Views as views;
-ghost use Rattle.happenings.specs.Told.{handed as handed_of, Tells};
-ghost use Rattle.told_defs.specs.Told as told_defs;
+ghost use Rattle.happenings.specs.Reported.{handed as handed_of, Tells};
+ghost use Rattle.reported_defs.specs.Reported as reported_defs;
 ghost use Rattle.replay_world.specs.Handing.{bytes_in, Marks};
 ghost use Rattle.replay_world.specs.Telling.{TellsStep, TellsOf, arrives_or_lost, frame_count, oldest_tells};
 ghost use Rattle.replay_world.specs.Stepping.{StepsAt, Refuses, Spends};
 
 use crate::fault::WorldFault;
 use crate::traffic::{Delivery, Sent, Traffic};
-use happenings::{Handed, Happening, Seen, Told};
+use happenings::{Handed, Happening, Reported, Seen};
 use replay_cast::{Liar, Player};
 use rp_base::{GroupId, NoMemory, Pid, PidSet, Roster};
 use schedule_file::ScheduleEvent;
@@ -160,21 +160,21 @@ fn note_spent(all: &mut Vec<Pid>, process: Pid, spent: bool) -> Result<(), NoMem
 // Reports what came of an event, where somebody asks; and answers what it sends.
 fn tell(
     alloc: Global,
-    told: &mut Told,
+    reported: &mut Reported,
     at: Pid,
     handed: Handed,
     first: u64,
     outcome: Outcome,
 ) -> Result<Vec<Sending>, NoMemory>
     ensures sends { IfOk result (λ sends. sends ≡ outcome.sends) }
-    ensures tells { OnOk result (TellsStep told.old at handed first outcome told.new) }
+    ensures tells { OnOk result (TellsStep reported.old at handed first outcome reported.new) }
 {
-    if !told.is_asked() {
+    if !reported.is_asked() {
         let (_signed, sends, _notes) = outcome.into_parts();
         return Ok(sends);
     }
     let (seen, sends) = Seen::of(alloc, outcome)?;
-    told.add(Happening::Takes {
+    reported.add(Happening::Takes {
         at,
         handed,
         first,
@@ -193,7 +193,7 @@ impl World {
         &mut self,
         alloc: Global,
         what: &ScheduleEvent,
-        told: &mut Told,
+        reported: &mut Reported,
     ) -> Result<(), WorldFault>
         requires { count_of self.old < 2 ^ 64 - 1 }
 
@@ -203,13 +203,13 @@ impl World {
         // What is reported is what happens in the event of the definitions' world.
         ensures tells { OnOk result ((h : schedules.Header) (v : plain.World) → Shows h self.old v
             → IsEvent h.processes (views.event what.now)
-            → Tells told.old (told_defs.tells h v (views.event what.now)) told.new) }
+            → Tells reported.old (reported_defs.tells h v (views.event what.now)) reported.new) }
 
         // Else their world stops with this fault, or memory ran out.
         ensures stops { IfErr result (Stops self.old (views.event what.now)) }
         ensures count { OnOk result (count_of self.new ≡ count_of self.old + 1) }
     {
-        self.happen(alloc, what, told)?;
+        self.happen(alloc, what, reported)?;
         self.count += 1;
         Ok(())
     }
@@ -219,18 +219,24 @@ impl World {
         &mut self,
         alloc: Global,
         what: &ScheduleEvent,
-        told: &mut Told,
+        reported: &mut Reported,
     ) -> Result<(), WorldFault>
         ensures tells { OnOk result ((h : schedules.Header) (v : plain.World) → Shows h self.old v
             → IsEvent h.processes (views.event what.now)
-            → Tells told.old (told_defs.tells h v (views.event what.now)) told.new) }
+            → Tells reported.old (reported_defs.tells h v (views.event what.now)) reported.new) }
         ensures happens { OnOk result (HappensYet self.old self.new (views.event what.now)) }
         ensures stops { IfErr result (Stops self.old (views.event what.now)) }
         ensures count { OnOk result (count_of self.new ≡ count_of self.old) }
     {
         match what {
             ScheduleEvent::Submit { at, payload } => {
-                self.hand(alloc, *at, Handed::Payload, &Event::Submit(payload), told)
+                self.hand(
+                    alloc,
+                    *at,
+                    Handed::Payload,
+                    &Event::Submit(payload),
+                    reported,
+                )
             }
             ScheduleEvent::Raw { to, from, bytes } => {
                 let from = *from;
@@ -239,33 +245,33 @@ impl World {
                     *to,
                     Handed::Bytes { from },
                     &Event::Frame { from, bytes },
-                    told,
+                    reported,
                 )
             }
-            ScheduleEvent::Pass { frame, to } => self.pass(alloc, *frame, *to, told),
-            ScheduleEvent::Drain { count, to } => self.drain(alloc, *count, *to, told),
+            ScheduleEvent::Pass { frame, to } => self.pass(alloc, *frame, *to, reported),
+            ScheduleEvent::Drain { count, to } => self.drain(alloc, *count, *to, reported),
             ScheduleEvent::Lie {
                 signer,
                 to,
                 statement,
-            } => self.lie(alloc, *signer, *to, statement, told),
+            } => self.lie(alloc, *signer, *to, statement, reported),
             ScheduleEvent::Suspect { at, of } => {
                 self.hand(
                     alloc,
                     *at,
                     Handed::Suspects(*of),
                     &Event::Suspect(*of),
-                    told,
+                    reported,
                 )
             },
             ScheduleEvent::Join { at, of } => {
-                self.hand(alloc, *at, Handed::Joins(*of), &Event::Join(*of), told)
+                self.hand(alloc, *at, Handed::Joins(*of), &Event::Join(*of), reported)
             },
             ScheduleEvent::Renew { at } => {
-                self.hand(alloc, *at, Handed::Renews, &Event::Renew, told)
+                self.hand(alloc, *at, Handed::Renews, &Event::Renew, reported)
             },
             ScheduleEvent::Tick { at } => {
-                self.hand(alloc, *at, Handed::Ticks, &Event::Tick, told)
+                self.hand(alloc, *at, Handed::Ticks, &Event::Tick, reported)
             },
         }
     }
@@ -277,10 +283,10 @@ impl World {
         at: Pid,
         handed: Handed,
         event: &Event<'_>,
-        told: &mut Told,
+        reported: &mut Reported,
     ) -> Result<(), WorldFault>
-        ensures tells { OnOk result (TellsOf (λ h v. told_defs.takes_in (setting_of h) v at (handed_of handed) (event_of event.now))
-            self.old told.old told.new) }
+        ensures tells { OnOk result (TellsOf (λ h v. reported_defs.takes_in (setting_of h) v at (handed_of handed) (event_of event.now))
+            self.old reported.old reported.new) }
         ensures becomes { OnOk result (Becomes (λ h v. plain.hands (setting_of h) v at (event_of event.now)) self.old self.new) }
         ensures exceeds { IfErr result (Exceeds (λ h v. plain.hands (setting_of h) v at (event_of event.now)) self.old) }
         ensures count { OnOk result (count_of self.new ≡ count_of self.old) }
@@ -290,7 +296,7 @@ impl World {
         };
         keep_bytes(alloc, &mut self.raws, event)?;
         let outcome = step_at(&self.scheme, &mut self.players, i, event)?;
-        self.note(alloc, at, handed, outcome, told)
+        self.note(alloc, at, handed, outcome, reported)
     }
 
     // A process takes the frame of this number, if it was sent.
@@ -299,9 +305,9 @@ impl World {
         alloc: Global,
         frame: usize,
         to: Pid,
-        told: &mut Told,
+        reported: &mut Reported,
     ) -> Result<(), WorldFault>
-        ensures tells { OnOk result (TellsOf (λ h v. told_defs.gets_frame (setting_of h) v to frame) self.old told.old told.new) }
+        ensures tells { OnOk result (TellsOf (λ h v. reported_defs.gets_frame (setting_of h) v to frame) self.old reported.old reported.new) }
         ensures becomes { OnOk result (Becomes (λ h v. plain.delivers (setting_of h) v to frame) self.old self.new) }
         ensures exceeds { IfErr result (Exceeds (λ h v. plain.delivers (setting_of h) v to frame) self.old) }
         ensures count { OnOk result (count_of self.new ≡ count_of self.old) }
@@ -323,7 +329,7 @@ impl World {
             number: frame as u64,
             from,
         };
-        self.note(alloc, to, handed, outcome, told)
+        self.note(alloc, to, handed, outcome, reported)
     }
 
     // A process takes a frame that was sent; one that is not sent yet stops the world.
@@ -332,9 +338,9 @@ impl World {
         alloc: Global,
         frame: u32,
         to: Pid,
-        told: &mut Told,
+        reported: &mut Reported,
     ) -> Result<(), WorldFault>
-        ensures tells { OnOk result (TellsOf (λ h v. told_defs.gets_frame (setting_of h) v to frame) self.old told.old told.new) }
+        ensures tells { OnOk result (TellsOf (λ h v. reported_defs.gets_frame (setting_of h) v to frame) self.old reported.old reported.new) }
         ensures happens { OnOk result (HappensYet self.old self.new (schedules.Pass frame to)) }
         ensures stops { IfErr result (Stops self.old (schedules.Pass frame to)) }
         ensures count { OnOk result (count_of self.new ≡ count_of self.old) }
@@ -347,19 +353,19 @@ impl World {
                 sent,
             });
         }
-        self.deliver(alloc, frame as usize, to, told)
+        self.deliver(alloc, frame as usize, to, reported)
     }
 
     // The frame of a delivery is lost on its way.
-    fn lose(&mut self, next: Delivery, told: &mut Told) -> Result<(), WorldFault>
-        ensures tells { OnOk result (TellsOf (λ h v. told_defs.loses v (next.frame, next.to)) self.old told.old told.new) }
+    fn lose(&mut self, next: Delivery, reported: &mut Reported) -> Result<(), WorldFault>
+        ensures tells { OnOk result (TellsOf (λ h v. reported_defs.loses v (next.frame, next.to)) self.old reported.old reported.new) }
         ensures same { self.new ≡ self.old }
         ensures memory { IfErr result (λ fault. fault ≡ WorldFault.NoMemory) }
     {
         let Some(sent) = self.traffic.frames.get(next.frame) else {
             return Ok(());
         };
-        told.add(Happening::Loses {
+        reported.add(Happening::Loses {
             frame: next.frame as u64,
             from: sent.sender,
             to: next.to,
@@ -373,18 +379,18 @@ impl World {
         alloc: Global,
         to: PidSet,
         next: Delivery,
-        told: &mut Told,
+        reported: &mut Reported,
     ) -> Result<(), WorldFault>
         ensures tells { OnOk result (TellsOf (λ h v. arrives_or_lost (setting_of h) (mask_of to) v (next.frame, next.to))
-            self.old told.old told.new) }
+            self.old reported.old reported.new) }
         ensures becomes { OnOk result (Becomes (λ h v. arrives (setting_of h) (mask_of to) v (next.frame, next.to)) self.old self.new) }
         ensures exceeds { IfErr result (Exceeds (λ h v. arrives (setting_of h) (mask_of to) v (next.frame, next.to)) self.old) }
         ensures count { OnOk result (count_of self.new ≡ count_of self.old) }
     {
         if is_addressed(to, next.to) {
-            self.deliver(alloc, next.frame, next.to, told)
+            self.deliver(alloc, next.frame, next.to, reported)
         } else {
-            self.lose(next, told)
+            self.lose(next, reported)
         }
     }
 
@@ -393,9 +399,9 @@ impl World {
         &mut self,
         alloc: Global,
         to: PidSet,
-        told: &mut Told,
+        reported: &mut Reported,
     ) -> Result<bool, WorldFault>
-        ensures tells { OnOk result (TellsOf (λ h v. oldest_tells (setting_of h) (mask_of to) v) self.old told.old told.new) }
+        ensures tells { OnOk result (TellsOf (λ h v. oldest_tells (setting_of h) (mask_of to) v) self.old reported.old reported.new) }
         ensures becomes { OnOk result (Becomes (λ h v. oldest_arrives (setting_of h) (mask_of to) v) self.old self.new) }
         ensures exceeds { IfErr result (Exceeds (λ h v. oldest_arrives (setting_of h) (mask_of to) v) self.old) }
         ensures waits { IfOk result (λ more. (h : schedules.Header) (v : plain.World) → Shows h self.old v
@@ -405,7 +411,7 @@ impl World {
         let Some(next) = self.traffic.pending.pop_front() else {
             return Ok(false);
         };
-        self.arrive(alloc, to, next, told)?;
+        self.arrive(alloc, to, next, reported)?;
         Ok(true)
     }
 
@@ -415,17 +421,17 @@ impl World {
         alloc: Global,
         count: u32,
         to: PidSet,
-        told: &mut Told,
+        reported: &mut Reported,
     ) -> Result<(), WorldFault>
         ensures tells { OnOk result (TellsOf
-            (λ h v. told_defs.drain_tells (setting_of h) (mask_of to) count v) self.old told.old told.new) }
+            (λ h v. reported_defs.drain_tells (setting_of h) (mask_of to) count v) self.old reported.old reported.new) }
         ensures becomes { OnOk result (Becomes (λ h v. plain.drains (setting_of h) (mask_of to) count v) self.old self.new) }
         ensures exceeds { IfErr result (Exceeds (λ h v. plain.drains (setting_of h) (mask_of to) count v) self.old) }
         ensures count { OnOk result (count_of self.new ≡ count_of self.old) }
     {
         let mut left = count;
         'deliveries: while left > 0 {
-            if !self.deliver_next(alloc, to, told)? {
+            if !self.deliver_next(alloc, to, reported)? {
                 return Ok(());
             }
             left -= 1;
@@ -440,9 +446,9 @@ impl World {
         me: Pid,
         handed: Handed,
         outcome: Outcome,
-        told: &mut Told,
+        reported: &mut Reported,
     ) -> Result<(), WorldFault>
-        ensures tells { OnOk result (TellsStep told.old me handed (frame_count self.old) outcome told.new) }
+        ensures tells { OnOk result (TellsStep reported.old me handed (frame_count self.old) outcome reported.new) }
         ensures notes { OnOk result (Notes self.old self.new me outcome) }
         ensures too_much { IfErr result (NotesTooMuch self.old me outcome) }
         ensures count { OnOk result (count_of self.new ≡ count_of self.old) }
@@ -450,7 +456,7 @@ impl World {
         note_refusal(&mut self.refused, self.count, me, outcome.verdict)?;
         note_spent(&mut self.spent, me, outcome.spent)?;
         let first = self.traffic.frames.len() as u64;
-        let sends = tell(alloc, told, me, handed, first, outcome)?;
+        let sends = tell(alloc, reported, me, handed, first, outcome)?;
         self.traffic.send_all(&self.players, self.count, me, sends)
     }
 }

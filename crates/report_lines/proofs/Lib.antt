@@ -1,3 +1,3 @@
 pub mod Pieces
 pub mod Named
-pub mod Told
+pub mod Reported

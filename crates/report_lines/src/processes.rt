@@ -66,10 +66,10 @@ fn push_counts(out: &mut Vec<u8>, views: u64, delivered: u64, signed: u64) -> Re
 pub fn push_process(out: &mut Vec<u8>, standing: &Standing<'_>) -> Result<(), NoMemory>
     ensures { (p : Process) → StandsAs standing.now p → OnOk result (out.new.items ≡ out.old.items ++ plain.process_line p) }
 {
-    let told = standing.account;
-    let views = told.views.as_slice().len() as u64;
-    let delivered = delivered_in_all(&told.delivered)?;
-    push_name(out, told.me, standing.phase)?;
+    let reported = standing.account;
+    let views = reported.views.as_slice().len() as u64;
+    let delivered = delivered_in_all(&reported.delivered)?;
+    push_name(out, reported.me, standing.phase)?;
     push_counts(out, views, delivered, standing.signed.into())?;
     Ok(())
 }
@@ -124,11 +124,11 @@ pub fn push_block(out: &mut Vec<u8>, standing: &Standing<'_>, spent: bool) -> Re
     ensures { (keys_spent : List ℕ) (p : Process) → has keys_spent p.me ≡ spent → StandsAs standing.now p
         → OnOk result (out.new.items ≡ out.old.items ++ plain.block keys_spent p) }
 {
-    let told = standing.account;
-    let me = told.me;
+    let reported = standing.account;
+    let me = reported.me;
     push_process(out, standing)?;
-    push_views(out, me, &told.views)?;
-    push_deliveries(out, me, &told.delivered)?;
+    push_views(out, me, &reported.views)?;
+    push_deliveries(out, me, &reported.delivered)?;
     push_liars(out, me, standing.liars)?;
     push_spent(out, me, spent)?;
     push_halted(out, me, standing.halted)?;

@@ -10,7 +10,7 @@ use Rattle.group_defs.specs.Hearing.{is_valid}
 use Rattle.image_defs.specs.Images.{Image}
 use Rattle.restored_left.specs.Facts.{AreAccepted, AreConflicts, AreOwn, ArePerceived, Shares, as_setting, own_delivered}
 use Rattle.pool_laws.proofs.Members.{mem-All, All-mem}
-use Rattle.restored_present.specs.Parts.{IsToldSo}
+use Rattle.restored_present.specs.Parts.{IsReportedSo}
 
 module _ (s : Setting) (valid : List ℕ → List ℕ → List ℕ → Bool) (group : List ℕ) (roster : List (ℕ × List ℕ)) (shares : Shares s valid group roster) where
   abbrev t : Setting
@@ -49,11 +49,11 @@ module _ (s : Setting) (valid : List ℕ → List ℕ → List ℕ → Bool) (gr
     λ a. mem-All (IsOwn t me v) cs (λ c m. (let is = All-mem (IsOwn s me v) cs c a m in (is.0, is.1, sym (valid-is c) ∙ is.2))),
   )
 
-  pub told-is : (v : View) (i : Image) (keys : List ℕ) (b a1 a2 a3 a4 : Bool) → keys ≡ map (λ k. k.0) roster
+  pub reported-is : (v : View) (i : Image) (keys : List ℕ) (b a1 a2 a3 a4 : Bool) → keys ≡ map (λ k. k.0) roster
       → (IsTrue b ↔ (IsTrue a1 × IsTrue a2 × IsTrue a3 × IsTrue a4))
       → (IsTrue a1 ↔ AreAccepted i.accepted (own_delivered i.me i.delivered)) → (IsTrue a2 ↔ ArePerceived keys v i.perceived)
-      → (IsTrue a3 ↔ AreConflicts t i.conflicts) → (IsTrue a4 ↔ AreOwn t i.me v i.signed) → IsTrue b ↔ IsToldSo s v i
-  told-is v i keys b a1 a2 a3 a4 keys_are all accepted perceived conflicts own =
+      → (IsTrue a3 ↔ AreConflicts t i.conflicts) → (IsTrue a4 ↔ AreOwn t i.me v i.signed) → IsTrue b ↔ IsReportedSo s v i
+  reported-is v i keys b a1 a2 a3 a4 keys_are all accepted perceived conflicts own =
       let same : keys ≡ keyed s = keys_are ∙ sym keys-are in (
         λ ok. (let four = all.0 ok in record {
           accepted = accepted.0 four.0;

@@ -13,7 +13,7 @@ use Rattle.own_place.specs.Owns.{Tells}
 use Rattle.restored_left.specs.Members.{IsIn, Phase}
 
 -- what is accepted, perceived, signed, and kept as conflicts, by a process in this view
-pub record IsToldSo (s : Setting) (v : View) (i : Image) : Type 0 where
+pub record IsReportedSo (s : Setting) (v : View) (i : Image) : Type 0 where
   pub accepted : AreAccepted i.accepted (own_delivered i.me i.delivered)
   pub perceived : ArePerceived (keyed s) v i.perceived
   pub conflicts : AreConflicts s i.conflicts

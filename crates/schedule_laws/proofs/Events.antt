@@ -154,10 +154,10 @@ module _ (ls : List Listed) where
 
   -- an event that takes one step
   one_step : (n : ℕ × List ℕ) (bytes : List ℕ) (made x : ScheduleEvent × List ℕ) → 1 ≡ steps_of made.0
-      → (let told : Step ℕ = Ok (1, bytes) in told) ≡ Ok n → (let read : Step ScheduleEvent = Ok made in read) ≡ Ok x → n.0 ≡ steps_of x.0
+      → (let reported : Step ℕ = Ok (1, bytes) in reported) ≡ Ok n → (let read : Step ScheduleEvent = Ok made in read) ≡ Ok x → n.0 ≡ steps_of x.0
   one_step n bytes made x one e f =
-      let told : ℕ × List ℕ = (1, bytes) in
-      ap (λ (m : ℕ × List ℕ). m.0) (sym (ok_is told n e)) ∙ one ∙ ap (λ (y : ScheduleEvent × List ℕ). steps_of y.0) (ok_is made x f)
+      let reported : ℕ × List ℕ = (1, bytes) in
+      ap (λ (m : ℕ × List ℕ). m.0) (sym (ok_is reported n e)) ∙ one ∙ ap (λ (y : ScheduleEvent × List ℕ). steps_of y.0) (ok_is made x f)
 
   -- how many steps the event takes, as told behind its tag
   steps_are : (tag : ℕ) (bytes : List ℕ) (n : ℕ × List ℕ) (x : ScheduleEvent × List ℕ) → 1 ≤ tag → tag ≤ 9 → steps_at tag bytes ≡ Ok n

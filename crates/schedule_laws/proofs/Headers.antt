@@ -449,20 +449,20 @@ not_true true e = absurd cc
 not_true false e = refl
 
 -- what the byte of a scheme says
-abbrev Told : ℕ → ℕ → Scheme → Type 0
-Told version b s = (b ≡ scheme_byte s) × HasVersion s version
+abbrev Reported : ℕ → ℕ → Scheme → Type 0
+Reported version b s = (b ≡ scheme_byte s) × HasVersion s version
 
-first_told : (version b : ℕ) (s : Scheme) (x y z : Bool) → (x ≡ true → Told version b schemes.Plain)
-    → (y ≡ true → Told version b schemes.Lms) → (z ≡ true → Told version b schemes.Hss)
-    → first_that_holds ((x, schemes.Plain) ∷ (y, schemes.Lms) ∷ (z, schemes.Hss) ∷ []) ≡ Some s → Told version b s
-first_told version b s true y z one two three e = let is : schemes.Plain ≡ s = cc in subst (Told version b) is (one refl)
-first_told version b s false true z one two three e = let is : schemes.Lms ≡ s = cc in subst (Told version b) is (two refl)
-first_told version b s false false true one two three e = let is : schemes.Hss ≡ s = cc in subst (Told version b) is (three refl)
-first_told version b s false false false one two three e = absurd cc
+first_reported : (version b : ℕ) (s : Scheme) (x y z : Bool) → (x ≡ true → Reported version b schemes.Plain)
+    → (y ≡ true → Reported version b schemes.Lms) → (z ≡ true → Reported version b schemes.Hss)
+    → first_that_holds ((x, schemes.Plain) ∷ (y, schemes.Lms) ∷ (z, schemes.Hss) ∷ []) ≡ Some s → Reported version b s
+first_reported version b s true y z one two three e = let is : schemes.Plain ≡ s = cc in subst (Reported version b) is (one refl)
+first_reported version b s false true z one two three e = let is : schemes.Lms ≡ s = cc in subst (Reported version b) is (two refl)
+first_reported version b s false false true one two three e = let is : schemes.Hss ≡ s = cc in subst (Reported version b) is (three refl)
+first_reported version b s false false false one two three e = absurd cc
 
 scheme_is : (version b : ℕ) (s : Scheme) → scheme_by version b ≡ Some s → (b ≡ scheme_byte s) × HasVersion s version
 scheme_is version b s e =
-    first_told version b s (eqb b 0 && not (eqb version 2)) (eqb b 1 && not (eqb version 2)) (eqb b 2 && not (eqb version 1))
+    first_reported version b s (eqb b 0 && not (eqb version 2)) (eqb b 1 && not (eqb version 2)) (eqb b 2 && not (eqb version 1))
     (λ t. let p = and_parts (eqb b 0) (not (eqb version 2)) t in (eqb-true b 0 p.0, not_true _ p.1))
     (λ t. let p = and_parts (eqb b 1) (not (eqb version 2)) t in (eqb-true b 1 p.0, not_true _ p.1))
     (λ t. let p = and_parts (eqb b 2) (not (eqb version 1)) t in (eqb-true b 2 p.0, not_true _ p.1))

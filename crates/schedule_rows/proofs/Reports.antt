@@ -33,13 +33,13 @@ unfolding byte_that process_that setting_at limit_at header_at processes_at all_
 tag_before_frame = refl
 
 -- what is told of both, behind `stop 7`
-frame_told : fault_words (Stops (NoSuchFrame 0 0 0)) ≡ codes "frame" ∷ codes "0" ∷ codes "0" ∷ codes "0" ∷ []
+frame_reported : fault_words (Stops (NoSuchFrame 0 0 0)) ≡ codes "frame" ∷ codes "0" ∷ codes "0" ∷ codes "0" ∷ []
 unfolding digits
-frame_told = refl
+frame_reported = refl
 
-tag_told : fault_words (NoSchedule (record { kind = faults.Tag; place = 68 })) ≡ codes "tag" ∷ codes "68" ∷ []
+tag_reported : fault_words (NoSchedule (record { kind = faults.Tag; place = 68 })) ≡ codes "tag" ∷ codes "68" ∷ []
 unfolding digits
-tag_told = refl
+tag_reported = refl
 
 -- ---- four correct processes, and no event
 

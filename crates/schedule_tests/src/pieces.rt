@@ -186,7 +186,7 @@ fn an_input_that_ends_anywhere_has_the_fault_of_the_whole(rt: HostRuntime) -> Re
 
 // The header of process 0 alone, a Pass, and a byte that is no tag.
 #[test]
-fn a_fault_is_told_with_its_place_for_every_cut(rt: HostRuntime) -> Result<(), Fail> {
+fn a_fault_is_reported_with_its_place_for_every_cut(rt: HostRuntime) -> Result<(), Fail> {
     let mut bytes = alone(rt.alloc())?;
     bytes.extend_from_slice(&[3, 0, 0, 0, 0, 0, 10])?;
     for size in 1..80 {

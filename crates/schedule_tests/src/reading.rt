@@ -99,7 +99,7 @@ fn a_drain_and_a_lie_are_read(rt: HostRuntime) -> Result<(), Fail> {
 }
 
 #[test]
-fn the_first_fault_is_told_with_its_place(rt: HostRuntime) -> Result<(), Fail> {
+fn the_first_fault_is_reported_with_its_place(rt: HostRuntime) -> Result<(), Fail> {
     let fault = |bytes: &[u8]| read_schedule(rt.alloc(), bytes).err();
     assert!(rt; fault(&[]) == Some(ScheduleFault::Short { place: 0 }));
     assert!(rt; fault(b"RPX1") == Some(ScheduleFault::Magic { place: 0 }));
@@ -116,7 +116,7 @@ fn the_first_fault_is_told_with_its_place(rt: HostRuntime) -> Result<(), Fail> {
 }
 
 #[test]
-fn past_the_limit_the_first_fault_is_told(rt: HostRuntime) -> Result<(), Fail> {
+fn past_the_limit_the_first_fault_is_reported(rt: HostRuntime) -> Result<(), Fail> {
     let fault = |bytes: &[u8]| read_schedule(rt.alloc(), bytes).err();
     let mut bytes = longest(rt.alloc())?;
     assert_eq!(rt; bytes.len(), 67_108_864);

@@ -99,9 +99,9 @@ module _ (kit : Kit) (version : Version) (snap : Snapper) (h : Host) (is : IsKit
     pub before : List Step
     pub turn : Turn
     pub done_is : done ≡ before ++ Happens turn ∷ []
-    pub told : List Note
-    pub notes_are : (outcome (setting_of kit) (at before).process turn).notes ≡ told ++ left
-    pub server_is : t ≡ after_notes q (at before).server told
+    pub reported : List Note
+    pub notes_are : (outcome (setting_of kit) (at before).process turn).notes ≡ reported ++ left
+    pub server_is : t ≡ after_notes q (at before).server reported
 
   -- or of all, and it is as the steps leave it
   abbrev pub IsSo : List Step → Server → List Note → Type 0
@@ -139,7 +139,7 @@ module _ (kit : Kit) (version : Version) (snap : Snapper) (h : Host) (is : IsKit
   settled done t left (inl so) none = so.1
   settled done t left (inr so) none =
       so.server_is
-      ∙ ap (λ (ns : List Note). after_notes q (at so.before).server ns) (sym (append-nil so.told) ∙ ap (λ (ns : List Note). so.told ++ ns) (sym none)
+      ∙ ap (λ (ns : List Note). after_notes q (at so.before).server ns) (sym (append-nil so.reported) ∙ ap (λ (ns : List Note). so.reported ++ ns) (sym none)
       ∙ sym so.notes_are)
       ∙ ap (λ (m : Moment). m.server) (sym (reached-on kit h m0 so.before (Happens so.turn ∷ [])))
       ∙ ap (λ (ss : List Step). (at ss).server) (sym so.done_is)
@@ -300,11 +300,11 @@ module _ (kit : Kit) (version : Version) (snap : Snapper) (h : Host) (is : IsKit
     waiting_is = ap (λ (t : Option (ℕ × Event)). waiting p (ls ++ new_leaving c n t)) none ∙ ap (waiting p) (append-nil ls) ∙ same;
   }
 
-  told-one : (n : Node) (xs : List Serving) (done : List Step) (r : ℕ) (note : Note) (ls : List Leaving) (text : List ℕ)
+  reported-one : (n : Node) (xs : List Serving) (done : List Step) (r : ℕ) (note : Note) (ls : List Leaving) (text : List ℕ)
       (sends : List (ℕ × List ℕ)) → n.leaving ≡ Tells r note ∷ ls → Holds n (Some xs) done
       → Next n (Some xs) done (TellsOf r note) (Said text sends) (if_fits c n ls n.tasks (after_leaving n (Tells r note) (Said text sends)))
   unfolding after_leaving after_notes
-  told-one n xs done r note ls text sends e holds = λ served. subst (Holds n' (Some ys)) (sym (append-nil done)) (record {
+  reported-one n xs done r note ls text sends e holds = λ served. subst (Holds n' (Some ys)) (sym (append-nil done)) (record {
     process = holds.process;
     turns = ap turns_in_these (append-nil n.kept) ∙ holds.turns;
     served = go (r == p) refl;
@@ -340,10 +340,10 @@ module _ (kit : Kit) (version : Version) (snap : Snapper) (h : Host) (is : IsKit
         before = so.before;
         turn = so.turn;
         done_is = so.done_is;
-        told = so.told ++ note ∷ [];
-        notes_are = so.notes_are ∙ sym (append_assoc so.told (note ∷ []) left);
+        reported = so.reported ++ note ∷ [];
+        notes_are = so.notes_are ∙ sym (append_assoc so.reported (note ∷ []) left);
         server_is = ap (λ (s : Server). after_note q s note) so.server_is
-            ∙ sym (notes-more q (at so.before).server so.told (note ∷ []));
+            ∙ sym (notes-more q (at so.before).server so.reported (note ∷ []));
       })
 
       go : (b : Bool) → (r == p) ≡ b → Has n' ys done
@@ -379,7 +379,7 @@ module _ (kit : Kit) (version : Version) (snap : Snapper) (h : Host) (is : IsKit
       nothing = refl
   leaves-next n (Some xs) done (Tells r note) ls (Came bytes) over e holds = λ served. absurd (let never = served.0 in cc)
   leaves-next n (Some xs) done (Tells r note) ls Broken over e holds = λ served. absurd (let never = served.0 in cc)
-  leaves-next n (Some xs) done (Tells r note) ls (Said text sends) over e holds = told-one n xs done r note ls text sends e holds
+  leaves-next n (Some xs) done (Tells r note) ls (Said text sends) over e holds = reported-one n xs done r note ls text sends e holds
   leaves-next n (Some xs) done (Tells r note) ls (Named s) over e holds = λ served. absurd (let never = served.0 in cc)
   leaves-next n (Some xs) done (Tells r note) ls (Digest digest) over e holds = λ served. absurd (let never = served.0 in cc)
 
@@ -599,7 +599,7 @@ module _ (kit : Kit) (version : Version) (snap : Snapper) (h : Host) (is : IsKit
             before = done;
             turn = turn;
             done_is = refl;
-            told = [];
+            reported = [];
             notes_are = ap (λ (x : Process). (outcome (setting_of kit) x turn).notes) holds.process
                 ∙ ap (λ (o : Outcome). o.notes) (journal_gives_the_turn (setting_of kit) (n.now p) (live c (n.now p) e)).1
                 ∙ sym (turn-waits p p (outcome_of c (n.now p) e) true (eq-eqb p p refl));

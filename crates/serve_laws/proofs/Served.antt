@@ -27,7 +27,7 @@ use Rattle.following_laws.specs.Runs.{Moment, Says, ServedRun, Step, WritesReply
 use Rattle.following_laws.proofs.Running.{run_gives, run_holds, run_replies, runs_give_once, runs_reply_once}
 use Rattle.store_service.specs.Service.{AreServed}
 use Rattle.serve_laws.specs.Runs.{NodeRun, at, cast, first, last, opened, process_of, steps, turns_of}
-use Rattle.serve_laws.specs.Told.{Gave, Replied}
+use Rattle.serve_laws.specs.Reported.{Gave, Replied}
 use Rattle.serve_laws.specs.Laws.{AcceptedAreAnswers, HistoriesServe, IsOneOf, IsServedRun, IsWritten, RepliesAreAnswers, RepliesAreMade, RepliesOnce, RunsAreServed, StatesAreMade, StatesOnce, StoreLaws, StoresHold, WroteIt}
 use Rattle.serve_laws.proofs.Along.{turns-join}
 use Rattle.serve_laws.proofs.Opened.{opened-sound}

@@ -17,16 +17,16 @@ use Rattle.node_laws.proofs.Fitting.{start-numbered}
 use Rattle.node_laws.proofs.Soundness.{answered-sound}
 use Rattle.store_defs.specs.Holding.{payloads_of}
 use Rattle.store_defs.specs.Records.{Reply, StateRecord}
-use Rattle.store_defs.specs.Serving.{Given, ReplyWord, Server, Signed, ToldReply, after_notes, reply_to, state_given, told_of}
+use Rattle.store_defs.specs.Serving.{Given, ReplyWord, Server, Signed, ReportedReply, after_notes, reply_to, state_given, reported_of}
 use Rattle.store_defs.specs.Services.{noted_text, place_of, worded}
 use Rattle.store_defs.specs.Words as words
-use Rattle.store_defs.specs.Words.{Give, given_text, told_text}
+use Rattle.store_defs.specs.Words.{Give, given_text, reported_text}
 use Rattle.following_laws.specs.Runs as runs
 use Rattle.following_laws.specs.Runs.{Says, Step, reached}
 use Rattle.store_service.specs.Service.{AreServed, Serving, after_all, after_one, noted, serving}
 use Rattle.node_defs.specs.Nodes as nodes
 use Rattle.serve_laws.specs.Runs.{IsHostIn, NodeRun, after_some, at, cast, first, history, opened, steps, steps_by, steps_in, turns_of, word_in}
-use Rattle.serve_laws.specs.Told.{Gave, Replied, WasSaid, WritesOfNote, WritesToLine}
+use Rattle.serve_laws.specs.Reported.{Gave, Replied, WasSaid, WritesOfNote, WritesToLine}
 use Rattle.serve_laws.specs.Laws.{RunTells, RunsTell, SaysReply, SaysState}
 use Rattle.serve_laws.proofs.Changing.{waiting}
 use Rattle.serve_laws.proofs.Opened.{Waits, opened-sound, opening-waits}
@@ -241,7 +241,7 @@ module _ (r : NodeRun) (h : Host) (is : IsKit r.kit) (found : IsHostIn r h) (ser
             turn = so.turn;
             behind = steps_in r.kit c r.snap h.process (answered c r.snap n (Said text w.sends)) w.rest;
             steps_are = steps-so call text w ∙ ap (λ (ss : List Step). ss ++ rest) so.done_is ∙ append_assoc so.before (runs.Happens so.turn ∷ []) rest;
-            told = so.told;
+            reported = so.reported;
             others = waiting h.process it.rest;
             notes_are = so.notes_are;
             text_is = text-so ∙ ap (λ (s : Server). noted_text (place_of r.kit h) s note) so.server_is;
@@ -306,10 +306,10 @@ module _ (r : NodeRun) (h : Host) (is : IsKit r.kit) (found : IsHostIn r h) (ser
   -- ---- replies and states
 
   reply-so : (view : ℕ) (d : Delivered) (text : List ℕ) → WasSaid r (TellsOf h.process (Delivers view d)) text → SaysReply r h text
-  unfolding told_of
+  unfolding reported_of
   reply-so view d text w =
       let so = note-so (Delivers view d) text w in
-      let s : Server = after_notes (place_of r.kit h) (at r h so.before).server so.told in
+      let s : Server = after_notes (place_of r.kit h) (at r h so.before).server so.reported in
       record {
         word = reply_to (place_of r.kit h) s view d;
         text_is = so.text_is;
@@ -319,18 +319,18 @@ module _ (r : NodeRun) (h : Host) (is : IsKit r.kit) (found : IsHostIn r h) (ser
             view = view;
             delivered = d;
             said = subst (WasSaid r (TellsOf h.process (Delivers view d)))
-                (so.text_is ∙ ap (λ (word : ReplyWord). told_text h.process (ToldReply word)) e) w;
+                (so.text_is ∙ ap (λ (word : ReplyWord). reported_text h.process (ReportedReply word)) e) w;
             writes = record {
               before = so.before;
               turn = so.turn;
               behind = so.behind;
               steps_are = so.steps_are;
-              front = so.told;
+              front = so.reported;
               view = view;
               delivered = d;
               rest = so.others;
               notes_are = so.notes_are;
-              told = ap ToldReply e;
+              reported = ap ReportedReply e;
               leaf_is = refl;
             };
           },

@@ -14,24 +14,24 @@ use Rattle.node_traces.specs.Service.{Asked}
 use Rattle.store_defs.specs.Holding.{payloads_of, store_below}
 use Rattle.store_defs.specs.Laws.{IsAnswerOf, IsInstalled, MadeReply, MadeState, ServicePremises, Services, accepted_of}
 use Rattle.store_defs.specs.Records.{Reply, StateRecord, reply_body, state_body}
-use Rattle.store_defs.specs.Serving.{Given, ReplyWord, Signed, StateWord, ToldReply}
+use Rattle.store_defs.specs.Serving.{Given, ReplyWord, Signed, StateWord, ReportedReply}
 use Rattle.store_defs.specs.Services.{place_of}
 use Rattle.store_defs.specs.Stores.{Store, store_after}
 use Rattle.store_defs.specs.Votes.{Content, content_of}
 use Rattle.store_defs.specs.Votes as votes
-use Rattle.store_defs.specs.Words.{Give, State, given_text, told_text}
+use Rattle.store_defs.specs.Words.{Give, State, given_text, reported_text}
 use Rattle.following_laws.specs.Runs as runs
 use Rattle.following_laws.specs.Runs.{Says, ServedRun, Step}
 use Rattle.store_service.specs.Service.{AreServed}
 use Rattle.serve_laws.specs.Runs.{IsHostIn, NodeRun, at, first, history, process_of, steps, word_in}
-use Rattle.serve_laws.specs.Told.{Gave, Replied, WasSaid, WritesOfNote, WritesToLine}
+use Rattle.serve_laws.specs.Reported.{Gave, Replied, WasSaid, WritesOfNote, WritesToLine}
 
 -- ---- what a run answers
 
 -- the text is the line of a reply word, and a reply that it has was signed in the run
 pub record SaysReply (r : NodeRun) (h : Host) (text : List ℕ) : Type 0 where
   pub word : ReplyWord
-  pub text_is : text ≡ told_text h.process (ToldReply word)
+  pub text_is : text ≡ reported_text h.process (ReportedReply word)
   pub replied : (reply : Reply) → word ≡ Signed reply → (leaf : ℕ) × Replied r h leaf reply
 
 -- the text is the line of a state word, and a state that it has was signed in the run

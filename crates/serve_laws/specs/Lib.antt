@@ -1,4 +1,4 @@
 pub mod Runs
-pub mod Told
+pub mod Reported
 pub mod Laws
 pub mod Services

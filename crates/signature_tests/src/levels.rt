@@ -159,7 +159,7 @@ fn no_other_number_of_levels_is_valid(rt: HostRuntime) -> Result<(), Fail> {
 }
 
 #[test]
-fn the_first_reason_not_to_make_a_key_is_told(rt: HostRuntime) {
+fn the_first_reason_not_to_make_a_key_is_reported(rt: HostRuntime) {
     for (levels, height, ots, fault) in [
         (0, 8, OtsType::W1, KeyFault::Levels),
         (4, 5, OtsType::W8, KeyFault::Levels),
@@ -170,10 +170,10 @@ fn the_first_reason_not_to_make_a_key_is_told(rt: HostRuntime) {
         (3, 6, OtsType::W1, KeyFault::TooLong),
     ] {
         let made = HssKey::make(rt.alloc(), levels, height, ots, ID, SEED);
-        let told = made.err();
+        let reported = made.err();
         assert!(rt;
-            told == Some(fault),
-            "{levels} levels of {height}: {told:?}"
+            reported == Some(fault),
+            "{levels} levels of {height}: {reported:?}"
         );
     }
 }

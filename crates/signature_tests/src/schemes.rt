@@ -194,8 +194,8 @@ fn has_signer(
         id: [0; 16],
         seed: [0; 32],
     };
-    let told = [secret.signer(alloc).err(), secret.public_key(alloc).err()];
-    !levels_are_built(levels, height, ots) && told == [fault; 2]
+    let reported = [secret.signer(alloc).err(), secret.public_key(alloc).err()];
+    !levels_are_built(levels, height, ots) && reported == [fault; 2]
 }
 
 // Rows with the first reason each, or none; a key of levels that are built is not made here, as some take long.

@@ -122,8 +122,8 @@ unfoldable pub halted_at : List ℕ → Step Bool
 halted_at bytes = made (λ n. n == 1) (number_to w8 1) bytes
 
 -- the own number, the views that were left, the perceived pairs and the accepted payloads
-unfoldable pub told_at : List ℕ → Step (ℕ × (List LeftView × (List (ℕ × Update) × List (List ℕ))))
-told_at bytes = (process_at & all_left_at & all_perceived_at & list_at (λ k. text_to most_payload_bytes)) bytes
+unfoldable pub reported_at : List ℕ → Step (ℕ × (List LeftView × (List (ℕ × Update) × List (List ℕ))))
+reported_at bytes = (process_at & all_left_at & all_perceived_at & list_at (λ k. text_to most_payload_bytes)) bytes
 
 -- the signed claims, those that were heard before, those that are heard, and the conflicts
 unfoldable pub claimed_at : List ℕ → Step (List Claim × (List Claim × (List Claim × List (Claim × Claim))))
@@ -136,15 +136,15 @@ settled_at v views bytes = (times_at (λ k. view_at v) 0 views & decision_at & h
 -- The views are those that were left and the one after them.
 unfoldable pub image_at : Version → List ℕ → Step Image
 image_at v bytes = do
-  told ← told_at bytes
-  claimed ← claimed_at told.1
-  settled ← settled_at v (length told.0.1.0 + 1) claimed.1
+  reported ← reported_at bytes
+  claimed ← claimed_at reported.1
+  settled ← settled_at v (length reported.0.1.0 + 1) claimed.1
   Ok (
     record {
-      me = told.0.0;
-      left = told.0.1.0;
-      perceived = told.0.1.1.0;
-      accepted = told.0.1.1.1;
+      me = reported.0.0;
+      left = reported.0.1.0;
+      perceived = reported.0.1.1.0;
+      accepted = reported.0.1.1.1;
       signed = claimed.0.0;
       previous = claimed.0.1.0;
       heard = claimed.0.1.1.0;

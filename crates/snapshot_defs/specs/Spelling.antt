@@ -18,8 +18,8 @@ abbrev pub message_of_bytes : Version → Delivered → List ℕ
 message_of_bytes v d = place_bytes v d.place ++ d.message.sender ∷ (two_bytes d.message.number ++ text d.payload)
 
 -- the own number, the views that were left, the perceived pairs and the accepted payloads
-abbrev pub told_bytes : Image → List ℕ
-told_bytes i = i.me ∷ (two_bytes (length i.left) ++ (flat_map left_bytes i.left
+abbrev pub reported_bytes : Image → List ℕ
+reported_bytes i = i.me ∷ (two_bytes (length i.left) ++ (flat_map left_bytes i.left
     ++ (list_bytes perceived_bytes i.perceived ++ list_bytes text i.accepted)))
 
 -- the signed claims, those that were heard before, those that are heard, and the conflicts
@@ -32,4 +32,4 @@ abbrev pub settled_bytes : Version → Image → List ℕ
 settled_bytes v i = flat_map (list_bytes (message_of_bytes v)) i.delivered ++ (ready_bytes i.decision ++ (if i.halted then 1 else 0) ∷ [])
 
 unfoldable pub spelled : Version → Image → List ℕ
-spelled v i = told_bytes i ++ (claimed_bytes i ++ settled_bytes v i)
+spelled v i = reported_bytes i ++ (claimed_bytes i ++ settled_bytes v i)

@@ -10,7 +10,7 @@ use Rattle.image_defs.specs.Images.{LeftView}
 use Rattle.image_defs.specs.Spelling.{list_bytes, claim_bytes, perceived_bytes}
 use Rattle.snapshot_defs.specs.declared.Version.{Version}
 use Rattle.snapshot_defs.specs.Steps.{Step, ◌&◌, times_at, list_at, text_to}
-use Rattle.snapshot_defs.specs.Reading.{process_at, all_left_at, all_perceived_at, claims_at, all_conflicts_at, view_at, decision_at, halted_at, told_at, claimed_at, settled_at}
+use Rattle.snapshot_defs.specs.Reading.{process_at, all_left_at, all_perceived_at, claims_at, all_conflicts_at, view_at, decision_at, halted_at, reported_at, claimed_at, settled_at}
 use Rattle.snapshot_defs.specs.Spelling.{message_of_bytes}
 use Rattle.snapshot_defs.specs.Ranges.{EachFrom, IsListOf, AreClaims, IsPayload, IsDeliveredAt, IsDecision}
 use Rattle.snapshot_laws.proofs.Fields.{IsField, and_is}
@@ -22,18 +22,18 @@ use Rattle.snapshot_laws.proofs.Messages.{view_is, decision_is, halted_is, Decis
 abbrev pub payloads_at : List ℕ → Step (List (List ℕ))
 payloads_at bytes = list_at (λ k. text_to 1024) bytes
 
-abbrev pub Told : Type 0
-Told = ℕ × (List LeftView × (List (ℕ × Update) × List (List ℕ)))
+abbrev pub Reported : Type 0
+Reported = ℕ × (List LeftView × (List (ℕ × Update) × List (List ℕ)))
 
-abbrev pub told_text : Told → List ℕ
-told_text t = t.0 ∷ (all_left t.1.0 ++ (list_bytes perceived_bytes t.1.1.0 ++ list_bytes text t.1.1.1))
+abbrev pub reported_text : Reported → List ℕ
+reported_text t = t.0 ∷ (all_left t.1.0 ++ (list_bytes perceived_bytes t.1.1.0 ++ list_bytes text t.1.1.1))
 
-abbrev pub IsTold : Told → Type 0
-IsTold t = (t.0 ≤ 63) × (AreLeftViews t.1.0 × (ArePerceived t.1.1.0 × IsListOf (λ k payload. IsPayload payload) t.1.1.1))
+abbrev pub IsReported : Reported → Type 0
+IsReported t = (t.0 ≤ 63) × (AreLeftViews t.1.0 × (ArePerceived t.1.1.0 × IsListOf (λ k payload. IsPayload payload) t.1.1.1))
 
-pub told_is : IsField told_at told_text IsTold
-unfolding told_at
-told_is = and_is process_at (all_left_at & all_perceived_at & payloads_at) process_is
+pub reported_is : IsField reported_at reported_text IsReported
+unfolding reported_at
+reported_is = and_is process_at (all_left_at & all_perceived_at & payloads_at) process_is
     (and_is all_left_at (all_perceived_at & payloads_at) all_left_are (and_is all_perceived_at payloads_at all_perceived_are payloads_are))
 
 abbrev pub Claimed : Type 0

@@ -10,7 +10,7 @@ unfolding messages.message_at messages.messages_at messages.count_at messages.pa
     messages.report_at messages.init_at messages.echo_at messages.placed_at messages.notify_at messages.end_at messages.last_at
     messages.valued_at messages.content_at messages.statement_in messages.statement_of steps.times_at steps.number_to steps.text_to
     images.statement_at images.claim_at images.update_at images.value_at images.left_at images.perceived_at images.conflict_at images.place_at
-    images.message_at images.delivered_at images.view_at images.decision_at images.halted_at images.told_at images.claimed_at
+    images.message_at images.delivered_at images.view_at images.decision_at images.halted_at images.reported_at images.claimed_at
     images.settled_at images.image_at images.whole_at images.image_in worked first second first_cut second_cut first_raised second_raised
 worked_image = record {
   read_first = refl;

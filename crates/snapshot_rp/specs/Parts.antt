@@ -5,13 +5,13 @@ use Rattle.message_defs.specs.Statements.{Claim}
 use Rattle.group_defs.specs.Process as plain
 use Rattle.image_defs.specs.Images as images
 use Rattle.stmt_codec.specs.Views.{report}
-use Rattle.snapshot_rp.specs.declared.reading.Told.{Told}
+use Rattle.snapshot_rp.specs.declared.reading.Reported.{Reported}
 use Rattle.snapshot_rp.specs.declared.reading.Claimed.{Claimed}
 use Rattle.snapshot_rp.specs.declared.reading.Settled.{Settled}
 use Rattle.snapshot_rp.specs.Views.{left_view, perceived, delivered}
 
-abbrev pub told : Told → ℕ × (List images.LeftView × (List (ℕ × Update) × List (List ℕ)))
-told t = (t.me, (map left_view t.left.items, (map perceived t.perceived.items, t.accepted.items)))
+abbrev pub reported : Reported → ℕ × (List images.LeftView × (List (ℕ × Update) × List (List ℕ)))
+reported t = (t.me, (map left_view t.left.items, (map perceived t.perceived.items, t.accepted.items)))
 
 abbrev pub claimed : Claimed → List Claim × (List Claim × (List Claim × List (Claim × Claim)))
 claimed c = (c.signed.items, (c.previous.items, (c.heard.items, c.conflicts.items)))

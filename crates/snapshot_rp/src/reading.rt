@@ -8,7 +8,7 @@ ghost use Rattle.snapshot_defs.specs.Ranges.{IsImage};
 ghost use Rattle.snapshot_defs.specs.declared.Version.TheVariants.{Two};
 ghost use Rattle.stmt_codec.specs.Views.{report};
 ghost use Rattle.snapshot_rp.specs.Faults.{fault_of, left_of};
-ghost use Rattle.snapshot_rp.specs.Parts.{told, claimed, settled};
+ghost use Rattle.snapshot_rp.specs.Parts.{reported, claimed, settled};
 ghost use Rattle.snapshot_rp.specs.Views.{left_view, perceived, image};
 
 use crate::claim::KeptClaim;
@@ -26,7 +26,7 @@ use stmt_codec::{Delivered, LAST_NUMBER, Payload};
 const PROCESSES: u8 = 64;
 
 #[derive(Drop)]
-struct Told {
+struct Reported {
     me: Pid,
     left: Vec<LeftView>,
     perceived: Vec<(u16, Update)>,
@@ -87,15 +87,15 @@ fn conflicts(
 }
 
 // The own number, the views that were left, the perceived pairs and the accepted payloads.
-#[tactic(auto, unfolding(snapshot_defs::specs::Reading::told_at))]
-fn read_told(reading: Reading, cursor: &mut Cursor<'_>) -> Result<Told, ReadError>
-    ensures { Makes left_of (λ t. (told t, cursor.new.rest.now)) result (plain.told_at cursor.old.rest.now) }
+#[tactic(auto, unfolding(snapshot_defs::specs::Reading::reported_at))]
+fn read_reported(reading: Reading, cursor: &mut Cursor<'_>) -> Result<Reported, ReadError>
+    ensures { Makes left_of (λ t. (reported t, cursor.new.rest.now)) result (plain.reported_at cursor.old.rest.now) }
 {
     let me = cursor.process()?;
     let left = left_views(reading, cursor)?;
     let perceived = perceived_pairs(reading, cursor)?;
     let accepted = list(reading, cursor)?;
-    Ok(Told {
+    Ok(Reported {
         me,
         left,
         perceived,
@@ -164,14 +164,14 @@ fn read_settled(
 fn read_image(reading: Reading, cursor: &mut Cursor<'_>) -> Result<Image, ReadError>
     ensures { Makes left_of (λ i. (image i, cursor.new.rest.now)) result (plain.image_at reading.version cursor.old.rest.now) }
 {
-    let told = read_told(reading, cursor)?;
+    let reported = read_reported(reading, cursor)?;
     let claimed = read_claimed(reading, cursor)?;
-    let settled = read_settled(reading, cursor, told.left.len() + 1)?;
+    let settled = read_settled(reading, cursor, reported.left.len() + 1)?;
     Ok(Image {
-        me: told.me,
-        left: told.left,
-        perceived: told.perceived,
-        accepted: told.accepted,
+        me: reported.me,
+        left: reported.left,
+        perceived: reported.perceived,
+        accepted: reported.accepted,
         signed: claimed.signed,
         previous: claimed.previous,
         heard: claimed.heard,

@@ -2,7 +2,7 @@
 ghost use Rattle.std.specs.Prelude.{◌≡◌, ◌≤◌, ◌+◌, ◌++◌, length, IfOk, OnOk, OnErr};
 ghost use Rattle.message_defs.specs.Limits.{last_process};
 ghost use Rattle.image_defs.specs.Spelling.{image_bytes};
-ghost use Rattle.snapshot_defs.specs.Spelling.{told_bytes, claimed_bytes, settled_bytes, spelled};
+ghost use Rattle.snapshot_defs.specs.Spelling.{reported_bytes, claimed_bytes, settled_bytes, spelled};
 ghost use Rattle.snapshot_defs.specs.declared.Version.TheVariants.{Two};
 ghost use Rattle.snapshot_rp.specs.Views.{image as image_of};
 
@@ -13,8 +13,8 @@ use rp_base::NoMemory;
 use std::alloc::Global;
 
 // The own number, the views that were left, the perceived pairs and the accepted payloads.
-fn push_told(out: &mut Vec<u8>, image: &Image) -> Result<(), NoMemory>
-    ensures { OnOk result (out.new.items ≡ out.old.items ++ told_bytes (image_of image.now)) }
+fn push_reported(out: &mut Vec<u8>, image: &Image) -> Result<(), NoMemory>
+    ensures { OnOk result (out.new.items ≡ out.old.items ++ reported_bytes (image_of image.now)) }
 {
     out.push(image.me.get())?;
     push_length(out, image.left.len())?;
@@ -51,7 +51,7 @@ fn image_text(alloc: Global, image: &Image) -> Result<Vec<u8>, NoMemory>
     ensures { IfOk result (λ bytes. bytes.items ≡ spelled Two (image_of image.now)) }
 {
     let mut out = Vec::new(alloc);
-    push_told(&mut out, image)?;
+    push_reported(&mut out, image)?;
     push_claimed(&mut out, image)?;
     push_settled(&mut out, image)?;
     Ok(out)

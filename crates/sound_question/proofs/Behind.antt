@@ -70,26 +70,26 @@ module _ (sender : ℕ) (ds : List Delivered) (i : ℕ) (d : Delivered) (lt : i 
 
 module _ (sender : ℕ) (sequence : ℕ → List Letter) (x : ℕ) where
   -- what the sequences of so many views have of the sender
-  abbrev told : ℕ → List (List ℕ)
-  told n = payloads_of sender (flat_map sequence (range_with_len 0 n))
+  abbrev reported : ℕ → List (List ℕ)
+  reported n = payloads_of sender (flat_map sequence (range_with_len 0 n))
 
-  pub history-more : told (x + 1) ≡ told x ++ payloads_of sender (sequence x)
+  pub history-more : reported (x + 1) ≡ reported x ++ payloads_of sender (sequence x)
   history-more =
       let one : x + 1 ≡ suc x = omega arith in
       let last : 0 + x ≡ x = omega arith in
-      ap told one
+      ap reported one
       ∙ ap (λ ks. payloads_of sender (flat_map sequence ks)) (range-more 0 x)
       ∙ ap (payloads_of sender) (flat_map-append sequence (range_with_len 0 x) ((0 + x) ∷ []))
       ∙ payloads-append sender (flat_map sequence (range_with_len 0 x)) (flat_map sequence ((0 + x) ∷ []))
-      ∙ ap (λ ds. told x ++ payloads_of sender ds) (append-nil (sequence (0 + x)) ∙ ap sequence last)
+      ∙ ap (λ ds. reported x ++ payloads_of sender ds) (append-nil (sequence (0 + x)) ∙ ap sequence last)
 
   pub history-split : (n : ℕ) → x < n
-      → told n ≡ (told x ++ payloads_of sender (sequence x)) ++ payloads_of sender (flat_map sequence (range_with_len (x + 1) (n - x - 1)))
+      → reported n ≡ (reported x ++ payloads_of sender (sequence x)) ++ payloads_of sender (flat_map sequence (range_with_len (x + 1) (n - x - 1)))
   history-split n lt =
       let all : n ≡ (x + 1) + (n - x - 1) = omega (arith, lt) in
       let at : 0 + (x + 1) ≡ x + 1 = omega arith in
       let rest : ℕ = n - x - 1 in
-      ap told all
+      ap reported all
       ∙ ap (λ ks. payloads_of sender (flat_map sequence ks)) (range-split 0 (x + 1) rest)
       ∙ ap (payloads_of sender) (flat_map-append sequence (range_with_len 0 (x + 1)) (range_with_len (0 + (x + 1)) rest))
       ∙ payloads-append sender (flat_map sequence (range_with_len 0 (x + 1))) (flat_map sequence (range_with_len (0 + (x + 1)) rest))

@@ -6,7 +6,7 @@ use Rattle.std.proofs.lemmas.Bool.{cases_eq, eqb-true, eq-eqb, leb-true, le-leb}
 use Rattle.std.proofs.lemmas.List.Folds.{list_all-map}
 use Rattle.message_defs.specs.Statements.{Message}
 use Rattle.group_defs.specs.Process.{Delivered, places_in}
-use Rattle.group_defs.specs.Accounts as told
+use Rattle.group_defs.specs.Accounts as reported
 use Rattle.group_defs.specs.Accounts.{at_place, batch_at, longest, delivered_in, have_same_batches, stands_by_place, are_placed_in, HaveSameBatches}
 use Rattle.pool_laws.proofs.Members.{Mem, each-list_all, list_all-mem, map-mem, mem-map}
 use Rattle.pool_laws.proofs.Places.{longest-mem, longest-most}
@@ -256,7 +256,7 @@ module _ (accounts : List Account) (x : ℕ) where
   abbrev are_fronts : List Delivered → Bool
   are_fronts all = list_all (λ a. front 0 (of_account a) all) accounts
 
-  abbrev in_view : told.Account → List Delivered
+  abbrev in_view : reported.Account → List Delivered
   in_view a = delivered_in a x
 
   placed-by : (all_stand && are_fronts (longest (map of_account accounts))) ≡ are_placed_in (map account accounts) x

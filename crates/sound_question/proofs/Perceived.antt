@@ -5,7 +5,7 @@ use Rattle.std.specs.List.{list_any}
 use Rattle.std.proofs.lemmas.List.Folds.{list_any-append}
 use Rattle.message_defs.specs.Updates as plain
 use Rattle.group_defs.specs.Views.{View, is_member}
-use Rattle.group_defs.specs.Accounts as told
+use Rattle.group_defs.specs.Accounts as reported
 use Rattle.group_defs.specs.Accounts.{has_cause}
 use Rattle.rp_base.specs.declared.updates.Update.{Update}
 use Rattle.rp_base.specs.Views.{update}
@@ -32,7 +32,7 @@ module _ (keyed : List ℕ) (v w : View) where
   abbrev pub leads : Account → Bool
   leads a = is_member v a.me && list_any led a.perceived.items
 
-  abbrev perceived_by : told.Account → List plain.Update
+  abbrev perceived_by : reported.Account → List plain.Update
   perceived_by a = if is_member v a.me then map (λ e. e.1) (filter (λ e. e.0 == v.number) a.perceived) else []
 
   one : (a : Account) → list_any (gives keyed v w)

@@ -3,7 +3,7 @@ ghost use Rattle.std.specs.Prelude.{◌≡◌, ◌++◌, ◌<◌, ◌≤◌, dro
 ghost use Rattle.std.specs.List.{AllByRecursion};
 ghost use Rattle.message_defs.specs.Spelling.{IsClaim};
 ghost use Rattle.message_defs.specs.Updates as plain;
-ghost use Rattle.image_defs.specs.Images.{left_by, ready_said, told_by};
+ghost use Rattle.image_defs.specs.Images.{left_by, ready_said, reported_by};
 ghost use Rattle.rp_base.specs.Views.{value as value_of};
 ghost use Rattle.stmt_codec.specs.Views.{stmt};
 ghost use Rattle.snapshot_rp.specs.Views.{left_view as view_of};
@@ -67,8 +67,8 @@ fn ready_in(statement: &Statement<'_>) -> (u8, Value)
 }
 
 // What the claims say, which is the Ready that decided the view.
-fn told(commit: &[KeptClaim]) -> (u8, Value)
-    ensures { (result.0, value_of result.1) ≡ told_by commit.now }
+fn reported(commit: &[KeptClaim]) -> (u8, Value)
+    ensures { (result.0, value_of result.1) ≡ reported_by commit.now }
 {
     match commit {
         [first, ..] => ready_in(&first.claim().statement),
@@ -88,7 +88,7 @@ fn left_view(alloc: Global, archive: &Archive, view: u16) -> Result<LeftView, No
     ensures { IfOk result (λ left. view_of left ≡ left_by (commit_at archive.now.commits view)) }
 {
     let commit = commit(alloc, archive, view)?;
-    let (rank, value) = told(commit.as_slice());
+    let (rank, value) = reported(commit.as_slice());
     Ok(LeftView {
         rank,
         value,

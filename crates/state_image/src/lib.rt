@@ -3,8 +3,8 @@
 
 mod claims;
 mod left;
+mod reported;
 mod signed;
-mod told;
 mod whole;
 
 pub use member_state::ProcessState;

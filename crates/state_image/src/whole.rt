@@ -7,8 +7,8 @@ ghost use Rattle.state_image.specs.States.{IsReal, IsStateOf};
 
 use crate::claims::{conflicts_in, heard_before, heard_in};
 use crate::left::left_views;
+use crate::reported::{decision_in, is_halted, reported_in};
 use crate::signed::signed_in;
-use crate::told::{decision_in, is_halted, told_in};
 use member_state::ProcessState;
 use rp_base::NoMemory;
 use snapshot_rp::Image;
@@ -28,17 +28,17 @@ pub fn image_in(alloc: Global, state: &ProcessState, many: usize) -> Result<Imag
     let previous = heard_before(alloc, &state.archive)?;
     let heard = heard_in(alloc, &state.pool)?;
     let conflicts = conflicts_in(alloc, &state.conflicts)?;
-    let told = told_in(alloc, &state.account)?;
+    let reported = reported_in(alloc, &state.account)?;
     Ok(Image {
         me: state.own.me,
         left,
-        perceived: told.perceived,
-        accepted: told.accepted,
+        perceived: reported.perceived,
+        accepted: reported.accepted,
         signed,
         previous,
         heard,
         conflicts,
-        delivered: told.delivered,
+        delivered: reported.delivered,
         decision: decision_in(&state.phase),
         halted: is_halted(&state.phase),
     })

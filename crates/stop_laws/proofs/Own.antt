@@ -71,10 +71,10 @@ own-step c n p e None = of (is_full n.gate (entry_for c (n.now p) e))
     of false = (runs-on, (tt, tt))
 
 -- what a line in the node's own words asks for
-pub own-line : (n : Node) (first : List ℕ) (many : Bool) (told : Option Line) (said : Line) → many ≡ false → told ≡ Some said
-    → IsOwnLine said → NoLine (if many then ends n [] (BadLine (n.lines + 1)) else after_line n first told).stop
-    × AreOwn (if many then ends n [] (BadLine (n.lines + 1)) else after_line n first told).before
-own-line n first true told said few is own = absurd cc
+pub own-line : (n : Node) (first : List ℕ) (many : Bool) (reported : Option Line) (said : Line) → many ≡ false → reported ≡ Some said
+    → IsOwnLine said → NoLine (if many then ends n [] (BadLine (n.lines + 1)) else after_line n first reported).stop
+    × AreOwn (if many then ends n [] (BadLine (n.lines + 1)) else after_line n first reported).before
+own-line n first true reported said few is own = absurd cc
 own-line n first false None said few is own = absurd cc
 own-line n first false (Some Snap) said few is own = (runs-on, (tt, tt))
 own-line n first false (Some (Of q (Hand e))) said few is own = (runs-on, (tt, tt))

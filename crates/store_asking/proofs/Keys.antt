@@ -79,10 +79,10 @@ same_key scheme roster keys (process ∷ key ∷ []) rising =
 same_key scheme roster keys (process ∷ key ∷ more ∷ words) rising = refl
 
 -- so it is said
-pub key_so : (scheme : Scheme) (roster told : List ℕ) (keys : Keys) (words : List (List ℕ)) (said : Option PlainSaid) → told ≡ roster_of keys
-    → IsRising keys → said ≡ option_map with_key (key_above scheme roster told words)
+pub key_so : (scheme : Scheme) (roster reported : List ℕ) (keys : Keys) (words : List (List ℕ)) (said : Option PlainSaid) → reported ≡ roster_of keys
+    → IsRising keys → said ≡ option_map with_key (key_above scheme roster reported words)
     → said ≡ option_map with_key (reply_key_by scheme roster keys words)
-key_so scheme roster told keys words said is rising so =
+key_so scheme roster reported keys words said is rising so =
     so ∙ ap (λ (ps : List ℕ). option_map with_key (key_above scheme roster ps words)) is
     ∙ ap (λ (o : Option (ℕ × List ℕ)). option_map with_key o) (same_key scheme roster keys words rising)
 
@@ -96,7 +96,7 @@ pub is_next : (keys : Keys) (said : PlainSaid) → IsAbove (roster_of keys) said
 is_next keys (Key process key) above = All-from_recursion (λ k. k.0 < process) keys (each_below keys process above)
 is_next keys (Of view) above = tt
 
-pub next_if : {S : Type 0} (view : S → PlainSaid) (keys : Keys) (told : List ℕ) (o : Option S) → told ≡ roster_of keys
-    → IfSome o (λ s. IsAbove told (view s)) → IfSome o (λ s. IsNext keys (view s))
-next_if view keys told None are above = tt
-next_if view keys told (Some s) are above = is_next keys (view s) (subst (λ (ps : List ℕ). IsAbove ps (view s)) are above)
+pub next_if : {S : Type 0} (view : S → PlainSaid) (keys : Keys) (reported : List ℕ) (o : Option S) → reported ≡ roster_of keys
+    → IfSome o (λ s. IsAbove reported (view s)) → IfSome o (λ s. IsNext keys (view s))
+next_if view keys reported None are above = tt
+next_if view keys reported (Some s) are above = is_next keys (view s) (subst (λ (ps : List ℕ). IsAbove ps (view s)) are above)

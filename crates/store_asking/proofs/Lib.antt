@@ -1,7 +1,7 @@
 mod LineFaults
 mod Keys
 mod Questions
-mod Told
+mod Reported
 mod Votes
 mod Runs
 mod Written

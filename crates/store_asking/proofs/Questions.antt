@@ -148,23 +148,23 @@ module _ (kit : Kit) (n : ℕ) (keys : List (ℕ × List ℕ)) (ahead : List ℕ
     -- a line says this
     pub says : (said : PlainSaid) → Some said ≡ said_by kit.scheme (roster_of kit.keys) keys (words_of line)
         → Leads (question_at (key_place kit n keys ahead)) before now (question_behind kit n keys l.ahead said)
-    says said told =
+    says said reported =
         let leads = line_leads F most_line_bytes ahead before now l taken_line in
         record {
           read = leads.read;
           taken = leads.taken;
-          is = λ rest. leads.is rest ∙ goes_on (Some said) told rest ∙ same_behind said rest;
+          is = λ rest. leads.is rest ∙ goes_on (Some said) reported rest ∙ same_behind said rest;
         }
 
     -- a line says nothing
     pub says_none : None ≡ said_by kit.scheme (roster_of kit.keys) keys (words_of line)
         → Settles (question_at (key_place kit n keys ahead)) before now (Err (Line n))
-    says_none told =
+    says_none reported =
         let leads = line_leads F most_line_bytes ahead before now l taken_line in
         record {
           read = leads.read;
           taken = leads.taken;
-          is = inl (λ rest. leads.is rest ∙ goes_on None told rest);
+          is = inl (λ rest. leads.is rest ∙ goes_on None reported rest);
         }
 
 -- ---- from one line to the next
@@ -180,10 +180,10 @@ module _ (kit : Kit) (first : KeyPlace) (n : ℕ) (keys : List (ℕ × List ℕ)
   pub more_keys : (p m : ℕ) (key : List ℕ) (more : List (ℕ × List ℕ)) → said ≡ Key p key → more ≡ keys ++ (p, key) ∷ [] → m ≡ n + 1
       → Leads (question_at first) before now (question_at (key_place kit m more ahead_then))
   more_keys p m key more is added next_number =
-      let told : Leads (question_at first) before now (question_behind kit n keys ahead_then (Key p key)) =
+      let reported : Leads (question_at first) before now (question_behind kit n keys ahead_then (Key p key)) =
       subst (λ (s : PlainSaid). Leads (question_at first) before now (question_behind kit n keys ahead_then s)) is all_read in
       subst (λ (k : ℕ). Leads (question_at first) before now (question_at (key_place kit k more ahead_then))) (sym next_number)
-      (subst (λ (ks : List (ℕ × List ℕ)). Leads (question_at first) before now (question_at (key_place kit (n + 1) ks ahead_then))) (sym added) told)
+      (subst (λ (ks : List (ℕ × List ℕ)). Leads (question_at first) before now (question_at (key_place kit (n + 1) ks ahead_then))) (sym added) reported)
 
   -- the view
   pub the_view : (view : View) → said ≡ Of view

@@ -59,27 +59,27 @@ is_seven r e tells is = elim (by_status r e tells) [
 ]
 
 -- a fault of the input, told in its line
-pub record Told (e : FrontFault) : Type 0 where
+pub record Reported (e : FrontFault) : Type 0 where
   pub fault : KitFault
   pub is : front_fault e ≡ Some fault
   pub line : line_of e ≡ stop_text fault
 
-pub at_fault : (e : FrontFault) → status_of e ≡ 7 → Told e
+pub at_fault : (e : FrontFault) → status_of e ≡ 7 → Reported e
 at_fault fronts.Read is = absurd (omega (arith, is))
 at_fault (fronts.Kit fault) is = of (fault_of fault) refl
   where
-    of : (o : Option KitFault) → fault_of fault ≡ o → Told (fronts.Kit fault)
+    of : (o : Option KitFault) → fault_of fault ≡ o → Reported (fronts.Kit fault)
     of None e = let one = rw e at is in absurd (omega (arith, one))
     of (Some f) e = record { fault = f; is = e; line = rw e refl }
 
 pub refused_so : (e : FrontFault) (before now old new : Option (List ℕ)) (f f' : ℕ) → status_of e ≡ 7
     → IfSome (front_fault e) (λ fault. Settles asked before now (Err fault)) → Says (line_of e) old new f f' → Refused before now old new f f'
 refused_so e before now old new f f' seven why said =
-    let told = at_fault e seven in
+    let reported = at_fault e seven in
     record {
-      fault = told.fault;
-      is = subst (λ (o : Option KitFault). IfSome o (λ fault. Settles asked before now (Err fault))) told.is why;
-      said = subst (λ (t : List ℕ). Says t old new f f') told.line said;
+      fault = reported.fault;
+      is = subst (λ (o : Option KitFault). IfSome o (λ fault. Settles asked before now (Err fault))) reported.is why;
+      said = subst (λ (t : List ℕ). Says t old new f f') reported.line said;
     }
 
 -- ---- one input
@@ -88,16 +88,16 @@ both : (r : Result (Kit × Question) KitFault) (fault : KitFault) → IsOk r →
 both (Ok q) fault ok is = absurd cc
 both (Err f) fault ok is = cc
 
-told_both : (before now : Option (List ℕ)) (fault : KitFault) → Settles asked before now (Err fault) → Asks before → ⊥
-told_both None now fault s asks = asks
-told_both (Some bytes) now fault s asks = both (asked bytes) fault asks (settles_all asked (Err fault) (Some bytes) now s)
+reported_both : (before now : Option (List ℕ)) (fault : KitFault) → Settles asked before now (Err fault) → Asks before → ⊥
+reported_both None now fault s asks = asks
+reported_both (Some bytes) now fault s asks = both (asked bytes) fault asks (settles_all asked (Err fault) (Some bytes) now s)
 
 -- where a question stands, none is refused
 pub no_fault : (e : FrontFault) (before now : Option (List ℕ)) → status_of e ≡ 7
     → IfSome (front_fault e) (λ fault. Settles asked before now (Err fault)) → Asks before → ⊥
 no_fault e before now seven why asks =
-    let told = at_fault e seven in
-    told_both before now told.fault (subst (λ (o : Option KitFault). IfSome o (λ fault. Settles asked before now (Err fault))) told.is why) asks
+    let reported = at_fault e seven in
+    reported_both before now reported.fault (subst (λ (o : Option KitFault). IfSome o (λ fault. Settles asked before now (Err fault))) reported.is why) asks
 
 no_output : (payload bytes text : List ℕ) → IsErr (asked bytes) → ask_output payload bytes ≡ (text, 0) → ⊥
 unfolding ask_output

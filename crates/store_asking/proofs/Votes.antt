@@ -15,10 +15,10 @@ use Rattle.line_input.specs.Places.{Ends, Leads, Settles}
 use Rattle.line_input.specs.Taking.{Answered, Taken}
 use Rattle.line_input.specs.declared.lines.Next.{Next}
 use Rattle.line_input.specs.declared.lines.Next.TheVariants as nexts
-use Rattle.store_asking.specs.Lines.{line_voted, reply_in, told_by, vote_with, voted}
+use Rattle.store_asking.specs.Lines.{line_voted, reply_in, reported_by, vote_with, voted}
 use Rattle.store_asking.specs.Places.{vote_at, vote_by, vote_place}
 use Rattle.line_laws.proofs.Parts.{parts_some}
-use Rattle.store_asking.proofs.Told.{reply_is_told, reply_told}
+use Rattle.store_asking.proofs.Reported.{reply_is_reported, reply_reported}
 use Rattle.line_laws.proofs.Read.{input_ends, is_short, line_leads, no_line_settles}
 use Rattle.store_asking.proofs.Questions.{long_words, short_words}
 
@@ -90,21 +90,21 @@ offered_so : (kit : Kit) (keys : List (ℕ × List ℕ)) (scheme : Scheme) (grou
 offered_so kit keys scheme group key vote r s g k = λ i. offered (is_valid (s i)) (g i) (λ _. k i) vote r
 
 -- it was offered
-pub counted_told : (kit : Kit) (keys : List (ℕ × List ℕ)) (n p : ℕ) (bytes : List ℕ) (vote new : Vote) (scheme : Scheme) (group : List ℕ)
+pub counted_reported : (kit : Kit) (keys : List (ℕ × List ℕ)) (n p : ℕ) (bytes : List ℕ) (vote new : Vote) (scheme : Scheme) (group : List ℕ)
     (key : Option (List ℕ)) (r : Reply) → reply_of bytes ≡ Ok r → (r.signer == p) ≡ true → scheme ≡ kit.scheme → group ≡ kit.group
     → key ≡ key_in keys r.signer → new ≡ offered (is_valid scheme) group (λ _. key) vote r
     → vote_with kit keys n vote (reply_in p bytes) ≡ Ok new
-counted_told kit keys n p bytes vote new scheme group key r is own s g k made =
+counted_reported kit keys n p bytes vote new scheme group key r is own s g k made =
     rw is (rw own (ap (λ (v : Vote). let o : Result Vote KitFault = Ok v in o) (sym (made ∙ offered_so kit keys scheme group key vote r s g k))))
 
 -- the line tells none
-pub none_told : (kit : Kit) (keys : List (ℕ × List ℕ)) (n : ℕ) (vote : Vote) (line : List ℕ) → None ≡ told_by (words_of line)
+pub none_reported : (kit : Kit) (keys : List (ℕ × List ℕ)) (n : ℕ) (vote : Vote) (line : List ℕ) → None ≡ reported_by (words_of line)
     → line_voted kit keys n vote line ≡ Err (Line n)
-none_told kit keys n vote line none = ap (vote_with kit keys n vote) (reply_is_told (words_of line) ∙ ap reply_told (sym none))
+none_reported kit keys n vote line none = ap (vote_with kit keys n vote) (reply_is_reported (words_of line) ∙ ap reply_reported (sym none))
 
-pub some_told : (kit : Kit) (keys : List (ℕ × List ℕ)) (n p : ℕ) (bytes : List ℕ) (vote : Vote) (line : List ℕ)
-    → Some (p, bytes) ≡ told_by (words_of line) → line_voted kit keys n vote line ≡ vote_with kit keys n vote (reply_in p bytes)
-some_told kit keys n p bytes vote line some = ap (vote_with kit keys n vote) (reply_is_told (words_of line) ∙ ap reply_told (sym some))
+pub some_reported : (kit : Kit) (keys : List (ℕ × List ℕ)) (n p : ℕ) (bytes : List ℕ) (vote : Vote) (line : List ℕ)
+    → Some (p, bytes) ≡ reported_by (words_of line) → line_voted kit keys n vote line ≡ vote_with kit keys n vote (reply_in p bytes)
+some_reported kit keys n p bytes vote line some = ap (vote_with kit keys n vote) (reply_is_reported (words_of line) ∙ ap reply_reported (sym some))
 
 -- a reply may still come
 pub may_come : (left : ℕ) → (left ≡ 0 → ⊥) → (left == 0) ≡ false

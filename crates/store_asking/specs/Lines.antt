@@ -20,7 +20,7 @@ use Rattle.store_defs.specs.Services.{behind_first}
 use Rattle.store_defs.specs.Asking.{is_view, key_in, named_key, reply_by, view_by}
 use Rattle.store_asking.specs.declared.said.Said.{Said}
 use Rattle.store_asking.specs.declared.said.Said.TheVariants as variants
-use Rattle.store_asking.specs.declared.replies.Told.{Told}
+use Rattle.store_asking.specs.declared.replies.Reported.{Reported}
 
 -- ---- before the replies
 
@@ -53,15 +53,15 @@ are_below ps p = list_all (λ q. nat_lt q p) ps
 
 -- a process with its key, above all of these: the words after `replykey`
 abbrev pub key_above : Scheme → List ℕ → List ℕ → List (List ℕ) → Option (ℕ × List ℕ)
-key_above scheme roster told (process ∷ key ∷ []) =
+key_above scheme roster reported (process ∷ key ∷ []) =
     and_then (listed_process roster process) (λ p.
-    if are_below told p then option_map (λ k. (p, k)) (bytes_of (key_length scheme) key) else None)
-key_above scheme roster told _ = None
+    if are_below reported p then option_map (λ k. (p, k)) (bytes_of (key_length scheme) key) else None)
+key_above scheme roster reported _ = None
 
 -- a reply key is of a process above these
 abbrev pub IsAbove : List ℕ → PlainSaid → Type 0
-IsAbove told (Key process key) = are_below told process ≡ true
-IsAbove told (Of view) = Unit {0}
+IsAbove reported (Key process key) = are_below reported process ≡ true
+IsAbove reported (Of view) = Unit {0}
 
 -- the only word, where there is just one
 abbrev pub only_word : List (List ℕ) → Option (List ℕ)
@@ -71,17 +71,17 @@ only_word _ = None
 -- ---- replies
 
 -- the process and the bytes that the words after `reply` name
-abbrev pub told_behind : List (List ℕ) → Option (ℕ × List ℕ)
-told_behind (process ∷ word ∷ []) = and_then (process_of process) (λ p. option_map (λ bytes. (p, bytes)) (some_bytes_of word))
-told_behind _ = None
+abbrev pub reported_behind : List (List ℕ) → Option (ℕ × List ℕ)
+reported_behind (process ∷ word ∷ []) = and_then (process_of process) (λ p. option_map (λ bytes. (p, bytes)) (some_bytes_of word))
+reported_behind _ = None
 
 -- those of a line's words
-abbrev pub told_by : List (List ℕ) → Option (ℕ × List ℕ)
-told_by [] = None
-told_by (word ∷ words) = if same_bytes word (codes "reply") then told_behind words else None
+abbrev pub reported_by : List (List ℕ) → Option (ℕ × List ℕ)
+reported_by [] = None
+reported_by (word ∷ words) = if same_bytes word (codes "reply") then reported_behind words else None
 
-abbrev pub told : Told → ℕ × List ℕ
-told t = (t.process, t.bytes.items)
+abbrev pub reported : Reported → ℕ × List ℕ
+reported t = (t.process, t.bytes.items)
 
 -- the reply that bytes are, where this process signed it
 abbrev pub reply_in : ℕ → List ℕ → Option Reply

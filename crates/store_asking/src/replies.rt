@@ -3,7 +3,7 @@ ghost use Rattle.std.specs.Prelude.{◌≡◌, IfOk, OnErr, option_map};
 ghost use Rattle.byte_defs.specs.Reads.{Makes};
 ghost use Rattle.text_codec.specs.Views.{parts_left};
 ghost use Rattle.kit_reading.specs.Faults.{fault_of};
-ghost use Rattle.store_asking.specs.Lines.{line_voted, reply_in, told, told_behind, told_by, vote_with};
+ghost use Rattle.store_asking.specs.Lines.{line_voted, reply_in, reported, reported_behind, reported_by, vote_with};
 
 use crate::words::last_word;
 use kit_reading::{Kit, KitFault};
@@ -16,14 +16,14 @@ use vote_client::Vote;
 
 // The process that a line names, and the bytes that it has as its reply.
 #[derive(Drop)]
-struct Told {
+struct Reported {
     process: Pid,
     bytes: Vec<u8>,
 }
 
 // What the words after `reply` say.
-fn told_after(alloc: Global, mut words: Words<'_>) -> Result<Option<Told>, NoMemory>
-    ensures { IfOk result (λ found. option_map told found ≡ told_behind (parts_left words.entry)) }
+fn reported_after(alloc: Global, mut words: Words<'_>) -> Result<Option<Reported>, NoMemory>
+    ensures { IfOk result (λ found. option_map reported found ≡ reported_behind (parts_left words.entry)) }
 {
     let Some(first) = words.next() else {
         return Ok(None);
@@ -35,39 +35,39 @@ fn told_after(alloc: Global, mut words: Words<'_>) -> Result<Option<Told>, NoMem
         return Ok(None);
     };
     match some_bytes(alloc, second)? {
-        Some(bytes) => Ok(Some(Told { process, bytes })),
+        Some(bytes) => Ok(Some(Reported { process, bytes })),
         None => Ok(None),
     }
 }
 
 // What the words of a line say.
-fn told_in(alloc: Global, mut words: Words<'_>) -> Result<Option<Told>, NoMemory>
-    ensures { IfOk result (λ found. option_map told found ≡ told_by (parts_left words.entry)) }
+fn reported_in(alloc: Global, mut words: Words<'_>) -> Result<Option<Reported>, NoMemory>
+    ensures { IfOk result (λ found. option_map reported found ≡ reported_by (parts_left words.entry)) }
 {
     match words.next() {
-        Some(word) if word == b"reply".as_slice() => told_after(alloc, words),
+        Some(word) if word == b"reply".as_slice() => reported_after(alloc, words),
         _ => Ok(None),
     }
 }
 
 // Offers the bytes that the line of this number has as a reply of its process.
-#[tactic(auto, using(crate::proofs::Votes::no_record, crate::proofs::Votes::other_signer, crate::proofs::Votes::counted_told))]
-fn offer_told(
+#[tactic(auto, using(crate::proofs::Votes::no_record, crate::proofs::Votes::other_signer, crate::proofs::Votes::counted_reported))]
+fn offer_reported(
     alloc: Global,
     kit: &Kit,
     keys: &Roster,
     vote: &mut Vote,
     number: usize,
-    told: &Told,
+    reported: &Reported,
 ) -> Result<(), KitFault>
     ensures counted { Makes fault_of (λ _. vote.new) result
-        (vote_with kit.now keys.now number vote.old (reply_in told.now.process told.now.bytes.items)) }
+        (vote_with kit.now keys.now number vote.old (reply_in reported.now.process reported.now.bytes.items)) }
     ensures unchanged { OnErr result (vote.new ≡ vote.old) }
 {
-    let Some(reply) = read_reply(&told.bytes) else {
+    let Some(reply) = read_reply(&reported.bytes) else {
         return Err(KitFault::Line { line: number });
     };
-    if reply.signer != told.process {
+    if reply.signer != reported.process {
         return Err(KitFault::Line { line: number });
     }
     let key = keys.key(reply.signer);
@@ -79,7 +79,7 @@ fn offer_told(
 ///
 /// # Errors
 /// `Line` where the line is no reply of the process that it names, and `NoMemory`; the vote is as before then.
-#[tactic(auto, using(crate::proofs::Votes::none_told, crate::proofs::Votes::some_told))]
+#[tactic(auto, using(crate::proofs::Votes::none_reported, crate::proofs::Votes::some_reported))]
 pub(crate) fn offer_line(
     alloc: Global,
     kit: &Kit,
@@ -91,8 +91,8 @@ pub(crate) fn offer_line(
     ensures counted { Makes fault_of (λ _. vote.new) result (line_voted kit.now keys.now number vote.old line.now) }
     ensures unchanged { OnErr result (vote.new ≡ vote.old) }
 {
-    let Some(told) = told_in(alloc, Words::words(line))? else {
+    let Some(reported) = reported_in(alloc, Words::words(line))? else {
         return Err(KitFault::Line { line: number });
     };
-    offer_told(alloc, kit, keys, vote, number, &told)
+    offer_reported(alloc, kit, keys, vote, number, &reported)
 }

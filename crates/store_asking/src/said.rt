@@ -42,17 +42,17 @@ fn are_all_below(set: PidSet, p: Pid) -> bool
 fn key_behind(
     scheme: AnyScheme,
     roster: &Roster,
-    told: PidSet,
+    reported: PidSet,
     mut words: Words<'_>,
 ) -> Option<Said>
     ensures said { option_map said result
-        ≡ option_map with_key (key_above (scheme_in scheme) (roster_of roster.now) told (parts_left words.entry)) }
-    ensures above { IfSome result (λ s. IsAbove told (said s)) }
+        ≡ option_map with_key (key_above (scheme_in scheme) (roster_of roster.now) reported (parts_left words.entry)) }
+    ensures above { IfSome result (λ s. IsAbove reported (said s)) }
 {
     let first = words.next()?;
     let second = last_word(words)?;
     let process = listed_process(roster, first)?;
-    if !are_all_below(told, process) {
+    if !are_all_below(reported, process) {
         return None;
     }
     let key = key_in(scheme, second)?;

@@ -152,43 +152,43 @@ module _ (f : Filter) (before now old new : Option (List ℕ)) where
   -- ---- inputs that tell what they hold
 
   module _ (law : OneOutcome) where
-    whole : (read told : List ℕ) → before ≡ Some told → Consumes before now read → IsAtEnd now → told ≡ read
-    whole read told is taken over = of now (subst (λ (b : Option (List ℕ)). Consumes b now read) is taken) over
+    whole : (read reported : List ℕ) → before ≡ Some reported → Consumes before now read → IsAtEnd now → reported ≡ read
+    whole read reported is taken over = of now (subst (λ (b : Option (List ℕ)). Consumes b now read) is taken) over
       where
-        of : (n : Option (List ℕ)) → Consumes (Some told) n read → IsAtEnd n → told ≡ read
+        of : (n : Option (List ℕ)) → Consumes (Some reported) n read → IsAtEnd n → reported ≡ read
         of None taken over = absurd taken
         of (Some left) taken over = taken ∙ ap (λ (l : List ℕ). read ++ l) over ∙ append-nil read
 
-    front : (read told : List ℕ) → before ≡ Some told → Consumes before now read → (left : List ℕ) × (told ≡ read ++ left)
-    front read told is taken = of now (subst (λ (b : Option (List ℕ)). Consumes b now read) is taken)
+    front : (read reported : List ℕ) → before ≡ Some reported → Consumes before now read → (left : List ℕ) × (reported ≡ read ++ left)
+    front read reported is taken = of now (subst (λ (b : Option (List ℕ)). Consumes b now read) is taken)
       where
-        of : (n : Option (List ℕ)) → Consumes (Some told) n read → (left : List ℕ) × (told ≡ read ++ left)
+        of : (n : Option (List ℕ)) → Consumes (Some reported) n read → (left : List ℕ) × (reported ≡ read ++ left)
         of None taken = absurd taken
         of (Some left) taken = (left, taken)
 
     -- an input that has an output has no fault
-    no_fault : (told output : List ℕ) (number : ℕ) → before ≡ Some told → Filtered f told output → Refused f number before now old new → ⊥
-    no_fault told output number is has r = elim r.is [
+    no_fault : (reported output : List ℕ) (number : ℕ) → before ≡ Some reported → Filtered f reported output → Refused f number before now old new → ⊥
+    no_fault reported output number is has r = elim r.is [
       | inl each ↦
-          let left = front r.read told is r.taken in
-          law.apart f told output r.output number has
+          let left = front r.read reported is r.taken in
+          law.apart f reported output r.output number has
           (subst (λ (t : List ℕ). Stopped f t r.output number) (sym left.1) (each left.0))
-      | inr over ↦ law.apart f told output r.output number has
-          (subst (λ (t : List ℕ). Stopped f t r.output number) (sym (whole r.read told is r.taken over.0)) over.1)
+      | inr over ↦ law.apart f reported output r.output number has
+          (subst (λ (t : List ℕ). Stopped f t r.output number) (sym (whole r.read reported is r.taken over.0)) over.1)
     ]
 
-    no_output : (told output : List ℕ) (number : ℕ) → before ≡ Some told → Stopped f told output number → Done f before now old new → ⊥
-    no_output told output number is has d =
-        law.apart f told d.output output number
-        (subst (λ (t : List ℕ). Filtered f t d.output) (sym (whole d.input told is d.taken d.over)) d.is) has
+    no_output : (reported output : List ℕ) (number : ℕ) → before ≡ Some reported → Stopped f reported output number → Done f before now old new → ⊥
+    no_output reported output number is has d =
+        law.apart f reported d.output output number
+        (subst (λ (t : List ℕ). Filtered f t d.output) (sym (whole d.input reported is d.taken d.over)) d.is) has
 
     pub faultless : (b : Option (List ℕ)) → before ≡ b → HasOutput f b → (number : ℕ) → Refused f number before now old new → ⊥
     faultless None is has number r = absurd has
-    faultless (Some told) is has number r = no_fault told has.0 number is has.1 r
+    faultless (Some reported) is has number r = no_fault reported has.0 number is has.1 r
 
     pub faulty : (b : Option (List ℕ)) → before ≡ b → HasFault f b → Done f before now old new → ⊥
     faulty None is has d = absurd has
-    faulty (Some told) is has d = no_output told has.0 has.1 is has.2 d
+    faulty (Some reported) is has d = no_output reported has.0 has.1 is has.2 d
 
 -- ---- words
 

@@ -1,6 +1,6 @@
 //! Why a run stops, and the line that says which line is faulty.
 ghost use Rattle.std.specs.Prelude.{◌≡◌, IfOk};
-ghost use Rattle.store_cli.specs.Messages as told;
+ghost use Rattle.store_cli.specs.Messages as reported;
 ghost use Rattle.store_cli.specs.Messages.{of_input};
 ghost use Rattle.store_cli.specs.declared.stops.Stop.TheVariants as stops;
 
@@ -27,7 +27,7 @@ pub(crate) enum Stop {
 
 /// The line that says that the line of this number is the first faulty one.
 pub(crate) fn fault_line(alloc: Global, number: u64) -> Result<Vec<u8>, NoMemory>
-    ensures { IfOk result (λ line. line.items ≡ told.fault_line number) }
+    ensures { IfOk result (λ line. line.items ≡ reported.fault_line number) }
 {
     let mut line = b"stop 7 line ".to_vec(alloc)?;
     push_number(&mut line, number)?;

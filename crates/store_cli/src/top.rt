@@ -3,7 +3,7 @@ ghost use Rattle.rp_base.specs.Causes.{Rose};
 ghost use Rattle.rp_base.specs.Streams.{Says};
 ghost use Rattle.store_text_defs.specs.declared.Filter.{Filter};
 ghost use Rattle.store_cli.specs.Commands.{AskAny, Asks};
-ghost use Rattle.store_cli.specs.Messages as told;
+ghost use Rattle.store_cli.specs.Messages as reported;
 ghost use Rattle.store_cli.specs.Messages.{Ends, usage};
 ghost use Rattle.store_cli.specs.Running.{Done, HasFault, HasOutput, MadeInPart, RefusedAndSays, SomeMade};
 
@@ -40,7 +40,7 @@ fn say<E: Sink>(errors: &mut E, line: &[u8])
 
 // Tells the number of the first faulty line, and answers the status: 1 where there is no memory for the line that says so.
 fn tell_fault<E: Sink>(alloc: Global, errors: &mut E, number: u64) -> u8
-    ensures { ((result ≡ 7) × Says (told.fault_line number) (E.written errors.old) (E.written errors.new) (E.faults errors.old) (E.faults errors.new))
+    ensures { ((result ≡ 7) × Says (reported.fault_line number) (E.written errors.old) (E.written errors.new) (E.faults errors.old) (E.faults errors.new))
         ⊎ ((result ≡ 1) × (errors.new ≡ errors.old)) }
 {
     let Ok(line) = fault_line(alloc, number) else {

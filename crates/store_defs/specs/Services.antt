@@ -7,8 +7,8 @@ use Rattle.kit_defs.specs.Kits.{Kit, Host, roster_of}
 use Rattle.group_defs.specs.Events.{Note}
 use Rattle.store_defs.specs.Keys.{reply_secret, signs_of, state_secret}
 use Rattle.store_defs.specs.Votes.{Valid}
-use Rattle.store_defs.specs.Serving.{Place, Server, after_note, after_offer, offer_word, state_given, told_of, with_key}
-use Rattle.store_defs.specs.Words.{Word, Give, State, StateKey, given_text, offered_text, reply_key_text, state_key_text, told_text, word_by}
+use Rattle.store_defs.specs.Serving.{Place, Server, after_note, after_offer, offer_word, state_given, reported_of, with_key}
+use Rattle.store_defs.specs.Words.{Word, Give, State, StateKey, given_text, offered_text, reply_key_text, state_key_text, reported_text, word_by}
 
 -- the words after the first
 abbrev pub behind_first : List (List ℕ) → List (List ℕ)
@@ -34,7 +34,7 @@ keys_text places = flat_map (λ q. reply_key_text q.me q.replies.public) places 
 
 -- what is written after a note
 abbrev pub noted_text : Place → Server → Note → List ℕ
-noted_text q s note = told_text q.me (told_of q s note)
+noted_text q s note = reported_text q.me (reported_of q s note)
 
 -- ---- words
 

@@ -136,16 +136,16 @@ after_notes q s [] = s
 after_notes q s (note ∷ notes) = after_notes q (after_note q s note) notes
 
 -- what it writes after a note
-pub data Told : Type 0 where
-  Nothing : Told
-  ToldReply : (word : ReplyWord) → Told
+pub data Reported : Type 0 where
+  Nothing : Reported
+  ReportedReply : (word : ReplyWord) → Reported
 
-unfoldable pub told_of : Place → Server → Note → Told
-told_of q s (Delivers view d) = ToldReply (reply_to q s view d)
-told_of q s (Installs v) = Nothing
-told_of q s (Liar p) = Nothing
-told_of q s Spent = Nothing
-told_of q s (Halts delivered cut) = Nothing
+unfoldable pub reported_of : Place → Server → Note → Reported
+reported_of q s (Delivers view d) = ReportedReply (reply_to q s view d)
+reported_of q s (Installs v) = Nothing
+reported_of q s (Liar p) = Nothing
+reported_of q s Spent = Nothing
+reported_of q s (Halts delivered cut) = Nothing
 
 -- ---- states
 

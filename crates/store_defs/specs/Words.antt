@@ -15,7 +15,7 @@ use Rattle.signature_defs.specs.Schemes.{Scheme}
 use Rattle.text_defs.specs.Words.{line_text, process_of, bytes_of}
 use Rattle.kit_defs.specs.Kits.{key_length}
 use Rattle.store_defs.specs.Records.{reply_bytes, state_bytes}
-use Rattle.store_defs.specs.Serving.{ReplyWord, Signed, NoLeaf, NoStore, Told, Nothing, ToldReply, StateWord, Given, NoStateLeaf, NoState, OfferWord, Grammar, Held, OtherView, Stranger, Unsigned, Known, Ready, TakenSoFar}
+use Rattle.store_defs.specs.Serving.{ReplyWord, Signed, NoLeaf, NoStore, Reported, Nothing, ReportedReply, StateWord, Given, NoStateLeaf, NoState, OfferWord, Grammar, Held, OtherView, Stranger, Unsigned, Known, Ready, TakenSoFar}
 
 -- ---- what a line says
 
@@ -75,9 +75,9 @@ reply_word NoLeaf = codes "spent"
 reply_word NoStore = codes "none"
 
 -- after a note of a process
-unfoldable pub told_text : ℕ → Told → List ℕ
-told_text p Nothing = []
-told_text p (ToldReply word) = line_text (codes "reply" ∷ decimal p ∷ reply_word word ∷ [])
+unfoldable pub reported_text : ℕ → Reported → List ℕ
+reported_text p Nothing = []
+reported_text p (ReportedReply word) = line_text (codes "reply" ∷ decimal p ∷ reply_word word ∷ [])
 
 abbrev pub state_word : StateWord → List ℕ
 state_word (Given r) = encode_lower (state_bytes r)

@@ -18,7 +18,7 @@ use Rattle.store_giving.specs.declared.handed.StateKeys.{StateKeys}
 use Rattle.store_giving.specs.declared.spelling.Spelling.{Spelling}
 use Rattle.store_giving.proofs.Handing.{handed-key}
 use Rattle.store_giving.proofs.Stated.{given}
-use Rattle.store_giving.proofs.Telling.{record-told}
+use Rattle.store_giving.proofs.Telling.{record-reported}
 
 -- ---- the store that is given
 
@@ -70,10 +70,10 @@ module _ (q : Place) (s : Server) (g h : Giving) (is : IsGiving q s g) (same : I
   gave some left = given q s h.me h.group (signs h.key) h.view (option_map bytes_in h.state) same-giving.me same-giving.group
       same-giving.key same-giving.view same-giving.gives (state_in h.state) (some-state h.state some) left
 
-  pub gave-told : (before after : List ℕ) → IsSome g.state → g.view.number < (signs g.key).total
+  pub gave-reported : (before after : List ℕ) → IsSome g.state → g.view.number < (signs g.key).total
       → after ≡ before ++ given_text h.me (Given (signed_record h)) → after ≡ before ++ given_text q.me (state_given q s)
-  gave-told before after some left said =
+  gave-reported before after some left said =
       let some_so : IsSome h.state = subst (λ (o : Option Spelling). IsSome o) (sym same.state) some in
       let left_so : h.view.number < (signs h.key).total = subst (λ (v : View). v.number < (signs h.key).total) (sym same.view)
       (subst (λ (k : Signs). g.view.number < k.total) (sym same.key) left) in
-      record-told q s h.me same-giving.me before after (signed_record h) (gave some_so left_so) said
+      record-reported q s h.me same-giving.me before after (signed_record h) (gave some_so left_so) said

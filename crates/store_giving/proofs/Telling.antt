@@ -27,22 +27,22 @@ unfolding given_text
 given-text p r = refl
 
 -- the record is given
-pub given-told : (p : ℕ) (r : StateRecord) (record_bytes before after : List ℕ) → record_bytes ≡ state_bytes r
+pub given-reported : (p : ℕ) (r : StateRecord) (record_bytes before after : List ℕ) → record_bytes ≡ state_bytes r
     → after ≡ before ++ line_text (codes "state" ∷ decimal p ∷ encode_lower record_bytes ∷ [])
     → after ≡ before ++ given_text p (Given r)
-given-told p r record_bytes before after is said =
+given-reported p r record_bytes before after is said =
     said ∙ (λ i. before ++ line_text (codes "state" ∷ decimal p ∷ encode_lower (is i) ∷ []))
     ∙ ap (λ (t : List ℕ). before ++ t) (sym (given-text p r))
 
 module _ (q : Place) (s : Server) (me : ℕ) (is_me : q.me ≡ me) (before after : List ℕ) where
-  pub none-told : state_given q s ≡ NoState → after ≡ before ++ line_text (codes "state" ∷ decimal me ∷ codes "none" ∷ [])
+  pub none-reported : state_given q s ≡ NoState → after ≡ before ++ line_text (codes "state" ∷ decimal me ∷ codes "none" ∷ [])
       → after ≡ before ++ given_text q.me (state_given q s)
-  none-told word said = said ∙ ap (λ (t : List ℕ). before ++ t) (sym ((λ i. given_text (is_me i) (word i)) ∙ none-text me))
+  none-reported word said = said ∙ ap (λ (t : List ℕ). before ++ t) (sym ((λ i. given_text (is_me i) (word i)) ∙ none-text me))
 
-  pub spent-told : state_given q s ≡ NoStateLeaf → after ≡ before ++ line_text (codes "state" ∷ decimal me ∷ codes "spent" ∷ [])
+  pub spent-reported : state_given q s ≡ NoStateLeaf → after ≡ before ++ line_text (codes "state" ∷ decimal me ∷ codes "spent" ∷ [])
       → after ≡ before ++ given_text q.me (state_given q s)
-  spent-told word said = said ∙ ap (λ (t : List ℕ). before ++ t) (sym ((λ i. given_text (is_me i) (word i)) ∙ spent-text me))
+  spent-reported word said = said ∙ ap (λ (t : List ℕ). before ++ t) (sym ((λ i. given_text (is_me i) (word i)) ∙ spent-text me))
 
-  pub record-told : (r : StateRecord) → state_given q s ≡ Given r → after ≡ before ++ given_text me (Given r)
+  pub record-reported : (r : StateRecord) → state_given q s ≡ Given r → after ≡ before ++ given_text me (Given r)
       → after ≡ before ++ given_text q.me (state_given q s)
-  record-told r word said = said ∙ ap (λ (t : List ℕ). before ++ t) (sym (λ i. given_text (is_me i) (word i)))
+  record-reported r word said = said ∙ ap (λ (t : List ℕ). before ++ t) (sym (λ i. given_text (is_me i) (word i)))

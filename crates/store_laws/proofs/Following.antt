@@ -137,7 +137,7 @@ record GoesOn (p r : Process) (ds : List Delivered) : Type 0 where
   pub delivered : r.delivered ≡ p.delivered ++ ds
 
 module _ (p r : Process) (ds : List Delivered) (on : GoesOn p r ds) (numbered : p.pool.view.number ≡ length p.left) (b : Beginning) (s s' : Server)
-    (ok : Follows p b s) (told : HasHeard s ds s') where
+    (ok : Follows p b s) (reported : HasHeard s ds s') where
   abbrev a : Account
   a = account_of p
 
@@ -171,9 +171,9 @@ module _ (p r : Process) (ds : List Delivered) (on : GoesOn p r ds) (numbered : 
   goes-on : Follows r b s'
   goes-on = record {
     begun = subst (λ n. b.view ≤ n) (sym same-number) ok.begun;
-    view = told.view ∙ ok.view ∙ sym on.view;
+    view = reported.view ∙ ok.view ∙ sym on.view;
     delivered = (
-        let n = told.delivered in
+        let n = reported.delivered in
         let m = ok.delivered in
         let long = ap length on.delivered in
         let parts = length-append p.delivered ds in
@@ -181,14 +181,14 @@ module _ (p r : Process) (ds : List Delivered) (on : GoesOn p r ds) (numbered : 
         ∙ below-same a a' (length p.left) same-delivered x (omega (arith, numbered)) in
         omega (arith, n, m, long, parts, below)
         );
-    store = told.store
+    store = reported.store
         ∙ ap (option_map (λ t. store_after t (payloads_of ds))) ok.store
         ∙ held-map (λ t. store_after t (payloads_of ds)) (holds a b x) (store_after (store_at a b x) (payloads_of p.delivered))
         ∙ ap (held (holds a b x)) (after-more (store_at a b x) (payloads_of p.delivered) (payloads_of ds)
         ∙ ap (store_after (store_at a b x)) (sym (map-append (λ (d : Delivered). d.payload) p.delivered ds) ∙ ap payloads_of (sym on.delivered)))
         ∙ (λ i. held (sym same-holds i) (store_after (sym same-store i) (payloads_of r.delivered)))
         ∙ ap (λ n. held (holds a' b n) (store_after (store_at a' b n) (payloads_of r.delivered))) (sym same-number);
-    gives = told.gives
+    gives = reported.gives
         ∙ ok.gives
         ∙ (λ i. held (sym same-holds i && (b.view == 0 || nat_lt b.view x)) (sym same-store i))
         ∙ ap (λ n. held (holds a' b n && (b.view == 0 || nat_lt b.view n)) (store_at a' b n)) (sym same-number);
@@ -327,8 +327,8 @@ module _ (p : Process) (d : ℕ × Value) (numbered : p.pool.view.number ≡ len
 on-nothing : (p r : Process) → r.me ≡ p.me → r.left ≡ p.left → r.pool.view ≡ p.pool.view → r.delivered ≡ p.delivered → GoesOn p r []
 on-nothing p r me left view delivered = record { me = me; left = left; view = view; delivered = delivered ∙ sym (append-nil p.delivered) }
 
-told-nothing : (s : Server) → HasHeard s [] s
-told-nothing s = record { view = refl; gives = refl; delivered = omega arith; store = map-same s.store }
+reported-nothing : (s : Server) → HasHeard s [] s
+reported-nothing s = record { view = refl; gives = refl; delivered = omega arith; store = map-same s.store }
 
 -- delivering goes on
 record Delivering (p r : Process) : Type 0 where
@@ -411,7 +411,7 @@ module _ (p done : Process) (more : List Delivered) (done-on : GoesOn p done mor
   stays r on =
       let same : length r.left ≡ length p.left = ap length (on.left ∙ done-on.left) in
       subst (Follows r b) (sym (rest-quiet r heard-server) ∙ by-length r false (le-ltb _ _ (omega (arith, same))))
-      (goes-on done r [] on done-numbered b heard-server heard-server done-follows (told-nothing heard-server))
+      (goes-on done r [] on done-numbered b heard-server heard-server done-follows (reported-nothing heard-server))
 
   installs : (d : ℕ × Value) → Claimed (install d done)
   unfolding Claimed

@@ -7,8 +7,8 @@ use Rattle.hex.specs.Hex.{encode_lower}
 use Rattle.text_defs.specs.Words.{line_text}
 use Rattle.store_defs.specs.Keys.{Signs}
 use Rattle.store_defs.specs.Records.{Reply, reply_body, reply_bytes}
-use Rattle.store_defs.specs.Serving.{NoLeaf, NoStore, Signed, ToldReply}
-use Rattle.store_defs.specs.Words.{told_text}
+use Rattle.store_defs.specs.Serving.{NoLeaf, NoStore, Signed, ReportedReply}
+use Rattle.store_defs.specs.Words.{reported_text}
 use Rattle.store_replies.specs.Words.{word_of, word_with}
 
 -- what follows from what holds after an Ok
@@ -18,46 +18,46 @@ on-ok (Err e) f p = tt
 
 module _ (key : Signs) (group : List ℕ) (leaf : ℕ) (r : Reply) (p : ℕ) where
   by : Bool → List ℕ
-  by b = told_text p (ToldReply (if b then NoLeaf else Signed (record r { signature = key.signature leaf (reply_body group r) })))
+  by b = reported_text p (ReportedReply (if b then NoLeaf else Signed (record r { signature = key.signature leaf (reply_body group r) })))
 
   by-true : by true ≡ line_text (codes "reply" ∷ decimal p ∷ codes "spent" ∷ [])
-  unfolding by told_text
+  unfolding by reported_text
   by-true = refl
 
   by-false : by false
       ≡ line_text (codes "reply" ∷ decimal p ∷ encode_lower (reply_bytes (record r { signature = key.signature leaf (reply_body group r) })) ∷ [])
-  unfolding by told_text
+  unfolding by reported_text
   by-false = refl
 
-  by-test : told_text p (ToldReply (word_with key group leaf r)) ≡ by (nat_le key.total leaf)
+  by-test : reported_text p (ReportedReply (word_with key group leaf r)) ≡ by (nat_le key.total leaf)
   unfolding by
   by-test = refl
 
   -- a leaf past the last one
-  pub spent-told : key.total ≤ leaf → (before after : List ℕ)
+  pub spent-reported : key.total ≤ leaf → (before after : List ℕ)
       → after ≡ before ++ line_text (codes "reply" ∷ decimal p ∷ codes "spent" ∷ [])
-      → after ≡ before ++ told_text p (ToldReply (word_with key group leaf r))
-  spent-told le before after said =
+      → after ≡ before ++ reported_text p (ReportedReply (word_with key group leaf r))
+  spent-reported le before after said =
       said ∙ ap (λ (t : List ℕ). before ++ t) (sym (by-test ∙ ap by (le-leb key.total leaf le) ∙ by-true))
 
   -- a leaf that the key has
-  pub signed-told : leaf < key.total → (signature record_bytes before after : List ℕ)
+  pub signed-reported : leaf < key.total → (signature record_bytes before after : List ℕ)
       → signature ≡ key.signature leaf (reply_body group r) → record_bytes ≡ reply_bytes (record r { signature = signature })
       → after ≡ before ++ line_text (codes "reply" ∷ decimal p ∷ encode_lower record_bytes ∷ [])
-      → after ≡ before ++ told_text p (ToldReply (word_with key group leaf r))
-  signed-told lt signature record_bytes before after is_signed is_record said =
+      → after ≡ before ++ reported_text p (ReportedReply (word_with key group leaf r))
+  signed-reported lt signature record_bytes before after is_signed is_record said =
       said
       ∙ (λ i. before ++ line_text (codes "reply" ∷ decimal p ∷ encode_lower ((is_record ∙ (λ j. reply_bytes (record r { signature = is_signed j }))) i) ∷ []))
       ∙ ap (λ (t : List ℕ). before ++ t) (sym (by-test ∙ ap by (lt-leb key.total leaf lt) ∙ by-false))
 
-  none-text : told_text p (ToldReply NoStore) ≡ line_text (codes "reply" ∷ decimal p ∷ codes "none" ∷ [])
-  unfolding told_text
+  none-text : reported_text p (ReportedReply NoStore) ≡ line_text (codes "reply" ∷ decimal p ∷ codes "none" ∷ [])
+  unfolding reported_text
   none-text = refl
 
   -- no store, so no answer
-  pub none-told : {A : Type 0} (view : A → List ℕ) (answer : Option A) → answer ≡ None → (before after : List ℕ)
+  pub none-reported : {A : Type 0} (view : A → List ℕ) (answer : Option A) → answer ≡ None → (before after : List ℕ)
       → after ≡ before ++ line_text (codes "reply" ∷ decimal p ∷ codes "none" ∷ [])
-      → after ≡ before ++ told_text p (ToldReply (word_of key group leaf r (option_map view answer)))
-  none-told view answer none before after said =
+      → after ≡ before ++ reported_text p (ReportedReply (word_of key group leaf r (option_map view answer)))
+  none-reported view answer none before after said =
       said ∙ ap (λ (t : List ℕ). before ++ t) (sym (
-      (λ i. told_text p (ToldReply (word_of key group leaf r (option_map view (none i))))) ∙ none-text))
+      (λ i. reported_text p (ReportedReply (word_of key group leaf r (option_map view (none i))))) ∙ none-text))

@@ -55,8 +55,8 @@ impl Replies {
     ghost use Rattle.std.specs.Prelude.{◌⊎◌, ◌++◌, ◌↔◌, IsTrue, OnOk, OnErr, option_map, is_some};
     ghost use Rattle.group_defs.specs.Views.{View, is_member};
     ghost use Rattle.message_defs.specs.Statements.{Message};
-    ghost use Rattle.store_defs.specs.Serving.{Place, Server, ToldReply, after_message, after_view, position_at, reply_to};
-    ghost use Rattle.store_defs.specs.Words.{reply_key_text, told_text};
+    ghost use Rattle.store_defs.specs.Serving.{Place, Server, ReportedReply, after_message, after_view, position_at, reply_to};
+    ghost use Rattle.store_defs.specs.Words.{reply_key_text, reported_text};
     ghost use Rattle.store_replies.specs.Words.{HasSpelling, message_at};
     ghost use Rattle.store_replies.specs.Replying.{Fits, IsReplying, key_in, me_in, next_position};
 
@@ -125,9 +125,9 @@ impl Replies {
         requires fits { Fits self.old view place payload.now }
         ensures after { (q : Place) (s : Server) (m : Message) → IsReplying q s self.old
             → OnOk result (IsReplying q (after_message s (message_at place payload.now m)) self.new) }
-        ensures told { (q : Place) (s : Server) (m : Message) → IsReplying q s self.old
+        ensures reported { (q : Place) (s : Server) (m : Message) → IsReplying q s self.old
             → OnOk result (out.new.items
-            ≡ out.old.items ++ told_text q.me (ToldReply (reply_to q s view (message_at place payload.now m)))) }
+            ≡ out.old.items ++ reported_text q.me (ReportedReply (reply_to q s view (message_at place payload.now m)))) }
         ensures untold { OnErr result (out.new.items ≡ out.old.items) }
         ensures lost { (q : Place) (s : Server) (m : Message) → IsReplying q s self.old
             → OnErr result (IsReplying q s self.new ⊎ IsReplying q (after_message s (message_at place payload.now m)) self.new) }
@@ -145,7 +145,7 @@ impl Replies {
             signature: &[],
         };
         let answered = answer(&mut self.store, alloc, payload)?;
-        let told = tell(
+        let reported = tell(
             &mut self.key,
             alloc,
             &self.group,
@@ -156,7 +156,7 @@ impl Replies {
         );
         self.delivered = one_more(self.delivered);
         self.last = Some((place, position));
-        told?;
+        reported?;
         Ok(())
     }
 

@@ -1,9 +1,9 @@
 //! The line of a reply: its answer, its record and its signature.
 ghost use Rattle.std.specs.Prelude.{◌≡◌, ◌⊎◌, ◌≤◌, ◌<◌, ◌+◌, ◌++◌, ◌∷◌, [], length, min, OnOk, OnErr, IfOk, IfSome, None, Some, option_map};
 ghost use Rattle.store_defs.specs.Records.{IsReply, reply_body, reply_bytes};
-ghost use Rattle.store_defs.specs.Serving.{ToldReply};
+ghost use Rattle.store_defs.specs.Serving.{ReportedReply};
 ghost use Rattle.store_defs.specs.Stores.{answer_to, applied};
-ghost use Rattle.store_defs.specs.Words.{told_text};
+ghost use Rattle.store_defs.specs.Words.{reported_text};
 ghost use Rattle.store_keys.specs.Keys.{next, signs};
 ghost use Rattle.store_records.specs.Views.{reply as reply_of};
 ghost use Rattle.store_replies.specs.Words.{most_counted, word_of, word_with};
@@ -92,8 +92,8 @@ fn say(
 ) -> Result<(), NoMemory>
     requires fits { IsReply (reply_of reply.now) }
     requires unused { next key.old ≤ leaf }
-    ensures told { OnOk result (out.new.items
-        ≡ out.old.items ++ told_text reply.now.signer (ToldReply (word_with (signs key.old) group.now leaf (reply_of reply.now)))) }
+    ensures reported { OnOk result (out.new.items
+        ≡ out.old.items ++ reported_text reply.now.signer (ReportedReply (word_with (signs key.old) group.now leaf (reply_of reply.now)))) }
     ensures untold { OnErr result (out.new.items ≡ out.old.items) }
     ensures next { next key.new ≤ min (leaf + 1) most_counted }
     ensures signs { signs key.new ≡ signs key.old }
@@ -121,7 +121,7 @@ pub(crate) fn tell(
     requires fits { IsReply (reply_of asked.now) }
     requires short { IfSome answer.now (λ b. length b.items ≤ 513) }
     requires unused { next key.old ≤ leaf }
-    ensures told { OnOk result (out.new.items ≡ out.old.items ++ told_text asked.now.signer (ToldReply
+    ensures reported { OnOk result (out.new.items ≡ out.old.items ++ reported_text asked.now.signer (ReportedReply
         (word_of (signs key.old) group.now leaf (reply_of asked.now) (option_map (λ b. b.items) answer.now)))) }
     ensures untold { OnErr result (out.new.items ≡ out.old.items) }
     ensures next { next key.new ≤ min (leaf + 1) most_counted }

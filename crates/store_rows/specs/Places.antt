@@ -5,7 +5,7 @@ use Rattle.group_defs.specs.Process.{Setting, all_kinds, start}
 use Rattle.group_defs.specs.Events.{Note, Delivers, Installs, Liar}
 use Rattle.store_defs.specs.Records.{Reply}
 use Rattle.store_defs.specs.Keys.{Signs}
-use Rattle.store_defs.specs.Serving.{Place, ReplyWord, Server, Signed, NoLeaf, NoStore, Told, Nothing, ToldReply, after_note, server_of, told_of}
+use Rattle.store_defs.specs.Serving.{Place, ReplyWord, Server, Signed, NoLeaf, NoStore, Reported, Nothing, ReportedReply, after_note, server_of, reported_of}
 use Rattle.store_rows.specs.Scripts.{delivered, get_a, set_a}
 
 -- a key of `total` leaves; a signature is the number of its leaf
@@ -31,15 +31,15 @@ unfoldable pub again : View
 again = record { number = 2; members = 1 ∷ 0 ∷ [] }
 
 -- place and position of a reply, its answer and the number of its leaf
-abbrev pub seen : Told → List (ℕ × ℕ × List ℕ × List ℕ) × List ReplyWord
+abbrev pub seen : Reported → List (ℕ × ℕ × List ℕ × List ℕ) × List ReplyWord
 seen Nothing = ([], [])
-seen (ToldReply (Signed r)) = ((r.place, r.position, r.answer, r.signature) ∷ [], [])
-seen (ToldReply NoLeaf) = ([], NoLeaf ∷ [])
-seen (ToldReply NoStore) = ([], NoStore ∷ [])
+seen (ReportedReply (Signed r)) = ((r.place, r.position, r.answer, r.signature) ∷ [], [])
+seen (ReportedReply NoLeaf) = ([], NoLeaf ∷ [])
+seen (ReportedReply NoStore) = ([], NoStore ∷ [])
 
 abbrev pub all_seen : Place → Server → List Note → List (List (ℕ × ℕ × List ℕ × List ℕ) × List ReplyWord)
 all_seen q s [] = []
-all_seen q s (note ∷ notes) = seen (told_of q s note) ∷ all_seen q (after_note q s note) notes
+all_seen q s (note ∷ notes) = seen (reported_of q s note) ∷ all_seen q (after_note q s note) notes
 
 -- the row: what the definitions give
 pub record Places : Type 0 where

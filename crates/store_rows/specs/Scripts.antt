@@ -6,8 +6,8 @@ use Rattle.message_defs.specs.Statements.{Message}
 use Rattle.group_defs.specs.Process.{Delivered}
 use Rattle.group_defs.specs.Events.{Note, Delivers}
 use Rattle.store_defs.specs.Keys.{reply_secret, signs_of, state_secret}
-use Rattle.store_defs.specs.Serving.{Place, Server, after_note, told_of}
-use Rattle.store_defs.specs.Words.{told_text}
+use Rattle.store_defs.specs.Serving.{Place, Server, after_note, reported_of}
+use Rattle.store_defs.specs.Words.{reported_text}
 
 -- a text of these lines
 abbrev pub text_of : List (List ℕ) → List ℕ
@@ -36,9 +36,9 @@ abbrev pub delivered : ℕ → ℕ → ℕ → List ℕ → Delivered
 delivered place sender number payload = record { place = place; message = record { sender = sender; number = number }; payload = payload }
 
 -- what is written after these notes
-abbrev pub told : Place → Server → List Note → List ℕ
-told q s [] = []
-told q s (note ∷ notes) = told_text q.me (told_of q s note) ++ told q (after_note q s note) notes
+abbrev pub reported : Place → Server → List Note → List ℕ
+reported q s [] = []
+reported q s (note ∷ notes) = reported_text q.me (reported_of q s note) ++ reported q (after_note q s note) notes
 
 -- a `Set` of the key a to b, and a `Get` of the key a
 unfoldable pub set_a : List ℕ

@@ -7,7 +7,7 @@ use Rattle.group_defs.specs.Events.{Note, Delivers}
 use Rattle.store_defs.specs.Keys.{reply_secret, state_secret}
 use Rattle.store_defs.specs.Serving.{Place, Server, server_of}
 use Rattle.store_defs.specs.Words.{reply_key_text, state_key_text}
-use Rattle.store_rows.specs.Scripts.{delivered, get_a, key_0, place_of, set_a, text_of, told}
+use Rattle.store_rows.specs.Scripts.{delivered, get_a, key_0, place_of, set_a, text_of, reported}
 
 unfoldable pub s : Setting
 s = record {
@@ -37,4 +37,4 @@ replies =
 pub record ServeTwoRequests : Type 0 where
   pub reply_key : reply_key_text 0 (public_key_of (reply_secret (Plain key_0 100))) ++ state_key_text 0 (public_key_of (state_secret (Plain key_0 100)))
       ≡ text_of keys
-  pub told_is : told (place_of 0 key_0) (server_of (start s 0 16)) notes ≡ text_of replies
+  pub reported_is : reported (place_of 0 key_0) (server_of (start s 0 16)) notes ≡ text_of replies

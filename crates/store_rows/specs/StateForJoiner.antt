@@ -8,7 +8,7 @@ use Rattle.group_defs.specs.Events.{Note, Delivers, Installs}
 use Rattle.store_defs.specs.Keys.{state_secret}
 use Rattle.store_defs.specs.Serving.{Server, after_notes, after_offer, offer_word, server_of, state_given, with_key}
 use Rattle.store_defs.specs.Words.{given_text, offered_text}
-use Rattle.store_rows.specs.Scripts.{delivered, get_a, key_0, key_1, place_of, set_a, text_of, told}
+use Rattle.store_rows.specs.Scripts.{delivered, get_a, key_0, key_1, place_of, set_a, text_of, reported}
 
 unfoldable pub s : Setting
 s = record {
@@ -51,5 +51,5 @@ pub record StateForJoiner : Type 0 where
   pub takes : offering keyed state ≡ text_of (codes "state 1 ready" ∷ [])
   pub holds : offering ready state ≡ text_of (codes "state 1 refused held" ∷ [])
   pub gives_not : given_text 1 (state_given (place_of 1 key_1) ready) ≡ text_of (codes "state 1 none" ∷ [])
-  pub replies : told (place_of 1 key_1) ready (Delivers 1 (delivered 0 1 0 get_a) ∷ []) ≡ text_of (codes "reply 1 010001000000000b0000000000000001020161000201620020b552e239bc3e9a49068d35c3224d504dc622e9b174583149219857c6ab5a1f9b" ∷ [])
-  pub without : told (place_of 1 key_1) keyed (Delivers 1 (delivered 0 1 0 get_a) ∷ []) ≡ text_of (codes "reply 1 none" ∷ [])
+  pub replies : reported (place_of 1 key_1) ready (Delivers 1 (delivered 0 1 0 get_a) ∷ []) ≡ text_of (codes "reply 1 010001000000000b0000000000000001020161000201620020b552e239bc3e9a49068d35c3224d504dc622e9b174583149219857c6ab5a1f9b" ∷ [])
+  pub without : reported (place_of 1 key_1) keyed (Delivers 1 (delivered 0 1 0 get_a) ∷ []) ≡ text_of (codes "reply 1 none" ∷ [])

@@ -75,14 +75,14 @@ holds-so a x =
 
 -- ---- the process as its journal left it, by what it tells of itself
 
-module _ (p : Process) (a : Account) (told : account_of p ≡ a) (numbered : p.pool.view.number ≡ length p.left)
+module _ (p : Process) (a : Account) (reported : account_of p ≡ a) (numbered : p.pool.view.number ≡ length p.left)
     (below : List (List Delivered)) (here : List Delivered) (lists : a.delivered ≡ below ++ here ∷ [])
     (before : List View) (view : View) (views : a.views ≡ before ++ view ∷ []) where
   both_lists : deliveries_of p ≡ below ++ here ∷ []
-  both_lists = ap (λ (b : Account). b.delivered) told ∙ lists
+  both_lists = ap (λ (b : Account). b.delivered) reported ∙ lists
 
   both_views : views_of p ≡ before ++ view ∷ []
-  both_views = ap (λ (b : Account). b.views) told ∙ views
+  both_views = ap (λ (b : Account). b.views) reported ∙ views
 
   pub view-so : p.pool.view ≡ view
   view-so = same-last (map (λ v. v.view) p.left) before p.pool.view view both_views
@@ -99,14 +99,14 @@ module _ (p : Process) (a : Account) (told : account_of p ≡ a) (numbered : p.p
   views-so =
       let count : length (views_of p) ≡ suc (length (map (λ v. v.view) p.left)) = length-snoc (map (λ v. v.view) p.left) p.pool.view in
       let mapped : length (map (λ v. v.view) p.left) ≡ length p.left = length-map p.left (λ v. v.view) in
-      let same : length a.views ≡ length (views_of p) = ap (λ (b : Account). length b.views) (sym told) in
+      let same : length a.views ≡ length (views_of p) = ap (λ (b : Account). length b.views) (sym reported) in
       omega (arith, count, mapped, same, numbered)
 
   -- where it has the store
   has-so : stayed a 0 (length a.views) ≡ holds (account_of p) genesis p.pool.view.number
   has-so =
       ap (stayed a 0) views-so ∙ sym (holds-so a p.pool.view.number)
-      ∙ ap (λ (b : Account). holds b genesis p.pool.view.number) (sym told)
+      ∙ ap (λ (b : Account). holds b genesis p.pool.view.number) (sym reported)
 
   -- the store at the beginning of the view
   store-so : store_over (λ z. payloads_of (slice_index_or below z [])) [] 0 (length below)
@@ -114,7 +114,7 @@ module _ (p : Process) (a : Account) (told : account_of p ≡ a) (numbered : p.p
   store-so =
       store-begun a below here lists []
       ∙ ap (λ (n : ℕ). store_over (λ z. payloads_of (delivered_in a z)) [] 0 n) (sym from)
-      ∙ ap (λ (b : Account). store_at b genesis p.pool.view.number) (sym told)
+      ∙ ap (λ (b : Account). store_at b genesis p.pool.view.number) (sym reported)
     where
       from : p.pool.view.number - 0 ≡ length below
       from = omega (arith, number-so)
@@ -138,7 +138,7 @@ module _ (p : Process) (a : Account) (told : account_of p ≡ a) (numbered : p.p
   count-so =
       ap (λ (ds : List (List Delivered)). delivered_below a (length ds)) lists
       ∙ counted-all a below here lists
-      ∙ (λ i. delivered_below (sym told i) (sym number-so i) + length (sym here-so i))
+      ∙ (λ i. delivered_below (sym reported i) (sym number-so i) + length (sym here-so i))
 
   pub view-of : (server_of p).view ≡ view
   unfolding server_of

@@ -30,9 +30,9 @@ pub count_more : (a : Account) (lists : List (Vec Delivered Global)) (i : ℕ) (
     → a.delivered ≡ lists_of lists → i < length lists → ds ≡ get_or lists i ds → total ≡ min (delivered_below a i) most
     → after ≡ min (total + min (length ds.items) most) most → after ≡ min (delivered_below a (i + 1)) most
 unfolding delivered_below
-count_more a lists i ds most total after told lt is total_is after_is =
+count_more a lists i ds most total after reported lt is total_is after_is =
     let here : delivered_in a i ≡ map delivery ds.items =
-    ap (λ (ls : List (List process.Delivered)). slice_index_or ls i []) told
+    ap (λ (ls : List (List process.Delivered)). slice_index_or ls i []) reported
     ∙ index-mapped (λ (es : Vec Delivered Global). map delivery es.items) lists i ds [] lt is in
     let many : length (delivered_in a i) ≡ length ds.items = ap length here ∙ length-map ds.items delivery in
     counted most (delivered_below a i) (length ds.items) total after total_is after_is

@@ -20,22 +20,22 @@ use store_giving::{Giving, Store, carried_out};
 use store_replies::{GroupId, NoMemory, Replies, reply_key, state_key};
 
 // How many messages the process delivered in all its views, up to the last u32.
-fn count(told: &Account) -> u32
-    ensures { result ≡ min (delivered_below (account told.now) (length told.now.delivered.items)) most_counted }
+fn count(reported: &Account) -> u32
+    ensures { result ≡ min (delivered_below (account reported.now) (length reported.now.delivered.items)) most_counted }
 {
     let mut total = 0u32;
-    'views: for delivered in &told.delivered {
+    'views: for delivered in &reported.delivered {
         total = total.saturating_add(delivered.len().min(u32::MAX as usize) as u32);
     }
     total
 }
 
 // Whether the process was a member of all its views.
-fn is_in_all(told: &Account) -> bool
-    ensures { result ≡ stayed (account told.now) 0 (length told.now.views.items) }
+fn is_in_all(reported: &Account) -> bool
+    ensures { result ≡ stayed (account reported.now) 0 (length reported.now.views.items) }
 {
-    'views: for view in &told.views {
-        if !view.is_member(told.me) {
+    'views: for view in &reported.views {
+        if !view.is_member(reported.me) {
             return false;
         }
     }
@@ -55,11 +55,15 @@ fn store_after_all(alloc: Global, lists: &[Vec<Delivered>]) -> Result<Store, NoM
 }
 
 // The store as the view begins, where the process was a member of all its views; what was delivered in those before it.
-fn begun(alloc: Global, told: &Account, below: &[Vec<Delivered>]) -> Result<Option<Store>, NoMemory>
-    ensures { IfOk result (λ o. o ≡ held (stayed (account told.now) 0 (length told.now.views.items))
+fn begun(
+    alloc: Global,
+    reported: &Account,
+    below: &[Vec<Delivered>],
+) -> Result<Option<Store>, NoMemory>
+    ensures { IfOk result (λ o. o ≡ held (stayed (account reported.now) 0 (length reported.now.views.items))
         (store_over (λ z. payloads_of (slice_index_or (lists_of below.now) z [])) [] 0 (length below.now))) }
 {
-    if !is_in_all(told) {
+    if !is_in_all(reported) {
         return Ok(None);
     }
     Ok(Some(store_after_all(alloc, below)?))
@@ -90,28 +94,35 @@ impl Server {
         alloc: Global,
         secret: &Secret,
         group: GroupId,
-        told: &Account,
+        reported: &Account,
     ) -> Result<Server, NoMemory>
         requires secret { IsSecret (secret_in secret.now) }
-        requires views { 1 ≤ length told.now.views.items }
-        requires lists { 1 ≤ length told.now.delivered.items }
+        requires views { 1 ≤ length reported.now.views.items }
+        requires lists { 1 ≤ length reported.now.delivered.items }
 
         // The views of a process are numbered by how many it left.
-        ensures { (p : process.Process) → account_of p ≡ account told.now → p.pool.view.number ≡ length p.left
-            → IfOk result (IsServer (place_with told.now.me group (secret_in secret.now)) (server_of p)) }
+        ensures { (p : process.Process) → account_of p ≡ account reported.now → p.pool.view.number ≡ length p.left
+            → IfOk result (IsServer (place_with reported.now.me group (secret_in secret.now)) (server_of p)) }
     {
-        let Some((here, below)) = told.delivered.split_last() else {
+        let Some((here, below)) = reported.delivered.split_last() else {
             unreachable!();
         };
-        let Some((view, _)) = told.views.split_last() else {
+        let Some((view, _)) = reported.views.split_last() else {
             unreachable!();
         };
-        let store = begun(alloc, told, below)?;
+        let store = begun(alloc, reported, below)?;
         let states = state_key(alloc, secret)?;
-        let giving = Giving::new(told.me, group, states, view.clone()?, store.as_ref(), alloc)?;
+        let giving = Giving::new(
+            reported.me,
+            group,
+            states,
+            view.clone()?,
+            store.as_ref(),
+            alloc,
+        )?;
         let store = gone_on(alloc, store, here)?;
         let key = reply_key(alloc, secret)?;
-        let replies = Replies::new(told.me, group, key, count(told), store);
+        let replies = Replies::new(reported.me, group, key, count(reported), store);
         Ok(Server { replies, giving })
     }
 }

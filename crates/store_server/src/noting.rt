@@ -64,12 +64,12 @@ impl Server {
     /// # Errors
     /// [`NoMemory`] where room for the store, for what is signed or for the line is refused. Nothing is appended then; either nothing has
     /// changed, or the message is taken, its reply is lost, and nothing else is signed with its leaf.
-    #[tactic(auto, unfolding(store_defs::specs::Serving::after_note, store_defs::specs::Serving::told_of, store_defs::specs::Words::told_text,))]
+    #[tactic(auto, unfolding(store_defs::specs::Serving::after_note, store_defs::specs::Serving::reported_of, store_defs::specs::Words::reported_text,))]
     pub fn note(&mut self, alloc: Global, note: &Note, out: &mut Vec<u8>) -> Result<(), NoMemory>
         requires takes { CanTake self.old note.now }
         ensures after { (q : Place) (s : plain.Server) → IsServer q s self.old
             → OnOk result (IsServer q (after_note q s (note_of note.now)) self.new) }
-        ensures told { (q : Place) (s : plain.Server) → IsServer q s self.old
+        ensures reported { (q : Place) (s : plain.Server) → IsServer q s self.old
             → OnOk result (out.new.items ≡ out.old.items ++ noted_text q s (note_of note.now)) }
         ensures untold { OnErr result (out.new.items ≡ out.old.items) }
         ensures lost { (q : Place) (s : plain.Server) → IsServer q s self.old

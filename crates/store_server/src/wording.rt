@@ -107,7 +107,7 @@ impl Server {
         }
     }
 
-    /// Does what a line of a script asks of the server, in a group of this scheme and roster, and appends what is written then; `told` is
+    /// Does what a line of a script asks of the server, in a group of this scheme and roster, and appends what is written then; `reported` is
     /// what the process reports of itself. False where the line has no word for a server; nothing has changed then.
     ///
     /// # Errors
@@ -119,23 +119,23 @@ impl Server {
         alloc: Global,
         scheme: AnyScheme,
         roster: &Roster,
-        told: &Account,
+        reported: &Account,
         line: &[u8],
         out: &mut Vec<u8>,
     ) -> Result<bool, NoMemory>
         ensures heard { (kit : Kit) (p : process.Process) (q : Place) (s : plain.Server)
-            → kit.scheme ≡ scheme_in scheme → kit.keys ≡ roster.now → account_of p ≡ account told.now → IsServer q s self.old
+            → kit.scheme ≡ scheme_in scheme → kit.keys ≡ roster.now → account_of p ≡ account reported.now → IsServer q s self.old
             → IfOk result (λ heard. IsHeard q s out.old.items out.new.items self.new heard
             (line_worded kit q (payloads_of p.delivered) s line.now)) }
         ensures unwritten { OnErr result (out.new.items ≡ out.old.items) }
         ensures lost { (kit : Kit) (p : process.Process) (q : Place) (s : plain.Server)
-            → kit.scheme ≡ scheme_in scheme → kit.keys ≡ roster.now → account_of p ≡ account told.now → IsServer q s self.old
+            → kit.scheme ≡ scheme_in scheme → kit.keys ≡ roster.now → account_of p ≡ account reported.now → IsServer q s self.old
             → OnErr result (IsCutOffAt q s self.new (line_worded kit q (payloads_of p.delivered) s line.now)) }
     {
         let Some(word) = read_word(alloc, scheme, roster, line)? else {
             return Ok(false);
         };
-        self.answer(alloc, scheme, last_of(&told.delivered), &word, out)?;
+        self.answer(alloc, scheme, last_of(&reported.delivered), &word, out)?;
         Ok(true)
     }
 }

@@ -6,7 +6,7 @@ use Rattle.std.proofs.lemmas.Bool.{eq-eqb}
 use Rattle.std.proofs.lemmas.List.{length-map}
 use Rattle.std.proofs.lemmas.Slice.Zip.{all_zipped_more}
 use Rattle.byte_defs.specs.Members.{has}
-use Rattle.group_defs.specs.Accounts as told
+use Rattle.group_defs.specs.Accounts as reported
 use Rattle.group_defs.specs.Accounts.{account_of}
 use Rattle.group_defs.specs.Process.{Process, Setting, deliveries_of, views_of}
 use Rattle.kit_defs.specs.Kits.{Kit}
@@ -35,14 +35,14 @@ module _ (p : Process) (a : Account) (is : account_of p ≡ account a) where
   -- it tells of one view at least
   pub some-view : 1 ≤ length a.views.items
   some-view =
-      let long : length (views_of p) ≡ length a.views.items = ap (λ (b : told.Account). length b.views) is in
+      let long : length (views_of p) ≡ length a.views.items = ap (λ (b : reported.Account). length b.views) is in
       let count : length (views_of p) ≡ suc (length (map (λ v. v.view) p.left)) = length-snoc (map (λ v. v.view) p.left) p.pool.view in
       omega (arith, long, count)
 
   -- and of what it delivered there
   pub some-list : 1 ≤ length a.delivered.items
   some-list =
-      let long : length (deliveries_of p) ≡ length (account a).delivered = ap (λ (b : told.Account). length b.delivered) is in
+      let long : length (deliveries_of p) ≡ length (account a).delivered = ap (λ (b : reported.Account). length b.delivered) is in
       let count : length (deliveries_of p) ≡ suc (length (map (λ v. v.delivered) p.left)) =
       length-snoc (map (λ v. v.delivered) p.left) p.delivered in
       let mapped : length (account a).delivered ≡ length a.delivered.items =

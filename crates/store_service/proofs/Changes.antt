@@ -61,13 +61,13 @@ found-of : (p q : ℕ) (xs : List Serving) (x : Serving) → serving p xs ≡ So
 found-of p q xs x found t = subst (λ (r : ℕ). serving r xs ≡ Some x) (sym (eqb-true q p t)) found
 
 module _ (p : ℕ) (xs : List Serving) (x : Serving) (found : serving p xs ≡ Some x) where
-  told-so : (q : ℕ) (n : Note) (b : Bool) → (q == p) ≡ b
+  reported-so : (q : ℕ) (n : Note) (b : Bool) → (q == p) ≡ b
       → serving p (after_noted q n xs) ≡ Some (if b then with_new (after_note x.place x.server n) x else x)
-  told-so q n true t =
+  reported-so q n true t =
       ap (λ (o : Option Serving). serving p (option_map_or (λ y. with_server q (after_note y.place y.server n) xs) o xs))
       (found-of p q xs x found t)
       ∙ changed p q xs x found true t (after_note x.place x.server n)
-  told-so q n false t = go (serving q xs)
+  reported-so q n false t = go (serving q xs)
     where
       go : (o : Option Serving) → serving p (option_map_or (λ y. with_server q (after_note y.place y.server n) xs) o xs) ≡ Some x
       go None = found
@@ -95,7 +95,7 @@ module _ (p : ℕ) (xs : List Serving) (x : Serving) (found : serving p xs ≡ S
   -- one call
   call-so : (c : Cast) (shown : List Process) (call : Call) → call ≢ Serves
       → serving p (after_call xs c shown call) ≡ Some (after_own p c shown call x)
-  call-so c shown (TellsOf q n) other = told-so q n (q == p) refl
+  call-so c shown (TellsOf q n) other = reported-so q n (q == p) refl
   call-so c shown (Words q line) other = heard-so c (here_of shown) q line (q == p) refl
   call-so c shown Serves other = absurd (other refl)
   call-so c shown (Binds port) other = found

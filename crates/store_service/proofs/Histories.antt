@@ -55,14 +55,14 @@ module _ (h : List Asked) (v : Servers) (has : HasServed v h) where
     -- it begins
     pub begins : (shown : List Process) (text : List ℕ) → text ≡ keys_of (begun c shown) → AreThese (begun c shown) w.servers.items
         → HasServed w (h ++ one_asked c shown Serves (Said text []))
-    begins shown text told are =
+    begins shown text reported are =
         one-more w (record { cast = c; shown = shown; call = Serves; answer = Said text [] }) step
       where
         step : (o : Option (List Serving)) → Has v o
             → IsServed o (record { cast = c; shown = shown; call = Serves; answer = Said text [] })
             × Has w (after_one o (record { cast = c; shown = shown; call = Serves; answer = Said text [] }))
-        step None f = (ap (λ (t : List ℕ). Said t []) told, λ e. are)
-        step (Some xs) f = (ap (λ (t : List ℕ). Said t []) told, λ e. are)
+        step None f = (ap (λ (t : List ℕ). Said t []) reported, λ e. are)
+        step (Some xs) f = (ap (λ (t : List ℕ). Said t []) reported, λ e. are)
 
     -- it names nobody
     pub nobody : (shown : List Process) (p : ℕ) (event : defs.Event) (notes : List defs.Note) (above : Option ℕ) → w.lost ≡ v.lost
@@ -81,14 +81,14 @@ module _ (h : List Asked) (v : Servers) (has : HasServed v h) where
       pub tells : (shown : List Process) (p : ℕ) (note : defs.Note) (text : List ℕ)
           → ((xs : List Serving) → AreThese xs v.servers.items → (text ≡ noted p note xs) × AreThese (after_noted p note xs) w.servers.items)
           → HasServed w (h ++ one_asked c shown (TellsOf p note) (Said text []))
-      tells shown p note text told =
+      tells shown p note text reported =
           one-more w (record { cast = c; shown = shown; call = TellsOf p note; answer = Said text [] }) step
         where
           step : (o : Option (List Serving)) → Has v o
               → IsServed o (record { cast = c; shown = shown; call = TellsOf p note; answer = Said text [] })
               × Has w (after_one o (record { cast = c; shown = shown; call = TellsOf p note; answer = Said text [] }))
           step None f = (tt, λ e. tt)
-          step (Some xs) f = let t = told xs (f kept) in (ap (λ (u : List ℕ). Said u []) t.0, λ e. t.1)
+          step (Some xs) f = let t = reported xs (f kept) in (ap (λ (u : List ℕ). Said u []) t.0, λ e. t.1)
 
       -- a line was answered
       pub answers : (now : Process) (p : ℕ) (line : List ℕ) (text : Option (List ℕ))
@@ -96,7 +96,7 @@ module _ (h : List Asked) (v : Servers) (has : HasServed v h) where
           → (text ≡ option_map (λ w. w.0) (worded c (payloads_of now.delivered) p line xs))
           × AreThese (after_worded c (payloads_of now.delivered) p line xs) w.servers.items)
           → HasServed w (h ++ one_asked c (now ∷ []) (Words p line) (said-by text))
-      answers now p line text told =
+      answers now p line text reported =
           one-more w (record { cast = c; shown = now ∷ []; call = Words p line; answer = said-by text }) step
         where
           step : (o : Option (List Serving)) → Has v o
@@ -104,7 +104,7 @@ module _ (h : List Asked) (v : Servers) (has : HasServed v h) where
               × Has w (after_one o (record { cast = c; shown = now ∷ []; call = Words p line; answer = said-by text }))
           step None f = (tt, λ e. tt)
           step (Some xs) f =
-              let t = told xs (f kept) in
+              let t = reported xs (f kept) in
               (ap said-by t.0 ∙ said-worded (worded c (payloads_of now.delivered) p line xs), λ e. t.1)
 
   -- ---- as the node asks
@@ -113,10 +113,10 @@ module _ (h : List Asked) (v : Servers) (has : HasServed v h) where
     -- a text was said, and nothing is to be sent
     pub says-to : (text : List ℕ) → new ≡ old ++ text → HasServed w (h ++ one_asked c (now ∷ []) (Words p line) (Said text []))
         → SaysTo HasServed w h c p now line old new sends sends
-    says-to text told so = record {
+    says-to text reported so = record {
       text = text;
       more = [];
-      told = told;
+      reported = reported;
       sent = sym (append-nil sends);
       can = All-nil (CanBeSent c p);
       has = so;

@@ -1,5 +1,5 @@
 pub mod Found
-pub mod Told
+pub mod Reported
 pub mod Worded
 pub mod Begun
 pub mod Histories

@@ -24,8 +24,8 @@ module _ (c : Cast) (here : List (List ℕ)) (p : ℕ) (line : List ℕ) (xs : L
 
   so-answered : (o : Option (List ℕ × plain.Server)) → worded c here p line xs ≡ o → (text : Option (List ℕ)) (new : List Server)
       → text ≡ option_map (λ w. w.0) o → AreThese (option_map_or (λ w. with_server p w.1 xs) o xs) new → Answered text new
-  so-answered o is text new told these = (
-    told ∙ sym (ap (λ (u : Option (List ℕ × plain.Server)). option_map (λ w. w.0) u) is),
+  so-answered o is text new reported these = (
+    reported ∙ sym (ap (λ (u : Option (List ℕ × plain.Server)). option_map (λ w. w.0) u) is),
     subst (λ (ys : List Serving). AreThese ys new)
         (sym (ap (λ (u : Option (List ℕ × plain.Server)). option_map_or (λ w. with_server p w.1 xs) u xs) is)) these,
   )

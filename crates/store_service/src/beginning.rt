@@ -29,8 +29,8 @@ fn begin_one(
     let Some(secret) = kit.secret(p) else {
         return Ok(());
     };
-    let told = host.process.core().account();
-    let server = Server::begin(alloc, secret, kit.group(), told)?;
+    let reported = host.process.core().account();
+    let server = Server::begin(alloc, secret, kit.group(), reported)?;
     servers.push(server)?;
     Ok(())
 }

@@ -52,16 +52,16 @@ nothing = None
 same_pair : (a b : ℕ × Command) → some a ≡ some b → a ≡ b
 same_pair a b e = cc
 
-told_by : (g : ℕ) (r : Reading Command) (t : ℕ) (c : Command) → some (t, c) ≡ asked g r → read_tokens g r ≡ asked_tokens t c
-told_by g (Ok d) t c e = sym (ap (λ (x : ℕ × Command). asked_tokens x.0 x.1) (same_pair (t, c) (g, d) e))
-told_by g (Err f) t c e = absurd cc
+reported_by : (g : ℕ) (r : Reading Command) (t : ℕ) (c : Command) → some (t, c) ≡ asked g r → read_tokens g r ≡ asked_tokens t c
+reported_by g (Ok d) t c e = sym (ap (λ (x : ℕ × Command). asked_tokens x.0 x.1) (same_pair (t, c) (g, d) e))
+reported_by g (Err f) t c e = absurd cc
 
 none_by : (g : ℕ) (r : Reading Command) → nothing ≡ asked g r → read_tokens g r ≡ Word (codes "no") ∷ Word (codes "request") ∷ []
 none_by g (Ok d) e = absurd cc
 none_by g (Err f) e = refl
 
-pub request_told : (payload : List ℕ) (t : ℕ) (c : Command) → some (t, c) ≡ asked_in payload → payload_tokens payload ≡ asked_tokens t c
-request_told payload t c e = told_by (tag_of payload) (request_of payload) t c e
+pub request_reported : (payload : List ℕ) (t : ℕ) (c : Command) → some (t, c) ≡ asked_in payload → payload_tokens payload ≡ asked_tokens t c
+request_reported payload t c e = reported_by (tag_of payload) (request_of payload) t c e
 
-pub none_told : (payload : List ℕ) → nothing ≡ asked_in payload → payload_tokens payload ≡ Word (codes "no") ∷ Word (codes "request") ∷ []
-none_told payload e = none_by (tag_of payload) (request_of payload) e
+pub none_reported : (payload : List ℕ) → nothing ≡ asked_in payload → payload_tokens payload ≡ Word (codes "no") ∷ Word (codes "request") ∷ []
+none_reported payload e = none_by (tag_of payload) (request_of payload) e

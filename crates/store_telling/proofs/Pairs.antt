@@ -7,8 +7,8 @@ use Rattle.byte_defs.specs.Fields.{◌>>=◌}
 use Rattle.store_defs.specs.Stores.{Pair, Reading, Store, store_of}
 use Rattle.store_defs.specs.Records.{StateRecord}
 use Rattle.store_text_defs.specs.Meanings.{pair_tokens, state_lines, store_head, store_lines}
-use Rattle.store_telling.specs.Pieces.{pairs_told, told_text}
-use Rattle.store_telling.proofs.Pieces.{lines_behind, nothing_told}
+use Rattle.store_telling.specs.Pieces.{pairs_reported, reported_text}
+use Rattle.store_telling.proofs.Pieces.{lines_behind, nothing_reported}
 
 abbrev done : Store → Reading Store
 done s = Ok s
@@ -17,26 +17,26 @@ pub rest_is_ok : (left rest : Reading Store) (e : Pair) → left ≡ (rest >>= �
 rest_is_ok left (Ok s) e is ok = refl
 rest_is_ok left (Err f) e is ok = sym (ap is_ok is) ∙ ok
 
-pub one_told : (left rest : Reading Store) (e : Pair) → left ≡ (rest >>= λ s. done (e ∷ s)) → is_ok left ≡ true
-    → told_text (pairs_told left) ≡ told_text (pair_tokens e ∷ []) ++ told_text (pairs_told rest)
-one_told left (Ok s) e is ok = ap (λ (r : Reading Store). told_text (pairs_told r)) is ∙ lines_behind (pair_tokens e) (map pair_tokens s)
-one_told left (Err f) e is ok = absurd (no (sym (ap is_ok is) ∙ ok))
+pub one_reported : (left rest : Reading Store) (e : Pair) → left ≡ (rest >>= λ s. done (e ∷ s)) → is_ok left ≡ true
+    → reported_text (pairs_reported left) ≡ reported_text (pair_tokens e ∷ []) ++ reported_text (pairs_reported rest)
+one_reported left (Ok s) e is ok = ap (λ (r : Reading Store). reported_text (pairs_reported r)) is ∙ lines_behind (pair_tokens e) (map pair_tokens s)
+one_reported left (Err f) e is ok = absurd (no (sym (ap is_ok is) ∙ ok))
   where
     no : false ≡ true → ⊥
     no e = absurd cc
 
 -- the lines so far, and those that are left, are all
 pub goes_on : (all out more : List ℕ) (left rest : Reading Store) (e : Pair) → left ≡ (rest >>= λ s. done (e ∷ s)) → is_ok left ≡ true
-    → more ≡ out ++ told_text (pair_tokens e ∷ []) → out ++ told_text (pairs_told left) ≡ all → more ++ told_text (pairs_told rest) ≡ all
+    → more ≡ out ++ reported_text (pair_tokens e ∷ []) → out ++ reported_text (pairs_reported left) ≡ all → more ++ reported_text (pairs_reported rest) ≡ all
 goes_on all out more left rest e is ok grown so =
-    ap (λ (x : List ℕ). x ++ told_text (pairs_told rest)) grown
-    ∙ append_assoc out (told_text (pair_tokens e ∷ [])) (told_text (pairs_told rest))
-    ∙ ap (λ (x : List ℕ). out ++ x) (sym (one_told left rest e is ok))
+    ap (λ (x : List ℕ). x ++ reported_text (pairs_reported rest)) grown
+    ∙ append_assoc out (reported_text (pair_tokens e ∷ [])) (reported_text (pairs_reported rest))
+    ∙ ap (λ (x : List ℕ). out ++ x) (sym (one_reported left rest e is ok))
     ∙ so
 
-pub ends : (all out : List ℕ) (left : Reading Store) → left ≡ done [] → out ++ told_text (pairs_told left) ≡ all → out ≡ all
+pub ends : (all out : List ℕ) (left : Reading Store) → left ≡ done [] → out ++ reported_text (pairs_reported left) ≡ all → out ≡ all
 ends all out left is so =
-    sym (nothing_told out) ∙ sym (ap (λ (r : Reading Store). out ++ told_text (pairs_told r)) is) ∙ so
+    sym (nothing_reported out) ∙ sym (ap (λ (r : Reading Store). out ++ reported_text (pairs_reported r)) is) ∙ so
 
 pub never_fails : (left : Reading Store) → left ≡ Err tt → is_ok left ≡ true → ⊥
 never_fails left is ok = no (sym (ap is_ok is) ∙ ok)
@@ -47,22 +47,22 @@ never_fails left is ok = no (sym (ap is_ok is) ∙ ok)
 -- ---- a state
 
 -- the line of the view, and then those of the pairs
-pub state_told : (out headed : List ℕ) (r : StateRecord) (left : Reading Store) → headed ≡ out ++ told_text (store_head r.view ∷ [])
-    → store_of r.state ≡ left → is_ok (store_of r.state) ≡ true → headed ++ told_text (pairs_told left) ≡ out ++ told_text (state_lines r)
-state_told out headed r left head is ok =
-    ap (λ (x : List ℕ). x ++ told_text (pairs_told left)) head
-    ∙ append_assoc out (told_text (store_head r.view ∷ [])) (told_text (pairs_told left))
-    ∙ ap (λ (x : List ℕ). out ++ x) (ap (λ (read : Reading Store). told_text (store_head r.view ∷ []) ++ told_text (pairs_told read)) (sym is)
+pub state_reported : (out headed : List ℕ) (r : StateRecord) (left : Reading Store) → headed ≡ out ++ reported_text (store_head r.view ∷ [])
+    → store_of r.state ≡ left → is_ok (store_of r.state) ≡ true → headed ++ reported_text (pairs_reported left) ≡ out ++ reported_text (state_lines r)
+state_reported out headed r left head is ok =
+    ap (λ (x : List ℕ). x ++ reported_text (pairs_reported left)) head
+    ∙ append_assoc out (reported_text (store_head r.view ∷ [])) (reported_text (pairs_reported left))
+    ∙ ap (λ (x : List ℕ). out ++ x) (ap (λ (read : Reading Store). reported_text (store_head r.view ∷ []) ++ reported_text (pairs_reported read)) (sym is)
     ∙ of (store_of r.state) ok)
   where
     of : (read : Reading Store) → is_ok read ≡ true
-        → told_text (store_head r.view ∷ []) ++ told_text (pairs_told read) ≡ told_text (option_map_or (store_lines r.view) (result_ok read) [])
+        → reported_text (store_head r.view ∷ []) ++ reported_text (pairs_reported read) ≡ reported_text (option_map_or (store_lines r.view) (result_ok read) [])
     of (Ok s) ok = sym (lines_behind (store_head r.view) (map pair_tokens s))
     of (Err f) ok = absurd cc
 
-pub no_state : (out : List ℕ) (r : StateRecord) → is_ok (store_of r.state) ≡ false → out ≡ out ++ told_text (state_lines r)
+pub no_state : (out : List ℕ) (r : StateRecord) → is_ok (store_of r.state) ≡ false → out ≡ out ++ reported_text (state_lines r)
 no_state out r none = of (store_of r.state) none
   where
-    of : (read : Reading Store) → is_ok read ≡ false → out ≡ out ++ told_text (option_map_or (store_lines r.view) (result_ok read) [])
+    of : (read : Reading Store) → is_ok read ≡ false → out ≡ out ++ reported_text (option_map_or (store_lines r.view) (result_ok read) [])
     of (Ok s) none = absurd cc
-    of (Err f) none = sym (nothing_told out)
+    of (Err f) none = sym (nothing_reported out)

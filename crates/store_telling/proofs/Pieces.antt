@@ -9,33 +9,33 @@ use Rattle.store_defs.specs.Stores.{Answer, Command, Reading, request_of}
 use Rattle.store_defs.specs.Stores as stores
 use Rattle.store_defs.specs.Records.{Reply}
 use Rattle.store_text_defs.specs.Answers.{answer_of, answer_tokens, said_or, said_tokens}
-use Rattle.store_text_defs.specs.Meanings.{payload_tokens, perhaps, read_tokens, reply_tokens, sentence, told_line}
+use Rattle.store_text_defs.specs.Meanings.{payload_tokens, perhaps, read_tokens, reply_tokens, sentence, reported_line}
 use Rattle.store_text_defs.specs.Requests.{tag_of}
-use Rattle.store_telling.specs.Pieces.{offered_lines, place_tokens, told_text}
+use Rattle.store_telling.specs.Pieces.{offered_lines, place_tokens, reported_text}
 
-pub nothing_told : (out : List ℕ) → out ++ told_text [] ≡ out
-unfolding told_text
-nothing_told out = append-nil out
+pub nothing_reported : (out : List ℕ) → out ++ reported_text [] ≡ out
+unfolding reported_text
+nothing_reported out = append-nil out
 
-pub lines_behind : (t : List Token) (ts : List (List Token)) → told_text (t ∷ ts) ≡ told_text (t ∷ []) ++ told_text ts
-unfolding told_text
-lines_behind t ts = ap (λ (line : List ℕ). line ++ told_text ts) (sym (append-nil (told_line t)))
+pub lines_behind : (t : List Token) (ts : List (List Token)) → reported_text (t ∷ ts) ≡ reported_text (t ∷ []) ++ reported_text ts
+unfolding reported_text
+lines_behind t ts = ap (λ (line : List ℕ). line ++ reported_text ts) (sym (append-nil (reported_line t)))
 
-line_text : (out : List ℕ) (t : Token) (ts : List Token) → ((out ++ 32 ∷ []) ++ behind (t ∷ ts)) ++ 10 ∷ [] ≡ out ++ told_line (t ∷ ts)
+line_text : (out : List ℕ) (t : Token) (ts : List Token) → ((out ++ 32 ∷ []) ++ behind (t ∷ ts)) ++ 10 ∷ [] ≡ out ++ reported_line (t ∷ ts)
 line_text out t ts =
     append_assoc (out ++ 32 ∷ []) (behind (t ∷ ts)) (10 ∷ [])
     ∙ append_assoc out (32 ∷ []) (behind (t ∷ ts) ++ 10 ∷ [])
     ∙ ap (λ (line : List ℕ). out ++ 32 ∷ 32 ∷ line) (append_assoc (shown t) (behind ts) (10 ∷ []) ∙ sym (line_is (shown t) ts))
 
 -- a blank, the tokens behind it and the end of the line
-pub told_by : (out one two new : List ℕ) (ts : List Token) → 0 < length ts → one ≡ out ++ 32 ∷ [] → two ≡ one ++ behind ts
-    → new ≡ two ++ 10 ∷ [] → new ≡ out ++ told_text (ts ∷ [])
-unfolding told_text
-told_by out one two new [] some e f g = absurd (omega (arith, some))
-told_by out one two new (t ∷ ts) some e f g =
+pub reported_by : (out one two new : List ℕ) (ts : List Token) → 0 < length ts → one ≡ out ++ 32 ∷ [] → two ≡ one ++ behind ts
+    → new ≡ two ++ 10 ∷ [] → new ≡ out ++ reported_text (ts ∷ [])
+unfolding reported_text
+reported_by out one two new [] some e f g = absurd (omega (arith, some))
+reported_by out one two new (t ∷ ts) some e f g =
     g ∙ ap (λ (x : List ℕ). x ++ 10 ∷ []) (f ∙ ap (λ (x : List ℕ). x ++ behind (t ∷ ts)) e)
     ∙ line_text out t ts
-    ∙ ap (λ (x : List ℕ). out ++ x) (sym (append-nil (told_line (t ∷ ts))))
+    ∙ ap (λ (x : List ℕ). out ++ x) (sym (append-nil (reported_line (t ∷ ts))))
 
 -- ---- tokens, one at least
 
@@ -63,10 +63,10 @@ said_some bytes = said_by bytes (answer_of bytes)
 
 -- ---- a reply
 
-pub reply_told : (out : List ℕ) (r : Reply)
+pub reply_reported : (out : List ℕ) (r : Reply)
     → (((out ++ behind (place_tokens r)) ++ behind (payload_tokens r.payload)) ++ behind (Word (codes ":") ∷ [])) ++ behind (said_tokens r.answer)
     ≡ out ++ behind (reply_tokens r)
-reply_told out r =
+reply_reported out r =
     let place = place_tokens r in
     let payload = payload_tokens r.payload in
     let colon : List Token = Word (codes ":") ∷ [] in
@@ -80,6 +80,6 @@ reply_told out r =
 
 -- ---- an offer
 
-pub refused_told : (o : Option (List ℕ)) → offered_lines (option_map sentence o) ≡ perhaps o
-refused_told None = refl
-refused_told (Some text) = refl
+pub refused_reported : (o : Option (List ℕ)) → offered_lines (option_map sentence o) ≡ perhaps o
+refused_reported None = refl
+refused_reported (Some text) = refl

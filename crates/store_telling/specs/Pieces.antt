@@ -8,11 +8,11 @@ use Rattle.story_defs.specs.Texts.{Token, Word, number}
 use Rattle.store_defs.specs.Records.{Reply, reply_of}
 use Rattle.store_defs.specs.Stores.{Command, Reading, Store, request_of}
 use Rattle.store_text_defs.specs.Requests.{tag_of}
-use Rattle.store_text_defs.specs.Meanings.{one_line, pair_tokens, told_line}
+use Rattle.store_text_defs.specs.Meanings.{one_line, pair_tokens, reported_line}
 
 -- lines of these tokens, each behind two blanks
-unfoldable pub told_text : List (List Token) → List ℕ
-told_text lines = flat_map told_line lines
+unfoldable pub reported_text : List (List Token) → List ℕ
+reported_text lines = flat_map reported_line lines
 
 -- a command with its tag
 abbrev pub tagged : ℕ → Command → ℕ × Command
@@ -38,8 +38,8 @@ taken_tokens count = Word (codes "members that gave this state:") ∷ Word count
 
 -- of what an offer says
 abbrev pub offered_lines : Option (List Token) → List (List Token)
-offered_lines told = option_map_or one_line told []
+offered_lines reported = option_map_or one_line reported []
 
 -- of a store that was read
-abbrev pub pairs_told : Reading Store → List (List Token)
-pairs_told read = option_map_or (map pair_tokens) (result_ok read) []
+abbrev pub pairs_reported : Reading Store → List (List Token)
+pairs_reported read = option_map_or (map pair_tokens) (result_ok read) []

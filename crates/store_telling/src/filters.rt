@@ -9,7 +9,7 @@ use rp_base::NoMemory;
 use std::alloc::Global;
 use store_wording::{Filter, assembled, ended};
 
-fn told(alloc: Global, line: &[u8]) -> Result<Vec<u8>, NoMemory>
+fn reported(alloc: Global, line: &[u8]) -> Result<Vec<u8>, NoMemory>
     ensures { IfOk result (λ bytes. bytes.items ≡ plain.ended line.now ++ meaning line.now) }
 {
     let mut bytes = ended(alloc, line)?;
@@ -27,6 +27,6 @@ pub fn made_of(alloc: Global, filter: Filter, line: &[u8]) -> Result<Option<Vec<
 {
     match filter {
         Filter::Assemble => assembled(alloc, line),
-        Filter::Tell => Ok(Some(told(alloc, line)?)),
+        Filter::Tell => Ok(Some(reported(alloc, line)?)),
     }
 }

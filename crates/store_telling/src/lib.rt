@@ -4,9 +4,9 @@
 mod answers;
 mod filters;
 mod meanings;
+mod reported;
 mod sentences;
 mod states;
-mod told;
 mod words;
 
 pub use filters::made_of;

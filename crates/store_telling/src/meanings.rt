@@ -8,11 +8,11 @@ ghost use Rattle.store_text_defs.specs.Answers.{said_tokens};
 ghost use Rattle.store_text_defs.specs.Meanings as plain;
 ghost use Rattle.store_text_defs.specs.Meanings.{meaning, payload_tokens, reply_tokens};
 ghost use Rattle.store_text_defs.specs.Requests.{only};
-ghost use Rattle.store_telling.specs.Pieces.{offered_lines, reply_from, taken_tokens, told_text};
+ghost use Rattle.store_telling.specs.Pieces.{offered_lines, reply_from, taken_tokens, reported_text};
 
+use crate::reported::{push_payload, push_reply, push_said, tell_line};
 use crate::sentences::{no_answer, no_reply, no_state, refusal};
 use crate::states::tell_state;
-use crate::told::{push_payload, push_reply, push_said, tell_line};
 use crate::words::{fourth, sixth, three};
 use rp_base::{NoMemory, Pid};
 use std::alloc::Global;
@@ -25,7 +25,7 @@ use text_codec::{Parts as Words, process};
 // ---- lines of their own
 
 fn tell_payload(out: &mut Vec<u8>, payload: &[u8]) -> Result<(), NoMemory>
-    ensures { OnOk result (out.new.items ≡ out.old.items ++ told_text (payload_tokens payload.now ∷ [])) }
+    ensures { OnOk result (out.new.items ≡ out.old.items ++ reported_text (payload_tokens payload.now ∷ [])) }
 {
     out.push(b' ')?;
     push_payload(out, payload)?;
@@ -34,7 +34,7 @@ fn tell_payload(out: &mut Vec<u8>, payload: &[u8]) -> Result<(), NoMemory>
 }
 
 fn tell_reply(out: &mut Vec<u8>, reply: &Reply<'_>) -> Result<(), NoMemory>
-    ensures { OnOk result (out.new.items ≡ out.old.items ++ told_text (reply_tokens (reply_of reply.now) ∷ [])) }
+    ensures { OnOk result (out.new.items ≡ out.old.items ++ reported_text (reply_tokens (reply_of reply.now) ∷ [])) }
 {
     out.push(b' ')?;
     push_reply(out, reply)?;
@@ -43,7 +43,7 @@ fn tell_reply(out: &mut Vec<u8>, reply: &Reply<'_>) -> Result<(), NoMemory>
 }
 
 fn tell_said(out: &mut Vec<u8>, answer: &[u8]) -> Result<(), NoMemory>
-    ensures { OnOk result (out.new.items ≡ out.old.items ++ told_text (said_tokens answer.now ∷ [])) }
+    ensures { OnOk result (out.new.items ≡ out.old.items ++ reported_text (said_tokens answer.now ∷ [])) }
 {
     out.push(b' ')?;
     push_said(out, answer)?;
@@ -52,9 +52,9 @@ fn tell_said(out: &mut Vec<u8>, answer: &[u8]) -> Result<(), NoMemory>
 }
 
 // A sentence, where there is one.
-#[tactic(auto, using(crate::proofs::Pieces::nothing_told))]
+#[tactic(auto, using(crate::proofs::Pieces::nothing_reported))]
 fn tell_perhaps(out: &mut Vec<u8>, text: Option<&[u8]>) -> Result<(), NoMemory>
-    ensures { OnOk result (out.new.items ≡ out.old.items ++ told_text (plain.perhaps (option_copied text.entry))) }
+    ensures { OnOk result (out.new.items ≡ out.old.items ++ reported_text (plain.perhaps (option_copied text.entry))) }
 {
     match text {
         Some(text) => tell_line(out, &[Token::Word(text)]),
@@ -64,7 +64,7 @@ fn tell_perhaps(out: &mut Vec<u8>, text: Option<&[u8]>) -> Result<(), NoMemory>
 
 // How many members gave the state that was offered, as the word says.
 fn tell_taken(out: &mut Vec<u8>, count: &[u8]) -> Result<(), NoMemory>
-    ensures { OnOk result (out.new.items ≡ out.old.items ++ told_text (taken_tokens count.now ∷ [])) }
+    ensures { OnOk result (out.new.items ≡ out.old.items ++ reported_text (taken_tokens count.now ∷ [])) }
 {
     tell_line(
         out,
@@ -78,9 +78,9 @@ fn tell_taken(out: &mut Vec<u8>, count: &[u8]) -> Result<(), NoMemory>
 // ---- deliveries
 
 // The words after `deliver`.
-#[tactic(auto, using(crate::proofs::Pieces::nothing_told))]
+#[tactic(auto, using(crate::proofs::Pieces::nothing_reported))]
 fn tell_delivery(alloc: Global, words: Words<'_>, out: &mut Vec<u8>) -> Result<(), NoMemory>
-    ensures { OnOk result (out.new.items ≡ out.old.items ++ told_text (plain.deliver_lines (parts_left words.entry))) }
+    ensures { OnOk result (out.new.items ≡ out.old.items ++ reported_text (plain.deliver_lines (parts_left words.entry))) }
 {
     let Some(word) = sixth(words) else {
         return Ok(());
@@ -95,7 +95,7 @@ fn tell_delivery(alloc: Global, words: Words<'_>, out: &mut Vec<u8>) -> Result<(
 
 // What a word says that spells these bytes: the reply of this process, if they are one.
 fn tell_record(p: Pid, word: &[u8], bytes: &[u8], out: &mut Vec<u8>) -> Result<(), NoMemory>
-    ensures { OnOk result (out.new.items ≡ out.old.items ++ told_text (plain.reply_or word.now (reply_from p bytes.now))) }
+    ensures { OnOk result (out.new.items ≡ out.old.items ++ reported_text (plain.reply_or word.now (reply_from p bytes.now))) }
 {
     let Some(reply) = read_reply(bytes) else {
         return tell_perhaps(out, no_reply(word));
@@ -108,7 +108,7 @@ fn tell_record(p: Pid, word: &[u8], bytes: &[u8], out: &mut Vec<u8>) -> Result<(
 
 // What a process replied.
 fn tell_replied(alloc: Global, p: Pid, word: &[u8], out: &mut Vec<u8>) -> Result<(), NoMemory>
-    ensures { OnOk result (out.new.items ≡ out.old.items ++ told_text (plain.reply_said p word.now)) }
+    ensures { OnOk result (out.new.items ≡ out.old.items ++ reported_text (plain.reply_said p word.now)) }
 {
     match some_bytes(alloc, word)? {
         Some(bytes) => tell_record(p, word, &bytes, out),
@@ -117,9 +117,9 @@ fn tell_replied(alloc: Global, p: Pid, word: &[u8], out: &mut Vec<u8>) -> Result
 }
 
 // The words after `reply`.
-#[tactic(auto, using(crate::proofs::Pieces::nothing_told))]
+#[tactic(auto, using(crate::proofs::Pieces::nothing_reported))]
 fn tell_reply_line(alloc: Global, words: Words<'_>, out: &mut Vec<u8>) -> Result<(), NoMemory>
-    ensures { OnOk result (out.new.items ≡ out.old.items ++ told_text (plain.reply_lines (parts_left words.entry))) }
+    ensures { OnOk result (out.new.items ≡ out.old.items ++ reported_text (plain.reply_lines (parts_left words.entry))) }
 {
     let Some((first, word)) = both(words) else {
         return Ok(());
@@ -134,7 +134,7 @@ fn tell_reply_line(alloc: Global, words: Words<'_>, out: &mut Vec<u8>) -> Result
 
 // What a word says that spells these bytes: the store of this process's state record, if they are one.
 fn tell_state_of(p: Pid, word: &[u8], bytes: &[u8], out: &mut Vec<u8>) -> Result<(), NoMemory>
-    ensures { OnOk result (out.new.items ≡ out.old.items ++ told_text (plain.state_or word.now (plain.state_from p bytes.now))) }
+    ensures { OnOk result (out.new.items ≡ out.old.items ++ reported_text (plain.state_or word.now (plain.state_from p bytes.now))) }
 {
     let Some(given) = read_state(bytes) else {
         return tell_perhaps(out, no_state(word));
@@ -147,7 +147,7 @@ fn tell_state_of(p: Pid, word: &[u8], bytes: &[u8], out: &mut Vec<u8>) -> Result
 
 // What a process gave, or made of an offer in one word.
 fn tell_given(alloc: Global, p: Pid, word: &[u8], out: &mut Vec<u8>) -> Result<(), NoMemory>
-    ensures { OnOk result (out.new.items ≡ out.old.items ++ told_text (plain.state_said p word.now)) }
+    ensures { OnOk result (out.new.items ≡ out.old.items ++ reported_text (plain.state_said p word.now)) }
 {
     match some_bytes(alloc, word)? {
         Some(bytes) => tell_state_of(p, word, &bytes, out),
@@ -156,9 +156,9 @@ fn tell_given(alloc: Global, p: Pid, word: &[u8], out: &mut Vec<u8>) -> Result<(
 }
 
 // What two words say of an offer.
-#[tactic(auto, using(crate::proofs::Pieces::nothing_told, crate::proofs::Pieces::refused_told))]
+#[tactic(auto, using(crate::proofs::Pieces::nothing_reported, crate::proofs::Pieces::refused_reported))]
 fn tell_offered(out: &mut Vec<u8>, word: &[u8], more: &[u8]) -> Result<(), NoMemory>
-    ensures { OnOk result (out.new.items ≡ out.old.items ++ told_text (offered_lines (plain.offered word.now more.now))) }
+    ensures { OnOk result (out.new.items ≡ out.old.items ++ reported_text (offered_lines (plain.offered word.now more.now))) }
 {
     if word == b"taken".as_slice() {
         tell_taken(out, more)
@@ -170,10 +170,10 @@ fn tell_offered(out: &mut Vec<u8>, word: &[u8], more: &[u8]) -> Result<(), NoMem
 }
 
 // The three words after `state` of an offer.
-#[tactic(auto, using(crate::proofs::Pieces::nothing_told))]
+#[tactic(auto, using(crate::proofs::Pieces::nothing_reported))]
 fn tell_offer(words: Words<'_>, out: &mut Vec<u8>) -> Result<(), NoMemory>
     ensures { OnOk result (out.new.items
-        ≡ out.old.items ++ told_text (option_map_or plain.offer_lines (plain.three (parts_left words.entry)) [])) }
+        ≡ out.old.items ++ reported_text (option_map_or plain.offer_lines (plain.three (parts_left words.entry)) [])) }
 {
     let Some((first, word, more)) = three(words) else {
         return Ok(());
@@ -185,9 +185,9 @@ fn tell_offer(words: Words<'_>, out: &mut Vec<u8>) -> Result<(), NoMemory>
 }
 
 // The words after `state`.
-#[tactic(auto, using(crate::proofs::Pieces::nothing_told))]
+#[tactic(auto, using(crate::proofs::Pieces::nothing_reported))]
 fn tell_state_line(alloc: Global, words: Words<'_>, out: &mut Vec<u8>) -> Result<(), NoMemory>
-    ensures { OnOk result (out.new.items ≡ out.old.items ++ told_text (plain.given_lines (parts_left words.entry))) }
+    ensures { OnOk result (out.new.items ≡ out.old.items ++ reported_text (plain.given_lines (parts_left words.entry))) }
 {
     let Some((first, word)) = both(words) else {
         return tell_offer(words, out);
@@ -201,10 +201,10 @@ fn tell_state_line(alloc: Global, words: Words<'_>, out: &mut Vec<u8>) -> Result
 // ---- answers
 
 // The only word after `answer`, in the place of an answer.
-#[tactic(auto, using(crate::proofs::Pieces::nothing_told))]
+#[tactic(auto, using(crate::proofs::Pieces::nothing_reported))]
 fn tell_no_answer(words: Words<'_>, out: &mut Vec<u8>) -> Result<(), NoMemory>
     ensures { OnOk result (out.new.items ≡ out.old.items
-        ++ told_text (plain.perhaps (and_then (only (parts_left words.entry)) plain.no_answer))) }
+        ++ reported_text (plain.perhaps (and_then (only (parts_left words.entry)) plain.no_answer))) }
 {
     match only(words) {
         Some(word) => tell_perhaps(out, no_answer(word)),
@@ -213,9 +213,9 @@ fn tell_no_answer(words: Words<'_>, out: &mut Vec<u8>) -> Result<(), NoMemory>
 }
 
 // The words after `answer`.
-#[tactic(auto, using(crate::proofs::Pieces::nothing_told))]
+#[tactic(auto, using(crate::proofs::Pieces::nothing_reported))]
 fn tell_answer_line(alloc: Global, words: Words<'_>, out: &mut Vec<u8>) -> Result<(), NoMemory>
-    ensures { OnOk result (out.new.items ≡ out.old.items ++ told_text (plain.answer_lines (parts_left words.entry))) }
+    ensures { OnOk result (out.new.items ≡ out.old.items ++ reported_text (plain.answer_lines (parts_left words.entry))) }
 {
     let Some(word) = fourth(words) else {
         return tell_no_answer(words, out);
@@ -232,7 +232,7 @@ fn tell_answer_line(alloc: Global, words: Words<'_>, out: &mut Vec<u8>) -> Resul
 ///
 /// # Errors
 /// [`NoMemory`] where room is refused.
-#[tactic(auto, using(crate::proofs::Pieces::nothing_told), unfolding(store_text_defs::specs::Meanings::meaning, crate::specs::Pieces::told_text))]
+#[tactic(auto, using(crate::proofs::Pieces::nothing_reported), unfolding(store_text_defs::specs::Meanings::meaning, crate::specs::Pieces::reported_text))]
 pub(crate) fn push_meaning(alloc: Global, line: &[u8], out: &mut Vec<u8>) -> Result<(), NoMemory>
     ensures { OnOk result (out.new.items ≡ out.old.items ++ meaning line.now) }
 {

@@ -3,7 +3,7 @@ use Rattle.std.specs.Prelude.{◌≡◌, ℕ, ◌^◌, ◌<◌, List, Some, Ok}
 use Rattle.store_defs.specs.Stores.{Answer, Command, answer_bytes, request_of}
 use Rattle.store_text_defs.specs.declared.Filter.{Filter}
 use Rattle.store_text_defs.specs.declared.Filter.TheVariants.{Assemble}
-use Rattle.store_text_defs.specs.Requests.{IsCommand, IsRequest, Request, asked_tokens, request_bytes, request_tokens, submit_line, tag_of, told}
+use Rattle.store_text_defs.specs.Requests.{IsCommand, IsRequest, Request, asked_tokens, request_bytes, request_tokens, submit_line, tag_of, reported}
 use Rattle.store_text_defs.specs.Answers.{answer_of}
 use Rattle.store_text_defs.specs.Meanings.{payload_tokens}
 use Rattle.store_text_defs.specs.Filters.{Filtered, Stopped, becomes}
@@ -17,7 +17,7 @@ RequestIsRead = (tag : ℕ) (c : Command) → tag < 2 ^ 64 → IsCommand c
 
 -- a request in words becomes the line that submits it
 abbrev pub WordsAreRequest : Type 0
-WordsAreRequest = (r : Request) → IsRequest r → becomes Assemble (told (request_tokens r)) ≡ Some (submit_line r)
+WordsAreRequest = (r : Request) → IsRequest r → becomes Assemble (reported (request_tokens r)) ≡ Some (submit_line r)
 
 -- ---- what is put in words
 
@@ -26,8 +26,8 @@ abbrev pub AnswerIsRead : Type 0
 AnswerIsRead = (a : Answer) → answer_of (answer_bytes a) ≡ Some a
 
 -- a payload that is a request is written as the request in words
-abbrev pub PayloadIsTold : Type 0
-PayloadIsTold = (tag : ℕ) (c : Command) → tag < 2 ^ 64 → IsCommand c → payload_tokens (request_bytes tag c) ≡ asked_tokens tag c
+abbrev pub PayloadIsReported : Type 0
+PayloadIsReported = (tag : ℕ) (c : Command) → tag < 2 ^ 64 → IsCommand c → payload_tokens (request_bytes tag c) ≡ asked_tokens tag c
 
 -- ---- filters
 

@@ -18,12 +18,12 @@ use Rattle.store_defs.specs.Stores.{Command, Pair, Reading, Store, request_of, s
 use Rattle.store_defs.specs.Records.{Reply, StateRecord, state_record_of}
 use Rattle.store_defs.specs.Words.{some_bytes_of}
 use Rattle.store_defs.specs.Asking.{record_by}
-use Rattle.store_text_defs.specs.Requests.{asked_tokens, both, only, tag_of, told}
+use Rattle.store_text_defs.specs.Requests.{asked_tokens, both, only, tag_of, reported}
 use Rattle.store_text_defs.specs.Answers.{said_tokens}
 
 -- a line of these tokens, after two blanks
-abbrev pub told_line : List Token → List ℕ
-told_line tokens = codes "  " ++ (told tokens ++ line_feed ∷ [])
+abbrev pub reported_line : List Token → List ℕ
+reported_line tokens = codes "  " ++ (reported tokens ++ line_feed ∷ [])
 
 -- one line, of these words
 abbrev pub one_line : List Token → List (List Token)
@@ -188,4 +188,4 @@ lines_by (word ∷ words) = unwrap_or (first_that_holds (
 
 -- what is written after a line
 unfoldable pub meaning : List ℕ → List ℕ
-meaning line = flat_map told_line (lines_by (words_of line))
+meaning line = flat_map reported_line (lines_by (words_of line))

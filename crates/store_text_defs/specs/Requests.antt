@@ -72,8 +72,8 @@ abbrev pub request_tokens : Request → List Token
 request_tokens r = number r.process ∷ asked_tokens r.tag r.command
 
 -- tokens as they are written, with one space between them
-abbrev pub told : List Token → List ℕ
-told tokens = join_with_byte space (map shown tokens)
+abbrev pub reported : List Token → List ℕ
+reported tokens = join_with_byte space (map shown tokens)
 
 -- ---- how it is read
 

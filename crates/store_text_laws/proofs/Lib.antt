@@ -1,4 +1,4 @@
 pub mod Requests
 pub mod Words
 pub mod Outcomes
-pub mod Told
+pub mod Reported

@@ -13,7 +13,7 @@ use Rattle.store_laws.proofs.Staying.{broken, done}
 use Rattle.store_text_defs.specs.Requests.{IsCommand, IsKey, IsValue, asked_tokens, command_bytes, request_bytes, tag_of}
 use Rattle.store_text_defs.specs.Answers.{answer_of}
 use Rattle.store_text_defs.specs.Meanings.{payload_tokens, read_tokens}
-use Rattle.store_text_defs.specs.Laws.{AnswerIsRead, PayloadIsTold, RequestIsRead}
+use Rattle.store_text_defs.specs.Laws.{AnswerIsRead, PayloadIsReported, RequestIsRead}
 
 -- ---- fields
 
@@ -112,8 +112,8 @@ request_is_read tag c small is = (command_again tag c is, tag_again tag c small)
 
 -- ---- what is told of them
 
-pub payload_is_told : PayloadIsTold
-payload_is_told tag c small is =
+pub payload_is_reported : PayloadIsReported
+payload_is_reported tag c small is =
     let payload : List ℕ = request_bytes tag c in
     ap (read_tokens (tag_of payload)) (command_again tag c is) ∙ ap (λ (t : ℕ). asked_tokens t c) (tag_again tag c small)
 

@@ -22,7 +22,7 @@ use Rattle.story_laws.proofs.Again.{number_is}
 use Rattle.story_laws.proofs.Scans.{AreTokens, line_on, no_gaps, plain_words}
 use Rattle.store_defs.specs.Stores.{Command, Set, Get, Remove, Exchange, most_key_bytes, most_value_bytes}
 use Rattle.store_text_defs.specs.declared.Filter.TheVariants.{Assemble}
-use Rattle.store_text_defs.specs.Requests.{IsCommand, IsKey, IsRequest, IsValue, Request, asked_by, asked_tokens, asks, asks_by, command_by, command_tokens, if_short, is_verb, key_by, last_tag, request_by, request_bytes, request_in, request_tokens, submit_line, told, value_by, verb_of}
+use Rattle.store_text_defs.specs.Requests.{IsCommand, IsKey, IsRequest, IsValue, Request, asked_by, asked_tokens, asks, asks_by, command_by, command_tokens, if_short, is_verb, key_by, last_tag, request_by, request_bytes, request_in, request_tokens, submit_line, reported, value_by, verb_of}
 use Rattle.store_text_defs.specs.Filters.{becomes, ended}
 use Rattle.store_text_defs.specs.Laws.{WordsAreRequest}
 
@@ -115,7 +115,7 @@ tokens_are : (r : Request) → IsRequest r → AreTokens (request_tokens r)
 tokens_are r is =
     (number_is r.process (let p = is.process in omega (arith, p)), ((verb_is r.command).0, (number_is r.tag is.tag, bytes_are r.command)))
 
-in_again : (r : Request) → IsRequest r → request_in (told (request_tokens r)) ≡ Some r
+in_again : (r : Request) → IsRequest r → request_in (reported (request_tokens r)) ≡ Some r
 unfolding request_in
 in_again r is =
     let are = tokens_are r is in
@@ -146,10 +146,10 @@ verb_asks (Get key) = refl
 verb_asks (Remove key) = refl
 verb_asks (Exchange key expected value) = refl
 
-asks_again : (r : Request) → IsRequest r → asks (told (request_tokens r)) ≡ true
+asks_again : (r : Request) → IsRequest r → asks (reported (request_tokens r)) ≡ true
 unfolding asks
 asks_again r is =
-    let rest : List ℕ = told (number r.tag ∷ command_tokens r.command) in
+    let rest : List ℕ = reported (number r.tag ∷ command_tokens r.command) in
     ap asks_by (first_word (decimal r.process) (verb_of r.command ++ space ∷ rest)
     (decimal_has_no space r.process (omega arith) (let p = is.process in omega (arith, p)))
     ∙ ap (λ (ws : List (List ℕ)). decimal r.process ∷ ws) (first_word (verb_of r.command) rest (verb_gaps r.command)))
@@ -157,6 +157,6 @@ asks_again r is =
 
 pub words_are_request : WordsAreRequest
 words_are_request r is =
-    ap (λ (b : Bool). if b then option_map submit_line (request_in (told (request_tokens r))) else Some (ended (told (request_tokens r))))
+    ap (λ (b : Bool). if b then option_map submit_line (request_in (reported (request_tokens r))) else Some (ended (reported (request_tokens r))))
     (asks_again r is)
     ∙ ap (option_map submit_line) (in_again r is)

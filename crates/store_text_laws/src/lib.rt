@@ -1,8 +1,8 @@
 //! What holds of the store in words, over the definitions alone: each is the contract of a function with an empty body.
 #![tactic(auto)]
 
-ghost use Rattle.store_text_defs.specs.Laws.{AnswerIsRead, OneOutcome, PayloadIsTold, RequestIsRead, WordsAreRequest};
-ghost use Rattle.store_text_laws.specs.Told.{AcceptedIsTold, DeliveryIsTold, ReplyIsTold, StateIsTold};
+ghost use Rattle.store_text_defs.specs.Laws.{AnswerIsRead, OneOutcome, PayloadIsReported, RequestIsRead, WordsAreRequest};
+ghost use Rattle.store_text_laws.specs.Reported.{AcceptedIsReported, DeliveryIsReported, ReplyIsReported, StateIsReported};
 
 /// A request's spelling is read as the request.
 pub fn request_is_read()
@@ -20,8 +20,8 @@ pub fn answer_is_read()
 {}
 
 /// A payload that is a request is written as the request in words.
-pub fn payload_is_told()
-    ensures { PayloadIsTold }
+pub fn payload_is_reported()
+    ensures { PayloadIsReported }
 {}
 
 /// An input has one output, or one first faulty line.
@@ -30,21 +30,21 @@ pub fn one_outcome()
 {}
 
 /// After a delivery comes what its payload asks.
-pub fn delivery_is_told()
-    ensures { DeliveryIsTold }
+pub fn delivery_is_reported()
+    ensures { DeliveryIsReported }
 {}
 
 /// After a reply comes where it is from, what was asked and what was answered.
-pub fn reply_is_told()
-    ensures { ReplyIsTold }
+pub fn reply_is_reported()
+    ensures { ReplyIsReported }
 {}
 
 /// After a state come its view, and each key with its value.
-pub fn state_is_told()
-    ensures { StateIsTold }
+pub fn state_is_reported()
+    ensures { StateIsReported }
 {}
 
 /// After an answer of `ask` comes what it says.
-pub fn accepted_is_told()
-    ensures { AcceptedIsTold }
+pub fn accepted_is_reported()
+    ensures { AcceptedIsReported }
 {}

@@ -1,7 +1,7 @@
 -- Rows of the store in words.
 use Rattle.std.specs.Prelude.{◌≡◌, ℕ, List, [], ◌∷◌, map, codes, Some, None}
 use Rattle.store_text_defs.specs.declared.Filter.TheVariants.{Assemble, Tell}
-use Rattle.store_text_defs.specs.Requests.{told}
+use Rattle.store_text_defs.specs.Requests.{reported}
 use Rattle.store_text_defs.specs.Answers.{said_tokens}
 use Rattle.store_text_defs.specs.Filters.{becomes}
 
@@ -42,13 +42,13 @@ pub record NoRequests : Type 0 where
   pub greatest : becomes Assemble (codes "63 remove 18446744073709551615 \"a\"") ≡ Some (codes "63 submit ffffffffffffffff030161\n")
 
 -- what is written of bytes
-abbrev pub told_of : List ℕ → List ℕ
-told_of bytes = told (said_tokens bytes)
+abbrev pub reported_of : List ℕ → List ℕ
+reported_of bytes = reported (said_tokens bytes)
 
 pub record EachAnswer : Type 0 where
-  pub answers : map told_of ((0 ∷ []) ∷ (1 ∷ 98 ∷ []) ∷ (1 ∷ []) ∷ (2 ∷ []) ∷ (3 ∷ []) ∷ (4 ∷ []) ∷ (5 ∷ 0 ∷ []) ∷ [])
+  pub answers : map reported_of ((0 ∷ []) ∷ (1 ∷ 98 ∷ []) ∷ (1 ∷ []) ∷ (2 ∷ []) ∷ (3 ∷ []) ∷ (4 ∷ []) ∷ (5 ∷ 0 ∷ []) ∷ [])
       ≡ codes "done" ∷ codes "value \"b\"" ∷ codes "value \"\"" ∷ codes "absent" ∷ codes "no request" ∷ codes "full" ∷ codes "differs 00" ∷ []
-  pub others : map told_of ([] ∷ (6 ∷ []) ∷ (0 ∷ 0 ∷ []) ∷ []) ≡ codes "unknown \"\"" ∷ codes "unknown 06" ∷ codes "unknown 0000" ∷ []
+  pub others : map reported_of ([] ∷ (6 ∷ []) ∷ (0 ∷ 0 ∷ []) ∷ []) ≡ codes "unknown \"\"" ∷ codes "unknown 06" ∷ codes "unknown 0000" ∷ []
 
 -- each of these lines, and the sentence after it
 pub record EachState : Type 0 where

@@ -19,7 +19,7 @@ use Rattle.story_cli.specs.Top.{Has, reads_schedule, IsNoStory, IsNoSchedule, No
 -- a status other than 1 is that of the stop
 pub said : {P : Type 0} (r s n : ℕ) → 1 < n → r ≡ n → (r ≡ 1) ⊎ ((r ≡ s) × P) → (s ≡ n) × P
 said r s n more e (inl one) = absurd (omega (arith, more, e, one))
-said r s n more e (inr told) = (sym told.0 ∙ e, told.1)
+said r s n more e (inr reported) = (sym reported.0 ∙ e, reported.1)
 
 pub at_write : (stop : Stop) → status_of stop ≡ 4 → stop ≡ Write
 at_write NoMemory e = absurd (omega arith)
@@ -55,13 +55,13 @@ read_by_status (Schedule fault) e is = absurd cc
 -- so where another status comes, no read failed
 pub unread_fault : {P Q : Type 0} (r : ℕ) (stop : Stop) → (r ≡ 1) ⊎ ((r ≡ status_of stop) × P) → (stop ≡ Read) ⊎ Q
     → (r ≡ 4) ⊎ (r ≡ 5) ⊎ (r ≡ 7) → Q
-unread_fault r stop told (inr q) came = q
+unread_fault r stop reported (inr q) came = q
 unread_fault r stop (inl one) (inl is) (inl e) = absurd (omega (arith, one, e))
 unread_fault r stop (inl one) (inl is) (inr (inl e)) = absurd (omega (arith, one, e))
 unread_fault r stop (inl one) (inl is) (inr (inr e)) = absurd (omega (arith, one, e))
-unread_fault r stop (inr told) (inl is) (inl e) = absurd (read_by_status stop (inl (sym told.0 ∙ e)) is)
-unread_fault r stop (inr told) (inl is) (inr (inl e)) = absurd (read_by_status stop (inr (inl (sym told.0 ∙ e))) is)
-unread_fault r stop (inr told) (inl is) (inr (inr e)) = absurd (read_by_status stop (inr (inr (sym told.0 ∙ e))) is)
+unread_fault r stop (inr reported) (inl is) (inl e) = absurd (read_by_status stop (inl (sym reported.0 ∙ e)) is)
+unread_fault r stop (inr reported) (inl is) (inr (inl e)) = absurd (read_by_status stop (inr (inl (sym reported.0 ∙ e))) is)
+unread_fault r stop (inr reported) (inl is) (inr (inr e)) = absurd (read_by_status stop (inr (inr (sym reported.0 ∙ e))) is)
 
 pub at_read : (stop : Stop) → status_of stop ≡ 3 → line_of stop ≡ codes "stop 3 read\n"
 at_read NoMemory e = absurd (omega arith)
@@ -149,8 +149,8 @@ same_command a b e = cc
 -- ---- an input of which the command makes something
 
 -- an input that tells what it holds, and was read to its end, is what was read
-whole : (told rest input : List ℕ) → Consumes (Some told) (Some rest) input → IsAtEnd (Some rest) → told ≡ input
-whole told rest input taken ended = taken ∙ ap (λ (t : List ℕ). input ++ t) ended ∙ append-nil input
+whole : (reported rest input : List ℕ) → Consumes (Some reported) (Some rest) input → IsAtEnd (Some rest) → reported ≡ input
+whole reported rest input taken ended = taken ∙ ap (λ (t : List ℕ). input ++ t) ended ∙ append-nil input
 
 not_ok : {T E : Type 0} (r : Result T E) (e : E) → r ≡ Err e → ¬ IsOk r
 not_ok (Ok x) e is ok = absurd cc
@@ -165,11 +165,11 @@ found_no_schedule input fault none = not_ok (schedule_of input) fault none
 pub has_story : (command : Command) (before now : Option (List ℕ)) (fault : StoryFault) → IsNoStory command before now fault
     → ¬ IsSomeAnd before (Has command)
 has_story command None now fault none has = has
-has_story command (Some told) None fault none has = absurd none.taken
-has_story command (Some told) (Some rest) fault none has =
-    let is : told ≡ none.input = whole told rest none.input none.taken none.ended in
+has_story command (Some reported) None fault none has = absurd none.taken
+has_story command (Some reported) (Some rest) fault none has =
+    let is : reported ≡ none.input = whole reported rest none.input none.taken none.ended in
     found_no_story none.input fault none.none
-    (subst (λ (t : List ℕ). IsOk (story_of t)) is (subst (λ (x : Command). Has x told) none.asked has))
+    (subst (λ (t : List ℕ). IsOk (story_of t)) is (subst (λ (x : Command). Has x reported) none.asked has))
 
 -- what a command that reads a schedule needs is one
 needs_schedule : (command : Command) → reads_schedule command ≡ true → (input : List ℕ) → Has command input → IsOk (schedule_of input)
@@ -181,11 +181,11 @@ needs_schedule Draw reads input has = has
 pub has_schedule : (command : Command) (before now : Option (List ℕ)) (fault : Fault) → IsNoSchedule command before now fault
     → ¬ IsSomeAnd before (Has command)
 has_schedule command None now fault none has = has
-has_schedule command (Some told) None fault none has = absurd none.taken
-has_schedule command (Some told) (Some rest) fault none has =
-    let is : told ≡ none.input = whole told rest none.input none.taken none.ended in
+has_schedule command (Some reported) None fault none has = absurd none.taken
+has_schedule command (Some reported) (Some rest) fault none has =
+    let is : reported ≡ none.input = whole reported rest none.input none.taken none.ended in
     found_no_schedule none.input fault none.none
-    (subst (λ (t : List ℕ). IsOk (schedule_of t)) is (needs_schedule command none.reads told has))
+    (subst (λ (t : List ℕ). IsOk (schedule_of t)) is (needs_schedule command none.reads reported has))
 
 -- what stops a run where no stream fails and the input has what is asked is want of memory
 memory_alone : (stop : Stop) → ¬ (stop ≡ Read) → ¬ (stop ≡ Write) → ((fault : StoryFault) → ¬ (stop ≡ Story fault))
@@ -200,4 +200,4 @@ pub no_memory : {P : Type 0} (r : ℕ) (stop : Stop) → (r ≡ 1) ⊎ ((r ≡ s
     → ((fault : StoryFault) → ¬ (stop ≡ Story fault))
     → ((fault : Fault) → ¬ (stop ≡ Schedule fault)) → (r ≡ 0) ⊎ (r ≡ 1)
 no_memory r stop (inl one) read write story schedule = inr one
-no_memory r stop (inr told) read write story schedule = inr (told.0 ∙ memory_alone stop read write story schedule)
+no_memory r stop (inr reported) read write story schedule = inr (reported.0 ∙ memory_alone stop read write story schedule)

@@ -15,7 +15,7 @@ use Rattle.replay_defs.specs.Reading.{schedule_of}
 use Rattle.story_defs.specs.declared.StoryFault.{StoryFault}
 use Rattle.story_defs.specs.Stories.{story_of}
 use Rattle.story_defs.specs.Texts.{schedule_text}
-use Rattle.told_defs.specs.Told.{told_of, stop_of, trace_lines}
+use Rattle.reported_defs.specs.Reported.{reported_of, stop_of, trace_lines}
 use Rattle.picture_defs.specs.Pictures.{picture}
 use Rattle.story_cli.specs.declared.stops.Stop.TheVariants.{Story, Schedule}
 use Rattle.story_cli.specs.declared.commands.Command.{Command}
@@ -65,7 +65,7 @@ pub record WritesOf (text_of : schedules.Schedule → List ℕ) (bytes text : Li
   pub schedule : schedules.Schedule
   pub fits : IsSchedule schedule
   pub spelled : bytes ≡ schedule_bytes schedule
-  pub told : text ≡ text_of schedule
+  pub reported : text ≡ text_of schedule
 
 -- the bytes are a schedule, and this is its text
 abbrev pub Tells : List ℕ → List ℕ → Type 0
@@ -81,7 +81,7 @@ Traces bytes text = WritesOf trace_text bytes text
 
 -- the picture of a schedule's run
 abbrev pub picture_text : schedules.Schedule → List ℕ
-picture_text schedule = picture schedule.header (told_of schedule) (stop_of schedule)
+picture_text schedule = picture schedule.header (reported_of schedule) (stop_of schedule)
 
 -- the bytes are a schedule, and this is the picture of its run
 abbrev pub Draws : List ℕ → List ℕ → Type 0

@@ -83,9 +83,9 @@ fn trace(alloc: Global, schedule: &Schedule) -> Result<Vec<u8>, NoMemory>
     requires { IsSchedule (views.schedule schedule.now) }
     ensures { IfOk result (λ text. text.items ≡ trace_text (views.schedule schedule.now)) }
 {
-    let told = tell(alloc, schedule)?;
+    let reported = tell(alloc, schedule)?;
     let mut text = Vec::new(alloc);
-    push_trace(&mut text, schedule, &told.events, told.stop)?;
+    push_trace(&mut text, schedule, &reported.events, reported.stop)?;
     Ok(text)
 }
 
@@ -105,9 +105,15 @@ fn picture(alloc: Global, schedule: &Schedule) -> Result<Vec<u8>, NoMemory>
     requires { IsSchedule (views.schedule schedule.now) }
     ensures { IfOk result (λ text. text.items ≡ picture_text (views.schedule schedule.now)) }
 {
-    let told = tell(alloc, schedule)?;
+    let reported = tell(alloc, schedule)?;
     let mut text = Vec::new(alloc);
-    push_picture(alloc, &mut text, &schedule.header, told.events, told.stop)?;
+    push_picture(
+        alloc,
+        &mut text,
+        &schedule.header,
+        reported.events,
+        reported.stop,
+    )?;
     Ok(text)
 }
 

@@ -1,12 +1,12 @@
 ghost use Rattle.std.specs.Prelude.{◌≡◌};
-ghost use Rattle.story_cli.specs.Messages as told;
+ghost use Rattle.story_cli.specs.Messages as reported;
 
 use replay_defs::FaultKind;
 use story_reading::Expected;
 
 /// What was expected, in words.
 pub fn expected_words(x: Expected) -> &'static [u8]
-    ensures { result.now ≡ told.expected_words x }
+    ensures { result.now ≡ reported.expected_words x }
 {
     match x {
         Expected::Quote => b"a quote that ends the text, and no control characters in it",
@@ -39,7 +39,7 @@ pub fn expected_words(x: Expected) -> &'static [u8]
 
 /// The word of a schedule's fault.
 pub fn schedule_word(kind: FaultKind) -> &'static [u8]
-    ensures { result.now ≡ told.schedule_word kind }
+    ensures { result.now ≡ reported.schedule_word kind }
 {
     match kind {
         FaultKind::Short => b"short",

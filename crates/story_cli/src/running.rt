@@ -74,7 +74,7 @@ pub fn say<E: Sink>(errors: &mut E, line: &[u8])
 pub fn tell<E: Sink>(alloc: Global, errors: &mut E, stop: Stop) -> u8
     ensures write { stop ≡ Stop.Write → result ≡ 4 }
     ensures quiet { (result ≡ 0) ⊎ (result ≡ 1) ⊎ (result ≡ 4) → Keeps (E.written errors.old) (E.written errors.new) }
-    ensures told { (result ≡ 1) ⊎ ((result ≡ status_of stop)
+    ensures reported { (result ≡ 1) ⊎ ((result ≡ status_of stop)
         × Says (line_of stop) (E.written errors.old) (E.written errors.new) (E.faults errors.old) (E.faults errors.new)) }
 {
     let Ok(line) = stop.line(alloc) else {

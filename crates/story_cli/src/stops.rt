@@ -1,7 +1,7 @@
 ghost use Rattle.std.specs.Prelude.{◌≡◌, ◌++◌, codes, IfOk, IsOk, OnOk};
 ghost use Rattle.std.specs.Fmt.{decimal};
 ghost use Rattle.story_cli.specs.declared.stops.Stop.TheVariants as stops;
-ghost use Rattle.story_cli.specs.Messages as told;
+ghost use Rattle.story_cli.specs.Messages as reported;
 ghost use Rattle.story_cli.specs.Messages.{line_of, status_of};
 
 use crate::messages::{expected_words, schedule_word};
@@ -38,7 +38,7 @@ fn line(alloc: Global, text: &[u8]) -> Result<Vec<u8>, NoMemory>
 
 // What was expected, to the end of its line.
 fn push_expected(line: &mut Vec<u8>, x: Expected) -> Result<(), NoMemory>
-    ensures { OnOk result (line.new.items ≡ line.old.items ++ (codes ": expected " ++ (told.expected_words x ++ codes "\n"))) }
+    ensures { OnOk result (line.new.items ≡ line.old.items ++ (codes ": expected " ++ (reported.expected_words x ++ codes "\n"))) }
 {
     line.extend_from_slice(b": expected ")?;
     line.extend_from_slice(expected_words(x))?;

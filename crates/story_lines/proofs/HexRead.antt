@@ -16,5 +16,5 @@ no_bytes fault = Err fault
 pub not_read : (word : List ℕ) (r : Read) (fault : WordFault) → (IsErrOf r words.NoBytes → (bytes : List ℕ) → Spells word bytes → ⊥)
     → r ≡ Err fault → fault ≡ words.NoBytes → hex_word word ≡ None
 not_read word r fault none is no_such =
-    let told : r ≡ no_bytes words.NoBytes = is ∙ ap no_bytes no_such in
-    hex_none word (none (subst (λ (x : Read). IsErrOf x words.NoBytes) (sym told) refl))
+    let reported : r ≡ no_bytes words.NoBytes = is ∙ ap no_bytes no_such in
+    hex_none word (none (subst (λ (x : Read). IsErrOf x words.NoBytes) (sym reported) refl))

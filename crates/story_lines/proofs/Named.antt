@@ -26,21 +26,21 @@ abbrev with_words : List ℕ → Words → Named
 with_words set words = (set, words)
 
 module _ (words : Words) (r : Option ℕ) where
-  abbrev pub Told : Words → Type 0
-  Told words' = MatchOption r ((set : List ℕ) → named set words ≡ (set, words'))
+  abbrev pub Reported : Words → Type 0
+  Reported words' = MatchOption r ((set : List ℕ) → named set words ≡ (set, words'))
       (λ p. (set : List ℕ) → named set words ≡ named (put_once p set) words')
 
-told_none : (words words' : Words) (r : Option ℕ) → r ≡ None → ((set : List ℕ) → named set words ≡ (set, words')) → Told words r words'
-told_none words words' None e h = h
-told_none words words' (Some p) e h = absurd cc
+reported_none : (words words' : Words) (r : Option ℕ) → r ≡ None → ((set : List ℕ) → named set words ≡ (set, words')) → Reported words r words'
+reported_none words words' None e h = h
+reported_none words words' (Some p) e h = absurd cc
 
-pub none_left : (words : Words) (r : Option ℕ) → r ≡ None → words ≡ [] → Told words r words
+pub none_left : (words : Words) (r : Option ℕ) → r ≡ None → words ≡ [] → Reported words r words
 unfolding named
-none_left words r e is = told_none words words r e (λ set. ap (named set) is ∙ ap (with_words set) (sym is))
+none_left words r e is = reported_none words words r e (λ set. ap (named set) is ∙ ap (with_words set) (sym is))
 
 pub none_named : (words : Words) (word : List ℕ) (more : Words) (r : Option ℕ) → r ≡ None → words ≡ word ∷ more → process_of word ≡ None
-    → Told words r words
-none_named words word more r e is says = told_none words words r e
+    → Reported words r words
+none_named words word more r e is says = reported_none words words r e
     (λ set. first_is set word more words None is says ∙ ap (with_words set) (sym is))
 
 pub one_named : (words : Words) (word : List ℕ) (more : Words) (p : ℕ) → words ≡ word ∷ more → process_of word ≡ Some p → (set : List ℕ)

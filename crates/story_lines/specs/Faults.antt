@@ -11,5 +11,5 @@ expected_of (Expected x) = Some x
 expected_of NoMemory = None
 
 -- what a word says, or what was expected in its place
-abbrev pub told : {A : Type 0} → plain.Expected → Option A → Result A plain.Expected
-told x said = ok_or said x
+abbrev pub reported : {A : Type 0} → plain.Expected → Option A → Result A plain.Expected
+reported x said = ok_or said x

@@ -149,7 +149,7 @@ fn line_end(out: Vec<u8>, place: Place) -> Result<Vec<u8>, LineFault>
 /// # Errors
 /// [`LineFault::Expected`] exactly where a quoted text does not end, or has a byte that it cannot have.
 pub fn plain_line(alloc: Global, line: &[u8]) -> Result<Vec<u8>, LineFault>
-    ensures { Makes expected_of (λ told. told.items) result (plain.plain_line line.now) }
+    ensures { Makes expected_of (λ reported. reported.items) result (plain.plain_line line.now) }
 {
     let mut out = Vec::new(alloc);
     let mut place = Place::Between;

@@ -4,7 +4,7 @@ ghost use Rattle.byte_defs.specs.Reads.{Makes};
 ghost use Rattle.rp_base.specs.Pids.{mask_of, put_once};
 ghost use Rattle.text_defs.specs.Words.{words_of};
 ghost use Rattle.story_defs.specs.Words as plain;
-ghost use Rattle.story_lines.specs.Faults.{expected_of, told};
+ghost use Rattle.story_lines.specs.Faults.{expected_of, reported};
 
 use crate::faults::LineFault;
 use replay_defs::Scheme;
@@ -41,7 +41,7 @@ fn role_of_word(word: &[u8]) -> Option<u8>
 
 // The bytes of a word in hexadecimal, any number of them.
 fn hex_word(alloc: Global, word: &[u8], x: Expected) -> Result<Vec<u8>, LineFault>
-    ensures { Makes expected_of (λ found. found.items) result (told x (plain.hex_word word.now)) }
+    ensures { Makes expected_of (λ found. found.items) result (reported x (plain.hex_word word.now)) }
 {
     match byte_list(alloc, word) {
         Ok(found) => Ok(found),
@@ -52,7 +52,7 @@ fn hex_word(alloc: Global, word: &[u8], x: Expected) -> Result<Vec<u8>, LineFaul
 
 // At most `most` bytes.
 fn payload_of(alloc: Global, word: &[u8], most: usize, x: Expected) -> Result<Vec<u8>, LineFault>
-    ensures { Makes expected_of (λ found. found.items) result (told x (plain.payload_of most word.now)) }
+    ensures { Makes expected_of (λ found. found.items) result (reported x (plain.payload_of most word.now)) }
 {
     let found = hex_word(alloc, word, x)?;
     if found.len() > most {

@@ -8,7 +8,7 @@ use Rattle.story_trace.proofs.Pieces.{behind}
 use Rattle.trace_defs.specs.Happenings as plain
 use Rattle.picture_defs.specs.Pictures as pictures
 use Rattle.picture_defs.specs.Pictures.{each_row, rows_in, rows_of}
-use Rattle.happenings.specs.Told.{happening}
+use Rattle.happenings.specs.Reported.{happening}
 use Rattle.story_trace.proofs.Behind.{numbered_more, enumerate-more}
 use Rattle.story_picture.specs.declared.rows.Row.{Row}
 use Rattle.story_picture.specs.Views.{row}
@@ -55,14 +55,14 @@ mapped_more {A} {B} f view xs i x before out new lt at so_far wrote =
 -- ---- rows in order
 
 -- one event more
-pub events_more : {T : Type 0} (view : T → List plain.Happening) (told : List T) (e : T)
-    → rows_of (map view (told ++ e ∷ [])) ≡ rows_of (map view told) ++ rows_in (length told) (view e)
-events_more {T} view told e =
-    let lists : List (List plain.Happening) = map view told in
+pub events_more : {T : Type 0} (view : T → List plain.Happening) (reported : List T) (e : T)
+    → rows_of (map view (reported ++ e ∷ [])) ≡ rows_of (map view reported) ++ rows_in (length reported) (view e)
+events_more {T} view reported e =
+    let lists : List (List plain.Happening) = map view reported in
     let f : ℕ × List plain.Happening → List pictures.Row = λ t. rows_in t.0 t.1 in
     let entry : ℕ → ℕ × List plain.Happening = λ n. (n, view e) in
-    let long : 0 + length lists ≡ length told = omega (arith, length-map told view) in
-    ap rows_of (map-append view told (e ∷ [])) ∙ ap (flat_map f) (enumerate-more 0 lists (view e))
+    let long : 0 + length lists ≡ length reported = omega (arith, length-map reported view) in
+    ap rows_of (map-append view reported (e ∷ [])) ∙ ap (flat_map f) (enumerate-more 0 lists (view e))
     ∙ flat_map-append f (enumerate_from 0 lists) (entry (0 + length lists) ∷ [])
     ∙ ap (λ (rs : List pictures.Row). rows_of lists ++ rs)
     (append-nil (rows_in (0 + length lists) (view e)) ∙ ap (λ (n : ℕ). rows_in n (view e)) long)

@@ -3,7 +3,7 @@ ghost use Rattle.std.specs.List.{list_any};
 ghost use Rattle.std.specs.Prelude.{◌≡◌, ◌++◌, ◌+◌, ◌*◌, ◌/◌, ◌==◌, ◌&&◌, map, replicate, slice_index_or, IfOk, OnOk};
 ghost use Rattle.schedule_file.specs.Views.{listed};
 ghost use Rattle.replay_defs.specs.Schedules.{is_corrupt as is_corrupt_of};
-ghost use Rattle.happenings.specs.Told.{handed as handed_of, happening as happening_of};
+ghost use Rattle.happenings.specs.Reported.{handed as handed_of, happening as happening_of};
 ghost use Rattle.picture_defs.specs.Drawing as plain;
 ghost use Rattle.picture_defs.specs.Pictures as pictures;
 ghost use Rattle.picture_labels.specs.Views.{point};

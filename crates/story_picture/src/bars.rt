@@ -3,7 +3,7 @@ ghost use Rattle.std.specs.Prelude.{◌≡◌, ◌++◌, map, OnOk};
 ghost use Rattle.std.specs.List.{flat_map};
 ghost use Rattle.schedule_file.specs.Views.{listed};
 ghost use Rattle.happenings.specs.Events.{note as note_of};
-ghost use Rattle.happenings.specs.Told.{happening as happening_of};
+ghost use Rattle.happenings.specs.Reported.{happening as happening_of};
 ghost use Rattle.picture_defs.specs.Drawing as plain;
 ghost use Rattle.picture_defs.specs.Pictures.{each_row};
 ghost use Rattle.story_picture.specs.Views.{row as row_of};

@@ -1,7 +1,7 @@
 //! What a picture begins and ends with.
 ghost use Rattle.std.specs.Prelude.{◌≡◌, ◌++◌, codes, option_map, OnOk};
 ghost use Rattle.replay_defs.specs.Worlds as worlds;
-ghost use Rattle.happenings.specs.Told.{stopped};
+ghost use Rattle.happenings.specs.Reported.{stopped};
 ghost use Rattle.picture_defs.specs.Elements.{text_at};
 ghost use Rattle.picture_defs.specs.Styles as styles;
 ghost use Rattle.picture_defs.specs.Pictures as plain;
@@ -30,7 +30,7 @@ text { paint-order: stroke; stroke: #ffffff; stroke-width: 3px; stroke-linejoin:
 .rule { stroke: #d8dee4; }
 .step { fill: #59636e; }
 .asked { fill: #4a78a8; }
-.told { fill: #3f8a55; }
+.reported { fill: #3f8a55; }
 .wrong, .lying { fill: #b04a4a; }
 .head { fill: #8c959f; }
 .view0 { fill: #b6cde6; }

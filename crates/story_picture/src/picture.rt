@@ -1,7 +1,7 @@
 //! The whole picture.
 ghost use Rattle.std.specs.Prelude.{◌≡◌, ◌++◌, ◌-◌, map, option_map, OnOk};
 ghost use Rattle.schedule_file.specs.Views as views;
-ghost use Rattle.happenings.specs.Told.{happening, stopped};
+ghost use Rattle.happenings.specs.Reported.{happening, stopped};
 ghost use Rattle.picture_defs.specs.Pictures as plain;
 ghost use Rattle.picture_defs.specs.Pictures.{picture};
 ghost use Rattle.story_picture.specs.Views.{row as row_view};
@@ -129,13 +129,13 @@ pub fn push_picture(
     alloc: Global,
     out: &mut Vec<u8>,
     header: &Header,
-    told: Vec<Vec<Happening>>,
+    reported: Vec<Vec<Happening>>,
     stop: Option<Stopped>,
 ) -> Result<(), NoMemory>
     ensures { OnOk result (out.new.items ≡ out.old.items
-        ++ picture (views.header header.now) (map (λ t. map happening t.items) told.items) (option_map stopped stop)) }
+        ++ picture (views.header header.now) (map (λ t. map happening t.items) reported.items) (option_map stopped stop)) }
 {
-    let rows = rows_of(alloc, told)?;
+    let rows = rows_of(alloc, reported)?;
     push_all(
         alloc,
         out,

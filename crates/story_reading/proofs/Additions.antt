@@ -64,4 +64,4 @@ module _ (d : Draft) (a : Addition) where
 
   pub can_add : (line : List ℕ) → said_by d line ≡ Ok a → CanAdd d a
   unfolding said_by
-  can_add line e = let told = bind_ok (plain_line line) _ a e in plain_can told.0 told.2
+  can_add line e = let reported = bind_ok (plain_line line) _ a e in plain_can reported.0 reported.2

@@ -171,8 +171,8 @@ impl Draft {
     pub fn said_by(&self, alloc: Global, line: &[u8]) -> Result<Addition, LineFault>
         ensures { Makes expected_of addition result (plain.said_by (draft self.now) line.now) }
     {
-        let told = plain_line(alloc, line)?;
-        self.said_by_plain(alloc, &told)
+        let reported = plain_line(alloc, line)?;
+        self.said_by_plain(alloc, &reported)
     }
 
     // Bytes after those so far, of the line of this number.

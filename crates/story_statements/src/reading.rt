@@ -202,7 +202,7 @@ fn worded(alloc: Global, words: &mut Words<'_>) -> Result<Vec<u8>, LineFault>
 }
 
 // A statement in one word, which has its bytes.
-fn told(alloc: Global, words: &mut Words<'_>) -> Result<Vec<u8>, LineFault>
+fn reported(alloc: Global, words: &mut Words<'_>) -> Result<Vec<u8>, LineFault>
     ensures { Makes expected_of (λ bytes. (bytes.items, left words.new)) result (payload_at expected.Lie 65535 (left words.old)) }
 {
     words.payload(alloc, 65_535, LIE)
@@ -218,7 +218,7 @@ pub fn statement(alloc: Global, words: &mut Words<'_>) -> Result<Vec<u8>, LineFa
     let mut behind = *words;
     behind.next_word(LIE)?;
     if behind.is_done() {
-        told(alloc, words)
+        reported(alloc, words)
     } else {
         worded(alloc, words)
     }

@@ -4,13 +4,13 @@ ghost use Rattle.replay_defs.specs.Schedules.{IsEvent, IsSchedule};
 ghost use Rattle.replay_defs.specs.Worlds as plain;
 ghost use Rattle.schedule_file.specs.Views as views;
 ghost use Rattle.trace_defs.specs.Happenings as trace;
-ghost use Rattle.told_defs.specs.Told.{tells, told_of, stop_of};
-ghost use Rattle.happenings.specs.Told as told_views;
-ghost use Rattle.happenings.specs.Told.{happening, stopped};
+ghost use Rattle.reported_defs.specs.Reported.{tells, reported_of, stop_of};
+ghost use Rattle.happenings.specs.Reported as reported_views;
+ghost use Rattle.happenings.specs.Reported.{happening, stopped};
 ghost use Rattle.replay_world.specs.Worlds.{Happens, IsFault, Shows, Stops, count_of};
 ghost use Rattle.story_telling.specs.Tellings.{events_of, stop_in};
 
-use happenings::{Happening, Stopped, Told};
+use happenings::{Happening, Reported, Stopped};
 use replay_world::{World, WorldFault};
 use rp_base::NoMemory;
 use schedule_file::{Schedule, ScheduleEvent};
@@ -27,12 +27,12 @@ pub struct Telling {
 }
 
 // What was reported to one who asks.
-fn kept(alloc: Global, told: Told) -> Vec<Happening>
-    ensures { (all : List trace.Happening) → told_views.told_of told ≡ Some all → map happening result.items ≡ all }
+fn kept(alloc: Global, reported: Reported) -> Vec<Happening>
+    ensures { (all : List trace.Happening) → reported_views.reported_of reported ≡ Some all → map happening result.items ≡ all }
 {
-    match told {
-        Told::Kept(all) => all,
-        Told::Unasked => Vec::new(alloc),
+    match reported {
+        Reported::Kept(all) => all,
+        Reported::Unasked => Vec::new(alloc),
     }
 }
 
@@ -56,15 +56,15 @@ fn next(
     event: &ScheduleEvent,
 ) -> Result<Vec<Happening>, WorldFault>
     requires { count_of world.old < 2 ^ 64 - 1 }
-    ensures tells { IfOk result (λ told. (h : schedules.Header) (v : plain.World) → Shows h world.old v
-        → IsEvent h.processes (views.event event.now) → map happening told.items ≡ tells h v (views.event event.now)) }
+    ensures tells { IfOk result (λ reported. (h : schedules.Header) (v : plain.World) → Shows h world.old v
+        → IsEvent h.processes (views.event event.now) → map happening reported.items ≡ tells h v (views.event event.now)) }
     ensures happens { OnOk result (Happens world.old world.new (views.event event.now)) }
     ensures stops { IfErr result (Stops world.old (views.event event.now)) }
     ensures count { OnOk result (count_of world.new ≡ count_of world.old + 1) }
 {
-    let mut told = Told::Kept(Vec::new(alloc));
-    match world.event(alloc, event, &mut told) {
-        Ok(()) => Ok(kept(alloc, told)),
+    let mut reported = Reported::Kept(Vec::new(alloc));
+    match world.event(alloc, event, &mut reported) {
+        Ok(()) => Ok(kept(alloc, reported)),
         Err(fault) => Err(fault),
     }
 }
@@ -72,14 +72,14 @@ fn next(
 /// What happens in the run of a schedule.
 pub fn tell(alloc: Global, schedule: &Schedule) -> Result<Telling, NoMemory>
     requires { IsSchedule (views.schedule schedule.now) }
-    ensures events { IfOk result (λ t. events_of t ≡ told_of (views.schedule schedule.now)) }
+    ensures events { IfOk result (λ t. events_of t ≡ reported_of (views.schedule schedule.now)) }
     ensures stop { IfOk result (λ t. stop_in t ≡ stop_of (views.schedule schedule.now)) }
 {
     let mut world = World::new(alloc, &schedule.header)?;
     let mut events = Vec::new(alloc);
     for event in &schedule.events {
         match next(alloc, &mut world, event) {
-            Ok(told) => events.push(told)?,
+            Ok(reported) => events.push(reported)?,
             Err(fault) => {
                 let stop = Some(why(fault)?);
                 return Ok(Telling { events, stop });

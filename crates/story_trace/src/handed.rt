@@ -3,7 +3,7 @@ ghost use Rattle.std.specs.Prelude.{◌≡◌, ◌++◌, ◌∷◌, OnOk};
 ghost use Rattle.std.specs.List.{flat_map};
 ghost use Rattle.text_defs.specs.Words.{space};
 ghost use Rattle.trace_defs.specs.Happenings.{handed_words};
-ghost use Rattle.happenings.specs.Told.{handed as handed_view};
+ghost use Rattle.happenings.specs.Reported.{handed as handed_view};
 
 use happenings::Handed;
 use rp_base::NoMemory;

@@ -4,7 +4,7 @@ ghost use Rattle.std.specs.List.{flat_map};
 ghost use Rattle.text_defs.specs.Words.{space, line_text};
 ghost use Rattle.replay_defs.specs.Reports.{refusal_word as plain_refusal_word};
 ghost use Rattle.trace_defs.specs.Happenings.{handed_words};
-ghost use Rattle.happenings.specs.Told.{handed as handed_view};
+ghost use Rattle.happenings.specs.Reported.{handed as handed_view};
 ghost use Rattle.view_table.specs.Views as table;
 ghost use Rattle.happenings.specs.Events as asked;
 ghost use Rattle.trace_defs.specs.Outcomes as plain;

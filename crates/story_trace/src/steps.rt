@@ -9,8 +9,8 @@ ghost use Rattle.trace_defs.specs.Outcomes as lines;
 ghost use Rattle.trace_defs.specs.Outcomes.{claims_word as claims_word_of};
 ghost use Rattle.trace_defs.specs.Happenings as plain;
 ghost use Rattle.schedule_file.specs.Views as views;
-ghost use Rattle.told_defs.specs.Told.{event_lines};
-ghost use Rattle.happenings.specs.Told.{handed as handed_of, seen as seen_of, happening as happening_of};
+ghost use Rattle.reported_defs.specs.Reported.{event_lines};
+ghost use Rattle.happenings.specs.Reported.{handed as handed_of, seen as seen_of, happening as happening_of};
 
 use crate::claims::push_signed;
 use crate::events::push_event;
@@ -214,27 +214,27 @@ fn push_happening(out: &mut Vec<u8>, happening: &Happening) -> Result<(), NoMemo
     }
 }
 
-fn push_all(out: &mut Vec<u8>, told: &[Happening]) -> Result<(), NoMemory>
+fn push_all(out: &mut Vec<u8>, reported: &[Happening]) -> Result<(), NoMemory>
     ensures { OnOk result (out.new.items ≡ out.old.items
-        ++ flat_map (λ x. flat_map line_text (plain.lines_of x)) (map happening_of told.now)) }
+        ++ flat_map (λ x. flat_map line_text (plain.lines_of x)) (map happening_of reported.now)) }
 {
-    for happening in told {
+    for happening in reported {
         push_happening(out, happening)?;
     }
     Ok(())
 }
 
 /// The event of this number, and what happens in it.
-pub(crate) fn push_told(
+pub(crate) fn push_reported(
     out: &mut Vec<u8>,
     n: u64,
     event: &ScheduleEvent,
-    told: &[Happening],
+    reported: &[Happening],
 ) -> Result<(), NoMemory>
     ensures { OnOk result (out.new.items ≡ out.old.items
-        ++ flat_map line_text (event_lines n (views.event event.now) (map happening_of told.now))) }
+        ++ flat_map line_text (event_lines n (views.event event.now) (map happening_of reported.now))) }
 {
     push_event(out, n, event)?;
-    push_all(out, told)?;
+    push_all(out, reported)?;
     Ok(())
 }

@@ -4,11 +4,11 @@ ghost use Rattle.std.specs.List.{flat_map};
 ghost use Rattle.text_defs.specs.Words.{line_text};
 ghost use Rattle.schedule_file.specs.Views as views;
 ghost use Rattle.trace_defs.specs.Events.{cast_lines, event_line, fault_line};
-ghost use Rattle.told_defs.specs.Told.{told_lines, stop_lines};
-ghost use Rattle.happenings.specs.Told.{happening as happening_of, stopped as stopped_of};
+ghost use Rattle.reported_defs.specs.Reported.{reported_lines, stop_lines};
+ghost use Rattle.happenings.specs.Reported.{happening as happening_of, stopped as stopped_of};
 
 use crate::events::{push_cast, push_event};
-use crate::steps::push_told;
+use crate::steps::push_reported;
 use happenings::{Happening, Stopped};
 use rp_base::NoMemory;
 use schedule_file::{Schedule, ScheduleEvent};
@@ -18,16 +18,16 @@ use story_words::{Word, push_line};
 fn push_events(
     out: &mut Vec<u8>,
     events: &[ScheduleEvent],
-    told: &[Vec<Happening>],
+    reported: &[Vec<Happening>],
 ) -> Result<(), NoMemory>
     ensures { OnOk result (out.new.items ≡ out.old.items
-        ++ flat_map line_text (told_lines (map views.event events.now) (map (λ t. map happening_of t.items) told.now))) }
+        ++ flat_map line_text (reported_lines (map views.event events.now) (map (λ t. map happening_of t.items) reported.now))) }
 {
-    for (i, all) in told.iter().enumerate() {
+    for (i, all) in reported.iter().enumerate() {
         let Some(event) = events.get(i) else {
             return Ok(());
         };
-        push_told(out, i as u64, event, all)?;
+        push_reported(out, i as u64, event, all)?;
     }
     Ok(())
 }
@@ -98,15 +98,15 @@ fn push_stop(
 pub fn push_trace(
     out: &mut Vec<u8>,
     schedule: &Schedule,
-    told: &[Vec<Happening>],
+    reported: &[Vec<Happening>],
     stop: Option<Stopped>,
 ) -> Result<(), NoMemory>
     ensures { OnOk result (out.new.items ≡ out.old.items ++ flat_map line_text (cast_lines (views.schedule schedule.now).header
-        ++ (told_lines (views.schedule schedule.now).events (map (λ t. map happening_of t.items) told.now)
-        ++ stop_lines (views.schedule schedule.now).events (length told.now) (option_map stopped_of stop)))) }
+        ++ (reported_lines (views.schedule schedule.now).events (map (λ t. map happening_of t.items) reported.now)
+        ++ stop_lines (views.schedule schedule.now).events (length reported.now) (option_map stopped_of stop)))) }
 {
     push_cast(out, &schedule.header)?;
-    push_events(out, &schedule.events, told)?;
-    push_stop(out, &schedule.events, told.len(), stop)?;
+    push_events(out, &schedule.events, reported)?;
+    push_stop(out, &schedule.events, reported.len(), stop)?;
     Ok(())
 }

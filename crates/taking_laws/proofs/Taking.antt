@@ -48,11 +48,11 @@ unfolding after_notes
 taken-more q s [] ms one two = two
 taken-more q s (n ∷ ns) ms one two = (one.0, taken-more q (after_note q s n) ns ms one.1 two)
 
-takes-it : (q : Place) (s : Server) (told others : List Note) (note : Note) → AreTaken q s (told ++ note ∷ others)
-    → Takes (after_notes q s told) note
+takes-it : (q : Place) (s : Server) (reported others : List Note) (note : Note) → AreTaken q s (reported ++ note ∷ others)
+    → Takes (after_notes q s reported) note
 unfolding after_notes
 takes-it q s [] others note are = are.0
-takes-it q s (n ∷ told) others note are = takes-it q (after_note q s n) told others note are.1
+takes-it q s (n ∷ reported) others note are = takes-it q (after_note q s n) reported others note are.1
 
 quiet-taken : (q : Place) (s : Server) (ns : List Note) → Quiet ns → AreTaken q s ns
 unfolding after_note
@@ -192,17 +192,17 @@ module _ (setting : Setting) (q : Place) (p : Process) (t : Turn) (s : Server) (
   abbrev x : ℕ
   x = p.pool.view.number
 
-  abbrev told : Server
-  told = after_notes q s (map (Delivers p.pool.view.number) so.on.more)
+  abbrev reported : Server
+  reported = after_notes q s (map (Delivers p.pool.view.number) so.on.more)
 
   numbered-now : r.pool.view.number ≡ length r.left
   numbered-now = numbered-after setting p t numbered
 
-  told-seen : told.view.number ≡ length p.left
-  told-seen = ap (λ (v : View). v.number) (view-after q x so.on.more s) ∙ seen
+  reported-seen : reported.view.number ≡ length p.left
+  reported-seen = ap (λ (v : View). v.number) (view-after q x so.on.more s) ∙ seen
 
-  told-counts : Counts told (p.delivered ++ so.on.more)
-  told-counts = counts-after q x p.delivered so.on.more s counts
+  reported-counts : Counts reported (p.delivered ++ so.on.more)
+  reported-counts = counts-after q x p.delivered so.on.more s counts
 
   same-left : nat_lt (length p.left) (length r.left) ≡ false → length r.left ≡ length p.left
   same-left e =
@@ -215,15 +215,15 @@ module _ (setting : Setting) (q : Place) (p : Process) (t : Turn) (s : Server) (
   tail i = note_if i (Installs r.pool.view) ++ so.rest
 
   after-tail : (i : Bool) → nat_lt (length p.left) (length r.left) ≡ i
-      → ((after_notes q told (tail i)).view.number ≡ length r.left) × Counts (after_notes q told (tail i)) r.delivered
+      → ((after_notes q reported (tail i)).view.number ≡ length r.left) × Counts (after_notes q reported (tail i)) r.delivered
   unfolding after_notes after_note
   after-tail true e = subst (λ (u : Server). (u.view.number ≡ length r.left) × Counts u r.delivered)
-      (sym (quiet-stays q (after_view q told r.pool.view) so.rest so.quiet)) (numbered-now, λ k. omega arith)
+      (sym (quiet-stays q (after_view q reported r.pool.view) so.rest so.quiet)) (numbered-now, λ k. omega arith)
   after-tail false e = subst (λ (u : Server). (u.view.number ≡ length r.left) × Counts u r.delivered)
-      (sym (quiet-stays q told so.rest so.quiet))
-      (told-seen ∙ sym (same-left e), subst (Counts told) (sym (so.still (same-left e) ∙ so.on.delivered)) told-counts)
+      (sym (quiet-stays q reported so.rest so.quiet))
+      (reported-seen ∙ sym (same-left e), subst (Counts reported) (sym (so.still (same-left e) ∙ so.on.delivered)) reported-counts)
 
-  notes-are : after_notes q s (outcome setting p t).notes ≡ after_notes q told (tail (nat_lt (length p.left) (length r.left)))
+  notes-are : after_notes q s (outcome setting p t).notes ≡ after_notes q reported (tail (nat_lt (length p.left) (length r.left)))
   notes-are = ap (after_notes q s) so.notes ∙ notes-more q s (map (Delivers p.pool.view.number) so.on.more) _
 
   sees-after : (server : Server) → server ≡ after_notes q s (outcome setting p t).notes
@@ -262,14 +262,14 @@ module _ (setting : Setting) (q : Place) (p : Process) (t : Turn) (s : Server) (
         (All-mem AreShort (deliveries_of r) all ranged.short is-all)
         q x first-within so.later.here.0 p.delivered so.on.more s counts all-is
 
-    tail-taken : (i : Bool) → nat_lt (length p.left) (length r.left) ≡ i → AreTaken q told (tail i)
+    tail-taken : (i : Bool) → nat_lt (length p.left) (length r.left) ≡ i → AreTaken q reported (tail i)
     unfolding after_note
     tail-taken true e =
         let further = ltb-true (length p.left) (length r.left) e in
-        let was = told-seen in
+        let was = reported-seen in
         let now = numbered-now in
-        (((ranged.number, ranged.view), omega (arith, further, was, now)), quiet-taken q (after_view q told r.pool.view) so.rest so.quiet)
-    tail-taken false e = quiet-taken q told so.rest so.quiet
+        (((ranged.number, ranged.view), omega (arith, further, was, now)), quiet-taken q (after_view q reported r.pool.view) so.rest so.quiet)
+    tail-taken false e = quiet-taken q reported so.rest so.quiet
 
     pub all-taken : AreTaken q s (outcome setting p t).notes
     all-taken = subst (AreTaken q s) (sym so.notes) (taken-more q s (map (Delivers p.pool.view.number) so.on.more)
@@ -339,7 +339,7 @@ unfolding run
 one-turn s p t = refl
 
 pub notes_are_taken : NotesAreTaken
-notes_are_taken s q me limit earlier steps t told others note zeroth genesis handed notes =
+notes_are_taken s q me limit earlier steps t reported others note zeroth genesis handed notes =
     let started : Process = start s me limit in
     let begun : Process = run s started earlier in
     let m : Moment = reached s q (begin begun) steps in
@@ -351,7 +351,7 @@ notes_are_taken s q me limit earlier steps t told others note zeroth genesis han
     ∙ ap (λ (p : Process). run s p (t ∷ [])) (sym (process-is s q steps (begin begun)))
     ∙ one-turn s m.process t in
     let ranged = subst IsRanged ends (is-ranged s me limit (earlier ++ (turns_in steps ++ t ∷ [])) zeroth genesis handed) in
-    takes-it q m.server told others note
+    takes-it q m.server reported others note
     (subst (AreTaken q m.server) notes (all-taken s q m.process t m.server sees.numbered sees.seen sees.counts ranged))
 
 pub servers_can_take : ServersCanTake

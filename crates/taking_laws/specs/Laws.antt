@@ -26,12 +26,12 @@ Takes s (Halts delivered cut) = Unit {0}
 -- A run of a server begins with a process as its earlier turns left it, and goes through these steps. Where what was handed over is in range, as
 -- what is read of a frame is, each note of the next turn is one that the server can take, once it has been given those before it.
 abbrev pub NotesAreTaken : Type 0
-NotesAreTaken = (s : Setting) (q : Place) (me batch_limit : ℕ) (earlier : List Turn) (steps : List Step) (t : Turn) (told others : List Note)
+NotesAreTaken = (s : Setting) (q : Place) (me batch_limit : ℕ) (earlier : List Turn) (steps : List Step) (t : Turn) (reported others : List Note)
     (note : Note) → s.genesis.number ≡ 0 → IsView s.genesis
     → All (λ c. IsStatement c.statement) (handed_to (earlier ++ (turns_in steps ++ t ∷ [])))
     → let m = reached s q (begin (run s (start s me batch_limit) earlier)) steps in
-    (outcome s m.process t).notes ≡ told ++ note ∷ others
-    → Takes (after_notes q m.server told) note
+    (outcome s m.process t).notes ≡ reported ++ note ∷ others
+    → Takes (after_notes q m.server reported) note
 
 -- so a server of the code can take it, which keeps what that server does
 abbrev pub ServersCanTake : Type 0

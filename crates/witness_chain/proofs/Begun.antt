@@ -28,7 +28,7 @@ use Rattle.chain_words.proofs.Runs.{behind_both, none_shown}
 use Rattle.chain_words.proofs.Steps.{goes_on, nothing_left, part_answered, some_left, too_long}
 use Rattle.chain_words.proofs.Taken.{none_more, some_more, words_more}
 use Rattle.line_input.proofs.Places.{ends_settle}
-use Rattle.proof_defs.specs.Starts.{start_in, started_at, told_from}
+use Rattle.proof_defs.specs.Starts.{start_in, started_at, reported_from}
 use Rattle.witness_chain.specs.Starting.{BegunBy, InPartBy, PartShown, first_lines, start_next, starts_at}
 use Rattle.witness_chain.proofs.Short.{long-starts-none}
 
@@ -36,8 +36,8 @@ use Rattle.witness_chain.proofs.Short.{long-starts-none}
 
 module _ (s : Setting) (n : ℕ) where
   abbrev by-start : (line next : List ℕ) (more : List (List ℕ)) (o : Option View) → Answer
-  by-start line next more None = told_from s n s.genesis (line ∷ next ∷ more)
-  by-start line next more (Some v) = told_from s (n + 1) v (next ∷ more)
+  by-start line next more None = reported_from s n s.genesis (line ∷ next ∷ more)
+  by-start line next more (Some v) = reported_from s (n + 1) v (next ∷ more)
 
   line-starts : (line next : List ℕ) (more : List (List ℕ)) → started_at s n (line ∷ next ∷ more) ≡ by-start line next more (start_in s line)
   unfolding started_at
@@ -45,25 +45,25 @@ module _ (s : Setting) (n : ℕ) where
     where
       of : (o : Option View)
           → (elim o [
-            | None ↦ told_from s n s.genesis (line ∷ next ∷ more)
-            | Some v ↦ told_from s (n + 1) v (next ∷ more)
+            | None ↦ reported_from s n s.genesis (line ∷ next ∷ more)
+            | Some v ↦ reported_from s (n + 1) v (next ∷ more)
           ]) ≡ by-start line next more o
       of None = refl
       of (Some v) = refl
 
   -- bytes come after the line
   started : (line rest : List ℕ) (v : View) → start_in s line ≡ Some v
-      → started_at s n (line ∷ parts_of rest) ≡ told_from s (n + 1) v (parts_of rest)
+      → started_at s n (line ∷ parts_of rest) ≡ reported_from s (n + 1) v (parts_of rest)
   started line rest v e =
       let some = parts_some rest in
       ap (λ (ps : List (List ℕ)). started_at s n (line ∷ ps)) some.2 ∙ line-starts line some.0 some.1
-      ∙ ap (by-start line some.0 some.1) e ∙ ap (told_from s (n + 1) v) (sym some.2)
+      ∙ ap (by-start line some.0 some.1) e ∙ ap (reported_from s (n + 1) v) (sym some.2)
 
-  anew : (line rest : List ℕ) → start_in s line ≡ None → started_at s n (line ∷ parts_of rest) ≡ told_from s n s.genesis (line ∷ parts_of rest)
+  anew : (line rest : List ℕ) → start_in s line ≡ None → started_at s n (line ∷ parts_of rest) ≡ reported_from s n s.genesis (line ∷ parts_of rest)
   anew line rest e =
       let some = parts_some rest in
       ap (λ (ps : List (List ℕ)). started_at s n (line ∷ ps)) some.2 ∙ line-starts line some.0 some.1
-      ∙ ap (by-start line some.0 some.1) e ∙ ap (λ (ps : List (List ℕ)). told_from s n s.genesis (line ∷ ps)) (sym some.2)
+      ∙ ap (by-start line some.0 some.1) e ∙ ap (λ (ps : List (List ℕ)). reported_from s n s.genesis (line ∷ ps)) (sym some.2)
 
   -- and it is a proof, or is none
   anew-goes-on : (line rest : List ℕ) → start_in s line ≡ None

@@ -77,11 +77,11 @@ module _ (answer then : List ℕ → Answer) (before mid now : Option (List ℕ)
     wrote = s.wrote;
   }
 
-  pub some_before : (stop told : Stop) → stop ≡ told → (told ≡ Write) ⊎ IsSome (input_words told) ⊎ SomeShownBy then mid now old new
+  pub some_before : (stop reported : Stop) → stop ≡ reported → (reported ≡ Write) ⊎ IsSome (input_words reported) ⊎ SomeShownBy then mid now old new
       → (stop ≡ Write) ⊎ IsSome (input_words stop) ⊎ SomeShownBy answer before now old new
-  some_before stop told is (inl write) = inl (is ∙ write)
-  some_before stop told is (inr (inl fault)) = inr (inl (subst (λ (s : Stop). IsSome (input_words s)) (sym is) fault))
-  some_before stop told is (inr (inr some)) = inr (inr (some_then some))
+  some_before stop reported is (inl write) = inl (is ∙ write)
+  some_before stop reported is (inr (inl fault)) = inr (inl (subst (λ (s : Stop). IsSome (input_words s)) (sym is) fault))
+  some_before stop reported is (inr (inr some)) = inr (inr (some_then some))
 
   pub in_part_before : InPartBy then mid now old new → InPartBy answer before now old new
   in_part_before (inl p) = inl (in_part_then answer then before mid now [] leads old old (Appends-nil old) new p)

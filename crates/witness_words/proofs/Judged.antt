@@ -109,26 +109,26 @@ module _ (before now : Option (List ℕ)) where
   is : (a b : Fault) → Input a ≡ Input b → a ≡ b
   is a b e = cc
 
-  tells : (why : kits.KitFault) (told fault : Fault) → HasFault before now [] why → Tells told (NoInput why) → told ≡ fault
+  tells : (why : kits.KitFault) (reported fault : Fault) → HasFault before now [] why → Tells reported (NoInput why) → reported ≡ fault
       → Refuses judged before now fault
-  tells why told fault h says same = record {
+  tells why reported fault h says same = record {
     why = NoInput why;
     is = no_kit why h;
-    told = (says.0 ∙ ap fault_line same, sym (ap fault_status same) ∙ says.1);
+    reported = (says.0 ∙ ap fault_line same, sym (ap fault_status same) ∙ says.1);
   }
 
-  kit_told : (k : KitFault) (fault : Fault) → of_kit k ≡ Input fault → IfSome (fault_of k) (HasFault before now []) → Refuses judged before now fault
-  kit_told (kit_faults.Line n) fault e h = tells (kits.Line n) _ fault h (refl, refl) (is _ fault e)
-  kit_told (kit_faults.Repeated n) fault e h = tells (kits.Repeated n) _ fault h (refl, refl) (is _ fault e)
-  kit_told (kit_faults.Missing n) fault e h = tells (kits.Missing n) _ fault h (refl, refl) (is _ fault e)
-  kit_told (kit_faults.KeyMismatch n made listed) fault e h = tells (kits.KeyMismatch n _ _) _ fault h (refl, refl) (is _ fault e)
-  kit_told kit_faults.NoMemory fault e h = absurd cc
+  kit_reported : (k : KitFault) (fault : Fault) → of_kit k ≡ Input fault → IfSome (fault_of k) (HasFault before now []) → Refuses judged before now fault
+  kit_reported (kit_faults.Line n) fault e h = tells (kits.Line n) _ fault h (refl, refl) (is _ fault e)
+  kit_reported (kit_faults.Repeated n) fault e h = tells (kits.Repeated n) _ fault h (refl, refl) (is _ fault e)
+  kit_reported (kit_faults.Missing n) fault e h = tells (kits.Missing n) _ fault h (refl, refl) (is _ fault e)
+  kit_reported (kit_faults.KeyMismatch n made listed) fault e h = tells (kits.KeyMismatch n _ _) _ fault h (refl, refl) (is _ fault e)
+  kit_reported kit_faults.NoMemory fault e h = absurd cc
 
   pub no_front : (ahead : List ℕ) (f : FrontFault) (fault : Fault) → ahead ≡ [] → of_front f ≡ Input fault
       → IfSome (front_fault f) (HasFault before now ahead) → Refuses judged before now fault
   no_front ahead fronts.Read fault none e h = absurd cc
   no_front ahead (fronts.Kit k) fault none e h =
-      kit_told k fault e (subst (λ (t : List ℕ). IfSome (fault_of k) (HasFault before now t)) none h)
+      kit_reported k fault e (subst (λ (t : List ℕ). IfSome (fault_of k) (HasFault before now t)) none h)
 
 -- ---- one line more
 
@@ -163,5 +163,5 @@ module _ (before mid now : Option (List ℕ)) (kit : Kit) (n : ℕ) (ahead : Lis
   one_refused fault r = record {
     why = r.why;
     is = settles_more judged (judged_from (place kit n ahead)) (with_taken kit stands.0) before mid now stands.1 (Err r.why) r.is;
-    told = r.told;
+    reported = r.reported;
   }

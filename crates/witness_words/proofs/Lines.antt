@@ -22,10 +22,10 @@ use Rattle.message_defs.specs.Statements.{Claim}
 use Rattle.audit_defs.specs.Audits.{Audited, audited}
 use Rattle.audit_defs.specs.Evidence.{evidence_line, pair_frame}
 use Rattle.audit_defs.specs.Findings as plain
-use Rattle.audit_defs.specs.Findings.{told_of}
+use Rattle.audit_defs.specs.Findings.{reported_of}
 use Rattle.audit_defs.specs.Inputs.{Input, input_of}
 use Rattle.findings_json.specs.declared.findings.Conviction.{Conviction}
-use Rattle.findings_json.specs.Views.{told}
+use Rattle.findings_json.specs.Views.{reported}
 use Rattle.proof_lines.specs.Audits as core
 use Rattle.proof_lines.specs.Audits.{Evidence, evidence, evidence_of}
 use Rattle.witness_defs.specs.Lines as lines
@@ -71,14 +71,14 @@ line-is p frame = simp append_assoc
 abbrev line-of : ℕ → Evidence → List ℕ
 line-of p e = line_with p (frame_bytes (Bundle (group_of e.first ∷ group_of e.second ∷ [])))
 
-same-lines : (cs : List Conviction) (ds : List defs.Conviction) → map evidence cs ≡ map evidence_of ds → map told cs ≡ map told_of ds
+same-lines : (cs : List Conviction) (ds : List defs.Conviction) → map evidence cs ≡ map evidence_of ds → map reported cs ≡ map reported_of ds
     → flat_map conviction_line cs ≡ flat_map evidence_line ds
 same-lines [] [] e t = refl
 same-lines [] (d ∷ ds) e t = absurd cc
 same-lines (c ∷ cs) [] e t = absurd cc
 same-lines (c ∷ cs) (d ∷ ds) e t =
     let both = head-is (evidence c) (evidence_of d) (map evidence cs) (map evidence_of ds) e in
-    let says = head-is (told c) (told_of d) (map told cs) (map told_of ds) t in
+    let says = head-is (reported c) (reported_of d) (map reported cs) (map reported_of ds) t in
     let one : conviction_line c ≡ evidence_line d =
     (λ i. line-of (says.0 i).process (both.0 i)) ∙ line-is d.process (pair_frame d.first d.second) in
     (λ i. one i ++ same-lines cs ds both.1 says.1 i)
@@ -106,14 +106,14 @@ can-travel (Ok x) s c w frame b draft is spelled bytes test holds small =
     some-bytes rest = omega arith
 
 -- the same evidence
-same-evidence : (cs : List Conviction) (ds : List defs.Conviction) → map evidence cs ≡ map evidence_of ds → map told cs ≡ map told_of ds
+same-evidence : (cs : List Conviction) (ds : List defs.Conviction) → map evidence cs ≡ map evidence_of ds → map reported cs ≡ map reported_of ds
     → map travels cs ≡ map lines.evidence_of ds
 same-evidence [] [] e t = refl
 same-evidence [] (d ∷ ds) e t = absurd cc
 same-evidence (c ∷ cs) [] e t = absurd cc
 same-evidence (c ∷ cs) (d ∷ ds) e t =
     let both = head-is (evidence c) (evidence_of d) (map evidence cs) (map evidence_of ds) e in
-    let says = head-is (told c) (told_of d) (map told cs) (map told_of ds) t in
+    let says = head-is (reported c) (reported_of d) (map reported cs) (map reported_of ds) t in
     (λ i. evidence_with (says.0 i).process (frame_bytes (Bundle (group_of (both.0 i).first ∷ group_of (both.0 i).second ∷ [])))
     ∷ same-evidence cs ds both.1 says.1 i)
 
@@ -153,16 +153,16 @@ Lines listed before now text = (a : Audits listed before now) × (text ≡ text_
 pub lines-are : (listed : List ℕ) (before now : Option (List ℕ)) (input : Input) (f : core.Found) (cs : List Conviction) (text : List ℕ)
     → Ends input_of before now (Ok input)
     → (a : Audited) × (audited input.kit listed input.journals ≡ Ok a) × core.IsFound a f
-    → map told cs ≡ f.told.convicted → map evidence cs ≡ f.evidence → text ≡ flat_map conviction_line cs
+    → map reported cs ≡ f.reported.convicted → map evidence cs ≡ f.evidence → text ≡ flat_map conviction_line cs
     → AllByRecursion (CanTravel (setting_of input.kit)) cs → Lines listed before now text
 lines-are listed before now input f cs text read found says shows written can =
     let a : Audits listed before now = record { audited = found.0; all = all_audited listed before now input read found.0 found.1 } in
     let evidence' = shows ∙ found.2.evidence in
-    let told' = says ∙ ap (λ (t : plain.Findings). t.convicted) found.2.told in (
+    let reported' = says ∙ ap (λ (t : plain.Findings). t.convicted) found.2.reported in (
       a,
-      written ∙ same-lines cs (convicted_by found.0) evidence' told',
+      written ∙ same-lines cs (convicted_by found.0) evidence' reported',
       judge-takes found.0 (setting_of input.kit) cs (audit_is_of_listed input.kit listed input.journals found.0 found.1).setting
-          (same-evidence cs (convicted_by found.0) evidence' told') can,
+          (same-evidence cs (convicted_by found.0) evidence' reported') can,
     )
 
 module _ (listed : List ℕ) (before now old new : Option (List ℕ)) (text : List ℕ) (is : Lines listed before now text) where

@@ -16,7 +16,7 @@ use Rattle.witness_words.specs.declared.stops.Stop.TheVariants.{NoMemory, Read, 
 use Rattle.witness_words.specs.Places.{Refuses}
 use Rattle.witness_words.specs.Stops.{fault_status, line_of, status_of}
 use Rattle.witness_words.specs.Running.{Audits, HasFindings, HasNoFindings, IsRefused, IsTaken, Refused, Takes, Unconvicted, Unread}
-use Rattle.witness_words.proofs.Reasons.{Told}
+use Rattle.witness_words.proofs.Reasons.{Reported}
 
 -- ---- statuses
 
@@ -130,13 +130,13 @@ same_reason listed (Some bytes) now r status none =
 -- ---- a run of `convict` that stops
 
 module _ (listed : List ℕ) (before now : Option (List ℕ)) (stop : Stop) (result : ℕ)
-    (told : (fault : Fault) → stop ≡ Input fault → Told listed before now fault) (status : result ≢ 1 → result ≡ status_of stop) where
+    (reported : (fault : Fault) → stop ≡ Input fault → Reported listed before now fault) (status : result ≢ 1 → result ≡ status_of stop) where
   pub stops : (result ≡ 7) ⊎ (result ≡ 8) → (old new : Option (List ℕ)) (f f' : ℕ) → (result ≢ 1 → Says (line_of stop) old new f f')
       → Unconvicted listed result before now old new f f'
   stops which old new f f' says =
       let other : result ≢ 1 = λ e. elim which [ inl a ↦ omega (arith, a, e) | inr b ↦ omega (arith, b, e) ] in
       let at = at_input stop (elim which [ inl a ↦ inl (sym (status other) ∙ a) | inr b ↦ inr (sym (status other) ∙ b) ]) in
-      let t = told at.0 at.1 in
+      let t = reported at.0 at.1 in
       record {
         unread = t.0;
         is_status = t.2 ∙ ap status_of (sym at.1) ∙ sym (status other);
@@ -159,7 +159,7 @@ module _ (listed : List ℕ) (before now : Option (List ℕ)) (stop : Stop) (res
 
   module _ (no_read : stop ≢ Read) (no_write : stop ≢ Write) where
     pub never_stops : HasFindings listed before → (result ≡ 0) ⊎ (result ≡ 1)
-    never_stops some = by_stop 0 (λ fault e. absurd (none_found listed before now (told fault e).0 some)) no_read no_write
+    never_stops some = by_stop 0 (λ fault e. absurd (none_found listed before now (reported fault e).0 some)) no_read no_write
 
     pub stops_so : (s : ℕ) → HasNoFindings listed s before → (result ≡ s) ⊎ (result ≡ 1)
     stops_so s none = by_stop s of_fault no_read no_write
@@ -170,7 +170,7 @@ module _ (listed : List ℕ) (before now : Option (List ℕ)) (stop : Stop) (res
             of : (t : Bool) → (result == 1) ≡ t → (result ≡ s) ⊎ (result ≡ 1)
             of true is = inr (eqb-true result 1 is)
             of false is =
-                let t = told fault e in
+                let t = reported fault e in
                 inl (status (eqb-false result 1 is) ∙ ap status_of e ∙ sym t.2 ∙ same_reason listed before now t.0 s none)
 
 -- ---- a run of `judge`
@@ -184,18 +184,18 @@ some_taken (Some bytes) now t none = of (judged bytes) none (all-ends judged byt
     of (Ok j) bad e = absurd cc
     of (Err why) bad e = absurd cc
 
-module _ (before now : Option (List ℕ)) (stop : Stop) (result : ℕ) (told : (fault : Fault) → stop ≡ Input fault → Refuses judged before now fault)
+module _ (before now : Option (List ℕ)) (stop : Stop) (result : ℕ) (reported : (fault : Fault) → stop ≡ Input fault → Refuses judged before now fault)
     (no_write : stop ≢ Write) (status : result ≢ 1 → result ≡ status_of stop) where
   pub refused_so : result ≡ 7 → (old new : Option (List ℕ)) (f f' : ℕ) → (result ≢ 1 → Says (line_of stop) old new f f')
       → Refused before now old new f f'
   refused_so seven old new f f' says =
       let other : result ≢ 1 = λ e. omega (arith, seven, e) in
       let at = at_input stop (inl (sym (status other) ∙ seven)) in
-      let t = told at.0 at.1 in
+      let t = reported at.0 at.1 in
       record {
         why = t.why;
         is = t.is;
-        said = subst (λ (line : List ℕ). Says line old new f f') (ap line_of at.1 ∙ sym t.told.0) (says other);
+        said = subst (λ (line : List ℕ). Says line old new f f') (ap line_of at.1 ∙ sym t.reported.0) (says other);
       }
 
   -- the status, where it is not 1
@@ -206,7 +206,7 @@ module _ (before now : Option (List ℕ)) (stop : Stop) (result : ℕ) (told : (
       of NoMemory e = absurd (other (status other ∙ ap status_of e))
       of Read e = at_three e (status other ∙ ap status_of e)
       of Write e = absurd (no_write e)
-      of (Input fault) e = at_seven fault e (status other ∙ ap status_of e ∙ (told fault e).told.1)
+      of (Input fault) e = at_seven fault e (status other ∙ ap status_of e ∙ (reported fault e).reported.1)
 
   pub judge_ends : (result ≡ 0) ⊎ (result ≡ 1) ⊎ (result ≡ 3) ⊎ (result ≡ 7)
   judge_ends = of (result == 1) refl
@@ -216,7 +216,7 @@ module _ (before now : Option (List ℕ)) (stop : Stop) (result : ℕ) (told : (
       of false e = by_status (λ read three. inr (inr (inl three))) (λ fault is seven. inr (inr (inr seven))) (eqb-false result 1 e)
 
   none_taken : (fault : Fault) → stop ≡ Input fault → ¬ IsTaken before
-  none_taken fault e some = of before (told fault e) some
+  none_taken fault e some = of before (reported fault e) some
     where
       of : (b : Option (List ℕ)) → Refuses judged b now fault → IsTaken b → ⊥
       of None r some = some

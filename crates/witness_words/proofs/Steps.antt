@@ -130,7 +130,7 @@ module _ (kit : Kit) (n : ℕ) (ahead : List ℕ) (before now : Option (List ℕ
         → Refuses (judged_from (place kit n ahead)) before now fault
     line_broken is fault same =
         subst (Refuses (judged_from (place kit n ahead)) before now) same
-        (record { why = NoInput (Line n); is = broken is; told = (refl, refl) })
+        (record { why = NoInput (Line n); is = broken is; reported = (refl, refl) })
 
     -- a line was taken
     module _ (is : next ≡ nexts.Line) (line : List ℕ) (this : line ≡ l.line) where
@@ -164,7 +164,7 @@ module _ (kit : Kit) (n : ℕ) (ahead : List ℕ) (before now : Option (List ℕ
           taken = t.read.1;
           is = inl (λ rest. goes_behind rest ∙ ap (goes_on (setting_of kit) n (parts_of (l.ahead ++ rest))) gives.1);
         };
-        told = gives.2;
+        reported = gives.2;
       }
 
 -- ---- one line

@@ -58,4 +58,4 @@ Tells fault r = (refusal_line r ≡ fault_line fault) × (fault_status fault ≡
 pub record Refuses {A : Type 0} (answer : List ℕ → Result A Refusal) (before now : Option (List ℕ)) (fault : Fault) : Type 0 where
   pub why : Refusal
   pub is : Settles answer before now (Err why)
-  pub told : Tells fault why
+  pub reported : Tells fault why

@@ -5,7 +5,7 @@ ghost use Rattle.rp_base.specs.Causes.{Rose};
 ghost use Rattle.rp_base.specs.Streams.{Says};
 ghost use Rattle.line_input.specs.Places.{Ends, Leads};
 ghost use Rattle.audit_defs.specs.Players.{setting_of};
-ghost use Rattle.witness_defs.specs.Lines as told;
+ghost use Rattle.witness_defs.specs.Lines as reported;
 ghost use Rattle.witness_defs.specs.Judging as plain;
 ghost use Rattle.witness_words.specs.Places.{Refuses, Tells, behind, judged_from, line_gives, place};
 ghost use Rattle.witness_words.specs.Running.{IsRefused, IsTaken, Refused, Takes};
@@ -39,7 +39,7 @@ pub(crate) fn is_taken(kit: &Kit, process: Pid, frame: &[u8]) -> bool
 
 // Takes the evidence of the line of this number.
 fn take_line(alloc: Global, kit: &Kit, number: usize, line: &[u8]) -> Result<(), Stop>
-    ensures taken { OnOk result ((e : told.Evidence) × (line_gives (setting_of kit.now) number line.now ≡ Ok e)) }
+    ensures taken { OnOk result ((e : reported.Evidence) × (line_gives (setting_of kit.now) number line.now ≡ Ok e)) }
     ensures refused { (fault : Fault) → IsErrOf result (Stop.Input fault)
         → (r : plain.Refusal) × (line_gives (setting_of kit.now) number line.now ≡ Err r) × Tells fault r }
     ensures no_read { ¬ IsErrOf result Stop.Read }
@@ -63,7 +63,7 @@ fn step<S: Source>(
     lines: &mut Lines,
     input: &mut S,
 ) -> Result<bool, Stop>
-    ensures taken { result ≡ Ok true → (e : told.Evidence) × Leads (judged_from (place kit.now number lines.old.ahead))
+    ensures taken { result ≡ Ok true → (e : reported.Evidence) × Leads (judged_from (place kit.now number lines.old.ahead))
         (S.left input.old) (S.left input.new) (behind e (place kit.now (number + 1) lines.new.ahead)) }
     ensures ended { result ≡ Ok false
         → Ends (judged_from (place kit.now number lines.old.ahead)) (S.left input.old) (S.left input.new) (Ok []) }

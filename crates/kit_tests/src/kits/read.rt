@@ -168,9 +168,9 @@ fn mismatch(alloc: Global, parts: &[&[u8]], at: usize) -> Result<(usize, u8, u8)
 }
 
 #[test]
-fn a_key_of_another_secret_is_told(rt: HostRuntime) -> Result<(), Fail> {
-    let told = mismatch(rt.alloc(), &[HEAD, GROUP, OTHER_KEY_0, REST], 55)?;
-    assert_eq!(rt; told, (9, 0x0b, 0x0c));
+fn a_key_of_another_secret_is_reported(rt: HostRuntime) -> Result<(), Fail> {
+    let reported = mismatch(rt.alloc(), &[HEAD, GROUP, OTHER_KEY_0, REST], 55)?;
+    assert_eq!(rt; reported, (9, 0x0b, 0x0c));
     Ok(())
 }
 
@@ -189,10 +189,10 @@ fn a_line_that_stands_twice_is_repeated(rt: HostRuntime) -> Result<(), Fail> {
 }
 
 #[test]
-fn faults_of_a_kit_of_levels_are_told(rt: HostRuntime) -> Result<(), Fail> {
+fn faults_of_a_kit_of_levels_are_reported(rt: HostRuntime) -> Result<(), Fail> {
     let (head, key, rest) = (LEVELS_HEAD, LEVELS_KEY_0, LEVELS_REST);
-    let told = mismatch(rt.alloc(), &[head, GROUP, LEVELS_OTHER_KEY_0, rest], 59)?;
-    assert_eq!(rt; told, (9, 0x0b, 0x0c));
+    let reported = mismatch(rt.alloc(), &[head, GROUP, LEVELS_OTHER_KEY_0, rest], 59)?;
+    assert_eq!(rt; reported, (9, 0x0b, 0x0c));
     let cut = fault_of(rt.alloc(), &[head, key, rest])?;
     assert_eq!(rt; cut, Some(KitFault::Missing { line: 3 }));
     let twice = fault_of(rt.alloc(), &[head, GROUP, key, key, rest])?;

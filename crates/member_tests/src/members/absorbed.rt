@@ -105,8 +105,8 @@ fn step_and_absorb(
     let outcome = after(rt, live, &what.event());
     let bytes = kept(rt.alloc(), &outcome.signed).expect(rt, "memory");
     let count = outcome.signed.len();
-    let told = absorbed(again, what, outcome.spent, count, &bytes).expect(rt, "absorbed");
-    assert_same_outcome(rt, &outcome, &told).expect(rt, "memory");
+    let reported = absorbed(again, what, outcome.spent, count, &bytes).expect(rt, "absorbed");
+    assert_same_outcome(rt, &outcome, &reported).expect(rt, "memory");
     assert_same(rt, live, again).expect(rt, "memory");
 }
 

@@ -6,7 +6,7 @@ use std::process::Abort;
 
 // What the process reports of itself: its signatures, its views, the payloads that it accepted, and the messages that it delivered in its
 // current view.
-fn told(core: &Core<PlainSigner>) -> (u32, usize, usize, usize) {
+fn reported(core: &Core<PlainSigner>) -> (u32, usize, usize, usize) {
     let account = core.account();
     let delivered = match account.delivered.last() {
         Some(delivered) => delivered.len(),
@@ -22,11 +22,11 @@ fn told(core: &Core<PlainSigner>) -> (u32, usize, usize, usize) {
 
 // The event, handed in again where memory ran out. It ends the test where the process is then another than before.
 fn take(rt: &impl Abort, core: &mut Core<PlainSigner>, event: &Event<'_>) {
-    let (before, phase) = (told(core), core.phase());
+    let (before, phase) = (reported(core), core.phase());
     let Err(NoMemory) = core.step(&PlainScheme, event) else {
         return;
     };
-    assert!(rt; told(core) == before);
+    assert!(rt; reported(core) == before);
     assert!(rt; core.phase() == phase);
     let outcome = after(rt, core, event);
     assert!(rt; outcome.verdict == EventVerdict::Taken);

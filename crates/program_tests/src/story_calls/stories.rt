@@ -57,7 +57,7 @@ fn is_answered(
 }
 
 /// Whether the run ends so, writes nothing, and says this and perhaps more as errors.
-fn is_told(
+fn is_reported(
     alloc: Global,
     word: &str,
     input: &[u8],
@@ -76,7 +76,7 @@ fn joined(alloc: Global, front: &[u8], rest: &[u8]) -> Result<Vec<u8>, AllocErro
 }
 
 #[test]
-fn a_schedule_is_told_and_assembled(rt: HostRuntime) -> Result<(), Fail> {
+fn a_schedule_is_reported_and_assembled(rt: HostRuntime) -> Result<(), Fail> {
     for (word, input, written) in [
         ("text", BYTES, STORY),
         ("assemble", STORY, BYTES),
@@ -88,7 +88,7 @@ fn a_schedule_is_told_and_assembled(rt: HostRuntime) -> Result<(), Fail> {
 }
 
 #[test]
-fn what_happens_in_a_run_is_told(rt: HostRuntime) -> Result<(), Fail> {
+fn what_happens_in_a_run_is_reported(rt: HostRuntime) -> Result<(), Fail> {
     assert!(rt; is_answered(rt.alloc(), "run", SPENT_KEY, SPENT_TRACE)?);
     let longer = joined(rt.alloc(), SPENT_KEY, TOO_EARLY)?;
     let trace = joined(rt.alloc(), SPENT_TRACE, STOPPED_TRACE)?;
@@ -97,18 +97,18 @@ fn what_happens_in_a_run_is_told(rt: HostRuntime) -> Result<(), Fail> {
 }
 
 #[test]
-fn a_fault_is_told_with_its_line(rt: HostRuntime) -> Result<(), Fail> {
+fn a_fault_is_reported_with_its_line(rt: HostRuntime) -> Result<(), Fail> {
     for (after, line) in FAULTS {
         let input = joined(rt.alloc(), FRONT, after)?;
-        assert!(rt; is_told(rt.alloc(), "assemble", &input, line, 5)?);
+        assert!(rt; is_reported(rt.alloc(), "assemble", &input, line, 5)?);
     }
     Ok(())
 }
 
 #[test]
-fn what_is_missing_at_the_end_is_told(rt: HostRuntime) -> Result<(), Fail> {
+fn what_is_missing_at_the_end_is_reported(rt: HostRuntime) -> Result<(), Fail> {
     let line = b"line 1: expected group NAME SCHEME";
-    assert!(rt; is_told(rt.alloc(), "assemble", b"", line, 5)?);
+    assert!(rt; is_reported(rt.alloc(), "assemble", b"", line, 5)?);
     let (status, _text, errors) = run(rt.alloc(), "text", b"RPS4", [&[], &[]])?;
     assert!(rt; status == 7 && errors.bytes() == b"stop 7 magic 0\n".as_slice());
     Ok(())
@@ -126,7 +126,7 @@ fn a_run_is_drawn(rt: HostRuntime) -> Result<(), Fail> {
 
 #[test]
 fn other_words_and_failing_streams_have_their_statuses(rt: HostRuntime) -> Result<(), Fail> {
-    for (word, failing, ended, told) in [
+    for (word, failing, ended, reported) in [
         (
             "disassemble",
             [[].as_slice(), &[]],
@@ -137,7 +137,7 @@ fn other_words_and_failing_streams_have_their_statuses(rt: HostRuntime) -> Resul
         ("text", [&[], &[0]], 4, b""),
     ] {
         let (status, out, errors) = run(rt.alloc(), word, BYTES, failing)?;
-        assert!(rt; status == ended && out.bytes().is_empty() && errors.bytes() == told);
+        assert!(rt; status == ended && out.bytes().is_empty() && errors.bytes() == reported);
     }
     Ok(())
 }

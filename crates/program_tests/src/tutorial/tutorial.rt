@@ -13,7 +13,7 @@ fn asked(alloc: Global, word: &str) -> Result<Vec<String>, AllocError> {
 }
 
 /// The status of `story`, and what it wrote and reported.
-fn told(alloc: Global, word: &str, input: &[u8]) -> Result<(u8, MemSink, MemSink), AllocError> {
+fn reported(alloc: Global, word: &str, input: &[u8]) -> Result<(u8, MemSink, MemSink), AllocError> {
     let mut source = MemSource::new(input.to_vec(alloc)?, Vec::new(alloc));
     let mut sink = MemSink::new(alloc, Vec::new(alloc));
     let mut errors = MemSink::new(alloc, Vec::new(alloc));
@@ -49,21 +49,21 @@ fn shows(text: &[u8], part: &[u8]) -> bool {
 
 /// Whether the run of a story has this report.
 fn has_report(alloc: Global, text: &[u8], report: &[u8]) -> Result<bool, AllocError> {
-    let (assembled, schedule, _errors) = told(alloc, "assemble", text)?;
+    let (assembled, schedule, _errors) = reported(alloc, "assemble", text)?;
     let (ended, written) = replayed(alloc, schedule.bytes())?;
     Ok([assembled, ended] == [0, 0] && written.bytes() == report)
 }
 
 /// Whether the trace of the run of a story shows this part.
 fn has_shown(alloc: Global, text: &[u8], part: &[u8]) -> Result<bool, AllocError> {
-    let (assembled, schedule, _errors) = told(alloc, "assemble", text)?;
-    let (ended, trace, _errors) = told(alloc, "run", schedule.bytes())?;
+    let (assembled, schedule, _errors) = reported(alloc, "assemble", text)?;
+    let (ended, trace, _errors) = reported(alloc, "run", schedule.bytes())?;
     Ok([assembled, ended] == [0, 0] && shows(trace.bytes(), part))
 }
 
 /// Whether a text is no story for what this line says.
 fn is_fault(alloc: Global, text: &[u8], line: &[u8]) -> Result<bool, AllocError> {
-    let (status, written, errors) = told(alloc, "assemble", text)?;
+    let (status, written, errors) = reported(alloc, "assemble", text)?;
     Ok(status == 5 && written.bytes().is_empty() && errors.bytes() == line)
 }
 
@@ -84,7 +84,7 @@ fn what_is_shown_of_a_run_stands_in_its_trace(rt: HostRuntime) -> Result<(), Fai
 }
 
 #[test]
-fn a_text_that_is_no_story_is_told_as_shown(rt: HostRuntime) -> Result<(), Fail> {
+fn a_text_that_is_no_story_is_reported_as_shown(rt: HostRuntime) -> Result<(), Fail> {
     for (text, line) in FAULTS {
         assert!(rt; is_fault(rt.alloc(), text, line)?);
     }

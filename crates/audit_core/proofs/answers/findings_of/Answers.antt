@@ -7,7 +7,7 @@ use Rattle.audit_cast.specs.Turns.{Player}
 use Rattle.audit_cast.specs.Turns.{IsPlayer}
 use Rattle.audit_core.specs.Found.{Found, IsFound, grounds_by, grounds_of, listed_in}
 use Rattle.audit_core.specs.Ends.{audited_by}
-use Rattle.audit_core.proofs.Told.{grounds-are, listed-are}
+use Rattle.audit_core.proofs.Reported.{grounds-are, listed-are}
 use Rattle.audit_core.proofs.answers.findings_of.Goals as goal
 
 pub returns : goal.returns
@@ -19,8 +19,8 @@ returns c = λ journals sources is e.
     let grounds : c.in_ok-grounds.grounds.items ≡ map (grounds_of s) k.players =
     c.in_ok-grounds.ensures s k.players keys (subst players (sym c.players.ensures) e.walk.players) in
     subst (IsFound (audited_by s k)) (sym c.new.ensures) (record {
-      told = c.in_ok-told.ensures.told journals sources is e;
-      evidence = c.in_ok-told.ensures.evidence journals sources is e;
+      reported = c.in_ok-reported.ensures.reported journals sources is e;
+      evidence = c.in_ok-reported.ensures.evidence journals sources is e;
       listed = ap (map (λ (g : ℕ × List ℕ). g.0)) grounds ∙ listed-are s k.players;
       grounds = λ p. ap (grounds_by p) grounds ∙ grounds-are s p k.players;
     })

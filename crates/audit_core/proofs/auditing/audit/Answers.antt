@@ -4,7 +4,7 @@ use Rattle.std.specs.Prelude.{All, Contains}
 use Rattle.audit_defs.specs.Players.{setting_of}
 use Rattle.audit_defs.specs.Audits.{Audited, audited, sources_of}
 use Rattle.audit_defs.specs.Findings as plain
-use Rattle.audit_defs.specs.Findings.{Told}
+use Rattle.audit_defs.specs.Findings.{Reported}
 use Rattle.audit_defs.specs.Laws.{FirstGiveLast}
 use Rattle.audit_laws.proofs.Headline.{findings_headline}
 use Rattle.audit_laws.proofs.OfListed.{audit_is_of_listed}
@@ -12,7 +12,7 @@ use Rattle.audit_core.specs.Ends.{Ended, audited_by}
 use Rattle.audit_core.specs.Found.{IsFound}
 use Rattle.audit_core.proofs.Ending.{ended, of-sources}
 use Rattle.audit_core.proofs.Rising.{members-rise}
-use Rattle.audit_core.proofs.Sparing.{none-told}
+use Rattle.audit_core.proofs.Sparing.{none-reported}
 use Rattle.audit_core.proofs.auditing.audit.Goals as goal
 
 pub returns-in-Ok-findings_of : goal.returns-in-Ok-findings_of
@@ -34,8 +34,8 @@ returns-in-Ok-findings_of c =
       found = (a, audits, found);
       refused = tt;
       listed = found.listed ∙ (audit_is_of_listed kit listed journals a audits).listed_are;
-      headline = subst FirstGiveLast (sym found.told) (findings_headline kit listed journals a c.requires.kit rising audits);
-      spared = λ honest'. subst (λ (ts : List Told). All (λ (t : Told). ¬ Contains listed t.process) ts)
-          (ap (λ (f : plain.Findings). f.convicted) (sym found.told))
-          (none-told kit listed journals a rising audits (ap (λ (f : plain.Findings). f.honest) (sym found.told) ∙ honest'));
+      headline = subst FirstGiveLast (sym found.reported) (findings_headline kit listed journals a c.requires.kit rising audits);
+      spared = λ honest'. subst (λ (ts : List Reported). All (λ (t : Reported). ¬ Contains listed t.process) ts)
+          (ap (λ (f : plain.Findings). f.convicted) (sym found.reported))
+          (none-reported kit listed journals a rising audits (ap (λ (f : plain.Findings). f.honest) (sym found.reported) ∙ honest'));
     }

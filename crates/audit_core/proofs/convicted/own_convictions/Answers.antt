@@ -1,5 +1,5 @@
-use Rattle.claim_firsts.specs.Told.{AreSpelled}
-use Rattle.audit_core.proofs.Told.{all-at}
+use Rattle.claim_firsts.specs.Reported.{AreSpelled}
+use Rattle.audit_core.proofs.Reported.{all-at}
 use Rattle.audit_core.proofs.convicted.own_convictions.Goals as goal
 
 pub own_conviction-requires : goal.own_conviction-requires

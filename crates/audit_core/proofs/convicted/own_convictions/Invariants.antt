@@ -1,5 +1,5 @@
 use Rattle.std.proofs.Common.{◌≡◌, map, take}
-use Rattle.claim_firsts.specs.Told.{conviction}
+use Rattle.claim_firsts.specs.Reported.{conviction}
 use Rattle.audit_core.specs.Found.{shown, shown_of}
 use Rattle.audit_core.proofs.convicted.own_convictions.Given as goal
 

@@ -73,12 +73,12 @@ proofs-preserved g c =
     let at : Place = place c.args.kit.now c.proofs.number c.proofs.chain c.proofs.lines.ahead in
     let next : Place = place c.args.kit.now (c.proofs.number + 1) c.step.new.chain c.step.new.lines.ahead in
     let yes : c.in_ok-step.field-0 ≡ true = first_of (cc, search rules, grind (arith, common_steps)) in
-    let told = c.in_ok-step.ensures.shown (ap (λ b. Ok b) yes) in
+    let reported = c.in_ok-step.ensures.shown (ap (λ b. Ok b) yes) in
     let wrote = c.in_ok-step.ensures.wrote (ap (λ b. Ok b) yes) in
     record {
       shown = (
         s.0 ++ view_line c.step.new.chain,
-        stands_then (answer_at first) (answer_at at) _ _ _ s.0 s.1 (view_line c.step.new.chain) next told,
+        stands_then (answer_at first) (answer_at at) _ _ _ s.0 s.1 (view_line c.step.new.chain) next reported,
         Appends-trans _ _ _ s.0 (view_line c.step.new.chain) s.2 wrote,
       );
       read = c.in_ok-step.ensures.steady.0 ∙ c.proofs.invariant.read;

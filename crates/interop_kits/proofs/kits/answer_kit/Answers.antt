@@ -1,5 +1,5 @@
-use Rattle.interop_kits.proofs.KitLaws.{fault_told}
+use Rattle.interop_kits.proofs.KitLaws.{fault_reported}
 use Rattle.interop_kits.proofs.kits.answer_kit.Goals as goal
 
 pub returns-in-Err : goal.returns-in-Err
-returns-in-Err c = fault_told _ _ c.fault_words.result c.in-Err.ensures.exact c.fault_words.ensures
+returns-in-Err c = fault_reported _ _ c.fault_words.result c.in-Err.ensures.exact c.fault_words.ensures

@@ -1,14 +1,14 @@
 use Rattle.interop_levels.specs.Views.{signing}
-use Rattle.interop_levels.proofs.LevelLaws.{not_made, sign_told}
+use Rattle.interop_levels.proofs.LevelLaws.{not_made, sign_reported}
 use Rattle.interop_levels.proofs.levels.answer_sign.Goals as goal
 
 pub returns-clause-answers : goal.returns-clause-answers
 returns-clause-answers c =
-    sign_told c.make_and_sign.result c.args.levels.now c.args.typecode.now c.args.ots.now c.args.id.now c.args.seed.now c.args.number.now
+    sign_reported c.make_and_sign.result c.args.levels.now c.args.typecode.now c.args.ots.now c.args.id.now c.args.seed.now c.args.number.now
     c.args.body.now
     (signing c.in_ok-asked.asked) c.in_ok-asked.ensures.read c.make_and_sign.ensures.made
 
 pub returns-clause-no_question : goal.returns-clause-no_question
-returns-clause-no_question c = λ e told a.
-    not_made c.args.levels.now c.args.typecode.now c.args.ots.now c.args.id.now c.args.seed.now c.args.number.now c.args.body.now told
+returns-clause-no_question c = λ e reported a.
+    not_made c.args.levels.now c.args.typecode.now c.args.ots.now c.args.id.now c.args.seed.now c.args.number.now c.args.body.now reported
     (signing c.in_ok-asked.asked) c.in_ok-asked.ensures.read (c.make_and_sign.ensures.none e) a

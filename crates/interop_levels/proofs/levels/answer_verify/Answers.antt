@@ -12,5 +12,5 @@ returns-clause-answers c =
     let items = c.in_ok-to_vec.ensures.items_if_clones_equal (λ x y e. e) in
     let valid : c.hss_verify-valid.result ≡ hss_valid c.in_ok-key.key.items c.in_ok-body.body.items c.in_ok-sig.sig.items =
     c.hss_verify-valid.ensures ∙ rw (c.deref.ensures.value, c.deref-2.ensures.value, c.deref-3.ensures.value) refl in
-    let told = items ∙ c.verdict.ensures ∙ ap (λ (b : Bool). if b then codes "true" else codes "false") valid in
-    rw (scheme, told) answers
+    let reported = items ∙ c.verdict.ensures ∙ ap (λ (b : Bool). if b then codes "true" else codes "false") valid in
+    rw (scheme, reported) answers

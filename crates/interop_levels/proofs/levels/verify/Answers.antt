@@ -7,10 +7,10 @@ use Rattle.interop_levels.proofs.levels.verify.Goals as goal
 pub returns-then-words-eq4-clause-answers : goal.returns-then-words-eq4-clause-answers
 returns-then-words-eq4-clause-answers c =
     let words = four (λ (w : Bor (List ℕ)). w.now) c.args.words.now _ c.if-words-eq4.true in
-    subst (λ (ws : List (List ℕ)). IfOk c.answer_verify.result (λ told. Answers (codes "verify" ∷ ws) told.items))
+    subst (λ (ws : List (List ℕ)). IfOk c.answer_verify.result (λ reported. Answers (codes "verify" ∷ ws) reported.items))
     (sym words) c.answer_verify.ensures.answers
 
 pub returns-then-words-eq4-clause-no_question : goal.returns-then-words-eq4-clause-no_question
-returns-then-words-eq4-clause-no_question c = λ e told a.
+returns-then-words-eq4-clause-no_question c = λ e reported a.
     let words = four (λ (w : Bor (List ℕ)). w.now) c.args.words.now _ c.if-words-eq4.true in
-    c.answer_verify.ensures.no_question e told (subst (λ (ws : List (List ℕ)). Answers (codes "verify" ∷ ws) told) words a)
+    c.answer_verify.ensures.no_question e reported (subst (λ (ws : List (List ℕ)). Answers (codes "verify" ∷ ws) reported) words a)

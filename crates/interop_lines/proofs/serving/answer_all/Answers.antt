@@ -88,13 +88,13 @@ loop-number-preserved g c =
     let before = c.loop-number.invariant.served in
     let read = read_on _ before.0 _ c.read_on.new.ahead _ _ _ _ _ before.2 c.in_ok-read_on.ensures.read in
     let line = rw c.in-Some.is at c.line.ensures.line in
-    let told = c.in_ok-answer_line.ensures.answered in
+    let reported = c.in_ok-answer_line.ensures.answered in
     let next : c.loop-number.number + 1 ≡ suc (suc before.0) = omega (arith, before.1) in
     let first : List ℕ = take c.in-Some.end c.read_on.new.ahead in
-    let answers : Answers _ first told.0 = rw c.bytes-in-loop-number.ensures at told.1 in
+    let answers : Answers _ first reported.0 = rw c.bytes-in-loop-number.ensures at reported.1 in
     let parts = line.1 ∙ ap (λ (t : List ℕ). ended first ++ t) (sym c.skip.ensures) in
     record {
-      served = (suc before.0, next, served_one_more _ before.0 _ first _ told.0 _ _ _ _ _ read line.0 parts answers told.2);
+      served = (suc before.0, next, served_one_more _ before.0 _ first _ reported.0 _ _ _ _ _ read line.0 parts answers reported.2);
       read = c.in_ok-read_on.ensures.steady ∙ c.loop-number.invariant.read;
       wrote = c.in_ok-answer_line.ensures.steady ∙ c.loop-number.invariant.wrote;
     }

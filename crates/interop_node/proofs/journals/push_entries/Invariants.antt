@@ -8,7 +8,7 @@ use Rattle.interop_node.proofs.journals.push_entries.Given as goal
 -- the entries before this place were told, and a gate is there
 abbrev pub invariant-entries : goal.invariant-entries
 invariant-entries l = record {
-  told : (es : List Entry) × StandsBefore (header_of l.fn.bytes) l.fn.bytes es l.place
+  reported : (es : List Entry) × StandsBefore (header_of l.fn.bytes) l.fn.bytes es l.place
       × (l.out.items ≡ l.fn.out.items ++ flat_map entry_words es);
   within : l.place < length l.fn.bytes;
 }

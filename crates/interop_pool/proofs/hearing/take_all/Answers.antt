@@ -9,7 +9,7 @@ use Rattle.stmt_codec.specs.Views.{claim as claim_of}
 use Rattle.claim_pool.specs.Verdicts.{verdict as verdict_of}
 use Rattle.claim_hearing.proofs.Heard.{delivered-kept, none-left, one-heard}
 use Rattle.interop_pool.specs.Hearers.{setting_with}
-use Rattle.interop_pool.proofs.Heard.{all-told, one-told}
+use Rattle.interop_pool.proofs.Heard.{all-reported, one-reported}
 use Rattle.interop_pool.proofs.hearing.take_all.Goals as goal
 
 pub take-requires-clause-range : goal.take-requires-clause-range
@@ -29,7 +29,7 @@ claims-preserved c =
             hear s so.0 d,
             delivered-kept s so.0 d c.args.own.now so.1,
             c.in_ok-verdict.ensures.heard so.0 so.1 so.2,
-            one-told s so.0 d (claims_left c.claims.left) (claims_left c.next.new.self) c.claims.out.items
+            one-reported s so.0 d (claims_left c.claims.left) (claims_left c.next.new.self) c.claims.out.items
                 c.extend_from_slice.new.self.items _ (verdict_of c.in_ok-verdict.verdict) c.in-Some.ensures.steps
                 (c.in_ok-verdict.ensures.verdict so.0 so.1 so.2)
                 (c.in_ok-extend_from_slice.ensures.items ∙ ap (λ (w : List ℕ). c.claims.out.items ++ w) c.verdict_word.ensures) so.3,
@@ -42,7 +42,7 @@ claims-preserved c =
 pub returns-clause-verdicts : goal.returns-clause-verdicts
 returns-clause-verdicts c p delivered same =
     let so = c.claims.invariant.heard p delivered same in
-    sym (all-told (setting_with c.args.roster.now) so.0 (claims_left c.claims.left) c.claims.out.items c.in_default.ensures.steps.0) ∙ so.3
+    sym (all-reported (setting_with c.args.roster.now) so.0 (claims_left c.claims.left) c.claims.out.items c.in_default.ensures.steps.0) ∙ so.3
 
 pub returns-clause-heard : goal.returns-clause-heard
 returns-clause-heard c p delivered same =

@@ -6,7 +6,7 @@ use Rattle.stmt_codec.specs.Views.{stmt}
 use Rattle.claim_pool.specs.Certificates.{content_of}
 use Rattle.pool_laws.proofs.Heard.{certified_on-is}
 use Rattle.interop_pool.specs.Telling.{same_word}
-use Rattle.interop_pool.proofs.Heard.{certificate-told, certified-there, same-test}
+use Rattle.interop_pool.proofs.Heard.{certificate-reported, certified-there, same-test}
 use Rattle.interop_pool.proofs.telling.push_certificate.Goals as goal
 
 pub returns : goal.returns
@@ -18,7 +18,7 @@ returns g c =
     let slots = ap slot_of c.content.ensures ∙ (certified_on-is h (slot_of st) found there).1 in
     let same = same-test c.conflicts.result (stmt c.content.result.now) st slots c.conflicts.ensures
     ∙ ap (λ (x : Statement). same_statement x st) c.content.ensures in
-    let told = c.in_ok-extend_from_slice.ensures.items
+    let reported = c.in_ok-extend_from_slice.ensures.items
     ∙ ap (λ (w : List ℕ). c.args.out.now.items ++ w) (c.same_word.ensures ∙ ap same_word same) in
-    on_ok_weaker c.push_signers.result (certificate-told h st found (certified_on h (slot_of st)) _ c.args.out.now.items _ _ there told
+    on_ok_weaker c.push_signers.result (certificate-reported h st found (certified_on h (slot_of st)) _ c.args.out.now.items _ _ there reported
     (c.signers.ensures ∙ c.in-Some.ensures.signers)) c.push_signers.ensures

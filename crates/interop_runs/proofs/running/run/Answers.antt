@@ -14,7 +14,7 @@ returns g c =
     let coming = c.args.asked.now.coming.items in
     let count : c.len.result ≡ length coming = search rules in
     let waiting : c.len.result ≡ length (map ported coming) = count ∙ sym (length-map coming ported) in
-    let text = c.in_ok-push_end.ensures ∙ ap (λ (l : List ℕ). l ++ end_text c.len.result status after) c.new-told.ensures.items in
+    let text = c.in_ok-push_end.ensures ∙ ap (λ (l : List ℕ). l ++ end_text c.len.result status after) c.new-reported.ensures.items in
     record {
       before = before;
       after = after;
@@ -23,5 +23,5 @@ returns g c =
       ran = subst (λ (words : List (String Global)). g.P.Program.comes_to program words before after status) c.deref.ensures.value
           c.run-status.ensures;
       memory = λ e. omega (arith, e, c.if-status-eq-NO_MEMORY.false);
-      is_told = text ∙ ap (λ (n : ℕ). end_text n status after) waiting;
+      is_reported = text ∙ ap (λ (n : ℕ). end_text n status after) waiting;
     }

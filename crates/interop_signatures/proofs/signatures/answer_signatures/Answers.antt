@@ -7,22 +7,22 @@ pub returns-then-eq-clause-answers : goal.returns-then-eq-clause-answers
 returns-then-eq-clause-answers c =
     let words = begun c.args.words.now c.in-Some.words.now c.in-Some.verb.now _ _ c.in-Some.ensures.cases.0 c.if-eq.ensures
     c.as_slice.ensures in
-    subst (λ (ws : List (List ℕ)). IfOk c.verify.result (λ told. Answers ws told.items)) (sym words) c.verify.ensures.answers
+    subst (λ (ws : List (List ℕ)). IfOk c.verify.result (λ reported. Answers ws reported.items)) (sym words) c.verify.ensures.answers
 
 pub returns-then-eq-clause-no_question : goal.returns-then-eq-clause-no_question
-returns-then-eq-clause-no_question c = λ e told a.
+returns-then-eq-clause-no_question c = λ e reported a.
     let words = begun c.args.words.now c.in-Some.words.now c.in-Some.verb.now _ _ c.in-Some.ensures.cases.0 c.if-eq.ensures
     c.as_slice.ensures in
-    c.verify.ensures.no_question e told (subst (λ (ws : List (List ℕ)). Answers ws told) words a)
+    c.verify.ensures.no_question e reported (subst (λ (ws : List (List ℕ)). Answers ws reported) words a)
 
 pub returns-then-eq-2-clause-answers : goal.returns-then-eq-2-clause-answers
 returns-then-eq-2-clause-answers c =
     let words = begun c.args.words.now c.in-Some.words.now c.in-Some.verb.now _ _ c.in-Some.ensures.cases.0 c.if-eq-2.ensures
     c.as_slice-else-eq.ensures in
-    subst (λ (ws : List (List ℕ)). IfOk c.sign.result (λ told. Answers ws told.items)) (sym words) c.sign.ensures.answers
+    subst (λ (ws : List (List ℕ)). IfOk c.sign.result (λ reported. Answers ws reported.items)) (sym words) c.sign.ensures.answers
 
 pub returns-then-eq-2-clause-no_question : goal.returns-then-eq-2-clause-no_question
-returns-then-eq-2-clause-no_question c = λ e told a.
+returns-then-eq-2-clause-no_question c = λ e reported a.
     let words = begun c.args.words.now c.in-Some.words.now c.in-Some.verb.now _ _ c.in-Some.ensures.cases.0 c.if-eq-2.ensures
     c.as_slice-else-eq.ensures in
-    c.sign.ensures.no_question e told (subst (λ (ws : List (List ℕ)). Answers ws told) words a)
+    c.sign.ensures.no_question e reported (subst (λ (ws : List (List ℕ)). Answers ws reported) words a)

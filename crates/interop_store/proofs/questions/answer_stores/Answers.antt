@@ -7,34 +7,34 @@ pub returns-then-eq-clause-answers : goal.returns-then-eq-clause-answers
 returns-then-eq-clause-answers c =
     let words = begun c.args.words.now c.in-Some.words.now c.in-Some.verb.now _ _ c.in-Some.ensures.cases.0 c.if-eq.ensures
     c.as_slice.ensures in
-    subst (λ (ws : List (List ℕ)). IfOk c.apply.result (λ told. Answers ws told.items)) (sym words) c.apply.ensures.answers
+    subst (λ (ws : List (List ℕ)). IfOk c.apply.result (λ reported. Answers ws reported.items)) (sym words) c.apply.ensures.answers
 
 pub returns-then-eq-clause-no_question : goal.returns-then-eq-clause-no_question
-returns-then-eq-clause-no_question c = λ e told a.
+returns-then-eq-clause-no_question c = λ e reported a.
     let words = begun c.args.words.now c.in-Some.words.now c.in-Some.verb.now _ _ c.in-Some.ensures.cases.0 c.if-eq.ensures
     c.as_slice.ensures in
-    c.apply.ensures.no_question e told (subst (λ (ws : List (List ℕ)). Answers ws told) words a)
+    c.apply.ensures.no_question e reported (subst (λ (ws : List (List ℕ)). Answers ws reported) words a)
 
 pub returns-then-eq-2-clause-answers : goal.returns-then-eq-2-clause-answers
 returns-then-eq-2-clause-answers c =
     let words = begun c.args.words.now c.in-Some.words.now c.in-Some.verb.now _ _ c.in-Some.ensures.cases.0 c.if-eq-2.ensures
     c.as_slice-else-eq.ensures in
-    subst (λ (ws : List (List ℕ)). IfOk c.reply.result (λ told. Answers ws told.items)) (sym words) c.reply.ensures.answers
+    subst (λ (ws : List (List ℕ)). IfOk c.reply.result (λ reported. Answers ws reported.items)) (sym words) c.reply.ensures.answers
 
 pub returns-then-eq-2-clause-no_question : goal.returns-then-eq-2-clause-no_question
-returns-then-eq-2-clause-no_question c = λ e told a.
+returns-then-eq-2-clause-no_question c = λ e reported a.
     let words = begun c.args.words.now c.in-Some.words.now c.in-Some.verb.now _ _ c.in-Some.ensures.cases.0 c.if-eq-2.ensures
     c.as_slice-else-eq.ensures in
-    c.reply.ensures.no_question e told (subst (λ (ws : List (List ℕ)). Answers ws told) words a)
+    c.reply.ensures.no_question e reported (subst (λ (ws : List (List ℕ)). Answers ws reported) words a)
 
 pub returns-then-eq-3-clause-answers : goal.returns-then-eq-3-clause-answers
 returns-then-eq-3-clause-answers c =
     let words = begun c.args.words.now c.in-Some.words.now c.in-Some.verb.now _ _ c.in-Some.ensures.cases.0 c.if-eq-3.ensures
     c.as_slice-else-eq-2.ensures in
-    subst (λ (ws : List (List ℕ)). IfOk c.state.result (λ told. Answers ws told.items)) (sym words) c.state.ensures.answers
+    subst (λ (ws : List (List ℕ)). IfOk c.state.result (λ reported. Answers ws reported.items)) (sym words) c.state.ensures.answers
 
 pub returns-then-eq-3-clause-no_question : goal.returns-then-eq-3-clause-no_question
-returns-then-eq-3-clause-no_question c = λ e told a.
+returns-then-eq-3-clause-no_question c = λ e reported a.
     let words = begun c.args.words.now c.in-Some.words.now c.in-Some.verb.now _ _ c.in-Some.ensures.cases.0 c.if-eq-3.ensures
     c.as_slice-else-eq-2.ensures in
-    c.state.ensures.no_question e told (subst (λ (ws : List (List ℕ)). Answers ws told) words a)
+    c.state.ensures.no_question e reported (subst (λ (ws : List (List ℕ)). Answers ws reported) words a)

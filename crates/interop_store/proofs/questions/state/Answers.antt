@@ -7,10 +7,10 @@ use Rattle.interop_store.proofs.questions.state.Goals as goal
 pub returns-then-words-eq1-clause-answers : goal.returns-then-words-eq1-clause-answers
 returns-then-words-eq1-clause-answers c =
     let words = one (λ (w : Bor (List ℕ)). w.now) c.args.words.now _ c.if-words-eq1.true in
-    subst (λ (ws : List (List ℕ)). IfOk c.answer_on_state.result (λ told. Answers (codes "state" ∷ ws) told.items))
+    subst (λ (ws : List (List ℕ)). IfOk c.answer_on_state.result (λ reported. Answers (codes "state" ∷ ws) reported.items))
     (sym words) c.answer_on_state.ensures.answers
 
 pub returns-then-words-eq1-clause-no_question : goal.returns-then-words-eq1-clause-no_question
-returns-then-words-eq1-clause-no_question c = λ e told a.
+returns-then-words-eq1-clause-no_question c = λ e reported a.
     let words = one (λ (w : Bor (List ℕ)). w.now) c.args.words.now _ c.if-words-eq1.true in
-    c.answer_on_state.ensures.no_question e told (subst (λ (ws : List (List ℕ)). Answers (codes "state" ∷ ws) told) words a)
+    c.answer_on_state.ensures.no_question e reported (subst (λ (ws : List (List ℕ)). Answers (codes "state" ∷ ws) reported) words a)

@@ -1,7 +1,7 @@
 use Rattle.std.proofs.Common.{◌+◌, drop, sym, ◌∙◌, arith}
 use Rattle.std.proofs.lemmas.List.{at_drop_all}
 use Rattle.interop_store.specs.Telling.{payloads_in}
-use Rattle.interop_store.proofs.Applying.{first-left, stored-more, stored-none, told-more}
+use Rattle.interop_store.proofs.Applying.{first-left, stored-more, stored-none, reported-more}
 use Rattle.interop_store.proofs.requests.push_answers.Goals as goal
 
 pub loop-payload-preserved : goal.loop-payload-preserved
@@ -10,9 +10,9 @@ loop-payload-preserved c =
     let first = first-left c.args.payloads.now i c.payload-item.result c.deref.result.now c.loop-payload-test.true c.payload-item.is
     c.deref.ensures.value in
     record {
-      told = told-more c.loop-payload.store c.push_answer.new.store c.deref.result.now (payloads_in (drop i c.args.payloads.now))
+      reported = reported-more c.loop-payload.store c.push_answer.new.store c.deref.result.now (payloads_in (drop i c.args.payloads.now))
           (payloads_in (drop (i + 1) c.args.payloads.now)) first c.in_ok-push_answer.ensures.store c.loop-payload.out.items
-          c.push_answer.new.out.items c.in_ok-push_answer.ensures.told ∙ c.loop-payload.invariant.told;
+          c.push_answer.new.out.items c.in_ok-push_answer.ensures.reported ∙ c.loop-payload.invariant.reported;
       stored = stored-more c.loop-payload.store c.push_answer.new.store c.deref.result.now (payloads_in (drop i c.args.payloads.now))
           (payloads_in (drop (i + 1) c.args.payloads.now)) first c.in_ok-push_answer.ensures.store ∙ c.loop-payload.invariant.stored;
     }

@@ -6,7 +6,7 @@ use Rattle.interop_store.proofs.requests.push_answers.Given as goal
 -- with those that are left, all are carried out and told
 abbrev pub invariant-loop-payload : goal.invariant-loop-payload
 invariant-loop-payload l = record {
-  told : l.out.items ++ answer_words l.store (payloads_in (drop l.payload-index l.payloads))
+  reported : l.out.items ++ answer_words l.store (payloads_in (drop l.payload-index l.payloads))
       ≡ l.fn.out.items ++ answer_words l.fn.store (payloads_in l.payloads);
   stored : store_after l.store (payloads_in (drop l.payload-index l.payloads)) ≡ store_after l.fn.store (payloads_in l.payloads);
 }

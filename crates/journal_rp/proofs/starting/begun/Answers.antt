@@ -3,7 +3,7 @@ use Rattle.journal_defs.specs.declared.Version.TheVariants.{Two}
 use Rattle.journal_defs.specs.Journals.{header_bytes}
 use Rattle.journal_disk.specs.Disks.{HasRest}
 use Rattle.journal_rp.specs.Headers.{header as header_of}
-use Rattle.journal_rp.proofs.OnTold.{is_empty}
+use Rattle.journal_rp.proofs.OnReported.{is_empty}
 use Rattle.journal_rp.proofs.starting.begun.Goals as goal
 
 pub returns-clause-ok : goal.returns-clause-ok

@@ -1,5 +1,5 @@
 use Rattle.journal_rp.specs.Headers.{header as header_of}
-use Rattle.journal_rp.proofs.OnTold.{short_none, journal_there, first_there, other_none}
+use Rattle.journal_rp.proofs.OnReported.{short_none, journal_there, first_there, other_none}
 use Rattle.journal_rp.proofs.starting.opened.Goals as goal
 
 pub returns-then-len-le-FIRST_GATE-clause-refused : goal.returns-then-len-le-FIRST_GATE-clause-refused

@@ -4,4 +4,4 @@ use Rattle.kit_defs.specs.KitReading.{line_by}
 use Rattle.kit_reading.proofs.taking.said_by.Goals as goal
 
 pub returns-clause-said : goal.returns-clause-said
-returns-clause-said c = c.line_by.ensures ∙ ap (λ m. line_by m (parts_left c.args.words)) c.told.ensures.value
+returns-clause-said c = c.line_by.ensures ∙ ap (λ m. line_by m (parts_left c.args.words)) c.reported.ensures.value

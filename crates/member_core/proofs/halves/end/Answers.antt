@@ -19,5 +19,5 @@ returns-clause-ends c s p is =
       sends = sent;
       notes = c.in_ok-tell.ensures s q settled ∙ ap
           (λ ns. ns ++ liars_from c.args.pairs q.conflicts ++ note_if c.args.outcome.now.spent Spent ++ halts q)
-          (c.in_ok-settle.ensures.told s p is);
+          (c.in_ok-settle.ensures.reported s p is);
     }) (c.send_answers.ensures.sent s q settled)

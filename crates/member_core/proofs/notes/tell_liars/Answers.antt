@@ -5,7 +5,7 @@ use Rattle.stmt_codec.specs.declared.events.Note.{Note}
 use Rattle.stmt_codec.specs.declared.events.Note.TheVariants.{Liar}
 use Rattle.member_signing.specs.States.{note}
 use Rattle.member_core.specs.Outcomes.{liars_from}
-use Rattle.member_core.proofs.Liars.{liar-told, none-told}
+use Rattle.member_core.proofs.Liars.{liar-reported, none-reported}
 use Rattle.member_core.proofs.notes.tell_liars.Goals as goal
 use Rattle.member_core.proofs.notes.tell_liars.Goals.{in-Some+in_ok-push, in_default}
 
@@ -14,11 +14,11 @@ pairs-preserved c =
     elim c.match-other_at.branch [
       | in-Some+in_ok-push w ↦
           ap (λ (v : Vec Note Global). map note v.items ++ liars_from (c.pairs.place + 1) c.args.conflicts.now.pairs) w.notes-is
-          ∙ liar-told c.args.conflicts.now.pairs c.pairs.place (claim w.in-Some.other) (map note c.pairs.notes.items)
+          ∙ liar-reported c.args.conflicts.now.pairs c.pairs.place (claim w.in-Some.other) (map note c.pairs.notes.items)
           (map note w.push.new.self.items) _ w.in-Some.ensures
           (ap (map note) w.in_ok-push.ensures.items ∙ map-append note c.pairs.notes.items
           (Liar w.in-Some.other.signer ∷ [])) c.pairs.invariant
       | in_default w ↦
           ap (λ (v : Vec Note Global). map note v.items ++ liars_from (c.pairs.place + 1) c.args.conflicts.now.pairs) w.notes-is
-          ∙ none-told c.args.conflicts.now.pairs c.pairs.place (map note c.pairs.notes.items) _ w.in_default.ensures c.pairs.invariant
+          ∙ none-reported c.args.conflicts.now.pairs c.pairs.place (map note c.pairs.notes.items) _ w.in_default.ensures c.pairs.invariant
     ]

@@ -6,8 +6,8 @@ use Rattle.image_defs.specs.Images.{process_of, view_behind}
 use Rattle.image_defs.specs.Kept.{AreLeft, IsKept}
 use Rattle.restored_present.specs.Left.{HasPast, IsLeftSo, StandByPlace, installed_from}
 use Rattle.snapshot_rp.specs.Views.{delivered, left_view, image as image_as}
-use Rattle.restored_present.specs.Parts.{HasPresent, IsPresentSo, IsToldSo}
-use Rattle.member_restoring.proofs.Kept.{left-so, present-so, stand-so, told-so}
+use Rattle.restored_present.specs.Parts.{HasPresent, IsPresentSo, IsReportedSo}
+use Rattle.member_restoring.proofs.Kept.{left-so, present-so, stand-so, reported-so}
 use Rattle.member_restoring.proofs.Outcomes.{none-so, some-so}
 use Rattle.member_restoring.proofs.Begun.{kept-so, of-so, own-so}
 use Rattle.member_restoring.proofs.Whole.{pairs-are, state-is}
@@ -35,16 +35,16 @@ returns-in_default-clause-exact g c s judges = (
       (left-so s (image_as c.args.image) c.requires.spelled.lists kept)),
 )
 
-pub returns-then-not-is_told-clause-exact : goal.returns-then-not-is_told-clause-exact
-returns-then-not-is_told-clause-exact g c s judges = (
+pub returns-then-not-is_reported-clause-exact : goal.returns-then-not-is_reported-clause-exact
+returns-then-not-is_reported-clause-exact g c s judges = (
   λ no_way. absurd cc,
   λ kept. absurd (let image = image_as c.args.image in
       let here : c.in-Some.left.view ≡ view_behind c.args.genesis image.left
       = (subst (λ o. IfSome o (λ l. (l.view ≡ view_behind c.args.genesis image.left) × HasPast s image l.archive)) c.in-Some.is
       (c.in_ok-left.ensures.past s judges)).0 in
-      let told = subst (λ (v : View). IsToldSo s v image) (sym (here ∙ ap (λ (v : View). view_behind v image.left) (sym judges.genesis_is)))
-      (told-so s image c.requires.spelled.lists kept) in
-      clash ((c.is_told.ensures s judges.shares).1 told) c.if-not-is_told.true),
+      let reported = subst (λ (v : View). IsReportedSo s v image) (sym (here ∙ ap (λ (v : View). view_behind v image.left) (sym judges.genesis_is)))
+      (reported-so s image c.requires.spelled.lists kept) in
+      clash ((c.is_reported.ensures s judges.shares).1 reported) c.if-not-is_reported.true),
 )
 
 pub present_after-requires-clause-placed : goal.present_after-requires-clause-placed
@@ -78,12 +78,12 @@ returns-clause-exact g c s judges =
     let l = subst (λ o. IfSome o (λ l. (l.view ≡ view_behind c.args.genesis image.left) × HasPast s image l.archive)) c.in-Some.is
     (c.in_ok-left.ensures.past s judges) in
     let left = some-so _ c.in-Some.left (IsLeftSo s image) c.in-Some.is (c.in_ok-left.ensures.exact s judges) in
-    let told = (c.is_told.ensures s judges.shares).0 c.if-not-is_told.false in
+    let reported = (c.is_reported.ensures s judges.shares).0 c.if-not-is_reported.false in
     let present = some-so _ c.in-Some-2.present (IsPresentSo s (process_of s 1 image)) c.in-Some-2.is (c.in_ok-present.ensures.exact s judges.shares
     (l.0 ∙ ap (λ (v : View). view_behind v image.left) (sym judges.genesis_is))) in
     let placed = subst (λ lists. StandByPlace (map (λ es. map delivered es.items) lists)) c.deref.ensures.value
     (c.stand_by_place.ensures.0 c.if-not-stand_by_place.false) in
-    let kept : IsKept s image = kept-so s image c.args.genesis judges.genesis_is c.requires.spelled.lists placed left c.in-Some.left.view l.0 told present in
+    let kept : IsKept s image = kept-so s image c.args.genesis judges.genesis_is c.requires.spelled.lists placed left c.in-Some.left.view l.0 reported present in
     (λ some. kept, λ so. refl)
 
 pub returns-clause-is : goal.returns-clause-is
@@ -95,14 +95,14 @@ returns-clause-is g c s judges =
     let behind : c.in-Some.left.view ≡ view_behind s.genesis image.left
     = l.0 ∙ ap (λ (v : View). view_behind v image.left) (sym judges.genesis_is) in
     let left = some-so _ c.in-Some.left (IsLeftSo s image) c.in-Some.is (c.in_ok-left.ensures.exact s judges) in
-    let told = (c.is_told.ensures s judges.shares).0 c.if-not-is_told.false in
+    let reported = (c.is_reported.ensures s judges.shares).0 c.if-not-is_reported.false in
     let present = some-so _ c.in-Some-2.present (IsPresentSo s (process_of s 1 image)) c.in-Some-2.is
     (c.in_ok-present.ensures.exact s judges.shares behind) in
     let placed = subst (λ lists. StandByPlace (map (λ es. map delivered es.items) lists)) c.deref.ensures.value
     (c.stand_by_place.ensures.0 c.if-not-stand_by_place.false) in
-    let kept : IsKept s image = kept-so s image c.args.genesis judges.genesis_is c.requires.spelled.lists placed left c.in-Some.left.view l.0 told present in
+    let kept : IsKept s image = kept-so s image c.args.genesis judges.genesis_is c.requires.spelled.lists placed left c.in-Some.left.view l.0 reported present in
     let now = subst (λ o. IfSome o (λ now. HasPresent s p now.own now.pool.pool now.phase)) c.in-Some-2.is
-    (c.in_ok-present.ensures.is s c.args.batch_limit judges.shares behind present (own-so s c.in-Some.left.view image told)) in
+    (c.in_ok-present.ensures.is s c.args.batch_limit judges.shares behind present (own-so s c.in-Some.left.view image reported)) in
     let views = subst (λ ls. c.in-Some-3.views.items ≡ installed_from c.args.genesis (map left_view ls)) c.deref-2.ensures.value
     (subst (λ o. IfSome o (λ vs. vs.items ≡ installed_from c.args.genesis (map left_view c.deref-2.result.now))) c.in-Some-3.is
     c.in_ok-views.ensures.views) in

@@ -12,7 +12,7 @@ returns-in-Some-clause-puts c = λ ds e before last is.
     (λ put. record {
       delivered = put-last (λ (ds : Vec Delivered Global). map accounts.delivery ds.items) c.args.lists.now.items _ c.in-Some.delivered.now
           _ before last ds (omega (arith, c.args.lists.now.ok.0, c.in-Some.ensures.variant.0 refl)) c.in-Some.ensures.value put.delivered is;
-      told = put.told;
+      reported = put.reported;
     })
     (c.put_messages.ensures.puts ds (ap (delivery c.args.pool.now.pool c.args.place) c.messages.ensures.list ∙ e))
 

@@ -1,5 +1,5 @@
 use Rattle.std.proofs.Common.{drop}
-use Rattle.member_settling.specs.Told.{HasMore}
+use Rattle.member_settling.specs.Reported.{HasMore}
 use Rattle.member_settling.proofs.Putting.{ArePutting}
 use Rattle.member_settling.proofs.delivering.put_messages.Given as goal
 

@@ -16,7 +16,7 @@ use Rattle.member_state.specs.declared.state.ProcessState.{ProcessState}
 use Rattle.member_state.specs.States.{claims_of}
 use Rattle.member_state.proofs.Ranges.{claims-once}
 use Rattle.member_settling.specs.Steps.{in_phase}
-use Rattle.member_settling.proofs.Begun.{HasBegun, installs-state, installs-told, mine-is}
+use Rattle.member_settling.proofs.Begun.{HasBegun, installs-state, installs-reported, mine-is}
 use Rattle.member_settling.proofs.Lists.{one-more}
 use Rattle.member_settling.proofs.Marked.{since-here, since-left, stays-same}
 use Rattle.member_settling.proofs.Real.{before, certified, order, ranged, short-last}
@@ -83,7 +83,7 @@ returns-clause-leaves c = λ s p leaving is.
       state = installs-state s p (decision_of c.args.decision) c.args.state.now c.begin.new.state c.args.view
           c.own_delivered-mine.result leaving is
           (mine-is s p old c.own_delivered-mine.result leaving.state c.own_delivered-mine.ensures) begun;
-      told = installs-told p (decision_of c.args.decision) c.args.view c.args.notes.now.items c.push.new.self.items c.installed.result
+      reported = installs-reported p (decision_of c.args.decision) c.args.view c.args.notes.now.items c.push.new.self.items c.installed.result
           c.in_ok-push.ensures.items c.installed.ensures is;
     }
 

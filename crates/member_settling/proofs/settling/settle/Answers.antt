@@ -5,7 +5,7 @@ use Rattle.std.proofs.Props.{props}
 use Rattle.group_defs.specs.Settle.{decide, deliver, leave, settle}
 use Rattle.member_settling.proofs.Deliveries.{delivers-left}
 use Rattle.member_settling.proofs.Marked.{since-here}
-use Rattle.member_settling.proofs.Staying.{all-told}
+use Rattle.member_settling.proofs.Staying.{all-reported}
 use Rattle.member_settling.proofs.settling.settle.Goals as goal
 
 pub deliver-requires : goal.deliver-requires
@@ -40,13 +40,13 @@ returns-clause-settles c = λ s p ok.
     on_ok_weaker c.leave.result (λ left. left.state)
     (c.leave.ensures.leaves s (deliver (decide s p)) (c.in_ok-deliver.ensures.delivers s (decide s p) (c.decide.ensures.decides s p ok)).state)
 
-pub returns-clause-told : goal.returns-clause-told
+pub returns-clause-reported : goal.returns-clause-reported
 unfolding settle
-returns-clause-told c = λ s p ok.
+returns-clause-reported c = λ s p ok.
     let delivered = c.in_ok-deliver.ensures.delivers s (decide s p) (c.decide.ensures.decides s p ok) in
-    on_ok_weaker c.leave.result (λ left. all-told (decide s p) (deliver (decide s p))
-    (leave (deliver (decide s p))) c.args.notes.now.items c.deliver.new.notes.items c.leave.new.notes.items delivered.told
-    (delivers-left (decide s p)) left.told)
+    on_ok_weaker c.leave.result (λ left. all-reported (decide s p) (deliver (decide s p))
+    (leave (deliver (decide s p))) c.args.notes.now.items c.deliver.new.notes.items c.leave.new.notes.items delivered.reported
+    (delivers-left (decide s p)) left.reported)
     (c.leave.ensures.leaves s (deliver (decide s p)) delivered.state)
 
 pub returns-clause-real : goal.returns-clause-real

@@ -6,7 +6,7 @@ use Rattle.stmt_codec.specs.Views.{stmt}
 use Rattle.view_phases.specs.Phases.{IsIn}
 use Rattle.view_phases.specs.declared.phases.Phase.{Phase}
 use Rattle.member_signing.specs.Signed.{IsUndecided}
-use Rattle.member_signing.proofs.Open.{end-told, not-end, other-stays}
+use Rattle.member_signing.proofs.Open.{end-reported, not-end, other-stays}
 use Rattle.member_signing.proofs.putting.close.Goals as goal
 
 pub closed-requires : goal.closed-requires
@@ -18,9 +18,9 @@ returns-in_default-clause-closes c s signer p may is = other-stays c.args.phase.
 
 pub returns-clause-closes : goal.returns-clause-closes
 returns-clause-closes c s signer p may is =
-    let told = end-told (stmt c.args.statement.now) c.in-Some.length c.in-Some.ensures in
-    let may' = subst (λ (st : Statement). may_sign s p st ≡ true) told may in
+    let reported = end-reported (stmt c.args.statement.now) c.in-Some.length c.in-Some.ensures in
+    let may' = subst (λ (st : Statement). may_sign s p st ≡ true) reported may in
     let phase : Phase = c.closed.result in
     let before = subst (λ (was : Phase). IsIn was p) (sym c.take.ensures) is in
-    subst (λ (st : Statement). IsIn phase (signs s signer p st)) (sym told)
+    subst (λ (st : Statement). IsIn phase (signs s signer p st)) (sym reported)
     (c.closed.ensures.closes s signer p (view_of (stmt c.args.statement.now)) may' before)

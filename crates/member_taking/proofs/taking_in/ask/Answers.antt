@@ -30,4 +30,4 @@ returns-clause-asked c s p is =
       perceived = put perceived_numbers (x, update_of c.args.update.now)
           (account_of c.args.state.now.account).perceived;
     }) (c.number.ensures.value ∙ ap (λ v. v.number) c.view.ensures)))
-    c.tell_perceived.ensures.told
+    c.tell_perceived.ensures.reported

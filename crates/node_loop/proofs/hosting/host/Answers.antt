@@ -3,7 +3,7 @@ use Rattle.node_traces.specs.Seen.{link_seen, sink_seen, source_seen}
 use Rattle.node_script.specs.Words.{stop as stop_of}
 use Rattle.node_loop.proofs.Causes.{counted}
 use Rattle.node_loop.proofs.Complete.{each-status}
-use Rattle.node_loop.proofs.Ending.{ends-bound, ends-fine, ends-read, ends-steady, ends-unread, ends-untold, ends-written, told-in-order}
+use Rattle.node_loop.proofs.Ending.{ends-bound, ends-fine, ends-read, ends-steady, ends-unread, ends-untold, ends-written, reported-in-order}
 use Rattle.node_loop.proofs.Statuses.{disk-by, no-disk-by, rose-by-disk, still-by-disk}
 use Rattle.node_loop.proofs.hosting.host.Goals as goal
 
@@ -140,7 +140,7 @@ returns-clause-completes g c =
     c.run-stop.new.disk begun.history run.history why run.holds in
     λ order. ends-fine why c.tell.result k.faults faults s t u l m counts c.tell.ensures
     (g.D.Disk.faults c.args.disk.now) (g.D.Disk.faults c.run-stop.new.disk) c.run-stop.ensures.cause
-    (told-in-order g.D.Disk.seen g.D.Disk.may_leave g.D.Disk.moment g.D.Disk.left_since _ fresh k l s c.args.disk.now left faults m t
+    (reported-in-order g.D.Disk.seen g.D.Disk.may_leave g.D.Disk.moment g.D.Disk.left_since _ fresh k l s c.args.disk.now left faults m t
     c.run-stop.new.disk begun.history run.history why run.holds order)
 
 pub returns-clause-kept : goal.returns-clause-kept

@@ -20,12 +20,12 @@ run_script-requires g c =
 
 pub returns-in-Ok-clause-stops : goal.returns-in-Ok-clause-stops
 returns-in-Ok-clause-stops g c = λ f k l h has kit seen.
-    let told = is_some (g.D.Disk.seen c.args.disk.now) in
-    let snap = snapper told (cast_in c.in-Ok.running) in
+    let reported = is_some (g.D.Disk.seen c.args.disk.now) in
+    let snap = snapper reported (cast_in c.in-Ok.running) in
     let most = c.most_of_line-most.result in
     let on = c.in-Ok.ensures.opens snap most c.args.go l h has in
     let opened = on.holds in
-    let ends = c.run_script.ensures.ends told f l on.history opened.node (λ some. opened.tells some) on.has seen opened.is opened.read opened.script in
+    let ends = c.run_script.ensures.ends reported f l on.history opened.node (λ some. opened.tells some) on.has seen opened.is opened.read opened.script in
     at-limit g.D.Disk.seen g.D.Disk.may_leave g.D.Disk.moment g.D.Disk.left_since f k
     (link_seen g.L.Link.sent g.L.Link.coming g.L.Link.faults c.args.link.now)
     (link_seen g.L.Link.sent g.L.Link.coming g.L.Link.faults c.run_script.new.link)

@@ -12,6 +12,6 @@ use Rattle.node_opening.proofs.greeting.host_lines.Given as goal
 abbrev pub invariant-hosts : goal.invariant-hosts
 invariant-hosts l = record {
   among : IsAmong (numbers_of l.hosts) (pids_left l.p-iterator);
-  told : (c : Cast) (kit : Kit) (now : ℕ → Process) → AreHosts c kit now None l.hosts
+  reported : (c : Cast) (kit : Kit) (now : ℕ → Process) → AreHosts c kit now None l.hosts
       → l.text.items ++ lines_of now l.counts (pids_left l.p-iterator) ≡ lines_of now l.counts (numbers_of l.hosts);
 }

@@ -99,23 +99,23 @@ returns-in-Ok-clause-opens g c = λ snap most lines source h has.
     let es = journal.all.entries in
     let read = journal.all.read in
     let n = node_after cast lines es in
-    let told = c.in_ok-present.ensures.presents v snap most (opens cast (from_start cast) lines es) source h read.hosts_are has
+    let reported = c.in_ok-present.ensures.presents v snap most (opens cast (from_start cast) lines es) source h read.hosts_are has
     (to-open cast kit lines (g.D.Disk.seen c.read_journal.new.disk) es gate c.in_ok-readers.readers.hosts
     c.in_ok-readers.readers.counts read c.as_slice.result.now
     (c.as_slice.ensures.value ∙ c.in_ok-greeting.ensures cast kit n.now read.hosts_are)) in
     record {
-      history = told.history;
-      has = told.has;
+      history = reported.history;
+      has = reported.has;
       holds = opened _ snap most lines (g.D.Disk.seen c.args.disk.now) (g.D.Disk.seen c.read_journal.new.disk) (g.D.Disk.seen c.finish.new.disk)
           (g.D.Disk.may_leave c.finish.new.disk)
           (outside (link_seen g.L.Link.sent g.L.Link.coming g.L.Link.faults c.args.link.now)
           (sink_seen g.K.Sink.written g.K.Sink.faults c.args.output.now) source h)
           (outside (link_seen g.L.Link.sent g.L.Link.coming g.L.Link.faults c.present.new.link)
-          (sink_seen g.K.Sink.written g.K.Sink.faults c.present.new.output) source told.history)
+          (sink_seen g.K.Sink.written g.K.Sink.faults c.present.new.output) source reported.history)
           (λ p. subst (λ (k : ℕ). count_in c.in_ok-readers.readers.counts p < k) (sym c.in-Ok.ensures.place.0) (c.in_ok-readers.ensures.few p))
           c.in-Ok.ensures.untold c.in-Ok.ensures.length c.in_ok-readers.ensures.tells v gate
           c.in-Ok.ensures.place.1 c.in-Ok.ensures.place.0 c.in-Ok.ensures.ok
-          (record { all = journal.all; holds = journal.holds; goes = told.holds });
+          (record { all = journal.all; holds = journal.holds; goes = reported.holds });
     }
 
 pub returns-in-Ok-clause-moments : goal.returns-in-Ok-clause-moments
@@ -125,8 +125,8 @@ returns-in-Ok-clause-moments g c = λ v es some stands.
     finish-moments g.D.Disk.seen g.D.Disk.may_leave g.D.Disk.moment g.D.Disk.left_since c.args.kit.now v es c.args.disk.now
     (g.D.Disk.reads_image c.args.disk.now) some stands c.read_journal.new.disk c.finish.new.disk c.read_journal.ensures.only_read w
     (gate_of c.in_ok-readers.readers.journal) journal.all.entries
-    (λ told. ends-at (g.D.Disk.seen c.read_journal.new.disk) (cast_of c.args.kit.now w).header journal.all.entries
-    (gate_of c.in_ok-readers.readers.journal) told journal.all.read.stands journal.all.closed) c.finish.ensures.any_moment
+    (λ reported. ends-at (g.D.Disk.seen c.read_journal.new.disk) (cast_of c.args.kit.now w).header journal.all.entries
+    (gate_of c.in_ok-readers.readers.journal) reported journal.all.read.stands journal.all.closed) c.finish.ensures.any_moment
 
 pub returns-in-Ok-clause-stands : goal.returns-in-Ok-clause-stands
 returns-in-Ok-clause-stands g c = λ v es some stands.
@@ -135,8 +135,8 @@ returns-in-Ok-clause-stands g c = λ v es some stands.
     finish-stands g.D.Disk.seen g.D.Disk.may_leave g.D.Disk.moment g.D.Disk.left_since c.args.kit.now v es c.args.disk.now
     (g.D.Disk.reads_image c.args.disk.now) some stands c.read_journal.new.disk c.finish.new.disk c.read_journal.ensures.only_read w
     (gate_of c.in_ok-readers.readers.journal) journal.all.entries
-    (λ told. ends-at (g.D.Disk.seen c.read_journal.new.disk) (cast_of c.args.kit.now w).header journal.all.entries
-    (gate_of c.in_ok-readers.readers.journal) told journal.all.read.stands journal.all.closed) c.finish.ensures.stands
+    (λ reported. ends-at (g.D.Disk.seen c.read_journal.new.disk) (cast_of c.args.kit.now w).header journal.all.entries
+    (gate_of c.in_ok-readers.readers.journal) reported journal.all.read.stands journal.all.closed) c.finish.ensures.stands
 
 pub returns-clause-stops : goal.returns-clause-stops
 returns-clause-stops g c = λ snap most lines source h has.
@@ -147,22 +147,22 @@ returns-clause-stops g c = λ snap most lines source h has.
     let es = journal.all.entries in
     let read = journal.all.read in
     let n = node_after cast lines es in
-    let told = c.in_ok-present.ensures.presents v snap most (opens cast (from_start cast) lines es) source h read.hosts_are has
+    let reported = c.in_ok-present.ensures.presents v snap most (opens cast (from_start cast) lines es) source h read.hosts_are has
     (to-open cast kit lines (g.D.Disk.seen c.read_journal.new.disk) es (gate_of c.in_ok-readers.readers.journal)
     c.in_ok-readers.readers.hosts c.in_ok-readers.readers.counts read c.as_slice.result.now
     (c.as_slice.ensures.value ∙ c.in_ok-greeting.ensures cast kit n.now read.hosts_are)) in
     let x = outside (link_seen g.L.Link.sent g.L.Link.coming g.L.Link.faults c.args.link.now)
     (sink_seen g.K.Sink.written g.K.Sink.faults c.args.output.now) source h in
     let y = outside (link_seen g.L.Link.sent g.L.Link.coming g.L.Link.faults c.present.new.link)
-    (sink_seen g.K.Sink.written g.K.Sink.faults c.present.new.output) source told.history in
+    (sink_seen g.K.Sink.written g.K.Sink.faults c.present.new.output) source reported.history in
     record {
-      history = told.history;
-      has = told.has;
+      history = reported.history;
+      has = reported.has;
       holds = subst (Unopened kit snap most lines (g.D.Disk.seen c.args.disk.now) x y)
           (sym (c.stop_at.ensures ∙ by-disk (Journal Writing) (g.D.Disk.faults c.read_journal.new.disk) (g.D.Disk.faults c.finish.new.disk)
           c.in-Err.fault c.in-Err.ensures.cause))
           (opening DiskFailed v es journal.holds
-          (not-finished cast snap most (opens cast (from_start cast) lines es) x y read.runs told.holds));
+          (not-finished cast snap most (opens cast (from_start cast) lines es) x y read.runs reported.holds));
     }
 
 pub returns-clause-moments : goal.returns-clause-moments
@@ -172,8 +172,8 @@ returns-clause-moments g c = λ v es some stands.
     finish-moments g.D.Disk.seen g.D.Disk.may_leave g.D.Disk.moment g.D.Disk.left_since c.args.kit.now v es c.args.disk.now
     (g.D.Disk.reads_image c.args.disk.now) some stands c.read_journal.new.disk c.finish.new.disk c.read_journal.ensures.only_read w
     (gate_of c.in_ok-readers.readers.journal) journal.all.entries
-    (λ told. ends-at (g.D.Disk.seen c.read_journal.new.disk) (cast_of c.args.kit.now w).header journal.all.entries
-    (gate_of c.in_ok-readers.readers.journal) told journal.all.read.stands journal.all.closed) c.finish.ensures.any_moment
+    (λ reported. ends-at (g.D.Disk.seen c.read_journal.new.disk) (cast_of c.args.kit.now w).header journal.all.entries
+    (gate_of c.in_ok-readers.readers.journal) reported journal.all.read.stands journal.all.closed) c.finish.ensures.any_moment
 
 pub returns-clause-stands : goal.returns-clause-stands
 returns-clause-stands g c = λ v es some stands.
@@ -182,8 +182,8 @@ returns-clause-stands g c = λ v es some stands.
     finish-stands g.D.Disk.seen g.D.Disk.may_leave g.D.Disk.moment g.D.Disk.left_since c.args.kit.now v es c.args.disk.now
     (g.D.Disk.reads_image c.args.disk.now) some stands c.read_journal.new.disk c.finish.new.disk c.read_journal.ensures.only_read w
     (gate_of c.in_ok-readers.readers.journal) journal.all.entries
-    (λ told. ends-at (g.D.Disk.seen c.read_journal.new.disk) (cast_of c.args.kit.now w).header journal.all.entries
-    (gate_of c.in_ok-readers.readers.journal) told journal.all.read.stands journal.all.closed) c.finish.ensures.stands
+    (λ reported. ends-at (g.D.Disk.seen c.read_journal.new.disk) (cast_of c.args.kit.now w).header journal.all.entries
+    (gate_of c.in_ok-readers.readers.journal) reported journal.all.read.stands journal.all.closed) c.finish.ensures.stands
 
 pub finish-requires-clause-ended : goal.finish-requires-clause-ended
 finish-requires-clause-ended g c = (c.in_ok-readers.ensures.reads 0).all.closed

@@ -6,7 +6,7 @@ use Rattle.node_traces.specs.Seen.{link_seen, sink_seen}
 use Rattle.opening_laws.specs.Opening.{left_to_open}
 use Rattle.node_service.specs.Hosts.{numbers_of}
 use Rattle.node_service.specs.Lines.{stop}
-use Rattle.node_opening.proofs.Presented.{not-bound, not-told, presents, presents-part}
+use Rattle.node_opening.proofs.Presented.{not-bound, not-reported, presents, presents-part}
 use Rattle.node_opening.proofs.presenting.present.Goals as goal
 
 pub returns-in-Ok-write_all-clause-presents : goal.returns-in-Ok-write_all-clause-presents
@@ -39,7 +39,7 @@ pub returns-in-Err-write_all-clause-stops : goal.returns-in-Err-write_all-clause
 returns-in-Err-write_all-clause-stops g c = λ v snap most n source h are has ready. record {
   history = h;
   has = has;
-  holds = not-told (cast_of c.args.kit.now v) snap most n source h (numbers_of c.args.hosts.now) c.args.greeting.now are.numbers ready
+  holds = not-reported (cast_of c.args.kit.now v) snap most n source h (numbers_of c.args.hosts.now) c.args.greeting.now are.numbers ready
       (link_seen g.L.Link.sent g.L.Link.coming g.L.Link.faults c.args.link.now)
       (link_seen g.L.Link.sent g.L.Link.coming g.L.Link.faults c.bind_all.new.link)
       (sink_seen g.K.Sink.written g.K.Sink.faults c.args.output.now) (sink_seen g.K.Sink.written g.K.Sink.faults c.write_all.new.output)

@@ -13,20 +13,20 @@ use Rattle.node_script.proofs.Ending.{asked-none, forgets-here, not-all, untold,
 use Rattle.node_script.proofs.reading.next_line.Goals as goal
 
 pub returns-in_err-number-clause-stops : goal.returns-in_err-number-clause-stops
-returns-in_err-number-clause-stops g c = λ told f k h n some has seen is lines script.
+returns-in_err-number-clause-stops g c = λ reported f k h n some has seen is lines script.
     let p = err_from_is_err_and c.from_residual.result c.from_residual.ensures.1 in
     rw (p.1, p.2) (record {
       history = h;
       has = has;
       holds = forgets-here g.D.Disk.seen g.D.Disk.may_leave g.D.Disk.moment g.D.Disk.left_since
-          (λ d image left. g.D.Disk.only_now d image left) (snapper told) c.args.most f c.args.lines.now.ahead (g.S.Source.left c.args.input.now)
+          (λ d image left. g.D.Disk.only_now d image left) (snapper reported) c.args.most f c.args.lines.now.ahead (g.S.Source.left c.args.input.now)
           (g.S.Source.faults c.args.input.now) c.args.running n
           (link_seen g.L.Link.sent g.L.Link.coming g.L.Link.faults c.args.link.now)
           (sink_seen g.K.Sink.written g.K.Sink.faults c.args.output.now) k h c.args.disk.now is seen;
     })
 
 pub returns-in_err-said-clause-stops : goal.returns-in_err-said-clause-stops
-returns-in_err-said-clause-stops g c = λ told f k h n some has seen is lines script.
+returns-in_err-said-clause-stops g c = λ reported f k h n some has seen is lines script.
     let p = err_from_is_err_and c.from_residual-in_err-said.result c.from_residual-in_err-said.ensures.1 in
     let none = c.in_err-said.ensures.none k seen in
     rw (p.1, p.2) (record {
@@ -35,7 +35,7 @@ returns-in_err-said-clause-stops g c = λ told f k h n some has seen is lines sc
       holds = (
         none.0,
         asked-none g.D.Disk.seen g.D.Disk.may_leave g.D.Disk.moment g.D.Disk.left_since (λ d image left. g.D.Disk.only_now d image left)
-            (snapper told) c.args.most f none.0
+            (snapper reported) c.args.most f none.0
             (g.S.Source.left c.read_next.new.input) (g.S.Source.faults c.read_next.new.input) c.args.running n
             (link_seen g.L.Link.sent g.L.Link.coming g.L.Link.faults c.args.link.now)
             (sink_seen g.K.Sink.written g.K.Sink.faults c.args.output.now) k h c.args.disk.now is c.numbers.result c.in_ok-number.number
@@ -57,35 +57,35 @@ carry_out-requires-clause-asks g c =
     (subst (λ (line : List ℕ). IsFor c.numbers.result line (line_of c.in_ok-said.said)) (sym c.line.ensures) c.in_ok-said.ensures.within)
 
 pub returns-clause-goes_on : goal.returns-clause-goes_on
-returns-clause-goes_on g c = λ told f k h n some has seen is lines script.
+returns-clause-goes_on g c = λ reported f k h n some has seen is lines script.
     let ahead = c.read_next.new.lines.ahead in
     let left = g.S.Source.left c.read_next.new.input in
     let faults = g.S.Source.faults c.read_next.new.input in
     let way = subst (λ (line : List ℕ). SeenAs (λ o. Asks c.args.most c.numbers.result k o line (line_of c.in_ok-said.said)) ahead left faults)
     (sym c.line.ensures) (c.in_ok-said.ensures.asks k seen) in
     line-result g.D.Disk.seen g.D.Disk.may_leave g.D.Disk.moment g.D.Disk.left_since (λ d image left. g.D.Disk.only_now d image left)
-    (snapper told (cast_in c.args.running)) c.args.most f c.args.running n
+    (snapper reported (cast_in c.args.running)) c.args.most f c.args.running n
     (link_seen g.L.Link.sent g.L.Link.coming g.L.Link.faults c.args.link.now)
     (link_seen g.L.Link.sent g.L.Link.coming g.L.Link.faults c.carry_out.new.link)
     (sink_seen g.K.Sink.written g.K.Sink.faults c.args.output.now) (sink_seen g.K.Sink.written g.K.Sink.faults c.carry_out.new.output) k h
     c.args.disk.now c.carry_out.new.disk c.numbers.result c.in_ok-number.number c.line.result.now (line_of c.in_ok-said.said) ahead left faults is
     c.numbers.ensures (not-all c.args.count n.script c.requires.few script) (omega (arith, c.in_ok-number.ensures, lines)) way
     g.V.Service.heard c.carry_out.new.service c.carry_out.result
-    (λ o w at number. c.carry_out.ensures.goes_on told c.args.most f o h w some has at number)
+    (λ o w at number. c.carry_out.ensures.goes_on reported c.args.most f o h w some has at number)
 
 pub returns-clause-stops : goal.returns-clause-stops
-returns-clause-stops g c = λ told f k h n some has seen is lines script.
+returns-clause-stops g c = λ reported f k h n some has seen is lines script.
     let ahead = c.read_next.new.lines.ahead in
     let left = g.S.Source.left c.read_next.new.input in
     let faults = g.S.Source.faults c.read_next.new.input in
     let way = subst (λ (line : List ℕ). SeenAs (λ o. Asks c.args.most c.numbers.result k o line (line_of c.in_ok-said.said)) ahead left faults)
     (sym c.line.ensures) (c.in_ok-said.ensures.asks k seen) in
     line-stopped g.D.Disk.seen g.D.Disk.may_leave g.D.Disk.moment g.D.Disk.left_since (λ d image left. g.D.Disk.only_now d image left)
-    (snapper told (cast_in c.args.running)) c.args.most f c.args.running n
+    (snapper reported (cast_in c.args.running)) c.args.most f c.args.running n
     (link_seen g.L.Link.sent g.L.Link.coming g.L.Link.faults c.args.link.now)
     (link_seen g.L.Link.sent g.L.Link.coming g.L.Link.faults c.carry_out.new.link)
     (sink_seen g.K.Sink.written g.K.Sink.faults c.args.output.now) (sink_seen g.K.Sink.written g.K.Sink.faults c.carry_out.new.output) k h
     c.args.disk.now c.carry_out.new.disk c.numbers.result c.in_ok-number.number c.line.result.now (line_of c.in_ok-said.said) ahead left faults is
     c.numbers.ensures (not-all c.args.count n.script c.requires.few script) (omega (arith, c.in_ok-number.ensures, lines)) way
     g.V.Service.heard c.carry_out.new.service c.carry_out.result
-    (λ o w at number. c.carry_out.ensures.stops told c.args.most f o h w some has at number)
+    (λ o w at number. c.carry_out.ensures.stops reported c.args.most f o h w some has at number)

@@ -17,14 +17,14 @@ use Rattle.node_script.proofs.running.each_line.Goals as goal
 pub lines-init : goal.lines-init
 lines-init g c = record {
   node = c.requires.node;
-  read = λ told f k h n some has seen is lines script. record {
+  read = λ reported f k h n some has seen is lines script. record {
     history = h;
     has = has;
     holds = record {
       source = k;
       seen = seen;
       holds = none-read g.D.Disk.seen g.D.Disk.may_leave g.D.Disk.moment g.D.Disk.left_since
-          (λ d image left. g.D.Disk.only_now d image left) (snapper told)
+          (λ d image left. g.D.Disk.only_now d image left) (snapper reported)
           c.args.most f c.args.running n
           (outside (link_seen g.L.Link.sent g.L.Link.coming g.L.Link.faults c.args.link.now)
           (sink_seen g.K.Sink.written g.K.Sink.faults c.args.output.now) k h) c.args.disk.now is;
@@ -51,16 +51,16 @@ lines-preserved g c =
           (link_seen g.L.Link.sent g.L.Link.coming g.L.Link.faults c.next_line.new.link)
           (sink_seen g.K.Sink.written g.K.Sink.faults c.next_line.new.output) c.lines.disk c.next_line.new.disk 1 c.in-Ok.next next.history
           next.holds;
-      read = λ told f k h n some has seen is lines script.
-          let on = c.lines.invariant.read told f k h n some has seen is lines script in
+      read = λ reported f k h n some has seen is lines script.
+          let on = c.lines.invariant.read reported f k h n some has seen is lines script in
           let so = on.holds in
-          let more = c.in-Ok.ensures.goes_on told f so.source on.history so.holds.node (λ e. so.holds.went.tells (some e)) on.has so.seen so.holds.is
+          let more = c.in-Ok.ensures.goes_on reported f so.source on.history so.holds.node (λ e. so.holds.went.tells (some e)) on.has so.seen so.holds.is
           (omega (arith, so.holds.lines, lines)) (omega (arith, so.holds.script, script)) in
           record {
             history = more.history;
             has = more.has;
             holds = then-more g.D.Disk.seen g.D.Disk.may_leave g.D.Disk.moment g.D.Disk.left_since
-                (λ d image left. g.D.Disk.only_now d image left) (snapper told) c.args.most f
+                (λ d image left. g.D.Disk.only_now d image left) (snapper reported) c.args.most f
                 c.next_line.new.lines.ahead (g.S.Source.left c.next_line.new.input) (g.S.Source.faults c.next_line.new.input)
                 (cast_in c.args.running) n (outside (link_seen g.L.Link.sent g.L.Link.coming g.L.Link.faults c.args.link.now)
                 (sink_seen g.K.Sink.written g.K.Sink.faults c.args.output.now) k h)
@@ -74,10 +74,10 @@ lines-preserved g c =
     }
 
 pub returns-in-Err-clause-stops : goal.returns-in-Err-clause-stops
-returns-in-Err-clause-stops g c = λ told f k h n some has seen is lines script.
-    let on = c.lines.invariant.read told f k h n some has seen is lines script in
+returns-in-Err-clause-stops g c = λ reported f k h n some has seen is lines script.
+    let on = c.lines.invariant.read reported f k h n some has seen is lines script in
     let so = on.holds in
-    let stops = c.in-Err.ensures.stops told f so.source on.history so.holds.node (λ e. so.holds.went.tells (some e)) on.has so.seen so.holds.is
+    let stops = c.in-Err.ensures.stops reported f so.source on.history so.holds.node (λ e. so.holds.went.tells (some e)) on.has so.seen so.holds.is
     (omega (arith, so.holds.lines, lines)) (omega (arith, so.holds.script, script)) in
     record {
       history = stops.history;
@@ -85,7 +85,7 @@ returns-in-Err-clause-stops g c = λ told f k h n some has seen is lines script.
       holds = (
         stops.holds.0,
         then-stops g.D.Disk.seen g.D.Disk.may_leave g.D.Disk.moment g.D.Disk.left_since (λ d image left. g.D.Disk.only_now d image left)
-            (snapper told) c.args.most f stops.holds.0
+            (snapper reported) c.args.most f stops.holds.0
             (g.S.Source.left c.next_line.new.input) (g.S.Source.faults c.next_line.new.input)
             (cast_in c.args.running) n (outside (link_seen g.L.Link.sent g.L.Link.coming g.L.Link.faults c.args.link.now)
             (sink_seen g.K.Sink.written g.K.Sink.faults c.args.output.now) k h)
@@ -99,16 +99,16 @@ returns-in-Err-clause-stops g c = λ told f k h n some has seen is lines script.
 
 pub returns-clause-goes_on : goal.returns-clause-goes_on
 unfolding most_lines
-returns-clause-goes_on g c = λ told f k h n some has seen is lines script.
+returns-clause-goes_on g c = λ reported f k h n some has seen is lines script.
     let all : c.lines.count ≡ most_lines = omega (arith, c.lines.auto.count-end, c.lines-test.false) in
     subst (λ (m : ℕ). HeardBy g.V.Service.heard c.lines.service (λ i. SeenAs (λ o. ReadsOn g.D.Disk.seen g.D.Disk.may_leave
-    g.D.Disk.moment g.D.Disk.left_since (cast_in c.args.running) (snapper told (cast_in c.args.running)) c.args.most f n
+    g.D.Disk.moment g.D.Disk.left_since (cast_in c.args.running) (snapper reported (cast_in c.args.running)) c.args.most f n
     (outside (link_seen g.L.Link.sent g.L.Link.coming g.L.Link.faults c.args.link.now)
     (sink_seen g.K.Sink.written g.K.Sink.faults c.args.output.now) k h) c.args.disk.now m
     (outside (link_seen g.L.Link.sent g.L.Link.coming g.L.Link.faults c.lines.link) (sink_seen g.K.Sink.written g.K.Sink.faults
     c.lines.output) o i)
     c.lines.disk c.lines.running) c.lines.lines.ahead (g.S.Source.left c.lines.input) (g.S.Source.faults c.lines.input))) all
-    (c.lines.invariant.read told f k h n some has seen is lines script)
+    (c.lines.invariant.read reported f k h n some has seen is lines script)
 
 pub returns-in-Err-clause-cause : goal.returns-in-Err-clause-cause
 returns-in-Err-clause-cause g c = subst (λ (n : ℕ). StopsByDisk n (g.D.Disk.faults c.next_line.new.disk) (stop_of c.in-Err.stop))

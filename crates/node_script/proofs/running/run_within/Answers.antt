@@ -9,8 +9,8 @@ use Rattle.node_script.proofs.NoDisk.{ended-cause}
 use Rattle.node_script.proofs.running.run_within.Goals as goal
 
 pub returns-in-Ok-clause-ends : goal.returns-in-Ok-clause-ends
-returns-in-Ok-clause-ends g c = λ told f k h n some has seen is lines script.
-    let on = c.in-Ok.ensures.goes_on told f k h n some has seen is lines script in
+returns-in-Ok-clause-ends g c = λ reported f k h n some has seen is lines script.
+    let on = c.in-Ok.ensures.goes_on reported f k h n some has seen is lines script in
     let so = on.holds in
     record {
       history = on.history;
@@ -18,7 +18,7 @@ returns-in-Ok-clause-ends g c = λ told f k h n some has seen is lines script.
       holds = (
         _,
         ends-at-last g.D.Disk.seen g.D.Disk.may_leave g.D.Disk.moment g.D.Disk.left_since (λ d image left. g.D.Disk.only_now d image left)
-            (snapper told) c.args.most f _ _ _
+            (snapper reported) c.args.most f _ _ _
             (cast_in c.args.running) n _
             (link_seen g.L.Link.sent g.L.Link.coming g.L.Link.faults c.each_line.new.link)
             (sink_seen g.K.Sink.written g.K.Sink.faults c.each_line.new.output) on.history c.args.disk.now c.each_line.new.disk c.in-Ok._node

@@ -11,14 +11,14 @@ use Rattle.node_snapping.proofs.Written.{none-by}
 use Rattle.node_snapping.proofs.snapping.line_of.Goals as goal
 
 pub returns-in-Ok-clause-line : goal.returns-in-Ok-clause-line
-returns-in-Ok-clause-line g c = λ n told are counts journal some.
+returns-in-Ok-clause-line g c = λ n reported are counts journal some.
     let kit = c.args.kit.now in
     let version = version_of c.args.journal.now in
     let k = cast_of kit version in
     let made = c.in-Ok.ensures.line (from_start k) n journal.gate
     (ap (map part_as) c.as_slice.ensures.value ∙ c.in_ok-parts.ensures k kit n.now are ∙ parts-are kit version n c.args.counts.now counts) in (
       made.0,
-      line-is (g.D.Disk.seen c.args.disk.now) (g.D.Disk.may_leave c.args.disk.now) k n made.0 c.in-Ok.line.items told some journal.rest made.1
+      line-is (g.D.Disk.seen c.args.disk.now) (g.D.Disk.may_leave c.args.disk.now) k n made.0 c.in-Ok.line.items reported some journal.rest made.1
           made.2,
     )
 

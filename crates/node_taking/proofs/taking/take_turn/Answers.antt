@@ -18,7 +18,7 @@ use Rattle.node_taking.specs.Keeping.{at, grown}
 use Rattle.node_taking.proofs.Away.{all-back, among, asked-so, back-so, grown-so, last-so, real-so, sealable-so, turn-of}
 use Rattle.node_taking.proofs.Counted.{counts-grown, room-to-count}
 use Rattle.node_taking.proofs.Ends.{says-stops}
-use Rattle.node_taking.proofs.Told.{tells-stops}
+use Rattle.node_taking.proofs.Reported.{tells-stops}
 use Rattle.node_taking.proofs.Whole.{refused-on, refused-stops, step-forgets, taken-on, taken-stops}
 use Rattle.node_taking.proofs.taking.take_turn.Goals as goal
 
@@ -125,17 +125,17 @@ returns-in_err-tell-in-Taken-clause-stops g c = λ snap most f source h n ts has
     (turn-of k c.args.running.kit.now c.args.me (n.now c.args.me) e c.in-Taken.away steps.1) in
     let o = outcome_of k (n.now c.args.me) e in
     let came = subst (λ r. IsOutcome o r) (sym c.in_ok-journal-in-Taken.ensures.same.outcome) steps.1.takes.2 in
-    let told = c.in_err-tell-in-Taken.ensures.told (version_of c.args.running.journal) o (grown k n c.args.me e).now h came has
+    let reported = c.in_err-tell-in-Taken.ensures.reported (version_of c.args.running.journal) o (grown k n c.args.me e).now h came has
     (grown-so k c.args.running.kit.now n c.args.me e c.in-Taken.away c.in_ok-journal-in-Taken.away _ steps.1
     c.in_ok-journal-in-Taken.ensures.same refl) in
     let p = err_from_is_err_and c.from_residual-in_err-tell-in-Taken.result c.from_residual-in_err-tell-in-Taken.ensures.1 in
     rw (p.1, p.2) (record {
-      history = told.history;
-      has = told.has;
+      history = reported.history;
+      has = reported.has;
       holds = taken-stops g.D.Disk.seen g.D.Disk.may_leave g.D.Disk.moment g.D.Disk.left_since
-          (λ d image left. g.D.Disk.only_now d image left) snap most f c.args.running n c.args.me e ts before l s t source h told.history
+          (λ d image left. g.D.Disk.only_now d image left) snap most f c.args.running n c.args.me e ts before l s t source h reported.history
           c.args.disk.now c.keep.new.disk is c.in_ok-journal-in-Taken.journal (stop_of why) keeps
-          (tells-stops k snap most n c.args.me e ts before l s t source h told.history (Unit {0}) why told.holds);
+          (tells-stops k snap most n c.args.me e ts before l s t source h reported.history (Unit {0}) why reported.holds);
     })
 
 pub returns-in_err-tell-in-Taken-clause-cause : goal.returns-in_err-tell-in-Taken-clause-cause
@@ -194,17 +194,17 @@ returns-in_ok-tell-in-Taken-clause-goes_on g c = λ snap most f source h n ts ha
     (turn-of k kit c.args.me (n.now c.args.me) e c.in-Taken.away steps.1) in
     let o = outcome_of k (n.now c.args.me) e in
     let came = subst (λ r. IsOutcome o r) (sym same.outcome) steps.1.takes.2 in
-    let told = c.in_ok-tell-in-Taken.ensures.told (version_of c.args.running.journal) o (grown k n c.args.me e).now h came has
+    let reported = c.in_ok-tell-in-Taken.ensures.reported (version_of c.args.running.journal) o (grown k n c.args.me e).now h came has
     (grown-so k kit n c.args.me e c.in-Taken.away c.in_ok-journal-in-Taken.away _ steps.1 same refl) in
     record {
-      history = told.history;
-      has = told.has;
+      history = reported.history;
+      has = reported.has;
       holds = taken-on g.D.Disk.seen g.D.Disk.may_leave g.D.Disk.moment g.D.Disk.left_since (λ d image left. g.D.Disk.only_now d image left)
-          snap most f c.args.running n c.args.me e ts before l s t source h told.history c.args.disk.now c.keep.new.disk is _ _
+          snap most f c.args.running n c.args.me e ts before l s t source h reported.history c.args.disk.now c.keep.new.disk is _ _
           (asked-so c.args.me e ts o _ _ c.into_parts-process.ensures.outcome came) (ap (cast_of kit) c.in_ok-journal-in-Taken.ensures.kind)
           (all-back k kit n c.args.me e c.step.new.hosts c.put_back.new.self _ (λ now after q. c.put_back.ensures k kit now after q) steps.0
           (among k kit n.now None c.args.running.hosts c.args.me is.hosts c.requires.hosted)
           (back-so k kit n c.args.me e c.in-Taken.away c.in_ok-journal-in-Taken.away _ steps.1 same c.into_parts-process.ensures.process refl refl))
           keeps
-          (counts-grown k n c.args.me e c.args.running.counts _ is.sound is.counts c.count.ensures) told.holds;
+          (counts-grown k n c.args.me e c.args.running.counts _ is.sound is.counts c.count.ensures) reported.holds;
     }

@@ -5,8 +5,8 @@ use Rattle.node_defs.specs.Nodes.{leaving_of}
 use Rattle.node_taking.proofs.Answered.{forgot-by, says-cause, tells-by}
 use Rattle.node_taking.proofs.telling.tell.Goals as goal
 
-pub returns-clause-told : goal.returns-clause-told
-returns-clause-told g c = λ version o at h is has hosted.
+pub returns-clause-reported : goal.returns-clause-reported
+returns-clause-reported g c = λ version o at h is has hosted.
     tells-by g.V.Service.heard c.let_out-out.new.service (cast_of c.args.kit.now version) at (leaving_of c.args.me o)
     (link_seen g.L.Link.sent g.L.Link.coming g.L.Link.faults c.args.link.now)
     (link_seen g.L.Link.sent g.L.Link.coming g.L.Link.faults c.let_out-out.new.link) h c.say.result
@@ -18,8 +18,8 @@ pub returns-clause-cause : goal.returns-clause-cause
 returns-clause-cause g c = says-cause c.say.result c.as_slice.result.now (sink_seen g.K.Sink.written g.K.Sink.faults c.args.output.now)
     (sink_seen g.K.Sink.written g.K.Sink.faults c.say.new.output) (g.D.Disk.faults c.args.disk.now) c.say.ensures
 
-pub returns-in_err-out-clause-told : goal.returns-in_err-out-clause-told
-returns-in_err-out-clause-told g c = λ version o at h is has hosted.
+pub returns-in_err-out-clause-reported : goal.returns-in_err-out-clause-reported
+returns-in_err-out-clause-reported g c = λ version o at h is has hosted.
     let p = err_from_is_err_and c.from_residual.result c.from_residual.ensures.1 in
     rw (p.1, p.2) (forgot-by g.V.Service.heard c.let_out-out.new.service (cast_of c.args.kit.now version) at (leaving_of c.args.me o)
     (link_seen g.L.Link.sent g.L.Link.coming g.L.Link.faults c.args.link.now)

@@ -30,7 +30,7 @@ returns-clause-out g c = λ version o at h is has hosted. on_ok_weaker c.tell_no
     (link_seen g.L.Link.sent g.L.Link.coming g.L.Link.faults c.args.link.now)
     (link_seen g.L.Link.sent g.L.Link.coming g.L.Link.faults c.let_frames_out.new.link) c.sends.result.now c.notes.result.now _ _ _ _ _ h is
     c.sends.ensures c.notes.ensures c.new-late.ensures.items c.as_slice.ensures.value (c.in_ok-let_frames_out.ensures.out version at h))
-    (c.tell_notes.ensures.told (cast_of c.args.speaker.now.kit.now version) at h has
+    (c.tell_notes.ensures.reported (cast_of c.args.speaker.now.kit.now version) at h has
     (subst (IsHosted (cast_of c.args.speaker.now.kit.now version) c.args.speaker.now.me (at c.args.speaker.now.me)) (sym c.process.ensures)
     hosted))
 

@@ -11,7 +11,7 @@ use Rattle.node_turns.proofs.notes.tell_each.Given as goal
 
 abbrev pub invariant-notes : goal.invariant-notes
 invariant-notes g l = record {
-  told : (c : Cast) (at : ℕ → Process) (link : LinkSeen) (h : List Asked) → g.V.Service.heard l.fn.service h
+  reported : (c : Cast) (at : ℕ → Process) (link : LinkSeen) (h : List Asked) → g.V.Service.heard l.fn.service h
       → IsHosted c l.me (at l.me) l.process
       → HeardBy g.V.Service.heard l.service (λ i. LetOut c at (tells_of l.me (take l.note-index l.notes)) (edge link l.fn.text.items [] h)
       (edge link l.text.items [] i));

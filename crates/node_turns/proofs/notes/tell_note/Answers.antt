@@ -5,7 +5,7 @@ use Rattle.node_service.specs.Lines.{note}
 use Rattle.node_service.proofs.Lines.{goes_on-more, goes_on-same}
 use Rattle.node_turns.specs.Letters.{tells_of}
 use Rattle.node_turns.proofs.Sent.{on-err}
-use Rattle.node_turns.proofs.Told.{told-by, untold-by}
+use Rattle.node_turns.proofs.Reported.{reported-by, untold-by}
 use Rattle.node_turns.proofs.notes.tell_note.Goals as goal
 
 pub returns-in_err-push_note-clause-begun : goal.returns-in_err-push_note-clause-begun
@@ -16,9 +16,9 @@ pub returns-in_err-push_note-clause-grows : goal.returns-in_err-push_note-clause
 returns-in_err-push_note-clause-grows g c =
     goes_on-same c.args.text.now.items c.push_note.new.out.items c.in_err-push_note.ensures.unchanged
 
-pub returns-clause-told : goal.returns-clause-told
-returns-clause-told g c = λ k at link h has hosted. on_ok_weaker c.noted.result
-    (told-by g.V.Service.heard c.noted.new.self k at c.args.me c.args.note.now link c.args.text.now.items c.push_note.new.out.items
+pub returns-clause-reported : goal.returns-clause-reported
+returns-clause-reported g c = λ k at link h has hosted. on_ok_weaker c.noted.result
+    (reported-by g.V.Service.heard c.noted.new.self k at c.args.me c.args.note.now link c.args.text.now.items c.push_note.new.out.items
     c.noted.new.lines.items h c.in_ok-push_note.ensures.pushed) (c.noted.ensures.tells k c.args.me (at c.args.me) h has hosted)
 
 pub returns-clause-begun : goal.returns-clause-begun

@@ -8,11 +8,11 @@ use Rattle.page.proofs.calls.run_story.Goals as goal
 pub returns-clause-story : goal.returns-clause-story
 returns-clause-story c = λ five.
     subst (λ (s : MemSink). IsNoStory c.args.input.items (sink_bytes s))
-    (sym (c.told_at-told.ensures.told (λ zero. omega (arith, five, zero))))
+    (sym (c.reported_at-reported.ensures.reported (λ zero. omega (arith, five, zero))))
     (no_story _ _ _ _ _ _ _ c.new-input.ensures.left c.new-errors.ensures.bytes (c.story-status.ensures.story five).1)
 
 pub returns-clause-schedule : goal.returns-clause-schedule
 returns-clause-schedule c = λ seven.
     subst (λ (s : MemSink). IsNoSchedule c.args.input.items (sink_bytes s))
-    (sym (c.told_at-told.ensures.told (λ zero. omega (arith, seven, zero))))
+    (sym (c.reported_at-reported.ensures.reported (λ zero. omega (arith, seven, zero))))
     (no_schedule _ _ _ _ _ _ _ c.new-input.ensures.left c.new-errors.ensures.bytes (c.story-status.ensures.schedule seven).1)

@@ -9,11 +9,11 @@ use Rattle.pool_values.proofs.places.note_update.Goals as goal
 
 pub returns-in-Some : goal.returns-in-Some
 returns-in-Some c h d grown said fresh are =
-    let told : notified_said (with_heard h d) d.statement
+    let reported : notified_said (with_heard h d) d.statement
     ≡ Some (update c.in-Some.update) = (λ i. notified_said (sym grown i) (said i)) ∙ sym c.in-Some.ensures in
     subst (λ (g : Pool). AreNotified g c.insert.new.self) (sym grown)
     (this-more h d fresh c.args.notified.now c.insert.new.self are
-    (update c.in-Some.update) told c.insert.ensures.there c.insert.ensures.others)
+    (update c.in-Some.update) reported c.insert.ensures.there c.insert.ensures.others)
 
 pub returns-in_default : goal.returns-in_default
 returns-in_default c h d grown said fresh are =

@@ -18,10 +18,10 @@ returns-in-Ok-lines_of_all-clause-found c =
     let come = end.2 in
     let is : audited kit (c.args.p ∷ []) journals ≡ Ok a =
     ap (λ (listed : List ℕ). audited kit listed journals) (sym c.alone.ensures) ∙ end.1 in
-    let told = c.in-Ok-lines_of_all.ensures a.family.setting come.players
+    let reported = c.in-Ok-lines_of_all.ensures a.family.setting come.players
     (subst (λ (ps : List Player). AllZip (IsPlayer a.family.setting) come.players ps) (sym c.players.ensures) come.each) in (
       a,
       is,
-      text-is a c.in-Ok.walk come c.in-Ok-lines_of_all.text.items told.0,
-      chain-takes kit (c.args.p ∷ []) journals a c.requires.kit is c.in-Ok.walk come told.1,
+      text-is a c.in-Ok.walk come c.in-Ok-lines_of_all.text.items reported.0,
+      chain-takes kit (c.args.p ∷ []) journals a c.requires.kit is c.in-Ok.walk come reported.1,
     )

@@ -6,10 +6,10 @@ use Rattle.audit_defs.specs.Players as plain
 use Rattle.audit_core.specs.Walks.{IsPlayer}
 use Rattle.proof_defs.specs.Lines.{lines_of}
 use Rattle.proof_lines.specs.Seen.{CanTravel}
-use Rattle.proof_lines.proofs.Lefts.{Told}
+use Rattle.proof_lines.proofs.Lefts.{Reported}
 use Rattle.proof_lines.proofs.lines.lines_of_all.Given as goal
 
 -- the processes before this one have their lines
 abbrev pub invariant-loop-player : goal.invariant-loop-player
 invariant-loop-player l = (s : Setting) (cs : List plain.Player) → AllZip (IsPlayer s) cs l.players
-    → Told (λ (c : plain.Player). lines_of c.now) (λ (c : plain.Player). All CanTravel c.now.left) cs l.player-index [] l.text.items
+    → Reported (λ (c : plain.Player). lines_of c.now) (λ (c : plain.Player). All CanTravel c.now.left) cs l.player-index [] l.text.items

@@ -11,14 +11,14 @@ use Rattle.store_defs.specs.Words.{most_state_line_bytes}
 use Rattle.serve_laws.specs.Services.{HasServed}
 use Rattle.serve_laws.specs.Laws.{ServesStore}
 use Rattle.serve_laws.proofs.Served.{histories_serve}
-use Rattle.chain_laws.proofs.Told.{answer_tells_views}
+use Rattle.chain_laws.proofs.Reported.{answer_tells_views}
 use Rattle.audit_words.specs.Running.{Found, FoundInPart, HasFindings, HasNoFindings, Unfound}
 use Rattle.node_traces.specs.Seen.{link_seen, sink_seen, source_seen}
 use Rattle.replay_words.specs.Answers.{Reported, ReportedInPart, kit_of_order, schedule_of_number}
 use Rattle.rampart_cli.proofs.Orders.{same_order, same_number, same_short, no_command}
 use Rattle.rampart_cli.proofs.ReadFaults.{none_failed, none_failed_either}
 use Rattle.rampart_cli.proofs.Services.{alone, alone_limit, guard_limit, in_order, serve_limit, with_service}
-use Rattle.rampart_cli.proofs.Told.{ask_tells}
+use Rattle.rampart_cli.proofs.Reported.{ask_tells}
 use Rattle.rampart_cli.proofs.top.rampart.Goals as goal
 
 pub returns-in-Some-Keygen-clause-made : goal.returns-in-Some-Keygen-clause-made
@@ -72,24 +72,24 @@ returns-in-Some-Replay-clause-part g c = λ short asks four.
     (c.run_replay.ensures.part four)
 
 pub returns-in-Some-Replay-clause-completes : goal.returns-in-Some-Replay-clause-completes
-returns-in-Some-Replay-clause-completes g c = λ short asks told calm calm_sink.
+returns-in-Some-Replay-clause-completes g c = λ short asks reported calm calm_sink.
     c.run_replay.ensures.completes
-    (subst (λ (b : Bool). IsSomeAnd (g.S.Source.left c.args.input.now) (λ told. IsOk (report_of b told)))
-    (sym (same_short _ short (rw c.in-Some-Replay.field-0-is at c.in-Some-Replay.ensures.only (Replay short) asks))) told)
+    (subst (λ (b : Bool). IsSomeAnd (g.S.Source.left c.args.input.now) (λ reported. IsOk (report_of b reported)))
+    (sym (same_short _ short (rw c.in-Some-Replay.field-0-is at c.in-Some-Replay.ensures.only (Replay short) asks))) reported)
     calm calm_sink
 
 pub returns-in-Some-Replay-clause-refuses : goal.returns-in-Some-Replay-clause-refuses
-returns-in-Some-Replay-clause-refuses g c = λ short asks told calm.
+returns-in-Some-Replay-clause-refuses g c = λ short asks reported calm.
     c.run_replay.ensures.refuses
-    (subst (λ (b : Bool). IsSomeAnd (g.S.Source.left c.args.input.now) (λ told. IsErr (report_of b told)))
-    (sym (same_short _ short (rw c.in-Some-Replay.field-0-is at c.in-Some-Replay.ensures.only (Replay short) asks))) told)
+    (subst (λ (b : Bool). IsSomeAnd (g.S.Source.left c.args.input.now) (λ reported. IsErr (report_of b reported)))
+    (sym (same_short _ short (rw c.in-Some-Replay.field-0-is at c.in-Some-Replay.ensures.only (Replay short) asks))) reported)
     calm
 
 pub returns-in-None-clause-completes : goal.returns-in-None-clause-completes
-returns-in-None-clause-completes g c = λ short asks told calm calm_sink. absurd (no_command _ (c.in-None.ensures.only (Replay short) asks))
+returns-in-None-clause-completes g c = λ short asks reported calm calm_sink. absurd (no_command _ (c.in-None.ensures.only (Replay short) asks))
 
 pub returns-in-None-clause-refuses : goal.returns-in-None-clause-refuses
-returns-in-None-clause-refuses g c = λ short asks told calm. absurd (no_command _ (c.in-None.ensures.only (Replay short) asks))
+returns-in-None-clause-refuses g c = λ short asks reported calm. absurd (no_command _ (c.in-None.ensures.only (Replay short) asks))
 
 pub returns-in-None-clause-only_replayed : goal.returns-in-None-clause-only_replayed
 returns-in-None-clause-only_replayed g c = λ short asks. absurd (no_command _ (c.in-None.ensures.only (Replay short) asks))

@@ -4,7 +4,7 @@ use Rattle.std.proofs.lemmas.Bool.{lt-ltb, le-ltb}
 use Rattle.message_defs.specs.Updates.{Value}
 use Rattle.group_defs.specs.Values.{is_quorum}
 use Rattle.rp_base.specs.Views.{value}
-use Rattle.rank_rules.proofs.Justifying.{with-true, with-false, is_bounded, is_told, second-way-is}
+use Rattle.rank_rules.proofs.Justifying.{with-true, with-false, is_bounded, some_reports, second-way-is}
 use Rattle.rank_rules.proofs.ways.is_second_way.Goals as goal
 use Rattle.rank_rules.proofs.ways.is_second_way.Goals.{then-lower-rank, else-lower-rank, then-is_quorum, else-is_quorum}
 
@@ -21,7 +21,7 @@ returns-then-is_reported c pool =
     ] in
     let both : c.if-is_quorum.value
     ≡ (nat_lt c.args.lower c.args.rank && is_bounded h c.args.rank c.args.lower
-    && is_told h c.args.rank c.args.lower v) = elim c.if-is_quorum.branch [
+    && some_reports h c.args.rank c.args.lower v) = elim c.if-is_quorum.branch [
       | then-is_quorum w ↦ with-true _ _ _ (sym inner ∙ w.if-is_quorum.true) (w.value-is ∙ w.is_reported.ensures)
       | else-is_quorum w ↦ with-false _ _ _ (sym inner ∙ w.if-is_quorum.false) (w.value-is ∙ w.if-is_quorum.false)
     ] in
@@ -40,7 +40,7 @@ returns-else-is_reported c pool =
     ] in
     let both : c.if-is_quorum.value
     ≡ (nat_lt c.args.lower c.args.rank && is_bounded h c.args.rank c.args.lower
-    && is_told h c.args.rank c.args.lower v) = elim c.if-is_quorum.branch [
+    && some_reports h c.args.rank c.args.lower v) = elim c.if-is_quorum.branch [
       | then-is_quorum w ↦ with-true _ _ _ (sym inner ∙ w.if-is_quorum.true) (w.value-is ∙ w.is_reported.ensures)
       | else-is_quorum w ↦ with-false _ _ _ (sym inner ∙ w.if-is_quorum.false) (w.value-is ∙ w.if-is_quorum.false)
     ] in

@@ -1,4 +1,4 @@
-use Rattle.replay_questions.proofs.ToldWords.{groups_words, no_groups_words}
+use Rattle.replay_questions.proofs.ReportedWords.{groups_words, no_groups_words}
 use Rattle.replay_questions.proofs.groups.are_groups_of_words.Goals as goal
 
 pub groups-preserved : goal.groups-preserved

@@ -1,6 +1,6 @@
 use Rattle.std.proofs.Common.{◌≡◌, length}
 use Rattle.frame_codec.specs.Views.{signatures_left}
-use Rattle.replay_questions.proofs.ToldWords.{all_words}
+use Rattle.replay_questions.proofs.ReportedWords.{all_words}
 use Rattle.replay_questions.proofs.groups.are_signers_words.Given as goal
 
 abbrev pub invariant-signatures : goal.invariant-signatures

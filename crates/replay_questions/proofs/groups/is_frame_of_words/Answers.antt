@@ -5,7 +5,7 @@ use Rattle.frame_codec.specs.Views.{frame_view, groups_left}
 use Rattle.frame_codec.proofs.Said.{said-fault}
 use Rattle.replay_questions.specs.Words.{IsWord}
 use Rattle.replay_questions.proofs.Wants.{claims_said, want_none}
-use Rattle.replay_questions.proofs.ToldWords.{bundle_claims, proof_claims}
+use Rattle.replay_questions.proofs.ReportedWords.{bundle_claims, proof_claims}
 use Rattle.replay_questions.proofs.groups.is_frame_of_words.Goals as goal
 
 pub returns-in-Err : goal.returns-in-Err

@@ -1,7 +1,7 @@
 use Rattle.std.proofs.Common.{sym, ◌∙◌, arith}
 use Rattle.frame_codec.specs.Views.{signatures_left}
 use Rattle.replay_questions.specs.Words.{group_of}
-use Rattle.replay_questions.proofs.ToldWords.{group_words}
+use Rattle.replay_questions.proofs.ReportedWords.{group_words}
 use Rattle.replay_questions.proofs.groups.is_group_of_words.Goals as goal
 
 pub returns : goal.returns

@@ -6,4 +6,4 @@ pub returns : goal.returns
 returns c = lies_at c.args.group.now
     (stmt c.args.statement.now) c.args.liars.now.items c.args.i c.index_mut-liar.result.now c.lie.new.self c.lie.result c.requires.place
     c.index_mut-liar.ensures.value
-    c.lie.ensures.told c.lie.ensures.silent c.lie.ensures.process c.lie.ensures.total c.lie.ensures.secret
+    c.lie.ensures.reported c.lie.ensures.silent c.lie.ensures.process c.lie.ensures.total c.lie.ensures.secret

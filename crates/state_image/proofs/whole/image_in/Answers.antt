@@ -35,13 +35,13 @@ returns c = λ s p is.
     λ i. record {
       me = sym is.place.number i;
       left = (c.in_ok-left.ensures ∙ left-by s p c.args.state.now is) i;
-      perceived = (c.in_ok-told.ensures.perceived ∙ ap (λ (a : Account). a.perceived) (sym is.account)) i;
-      accepted = (c.in_ok-told.ensures.accepted ∙ ap (λ (a : Account). a.accepted) (sym is.account)) i;
+      perceived = (c.in_ok-reported.ensures.perceived ∙ ap (λ (a : Account). a.perceived) (sym is.account)) i;
+      accepted = (c.in_ok-reported.ensures.accepted ∙ ap (λ (a : Account). a.accepted) (sym is.account)) i;
       signed = c.in_ok-signed.ensures s p is i;
       previous = (c.in_ok-previous.ensures ∙ ap (λ o. option_map_or (λ (h : Pool). h.heard) o []) (sym is.kept.previous)) i;
       heard = (c.in_ok-heard.ensures ∙ ap (λ (h : Pool). h.heard) (sym is.place.pool)) i;
       conflicts = (c.in_ok-conflicts.ensures ∙ ap by_signer (sym is.pairs)) i;
-      delivered = (c.in_ok-told.ensures.delivered ∙ ap (λ (a : Account). a.delivered) (sym is.account)) i;
+      delivered = (c.in_ok-reported.ensures.delivered ∙ ap (λ (a : Account). a.delivered) (sym is.account)) i;
       decision = sym (c.decision_in.ensures p is.phase) i;
       halted = sym (c.is_halted.ensures p is.phase) i;
     }

@@ -8,6 +8,6 @@ use Rattle.store_server.proofs.beginning.count.Given as goal
 -- the messages of the views so far
 abbrev pub invariant-views : goal.invariant-views
 invariant-views l = record {
-  so_far : l.total ≡ min (delivered_below (account l.told) l.delivered-index) most_counted;
-  within : l.delivered-index ≤ length l.told.delivered.items;
+  so_far : l.total ≡ min (delivered_below (account l.reported) l.delivered-index) most_counted;
+  within : l.delivered-index ≤ length l.reported.delivered.items;
 }

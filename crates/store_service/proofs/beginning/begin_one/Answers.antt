@@ -18,13 +18,13 @@ begin-requires-clause-secret c =
 
 pub begin-requires-clause-views : goal.begin-requires-clause-views
 begin-requires-clause-views c =
-    views-so c.in-Some.host.now.process c.core.result.now c.core.ensures c.in-Some.host.now.real c.account-told.result.now
-    (λ s q at. c.account-told.ensures s q at)
+    views-so c.in-Some.host.now.process c.core.result.now c.core.ensures c.in-Some.host.now.real c.account-reported.result.now
+    (λ s q at. c.account-reported.ensures s q at)
 
 pub begin-requires-clause-lists : goal.begin-requires-clause-lists
 begin-requires-clause-lists c =
-    lists-so c.in-Some.host.now.process c.core.result.now c.core.ensures c.in-Some.host.now.real c.account-told.result.now
-    (λ s q at. c.account-told.ensures s q at)
+    lists-so c.in-Some.host.now.process c.core.result.now c.core.ensures c.in-Some.host.now.real c.account-reported.result.now
+    (λ s q at. c.account-reported.ensures s q at)
 
 pub returns-in_default : goal.returns-in_default
 returns-in_default c = λ version now xs hosts among are.
@@ -42,12 +42,12 @@ returns c = λ version now xs hosts among are.
     let k = cast_of c.args.kit.now version in
     let host = (c.in-Some.ensures k c.args.kit.now now None hosts (λ e. cc)).1 in
     let secret = secret_in c.in-Some-secret.secret.now in
-    let told = account-so c.in-Some.host.now.process c.core.result.now c.core.ensures k c.args.p (now c.args.p) host.process
-    c.account-told.result.now (λ s q at. c.account-told.ensures s q at) in
+    let reported = account-so c.in-Some.host.now.process c.core.result.now c.core.ensures k c.args.p (now c.args.p) host.process
+    c.account-reported.result.now (λ s q at. c.account-reported.ensures s q at) in
     let left = left-so c.in-Some.host.now.process c.core.result.now c.core.ensures k c.args.p (now c.args.p) host.process in
     subst (λ (ys : List Server). AreThese (xs ++ begun_of k (now c.args.p)) ys) (sym c.in_ok-push.ensures.items)
     (one-begun k (now c.args.p) xs c.args.servers.now.items are secret c.in_ok-server.server
     (ap k.secret host.process.number ∙ sym c.in-Some-secret.ensures.value)
     (subst (λ (q : Place). IsServer q (server_of (now c.args.p)) c.in_ok-server.server)
-    (λ i. place_with (sym (ap (λ (a : Account). a.me) told) i) (c.group.ensures i) secret)
-    (c.in_ok-server.ensures (now c.args.p) told left)))
+    (λ i. place_with (sym (ap (λ (a : Account). a.me) reported) i) (c.group.ensures i) secret)
+    (c.in_ok-server.ensures (now c.args.p) reported left)))

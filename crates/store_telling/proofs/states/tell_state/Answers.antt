@@ -3,8 +3,8 @@ use Rattle.std.specs.Prelude.{is_ok}
 use Rattle.story_writing.proofs.TokenLines.{all_written}
 use Rattle.store_records.specs.Cursors.{pairs_left}
 use Rattle.store_records.specs.Views.{state_record}
-use Rattle.store_telling.specs.Pieces.{pairs_told, told_text}
-use Rattle.store_telling.proofs.Pairs.{no_state, state_told}
+use Rattle.store_telling.specs.Pieces.{pairs_reported, reported_text}
+use Rattle.store_telling.proofs.Pairs.{no_state, state_reported}
 use Rattle.store_telling.proofs.states.tell_state.Goals as goal
 
 pub returns-in_default : goal.returns-in_default
@@ -15,6 +15,6 @@ returns-then-not-is_store c = no_state c.args.out.now.items (state_record c.args
 
 pub returns : goal.returns
 returns c =
-    all_written c.tell_pairs.result _ c.tell_head.new.out.items (told_text (pairs_told (pairs_left c.in-Some.pairs))) _ c.tell_pairs.ensures
-    (state_told c.args.out.now.items c.tell_head.new.out.items (state_record c.args.given.now) (pairs_left c.in-Some.pairs)
+    all_written c.tell_pairs.result _ c.tell_head.new.out.items (reported_text (pairs_reported (pairs_left c.in-Some.pairs))) _ c.tell_pairs.ensures
+    (state_reported c.args.out.now.items c.tell_head.new.out.items (state_record c.args.given.now) (pairs_left c.in-Some.pairs)
     c.in_ok-tell_head.ensures c.in-Some.ensures (sym c.is_store.ensures ∙ c.if-not-is_store.false))

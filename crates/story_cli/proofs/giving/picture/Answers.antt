@@ -7,4 +7,4 @@ pub returns : goal.returns
 returns c =
     c.in_ok-push_picture.ensures
     ∙ (λ i. c.new-text.ensures.items i
-    ++ picture (views.header c.args.schedule.now.header) (c.in_ok-told.ensures.events i) (c.in_ok-told.ensures.stop i))
+    ++ picture (views.header c.args.schedule.now.header) (c.in_ok-reported.ensures.events i) (c.in_ok-reported.ensures.stop i))

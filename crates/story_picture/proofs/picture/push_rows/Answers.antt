@@ -2,7 +2,7 @@ use Rattle.std.proofs.Common.{◌≡◌, ℕ, ◌-◌, List, ◌++◌, map, leng
 use Rattle.std.specs.Prelude.{option_map}
 use Rattle.std.proofs.lemmas.List.{length-map}
 use Rattle.schedule_file.specs.Views.{listed}
-use Rattle.happenings.specs.Told.{stopped}
+use Rattle.happenings.specs.Reported.{stopped}
 use Rattle.picture_defs.specs.Pictures as plain
 use Rattle.story_trace.proofs.Pieces.{behind}
 use Rattle.story_picture.specs.Views.{row}

@@ -1,5 +1,5 @@
 use Rattle.std.proofs.Common.{◌≡◌, map, length}
-use Rattle.happenings.specs.Told.{happening}
+use Rattle.happenings.specs.Reported.{happening}
 use Rattle.picture_defs.specs.Pictures as plain
 use Rattle.story_picture.specs.Views.{row}
 use Rattle.story_picture.proofs.rows.rows_of.Given as goal

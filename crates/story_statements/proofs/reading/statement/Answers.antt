@@ -12,7 +12,7 @@ returns-in_err-next_word c =
 pub returns-then-is_done : goal.returns-then-is_done
 returns-then-is_done c =
     rw (← is_bytes (left c.args.words.now) _ _ c.in_ok-next_word.ensures (sym c.is_done.ensures ∙ c.if-is_done.true))
-    (value_alone (λ bytes. bytes.items) _ c.told.result _ c.told.ensures)
+    (value_alone (λ bytes. bytes.items) _ c.reported.result _ c.reported.ensures)
 
 pub returns-else-is_done : goal.returns-else-is_done
 returns-else-is_done c =

@@ -5,7 +5,7 @@ use Rattle.replay_defs.specs.Reports.{refusal_word}
 use Rattle.happenings.specs.Events.{fault}
 use Rattle.trace_defs.specs.Happenings.{handed_words}
 use Rattle.trace_defs.specs.Outcomes.{refusal_reason, refusal_line}
-use Rattle.happenings.specs.Told.{handed}
+use Rattle.happenings.specs.Reported.{handed}
 use Rattle.story_words.proofs.Parts.{more_words, with_tail}
 use Rattle.story_trace.proofs.Behind.{single}
 use Rattle.story_trace.proofs.refusals.push_refusal.Goals as goal

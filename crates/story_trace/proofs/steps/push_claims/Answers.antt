@@ -3,7 +3,7 @@ use Rattle.std.specs.Fmt.{decimal}
 use Rattle.text_defs.specs.Words.{line_text}
 use Rattle.trace_defs.specs.Happenings.{handed_words}
 use Rattle.trace_defs.specs.Outcomes.{claims_word, heard_line}
-use Rattle.happenings.specs.Told.{handed}
+use Rattle.happenings.specs.Reported.{handed}
 use Rattle.story_words.proofs.Parts.{with_tail}
 use Rattle.story_trace.proofs.Behind.{single}
 use Rattle.story_trace.proofs.steps.push_claims.Goals as goal

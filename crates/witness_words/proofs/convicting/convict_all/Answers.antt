@@ -4,27 +4,27 @@ use Rattle.audit_input.specs.Views.{input}
 use Rattle.witness_words.specs.declared.stops.Stop.TheVariants.{Input}
 use Rattle.witness_words.specs.Stops.{of_audit, of_front}
 use Rattle.witness_words.proofs.Lines.{convicted-alone, lines-are}
-use Rattle.witness_words.proofs.Reasons.{audit_told, front_told}
+use Rattle.witness_words.proofs.Reasons.{audit_reported, front_reported}
 use Rattle.witness_words.proofs.convicting.convict_all.Goals as goal
 
 pub returns-in_err-seen-clause-refused : goal.returns-in_err-seen-clause-refused
 returns-in_err-seen-clause-refused g c = λ fault e.
     let p = err_from_is_err_and c.from_residual.result c.from_residual.ensures.1 in
     let same : of_front c.in_err-seen.field-0.0 ≡ Input fault = cc (p.1, p.2, e) in
-    front_told c.args.listed _ _ c.in_err-seen.field-0.0 fault same c.in_err-seen.ensures.fault
+    front_reported c.args.listed _ _ c.in_err-seen.field-0.0 fault same c.in_err-seen.ensures.fault
 
 pub returns-in_err-found-clause-refused : goal.returns-in_err-found-clause-refused
 returns-in_err-found-clause-refused g c = λ fault e.
     let p = err_from_is_err_and c.from_residual-in_err-found.result c.from_residual-in_err-found.ensures.1 in
     let same : of_audit c.in_err-found.field-0.0 ≡ Input fault = cc (p.1, p.2, e) in
-    audit_told c.args.listed _ _ (input c.in_ok-seen.seen) c.in_ok-seen.ensures.found c.in_err-found.field-0.0 fault same
+    audit_reported c.args.listed _ _ (input c.in_ok-seen.seen) c.in_ok-seen.ensures.found c.in_err-found.field-0.0 fault same
     (rw c.deref.ensures.value at c.in_err-found.ensures.refused)
 
 pub returns-clause-found : goal.returns-clause-found
 returns-clause-found g c =
     let f = rw c.deref.ensures.value at c.in_ok-found.ensures.found in
     lines-are c.args.listed _ _ (input c.in_ok-seen.seen) c.in_ok-found.found c.convicted.result.now c.in_ok-text.text.items
-    c.in_ok-seen.ensures.found f c.convicted.ensures.told c.convicted.ensures.evidence c.in_ok-text.ensures.written c.in_ok-text.ensures.taken
+    c.in_ok-seen.ensures.found f c.convicted.ensures.reported c.convicted.ensures.evidence c.in_ok-text.ensures.written c.in_ok-text.ensures.taken
 
 pub evidence_text-requires : goal.evidence_text-requires
 evidence_text-requires g c =

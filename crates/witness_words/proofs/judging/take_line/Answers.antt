@@ -1,7 +1,7 @@
 use Rattle.std.proofs.Common.{◌≡◌, Option, None, false, arith, rules}
 use Rattle.std.proofs.lemmas.Grind.{common_steps}
 use Rattle.audit_defs.specs.Players.{setting_of}
-use Rattle.witness_defs.specs.Lines as told
+use Rattle.witness_defs.specs.Lines as reported
 use Rattle.witness_defs.specs.Lines.{evidence_in}
 use Rattle.witness_words.specs.Seen.{evidence}
 use Rattle.witness_words.specs.declared.stops.Fault.TheVariants.{Line, Evidence}
@@ -10,7 +10,7 @@ use Rattle.witness_words.proofs.judging.take_line.Goals as goal
 
 pub returns-in_default-clause-refused : goal.returns-in_default-clause-refused
 returns-in_default-clause-refused c = λ fault e.
-    let none : (let o : Option told.Evidence = None in o) ≡ evidence_in c.args.line.now = first_of (cc, search rules, grind (arith, common_steps)) in
+    let none : (let o : Option reported.Evidence = None in o) ≡ evidence_in c.args.line.now = first_of (cc, search rules, grind (arith, common_steps)) in
     let same : Line c.args.number ≡ fault = cc in
     no_line (setting_of c.args.kit.now) c.args.number c.args.line.now none fault same
 

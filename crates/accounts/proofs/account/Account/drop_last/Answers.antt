@@ -7,14 +7,14 @@ use Rattle.accounts.specs.Views.{account, delivery}
 use Rattle.accounts.proofs.account.Account.drop_last.Goals as goal
 
 -- what was delivered in a view
-abbrev told : Vec Delivered Global → List defs.Delivered
-told ds = map delivery ds.items
+abbrev reported : Vec Delivered Global → List defs.Delivered
+reported ds = map delivery ds.items
 
 -- the lists without the last one
 first : (lists shorter : List (Vec Delivered Global)) → shorter ≡ take (length lists - 1) lists
-    → map told shorter ≡ take (length (map told lists) - 1) (map told lists)
-first lists shorter e = ap (map told) e ∙ sym (take-map told (length lists - 1) lists)
-    ∙ ap (λ n. take (n - 1) (map told lists)) (sym (length-map lists told))
+    → map reported shorter ≡ take (length (map reported lists) - 1) (map reported lists)
+first lists shorter e = ap (map reported) e ∙ sym (take-map reported (length lists - 1) lists)
+    ∙ ap (λ n. take (n - 1) (map reported lists)) (sym (length-map lists reported))
 
 pub returns : goal.returns
 returns c =

@@ -2,7 +2,7 @@ use Rattle.std.proofs.Common.{◌≡◌, ◌++◌, map}
 use Rattle.std.specs.Prelude.{filter_map}
 use Rattle.std.specs.List.{AllByRecursion}
 use Rattle.rp_base.specs.PidsLeft.{pids_left}
-use Rattle.claim_firsts.specs.Told.{AreSpelled, conviction, conviction_by}
+use Rattle.claim_firsts.specs.Reported.{AreSpelled, conviction, conviction_by}
 use Rattle.claim_firsts.proofs.firsts.Firsts.convictions_of.Given as goal
 
 abbrev pub invariant-loop-q : goal.invariant-loop-q

@@ -24,9 +24,9 @@ returns-clause-absorbs g c s p left is rule made few =
     = handed-so s p e sigs c.new-signer.result c.attempt.new.state (used_of c.attempt.new.signer) c.in-Ok.outcome
     c.new-signer.ensures.hands here (c.in-Ok.ensures.taken s p shares is.kinds here
     (subst (IsStateOf s p) (sym c.deref_mut.ensures.value) is.state)) in
-    let told = (c.agrees.ensures s (outcome s p t) shares
+    let reported = (c.agrees.ensures s (outcome s p t) shares
     (in-range s p t c.attempt.new.state (used_of c.attempt.new.signer) c.in-Ok.outcome taken) taken.outcome).0 c.if-not-agrees.false in (
-      record { fits = (told.0 ∙ c.requires.count, told.1); valid = told.2; few = omega (arith, few, c.requires.count) },
+      record { fits = (reported.0 ∙ c.requires.count, reported.1); valid = reported.2; few = omega (arith, few, c.requires.count) },
       record {
         keyless = record {
           state = c.go_on.ensures.same s (after s p t) (subst (IsStateOf s (after s p t)) (sym c.deref_mut-2.ensures.value) taken.state);
@@ -34,7 +34,7 @@ returns-clause-absorbs g c s p left is rule made few =
           roster = is.roster;
           kinds = is.kinds;
         };
-        used = grown-so s p e sigs c.args.made c.args.count made c.requires.count told.0;
+        used = grown-so s p e sigs c.args.made c.args.count made c.requires.count reported.0;
         few = taken.few;
         outcome = taken.outcome;
       },

@@ -10,8 +10,8 @@ use Rattle.replay_cast.specs.declared.player.Player.{Player}
 use Rattle.replay_defs.specs.Worlds.{setting_of}
 use Rattle.trace_defs.specs.Happenings as defs
 use Rattle.trace_defs.specs.Happenings.{Happening}
-use Rattle.happenings.specs.declared.told.Handed.TheVariants as kinds
-use Rattle.happenings.specs.Told.{Tells}
+use Rattle.happenings.specs.declared.reported.Handed.TheVariants as kinds
+use Rattle.happenings.specs.Reported.{Tells}
 use Rattle.replay_world.proofs.Places.{position_low}
 use Rattle.replay_world.proofs.Saying.{frames_counted, gets_absent, gets_sent, takes_absent, tells_nothing}
 use Rattle.replay_world.proofs.Giving.{placed, looked_up, delivered, delivers_frame, delivers_absent, delivers_nobody, given_becomes, given_exceeds, given_tells, no_player}
@@ -82,22 +82,22 @@ returns-clause-exceeds c =
 
 pub returns-in_default-clause-tells : goal.returns-in_default-clause-tells
 returns-in_default-clause-tells c = λ h v shows.
-    let P : List Happening → Type 0 = λ xs. Tells c.args.told.now xs c.args.told.now in
+    let P : List Happening → Type 0 = λ xs. Tells c.args.reported.now xs c.args.reported.now in
     subst P (sym (gets_absent h c.args.self.now v c.args.to c.args.frame c.deref.result.now shows c.deref.ensures.value
     c.in_default.ensures.lookup.3))
-    (tells_nothing c.args.told.now)
+    (tells_nothing c.args.reported.now)
 
 pub returns-in_default-place_of-clause-tells : goal.returns-in_default-place_of-clause-tells
 returns-in_default-place_of-clause-tells c = λ h v shows.
     let f = c.in-Some.sent.now in
     let get = looked_up c.deref.result.now c.args.self.now.traffic.frames.items c.args.frame f c.deref.ensures.value
     c.in-Some.ensures.lookup.0 c.in-Some.ensures.lookup.1 in
-    let P : List Happening → Type 0 = λ xs. Tells c.args.told.now xs c.args.told.now in
+    let P : List Happening → Type 0 = λ xs. Tells c.args.reported.now xs c.args.reported.now in
     subst P (sym (gets_sent h c.args.self.now v c.args.to c.args.frame f shows get
     ∙ takes_absent (setting_of h) v c.args.to (defs.Frame c.args.frame f.sender) (group.Hand f.sender (frame_said f.bytes))
     (no_player h c.args.self.now v c.args.to c.place_of.result c.deref-2.result.now shows c.in_default-place_of.is c.place_of.ensures
     c.deref-2.ensures.value)))
-    (tells_nothing c.args.told.now)
+    (tells_nothing c.args.reported.now)
 
 pub returns-clause-tells : goal.returns-clause-tells
 returns-clause-tells c =
@@ -113,10 +113,10 @@ returns-clause-tells c =
     let marked : length c.mark.new.frames.items ≡ length c.args.self.now.traffic.frames.items =
     ap length (c.mark.ensures f get) ∙ length-set c.args.self.now.traffic.frames.items c.args.frame (record f { handed = true }) in
     on_ok_weaker c.note.result (λ tells. λ h v shows.
-    let P : List Happening → Type 0 = λ xs. Tells c.args.told.now xs c.note.new.told in
+    let P : List Happening → Type 0 = λ xs. Tells c.args.reported.now xs c.note.new.reported in
     subst P (sym (gets_sent h c.args.self.now v c.args.to c.args.frame f shows get))
     (given_tells h stepped v c.args.to (group.Hand f.sender (frame_said f.bytes)) c.in_ok-outcome.outcome
-    (kinds.Frame c.args.frame f.sender) _ c.args.told.now c.note.new.told
+    (kinds.Frame c.args.frame f.sender) _ c.args.reported.now c.note.new.reported
     (delivered h c.args.self.now stepped v c.args.to c.in-Some-place_of.i c.args.frame f _ c.in_ok-outcome.outcome shows place
     c.in_ok-outcome.ensures
     (ap (λ bytes. group.Hand f.sender (frame_said bytes)) c.bytes.ensures) get

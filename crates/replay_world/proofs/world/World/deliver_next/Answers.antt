@@ -26,4 +26,4 @@ pub returns-clause-tells : goal.returns-clause-tells
 returns-clause-tells c =
     let mid = record c.args.self.now { traffic = record c.args.self.now.traffic { pending = c.pop_front.new.self } } in
     pops_tell c.args.self.now mid c.in-Some.next
-    (mask_of c.args.to) c.args.told.now c.arrive.new.told refl c.in-Some.ensures.items c.in_ok-arrive.ensures.tells
+    (mask_of c.args.to) c.args.reported.now c.arrive.new.reported refl c.in-Some.ensures.items c.in_ok-arrive.ensures.tells

@@ -4,22 +4,22 @@ use Rattle.rp_base.specs.Pids.{mask_of}
 use Rattle.replay_defs.specs.Worlds.{setting_of, drains}
 use Rattle.replay_world.specs.declared.fault.WorldFault.{WorldFault}
 use Rattle.replay_world.specs.Worlds.{Exceeds}
-use Rattle.replay_world.proofs.Draining.{DrainsOn, ToldSoFar, drains_on, drains_out, drains_done, drains_exceed, told_done, told_on, told_out}
+use Rattle.replay_world.proofs.Draining.{DrainsOn, ReportedSoFar, drains_on, drains_out, drains_done, drains_exceed, reported_done, reported_on, reported_out}
 use Rattle.replay_world.proofs.world.World.drain.Goals as goal
 
 pub deliveries-preserved : goal.deliveries-preserved
 deliveries-preserved c =
     let one : c.deliveries.left ≡ suc (c.deliveries.left - 1) = omega arith in
     let P : ℕ → Type 0 = λ n. DrainsOn (mask_of c.args.to) c.args.count c.args.self.now n c.deliveries.self in
-    let Q : ℕ → Type 0 = λ n. ToldSoFar
-    (mask_of c.args.to) c.args.count c.args.self.now c.args.told.now n c.deliveries.self c.deliveries.told in
+    let Q : ℕ → Type 0 = λ n. ReportedSoFar
+    (mask_of c.args.to) c.args.count c.args.self.now c.args.reported.now n c.deliveries.self c.deliveries.reported in
     record {
       drains = drains_on (mask_of c.args.to) c.args.count (c.deliveries.left - 1) c.args.self.now c.deliveries.self c.deliver_next.new.self
           (subst P one c.deliveries.invariant.drains)
           c.in_ok-deliver_next.ensures.becomes (λ h v shows. sym c.if-not-branch.false ∙ c.in_ok-deliver_next.ensures.waits h v shows);
-      told = told_on (mask_of c.args.to) c.args.count
-          (c.deliveries.left - 1) c.args.self.now c.deliveries.self c.deliver_next.new.self c.args.told.now c.deliveries.told
-          c.deliver_next.new.told (subst Q one c.deliveries.invariant.told) c.in_ok-deliver_next.ensures.becomes
+      reported = reported_on (mask_of c.args.to) c.args.count
+          (c.deliveries.left - 1) c.args.self.now c.deliveries.self c.deliver_next.new.self c.args.reported.now c.deliveries.reported
+          c.deliver_next.new.reported (subst Q one c.deliveries.invariant.reported) c.in_ok-deliver_next.ensures.becomes
           c.in_ok-deliver_next.ensures.tells
           (λ h v shows. sym c.if-not-branch.false ∙ c.in_ok-deliver_next.ensures.waits h v shows);
       count = c.in_ok-deliver_next.ensures.count ∙ c.deliveries.invariant.count;
@@ -49,15 +49,15 @@ returns-in_err-deliver_next-clause-exceeds c =
 
 pub returns-then-not-branch-clause-tells : goal.returns-then-not-branch-clause-tells
 returns-then-not-branch-clause-tells c =
-    told_out (mask_of c.args.to) c.args.count c.deliveries.left c.args.self.now c.deliveries.self c.args.told.now c.deliveries.told
-    c.deliver_next.new.told
-    c.deliveries.invariant.told c.in_ok-deliver_next.ensures.tells
+    reported_out (mask_of c.args.to) c.args.count c.deliveries.left c.args.self.now c.deliveries.self c.args.reported.now c.deliveries.reported
+    c.deliver_next.new.reported
+    c.deliveries.invariant.reported c.in_ok-deliver_next.ensures.tells
     (λ h v shows. sym c.if-not-branch.true ∙ c.in_ok-deliver_next.ensures.waits h v shows)
 
 pub returns-clause-tells : goal.returns-clause-tells
 returns-clause-tells c =
     let none : c.deliveries.left ≡ 0 = omega arith in
-    let P : ℕ → Type 0 = λ n. ToldSoFar
-    (mask_of c.args.to) c.args.count c.args.self.now c.args.told.now n c.deliveries.self c.deliveries.told in
-    told_done (mask_of c.args.to) c.args.count c.args.self.now c.deliveries.self c.args.told.now c.deliveries.told
-    (subst P none c.deliveries.invariant.told)
+    let P : ℕ → Type 0 = λ n. ReportedSoFar
+    (mask_of c.args.to) c.args.count c.args.self.now c.args.reported.now n c.deliveries.self c.deliveries.reported in
+    reported_done (mask_of c.args.to) c.args.count c.args.self.now c.deliveries.self c.args.reported.now c.deliveries.reported
+    (subst P none c.deliveries.invariant.reported)

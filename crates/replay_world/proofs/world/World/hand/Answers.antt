@@ -5,7 +5,7 @@ use Rattle.replay_world.specs.Steps.{NotesTooMuch}
 use Rattle.replay_cast.specs.declared.player.Player.{Player}
 use Rattle.replay_defs.specs.Worlds.{setting_of}
 use Rattle.trace_defs.specs.Happenings.{Happening}
-use Rattle.happenings.specs.Told.{handed, Tells}
+use Rattle.happenings.specs.Reported.{handed, Tells}
 use Rattle.replay_world.proofs.Places.{position_low}
 use Rattle.replay_world.proofs.Saying.{frames_counted, takes_absent, tells_nothing}
 use Rattle.replay_world.proofs.Giving.{placed, nobody, no_player, given, given_becomes, given_exceeds, given_tells, raws_keep}
@@ -47,11 +47,11 @@ returns-clause-exceeds c =
 
 pub returns-in_default-clause-tells : goal.returns-in_default-clause-tells
 returns-in_default-clause-tells c = λ h v shows.
-    let P : List Happening → Type 0 = λ xs. Tells c.args.told.now xs c.args.told.now in
+    let P : List Happening → Type 0 = λ xs. Tells c.args.reported.now xs c.args.reported.now in
     subst P (sym (takes_absent (setting_of h) v c.args.at (handed c.args.handed) (event c.args.event.now)
     (no_player h c.args.self.now v c.args.at c.place_of.result c.deref.result.now shows c.in_default.is c.place_of.ensures
     c.deref.ensures.value)))
-    (tells_nothing c.args.told.now)
+    (tells_nothing c.args.reported.now)
 
 pub returns-clause-tells : goal.returns-clause-tells
 returns-clause-tells c =
@@ -59,7 +59,7 @@ returns-clause-tells c =
     let place = placed c.args.at c.place_of.result c.deref.result.now c.args.self.now.players.items c.in-Some.i c.in-Some.is
     c.place_of.ensures c.deref.ensures.value in
     on_ok_weaker c.note.result (λ tells. λ h v shows.
-    given_tells h stepped v c.args.at (event c.args.event.now) c.in_ok-outcome.outcome c.args.handed _ c.args.told.now c.note.new.told
+    given_tells h stepped v c.args.at (event c.args.event.now) c.in_ok-outcome.outcome c.args.handed _ c.args.reported.now c.note.new.reported
     (given h c.args.self.now stepped v c.args.at c.in-Some.i c.args.event.now c.in_ok-outcome.outcome shows place c.in_ok-outcome.ensures
     (record { group = refl; scheme = refl; roster = refl; liars = refl; refused = refl; spent = refl; count = refl })
     (λ x. x) (raws_keep c.args.self.now stepped c.args.event.now refl c.in_ok-keep_bytes.ensures))

@@ -17,10 +17,10 @@ use Rattle.replay_world.proofs.Giving.{on_ok_both}
 use Rattle.replay_world.proofs.Happenings.{too_much_stops}
 use Rattle.trace_defs.specs.Happenings as defs
 use Rattle.trace_defs.specs.Happenings.{Happening}
-use Rattle.happenings.specs.Told.{Tells}
+use Rattle.happenings.specs.Reported.{Tells}
 use Rattle.replay_world.proofs.Saying.{frames_counted}
 use Rattle.replay_world.proofs.Places.{position_low}
-use Rattle.replay_world.proofs.Telling.{lie_by_nobody, lie_spent, lie_told, lie_shows, no_liar, tells_of_lie, tells_of_silence}
+use Rattle.replay_world.proofs.Telling.{lie_by_nobody, lie_spent, lie_reported, lie_shows, no_liar, tells_of_lie, tells_of_silence}
 use Rattle.replay_world.proofs.world.World.lie.Goals as goal
 
 pub returns-in_default-clause-happens : goal.returns-in_default-clause-happens
@@ -60,7 +60,7 @@ returns-clause-happens c =
     let lie = subst P c.in-Some-2.is c.in_ok-frame.ensures in
     on_ok_weaker c.send.result (λ both. λ h v s event. (
       plain.send c.args.signer (has c.from_mask-to.result) v c.in-Some-2.frame,
-      lie_told h c.args.self.now new v c.args.signer c.in-Some.i
+      lie_reported h c.args.self.now new v c.args.signer c.in-Some.i
           (mask_of c.args.to) c.from_mask-to.result c.args.statement.now c.in-Some-2.frame
           (stmt c.in-Ok.said) s place lie c.in-Ok.ensures.exact
           (c.from_mask-to.ensures ∙ ap members (sym mask)),
@@ -95,7 +95,7 @@ returns-clause-stops c =
     IfErr-weaker c.send.result _ _ (λ fault much. λ h v s event.
     too_much_stops h v (plain.send c.args.signer (has c.from_mask-to.result) v c.in-Some-2.frame)
     (Lie c.args.signer (mask_of c.args.to) c.args.statement.now) fault
-    (lie_told h c.args.self.now new v c.args.signer c.in-Some.i
+    (lie_reported h c.args.self.now new v c.args.signer c.in-Some.i
     (mask_of c.args.to) c.from_mask-to.result c.args.statement.now c.in-Some-2.frame (stmt c.in-Ok.said) s place lie c.in-Ok.ensures.exact
     (c.from_mask-to.ensures ∙ ap members (sym mask)))
     (much v s.traffic (rw c.deref-2.ensures.value
@@ -114,7 +114,7 @@ returns-in_default-2-clause-tells c = λ h v s event.
     ≡ Some c.in-Some.i = sym (ap find c.deref.ensures.value) ∙ (sym c.place_of.ensures ∙ c.in-Some.is) in
     let P : Option (List ℕ) → Type 0 = λ lie. LiesAt c.args.self.now.group
     (stmt c.in-Ok.said) c.args.self.now.liars.items c.lie_at.new.liars.items c.in-Some.i lie in
-    let Q : List Happening → Type 0 = λ xs. Tells c.args.told.now xs c.add.new.self in
+    let Q : List Happening → Type 0 = λ xs. Tells c.args.reported.now xs c.add.new.self in
     subst Q (sym (tells_of_silence h c.args.self.now (record c.args.self.now { liars = c.lie_at.new.liars }) v c.args.signer c.in-Some.i
     (mask_of c.args.to) c.args.statement.now (stmt c.in-Ok.said)
     s place (subst P c.in_default-2.is c.in_ok-frame.ensures) c.in-Ok.ensures.exact)) c.in_ok-add.ensures
@@ -132,10 +132,10 @@ returns-clause-tells c =
     (stmt c.in-Ok.said) c.args.self.now.liars.items c.lie_at.new.liars.items c.in-Some.i lie in
     let lie = subst P c.in-Some-2.is c.in_ok-frame.ensures in
     on_ok_weaker c.send.result (λ sent. λ h v s event.
-    let Q : List Happening → Type 0 = λ xs. Tells c.args.told.now xs c.tell_lie.new.told in
-    let told = tells_of_lie h c.args.self.now (record c.args.self.now { liars = c.lie_at.new.liars }) v c.args.signer c.in-Some.i
+    let Q : List Happening → Type 0 = λ xs. Tells c.args.reported.now xs c.tell_lie.new.reported in
+    let reported = tells_of_lie h c.args.self.now (record c.args.self.now { liars = c.lie_at.new.liars }) v c.args.signer c.in-Some.i
     (mask_of c.args.to) c.args.statement.now c.in-Some-2.frame (stmt c.in-Ok.said) s place lie c.in-Ok.ensures.exact in
     let number = ap (λ (n : ℕ). defs.Lies c.args.signer c.args.statement.now n (members (mask_of c.args.to)) ∷ [])
     (frames_counted h c.args.self.now v s) in
     let addressed = ap (λ (ps : List ℕ). defs.Lies c.args.signer c.args.statement.now (frame_count c.args.self.now) ps ∷ []) (sym those) in
-    subst Q (sym (told ∙ number ∙ addressed)) c.in_ok-tell_lie.ensures) c.send.ensures.sends
+    subst Q (sym (reported ∙ number ∙ addressed)) c.in_ok-tell_lie.ensures) c.send.ensures.sends

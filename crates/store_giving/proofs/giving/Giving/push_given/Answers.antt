@@ -3,7 +3,7 @@ use Rattle.store_defs.specs.Records.{state_bytes}
 use Rattle.store_giving.specs.Given.{signed_record}
 use Rattle.store_giving.specs.Signatures.{record_with}
 use Rattle.store_giving.proofs.Signing.{kept-short, record-so}
-use Rattle.store_giving.proofs.Telling.{given-told, on-ok}
+use Rattle.store_giving.proofs.Telling.{given-reported, on-ok}
 use Rattle.store_giving.proofs.giving.Giving.push_given.Goals as goal
 
 pub push_state-requires : goal.push_state-requires
@@ -17,7 +17,7 @@ push_state-requires c = record {
 
 pub returns-clause-given : goal.returns-clause-given
 returns-clause-given c = on-ok c.push_hex_line.result
-    (given-told c.args.self.now.me (signed_record c.args.self.now) c.deref-2.result.now c.args.out.now.items c.push_hex_line.new.out.items
+    (given-reported c.args.self.now.me (signed_record c.args.self.now) c.deref-2.result.now c.args.out.now.items c.push_hex_line.new.out.items
     (c.deref-2.ensures.value ∙ c.in_ok-push_state.ensures.pushed
     ∙ ap (λ (b : List ℕ). b ++ state_bytes (record_with c.args.self.now.me c.number.result c.bytes.result.now c.deref.result.now))
     c.new-record.ensures.items

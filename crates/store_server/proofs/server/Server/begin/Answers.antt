@@ -16,9 +16,9 @@ use Rattle.store_server.proofs.Parts.{lists-length, lists-so}
 use Rattle.store_server.proofs.server.Server.begin.Goals as goal
 
 pub returns : goal.returns
-returns c = λ p told numbered.
-    let a = account c.args.told.now in
-    let q = place_with c.args.told.now.me c.args.group (secret_in c.args.secret.now) in
+returns c = λ p reported numbered.
+    let a = account c.args.reported.now in
+    let q = place_with c.args.reported.now.me c.args.group (secret_in c.args.secret.now) in
     let below = lists_of c.in-Some.below.now in
     let here = map delivery c.in-Some.here.now.items in
     let before = c.in-Some-split_last.field-0-1.now in
@@ -35,17 +35,17 @@ returns c = λ p told numbered.
     record {
       replies = c.new-replies.ensures q (server_of p) refl refl (sym c.in_ok-key.ensures.signs)
           (c.count.ensures ∙ ap (λ (n : ℕ). min n most_counted)
-          (ap (delivered_below a) (sym (lists-length c.args.told.now.delivered.items))
-          ∙ count-so p a told numbered below here lists before view views))
-          (last-of p a told numbered below here lists before view views)
+          (ap (delivered_below a) (sym (lists-length c.args.reported.now.delivered.items))
+          ∙ count-so p a reported numbered below here lists before view views))
+          (last-of p a reported numbered below here lists before view views)
           (sym (c.in_ok-store-2.ensures
           ∙ ap (λ (ds : List Delivered). option_map (λ (t : Store). store_after t (payloads_of (map delivery ds))) c.in_ok-store.store)
           c.deref-3.ensures.value
           ∙ ap (λ (o : Option Store). option_map (λ (t : Store). store_after t (payloads_of here)) o) started
-          ∙ stored-so p a told numbered below here lists before view views));
+          ∙ stored-so p a reported numbered below here lists before view views));
       gives = c.in_ok-giving.ensures q (server_of p) refl refl (sym c.in_ok-states.ensures.signs)
-          (view-of p a told numbered below here lists before view views ∙ sym cloned)
-          (sym (c.as_ref.ensures.value ∙ started ∙ gives-so p a told numbered below here lists before view views))
-          (keys-of p a told numbered below here lists before view views)
-          (transfer-of p a told numbered below here lists before view views ∙ ap new_transfer (sym cloned));
+          (view-of p a reported numbered below here lists before view views ∙ sym cloned)
+          (sym (c.as_ref.ensures.value ∙ started ∙ gives-so p a reported numbered below here lists before view views))
+          (keys-of p a reported numbered below here lists before view views)
+          (transfer-of p a reported numbered below here lists before view views ∙ ap new_transfer (sym cloned));
     }

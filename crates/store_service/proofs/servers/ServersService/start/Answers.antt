@@ -15,7 +15,7 @@ returns-clause-tells c = λ version now h has hosted.
     let are = c.in_ok-servers.ensures version now hosted in
     record {
       text = c.push_keys.new.out.items;
-      told = c.in_ok-extend_from_slice.ensures.items ∙ ap (λ (t : List ℕ). c.args.lines.now.items ++ t) c.as_slice-2.ensures.value;
+      reported = c.in_ok-extend_from_slice.ensures.items ∙ ap (λ (t : List ℕ). c.args.lines.now.items ++ t) c.as_slice-2.ensures.value;
       has = begins h c.args.self.now has k w (map now k.hosted) c.push_keys.new.out.items
           (c.in_ok-push_keys.ensures.pushed (map (λ x. x.place) xs) (subst (AreServers (map (λ x. x.place) xs))
           (sym c.as_slice.ensures.value) (servers-are xs c.in_ok-servers.servers.items are))

@@ -1,5 +1,0 @@
-use Rattle.store_text_laws.proofs.Requests as laws
-use Rattle.store_text_laws.proofs.payload_is_told.Goals as goal
-
-pub returns : goal.returns
-returns c = laws.payload_is_told

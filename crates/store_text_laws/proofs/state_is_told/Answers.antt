@@ -1,5 +1,0 @@
-use Rattle.store_text_laws.proofs.Told as laws
-use Rattle.store_text_laws.proofs.state_is_told.Goals as goal
-
-pub returns : goal.returns
-returns c = laws.state_is_told
