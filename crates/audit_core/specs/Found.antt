@@ -1,4 +1,7 @@
 -- What an audit found, as it is reported.
+-- Names here (* for this crate alone):
+--   a conviction: Evidence, evidence, evidence_of, Shown*, shown*, shown_of*
+--   all of it: Found, found_of*, listed_in*, grounds_by*, grounds_of*, IsFound
 use Rattle.std.specs.Prelude.{◌≡◌, ℕ, ◌==◌, List, [], map, find, Some, None}
 use Rattle.message_defs.specs.Packing.{Signed, signed_of}
 use Rattle.group_defs.specs.Process.{Setting}

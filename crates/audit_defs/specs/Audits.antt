@@ -1,4 +1,6 @@
 -- An audit: who is taken as correct, what the journals say of them, and why some journals are refused.
+-- Names here (* for this crate alone):
+--   AuditFault, first_other*, sources_of, cast_of, Known, knows, goes, goes_through, Audited, audited_in, audited
 use Rattle.std.specs.Prelude.{ℕ, List, [], ◌∷◌, ◌++◌, find, Option, Some, None, Result, Ok, Err}
 use Rattle.std.specs.List.{filter_map, enumerate_from}
 use Rattle.byte_defs.specs.Fields.{◌>>=◌}

@@ -5,6 +5,10 @@
 -- D counts the messages that it delivered in all views; the views' members are in rank order; HEX is a statement's bytes, and N its kind,
 -- 3 to 5 for an Order, a Place or a Keep of several messages too.
 -- Or the line that says why there are no findings.
+-- Names here (* for this crate alone):
+--   Reported, reported_of, Findings, findings_of, grounds*
+--   its text: bool_text, array_text, hex_text, view_text, delivered_in_all, process_text, reported_text, findings_text, findings_line
+--   of the bytes: NoFindings, audit_of, line_words*, status_of, stop_words*, stop_line
 use Rattle.std.specs.Prelude.{ℕ, Bool, ◌==◌, if◌then◌else◌, List, [], ◌∷◌, ◌++◌, length, map, sum, find, codes, Some, None, Result, Ok, Err}
 use Rattle.std.specs.Fmt.{decimal}
 use Rattle.std.specs.List.{join_with_byte}

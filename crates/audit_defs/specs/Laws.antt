@@ -1,4 +1,8 @@
 -- The laws of an audit, each the contract of a public function of audit_laws.
+-- Names here (* for this crate alone):
+--   of an audit: WrittenIsTested, IsOfListed, AuditIsOfListed, NoneListedIsConvicted, HonestByFirsts, FirstGiveLast, FindingsHeadline
+--   of what is read: takes_at, JournalIsWalked, BreakIsMet, own_entries, FamilyIsOfEntries
+--   of evidence: EvidenceConvicts, EvidenceSparesCorrect
 use Rattle.std.specs.Prelude.{◌≡◌, ◌≢◌, ◌⊎◌, ℕ, ◌+◌, ◌==◌, ◌&&◌, if◌then◌else◌, true, List, [], ◌∷◌, ◌++◌, length, map, filter, flat_map, IsTrue, ◌↔◌, All, Contains, Ok, Err}
 use Rattle.std.specs.List.{AllByRecursion}
 use Rattle.std.specs.List.Sorted.{IsStrictlyIncreasing}

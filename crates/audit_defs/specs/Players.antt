@@ -2,6 +2,12 @@
 --
 -- Each is hosted by exactly one journal. An entry of it there is a turn of it, with the entry's signatures; an entry of it in another
 -- journal is refused; an entry of a process that is not listed is read and passed over.
+-- Names here (* for this crate alone):
+--   setting_of, Player
+--   who hosts it: hosts_of, is_missing, is_repeated, player, player_by, players_of
+--   a turn of an entry: event_of, turn_of, most_signatures, same_answer, is_written, IsWritten*, claims_of, with_turn, Taken, absorbed,
+--     behind, taking
+--   the family: correct_of, family_of, turns_from
 use Rattle.std.specs.Prelude.{ℕ, ◌+◌, ◌==◌, ◌&&◌, not, nat_le, nat_lt, if◌then◌else◌, Bool, List, [], ◌∷◌, ◌++◌, length, map, filter, find, Option, Some, None, option_map, IsTrue}
 use Rattle.std.specs.List.{list_all, enumerate_from, filter_map}
 use Rattle.byte_defs.specs.Members.{has}

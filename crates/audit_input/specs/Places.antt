@@ -1,4 +1,7 @@
 -- Places of an input after the line `go`, and what is read from one on.
+-- Names here (* for this crate alone):
+--   Place*, place*, first_place*, Journals*, journals_from*, and_then*, behind_journal*
+--   a line: length_behind*, length_within*, journals_behind*, behind_line*
 use Rattle.std.specs.Prelude.{ℕ, ◌+◌, ◌-◌, ◌&&◌, nat_le, nat_lt, if◌then◌else◌, List, [], ◌∷◌, ◌++◌, length, take, drop, Option, Some, None, option_and_then, Result, Ok, Err}
 use Rattle.byte_defs.specs.Fields.{◌>>=◌}
 use Rattle.text_defs.specs.Words.{number_within, words_of}

@@ -1,6 +1,9 @@
 -- A chain of views: a proof is a frame that shows the view after one view, by a quorum's Readies.
 -- Only these claims count: valid Readies of the view by its members, and of a member's Readies of one rank the first. The least rank at
 -- which a quorum says one value whose update is possible gives that update.
+-- Names here (* for this crate alone):
+--   the claims of a proof: proof_of, proof_by, proof_said
+--   what they show: is_ready, counts, counted, shown, most_agreeing, shows, advance, views_shown
 use Rattle.std.specs.Prelude.{ℕ, ◌+◌, Bool, true, false, ◌&&◌, ◌==◌, max, List, [], ◌∷◌, length, filter, fold, Option, Some, None, Result, Ok, Err}
 use Rattle.std.specs.List.{range_with_len}
 use Rattle.byte_defs.specs.Choices.{first_some}

@@ -1,4 +1,7 @@
 -- What bytes show after view 0 of the members 0 1 2 3, each of their faults, and what comes first. Each answer is the reference's.
+-- Names here (* for this crate alone):
+--   packed*, a_bundle*, a_want*, want_beyond*, nothing_at_all*, version_two*, fourth_kind*, no_groups*, cut_off*, one_more*,
+--     notify_in_proof*, bad_group_behind*, signer_beyond*, Frames*
 use Rattle.std.specs.Prelude.{◌≡◌, ℕ, List, [], ◌∷◌, Ok, Err}
 use Rattle.message_defs.specs.declared.FrameFault.TheVariants as frames
 use Rattle.chain_defs.specs.declared.ChainFault.TheVariants as chains

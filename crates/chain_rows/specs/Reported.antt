@@ -1,4 +1,7 @@
 -- What `chain` says after a kit of the members 0 and the processes 0 and 1, whose line `go` is number 13. Each answer is the reference's.
+-- Names here (* for this crate alone):
+--   s*, says*, two_views*, again*, no_proof*, want_line*, short_line*, no_bytes*, odd_digits*, upper_case*, two_words*, other_word*,
+--     empty_line*, no_line_feed*, behind_a_view*, Reported*
 use Rattle.std.specs.Prelude.{◌≡◌, ℕ, ◌==◌, List, [], ◌∷◌, ◌++◌, length, codes}
 use Rattle.group_defs.specs.Process.{Setting, all_kinds}
 use Rattle.chain_text_defs.specs.Chains.{Answer, chain_at}

@@ -1,4 +1,8 @@
 -- What claims show after a view. Each answer is the reference's; those that show a view come with the wrong readings of the rule.
+-- Names here (* for this crate alone):
+--   four*, two*, one*, quorum*, added*, removed*, one_less*, no_claims*, stranger*, keyless*, twice*, forged_one*, two_ranks*,
+--     two_cuts*, places*, least_rank*, impossible*, above_impossible*, first_counts*, first_valid_counts*, each_rank_its_first*,
+--     high_rank*, highest_rank*, others_passed_over*, two_members*, last_of_two*, last_member*, Shown*
 use Rattle.std.specs.Prelude.{◌≡◌, List, [], ◌∷◌, Ok, Err}
 use Rattle.message_defs.specs.Updates.{Remove, Add, Renew}
 use Rattle.message_defs.specs.Statements.{Echo, Place, Ready, Claim}

@@ -6,6 +6,11 @@
 -- and where it stops, after these, one line more with the number of the line, counted from the input's first one:
 --   stop 7 line N | repeated N | missing N | keymismatch N     the kit's fault, or a line of another form, or the input's end in a line
 --   stop 7 frame N WORD | notproof N | few N NUMBER            the proof shows no view
+-- Names here (* for this crate alone):
+--   setting_of
+--   lines: most_proof_line, frame_in, proof_by, proof_in, view_line
+--   stops: kit_words, proof_words
+--   the answer: Answer, done, stopped, behind, chain_at, chain_from, chain_of
 use Rattle.std.specs.Prelude.{ℕ, ◌+◌, ◌/◌, ◌==◌, nat_lt, if◌then◌else◌, List, [], ◌∷◌, ◌++◌, length, map, Option, Some, None, Result, Ok, Err, codes}
 use Rattle.std.specs.Fmt.{decimal}
 use Rattle.byte_defs.specs.Equality.{same_bytes}

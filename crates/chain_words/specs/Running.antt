@@ -1,6 +1,9 @@
 -- What a run has read and written that answers an input view by view: by what a source had left before and has left now, what a sink held
 -- before and holds now, and the counts of the sink's faults before and now. Of a stream that does not tell what it holds, nothing is said by
 -- it. The answer is any function of all bytes of the input that goes on from a place of a chain: `chain_of`, or another one that a chain is in.
+-- Names here (* for this crate alone):
+--   StandsBy, AnsweredBy, ShownBy*, SomeShownBy, ShownAndSaysBy, ShownInPartBy, FaultyBy, RefusedBy, HasStatusBy
+--   of a chain from a kit's first view on: Stands*, Answered*, SomeShown*, ShownAndSays*, ShownInPart*, Faulty*, Refused*, HasStatus*
 use Rattle.std.specs.Prelude.{◌≡◌, ◌⊎◌, ℕ, List, [], ◌++◌, Option, IsSomeAnd}
 use Rattle.std.specs.Io.KnownBytes.{Appends}
 use Rattle.rp_base.specs.Streams.{AppendsPrefix, Says}

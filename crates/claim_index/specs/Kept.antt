@@ -1,4 +1,8 @@
 -- How claims are kept: their bytes one after the other, and by key where a claim's bytes are among them.
+-- Names here (* for this crate alone):
+--   what contracts see: claim_bytes, Holding, by_number, empty_pool, with_heard, is_kind_heard
+--   where the bytes are: spelled*, middle*, past*, statement_bytes*, claim_with, claim_at, heard_in, pool_of*
+--   what holds of them: IsKept*, AreKept, AreNoted*, IsIndex*, IsMarkedIndex*
 use Rattle.std.specs.Prelude.{◌≡◌, ℕ, ◌+◌, ◌≤◌, ◌==◌, Bool, false, List, [], ◌∷◌, ◌++◌, length, map, take, slice_index_or, slice_range, Ok, Err, IsOk}
 use Rattle.std.specs.List.{AllByRecursion, list_any, sum_by}
 use Rattle.message_defs.specs.Statements.{Statement, End, Claim, kind_number, slot_of}

@@ -1,4 +1,7 @@
 -- The command that words ask for, word by word.
+-- Names here (* for this crate alone):
+--   behind*, plain_by*, is_colon_behind*, tree_by*, lms_by*, hss_by*, plan_of*, order_of*, payload_of*, spelled_payload*, rising_from*,
+--     listed_of, hosting_of*, other_of*, command_of*
 use Rattle.std.specs.Prelude.{ℕ, ◌+◌, ◌/◌, ◌^◌, ◌-◌, ◌==◌, ◌&&◌, nat_le, Bool, true, false, if◌then◌else◌, List, [], ◌∷◌, length, take, drop, slice_index, Option, Some, None, option_map, option_and_then, codes}
 use Rattle.std.specs.Option.{option_or, unwrap_or}
 use Rattle.byte_defs.specs.Equality.{same_bytes}

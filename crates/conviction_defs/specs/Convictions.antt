@@ -3,6 +3,12 @@
 -- A signer is convicted by a list of claims where two of them are its own, valid, and conflict: kind and slot are equal, and the contents
 -- differ. Of several such pairs one is given: `second` is the first claim of the signer that conflicts with one before it, and `first` the
 -- earliest one of that kind and slot.
+-- Names here (* for this crate alone):
+--   Conviction
+--   as a relation: Convicts
+--   as a test: is_on_slot, is_conflict, claims_by, has_conflict, is_convicted, convicted
+--   and which two: earliest_with, pair_behind, conviction_of, convictions
+--   by the first claims alone, as they are kept: firsts_behind, firsts*
 use Rattle.std.specs.Prelude.{◌≡◌, ℕ, ◌==◌, ◌&&◌, not, if◌then◌else◌, Bool, List, [], ◌∷◌, ◌++◌, filter, find, Option, None, option_map, Contains, IsTrue}
 use Rattle.std.specs.List.{list_any, filter_map}
 use Rattle.message_defs.specs.Statements.{Claim, Conflicts, slot_of, same_slot, same_statement}

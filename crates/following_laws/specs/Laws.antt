@@ -1,4 +1,7 @@
 -- What a server writes of its process during a turn, and how it takes the store over from states that it is offered.
+-- Names here (* for this crate alone):
+--   replies: OpensPlaces*, TurnReplies*, TurnOpensPlaces*, RepliesStay*, GivesStay*
+--   offers: Offered*, with_offer*, Collects*, TakesOver*, FollowsOffers*, OfferFollows*
 use Rattle.std.specs.Prelude.{◌≡◌, ◌≢◌, ℕ, ◌<◌, ◌≤◌, ◌||◌, not, if◌then◌else◌, List, [], ◌∷◌, ◌++◌, length, Option, None, is_some, Contains, Ok, Err}
 use Rattle.group_defs.specs.Views.{is_member}
 use Rattle.group_defs.specs.Process.{Setting, Delivered, Process, places_in}

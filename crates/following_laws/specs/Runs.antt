@@ -1,4 +1,8 @@
 -- A run of a server: the events of its process, each reported to it, and the words that a script has for it.
+-- Names here (* for this crate alone):
+--   what happens in a run: Step, turns_in, Moment, begin, with_word*, after_step, reached
+--   what it signs: WritesReply, WritesState
+--   runs of a correct process: ServedRun, first*, RunReplies*, RunGives*, RunsReplyOnce*, RunsGiveOnce*, RunHolds*
 use Rattle.std.specs.Prelude.{◌≡◌, ℕ, nat_lt, if◌then◌else◌, List, [], ◌∷◌, ◌++◌, length, Contains, Some}
 use Rattle.group_defs.specs.Process.{Setting, Delivered, Process, start}
 use Rattle.group_defs.specs.Accounts.{IsPrefixOf, group_of}

@@ -1,4 +1,12 @@
 -- What the questions of a family read of its processes, and the questions.
+-- Names here (* for this crate alone):
+--   Account, account_of, delivered_in, messages_in, HasLeft, IsPrefixOf
+--   the group: Group, longest, group_of, history
+--   the questions: corrupt_in, Bounded, AgreesWith, Agree, HasCause, of_sender, IsOnce, IsInOrder, at_place, batch_at, StandsByPlace,
+--     HaveSameBatches, ArePlaced, Sound
+--   the same, as the report computes them: bounded, same_views, same_sequence, agrees_in, agrees_with, agree, perceived_in, has_cause,
+--     is_in_order, is_sound_in, is_accepted, same_deliveries*, stands_by_place, have_same_batches, are_placed_in, neighbours, sound
+--   the two ways say the same: BoundedIsTested, HasListOfEachView, AccountsHaveLists, AgreeIsTested, SoundIsTested
 use Rattle.std.specs.Prelude.{◌≡◌, ◌≢◌, ℕ, ◌+◌, min, ◌<◌, ◌≤◌, Bool, ◌&&◌, ◌||◌, not, nat_lt, nat_le, ◌==◌, List, [], ◌∷◌, ◌++◌, length, map, take, drop, filter, flat_map, count_by, if◌then◌else◌, IsTrue, ◌↔◌, All, AllPairs, Contains, Some, slice_get, slice_index_or}
 use Rattle.std.specs.List.{list_any, list_all, range_with_len}
 use lib.Pointwise.{pointwise}

@@ -1,4 +1,11 @@
 -- What the heard claims show.
+-- Names here (* for this crate alone):
+--   claim_on, heard_on, number_of_members, says, backers, is_certified, is_notified, certified_on, payload_at, place_at, value_at,
+--     certificate, certificate_on
+--   places: placed_from, placed, place_kept, fixed_length, named, messages
+--   updates and ranks: update_said, notified_updates, removed_rank
+--   the own statements of the view: own, own_on, is_signed, is_ended, ordered, own_orders, rank_said, own_rank, readied, higher,
+--     own_ready
 use Rattle.std.specs.Prelude.{ℕ, zero, suc, ◌+◌, ◌-◌, Bool, ◌&&◌, nat_lt, nat_le, ◌==◌, min, max, if◌then◌else◌, List, [], ◌∷◌, length, map, filter, find, filter_map, flat_map, count_by, fold, take, take_while, Option, Some, None, is_some, option_map, option_and_then}
 use Rattle.byte_defs.specs.Choices.{is_some_and}
 use Rattle.byte_defs.specs.Orders.{sorted}

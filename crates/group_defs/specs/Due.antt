@@ -1,4 +1,12 @@
 -- What is signed: the table, and the least statement of a kind that is due.
+-- Names here (* for this crate alone):
+--   window, is_of_rank, rank_says, same_message, same_batch, same_value, is_perceived
+--   batches: next_of, next_message, next_messages, next_batch, follows, are_certified, is_batch
+--   the table: what each kind needs: is_due, may_sign
+--   what can be due at all: a statement answers a heard one, or is made of the own data: Answer, echo_of, place_of, ready_of, ack_of,
+--     answers, inits, echoes*, orders*, places*, keeps, notifies, end*, readies*, last*, suggests*, acks*, offers
+--   the least one: due_numbers, least_due
+--   that is the least one: kind_of, EachDueIsOffered, SomeIsLeast, LeastIsDue
 use Rattle.std.specs.Prelude.{◌≡◌, ℕ, zero, suc, IsTrue, IsFalse, Contains, ◌+◌, Bool, true, ◌&&◌, not, nat_lt, nat_le, ◌==◌, List, [], ◌∷◌, ◌++◌, length, map, drop, take, filter, filter_map, if◌then◌else◌, Option, Some, None, is_some, option_map, option_and_then, option_to_list, unwrap_or, slice_get}
 use Rattle.std.specs.List.{list_any, list_all, enumerate_from}
 use native.Mathlib.Decide.{ℕ_discrete}

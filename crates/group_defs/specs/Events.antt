@@ -1,4 +1,11 @@
 -- One event: its refusals, and the process after it.
+-- Names here (* for this crate alone):
+--   Event, Turn
+--   refusals: EventFault, no_next, outsider*, refusals, refusal
+--   taking in: perceived_numbers, perceives, take_in
+--   after the event: signing, after, run
+--   what the event answers: Note, Outcome, is_tick, answers, note_if, notes, answered, outcome
+--   journals: journalled, Fits, read_again, JournalGivesTheTurn
 use Rattle.std.specs.Prelude.{ℕ, ◌+◌, ◌-◌, Bool, true, false, not, nat_lt, ◌==◌, List, [], ◌∷◌, ◌++◌, length, map, drop, if◌then◌else◌, Option, Some, None, option_to_list, slice_index_or, ◌≡◌}
 use Rattle.std.specs.Option.{option_map_or}
 use Rattle.byte_defs.specs.Choices.{first_that_holds}

@@ -1,4 +1,7 @@
 -- Families of correct processes, and the premises on what was handed to them.
+-- Names here (* for this crate alone):
+--   Correct, Family, numbers, end_of, ends, accounts, statements_of
+--   the premises: claims_in, handed_to, handed, IsOwned, Honest, honest, HonestIsTested
 use Rattle.std.specs.Prelude.{◌≡◌, ℕ, Bool, ◌||◌, not, ◌==◌, List, [], map, flat_map, IsTrue, ◌↔◌, All, Contains}
 use Rattle.std.specs.List.{list_any, list_all}
 use Rattle.message_defs.specs.Statements.{Statement, Claim, same_statement}

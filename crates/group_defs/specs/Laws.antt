@@ -1,4 +1,16 @@
 -- The laws, each the contract of a public function of safety_laws.
+-- Names here (* for this crate alone):
+--   of one signed list: SignsAt, EachRun*, OnePerSlot, KeepsBeforeEnd, ReportsReady, ReadyBeforeLast, HasGrown, IsFrom, WasDue,
+--     EachWasDue, SignsItsKinds, OrdersWithinLimit, IsOfView, HeardIsOfView, DeliversIn, MembersDeliver, IsBehind, AreInARow,
+--     ViewsInARow, DecisionStands
+--   of one heard list: what a deputy chooses: IsChoice, DeputyAdopts, DeputyChooses
+--   of a family: QuorumsMeet, Premises, settlings_from, settlings, SettledSo, StoodSo, SettledStood, EndStood*, IsViewOfAll, may_back,
+--     IsBacked, IsOneView, InstalledIsView, InstalledIsOne, CertifiedIsBacked, OneContent, ReadyFixesValue, AckedWasFree, KeptBelowCut,
+--     Decides, OneDecision, DeliversWithinCut, NobodyHalts, AgreeUpTo, AllAgreeUpTo, AgreeGoesOn
+--   the theorems: Agreement, CauseAndOrder
+--   growth: of a schedule's first events each process has taken its first turns: StandsBefore, IsFrontOf, GrowsTo*, Growth,
+--     LawsOfViewThen, HoldsAtTheCut*, AtTheCut
+--   local agreement: NoConflict, OnePayload, OnePayloadAtTheEnd, OneBatch, OneSequence
 use Rattle.std.specs.Prelude.{◌≡◌, ◌≢◌, ◌⊎◌, ℕ, ◌+◌, ◌<◌, ◌≤◌, Bool, false, not, ◌&&◌, ◌||◌, ◌==◌, List, [], ◌∷◌, ◌++◌, length, count_by, is_some, IsTrue, IsFalse, All, AllPairs, Contains, Option, Some, None, Ok, slice_get}
 use Rattle.std.specs.List.{list_any, list_all, AllZip}
 use Rattle.std.specs.List.Sorted.{IsStrictlyIncreasing}

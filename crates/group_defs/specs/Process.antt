@@ -1,4 +1,8 @@
 -- The data of a process, and its start.
+-- Names here (* for this crate alone):
+--   Kind, all_kinds, Setting, keyed, key_of, Pool, Letter, Letter-discrete, Delivered, letter_of, Delivered-discrete, without_places,
+--     places_in, Left, Process, start
+--   as the reports see it: views_of, deliveries_of, delivered_from, earlier
 use Rattle.std.specs.Prelude.{ℕ, ◌+◌, Bool, false, ◌==◌, max, List, [], ◌∷◌, ◌++◌, map, find, count_by, fold, sum, Option, None, option_map}
 use native.Mathlib.Decide.{ℕ_discrete}
 use Rattle.byte_defs.specs.Equality.{both, bytes_discrete}

@@ -1,4 +1,9 @@
 -- What is sent, as lists of claims. `p` has signed and not yet settled, `began` is the process as the event began.
+-- Names here (* for this crate alone):
+--   the list of a Bundle: was_delivered, repeated, newly_signed, message_certificates, beside_order, is_beside, claim_numbers,
+--     beside_suggest, same_claim, joined, with_what_goes_beside, bundle
+--   the answer to a Want: place_certificates, commits_of, pools_of, answer
+--   what goes out: Parcel, frames_of, Sending, others, sends_to, unless_empty
 use Rattle.std.specs.Prelude.{ℕ, ◌+◌, Bool, true, false, ◌&&◌, not, nat_lt, ◌==◌, List, [], ◌∷◌, ◌++◌, length, map, drop, filter, flat_map, fold, if◌then◌else◌, Some, None, option_to_list}
 use Rattle.std.specs.List.{list_any, range_with_len}
 use Rattle.byte_defs.specs.Orders.{sorted}

@@ -1,4 +1,9 @@
 -- Settling: deciding, delivering, and leaving the view.
+-- Names here (* for this crate alone):
+--   phases: Phase, phase_of
+--   deciding: decided_at, decided_by, decide
+--   delivering: limit, delivery, deliverable, deliver_more, deliver
+--   leaving: install, leave_by, leave, settle
 use Rattle.std.specs.Prelude.{ℕ, zero, suc, ◌-◌, nat_lt, ◌==◌, List, [], ◌∷◌, ◌++◌, if◌then◌else◌, Option, Some, None, is_some, not, unwrap_or, option_map, option_and_then}
 use Rattle.std.specs.List.{range_with_len}
 use Rattle.std.specs.Option.{option_or, option_map_or}

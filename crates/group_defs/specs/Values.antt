@@ -1,4 +1,9 @@
 -- Which values may end a view: free ones, and those that an earlier rank may have decided.
+-- Names here (* for this crate alone):
+--   is_quorum
+--   free values: length_said, ends, is_free, free_value
+--   values that an earlier rank may have decided: ready_said, lasts, same_ready, is_at_most, is_first_way, is_second_way, is_justified,
+--     reported, adopted, choose
 use Rattle.std.specs.Prelude.{ℕ, ◌-◌, Bool, true, ◌&&◌, ◌||◌, nat_lt, nat_le, ◌==◌, if◌then◌else◌, List, map, reverse, filter, filter_map, flat_map, count_by, Option, Some, None, is_none, is_some, option_map, option_and_then}
 use Rattle.std.specs.List.{list_any, range_with_len}
 use Rattle.std.specs.Option.{option_or}

@@ -1,4 +1,7 @@
 -- Views, and the view that follows one.
+-- Names here (* for this crate alone):
+--   View, View-discrete, IsView, faulty, quorum, is_member, rank_of
+--   the next view: UpdateFault, update_faults, next_fault, members_after, next_view, next, has_keys, is_possible
 use Rattle.std.specs.Prelude.{◌≢◌, ℕ, ◌+◌, ◌-◌, ◌/◌, ◌≤◌, Bool, true, ◌&&◌, not, ◌==◌, List, [], ◌∷◌, ◌++◌, length, filter, AllPairs, position, Option, Some, None, is_none, Result, Ok, Err}
 use native.Mathlib.Decide.{ℕ_discrete}
 use Rattle.byte_defs.specs.Choices.{first_that_holds}

@@ -1,4 +1,6 @@
 -- Process 2 loses every frame, asks by a Want, and delivers from the answers alone.
+-- Names here (* for this crate alone):
+--   s*, turns_0*, answers_0*, turns_1*, answers_1*, turns_2*, answers_2*, turns_3*, answers_3*, f*, LostFrames*
 use Rattle.std.specs.Prelude.{◌≡◌, List, [], ◌∷◌, true, None}
 use Rattle.message_defs.specs.Statements.{Init, Echo, Order, Place, Keep}
 use Rattle.group_defs.specs.Process.{Setting, start, keyed}

@@ -1,4 +1,6 @@
 -- The manager asks to renew the view, and all install the next one.
+-- Names here (* for this crate alone):
+--   s*, turns_0*, answers_0*, turns_1*, answers_1*, turns_2*, answers_2*, turns_3*, answers_3*, f*, ManagerRenews*
 use Rattle.std.specs.Prelude.{◌≡◌, List, [], ◌∷◌, true, None}
 use Rattle.message_defs.specs.Updates.{Renew}
 use Rattle.message_defs.specs.Statements.{Notify, End, Suggest, Ack, Ready}

@@ -1,5 +1,7 @@
 -- Process 1 delivers a payload, is removed, submits as an outsider in vain, is added again and delivers its next payload: numbers
 -- begin anew in the view, and the accepted list goes on.
+-- Names here (* for this crate alone):
+--   s*, turns_0*, answers_0*, turns_1*, answers_1*, turns_2*, answers_2*, turns_3*, answers_3*, f*, RemovedAndAdded*
 use Rattle.std.specs.Prelude.{◌≡◌, List, [], ◌∷◌, true, Some, None}
 use Rattle.message_defs.specs.Updates.{Remove, Add}
 use Rattle.message_defs.specs.Statements.{Init, Echo, Order, Place, Keep, Notify, End, Suggest, Ack, Ready}

@@ -1,4 +1,6 @@
 -- Three members of four submit one payload each, and every frame is handed over: all deliver the three in one order.
+-- Names here (* for this crate alone):
+--   s*, turns_0*, answers_0*, turns_1*, answers_1*, turns_2*, answers_2*, turns_3*, answers_3*, f*, ThreeSenders*
 use Rattle.std.specs.Prelude.{◌≡◌, List, [], ◌∷◌, true, None}
 use Rattle.message_defs.specs.Statements.{Init, Echo, Order, Place, Keep}
 use Rattle.group_defs.specs.Process.{Setting, start, keyed}

@@ -1,4 +1,10 @@
 -- A guard: a process to which a conviction counts as a suspicion. Its core is that of any process; after a frame it hands it Suspects.
+-- Names here (* for this crate alone):
+--   what a frame shows: liar_of, shown_by, shown
+--   whom a guard expels: may_expel, is_above, next_suspect
+--   runs: Given, Key, live, handed_in*, suspected, expelled, guarded, given_run, guarded_all, MayAdd, shown_behind, GuardRun
+--   families: Guard, turns_of, correct_of, family_of, start_of, IsGuarded
+--   causes: update_of, WasHandedIn, RemovesConvicted
 use Rattle.std.specs.Prelude.{◌≡◌, ◌⊎◌, ℕ, ◌+◌, ◌-◌, Bool, true, false, ◌&&◌, ◌||◌, not, nat_lt, ◌==◌, List, [], ◌∷◌, ◌++◌, length, map, filter, filter_map, find, if◌then◌else◌, IsTrue, Contains, Option, Some, None}
 use Rattle.std.specs.List.{range_with_len}
 use Rattle.byte_defs.specs.Members.{has}

@@ -1,4 +1,7 @@
 -- Whom claims convict, and whom they do not. Each answer is the reference's.
+-- Names here (* for this crate alone):
+--   two_echoes*, one_claim*, same_twice*, two_signers*, two_slots*, two_views*, two_kinds*, one_forged*, other_forged*, forged_between*,
+--     forged_first*, later_pair*, other_view*, stranger*, keyless*, two_liars*, Convicted*
 use Rattle.std.specs.Prelude.{◌≡◌, List, [], ◌∷◌}
 use Rattle.message_defs.specs.Statements.{Echo, Place, Keep, End, Claim}
 use Rattle.conviction_defs.specs.Convictions.{convicted}

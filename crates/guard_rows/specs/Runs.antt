@@ -1,4 +1,9 @@
 -- What a guard makes of events: what each turn answers, those that it adds too, and whom it expels. Each answer is the reference's.
+-- Names here (* for this crate alone):
+--   expels*, expels_seen*, asked_next*, asked_next_seen*, by_note*, by_note_seen*, of_other_view*, of_other_view_seen*, in_order*,
+--     in_order_seen*, of_itself*, of_itself_seen*, of_stranger*, of_stranger_seen*, as_stranger*, as_stranger_seen*, perceived_already*,
+--     perceived_already_seen*, handed_again*, handed_again_seen*, forged_pair*, forged_pair_seen*, by_then*, by_then_seen*,
+--     views_spent*, views_spent_seen*, Runs*
 use Rattle.std.specs.Prelude.{◌≡◌, List, [], ◌∷◌, Some, None}
 use Rattle.message_defs.specs.Updates.{Remove}
 use Rattle.message_defs.specs.Statements.{Echo, Notify, End, Suggest, Ack, Ready}

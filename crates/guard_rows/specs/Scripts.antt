@@ -1,4 +1,7 @@
 -- How the rows are written: a signature is valid where it has no byte, the processes 0 to 5 have a key, and a place holds up to 16 messages.
+-- Names here (* for this crate alone):
+--   setting*, s*, spent*, by*, forged*, msg*, value*, frames_sent*, Seen*, seen_of*, seen*, key*, given*, answers*, suspect_in*,
+--     expels_in*
 use Rattle.std.specs.Prelude.{ℕ, ◌==◌, List, [], ◌∷◌, length, map, flat_map, filter_map, if◌then◌else◌, Option, Some, None}
 use Rattle.message_defs.specs.Updates.{Update, Value}
 use Rattle.message_defs.specs.Statements.{Message, Statement, Claim}

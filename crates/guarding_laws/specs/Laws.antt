@@ -1,4 +1,8 @@
 -- That the processes of a node whose service is a guard's are guards.
+-- Names here (* for this crate alone):
+--   one run: IsGuardIn*, GoesOnAsGuards*, RunsGoOnAsGuards*, AreOfGuards
+--   a node that is stopped and opened again: AnswerAsGuards*, fresh*, AreFoundAsGuards*, LivesAreGuards*
+--   families: Hosted*, guard_in*, ran_in*, AreGuardsOfNodes*, NodesAreGuards*
 use Rattle.std.specs.Prelude.{◌≡◌, ℕ, Bool, List, [], ◌∷◌, ◌++◌, map, All, None}
 use Rattle.group_defs.specs.Process.{Setting}
 use Rattle.guard_defs.specs.Guarding.{Guard, IsGuarded, family_of}

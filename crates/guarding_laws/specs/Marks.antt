@@ -2,6 +2,11 @@
 --
 -- A turn is one whose entry was appended. The guard added it where the last thing that came to the node before it was a name that the service
 -- gave; where a line of the script or a datagram came last, it was handed in from outside.
+-- Names here (* for this crate alone):
+--   Marked*, entries_in*
+--   of a run: is_guards*, mark*, marks*, is_guards_after*, marked_by*
+--   a process as a guard: given_from*, marks_of*, guard_of*
+--   a node that is stopped and opened again: FoundMarked*, found_in*, with_or_without*, opened*, leaves_marked*, lives_marked*
 use Rattle.std.specs.Prelude.{ℕ, Bool, true, false, ◌==◌, List, [], ◌∷◌, ◌++◌, map, filter, Option, option_map}
 use Rattle.std.specs.Option.{option_to_list}
 use Rattle.group_defs.specs.Process.{Setting, Process, start}

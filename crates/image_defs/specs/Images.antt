@@ -1,5 +1,11 @@
 -- The image of a process: its data without group, roster, secret and batch limit. The views are not among them, since they follow from the
 -- genesis and the values by which they were left.
+-- Names here (* for this crate alone):
+--   LeftView, Image
+--   conflicts: conflict_key, by_signer, in_order
+--   the image of a process: ready_said*, reported_by, left_by, image_of
+--   the process of an image: first_list, other_lists, lefts_from, view_behind, previous_from, process_of
+--   the law: ProcessIsRestored
 use Rattle.std.specs.Prelude.{◌≡◌, ℕ, Bool, List, [], ◌∷◌, length, map, Option, Some, None, slice_index_or}
 use Rattle.std.specs.Option.{option_map_or, unwrap_or}
 use Rattle.byte_defs.specs.Orders.{sorted}

@@ -1,4 +1,9 @@
 -- A process goes on in the same way in whatever order it keeps its conflicts.
+-- Names here (* for this crate alone):
+--   OnePairEach*, IsAlike
+--   what is alike: RunsPairOnce*, InOrderIsAlike*, RestoredIsAlike*
+--   what alike ones do: outcomes*, TurnIsAlike*, TurnsAreAlike*, RunIsAlike*, RunsAreAlike*
+--   what is said of alike ones: ImagesAreSame*, PairsAreFound*
 use Rattle.std.specs.Prelude.{◌≡◌, ◌≢◌, ℕ, ◌==◌, List, [], ◌∷◌, All, AllPairs, find}
 use Rattle.message_defs.specs.Statements.{Claim}
 use Rattle.group_defs.specs.Views.{IsView}

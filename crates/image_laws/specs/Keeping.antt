@@ -1,4 +1,7 @@
 -- What each event keeps of a process, so that its image is kept: the seven facts.
+-- Names here (* for this crate alone):
+--   HeardFits*, HeardIsKept*, SignedFits*, SignedIsKept*, InRange, PlacedFits, PlacedIsKept*, DecisionFits*, DecisionIsKept*, LeftFits*,
+--     LeftIsKept*, AcceptedFits, AcceptedIsKept*, PerceivedFits*, PerceivedIsKept*
 use Rattle.std.specs.Prelude.{◌≡◌, ◌≢◌, ◌↔◌, ℕ, ◌+◌, ◌-◌, ◌<◌, ◌≤◌, true, length, All, AllPairs, Some, is_some, IsTrue, [], map, IsFalse}
 use Rattle.std.specs.Option.{option_map_or}
 use Rattle.message_defs.specs.Limits.{last_number, most_messages, most_places, most_payload_bytes}

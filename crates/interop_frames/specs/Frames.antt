@@ -1,4 +1,7 @@
 -- Questions on frames and statements: how they are spelled, and what is answered.
+-- Names here (* for this crate alone):
+--   fault_word, claim_words*, said*, said_by*, frame_answer*, read_by*, statement_answer*
+--   the questions: Question*, IsQuestion*, spelled*, answer_to*, Answers*
 use Rattle.std.specs.Prelude.{◌≡◌, ℕ, List, [], ◌∷◌, ◌++◌, codes, Result, Ok, Err}
 use Rattle.std.specs.List.{flat_map}
 use Rattle.std.specs.Fmt.{decimal}

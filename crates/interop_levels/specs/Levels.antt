@@ -1,4 +1,6 @@
 -- Questions on signatures of trees in levels: how they are spelled, and what is answered.
+-- Names here (* for this crate alone):
+--   Signing*, secret*, IsSpelled*, IsMade*, Question*, IsQuestion*, signing_words*, spelled*, signed*, answer_to*, Answers*, AskedBy*
 use Rattle.std.specs.Prelude.{◌≡◌, ℕ, ◌^◌, ◌<◌, ◌≤◌, if◌then◌else◌, List, [], ◌∷◌, ◌++◌, None, codes}
 use Rattle.std.specs.Fmt.{decimal}
 use Rattle.hex.specs.Hex.{IsBytes, encode_lower}

@@ -1,4 +1,6 @@
 -- Lines of an input, and what is written for them.
+-- Names here (* for this crate alone):
+--   IsLine*, ended*, Served*, HasServed*, HasNoLine*, HasNoQuestion*, AllServed*, SomeServed*, ServedInPart*, ServedAndSays*, Refused*
 use Rattle.std.specs.Prelude.{◌≡◌, ◌⊎◌, ℕ, suc, ◌<◌, ◌≤◌, ◌==◌, false, List, [], ◌++◌, length, Option, codes}
 use Rattle.std.specs.List.{list_any}
 use Rattle.std.specs.Io.KnownBytes.{Appends, Consumes, IsAtEnd}

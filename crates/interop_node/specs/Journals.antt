@@ -1,4 +1,7 @@
 -- What bytes say as a journal.
+-- Names here (* for this crate alone):
+--   event_words*, spent_word*, signature_words*, entry_words*
+--   what the bytes are: header_of*, BeginsAs*, SaysEntries*, SaysBroken*, SaysNothing*, Says*, OneSaid*
 use Rattle.std.specs.Prelude.{◌≡◌, ◌⊎◌, ℕ, ◌<◌, Bool, true, false, List, ◌++◌, length, take, codes}
 use Rattle.std.specs.List.{flat_map}
 use Rattle.std.specs.Fmt.{decimal}

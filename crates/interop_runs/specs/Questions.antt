@@ -1,4 +1,7 @@
 -- Questions on runs: how they are spelled.
+-- Names here (* for this crate alone):
+--   Each*, IsList*, IsCall*, AreCalls*, IsCutWord*, IsDatagram*, AreDatagrams*, words_in*, IsWord*, IsText*
+--   the questions: Question*, question*, Asks*
 use Rattle.std.specs.Prelude.{◌≡◌, ◌≢◌, ◌⊎◌, ◌==◌, ◌≤◌, ℕ, List, [], ◌∷◌, Option, None, Some, String, map, codes, string_bytes}
 use Rattle.std.specs.List.{slice_split}
 use Rattle.std.specs.Fmt.{decimal}

@@ -1,4 +1,9 @@
 -- What is written of payloads that a store carries out, and of bytes as a record.
+-- Names here (* for this crate alone):
+--   words: number_next*, bytes_next*
+--   payloads: payloads_in*, answer_words*, apply_words*
+--   replies: position_words*, content_words*, reply_words*, reply_said*, reply_answer*
+--   states: state_words*, state_said*, state_answer*
 use Rattle.std.specs.Prelude.{ℕ, List, [], ◌∷◌, ◌++◌, map, Vec, codes, Ok, Err}
 use Rattle.std.specs.Fmt.{decimal}
 use Rattle.std.specs.declared.alloc.Global.{Global}

@@ -1,4 +1,10 @@
 -- What a crash leaves of a journal.
+-- Names here (* for this crate alone):
+--   IsStaged*, IsImageOf, IsWithOrWithout
+--   the moments of an append: IsAtRest, IsOpening
+--   as a run begins: AllAtRest*, AllOpening, Stands, staged
+--   the laws: TornBehindTheGate*, WrittenBehindTheGate*, TornGate*, AtRestIsImage*, OpeningIsImage*, OpenedIsAtRest*, OneImageStands*,
+--     ImageReads*
 use Rattle.std.specs.Prelude.{◌≡◌, ◌≢◌, ◌⊎◌, ℕ, ◌+◌, List, [], ◌∷◌, ◌++◌, length, take, drop}
 use Rattle.std.specs.List.{AllByRecursion}
 use Rattle.rp_base.specs.Disks.{Torn}

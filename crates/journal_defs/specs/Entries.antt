@@ -1,4 +1,11 @@
 -- Entries of a journal: an event that a process took, and what it signed with it.
+-- Names here (* for this crate alone):
+--   Event, Entry
+--   how an entry is spelled: event_bytes*, flag*, signatures_bytes*, entry_bytes
+--   what has a spelling: IsEvent, AreSignatures, IsEntry
+--   how an entry is read; there is one fault: Reading, process_at*, text_at*, submit_at, frame_at, of_process_at, event_behind*,
+--     event_at, flag_at*, signatures_at*, entry_of
+--   the two laws: AreBytes, EntryIsSpelled*, EntryIsRead*
 use Rattle.std.specs.Prelude.{◌≡◌, ℕ, ◌^◌, ◌<◌, ◌≤◌, ◌==◌, nat_lt, if◌then◌else◌, Bool, List, [], ◌∷◌, ◌++◌, length, slice_index, Result, Ok, Err}
 use Rattle.std.specs.List.{flat_map}
 use Rattle.std.specs.Int.{w8, w16}

@@ -1,4 +1,11 @@
 -- The bytes of a journal: a header, and records, each of them after a gate.
+-- Names here (* for this crate alone):
+--   magic, batch_limit, Header, behind_magic, header_bytes
+--   records: open_gate, closed_gate, behind_gate, record_bytes, up_to_gate, ReadsAs, BreaksAt
+--   what is at a gate: IsClosedAt, HasEntryAt, IsBrokenAt, StandsBefore
+--   how a record is read after an open gate: record_at
+--   the laws: RecordIsSpelled*, RecordIsRead*, EntryGoesOn*, ClosedGateEnds*, BrokenGateBreaks*, EntryIsThere*, GateIsThere*, OneEntry*,
+--     OneReading*, MarkedAgain*
 use Rattle.std.specs.Prelude.{◌≡◌, ◌≢◌, ℕ, ◌+◌, ◌<◌, ◌≤◌, nat_lt, List, [], ◌∷◌, ◌++◌, length, take, drop, codes, Ok}
 use Rattle.std.specs.List.{flat_map, AllByRecursion}
 use Rattle.std.specs.Int.{w32, w64, to_be_bytes}

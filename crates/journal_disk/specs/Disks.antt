@@ -1,4 +1,6 @@
 -- A journal on a disk that says what it holds.
+-- Names here (* for this crate alone):
+--   HasRest, HasStaged*, EndsAt, EndsClosed*, HasLength, StaysUntold, BeginsAt, LeavesStaged, LeavesOnly, OnlyReads, StagesThenOpens*
 use Rattle.std.specs.Prelude.{◌≡◌, ◌⊎◌, ℕ, ◌≤◌, List, [], ◌∷◌, ◌++◌, length, drop, Option, Some, None, IfSome}
 use Rattle.std.specs.List.{AllByRecursion}
 use Rattle.rp_base.specs.Disks.{Only, SameImages}

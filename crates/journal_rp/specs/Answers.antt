@@ -1,4 +1,8 @@
 -- Which faults a call of a journal answers, and why.
+-- Names here (* for this crate alone):
+--   HasCauses
+--   what each call has besides the disk's fault: of_start, of_read, of_entry*, of_memory, of_skip*, of_append, of_none
+--   what is so where a fault comes: IfNotAJournal, IfEntry, IfOther*, IfFull, IsFull
 use Rattle.std.specs.Prelude.{◌≡◌, ℕ, ◌≤◌, Bool, true, false, IsTrue, Result, Ok, Err}
 use Rattle.rp_base.specs.Causes.{Rose}
 use Rattle.journal_rp.specs.declared.fault.JournalFault.{JournalFault}

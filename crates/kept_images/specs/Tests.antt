@@ -1,4 +1,7 @@
 -- The tests of single entries, and walks over lists.
+-- Names here (* for this crate alone):
+--   is_perceived*, is_short*, is_placed*, is_own*, conflicting*, is_conflict*, are_others*, ends*, is_passed*, commits*, rise_from*,
+--     is_left*, leaves*, are_conflicts*
 use Rattle.std.specs.Prelude.{ℕ, ◌+◌, Bool, true, false, not, ◌&&◌, ◌||◌, nat_lt, nat_le, ◌==◌, if◌then◌else◌, List, [], ◌∷◌, length, map, Option, Some, None}
 use Rattle.std.specs.List.{list_all}
 use Rattle.byte_defs.specs.Members.{has}

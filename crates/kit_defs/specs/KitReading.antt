@@ -7,6 +7,18 @@
 --   Line         a genesis line names a process outside the roster
 --   KeyMismatch  the public key of a host's secret is not the one of its key line
 -- After the last line: Line where the text does not end with a line feed, Missing where a line that a kit has was not read.
+-- Names here (* for this crate alone):
+--   faults: KitFault
+--   what words say, by their form alone: version_by, is_of*, is_scheme*, may_be, scheme_of_word*, scheme_in*, scheme_by, group_by,
+--     key_in*, public_key_by*, key_by, members_by, genesis_by, port_by, plain_host_by*, kind_by*, lms_host_by*, hss_host_by*,
+--     secret_by*, host_by, pair_by, line_by
+--   a kit as far as it was read: Draft, nothing, has_genesis, first_of, last_of, next_port, lacks_port, next_other, next_pair, may_of
+--   Repeated: host_stands, is_repeated
+--   Line: named_by*, is_outside, host_above, is_hosted, is_late, is_of_strangers*
+--   Missing: is_pair*, is_early
+--   KeyMismatch: listed_key, matching
+--   a line that is taken: with_pair, with_host, with_matching*, with_line, most_line_bytes, take_line
+--   the whole text: kit_by*, finish, lines_at, kit_of
 use Rattle.std.specs.Prelude.{ℕ, ◌+◌, ◌==◌, ◌&&◌, ◌||◌, not, nat_le, nat_lt, ◌^◌, ◌-◌, Bool, true, false, if◌then◌else◌, List, [], ◌∷◌, ◌++◌, length, drop, Option, Some, None, is_some, option_map, option_and_then, codes, Result, Ok, Err}
 use Rattle.std.specs.Option.{is_none, unwrap_or, option_or, option_flatten, ok_or}
 use Rattle.std.specs.List.{list_any}

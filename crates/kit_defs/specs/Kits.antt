@@ -10,6 +10,12 @@
 --   | host P hss L H W I SEED                       the number of levels, and the same of each tree, I and SEED of the top one
 --   pair P Q HEX                     32 bytes, for each other process Q of the roster by rising number
 -- The key of a process is its host's public key.
+-- Names here (* for this crate alone):
+--   Host, Kit, roster_of, others_than, key_of
+--   lines: KitVersion, version_of, KitLine, version_word*, scheme_word*, line_words, key_line, port_line, secret_line, pair_line,
+--     host_lines, public_lines, kit_lines*, text_of_lines
+--   the spelling: kit_text, kit_digest
+--   the ranges: key_length, AreKeys, IsSecret, IsHost, AreHosts, IsKit
 use Rattle.std.specs.Prelude.{◌≡◌, ◌≢◌, ℕ, ◌+◌, ◌<◌, ◌≤◌, ◌^◌, ◌==◌, not, true, List, [], ◌∷◌, ◌++◌, length, map, filter, find, Option, Some, option_map, codes, IsTrue}
 use Rattle.std.specs.List.{flat_map, AllByRecursion, AllPairs}
 use Rattle.std.specs.Fmt.{decimal}

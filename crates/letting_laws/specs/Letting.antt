@@ -1,4 +1,9 @@
 -- What a turn lets out, answer by answer: its letters go over the link, and each of its notes has a line and is given to the service.
+-- Names here (* for this crate alone):
+--   answers: Fits, asked, reported_by, failed_by, sends_of
+--   what came of it: Edge, edge, LetOut, HasBegun
+--   the laws: LetOutInARow*, IsLettingOut*, LetsFirstOut, EachLetsOut*
+--   what a service sends: IsPosting, PostsPart*, Posts*, EachPosts*
 use Rattle.std.specs.Prelude.{◌≡◌, ℕ, List, [], ◌++◌, map, flat_map, zip, Some, None}
 use Rattle.std.specs.List.{AllZip}
 use Rattle.group_defs.specs.Process.{Process}

@@ -1,4 +1,8 @@
 -- A datagram: who speaks to whom in which group, a frame, and a tag that only the two of them can make.
+-- Names here (* for this crate alone):
+--   Datagram, magic, tagged, sealed, Known, Comes
+--   the first fault: tag_bytes*, least_bytes*, before_tag*, tag_of*, key_or_fault*, opened_parts, opened
+--   the two laws: to_me, OpenedCame*, ComingIsOpened*
 use Rattle.std.specs.Prelude.{◌≡◌, ℕ, ◌-◌, ◌==◌, nat_lt, not, List, [], ◌∷◌, ◌++◌, length, take, drop, slice_index, Option, Some, None, Result, Ok, Err}
 use Rattle.byte_defs.specs.Equality.{same_bytes}
 use Rattle.byte_defs.specs.Fields.{◌>>=◌, refuse_if}

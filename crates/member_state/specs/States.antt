@@ -1,4 +1,7 @@
 -- Which process of the definitions a state is.
+-- Names here (* for this crate alone):
+--   signed_here, claims_of, IsSigned, IsDecision, ArePairs, AreRanged, IsStateOf, HasProcess, IsReal, StartsWith*
+--   what is reported of it: signers_in*, liars_of, kept_of, halted_at
 use Rattle.std.specs.Prelude.{◌≡◌, ◌≢◌, ℕ, ◌<◌, ◌≤◌, ◌==◌, true, List, [], ◌∷◌, ◌++◌, length, map, drop, filter, find, All, AllPairs, Option, Some, None, option_and_then, if◌then◌else◌, IsTrue}
 use Rattle.std.specs.List.{flat_map}
 use Rattle.byte_defs.specs.Orders.{sorted}

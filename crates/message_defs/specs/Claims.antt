@@ -1,4 +1,7 @@
 -- The claims of bytes.
+-- Names here (* for this crate alone):
+--   in_bundle, in_proof, claims_on, claims_of_group, claims_of_groups, want_claims, claims_of
+--   what bytes say that are handed over as a frame: Frame, said, said_by, frame_said
 use Rattle.std.specs.Prelude.{ℕ, Bool, true, ◌||◌, not, nat_lt, nat_le, ◌==◌, List, [], ◌∷◌, ◌++◌, Result, Ok, Err}
 use Rattle.byte_defs.specs.Fields.{◌>>=◌, refuse_if}
 use Rattle.message_defs.specs.Limits.{last_process, last_number, most_places}

@@ -5,6 +5,11 @@
 -- A group is length2 statement, number of signatures1, and for each signature signer1, length2 signature.
 -- Bytes are a frame exactly where they are at most 61,000, with 1 to 255 groups, in each group 1 to 16 signatures of
 -- at most 16,384 bytes by rising signers, and nothing after the last field.
+-- Names here (* for this crate alone):
+--   Group, FrameView
+--   the spelling: signature_bytes, group_bytes, groups_bytes, frame_bytes, AreSignatures, IsGroup, AreGroups, HasParts, IsFrame
+--   reading, with the first fault from the left: signature_at, signatures_at, group_at, groups_at, all_groups, want_at, groups_as,
+--     frame_of
 use Rattle.std.specs.Prelude.{ℕ, zero, suc, ◌+◌, ◌<◌, ◌≤◌, List, [], ◌∷◌, ◌++◌, length, Result, Ok, Err, nat_lt, not, ◌==◌, if◌then◌else◌}
 use Rattle.std.specs.List.{flat_map, AllByRecursion}
 use Rattle.std.specs.Int.{w8, w16}

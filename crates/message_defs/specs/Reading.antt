@@ -1,4 +1,13 @@
 -- Reading a statement, with the first fault: its kind, whether the frame carries it, its grammar, its ranges.
+-- Names here (* for this crate alone):
+--   Step*
+--   the fields: a statement that ends in one is no statement: byte_at, short_at, ended, message_at, messages_at, count_at, payload_at,
+--     update_by, update_at, value_at, report_at
+--   the ranges, which are tested once the whole statement is in its grammar: within, message_within, messages_within, update_within,
+--     value_within, report_within
+--   each kind, after the kind byte: its fields, nothing after them, and their ranges: init_at, echo_at, placed_at, place_at, notify_at,
+--     end_at, last_at, valued_at, ranked_at, content_at
+--   a statement, all of the bytes, where the frame carries these kinds: is_kind, statement_in, statement_of
 use Rattle.std.specs.Prelude.{ℕ, zero, suc, Bool, true, false, ◌&&◌, not, nat_lt, nat_le, ◌==◌, List, [], ◌∷◌, length, if◌then◌else◌, Option, Some, None, Result, Ok, Err}
 use Rattle.std.specs.Int.{w8, w16}
 use Rattle.byte_defs.specs.Fields.{◌>>=◌, refuse_if, number_at}

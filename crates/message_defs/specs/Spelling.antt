@@ -9,6 +9,10 @@
 --   9 Suggest, 10 Ack, 11 Ready x2 r1 value4
 --   12 Order, 13 Place, 14 Keep x2 k2 count1 and count times s1 l2, of 2 to 16 messages
 -- An update is 01 p, 02 p or 03 00. A value is its update and its cut of two bytes.
+-- Names here (* for this crate alone):
+--   message_bytes, place_kind, batch_bytes, value_bytes, ready_bytes, spelling, body
+--   the ranges: what has a spelling that is read again: IsViewNumber, IsMessage, IsBatch, IsUpdate, IsValue, IsReport, IsStatement,
+--     IsClaim
 use Rattle.std.specs.Prelude.{ℕ, ◌+◌, ◌<◌, ◌≤◌, List, [], ◌∷◌, ◌++◌, length, flat_map, Option, Some, None, codes}
 use Rattle.std.specs.List.{AllByRecursion}
 use Rattle.byte_defs.specs.Fields.{two_bytes, text}

@@ -1,4 +1,9 @@
 -- Statements, their slots, and claims. The body that is signed is in Spelling.
+-- Names here (* for this crate alone):
+--   Message, Message-discrete, Batch, Batch-discrete, Statement, Slot, slot_of, kind_number, slot_numbers, view_of
+--   parts that only some kinds have: batch_of, messages_of, payload_of, value_of
+--   equality: same_slot, same_statement
+--   claims: Claim, Conflicts
 use Rattle.std.specs.Prelude.{◌≡◌, ◌≢◌, ℕ, Bool, List, [], ◌∷◌, Option, Some, None}
 use native.Mathlib.Decide.{ℕ_discrete}
 use Rattle.byte_defs.specs.Equality.{is_yes, both, bytes_discrete, list_discrete, option_discrete, pair_discrete}

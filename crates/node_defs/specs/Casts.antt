@@ -1,5 +1,11 @@
 -- Who takes part in a node: its hosted processes, what signs for them, and what seals what they send. And what a hosted process is after
 -- the entries of a journal.
+-- Names here (* for this crate alone):
+--   Cast
+--   of a kit: setting_of, host_of, pair_of, known_of, datagram, hosted_by, cast_of
+--   turns: handed, live, outcome_of, entry_for, letters_of
+--   the entries of a journal: kept_turn, turns_from, entries_of, taken_up, may_have_written
+--   where a run begins: Beginning, from_start
 use Rattle.std.specs.Prelude.{◌≡◌, ℕ, ◌-◌, Bool, true, false, ◌==◌, nat_le, ◌&&◌, if◌then◌else◌, List, [], ◌∷◌, length, map, filter, find, flat_map, Option, option_map, option_and_then, Result, IsTrue}
 use Rattle.std.specs.Option.{option_map_or, unwrap_or}
 use Rattle.std.specs.List.{list_all}

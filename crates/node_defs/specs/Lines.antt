@@ -9,6 +9,9 @@
 --   expel P Q                              Q is suspected next, on evidence
 --   snap HEX, snap large LENGTH
 --   stop STATUS WORDS                      the last line, where the node stops before the input's end
+-- Names here (* for this crate alone):
+--   delivered_in_all, host_line, note_line, refused_line, drop_word*, drop_line, fault_line, recv_line, expel_line
+--   stops: Stop, status_of, stop_line
 use Rattle.std.specs.Prelude.{ℕ, List, [], ◌∷◌, ◌++◌, length, map, sum, codes}
 use Rattle.std.specs.Fmt.{decimal}
 use Rattle.link_defs.specs.declared.LinkFault.{LinkFault}

@@ -1,4 +1,11 @@
 -- What a stop leaves of a node, and a node that is stopped and opened again, as often as may be.
+-- Names here (* for this crate alone):
+--   what a stop leaves: staged_by, staged_behind, staged, Found, fresh, with_or_without, leaves_by, leaves
+--   a life: Run, opened_in, last_of, lives
+--   what is promised of it: FitsAt, FitsBehind, FitsFrom, IsHosted, AreHosted, SignsValidly, IsOfEntry, IsSound
+--   the family of nodes that were stopped and opened again: Ran, correct_of
+--   the laws: AreNumbered, KeptGrows, StaysSound, IsOpened, OpensSound, LeavesFit, Lives, LivesOn, restarted, RestartsAreFamily,
+--     RestartsAgree, OneBodyPerNumber, NothingLost, AreMade, KeysSignInOrder
 use Rattle.std.specs.Prelude.{◌≡◌, ◌≢◌, ◌⊎◌, ℕ, suc, ◌<◌, Bool, true, false, List, [], ◌∷◌, ◌++◌, length, map, IsTrue, Contains, Option, Some, None}
 use Rattle.std.specs.Option.{option_to_list}
 use Rattle.byte_defs.specs.Members.{has}

@@ -1,6 +1,15 @@
 -- A node, call by call. What it does next is a function of what it is (`call_of`), and what it is then is a function of the answer
 -- (`answered`). So a run is a list of answers, and a moment of it is a front of that list. Disk, link, input, output, memory and service
 -- are what answers: what each of them means is said of the calls and their answers (`calls`).
+-- Names here (* for this crate alone):
+--   what is to be done: Opening, Leaving, Task, Node
+--   calls: Call, opening_call, leaving_call, task_call, call_of_tasks, call_of_leaving, call_of_opening, call_of
+--   answers: Answer
+--   what an answer changes: Change, goes, ends, done_or, is_full, after_step, more_gets, after_came, asks, post_tasks, after_get,
+--     Snapper, after_task, after_leaving, tasks_of_line, after_line, after_read
+--   the node after an answer: with_turn, new_entry, leaving_of, new_leaving, changed, if_fits, counts, by_tasks, by_leaving, opened_one,
+--     by_opening, by_answer, unless_stopped, answered, run, calls
+--   how a run begins: reads_one, takes_up, reads, at_first, entries_in, host_lines, openings, opens, breaks_at, opens_broken
 use Rattle.std.specs.Prelude.{◌≡◌, ℕ, zero, suc, ◌+◌, ◌^◌, ◌==◌, nat_lt, Bool, true, false, if◌then◌else◌, List, [], ◌∷◌, ◌++◌, length, map, flat_map, Option, Some, None, Result, Ok, Err}
 use Rattle.std.specs.Option.{option_map_or, unwrap_or}
 use Rattle.byte_defs.specs.Members.{has}

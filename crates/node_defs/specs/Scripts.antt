@@ -8,6 +8,8 @@
 --   snap
 -- Each of these has at most 70,000 bytes. Another line that begins with P goes to the node's service, where it is UTF-8: what the service
 -- reads is text.
+-- Names here (* for this crate alone):
+--   Said, Line, most_own_bytes, most_lines, payload_of, said_by, other_said, said_or_other, line_if_hosted, line_of_words, line_said
 use Rattle.std.specs.Prelude.{ℕ, ◌/◌, ◌==◌, ◌&&◌, nat_le, if◌then◌else◌, List, [], ◌∷◌, length, Option, Some, None, option_map, codes}
 use Rattle.std.specs.Option.{option_or}
 use Rattle.std.specs.Str.{is_utf8}

@@ -1,4 +1,7 @@
 -- An outside in memory, which answers a node's calls: what is sent to a port comes on it.
+-- Names here (* for this crate alone):
+--   Outside*, outside*, first_on*, link_call*, journal_answer*, answer*, drive*, Seen*, stop_seen*, seen_of*
+--   two processes, whose signatures have no bytes and whose datagrams have no tag: toy_setting*, toy_unseal*, toy*
 use Rattle.std.specs.Prelude.{ℕ, zero, suc, ◌+◌, ◌==◌, ◌&&◌, Bool, true, false, if◌then◌else◌, List, [], ◌∷◌, ◌++◌, length, map, replicate, Option, Some, None, Result, Ok, Err, codes}
 use Rattle.byte_defs.specs.Members.{has}
 use Rattle.link_defs.specs.declared.LinkFault.{LinkFault}

@@ -15,6 +15,12 @@
 --   ReadsLine, Done         nothing is left
 --   ReadsLine, Failed       nothing is taken, and the count of faults rose
 -- Any other call, and any other answer, changes nothing there.
+-- Names here (* for this crate alone):
+--   the link: LinkSeen, most_datagram_bytes, LinkFailed, LinkSent*, CameFirst, CameOn, LinkTaken*, NoneOn, LinkEmpty*, LinkStep,
+--     LinkAnswered
+--   the output: SinkSeen, SinkWrote, SinkFailed, SinkStep, SinkAnswered
+--   the input: SourceSeen, LineTaken, NoLine, AtEnd, SourceTook, SourceBroke, SourceEnded, SourceFailed, SourceStep, SourceAnswered
+--   the law: DoneInARow*
 use Rattle.std.specs.Prelude.{◌≡◌, ◌≢◌, ℕ, ◌<◌, List, [], ◌∷◌, ◌++◌, length, take, Option, Some, None}
 use Rattle.std.specs.Io.KnownBytes.{Appends}
 use Rattle.input_defs.specs.Lines.{line_within}

@@ -1,4 +1,8 @@
 -- The bars of views, and the arrows of frames.
+-- Names here (* for this crate alone):
+--   views: view_class*, view_bar*, liar_line*, life, note_bar, bars
+--   frames: frames_in*, sent_in, arrow_class*, on_the_way*, departure*, frame_arrow*, bytes_arrow*, lost_arrow*, loss_arrow*,
+--     handed_arrow*, arrow
 use Rattle.std.specs.Prelude.{ℕ, ◌+◌, ◌-◌, ◌*◌, ◌/◌, ◌%◌, ◌==◌, if◌then◌else◌, List, [], ◌++◌, length, replicate, codes, slice_index_or}
 use Rattle.std.specs.List.{flat_map}
 use Rattle.group_defs.specs.Events.{Note, Installs}

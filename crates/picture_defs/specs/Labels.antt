@@ -1,4 +1,9 @@
 -- A mark for each thing that happens, and what came of it, in few words.
+-- Names here (* for this crate alone):
+--   statements: in_statement*, in_delivery*, numbered*, short*, short_of
+--   what came of it: span_begin*, span_end*, span*, note_span, wish*, is_frame*, beside*, is_quiet*, outcome_words*, refusal_text*,
+--     taken_text*, outcome_text*
+--   marks: is_delivery, taken_mark*, mark*, step_label*, lie_label*, label
 use Rattle.std.specs.Prelude.{ℕ, ◌+◌, Bool, true, false, ◌&&◌, ◌==◌, if◌then◌else◌, List, [], ◌∷◌, ◌++◌, length, take, None, Some, Ok, Err, codes}
 use Rattle.std.specs.List.{flat_map, list_any}
 use Rattle.std.specs.Fmt.{decimal}

@@ -1,4 +1,11 @@
 -- A whole picture.
+-- Names here (* for this crate alone):
+--   rows: Row*, rows_in, rows_of, most_drawn*
+--   processes: role*, name, genesis*
+--   events: event_rule*, event_number*, event_name*, is_begun*, event_begin
+--   the end: more_text*, fault_words*, stop_text*
+--   all of it: frame_begin*, picture_begin*, begin_rows*, picture_end*, each_row, sent_rows*, background*, arrows*, cast*, foreground*,
+--     below*, drawing*, picture_of*, picture
 use Rattle.std.specs.Prelude.{ℕ, ◌+◌, ◌-◌, ◌==◌, Bool, if◌then◌else◌, List, [], ◌∷◌, ◌++◌, length, map, take, Option, Some, None, codes}
 use Rattle.std.specs.List.{flat_map, list_any, enumerate_from}
 use Rattle.std.specs.Fmt.{decimal}

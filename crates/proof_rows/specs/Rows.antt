@@ -1,4 +1,7 @@
 -- Rows of proofs from a journal. A signature is valid where it has no byte.
+-- Names here (* for this crate alone):
+--   alone*, turn*, says*, renewed*, turns*, after_all*, first_line*, second_line*, TwoViewsTravel*
+--   starts: no_starts*, many*, StartsAreRead*
 use Rattle.std.specs.Prelude.{◌≡◌, ℕ, ◌==◌, List, [], ◌∷◌, ◌++◌, length, map, codes, Some, None}
 use Rattle.std.specs.List.{range_with_len}
 use Rattle.text_defs.specs.Words.{parts_of}

@@ -1,4 +1,8 @@
 -- A large schedule from a number: four processes with plain keys, the last one corrupt, and a thousand rounds of drawn payloads.
+-- Names here (* for this crate alone):
+--   draws: drawn, draw_below, Drawn, bytes_drawn
+--   the events: all_four, submitted, hostile, hostile_if, renewed_if, round, rounds
+--   the schedule: made_listed, generated
 use Rattle.std.specs.Prelude.{ℕ, zero, suc, ◌+◌, ◌*◌, ◌/◌, ◌%◌, ◌^◌, Bool, ◌==◌, if◌then◌else◌, List, [], ◌∷◌, ◌++◌, map}
 use Rattle.std.specs.List.{repeat, range_with_len}
 use Rattle.byte_defs.specs.Fields.{four_bytes}

@@ -1,5 +1,7 @@
 -- Reading a schedule in pieces: bytes are fed, and each event is given as soon as it is whole. However the bytes are cut, what is given
 -- and what is refused is that of all of them in one.
+-- Names here (* for this crate alone):
+--   Reading, most_waiting, AreRead, within_limit, readable, HasGiven, Stands, IsShort, NoneWhole, GivesNext, IsWhole, EndsSo
 use Rattle.std.specs.Prelude.{◌≡◌, ℕ, ◌+◌, ◌-◌, ◌≤◌, List, [], ◌∷◌, ◌++◌, length, take, Option, None, Some, Result, Ok, Err, IsErr}
 use Rattle.replay_defs.specs.declared.FaultKind.TheVariants as faults
 use Rattle.replay_defs.specs.declared.Found.{Found}

@@ -1,5 +1,11 @@
 -- Reading a schedule, with the first fault from left to right. A fault is at the first byte of the field that has it; while it is
 -- read it is given by how many bytes are left there, and its place is how many come before. TooMany alone is at the event's tag.
+-- Names here (* for this crate alone):
+--   steps: Step, fault_at, wide_at, byte_at, field_at, known, passing, tested, byte_that, process_that, text_at
+--   keys: ots_at, tree_at, plain_at, lms_at, hss_at, key_at
+--   the header: version_by, scheme_by, limit_at, listed_at, all_listed_at, processes_at, members_at, genesis_at, setting_at, header_at
+--   the events, after their tags: Roles, roles_of, other_at, steps_at, tag_at
+--   the whole input: whole_of, placed, too_long, placed_past_limit, whole_input, cut_input, schedule_of
 use Rattle.std.specs.Prelude.{ℕ, zero, suc, ◌+◌, ◌-◌, Bool, ◌&&◌, not, nat_lt, nat_le, ◌==◌, List, [], ◌∷◌, ◌++◌, length, take, Option, Some, None, Result, Ok, Err, is_ok, if◌then◌else◌}
 use Rattle.std.specs.Option.{ok_or}
 use Rattle.std.specs.Int.{Width, w8, w16, w32, w64}

@@ -10,6 +10,13 @@
 --     halted P DELIVERED CUT          where it halted
 --   honest yes, bounded yes, agree yes, sound yes     or no
 -- The short report has one line `refused N`, the number of refused steps, and of the processes the first line alone.
+-- Names here (* for this crate alone):
+--   words: frame_word, update_word*, refusal_word, schedule_word*, payload_word
+--   the phase of a process: is_end_of, has_ended, phase_word
+--   the lines of a process: process_line, view_line, message_line, message_lines, liars, liar_line, spent_line, halted_line, block
+--   the other lines: head_lines, refused_line, refused_count, answer_line, answer_lines
+--   the reports: report*, report_short*, report_by
+--   of the bytes: ReplayFault, report_if_run, report_if_read, report_of, fault_words
 use Rattle.std.specs.Prelude.{ℕ, Bool, false, ◌==◌, if◌then◌else◌, List, [], ◌∷◌, ◌++◌, length, map, sum, Some, None, is_some, codes, Result, Ok, Err}
 use Rattle.std.specs.List.{list_any, flat_map, enumerate_from}
 use Rattle.std.specs.Fmt.{decimal}

@@ -19,6 +19,12 @@
 -- Bit p of a mask, the lowest being bit 0, is that of process p. A Drain takes as many steps as it counts, every other event one.
 -- Bytes are a schedule exactly where they are at most 67,108,864, with 1 to 64 processes and 1 to 16 different members of
 -- the roster, at most 1,000,000 steps, each event at a correct process but a Lie by a corrupt one, and nothing after the last event.
+-- Names here (* for this crate alone):
+--   Listed, ScheduleEvent, Header, Schedule, is_listed, is_correct, is_corrupt, steps_of
+--   the limits: most_processes, most_steps, most_bytes, most_raw_bytes
+--   the spelling: eight_bytes, scheme_byte, version_without_limit, version_of, magic, limit_bytes, role_byte, listed_bytes,
+--     header_bytes, event_bytes, schedule_bytes
+--   the ranges: AreListed, IsEvent, IsHeader, IsSchedule
 use Rattle.std.specs.Prelude.{◌≡◌, ◌≢◌, ℕ, ◌+◌, ◌<◌, ◌≤◌, ◌^◌, Bool, true, ◌&&◌, not, ◌==◌, if◌then◌else◌, List, [], ◌∷◌, ◌++◌, length, sum_by, AllPairs, IsOk, codes}
 use Rattle.std.specs.List.{list_any, flat_map, AllByRecursion}
 use Rattle.std.specs.Int.{w64, to_be_bytes}

@@ -1,4 +1,11 @@
 -- The world of a schedule: the family of its correct processes, the frames that were sent, and the deliveries that wait.
+-- Names here (* for this crate alone):
+--   who takes part: setting_of, Player, Sent, Refused, World, begins, start_of, correct_of, family_of
+--   sending: is_in, players_that*, send, send_all
+--   one step of a process: turn_of, with_turn, takes, refused_if, turns_out, steps, player_of, hands, hands_frame
+--   deliveries: delivers, next_delivery, drains
+--   lies: lies_of, lie_claim, sends_lie, lies
+--   events: WorldFault, happens, most_sent, sum_above, counts, after_event, run_events, world_of
 use Rattle.std.specs.Prelude.{ℕ, zero, suc, ◌+◌, ◌-◌, Bool, ◌==◌, nat_lt, if◌then◌else◌, List, [], ◌∷◌, ◌++◌, length, map, drop, filter, find, fold, count_by, Option, None, Some, slice_get, Result, Ok, Err}
 use Rattle.std.specs.List.{filter_map}
 use Rattle.std.specs.Int.{bit_at}

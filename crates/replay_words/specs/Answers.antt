@@ -6,6 +6,13 @@
 -- that it is the one that was read; and where the sink does not, `Reported`, `ReportedInPart` and `Stopped` say nothing of what was
 -- written. The contract is proved for every type of stream, so also for one that says it and is otherwise as the system's (docs/TESTED.md,
 -- «What is trusted»). What is said by statuses and counts of faults holds of every stream.
+-- Names here (* for this crate alone):
+--   the bytes of an input: Runs, family, report_of_run, HasNoRun*
+--   the headline: Headline
+--   the input: what a source had left before, and what it has left now: Replayed*, Refused*
+--   the output: what a sink held before, and what it holds now: Reported, ReportedInPart, stop_line, Stopped
+--   schedules: schedule_of_number
+--   kits: kit_of_order
 use Rattle.std.specs.Prelude.{◌≡◌, ℕ, Bool, ◌≤◌, List, ◌∷◌, ◌++◌, length, Option, IfSome, Ok, Err, codes}
 use Rattle.std.specs.Io.KnownBytes.{Appends, Consumes, IsAtEnd}
 use Rattle.text_defs.specs.Words.{line_text}

@@ -1,4 +1,9 @@
 -- Which world of the definitions a world of the code is.
+-- Names here (* for this crate alone):
+--   who takes part: IsRun
+--   the world: count_of, handed_bytes*, Shows
+--   what changes a world: Becomes*, Exceeds*, Happens, IsFault, Stops, HappensYet*
+--   a whole schedule: players_of*, refused_of*, spent_of*, frames_of, raws_of, group_of*, roster_of*, scheme_of*, IsWorldOf, IsEarlyEnd*
 use Rattle.std.specs.Prelude.{◌≡◌, ℕ, not, List, ◌++◌, map, filter, Result, Ok, Err}
 use Rattle.std.specs.List.{AllByRecursion}
 use Rattle.signature_defs.specs.Schemes.{is_valid}

@@ -1,4 +1,8 @@
 -- What a run reports: what happens in each event, in the world of the definitions.
+-- Names here (* for this crate alone):
+--   in an event: takes_in, gets_frame, loses, next_tells, drain_tells, lie_tells, liar_tells, tells
+--   in a run: run_tells, reported_of, stop_of
+--   in lines: event_lines, reported_lines, stop_lines, trace_lines
 use Rattle.std.specs.Prelude.{ℕ, zero, suc, ◌==◌, nat_lt, if◌then◌else◌, List, [], ◌∷◌, ◌++◌, length, drop, find, None, Some, slice_get, Ok, Err, Option}
 use Rattle.std.specs.List.{flat_map, enumerate_from, zip}
 use Rattle.message_defs.specs.Statements.{Statement}

@@ -7,6 +7,13 @@
 -- and for each hosted process by rising number
 --   entries8, length4, image
 -- and nothing after them.
+-- Names here (* for this crate alone):
+--   Part*, SnapSaid*
+--   the bytes: version_of*, or_fault*, part_at*, parts_at*, snapshot_in*
+--   the line: most_line_bytes*, said_by_words*, snap_said*
+--   the snapshot that is said: no_image*, part_of*, snapshot_said*
+--   the law: HasSpelling*, said_of*, LineIsRead*, SnapsAreRead*
+--   the node that the line gives back: GivesBack*, SnapsGiveBack*
 use Rattle.std.specs.Prelude.{◌≡◌, ℕ, ◌/◌, ◌<◌, ◌≤◌, ◌^◌, ◌==◌, nat_lt, if◌then◌else◌, List, [], ◌∷◌, ◌++◌, length, map, drop, find, codes, IsTrue, false, Option, Some, None, Result, Ok, Err}
 use Rattle.std.specs.Option.{option_map_or}
 use Rattle.std.specs.Result.{result_ok}

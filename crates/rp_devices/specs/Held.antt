@@ -1,4 +1,7 @@
 -- What a disk holds, and what a crash may leave of it.
+-- Names here (* for this crate alone):
+--   Held*, opened*, put*, changed*, after*, TornBy*, IsImage*, LeftSince*
+--   one image of each kind: smeared*, smear_of*, all_smeared*, remains*, ChangesBoth*, left_of
 use Rattle.std.specs.Prelude.{◌≡◌, ◌⊎◌, ℕ, ◌+◌, ◌≤◌, List, [], ◌∷◌, ◌++◌, length, take, drop, replicate, nat_le, if◌then◌else◌, Option, None, Some}
 use Rattle.std.proofs.Common.{subst, sym, arith}
 use Rattle.std.proofs.lemmas.List.{take_all}

@@ -1,4 +1,9 @@
 -- Values: which may end a view, which is chosen, and what a view decides and delivers.
+-- Names here (* for this crate alone):
+--   free values: may_update, may_cut, FreeInParts*, end_of, EndsByMember*, IsLeastCut, FreeValueIs*
+--   values that an earlier rank may have decided: last_of, LastsByMember*, AckedIs*, AdoptedIs*, ChooseIs*, AnyIsFound*, NextCandidate*,
+--     RemovedBelow*
+--   settling: DecidedIs*, DeliverableIs*, IsFixedLength*, FixedLengthIs*
 use Rattle.std.specs.Prelude.{◌≡◌, ◌⊎◌, ℕ, suc, ◌-◌, ◌<◌, ◌≤◌, Bool, IsTrue, IsFalse, ◌&&◌, ◌||◌, nat_le, ◌==◌, if◌then◌else◌, take, count_by, Option, Some, None, is_some, option_map, option_and_then, slice_get}
 use Rattle.std.specs.List.{list_any, list_all, range_with_len}
 use Rattle.byte_defs.specs.Choices.{is_some_and}

@@ -1,4 +1,8 @@
 -- The least statement of a kind that is due, as a walk finds it.
+-- Names here (* for this crate alone):
+--   signable*, first_signable*, StandBefore*, IsWalk*, FirstIsLeast*, LeastOfAll*, NoneOfAll*, EachHasItsPlace*, LeastIsFirst*
+--   where none is due at all: OutsiderSignsNone*, is_of_open_view, EndedSignsNone*
+--   where each number has one statement: may_at*, IsNumbered*, LeastNumber*
 use Rattle.pool_laws.specs.Least.{IsLeastBelow}
 use Rattle.std.specs.Prelude.{◌≡◌, ◌⊎◌, ℕ, ◌<◌, Bool, true, false, IsTrue, IsFalse, if◌then◌else◌, List, AllPairs, Contains, Option, Some, None, option_and_then}
 use Rattle.byte_defs.specs.Choices.{first_some, is_some_and}

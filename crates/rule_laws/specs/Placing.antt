@@ -1,4 +1,9 @@
 -- Places: the least Order, the least Place and the least Keep that are due.
+-- Names here (* for this crate alone):
+--   Order: may_order, OrderIsLeast*, counts_in, message_by, is_next, NextByCounts*, CountsOneMore*, IsBatchSoFar, BatchBegins*,
+--     BatchGoesOn*, BatchIsFull*
+--   Place: managers_order*, fits, is_place_open, PlaceIsLeast*, FollowsSoFar, FollowsBegins*, FollowsOn*, FollowsWhole*
+--   Keep: is_keep_open, KeepIsLeast*
 use Rattle.std.specs.Prelude.{◌≡◌, ℕ, suc, ◌+◌, Bool, IsTrue, IsFalse, ◌&&◌, not, nat_lt, nat_le, if◌then◌else◌, List, [], ◌∷◌, ◌++◌, length, map, take, drop, slice_set, Option, Some, None, is_some, option_map, option_and_then, slice_get, slice_index_or, ◌==◌}
 use Rattle.byte_defs.specs.Choices.{is_some_and}
 use Rattle.message_defs.specs.Limits.{last_number, most_places}

@@ -1,4 +1,9 @@
 -- Ranks: the least Ready, Last, Suggest and Ack that are due, and the decision.
+-- Names here (* for this crate alone):
+--   Ready: acked, may_ready, ReadyIsLeast*
+--   Last: may_last, LastIsLeast*, is_left*, RemovedRankIs*
+--   Suggest: may_suggest, SuggestIsLeast*
+--   Ack: suggested, may_ack*, is_ack_due, AckIsLeast*
 use Rattle.std.specs.Prelude.{◌≡◌, ℕ, suc, ◌-◌, Bool, IsTrue, ◌&&◌, not, nat_lt, nat_le, min, if◌then◌else◌, Option, Some, None, is_some, option_map, option_and_then, slice_get, slice_index_or, unwrap_or}
 use Rattle.byte_defs.specs.Choices.{is_some_and}
 use Rattle.message_defs.specs.Limits.{last_rank}

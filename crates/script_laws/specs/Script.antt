@@ -1,4 +1,7 @@
 -- How a node reads its script, line by line: which part of a run the answer to a read is.
+-- Names here (* for this crate alone):
+--   HasToDo, StopsWith, with_line, with_source*, IsNoLine
+--   the laws: EachReads, ReadsInOrder*, EachAsks*, AsksTheOutside*, AsksHosted, LinesAskHosted*
 use Rattle.std.specs.Prelude.{◌≡◌, ◌≢◌, ◌⊎◌, ℕ, ◌+◌, ◌≤◌, List, [], ◌∷◌, ◌++◌, Some, None, IsTrue}
 use Rattle.std.specs.Str.{is_utf8}
 use Rattle.byte_defs.specs.Members.{has}

@@ -1,4 +1,7 @@
 -- How a list of claims is kept: their bytes one after the other, and of each claim where its bytes are.
+-- Names here (* for this crate alone):
+--   what contracts see: lent_claim, IsShort*, same_signed*, joined*
+--   where the bytes are: middle*, past*, listed_claim*, listed_claims*, IsListed*, AreListed*, added*, extended
 use Rattle.std.specs.Prelude.{ℕ, ◌+◌, ◌≤◌, Bool, ◌&&◌, ◌==◌, List, ◌∷◌, [], ◌++◌, length, map, slice_range, fold, if◌then◌else◌}
 use Rattle.std.specs.List.{AllByRecursion, list_any}
 use Rattle.byte_defs.specs.Equality.{same_bytes}

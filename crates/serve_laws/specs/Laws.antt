@@ -1,4 +1,10 @@
 -- The laws of the store, of a node that serves.
+-- Names here (* for this crate alone):
+--   what a run answers: SaysReply*, SaysState*, RunTells*, RunsTell*
+--   a run of a correct process: AreJoinings*, IsOneOf*, IsServedRun*, RunsAreServed*
+--   by name: RepliesAreMade*, StatesAreMade*, RepliesAreAnswers*, RepliesOnce*, StatesOnce*, StoresHold*, WroteIt*, IsWritten*,
+--     AcceptedAreAnswers*
+--   of a history: StoreLaws*, ServesStore, HistoriesServe*
 use Rattle.std.specs.Prelude.{◌≡◌, ℕ, List, [], ◌∷◌, ◌++◌, All, Contains, IsTrue, Option, Some, None}
 use Rattle.signature_defs.specs.Schemes.{is_valid}
 use Rattle.kit_defs.specs.Kits.{Host, IsKit}

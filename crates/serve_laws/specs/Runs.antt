@@ -1,4 +1,8 @@
 -- A run of a node that serves a store, as its hosted processes and their servers go through it.
+-- Names here (* for this crate alone):
+--   a run: NodeRun*, cast*, opened*, after_some*, last*, history*, IsHostIn*
+--   what happens to a process and its server: word_in*, turns_by*, words_by*, steps_by*, steps_in*, steps*, first*, at*
+--   the process of a journal: turns_of*, process_of*
 use Rattle.std.specs.Prelude.{◌≡◌, ℕ, ◌==◌, if◌then◌else◌, List, [], ◌∷◌, ◌++◌, map, Option, Some}
 use Rattle.std.specs.Option.{option_to_list}
 use Rattle.text_defs.specs.Words.{words_of}

@@ -1,5 +1,11 @@
 -- HSS signatures, trees in 1 to 8 levels (RFC 8554, section 6). Level 0 is the top: its one tree signs the public keys of
 -- the trees of level 1, these sign those of level 2, and so on; the trees of the lowest level sign the messages.
+-- Names here (* for this crate alone):
+--   private keys: HssSecret, hss_total, levels_in_range, height_in_range, length_in_range
+--   which leaves sign (6.2): tree_number, leaf_number
+--   the trees (6.1): derived*, tree_id, tree_seed, tree_key, hss_public_key
+--   signatures (6.2): signed_text*, level_signature, signed_key, signed_keys, hss_signature, hss_signature_length
+--   verification (6.3): length_under, levels_valid, hss_valid
 use Rattle.std.specs.Prelude.{ℕ, zero, suc, ◌+◌, ◌-◌, ◌*◌, ◌/◌, ◌%◌, ◌^◌, ◌==◌, nat_le, if◌then◌else◌, Bool, true, ◌&&◌, ◌||◌, List, ◌++◌, length, take, drop, codes, Option, option_map, option_and_then}
 use Rattle.byte_defs.specs.Choices.{is_some_and}
 use Rattle.sha2.specs.Sha256.{sha256}

@@ -1,5 +1,12 @@
 -- LM-OTS one-time signatures with SHA-256, so that n = 32 (RFC 8554, section 4). Beyond the RFC's names: `kind` is the
 -- typecode's parameter set, `id` is I, `q` the number of the leaf, `seed` the SEED of Appendix A.
+-- Names here (* for this crate alone):
+--   parameter sets (4.1, table 1): ots_typecode, ots_type_of, ots_width, ots_chains, ots_shift*, ots_steps, ots_signature_length,
+--     D_PBLC, D_MESG*
+--   chains: chain_head, chain
+--   keys: secret, key_of_ends*, ots_public_key*
+--   digits: checksum*, digit, message_hash
+--   signatures: randomizer, signed_value, ots_signature, reached_end, candidate_by, ots_signature_type*, ots_candidate*
 use Rattle.std.specs.Prelude.{ℕ, zero, suc, ◌+◌, ◌-◌, ◌*◌, ◌/◌, ◌^◌, ◌==◌, if◌then◌else◌, List, [], ◌∷◌, ◌++◌, length, Option, Some, None}
 use Rattle.std.specs.Option.{option_map, option_and_then}
 use Rattle.byte_defs.specs.Choices.{first_that_holds}

@@ -1,4 +1,9 @@
 -- LMS signatures, a tree over one-time keys, with SHA-256, so that m = 32 (RFC 8554, section 5).
+-- Names here (* for this crate alone):
+--   parameter sets (5.1, table 2): lms_height_of, lms_signature_length, D_LEAF*, D_INTR*
+--   the tree (5.3): leaf, inner, node, lms_public_key
+--   signatures (5.4): sibling, path_node, lms_signature
+--   verification (5.4.2): parent*, climbed, root_candidate*, has_types*, valid_by*, lms_valid
 use Rattle.std.specs.Prelude.{ℕ, zero, suc, ◌+◌, ◌-◌, ◌*◌, ◌/◌, ◌%◌, ◌^◌, ◌==◌, nat_lt, if◌then◌else◌, Bool, ◌&&◌, List, [], ◌∷◌, ◌++◌, length, Option}
 use Rattle.byte_defs.specs.Choices.{first_that_holds, is_some_and}
 use Rattle.byte_defs.specs.Equality.{same_bytes}

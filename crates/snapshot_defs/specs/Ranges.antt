@@ -1,4 +1,7 @@
 -- Which images have a spelling.
+-- Names here (* for this crate alone):
+--   EachFrom, IsListOf, AreClaims, IsRanked, IsLeftView, IsPerceived, IsPayload, IsConflict, IsPlaceAt, IsDeliveredAt, IsDecision,
+--     IsImage
 use Rattle.std.specs.Prelude.{◌≡◌, ℕ, ◌+◌, ◌^◌, ◌<◌, ◌≤◌, List, [], ◌∷◌, length, Option, Some, None, IsTrue}
 use Rattle.message_defs.specs.Limits.{last_process, last_number, last_rank, most_payload_bytes}
 use Rattle.message_defs.specs.Updates.{Update, Value}

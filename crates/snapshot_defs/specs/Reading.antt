@@ -2,6 +2,13 @@
 --
 -- A number above its limit is a fault of its field, a field that the bytes don't hold one of that field. A statement that is none, or out
 -- of its ranges, has its fault at its first byte, after the length. Where pairs don't rise, the fault is where their list begins.
+-- Names here (* for this crate alone):
+--   claims: process_at, statement_at, claim_at, claims_at
+--   values: update_at, value_at, ranked_at
+--   the views that were left: left_at, all_left_at
+--   lists that rise: rises, perceived_key, perceived_at, all_perceived_at, conflict_at, all_conflicts_at
+--   delivered messages: place_at, message_at, delivered_at, view_at
+--   the image: decision_at, halted_at, reported_at, claimed_at, settled_at, image_at, whole_at, placed, image_in
 use Rattle.std.specs.Prelude.{ℕ, ◌+◌, ◌-◌, Bool, true, ◌&&◌, nat_lt, ◌==◌, List, [], ◌∷◌, length, Option, Some, None, Result, Ok, Err, if◌then◌else◌}
 use Rattle.std.specs.Int.{w8, w16}
 use Rattle.byte_defs.specs.Fields.{◌>>=◌, refuse_if}

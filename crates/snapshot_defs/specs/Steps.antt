@@ -1,5 +1,9 @@
 -- What reading is made of. A step answers what it read and the bytes after it, or the first fault. A fault is at the first byte of
 -- the field that has it, and is given by how many bytes are left there.
+-- Names here (* for this crate alone):
+--   Step
+--   steps in a row: ◌&◌, made, tested, else_fault, times_at, counted_at
+--   fields: wide_at, number_to, field_at, text_to, list_at
 use Rattle.std.specs.Prelude.{ℕ, zero, suc, ◌+◌, Bool, not, nat_lt, List, [], ◌∷◌, length, Result, Ok, Err}
 use Rattle.std.specs.Int.{Width, w16, w32}
 use Rattle.byte_defs.specs.Fields.{◌>>=◌, refuse_if, number_at, bytes_at}

@@ -1,4 +1,8 @@
 -- A worked image, and where the first fault is in bytes that are near its spelling; by another program.
+-- Names here (* for this crate alone):
+--   worked*, first*, second*
+--   bytes that are near them: fault*, fronts*, raised*, faults*, first_cut*, first_raised*, second_cut*, second_raised*
+--   the row: WorkedImage*
 use Rattle.std.specs.Prelude.{◌≡◌, ℕ, ◌+◌, ◌%◌, true, List, [], ◌∷◌, map, Option, Some, None, Result, Ok, Err}
 use Rattle.message_defs.specs.Updates.{Remove, Add, Renew, Value}
 use Rattle.message_defs.specs.Statements.{Message, Init, Order, End, Ready}

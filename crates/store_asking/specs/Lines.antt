@@ -1,4 +1,7 @@
 -- What the lines after a kit say, one by one.
+-- Names here (* for this crate alone):
+--   before the replies: PlainSaid*, said*, with_key*, said_by*, IsNext*, are_below*, key_above*, IsAbove*, only_word*
+--   replies: reported_behind*, reported_by*, reported*, reply_in*, voted*, vote_with*, line_voted*
 use Rattle.std.specs.Prelude.{◌≡◌, ℕ, Bool, true, List, [], ◌∷◌, ◌++◌, ◌<◌, ◌==◌, ◌&&◌, nat_lt, nat_le, if◌then◌else◌, length, codes, All, Option, Some, None, option_map, Result, Ok, Err}
 use Rattle.std.specs.Option.{ok_or}
 use Rattle.std.specs.Result.{result_ok}

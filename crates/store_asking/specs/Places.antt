@@ -1,4 +1,8 @@
 -- Places of an input after its kit, and the answer from one on, whatever bytes come.
+-- Names here (* for this crate alone):
+--   reply keys and the view: KeyPlace*, key_place*, question_at*
+--   replies: replies_at*, with_replies*, question_behind*, VotePlace*, vote_place*, vote_by*, vote_at*
+--   what is found: Found*, found_for*, found_of*, found*
 use Rattle.std.specs.Prelude.{ℕ, ◌+◌, List, [], ◌∷◌, ◌++◌, Option, Result, Ok, Err}
 use Rattle.signature_defs.specs.Schemes.{is_valid}
 use Rattle.text_defs.specs.Words.{parts_of}

@@ -2,6 +2,11 @@
 --
 -- A stream tells what it holds where its `left` or `written` is `Some bytes`, as streams in memory do. Standard input, output and error do
 -- not tell: theirs is `None`. Of a stream that does not tell, `Consumes`, `IsAtEnd`, `Appends` and `AppendsPrefix` hold whatever the bytes.
+-- Names here (* for this crate alone):
+--   a whole run: Done*, SomeMade*, MadeInPart*, Refused*, RefusedAndSays*
+--   inputs that tell what they hold: HasOutput*, HasFault*
+--   by the answer of a run: Ran*
+--   one line: Takes*, Breaks*, Stepped*
 use Rattle.std.specs.Prelude.{◌≡◌, ◌⊎◌, ℕ, Bool, true, false, List, [], ◌∷◌, ◌++◌, Option, Some, Result, Ok, Err, IsSomeAnd}
 use Rattle.std.specs.Io.KnownBytes.{Appends, Consumes, IsAtEnd}
 use Rattle.rp_base.specs.Streams.{AppendsPrefix, Says}

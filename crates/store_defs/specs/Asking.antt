@@ -4,6 +4,12 @@
 --   reply P HEX        a reply record of P, at most 1,024 lines
 -- A line of another form, a view that is none, a reply that is none or another signer's, a 1,025th reply and the end of the input before
 -- the view line are faults of their lines; a last line that no line feed ends is one of another form.
+-- Names here (* for this crate alone):
+--   reply keys: reply_key_by, named_key
+--   the view: view_of_words, view_by
+--   replies: record_by, reply_by
+--   the lines after the kit: Question, most_replies, line_words, replies_from, is_view, question_from
+--   the answer: key_in, answered, answer_text, asked, ask_output
 use Rattle.std.specs.Prelude.{ℕ, ◌+◌, ◌-◌, ◌==◌, ◌&&◌, not, nat_lt, nat_le, if◌then◌else◌, Bool, true, false, List, [], ◌∷◌, ◌++◌, length, map, codes, find, Option, Some, None, option_map, Result, Ok, Err}
 use Rattle.std.specs.Option.{ok_or, option_flatten}
 use Rattle.std.specs.Result.{result_ok}

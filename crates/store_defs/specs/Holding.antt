@@ -1,4 +1,8 @@
 -- Which processes hold the store, from what they delivered and the states that they took.
+-- Names here (* for this crate alone):
+--   Beginning, genesis, was_member, stayed, holds, payloads_of, payloads_in, store_over, store_at, store_below
+--   leaves: delivered_below
+--   what a process says of the store: Stands, Replies, Gives
 use Rattle.std.specs.Prelude.{◌≡◌, ℕ, zero, suc, ◌+◌, ◌-◌, Bool, true, ◌&&◌, nat_le, List, [], ◌∷◌, ◌++◌, length, map, take, drop, IsTrue}
 use Rattle.std.specs.List.{list_any}
 use Rattle.group_defs.specs.Views.{is_member}

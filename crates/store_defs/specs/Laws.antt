@@ -1,4 +1,14 @@
 -- What holds of the store, its records, its votes and transfers, and of a family whose processes serve it.
+-- Names here (* for this crate alone):
+--   the map: SetIsFound, SetLeavesOthers, RemovedIsAbsent, RemoveLeavesOthers, StaysStore
+--   the grammars: AreBytes, StoreIsRead, StoreIsSpelled, ReplyIsRead, ReplyIsSpelled, StateIsRead, StateIsSpelled
+--   votes: vouches, vouchers, accepted_of, AcceptsExactly, VotesExactly
+--   transfers: attests, ReadyIsAttested
+--   a family whose processes serve: Joining, Services, state_of, TookIn, Begins, MadeReply, MadeState, IsOwnState, ServicePremises,
+--     JoinersHoldTheStore
+--   answers: IsAnswerOf, OneAnswer, ReplyIsAnswer, IsInstalled, IsOwnReply, AcceptedIsAnswer
+--   leaves: OneBodyPerLeaf, OneReplyPerLeaf, OneStatePerLeaf
+--   a server and its process: store_now, given_now, Follows, BeginsFollowing, TurnFollows
 use Rattle.std.specs.Prelude.{◌≡◌, ◌≢◌, ◌⊎◌, ◌↔◌, ℕ, ◌+◌, ◌<◌, ◌≤◌, ◌==◌, ◌&&◌, ◌||◌, nat_lt, Bool, false, List, [], ◌∷◌, ◌++◌, length, count_by, All, Contains, IsTrue, slice_index, Option, Some, None, Ok, Err}
 use Rattle.std.specs.List.{list_any}
 use Rattle.byte_defs.specs.Equality.{same_bytes}

@@ -3,6 +3,11 @@
 --   reply body   RPR1, group 16, signer 1, view 2, place 2, position 1, payload after a length of two bytes, answer likewise
 --   state body   RPT1, group 16, signer 1, view 2, state after a length of four bytes
 --   record       the body from the signer on, signature after a length of two bytes
+-- Names here (* for this crate alone):
+--   last_position, most_answer_bytes, Reply, StateRecord
+--   how they are spelled: reply_fields*, state_fields*, reply_body, state_body, reply_bytes, state_bytes
+--   what has a spelling: IsReply, IsStateRecord
+--   how they are read; there is one fault: small_at, short_at, reply_of, state_at, state_record_of
 use Rattle.std.specs.Prelude.{◌≡◌, ℕ, ◌+◌, ◌<◌, ◌≤◌, ◌^◌, nat_lt, List, [], ◌∷◌, ◌++◌, length, codes, Result, Ok, Err}
 use Rattle.std.specs.Int.{w8, w16, w32}
 use Rattle.byte_defs.specs.Fields.{◌>>=◌, refuse_if, number_at, bytes_at, two_bytes, four_bytes, text}

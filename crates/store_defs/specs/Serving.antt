@@ -1,4 +1,12 @@
 -- What a process that serves the store keeps, how each note of a turn changes it, and what it writes.
+-- Names here (* for this crate alone):
+--   Place, Server
+--   the start: held, server_of
+--   replies: position_at, unsigned_reply, signed_reply, ReplyWord, reply_to, stored*, after_message
+--   views: after_view
+--   notes: after_note, after_notes, Reported, reported_of
+--   states: unsigned_state, signed_state, StateWord, state_given, OfferWord, handed_key, word_of_taken, taken_by, offer_word,
+--     store_from, with_ready*, after_taken, after_offer, with_key
 use Rattle.std.specs.Prelude.{ℕ, ◌+◌, ◌-◌, ◌==◌, not, nat_le, if◌then◌else◌, Bool, ◌||◌, List, [], ◌∷◌, ◌++◌, length, codes, find, Option, Some, None, is_some, option_map, Ok, Err}
 use Rattle.std.specs.Option.{unwrap_or, option_map_or}
 use Rattle.std.specs.Fmt.{decimal}

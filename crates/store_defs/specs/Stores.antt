@@ -6,6 +6,16 @@
 --   03 KEY               the key is removed: 00
 --   04 KEY VALUE VALUE   the key is set to the second value, where its value is the first: 00; where it is another: 05 and that value
 -- Without the key, 02, 03 and 04 answer 02. Any other bytes change nothing and answer 03.
+-- Names here (* for this crate alone):
+--   Pair, Store, empty
+--   limits: most_keys, most_key_bytes, most_value_bytes, tag_bytes
+--   the map: is_of_key, value_of, with_pair, without
+--   commands and answers: Command, Answer, answer_bytes, found, missed, key_of, carried_out
+--   how a request is read; there is one fault: Reading, key_at, text_within, value_at, set_at, exchange_at, command_behind, request_of,
+--     applied, answer_to, store_after
+--   how a store is spelled: the number of its keys in two bytes, and each key after a length of one byte, with its value after a length:
+--     pair_bytes, store_bytes, pairs_at, store_of
+--   what has a spelling: IsPair, AreRising, IsStore
 use Rattle.std.specs.Prelude.{◌≡◌, ◌⊎◌, ℕ, zero, suc, ◌≤◌, ◌==◌, not, nat_lt, if◌then◌else◌, Bool, true, List, [], ◌∷◌, ◌++◌, length, filter, find, Option, Some, None, option_map, is_some, Result, Ok, Err}
 use Rattle.std.specs.List.{flat_map, AllByRecursion}
 use Rattle.std.specs.Int.{w8, w16}

@@ -1,4 +1,6 @@
 -- A joiner: which state more than f members of its view gave.
+-- Names here (* for this crate alone):
+--   Transfer, new_transfer, is_signed, is_counted, has_given, givers, with_state, counted, offer, with_record, transfer_after
 use Rattle.std.specs.Prelude.{ℕ, Bool, ◌&&◌, not, ◌==◌, nat_lt, if◌then◌else◌, List, [], ◌∷◌, ◌++◌, length, count_by, Option, Some, None}
 use Rattle.std.specs.List.{list_any}
 use Rattle.std.specs.Option.{option_or, unwrap_or}

@@ -1,4 +1,7 @@
 -- The client: which answer more than f members of a view gave.
+-- Names here (* for this crate alone):
+--   Valid, Content, content_of, content_numbers, same_content, Vote, new_vote, is_asked, is_signed, has_given, offer, with_reply,
+--     offered, vote_after, voters, is_enough, accepted
 use Rattle.std.specs.Prelude.{ℕ, Bool, ◌&&◌, not, ◌==◌, nat_lt, if◌then◌else◌, List, [], ◌∷◌, ◌++◌, length, map, filter, count_by, Option}
 use Rattle.std.specs.List.{list_any}
 use Rattle.std.specs.Option.{unwrap_or}

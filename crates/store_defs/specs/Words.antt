@@ -4,6 +4,9 @@
 --   P statekey Q HEX     hands P the state key of Q, which is of the roster
 -- It writes `replykey P HEX` for each process that it hosts, then `statekey P HEX` for each, after the host lines; `reply P` and a record,
 -- `spent` or `none` after each `deliver` line of P; and `state P` and a record, `spent`, `none`, `ready`, `taken C` or `refused WORD`.
+-- Names here (* for this crate alone):
+--   what a line says: most_state_line_bytes, some_bytes_of, Word, give_by*, state_by*, listed_process, state_key_by*, word_by
+--   what is written: reply_key_text, state_key_text, reply_word*, reported_text, state_word*, given_text, offer_words*, offered_text
 use Rattle.std.specs.Prelude.{ℕ, ◌/◌, ◌*◌, ◌==◌, ◌&&◌, nat_le, if◌then◌else◌, Bool, List, [], ◌∷◌, ◌++◌, length, codes, Option, Some, None, option_map}
 use Rattle.std.specs.Option.{option_flatten}
 use Rattle.std.specs.Fmt.{decimal}

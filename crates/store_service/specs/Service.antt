@@ -3,6 +3,14 @@
 -- At the call Serves it begins: each process that it is shown gets a server, which is that of the process as it is then, at the place of the
 -- process in the cast. A note that a process lets out is given to the server of this process, and so is a line of the script that asks it.
 -- Nobody is suspected.
+-- Names here (* for this crate alone):
+--   Serving
+--   the start: begun_by*, begun_of*, begun*, keys_of*
+--   one of them: serving, with_new*, with_server*
+--   notes: noted, after_noted*
+--   lines: kit_in*, here_of*, worded_of, worded*, after_worded*
+--   calls: answer_to*, after_call, after_own
+--   histories: after_first*, IsFirst*, after_one, IsServed*, after_all, AreServed, after_owns*
 use Rattle.std.specs.Prelude.{◌≡◌, ℕ, ◌==◌, if◌then◌else◌, List, [], ◌∷◌, find, flat_map, map, option_and_then, Option, Some, None}
 use Rattle.std.specs.Option.{option_map_or}
 use Rattle.node_service.specs.Histories.{Answer, Asked, Asks, Call, Cast, Done, Note, Process, Said, Serves, TellsOf, Words}

@@ -4,6 +4,10 @@
 --   tell         a line stays as it is, and after it comes what it says
 -- A line that asks for a request and is none is faulty, and so is one that is too long or that no line feed ends. What the lines before the
 -- first faulty one become is written, and nothing for that one or any after it.
+-- Names here (* for this crate alone):
+--   lines: most_line_bytes, IsLine, ended
+--   one line: becomes
+--   an input: Made, AreMade, input_of, output_of, HasNoLine, BeginsFaulty*, IsFaulty, Filtered, Stopped
 use Rattle.std.specs.Prelude.{◌≡◌, ◌⊎◌, ℕ, ◌+◌, ◌<◌, ◌≤◌, ◌==◌, if◌then◌else◌, false, List, [], ◌∷◌, ◌++◌, length, Option, Some, None, option_map}
 use Rattle.std.specs.List.{AllByRecursion, flat_map, list_any}
 use Rattle.text_defs.specs.Words.{line_feed}

@@ -5,6 +5,14 @@
 --   answer X K I HEX          what was answered: value "b"
 -- and a sentence each where a process has no reply or state to give, where a state is taken or refused, and where there is no answer. Any other
 -- line says nothing. Requests are written as a story writes its words, so one that follows a process is read as the request.
+-- Names here (* for this crate alone):
+--   reported_line, one_line, sentence
+--   requests: read_tokens, payload_tokens, sixth*, deliver_lines*
+--   replies: reply_tokens, no_reply*, perhaps, reply_or, reply_said, reply_lines*
+--   states: pair_tokens, store_head, store_lines, state_lines, state_from*, state_by, no_state*, refusal*, offered*, state_or,
+--     state_said, three*, offer_lines*, given_or*, given_lines*
+--   answers: fourth*, no_answer*, answer_or*, answer_lines*
+--   a line: lines_by, meaning
 use Rattle.std.specs.Prelude.{ℕ, ◌==◌, if◌then◌else◌, List, [], ◌∷◌, ◌++◌, map, codes, Option, Some, None, option_map, Ok, Err}
 use Rattle.std.specs.List.{flat_map}
 use Rattle.std.specs.Option.{option_map_or, unwrap_or}

@@ -5,6 +5,14 @@
 --   P swap TAG KEY OLD NEW     the key is set to the new value, where its value is the old one
 -- P is a process, TAG a number below 2^64, a key 1 to 64 bytes, a value at most 512. Bytes are quoted or in hexadecimal, as in stories, and the
 -- words are read as those of a story's line. The request has at most 1,024 bytes, as each payload has.
+-- Names here (* for this crate alone):
+--   Request, last_tag
+--   its bytes: command_bytes, request_bytes, tag_of
+--   how it is written: verb_of, command_tokens, asked_tokens, request_tokens, reported
+--   how it is read: key_by, value_by, only*, both*, set_by*, get_by*, remove_by*, values_by*, exchange_by*, command_by, asked_by,
+--     if_short, request_by, request_in
+--   the lines: is_verb, asks_by, asks, submit_line
+--   what has a spelling: IsKey, IsValue, IsCommand, IsRequest
 use Rattle.std.specs.Prelude.{ℕ, ◌-◌, ◌^◌, ◌<◌, ◌≤◌, ◌==◌, nat_le, if◌then◌else◌, Bool, false, List, [], ◌∷◌, ◌++◌, length, map, codes, take, Option, Some, None, option_map}
 use Rattle.std.specs.Option.{option_flatten}
 use Rattle.std.specs.Result.{result_ok}

@@ -2,6 +2,12 @@
 --
 -- A stream says what it holds where its `left` or `written` is `Some bytes`, as streams in memory do. Standard input, output and error do
 -- not: theirs is `None`. Of a stream that does not, `Consumes`, `IsAtEnd`, `Appends` and `AppendsPrefix` hold whatever the bytes.
+-- Names here (* for this crate alone):
+--   the words: command_word, Asks, AskAny, reads_schedule, AskOfSchedule
+--   what is made of an input: Assembles*, WritesOf*, Tells*, trace_text*, Traces*, picture_text*, Draws*, MakesOf*, Has*
+--   the input and the output, by what a source had left before and has left now, and what a sink held before and holds now: Made*,
+--     MadeInPart*, NoStory, NoSchedule
+--   on the way: Given*, IsNoStory*, IsNoSchedule*
 use Rattle.std.specs.Prelude.{◌≡◌, ℕ, Bool, true, false, List, [], ◌∷◌, map, Option, Ok, Err, IsOk, codes, String, string_bytes}
 use Rattle.std.specs.List.{flat_map}
 use Rattle.std.specs.Io.KnownBytes.{Appends, Consumes, IsAtEnd}

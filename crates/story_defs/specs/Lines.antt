@@ -9,6 +9,11 @@
 --   lie P to MASK: STATEMENT
 --   suspect P of Q, join P of Q
 --   renew P, tick P
+-- Names here (* for this crate alone):
+--   the group: limit_at, front_bytes, group_at
+--   processes: short_key, total_at, short_at, whole_at, plain_at, tree_at, levels_at, key_at, listed_at
+--   the first view: members_behind, genesis_at
+--   events: submit_at, raw_at, pass_at, drain_at, lie_at, about_at, alone_at, kind_of_word, event_by
 use Rattle.std.specs.Prelude.{ℕ, ◌+◌, ◌^◌, ◌-◌, Bool, ◌==◌, nat_le, if◌then◌else◌, List, [], ◌∷◌, ◌++◌, length, Option, Some, None, codes, Result, Ok, Err}
 use Rattle.std.specs.List.{repeat}
 use Rattle.byte_defs.specs.Choices.{first_that_holds}

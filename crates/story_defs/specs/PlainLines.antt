@@ -1,5 +1,9 @@
 -- A line of a story, byte by byte. Words are divided by blanks; a colon is a word of its own; a number sign begins a comment. Bytes are
 -- quoted, or in hexadecimal. The plain line has single spaces between its words, no comment, and all bytes in hexadecimal.
+-- Names here (* for this crate alone):
+--   bytes with a meaning: number_sign*, quote*, backslash*, colon*, is_blank, ends_word, is_escaped
+--   one byte: Scanned*, parted, between*, bare*, quoted*, opened*, escaped*, scanned
+--   the whole line: line_end, scan, plain_line
 use Rattle.std.specs.Prelude.{ℕ, Bool, ◌==◌, ◌||◌, nat_lt, if◌then◌else◌, List, [], ◌∷◌, ◌++◌, length, Result, Ok, Err}
 use Rattle.hex.specs.Hex.{encode_lower}
 use Rattle.byte_defs.specs.Fields.{◌>>=◌}

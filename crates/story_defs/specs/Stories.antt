@@ -1,6 +1,10 @@
 -- What a text assembles to: the bytes of its lines, where they are a schedule; else the first line that has a fault, and what
 -- was expected there. A line has a fault where it is none that may follow, or where the first fault of the schedule's bytes is in its
 -- own.
+-- Names here (* for this crate alone):
+--   lines, one after another: Draft, no_lines, draft_bytes, wanted, Addition, listed_by, genesis_by, event_of_word, group_of_word*,
+--     listing_of_word, said_by_word, said_by_plain, said_by, marked*, listed_size*, pushed*, CanAdd, added
+--   the whole text: Taken, take_lines, line_at, expected_by*, fault_at_stop, fault_in_line*, judged, judgement, story_of
 use Rattle.std.specs.Prelude.{ℕ, ◌+◌, ◌-◌, ◌<◌, Bool, ◌==◌, nat_lt, nat_le, if◌then◌else◌, List, [], ◌∷◌, ◌++◌, length, Option, Some, None, codes, Result, Ok, Err}
 use Rattle.std.specs.Option.{ok_or}
 use Rattle.byte_defs.specs.Equality.{same_bytes}

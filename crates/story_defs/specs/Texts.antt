@@ -1,4 +1,10 @@
 -- The text of a schedule, a line for each process and each event.
+-- Names here (* for this crate alone):
+--   tokens: Token, is_printable, quoted_byte, quoted_text, shown_bytes, shown, plain, number, numbers
+--   statements: update_tokens, value_tokens, message_tokens, report_tokens, kind_tokens, worded, statement_read, statement_tokens
+--   events: mask_tokens, drain_tokens*, lie_tokens*, about_tokens*, event_tokens
+--   who takes part: role_word, plain_tokens, tree_tokens, key_tokens, listed_tokens, limit_tokens, group_tokens, genesis_tokens
+--   the text: token_line, schedule_lines, schedule_text
 use Rattle.std.specs.Prelude.{ℕ, ◌==◌, ◌&&◌, ◌||◌, not, nat_lt, nat_le, Bool, false, if◌then◌else◌, List, [], ◌∷◌, ◌++◌, length, map, Option, Some, None, codes, Result, Ok, Err}
 use Rattle.std.specs.List.{flat_map, list_all}
 use Rattle.std.specs.Fmt.{decimal}

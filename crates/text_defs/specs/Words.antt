@@ -1,5 +1,11 @@
 -- Lines of text. A line is its words with one space between them, and ends with a line feed. A number is a word of decimal
 -- digits without sign or leading zero, and bytes are a word of lower-case hexadecimal digits.
+-- Names here (* for this crate alone):
+--   space, line_feed
+--   words: words_of, line_text, begin_with
+--   lines: parts_of
+--   numbers: value_behind, number_of, number_within, process_of
+--   bytes: AreBytes, is_upper_case, bytes_of, bytes_word, Spells
 use Rattle.std.specs.Prelude.{◌≡◌, ℕ, codes, ◌+◌, ◌-◌, ◌*◌, ◌==◌, ◌&&◌, nat_le, Bool, true, false, if◌then◌else◌, List, [], ◌∷◌, ◌++◌, length, Option, Some, None, option_and_then}
 use Rattle.std.specs.List.{list_any, slice_split, join_with_byte}
 use Rattle.std.specs.Result.{result_ok}

@@ -1,4 +1,10 @@
 -- The lines of what came of an event at a process.
+-- Names here (* for this crate alone):
+--   of_process
+--   refusals: frame_reason*, update_reason*, refusal_reason, refusal_line
+--   what it heard, signed and sent: claims_word, heard_line, signed_line, frame_line, sent_line
+--   what it reports: note_line
+--   all of it: addressed*, Seen, seen, taken_lines*
 use Rattle.std.specs.Prelude.{ℕ, Bool, ◌==◌, if◌then◌else◌, List, [], ◌∷◌, ◌++◌, length, map, Option, Some, None, codes}
 use Rattle.std.specs.List.{flat_map, enumerate_from}
 use Rattle.std.specs.Fmt.{decimal}

@@ -1,4 +1,10 @@
 -- Words that several lines have: payloads, messages, updates, values, processes and statements.
+-- Names here (* for this crate alone):
+--   Word, Line
+--   numbers: number_and_colon
+--   payloads: is_plain*, quoted, most_shown*, payload_words
+--   messages, updates, processes: message_word, update_words, process_words
+--   statements: place_words*, rank_words*, last_words*, statement_words*, spelled_words
 use Rattle.std.specs.Prelude.{ℕ, Bool, ◌&&◌, not, nat_lt, nat_le, ◌==◌, if◌then◌else◌, List, [], ◌∷◌, ◌++◌, length, map, take, Option, Some, None, codes, Ok, Err}
 use Rattle.std.specs.List.{list_all}
 use Rattle.std.specs.Fmt.{decimal}

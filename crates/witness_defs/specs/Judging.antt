@@ -4,6 +4,10 @@
 -- number of the line that is in the way, counted from the input's first one:
 --   stop 7 line N | repeated N | missing N | keymismatch N     the kit's fault, or a line of another form, or the input's end in a line
 --   stop 7 evidence N                                          the evidence is not taken
+-- Names here (* for this crate alone):
+--   what a frame proves: if_read, claims_by, claims_in, is_taken
+--   lines: Refusal, judged_at, Judged, judged_behind, judged
+--   the line that says why: refusal_words*, refusal_line
 use Rattle.std.specs.Prelude.{ℕ, ◌+◌, ◌==◌, Bool, not, if◌then◌else◌, List, [], ◌∷◌, length, codes, Result, Ok, Err}
 use Rattle.std.specs.Option.{ok_or}
 use Rattle.std.specs.Fmt.{decimal}

@@ -1,5 +1,9 @@
 -- What a run of `witness` has read and written: by what a source had left before and has left now, what a sink held before and holds now,
 -- and the counts of the sink's faults before and now. Of a stream that does not say what it holds, nothing is said by it.
+-- Names here (* for this crate alone):
+--   convict: Audits*, text_of*, Unread*, JudgeTakes*, Convicted, ConvictedInPart, Unconvicted, HasFindings, HasNoFindings
+--   proofs: Proved, ProvedInPart
+--   judge: Takes*, Refused*, IsTaken*, IsRefused*
 use Rattle.std.specs.Prelude.{◌≡◌, ℕ, List, [], ◌∷◌, ◌++◌, map, Option, Ok, Err, IsOk, IsErr, IsSomeAnd}
 use Rattle.std.specs.Io.KnownBytes.{Appends}
 use Rattle.rp_base.specs.Streams.{AppendsPrefix, Says}

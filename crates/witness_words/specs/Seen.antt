@@ -1,4 +1,9 @@
 -- What the code holds, as plain data.
+-- Names here (* for this crate alone):
+--   evidence_with*
+--   evidence that was read: evidence*, two_words*, evidence_behind*
+--   a conviction, as it is written: IsShort*, HasOneSigner*, draft_of*, evidence_head*, line_with*, bundle_of*, conviction_line*,
+--     travels*, CanTravel*
 use Rattle.std.specs.Prelude.{◌≡◌, ℕ, ◌≤◌, List, [], ◌∷◌, ◌++◌, length, codes, Option, Some, None, option_map, IsTrue}
 use Rattle.std.specs.Fmt.{decimal}
 use Rattle.hex.specs.Hex.{encode_lower}
