@@ -112,6 +112,6 @@ fn faults_are_reported(rt: HostRuntime) -> Result<(), Fail> {
         SnapshotFault::Image(7),
         SnapshotFault::NoMemory
     )?;
-    assert!(rt; reported.as_str() == "no image: the fault stands at byte 7, out of memory");
+    assert!(rt; reported.as_str() == "no image: the fault is at byte 7, out of memory");
     Ok(())
 }

@@ -19,7 +19,7 @@ pub enum JournalFault {
     NotAJournal,
 
     /// The gate at this place is open, and no whole entry and next gate follow it. Someone else wrote the file.
-    #[error("no entry stands at byte {0}")]
+    #[error("no entry is at byte {0}")]
     Entry(u64),
 
     /// The bytes before this place are not those that were marked.

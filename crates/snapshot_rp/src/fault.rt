@@ -9,7 +9,7 @@ use thiserror::Error;
 pub enum SnapshotFault {
     /// The bytes are no image: this many come before the first field that has a fault, or before the first byte too many.
     /// Whoever wrote them is to blame.
-    #[error("no image: the fault stands at byte {0}")]
+    #[error("no image: the fault is at byte {0}")]
     Image(usize),
 
     /// Memory ran out, which is nobody's fault: the same bytes may be read again.
