@@ -1,3 +1,4 @@
+pub mod Below
 pub mod Keyed
 pub mod Found
 pub mod Adding

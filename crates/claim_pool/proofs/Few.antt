@@ -7,10 +7,7 @@ use Rattle.message_defs.specs.Statements.{Statement, Slot}
 use Rattle.group_defs.specs.Views.{IsView, quorum}
 use Rattle.group_defs.specs.Process.{Pool}
 use Rattle.group_defs.specs.Certified.{says, backers, certified_on, number_of_members}
-use Rattle.pool_laws.proofs.Counting.{length-filter-few}
-use Rattle.pool_laws.proofs.Heard.{certified_on-is}
-use Rattle.pool_laws.proofs.Sorting.{length-sorted}
-use Rattle.pool_laws.proofs.Tests.{then-some}
+use Rattle.pool_values.proofs.Below.{length-filter-few, certified_on-is, length-sorted, then-some}
 use Rattle.own_place.specs.Claims.{by_number}
 
 pub few-backers : (h : Pool) (st : Statement) → IsView h.view → length (backers h st) ≤ 16

@@ -7,8 +7,7 @@ use Rattle.message_defs.specs.Statements.{Message, Claim, Echo}
 use Rattle.group_defs.specs.Views.{View, is_member, rank_of}
 use Rattle.group_defs.specs.Process.{Setting, Pool, Process, delivered_from}
 use Rattle.group_defs.specs.Hearing as defs
-use Rattle.pool_laws.proofs.Ranks.{at-rank}
-use Rattle.pool_laws.proofs.Tests.{neither, not-false}
+use Rattle.pool_values.proofs.Below.{at-rank, neither, not-false}
 use Rattle.own_place.specs.declared.own.Own.{Own}
 use Rattle.own_place.specs.Owns.{HasDelivered}
 use Rattle.claim_pool.specs.Verdicts.{early_tests, late_tests}

@@ -2,3 +2,4 @@ pub mod Judged
 pub mod Few
 pub mod Packed
 pub mod Members
+pub mod Notified

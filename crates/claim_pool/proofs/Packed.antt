@@ -6,7 +6,7 @@ use Rattle.message_defs.specs.Statements.{Statement, Slot, Claim, slot_of}
 use Rattle.group_defs.specs.Views.{quorum}
 use Rattle.group_defs.specs.Process.{Pool}
 use Rattle.group_defs.specs.Certified.{claim_on, backers, certified_on, certificate, certificate_on, number_of_members}
-use Rattle.pool_laws.proofs.Heard.{certified_on-is}
+use Rattle.pool_values.proofs.Below.{certified_on-is}
 use Rattle.own_place.specs.Claims.{by_number}
 
 -- the claims that these processes have on the slot

@@ -6,8 +6,7 @@ use Rattle.std.proofs.lemmas.List.Elements.{All-nil, All-cons}
 use Rattle.std.proofs.lemmas.List.Kept.{AllPairs-filter}
 use Rattle.std.proofs.lemmas.List.Quantifiers.{all_pairs_push}
 use Rattle.std.proofs.lemmas.List.Sums.{length-filter, count_by-le-length}
-use Rattle.byte_defs.specs.Choices.{first_that_holds}
-use Rattle.byte_defs.specs.Members.{has}
+use Rattle.message_defs.specs.Below.{first_that_holds, has}
 use Rattle.message_defs.specs.Limits.{most_members}
 use Rattle.message_defs.specs.Updates.{Update, Remove, Add, Renew}
 use Rattle.group_defs.specs.Views.{View, ViewsSpent, NotMember, LastMember, AlreadyMember, GroupFull, is_member, next_fault, next_view, IsView}

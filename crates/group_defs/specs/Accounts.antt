@@ -10,8 +10,7 @@
 use Rattle.std.specs.Prelude.{◌≡◌, ◌≢◌, ℕ, ◌+◌, min, ◌<◌, ◌≤◌, Bool, ◌&&◌, ◌||◌, not, nat_lt, nat_le, ◌==◌, List, [], ◌∷◌, ◌++◌, length, map, take, drop, filter, flat_map, count_by, if◌then◌else◌, IsTrue, ◌↔◌, All, AllPairs, Contains, Some, slice_get, slice_index_or}
 use Rattle.std.specs.List.{list_any, list_all, range_with_len}
 use lib.Pointwise.{pointwise}
-use Rattle.byte_defs.specs.Equality.{is_yes, bytes_discrete}
-use Rattle.byte_defs.specs.Members.{has}
+use Rattle.message_defs.specs.Below.{is_yes, bytes_discrete, has}
 use Rattle.group_defs.specs.Views.{View, View-discrete, is_member, faulty, next_view, is_possible}
 use Rattle.message_defs.specs.Limits.{most_messages}
 use Rattle.message_defs.specs.Updates.{Update}

@@ -7,8 +7,7 @@
 --   the own statements of the view: own, own_on, is_signed, is_ended, ordered, own_orders, rank_said, own_rank, readied, higher,
 --     own_ready
 use Rattle.std.specs.Prelude.{ℕ, zero, suc, ◌+◌, ◌-◌, Bool, ◌&&◌, nat_lt, nat_le, ◌==◌, min, max, if◌then◌else◌, List, [], ◌∷◌, length, map, filter, find, filter_map, flat_map, count_by, fold, take, take_while, Option, Some, None, is_some, option_map, option_and_then}
-use Rattle.byte_defs.specs.Choices.{is_some_and}
-use Rattle.byte_defs.specs.Orders.{sorted}
+use Rattle.message_defs.specs.Below.{is_some_and, sorted}
 use Rattle.message_defs.specs.Limits.{most_places}
 use Rattle.message_defs.specs.Updates.{Update, Remove, Value}
 use Rattle.group_defs.specs.Views.{faulty, quorum}

@@ -10,9 +10,7 @@
 use Rattle.std.specs.Prelude.{◌≡◌, ℕ, zero, suc, IsTrue, IsFalse, Contains, ◌+◌, Bool, true, ◌&&◌, not, nat_lt, nat_le, ◌==◌, List, [], ◌∷◌, ◌++◌, length, map, drop, take, filter, filter_map, if◌then◌else◌, Option, Some, None, is_some, option_map, option_and_then, option_to_list, unwrap_or, slice_get}
 use Rattle.std.specs.List.{list_any, list_all, enumerate_from}
 use native.Mathlib.Decide.{ℕ_discrete}
-use Rattle.byte_defs.specs.Choices.{first_some, is_some_and}
-use Rattle.byte_defs.specs.Orders.{least, numbers_below}
-use Rattle.byte_defs.specs.Equality.{is_yes, bytes_discrete, pair_discrete}
+use Rattle.message_defs.specs.Below.{first_some, is_some_and, least, numbers_below, is_yes, bytes_discrete, pair_discrete}
 use Rattle.message_defs.specs.Limits.{last_number, most_messages}
 use Rattle.group_defs.specs.Views.{View, is_member, rank_of, is_possible}
 use Rattle.message_defs.specs.Updates.{Update, Update-discrete, Value, Value-discrete}

@@ -8,9 +8,7 @@
 --   journals: journalled, Fits, read_again, JournalGivesTheTurn
 use Rattle.std.specs.Prelude.{ℕ, ◌+◌, ◌-◌, Bool, true, false, not, nat_lt, ◌==◌, List, [], ◌∷◌, ◌++◌, length, map, drop, if◌then◌else◌, Option, Some, None, option_to_list, slice_index_or, ◌≡◌}
 use Rattle.std.specs.Option.{option_map_or}
-use Rattle.byte_defs.specs.Choices.{first_that_holds}
-use Rattle.byte_defs.specs.Orders.{put}
-use Rattle.byte_defs.specs.Members.{has}
+use Rattle.message_defs.specs.Below.{first_that_holds, put, has}
 use Rattle.message_defs.specs.Limits.{most_payload_bytes}
 use Rattle.group_defs.specs.Views.{View, UpdateFault, is_member, next_fault}
 use Rattle.message_defs.specs.Updates.{Update, Remove, Add, Renew, update_numbers}

@@ -1,7 +1,7 @@
 -- The verdict on a claim, and what hearing it changes.
 use Rattle.std.specs.Prelude.{ℕ, ◌+◌, Bool, false, ◌||◌, not, nat_lt, nat_le, ◌==◌, List, [], ◌∷◌, ◌++◌, if◌then◌else◌, Some, None, is_some, unwrap_or}
 use Rattle.std.specs.List.{list_any}
-use Rattle.byte_defs.specs.Choices.{first_that_holds, is_some_and}
+use Rattle.message_defs.specs.Below.{first_that_holds, is_some_and}
 use Rattle.group_defs.specs.Views.{is_member}
 use Rattle.message_defs.specs.Statements.{Statement, Init, Echo, Order, Place, Keep, Last, Suggest, Ack, Ready, Claim, slot_of, view_of, messages_of}
 use Rattle.group_defs.specs.Process.{Setting, Process, key_of, delivered_from, places_in}

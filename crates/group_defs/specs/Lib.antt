@@ -1,3 +1,4 @@
+pub mod Below
 pub mod Views
 pub mod Process
 pub mod Certified

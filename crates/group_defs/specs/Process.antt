@@ -5,7 +5,7 @@
 --   as the reports see it: views_of, deliveries_of, delivered_from, earlier
 use Rattle.std.specs.Prelude.{ℕ, ◌+◌, Bool, false, ◌==◌, max, List, [], ◌∷◌, ◌++◌, map, find, count_by, fold, sum, Option, None, option_map}
 use native.Mathlib.Decide.{ℕ_discrete}
-use Rattle.byte_defs.specs.Equality.{both, bytes_discrete}
+use Rattle.message_defs.specs.Below.{both, bytes_discrete}
 use Rattle.group_defs.specs.Views.{View}
 use Rattle.message_defs.specs.Updates.{Update, Value}
 use Rattle.message_defs.specs.Statements.{Message, Message-discrete, Claim}

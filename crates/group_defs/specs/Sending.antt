@@ -6,8 +6,7 @@
 --   what goes out: Parcel, frames_of, Sending, others, sends_to, unless_empty
 use Rattle.std.specs.Prelude.{ℕ, ◌+◌, Bool, true, false, ◌&&◌, not, nat_lt, ◌==◌, List, [], ◌∷◌, ◌++◌, length, map, drop, filter, flat_map, fold, if◌then◌else◌, Some, None, option_to_list}
 use Rattle.std.specs.List.{list_any, range_with_len}
-use Rattle.byte_defs.specs.Orders.{sorted}
-use Rattle.byte_defs.specs.Equality.{is_yes, bytes_discrete}
+use Rattle.message_defs.specs.Below.{sorted, is_yes, bytes_discrete}
 use Rattle.group_defs.specs.Views.{View}
 use Rattle.message_defs.specs.Statements.{Batch, Statement, Init, Echo, Order, Place, Keep, Notify, End, Last, Suggest, Ack, EchoAt, PlaceAt, KeepAt, Claim, slot_of, slot_numbers, view_of, same_statement}
 use Rattle.group_defs.specs.Process.{Pool, Process, places_in}

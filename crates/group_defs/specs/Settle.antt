@@ -7,7 +7,7 @@
 use Rattle.std.specs.Prelude.{ℕ, zero, suc, ◌-◌, nat_lt, ◌==◌, List, [], ◌∷◌, ◌++◌, if◌then◌else◌, Option, Some, None, is_some, not, unwrap_or, option_map, option_and_then}
 use Rattle.std.specs.List.{range_with_len}
 use Rattle.std.specs.Option.{option_or, option_map_or}
-use Rattle.byte_defs.specs.Choices.{first_some, first_that_holds}
+use Rattle.message_defs.specs.Below.{first_some, first_that_holds}
 use Rattle.message_defs.specs.Updates.{Value}
 use Rattle.group_defs.specs.Views.{is_member, is_possible, next_view}
 use Rattle.message_defs.specs.Statements.{Batch, Ready, ReadyAt}

@@ -8,9 +8,7 @@ use Rattle.std.specs.Prelude.{ℕ, ◌-◌, Bool, true, ◌&&◌, ◌||◌, nat_
 use Rattle.std.specs.List.{list_any, range_with_len}
 use Rattle.std.specs.Option.{option_or}
 use native.Mathlib.Decide.{ℕ_discrete}
-use Rattle.byte_defs.specs.Choices.{first_some}
-use Rattle.byte_defs.specs.Orders.{least}
-use Rattle.byte_defs.specs.Equality.{is_yes, option_discrete, pair_discrete}
+use Rattle.message_defs.specs.Below.{first_some, least, is_yes, option_discrete, pair_discrete}
 use Rattle.message_defs.specs.Updates.{Value, Value-discrete, value_numbers}
 use Rattle.group_defs.specs.Views.{quorum, is_possible}
 use Rattle.message_defs.specs.Statements.{Statement, End, Last, Ack, EndAt, LastAt}

@@ -4,9 +4,7 @@
 --   the next view: UpdateFault, update_faults, next_fault, members_after, next_view, next, has_keys, is_possible
 use Rattle.std.specs.Prelude.{◌≢◌, ℕ, ◌+◌, ◌-◌, ◌/◌, ◌≤◌, Bool, true, ◌&&◌, not, ◌==◌, List, [], ◌∷◌, ◌++◌, length, filter, AllPairs, position, Option, Some, None, is_none, Result, Ok, Err}
 use native.Mathlib.Decide.{ℕ_discrete}
-use Rattle.byte_defs.specs.Choices.{first_that_holds}
-use Rattle.byte_defs.specs.Equality.{both, bytes_discrete}
-use Rattle.byte_defs.specs.Members.{has}
+use Rattle.message_defs.specs.Below.{first_that_holds, both, bytes_discrete, has}
 use Rattle.message_defs.specs.Limits.{last_number, most_members}
 use Rattle.message_defs.specs.Updates.{Update, Remove, Add, Renew}
 

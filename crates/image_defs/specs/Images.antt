@@ -9,8 +9,7 @@
 use Rattle.std.specs.Prelude.{◌≡◌, ℕ, Bool, List, [], ◌∷◌, length, map, Option, Some, None, slice_index_or}
 use Rattle.std.specs.Option.{option_map_or, unwrap_or}
 use Rattle.byte_defs.specs.Orders.{sorted}
-use Rattle.message_defs.specs.Updates.{Update, Renew, Value}
-use Rattle.message_defs.specs.Statements.{Statement, Ready, Claim}
+use Rattle.group_defs.specs.Below.{Update, Renew, Value, Statement, Ready, Claim}
 use Rattle.group_defs.specs.Views.{View, IsView, next_view}
 use Rattle.group_defs.specs.Process.{Setting, Pool, Delivered, Left, Process, start, deliveries_of}
 use Rattle.group_defs.specs.Events.{Turn, run}

@@ -1,9 +1,7 @@
 -- Which images are kept: those that a process may be restored from.
 use Rattle.std.specs.Prelude.{◌≡◌, ◌≢◌, ◌⊎◌, ◌↔◌, ℕ, ◌+◌, ◌-◌, ◌<◌, ◌≤◌, Bool, true, false, List, [], ◌∷◌, ◌++◌, length, map, All, AllPairs, Contains, Option, Some, None, is_some, IsTrue, IsFalse}
 use Rattle.std.specs.List.Sorted.{IsStrictlyIncreasing}
-use Rattle.message_defs.specs.Limits.{most_places, most_payload_bytes}
-use Rattle.message_defs.specs.Updates.{Value}
-use Rattle.message_defs.specs.Statements.{Statement, Ready, Claim, Conflicts, slot_of, view_of}
+use Rattle.group_defs.specs.Below.{most_places, most_payload_bytes, Value, Statement, Ready, Claim, Conflicts, slot_of, view_of}
 use Rattle.group_defs.specs.Views.{View, is_member, quorum, is_possible, next_view}
 use Rattle.group_defs.specs.Process.{Setting, Pool, Delivered, Left, Process, keyed, earlier, delivered_from, places_in}
 use Rattle.group_defs.specs.Certified.{certificate, is_certified, heard_on, payload_at, place_at}

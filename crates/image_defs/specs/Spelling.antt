@@ -11,9 +11,7 @@
 use Rattle.std.specs.Prelude.{ℕ, Bool, if◌then◌else◌, List, [], ◌∷◌, ◌++◌, length}
 use Rattle.std.specs.List.{flat_map}
 use Rattle.byte_defs.specs.Fields.{two_bytes, four_bytes, text}
-use Rattle.message_defs.specs.Updates.{Update, update_numbers}
-use Rattle.message_defs.specs.Statements.{Claim}
-use Rattle.message_defs.specs.Spelling.{spelling, value_bytes, ready_bytes}
+use Rattle.group_defs.specs.Below.{Update, update_numbers, Claim, spelling, value_bytes, ready_bytes}
 use Rattle.group_defs.specs.Process.{Delivered}
 use Rattle.image_defs.specs.Images.{LeftView, Image}
 

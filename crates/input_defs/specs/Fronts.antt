@@ -8,7 +8,7 @@ use Rattle.std.specs.Prelude.{ℕ, ◌+◌, ◌==◌, if◌then◌else◌, List,
 use Rattle.std.specs.Fmt.{decimal}
 use Rattle.byte_defs.specs.Fields.{◌>>=◌}
 use Rattle.byte_defs.specs.Equality.{same_bytes}
-use Rattle.text_defs.specs.Words.{line_feed, line_text}
+use Rattle.kit_defs.specs.Below.{line_feed, line_text}
 use Rattle.kit_defs.specs.Kits.{Kit, kit_text}
 use Rattle.kit_defs.specs.KitReading.{KitFault, Line, Repeated, Missing, KeyMismatch, Draft, nothing, take_line, finish}
 

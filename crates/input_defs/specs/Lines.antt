@@ -1,6 +1,6 @@
 -- An input line by line. What comes after a line need not be text.
 use Rattle.std.specs.Prelude.{ℕ, ◌==◌, nat_le, if◌then◌else◌, List, [], ◌∷◌, length, Option, Some, None, option_map, option_and_then}
-use Rattle.text_defs.specs.Words.{line_feed}
+use Rattle.kit_defs.specs.Below.{line_feed}
 
 -- the first line without its line feed, and the bytes after that; none where no line feed is there
 abbrev pub line_at : List ℕ → Option (List ℕ × List ℕ)

@@ -1,3 +1,4 @@
+pub mod Below
 pub mod Kits
 pub mod KitReading
 pub mod KitMaking

@@ -1,3 +1,4 @@
+pub mod Below
 pub mod Limits
 pub mod Updates
 pub mod Statements

@@ -24,7 +24,7 @@ use Rattle.group_defs.specs.Events.{Turn, Outcome, after, outcome, run, journall
 use Rattle.journal_defs.specs.Entries.{Event, Submit, Frame, Suspect, Join, Renew, Tick, Entry}
 use Rattle.journal_defs.specs.declared.Version.{Version}
 use Rattle.journal_defs.specs.Journals.{Header, header_bytes, batch_limit}
-use Rattle.kit_defs.specs.Kits.{Kit, Host, kit_digest}
+use Rattle.input_defs.specs.Below.{Kit, Host, kit_digest}
 
 -- what a node is made of. The functions of a process speak of hosted ones
 pub record Cast : Type 0 where

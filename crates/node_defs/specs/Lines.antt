@@ -17,7 +17,7 @@ use Rattle.std.specs.Fmt.{decimal}
 use Rattle.link_defs.specs.declared.LinkFault.{LinkFault}
 use Rattle.link_defs.specs.declared.LinkFault.TheVariants.{Short, Magic, OtherGroup, NotForMe, UnknownPeer, BadTag}
 use Rattle.text_defs.specs.Words.{line_text, bytes_word}
-use Rattle.kit_defs.specs.KitReading.{KitFault}
+use Rattle.input_defs.specs.Below.{KitFault}
 use Rattle.input_defs.specs.Fronts.{fault_words}
 use Rattle.group_defs.specs.Process.{Process, deliveries_of}
 use Rattle.group_defs.specs.Events.{Note, Delivers, Installs, Liar, Spent, Halts, EventFault}

@@ -1,3 +1,4 @@
+pub mod Below
 pub mod Signed
 pub mod Rows
 pub mod Owns

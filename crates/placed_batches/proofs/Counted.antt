@@ -12,9 +12,7 @@ use Rattle.group_defs.specs.Certified.{named, messages}
 use Rattle.rule_laws.specs.Placing.{counts_in}
 use Rattle.rule_laws.proofs.Ordering.{counts_one_more}
 use Rattle.rule_laws.proofs.Ranks.{rank-at}
-use Rattle.pool_laws.proofs.Members.{Mem, mem-list_any}
-use Rattle.pool_laws.proofs.Places.{slice_get-index, slice_get-snoc, slice_get-length, take-get}
-use Rattle.pool_laws.proofs.Ranks.{rank-of-member}
+use Rattle.rule_laws.proofs.Below.{Mem, mem-list_any, slice_get-index, slice_get-snoc, slice_get-length, take-get, rank-of-member}
 use Rattle.stmt_codec.specs.Batches.{message_of}
 use Rattle.placed_batches.specs.Rows.{IsRow, AreRows, IsPrefix}
 

@@ -2,7 +2,7 @@
 use Rattle.std.proofs.Common.{◌≡◌, inl, inr, ℕ, suc, ◌+◌, ◌<◌, ◌≤◌, max, List, [], ◌∷◌, map, length, Option, Some, None, Bool, true, false, refl, ap, subst, arith}
 use Rattle.std.specs.Prelude.{if◌then◌else◌, ◌&&◌, filter, filter_map, fold}
 use Rattle.std.specs.List.{cons_option}
-use Rattle.byte_defs.specs.Choices.{is_some_and}
+use Rattle.group_defs.specs.Below.{is_some_and}
 use Rattle.pool_laws.proofs.Members.{Mem}
 
 pub length-filter-le : {A : Type 0} (t u : A → Bool) (xs : List A) → ((x : A) → t x ≡ true → u x ≡ true)

@@ -4,7 +4,7 @@ use Rattle.std.specs.Prelude.{if◌then◌else◌, fold, filter_map, max}
 use Rattle.std.specs.List.{cons_option}
 use Rattle.std.proofs.lemmas.List.Sums.{fold-append}
 use Rattle.std.proofs.lemmas.List.Elements.{filter_map-append}
-use Rattle.message_defs.specs.Statements.{Statement, Keep, Claim, slot_of, same_statement}
+use Rattle.group_defs.specs.Below.{Statement, Keep, Claim, slot_of, same_statement}
 use Rattle.group_defs.specs.Process.{Pool}
 use Rattle.group_defs.specs.Certified.{claim_on, is_certified, place_kept, fixed_length}
 use Rattle.pool_laws.proofs.Growing.{is_certified-stays, with_more}

@@ -2,9 +2,8 @@
 use Rattle.std.proofs.Common.{◌≡◌, ℕ, zero, suc, ◌+◌, ◌≤◌, List, [], ◌∷◌, ◌++◌, map, length, Option, Some, None, Bool, true, false, refl, sym, ap, ◌∙◌, subst, arith}
 use Rattle.std.specs.Prelude.{if◌then◌else◌, filter, find, ◌&&◌, ◌==◌, option_map, option_and_then}
 use Rattle.std.proofs.lemmas.Bool.{leb-true, le-leb}
-use Rattle.byte_defs.specs.Choices.{is_some_and}
+use Rattle.group_defs.specs.Below.{is_some_and, Batch, Statement, Place, Slot, PlaceAt, Claim, slot_of, batch_of, same_slot, same_statement}
 use Rattle.group_defs.specs.Views.{quorum}
-use Rattle.message_defs.specs.Statements.{Batch, Statement, Place, Slot, PlaceAt, Claim, slot_of, batch_of, same_slot, same_statement}
 use Rattle.group_defs.specs.Process.{Pool}
 use Rattle.group_defs.specs.Certified.{claim_on, heard_on, says, backers, is_certified, certified_on, place_at, placed_from, placed, number_of_members}
 use Rattle.std.proofs.lemmas.List.{map-append}

@@ -5,8 +5,7 @@ use Rattle.std.specs.Option.{option_or}
 use Rattle.std.proofs.lemmas.List.Folds as folds
 use Rattle.std.proofs.lemmas.List.{map-append}
 use Rattle.std.proofs.lemmas.Bool.{leb-true, eqb-true, eq-eqb}
-use Rattle.byte_defs.specs.Choices.{is_some_and}
-use Rattle.message_defs.specs.Statements.{Statement, Slot, Claim, slot_of, same_slot, same_statement}
+use Rattle.group_defs.specs.Below.{is_some_and, Statement, Slot, Claim, slot_of, same_slot, same_statement}
 use Rattle.group_defs.specs.Views.{quorum}
 use Rattle.group_defs.specs.Process.{Pool}
 use Rattle.group_defs.specs.Certified.{claim_on, heard_on, says, backers, is_certified, certified_on, number_of_members}

@@ -2,9 +2,7 @@
 use Rattle.std.proofs.Common.{◌≡◌, ◌⊎◌, inl, inr, ℕ, ◌+◌, ◌-◌, ◌/◌, ◌<◌, ◌≤◌, max, List, [], ◌∷◌, map, length, Some, None, Bool, true, false, refl, sym, ap, ◌∙◌, subst, arith, slice_get, Option, suc, zero}
 use Rattle.std.specs.Prelude.{if◌then◌else◌, filter, fold, not, nat_lt, ◌==◌, is_some, unwrap_or, ◌&&◌}
 use Rattle.std.proofs.lemmas.Bool.{eqb-true, leb-true, ltb-true, ltb-false}
-use Rattle.byte_defs.specs.Choices.{first_that_holds}
-use Rattle.message_defs.specs.Updates.{Value}
-use Rattle.message_defs.specs.Statements.{Message, Batch, Statement, Echo, Place, Keep, Ready, Slot, EchoAt, PlaceAt, ReadyAt, Claim, slot_of, view_of, batch_of, payload_of, value_of, same_slot, same_statement}
+use Rattle.group_defs.specs.Below.{first_that_holds, Value, Message, Batch, Statement, Echo, Place, Keep, Ready, Slot, EchoAt, PlaceAt, ReadyAt, Claim, slot_of, view_of, batch_of, payload_of, value_of, same_slot, same_statement}
 use Rattle.group_defs.specs.Views.{is_member, quorum}
 use Rattle.group_defs.specs.Process.{Setting, Pool, Process}
 use Rattle.group_defs.specs.Certified.{claim_on, heard_on, says, backers, number_of_members, is_certified, certified_on, place_at, payload_at, value_at, place_kept, placed_from, placed}

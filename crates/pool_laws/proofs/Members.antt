@@ -3,7 +3,7 @@ use Rattle.std.proofs.Common.{◌≡◌, ◌⊎◌, inl, inr, ℕ, zero, suc, �
 use Rattle.std.specs.Prelude.{if◌then◌else◌, ◌&&◌, ◌||◌, filter, filter_map, find, flat_map, All, Contains, slice_index_or}
 use Rattle.std.specs.List.{list_any, list_all, cons_option}
 use Rattle.std.proofs.lemmas.List.Elements.{All-contains}
-use Rattle.byte_defs.specs.Orders.{put, numbers_below}
+use Rattle.group_defs.specs.Below.{put, numbers_below}
 use Rattle.pool_laws.proofs.Tests.{and-first, and-second}
 
 abbrev pub Mem : {A : Type 0} → A → List A → Type 0

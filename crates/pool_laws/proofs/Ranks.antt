@@ -3,7 +3,7 @@ use Rattle.std.proofs.Common.{◌≡◌, ℕ, suc, ◌+◌, ◌<◌, List, [], �
 use Rattle.std.specs.Prelude.{◌==◌, ◌||◌, not, unwrap_or, option_map, slice_index}
 use Rattle.std.specs.List.{prefix_len}
 use Rattle.std.proofs.lemmas.Bool.{eqb-true, lt-ltb}
-use Rattle.byte_defs.specs.Members.{has}
+use Rattle.group_defs.specs.Below.{has}
 use Rattle.group_defs.specs.Views.{View, is_member, rank_of}
 use Rattle.pool_laws.proofs.Places.{map-get, index-is}
 

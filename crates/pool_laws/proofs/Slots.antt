@@ -1,9 +1,7 @@
 -- A statement is known by its slot and what else it says.
 use Rattle.std.proofs.Common.{◌≡◌, ℕ, List, Option, Some, true}
 use native.Mathlib.Decide.{ℕ_discrete}
-use Rattle.byte_defs.specs.Equality.{bytes_discrete, option_discrete, pair_discrete}
-use Rattle.message_defs.specs.Updates.{Value, Value-discrete, Update-discrete}
-use Rattle.message_defs.specs.Statements.{Message, Message-discrete, Batch, Batch-discrete, Statement, Statement-discrete, Echo, Place, End, Last, Ready, Slot, Slot-discrete, EchoAt, PlaceAt, EndAt, LastAt, ReadyAt, slot_of, view_of, batch_of, payload_of, value_of, same_slot, same_statement}
+use Rattle.group_defs.specs.Below.{bytes_discrete, option_discrete, pair_discrete, Value, Value-discrete, Update-discrete, Message, Message-discrete, Batch, Batch-discrete, Statement, Statement-discrete, Echo, Place, End, Last, Ready, Slot, Slot-discrete, EchoAt, PlaceAt, EndAt, LastAt, ReadyAt, slot_of, view_of, batch_of, payload_of, value_of, same_slot, same_statement}
 use Rattle.group_defs.specs.Certified.{readied}
 use Rattle.group_defs.specs.Values.{length_said, ready_said}
 use Rattle.pool_laws.proofs.Tests.{is-yes, yes-is}

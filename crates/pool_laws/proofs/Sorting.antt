@@ -1,7 +1,7 @@
 -- A rising list that a number is put into, and a list sorted.
 use Rattle.std.proofs.Common.{◌≡◌, ◌⊎◌, inl, inr, ℕ, suc, List, [], ◌∷◌, length, Bool, true, false, refl, ap, ◌∙◌}
 use Rattle.std.specs.Prelude.{if◌then◌else◌, ◌&&◌, ◌||◌, ◌==◌, nat_lt}
-use Rattle.byte_defs.specs.Orders.{numbers_below, put, sorted}
+use Rattle.group_defs.specs.Below.{numbers_below, put, sorted}
 use Rattle.pool_laws.proofs.Members.{Mem}
 
 pub mem-put : {A : Type 0} (key : A → List ℕ) (a : A) (xs : List A) (y : A) → Mem y (put key a xs) → (a ≡ y) ⊎ Mem y xs

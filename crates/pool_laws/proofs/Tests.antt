@@ -2,8 +2,7 @@
 use Rattle.std.proofs.Common.{◌≡◌, ◌⊎◌, inl, inr, Option, Some, None, Bool, true, false, refl}
 use Rattle.std.specs.Prelude.{◌&&◌, ◌||◌, not, is_none, option_map, option_and_then}
 use Rattle.std.specs.Option.{option_or}
-use Rattle.byte_defs.specs.Equality.{is_yes}
-use Rattle.byte_defs.specs.Choices.{is_some_and}
+use Rattle.group_defs.specs.Below.{is_yes, is_some_and}
 
 pub and-first : (a b : Bool) → (a && b) ≡ true → a ≡ true
 and-first true b e = refl

@@ -8,7 +8,7 @@ use Rattle.message_defs.specs.Statements.{Claim}
 use Rattle.group_defs.specs.Process.{Pool}
 use Rattle.group_defs.specs.Certified.{is_notified, notified_updates, update_said, removed_rank, number_of_members}
 use Rattle.claim_pool.proofs.Members.{Mem, mem-some, none-in, filter-mem}
-use Rattle.rule_laws.proofs.Notifying.{notified-heard}
+use Rattle.claim_pool.proofs.Notified.{notified-heard}
 use Rattle.claim_pool.specs.Updates.{UpdateSet, has_update, AreNotified}
 
 pub some-notified : (h : Pool) (s : UpdateSet) (u : Update) → AreNotified h s → has_update s u ≡ true

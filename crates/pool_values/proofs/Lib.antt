@@ -1,3 +1,4 @@
+pub mod Below
 pub mod PlacedLength
 pub mod Notified
 pub mod Ended

@@ -14,8 +14,8 @@ use Rattle.group_defs.specs.Settle.{decided_at}
 use Rattle.group_defs.specs.Values.{choose, ends, free_value, is_free, is_first_way, is_second_way}
 use Rattle.rule_laws.specs.Heard.{IsPool}
 use Rattle.rule_laws.specs.Ranks.{acked, suggested}
-use Rattle.claim_index.specs.Kept.{is_kind_heard}
-use Rattle.claim_index.proofs.Unheard.{unheard, uncertified}
+use Rattle.own_place.specs.Below.{is_kind_heard}
+use Rattle.own_place.proofs.Below.{unheard, uncertified}
 use Rattle.rank_rules.proofs.Justifying.{choose-by}
 
 pub nor : (b : Bool) → (b && false) ≡ false

@@ -1,8 +1,7 @@
 -- What is certified was heard, and stands on its slot alone.
 use Rattle.std.proofs.Common.{◌≡◌, ℕ, ◌-◌, ◌/◌, ◌<◌, ◌≤◌, length, map, Some, true, refl, subst, arith}
 use Rattle.std.proofs.lemmas.Bool.{leb-true}
-use Rattle.message_defs.specs.Spelling.{IsClaim, IsStatement}
-use Rattle.message_defs.specs.Statements.{Statement, Claim, slot_of}
+use Rattle.group_defs.specs.Below.{IsClaim, IsStatement, Statement, Claim, slot_of}
 use Rattle.group_defs.specs.Views.{quorum}
 use Rattle.group_defs.specs.Process.{Pool}
 use Rattle.group_defs.specs.Certified.{says, backers, number_of_members, is_certified, certified_on}

@@ -6,11 +6,7 @@ use Rattle.std.specs.Option.{option_or}
 use Rattle.std.proofs.lemmas.Bool.{eqb-true, ltb-true, ltb-false}
 use Rattle.std.proofs.lemmas.List.{reverse-append}
 use native.Mathlib.Decide.{ℕ_discrete}
-use Rattle.byte_defs.specs.Choices.{first_some}
-use Rattle.byte_defs.specs.Orders.{least}
-use Rattle.byte_defs.specs.Equality.{option_discrete, pair_discrete}
-use Rattle.message_defs.specs.Updates.{Update, Value, Value-discrete, value_numbers}
-use Rattle.message_defs.specs.Statements.{Statement, Notify, Claim, Ack}
+use Rattle.group_defs.specs.Below.{first_some, least, option_discrete, pair_discrete, Update, Value, Value-discrete, value_numbers, Statement, Notify, Claim, Ack}
 use Rattle.group_defs.specs.Views.{faulty, is_possible}
 use Rattle.group_defs.specs.Process.{Setting, Pool, keyed}
 use Rattle.group_defs.specs.Certified.{says, backers, is_notified, place_at, update_said, notified_updates, number_of_members, is_certified}

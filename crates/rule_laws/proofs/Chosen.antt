@@ -3,8 +3,7 @@ use Rattle.std.proofs.Common.{◌≡◌, ℕ, ◌<◌, Option, Some, None, Bool,
 use Rattle.std.specs.Prelude.{if◌then◌else◌, option_and_then}
 use Rattle.std.specs.Option.{option_or}
 use Rattle.std.proofs.lemmas.Bool.{both_ways}
-use Rattle.byte_defs.specs.Choices.{is_some_and}
-use Rattle.message_defs.specs.Updates.{Value, Value-discrete}
+use Rattle.group_defs.specs.Below.{is_some_and, Value, Value-discrete}
 use Rattle.group_defs.specs.Process.{Setting, Pool}
 use Rattle.group_defs.specs.Values.{is_first_way, is_second_way, adopted, free_value}
 use Rattle.group_defs.specs.Due.{same_value}

@@ -4,10 +4,7 @@ use Rattle.std.specs.Prelude.{option_and_then, option_map, if◌then◌else◌, 
 use Rattle.std.specs.List.{prefix_len}
 use Rattle.std.proofs.lemmas.Bool.{both_ways, not-true, eq-eqb, eqb-true}
 use native.Mathlib.Decide.{ℕ_discrete}
-use Rattle.byte_defs.specs.Choices.{is_some_and}
-use Rattle.byte_defs.specs.Equality.{option_discrete, pair_discrete}
-use Rattle.message_defs.specs.Updates.{Remove, Value, Value-discrete}
-use Rattle.message_defs.specs.Statements.{Statement, Last, Suggest, Ack, Ready, LastAt, SuggestAt, AckAt, ReadyAt, slot_of, value_of}
+use Rattle.group_defs.specs.Below.{is_some_and, option_discrete, pair_discrete, Remove, Value, Value-discrete, Statement, Last, Suggest, Ack, Ready, LastAt, SuggestAt, AckAt, ReadyAt, slot_of, value_of}
 use Rattle.group_defs.specs.Views.{is_member, rank_of}
 use Rattle.group_defs.specs.Process.{Readies, Lasts, Suggests, Acks, Setting, Pool, Process}
 use Rattle.group_defs.specs.Certified.{heard_on, number_of_members, is_certified, certified_on, is_notified, is_signed, own_rank, own_ready, removed_rank}

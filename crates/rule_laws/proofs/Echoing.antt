@@ -2,10 +2,7 @@
 use Rattle.std.proofs.Common.{◌≡◌, ◌⊎◌, inl, inr, ℕ, ◌+◌, ◌<◌, ◌≤◌, List, [], ◌∷◌, Option, Some, None, Bool, true, false, refl, sym, ap, ◌∙◌, subst, arith, slice_get, length}
 use Rattle.std.specs.Prelude.{option_and_then, option_map, if◌then◌else◌, not, ◌&&◌, ◌||◌, ◌==◌, is_some, nat_lt, nat_le, unwrap_or}
 use Rattle.std.proofs.lemmas.Bool.{both_ways, not-true, cases_lt, ltb-true, lt-ltb, leb-true, le-leb, eq-eqb, le-ltb}
-use Rattle.byte_defs.specs.Choices.{is_some_and}
-use Rattle.byte_defs.specs.Equality.{is_yes, bytes_discrete}
-use Rattle.byte_defs.specs.Orders.{numbers_below}
-use Rattle.message_defs.specs.Statements.{Statement, Init, Echo, InitAt, EchoAt, slot_of, payload_of}
+use Rattle.group_defs.specs.Below.{is_some_and, is_yes, bytes_discrete, numbers_below, Statement, Init, Echo, InitAt, EchoAt, slot_of, payload_of}
 use Rattle.group_defs.specs.Views.{is_member, rank_of}
 use Rattle.group_defs.specs.Process.{Inits, Echoes, Setting, Process, earlier, delivered_from}
 use Rattle.group_defs.specs.Certified.{heard_on, says, is_signed, is_ended}

@@ -4,9 +4,7 @@ use Rattle.std.specs.Prelude.{◌&&◌, ◌||◌, ◌==◌, is_some, nat_lt, nat
 use Rattle.std.specs.List.{list_any, cons_option}
 use Rattle.std.proofs.lemmas.Bool.{both_ways, cases_lt, cases_order, eqb-true, eq-eqb, lt-ltb}
 use Rattle.std.proofs.lemmas.List.Sums.{length-filter}
-use Rattle.byte_defs.specs.Choices.{is_some_and}
-use Rattle.byte_defs.specs.Orders.{numbers_below, least}
-use Rattle.message_defs.specs.Updates.{Update, Remove, Add, Renew, Value, update_numbers, value_numbers}
+use Rattle.group_defs.specs.Below.{is_some_and, numbers_below, least, Update, Remove, Add, Renew, Value, update_numbers, value_numbers}
 use Rattle.group_defs.specs.Views.{is_possible}
 use Rattle.group_defs.specs.Process.{Setting, Pool, keyed}
 use Rattle.group_defs.specs.Certified.{number_of_members, is_notified, notified_updates, place_at}

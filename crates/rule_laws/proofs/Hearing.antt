@@ -1,9 +1,7 @@
 -- What a pool's claims say on a slot.
 use Rattle.std.proofs.Common.{◌≡◌, ℕ, List, Some, true, refl, sym, ap, ◌∙◌, subst, slice_get}
 use Rattle.std.specs.Prelude.{IsTrue, All}
-use Rattle.byte_defs.specs.Choices.{is_some_and}
-use Rattle.message_defs.specs.Spelling.{IsClaim, IsStatement}
-use Rattle.message_defs.specs.Statements.{Message, Statement, Slot, slot_of, view_of, messages_of, same_statement}
+use Rattle.group_defs.specs.Below.{is_some_and, IsClaim, IsStatement, Message, Statement, Slot, slot_of, view_of, messages_of, same_statement}
 use Rattle.group_defs.specs.Views.{is_member}
 use Rattle.group_defs.specs.Process.{Pool}
 use Rattle.group_defs.specs.Certified.{heard_on, says}

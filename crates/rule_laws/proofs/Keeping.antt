@@ -2,8 +2,7 @@
 use Rattle.std.proofs.Common.{◌≡◌, ◌⊎◌, inl, inr, ℕ, zero, suc, ◌+◌, ◌<◌, ◌≤◌, List, [], ◌∷◌, length, Option, Some, None, Bool, true, false, refl, sym, ap, ◌∙◌, arith, slice_get}
 use Rattle.std.specs.Prelude.{option_and_then, option_map, if◌then◌else◌, not, ◌&&◌, is_some}
 use Rattle.std.proofs.lemmas.Bool.{cases_lt, not-true}
-use Rattle.byte_defs.specs.Choices.{is_some_and}
-use Rattle.message_defs.specs.Statements.{Statement, Batch, Batch-discrete, Keep, KeepAt}
+use Rattle.group_defs.specs.Below.{is_some_and, Statement, Batch, Batch-discrete, Keep, KeepAt}
 use Rattle.group_defs.specs.Views.{is_member}
 use Rattle.group_defs.specs.Process.{Keeps, Setting, Pool, Process}
 use Rattle.group_defs.specs.Certified.{place_at, placed_from, placed, is_signed, is_ended}

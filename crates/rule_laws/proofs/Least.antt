@@ -2,8 +2,7 @@
 use Rattle.std.proofs.Common.{◌≡◌, ◌⊎◌, inl, inr, zero, suc, List, [], ◌∷◌, Option, Some, None, Bool, true, false, refl, sym, ap, ◌∙◌, subst, arith}
 use Rattle.std.specs.Prelude.{Contains, AllPairs, is_some, if◌then◌else◌}
 use Rattle.std.proofs.lemmas.Bool.{both_ways}
-use Rattle.byte_defs.specs.Orders.{numbers_below}
-use Rattle.message_defs.specs.Statements.{Statement}
+use Rattle.group_defs.specs.Below.{numbers_below, Statement}
 use Rattle.group_defs.specs.Process.{Kind, Setting, Process}
 use Rattle.group_defs.specs.Due.{may_sign, due_numbers, kind_of, least_due, offers}
 use Rattle.rule_laws.specs.Least.{signable, first_signable, StandBefore, FirstIsLeast, LeastOfAll, NoneOfAll}

@@ -2,8 +2,7 @@
 use Rattle.std.proofs.Common.{◌≡◌, inl, inr, ℕ, ◌<◌, ◌≤◌, List, [], ◌∷◌, Some, Bool, true, false, refl, subst, arith}
 use Rattle.std.specs.Prelude.{if◌then◌else◌, filter, ◌&&◌, ◌||◌, ◌==◌, is_some, nat_lt}
 use Rattle.std.proofs.lemmas.Bool.{ltb-true, ltb-false, eqb-true, eq-eqb, le-ltb}
-use Rattle.byte_defs.specs.Orders.{numbers_below, least_from, least}
-use Rattle.message_defs.specs.Statements.{Statement}
+use Rattle.group_defs.specs.Below.{numbers_below, least_from, least, Statement}
 use Rattle.group_defs.specs.Process.{Kind, Setting, Process}
 use Rattle.group_defs.specs.Due.{may_sign, least_due, due_numbers, kind_of, offers, LeastIsDue, SomeIsLeast}
 use Rattle.pool_laws.proofs.Members.{Contains-mem, Mem, filter-mem, mem-filter}

@@ -1,3 +1,4 @@
+pub mod Below
 pub mod Offered
 pub mod LeastIsDue
 pub mod Least

@@ -2,11 +2,7 @@
 use Rattle.std.proofs.Common.{◌≡◌, inl, inr, ℕ, ◌+◌, ◌-◌, ◌<◌, ◌≤◌, List, [], ◌∷◌, length, Option, Some, None, Bool, true, false, refl, sym, ap, ◌∙◌, subst, arith}
 use Rattle.std.specs.Prelude.{option_and_then, option_map, if◌then◌else◌, not, ◌&&◌, ◌||◌, ◌==◌, nat_lt, filter_map}
 use Rattle.std.proofs.lemmas.Bool.{both_ways, not-true, cases_lt, ltb-true, lt-ltb, le-ltb, eq-eqb, eqb-true}
-use Rattle.byte_defs.specs.Choices.{is_some_and}
-use Rattle.byte_defs.specs.Orders.{numbers_below}
-use Rattle.message_defs.specs.Spelling.{IsUpdate, IsClaim, IsStatement}
-use Rattle.message_defs.specs.Updates.{Update, Remove, Add, Renew, update_numbers}
-use Rattle.message_defs.specs.Statements.{Statement, Claim, Notify, End, NotifyAt, EndAt}
+use Rattle.group_defs.specs.Below.{is_some_and, numbers_below, IsUpdate, IsClaim, IsStatement, Update, Remove, Add, Renew, update_numbers, Statement, Claim, Notify, End, NotifyAt, EndAt}
 use Rattle.group_defs.specs.Views.{is_member, faulty}
 use Rattle.group_defs.specs.Process.{Notifies, Ends, Setting, Pool, Process}
 use Rattle.group_defs.specs.Certified.{backers, says, number_of_members, is_notified, notified_updates, update_said, placed, is_signed}

@@ -1,9 +1,7 @@
 -- Which number is the least that passes a test.
 use Rattle.std.proofs.Common.{◌≡◌, ◌⊎◌, inl, inr, ℕ, ◌<◌, ◌≤◌, Option, Some, None, Bool, true, false, refl, sym, ap, ◌∙◌, arith}
 use Rattle.std.proofs.lemmas.Bool.{both_ways}
-use Rattle.byte_defs.specs.Choices.{is_some_and}
-use Rattle.byte_defs.specs.Orders.{numbers_below}
-use Rattle.message_defs.specs.Statements.{Statement}
+use Rattle.group_defs.specs.Below.{is_some_and, numbers_below, Statement}
 use Rattle.group_defs.specs.Due.{may_sign, due_numbers, kind_of, least_due}
 use Rattle.pool_laws.specs.Least.{IsLeastFrom}
 use Rattle.rule_laws.specs.Least.{LeastNumber}

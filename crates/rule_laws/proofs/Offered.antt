@@ -4,15 +4,12 @@ use Rattle.std.specs.Prelude.{◌==◌, option_map, option_and_then, option_to_l
 use Rattle.std.specs.List.{enumerate_from}
 use Rattle.std.proofs.lemmas.Bool.{eqb-true}
 use native.Mathlib.Decide.{ℕ_discrete}
-use Rattle.byte_defs.specs.Equality.{is_yes, bytes_discrete, option_discrete, pair_discrete}
-use Rattle.message_defs.specs.Updates.{Update, Update-discrete, Value-discrete}
+use Rattle.group_defs.specs.Below.{is_yes, bytes_discrete, option_discrete, pair_discrete, is_some_and, Update, Update-discrete, Value-discrete, Batch, Batch-discrete, Statement, Init, Echo, Order, Place, Keep, Notify, End, Last, Suggest, Ack, Ready, Claim, view_of}
 use Rattle.group_defs.specs.Views.{is_member, rank_of}
-use Rattle.message_defs.specs.Statements.{Batch, Batch-discrete, Statement, Init, Echo, Order, Place, Keep, Notify, End, Last, Suggest, Ack, Ready, Claim, view_of}
 use Rattle.group_defs.specs.Process.{Kind, Inits, Echoes, Orders, Places, Keeps, Notifies, Ends, Readies, Lasts, Suggests, Acks, Setting, Process, earlier, delivered_from}
 use Rattle.group_defs.specs.Certified.{placed, own_orders, own_ready, removed_rank}
 use Rattle.group_defs.specs.Values.{choose}
 use Rattle.group_defs.specs.Due.{may_sign, is_due, same_batch, same_value, next_batch, Answer, answers, echo_of, place_of, ready_of, ack_of, kind_of, offers, inits, keeps, notifies, EachDueIsOffered, window}
-use Rattle.byte_defs.specs.Choices.{is_some_and}
 use Rattle.pool_laws.proofs.Heard.{certified-heard, heard-says, rank-says}
 use Rattle.pool_laws.proofs.Members.{Mem, filter_map-mem, map-mem, list_any-mem, mem-Contains, mem-filter_map, mem-map}
 use Rattle.pool_laws.proofs.Tests.{and-first, and-second, some-and, yes-is, map-some, then-some}

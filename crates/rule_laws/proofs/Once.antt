@@ -2,9 +2,7 @@
 use Rattle.std.proofs.Common.{◌≡◌, ℕ, List, [], ◌∷◌, Option, Some, None, Bool, true, false, refl, sym, ap, ◌∙◌, subst, arith, slice_get}
 use Rattle.std.specs.Prelude.{Contains, ◌&&◌, ◌==◌, nat_lt, unwrap_or}
 use Rattle.std.proofs.lemmas.Bool.{both_ways, ltb-false, eq-eqb}
-use Rattle.byte_defs.specs.Orders.{numbers_below}
-use Rattle.message_defs.specs.Updates.{Update, Remove, Add, Renew, update_numbers}
-use Rattle.message_defs.specs.Statements.{Statement, Init, Notify, InitAt}
+use Rattle.group_defs.specs.Below.{numbers_below, Update, Remove, Add, Renew, update_numbers, Statement, Init, Notify, InitAt}
 use Rattle.group_defs.specs.Views.{rank_of}
 use Rattle.group_defs.specs.Process.{Kind, Inits, Echoes, Orders, Places, Keeps, Notifies, Ends, Readies, Lasts, Suggests, Acks, Setting, Process}
 use Rattle.group_defs.specs.Certified.{heard_on}

@@ -4,8 +4,7 @@ use Rattle.std.specs.Prelude.{◌==◌, ◌&&◌, is_some, not, nat_lt, nat_le, 
 use Rattle.std.proofs.lemmas.Bool.{both_ways, eqb-true, eq-eqb, not-true, ne_eqb}
 use Rattle.std.proofs.lemmas.List.{append-nil, append_assoc}
 use Rattle.std.proofs.lemmas.List.Sums.{sum_by-append}
-use Rattle.message_defs.specs.Limits.{last_number}
-use Rattle.message_defs.specs.Statements.{Message, Batch, Batch-discrete, Statement, Order, OrderAt}
+use Rattle.group_defs.specs.Below.{last_number, Message, Batch, Batch-discrete, Statement, Order, OrderAt}
 use Rattle.group_defs.specs.Views.{rank_of, View}
 use Rattle.group_defs.specs.Process.{Orders, Setting, Pool, Process, places_in}
 use Rattle.group_defs.specs.Certified.{payload_at, named, is_signed, is_ended, own_orders, number_of_members}

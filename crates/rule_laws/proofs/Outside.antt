@@ -2,7 +2,7 @@
 use Rattle.std.proofs.Common.{◌≡◌, Bool, true, false, refl, ap, ◌∙◌}
 use Rattle.std.specs.Prelude.{not}
 use Rattle.std.proofs.lemmas.Bool.{both_ways, not-true}
-use Rattle.message_defs.specs.Statements.{Statement, Echo, Order, Place, Keep}
+use Rattle.group_defs.specs.Below.{Statement, Echo, Order, Place, Keep}
 use Rattle.group_defs.specs.Process.{Setting, Process}
 use Rattle.group_defs.specs.Certified.{is_ended}
 use Rattle.group_defs.specs.Due.{may_sign, is_due, kind_of}

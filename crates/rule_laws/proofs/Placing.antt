@@ -2,8 +2,7 @@
 use Rattle.std.proofs.Common.{◌≡◌, ℕ, ◌<◌, ◌≤◌, length, take, Option, Some, None, Bool, true, false, refl, sym, ap, ◌∙◌, subst, arith, slice_get}
 use Rattle.std.specs.Prelude.{option_and_then, not, ◌&&◌, nat_le}
 use Rattle.std.proofs.lemmas.Bool.{not-true}
-use Rattle.byte_defs.specs.Choices.{is_some_and}
-use Rattle.message_defs.specs.Statements.{Statement, Batch, Order, Place, PlaceAt, OrderAt, slot_of}
+use Rattle.group_defs.specs.Below.{is_some_and, Statement, Batch, Order, Place, PlaceAt, OrderAt, slot_of}
 use Rattle.group_defs.specs.Views.{is_member}
 use Rattle.group_defs.specs.Process.{Places, Setting, Process}
 use Rattle.group_defs.specs.Certified.{heard_on, placed, messages, ordered, is_signed, is_ended}

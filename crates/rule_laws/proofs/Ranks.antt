@@ -5,7 +5,7 @@ use Rattle.std.specs.List.{position_or_len}
 use Rattle.std.proofs.lemmas.Bool.{both_ways, eqb-true, eq-eqb, lt-ltb, cases_lt}
 use Rattle.std.proofs.lemmas.List.Quantifiers.{position-Some}
 use Rattle.std.proofs.lemmas.List.Sums.{fails_before_first}
-use Rattle.byte_defs.specs.Choices.{first_some}
+use Rattle.group_defs.specs.Below.{first_some}
 use Rattle.group_defs.specs.Views.{View, is_member, rank_of}
 use Rattle.pool_laws.specs.Least.{IsLeastBelow}
 use Rattle.pool_laws.proofs.Members.{mem-list_any}

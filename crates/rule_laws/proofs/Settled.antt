@@ -4,9 +4,7 @@ use Rattle.std.specs.Prelude.{if◌then◌else◌, ◌&&◌, is_some, nat_le, fi
 use Rattle.std.specs.List.{list_all, range_with_len, prefix_len}
 use Rattle.std.proofs.lemmas.Bool.{both_ways, cases_lt, le-leb, lt-leb, leb-true}
 use Rattle.std.proofs.lemmas.List.FromFn.{length-range_with_len, get_or-range_with_len}
-use Rattle.byte_defs.specs.Choices.{is_some_and}
-use Rattle.message_defs.specs.Updates.{Remove}
-use Rattle.message_defs.specs.Statements.{Batch, Keep, Claim, view_of}
+use Rattle.group_defs.specs.Below.{is_some_and, Remove, Batch, Keep, Claim, view_of}
 use Rattle.group_defs.specs.Process.{Delivered, places_in}
 use Rattle.group_defs.specs.Certified.{number_of_members, is_certified, is_notified, payload_at, place_at, place_kept, fixed_length}
 use Rattle.group_defs.specs.Due.{are_certified}

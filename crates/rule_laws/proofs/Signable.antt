@@ -2,9 +2,7 @@
 use Rattle.std.proofs.Common.{◌≡◌, inl, inr, ℕ, ◌<◌, ◌≤◌, [], ◌∷◌, Option, Some, None, Bool, true, false, refl, sym, ap, ◌∙◌, subst, arith}
 use Rattle.std.specs.Prelude.{option_and_then, option_map, if◌then◌else◌, not, ◌&&◌, ◌||◌, ◌==◌, nat_lt}
 use Rattle.std.proofs.lemmas.Bool.{both_ways, eq-eqb, eqb-true, lt-ltb, le-ltb, cases_lt, not-true}
-use Rattle.byte_defs.specs.Choices.{is_some_and}
-use Rattle.byte_defs.specs.Orders.{numbers_below}
-use Rattle.message_defs.specs.Statements.{Statement, slot_of, view_of}
+use Rattle.group_defs.specs.Below.{is_some_and, numbers_below, Statement, slot_of, view_of}
 use Rattle.group_defs.specs.Views.{is_member}
 use Rattle.group_defs.specs.Process.{Kind, Setting, Process}
 use Rattle.group_defs.specs.Certified.{is_signed}

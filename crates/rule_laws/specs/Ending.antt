@@ -6,9 +6,7 @@
 --   settling: DecidedIs*, DeliverableIs*, IsFixedLength*, FixedLengthIs*
 use Rattle.std.specs.Prelude.{◌≡◌, ◌⊎◌, ℕ, suc, ◌-◌, ◌<◌, ◌≤◌, Bool, IsTrue, IsFalse, ◌&&◌, ◌||◌, nat_le, ◌==◌, if◌then◌else◌, take, count_by, Option, Some, None, is_some, option_map, option_and_then, slice_get}
 use Rattle.std.specs.List.{list_any, list_all, range_with_len}
-use Rattle.byte_defs.specs.Choices.{is_some_and}
-use Rattle.message_defs.specs.Updates.{Update, Remove, Value}
-use Rattle.message_defs.specs.Statements.{Batch, Keep, Ack, EndAt, LastAt}
+use Rattle.group_defs.specs.Below.{is_some_and, Update, Remove, Value, Batch, Keep, Ack, EndAt, LastAt}
 use Rattle.group_defs.specs.Views.{is_possible}
 use Rattle.group_defs.specs.Process.{Setting, Pool, Process, keyed, places_in}
 use Rattle.group_defs.specs.Certified.{heard_on, number_of_members, is_notified, is_certified, place_at, removed_rank, fixed_length}

@@ -1,6 +1,6 @@
 -- What the rules take of a pool.
 use Rattle.std.specs.Prelude.{All}
-use Rattle.message_defs.specs.Spelling.{IsClaim}
+use Rattle.group_defs.specs.Below.{IsClaim}
 use Rattle.group_defs.specs.Views.{IsView}
 use Rattle.group_defs.specs.Process.{Pool}
 use Rattle.group_defs.specs.Laws.{IsOfView}

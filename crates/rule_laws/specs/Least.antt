@@ -5,9 +5,7 @@
 --   where each number has one statement: may_at*, IsNumbered*, LeastNumber*
 use Rattle.pool_laws.specs.Least.{IsLeastBelow}
 use Rattle.std.specs.Prelude.{◌≡◌, ◌⊎◌, ℕ, ◌<◌, Bool, true, false, IsTrue, IsFalse, if◌then◌else◌, List, AllPairs, Contains, Option, Some, None, option_and_then}
-use Rattle.byte_defs.specs.Choices.{first_some, is_some_and}
-use Rattle.byte_defs.specs.Orders.{numbers_below}
-use Rattle.message_defs.specs.Statements.{Statement}
+use Rattle.group_defs.specs.Below.{first_some, is_some_and, numbers_below, Statement}
 use Rattle.group_defs.specs.Process.{Kind, Echoes, Orders, Places, Keeps, Setting, Process}
 use Rattle.group_defs.specs.Views.{View, is_member}
 use Rattle.group_defs.specs.Certified.{is_ended}

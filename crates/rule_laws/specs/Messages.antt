@@ -1,7 +1,6 @@
 -- Messages: the least Init and the least Echo that are due.
 use Rattle.std.specs.Prelude.{◌≡◌, ℕ, ◌+◌, ◌<◌, Bool, IsTrue, IsFalse, ◌&&◌, not, nat_lt, if◌then◌else◌, Option, Some, None, is_some, option_map, option_and_then, slice_get, slice_index_or, unwrap_or, [], length}
-use Rattle.message_defs.specs.Limits.{most_places}
-use Rattle.message_defs.specs.Statements.{Statement, Init, InitAt, EchoAt, Message, Echo, payload_of}
+use Rattle.group_defs.specs.Below.{most_places, Statement, Init, InitAt, EchoAt, Message, Echo, payload_of}
 use Rattle.group_defs.specs.Views.{is_member}
 use Rattle.group_defs.specs.Process.{Inits, Echoes, Setting, Process, earlier, delivered_from}
 use Rattle.group_defs.specs.Certified.{heard_on, is_signed, is_ended}

@@ -1,8 +1,6 @@
 -- Updates: the least Notify and the End that are due.
 use Rattle.std.specs.Prelude.{◌≡◌, ℕ, ◌-◌, Bool, IsTrue, ◌&&◌, not, nat_lt, if◌then◌else◌, length, Option, Some, None, is_some, option_map}
-use Rattle.message_defs.specs.Spelling.{IsUpdate}
-use Rattle.message_defs.specs.Updates.{Update, Remove, Add, Renew}
-use Rattle.message_defs.specs.Statements.{Notify, End, NotifyAt, EndAt}
+use Rattle.group_defs.specs.Below.{IsUpdate, Update, Remove, Add, Renew, Notify, End, NotifyAt, EndAt}
 use Rattle.group_defs.specs.Views.{is_member, is_possible}
 use Rattle.group_defs.specs.Process.{Notifies, Ends, Setting, Pool, Process, keyed}
 use Rattle.group_defs.specs.Certified.{is_notified, notified_updates, placed, is_signed}

@@ -5,9 +5,7 @@
 --   Place: managers_order*, fits, is_place_open, PlaceIsLeast*, FollowsSoFar, FollowsBegins*, FollowsOn*, FollowsWhole*
 --   Keep: is_keep_open, KeepIsLeast*
 use Rattle.std.specs.Prelude.{◌≡◌, ℕ, suc, ◌+◌, Bool, IsTrue, IsFalse, ◌&&◌, not, nat_lt, nat_le, if◌then◌else◌, List, [], ◌∷◌, ◌++◌, length, map, take, drop, slice_set, Option, Some, None, is_some, option_map, option_and_then, slice_get, slice_index_or, ◌==◌}
-use Rattle.byte_defs.specs.Choices.{is_some_and}
-use Rattle.message_defs.specs.Limits.{last_number, most_places}
-use Rattle.message_defs.specs.Statements.{Message, Batch, Order, Place, Keep, OrderAt, PlaceAt, KeepAt}
+use Rattle.group_defs.specs.Below.{is_some_and, last_number, most_places, Message, Batch, Order, Place, Keep, OrderAt, PlaceAt, KeepAt}
 use Rattle.group_defs.specs.Views.{View, IsView, is_member}
 use Rattle.group_defs.specs.Process.{Orders, Places, Keeps, Setting, Pool, Process, places_in}
 use Rattle.group_defs.specs.Certified.{heard_on, payload_at, placed, named, messages, is_signed, is_ended, ordered, own_orders, number_of_members}

@@ -5,10 +5,7 @@
 --   Suggest: may_suggest, SuggestIsLeast*
 --   Ack: suggested, may_ack*, is_ack_due, AckIsLeast*
 use Rattle.std.specs.Prelude.{◌≡◌, ℕ, suc, ◌-◌, Bool, IsTrue, ◌&&◌, not, nat_lt, nat_le, min, if◌then◌else◌, Option, Some, None, is_some, option_map, option_and_then, slice_get, slice_index_or, unwrap_or}
-use Rattle.byte_defs.specs.Choices.{is_some_and}
-use Rattle.message_defs.specs.Limits.{last_rank}
-use Rattle.message_defs.specs.Updates.{Remove, Value}
-use Rattle.message_defs.specs.Statements.{Last, Suggest, Ack, Ready, LastAt, SuggestAt, AckAt, ReadyAt, value_of}
+use Rattle.group_defs.specs.Below.{is_some_and, last_rank, Remove, Value, Last, Suggest, Ack, Ready, LastAt, SuggestAt, AckAt, ReadyAt, value_of}
 use Rattle.group_defs.specs.Views.{is_member, rank_of}
 use Rattle.group_defs.specs.Process.{Readies, Lasts, Suggests, Acks, Setting, Pool, Process}
 use Rattle.group_defs.specs.Certified.{heard_on, value_at, is_signed, own_rank, own_ready, removed_rank, number_of_members, is_notified}

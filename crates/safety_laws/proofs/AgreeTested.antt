@@ -5,7 +5,7 @@ use Rattle.std.specs.List.{list_any, list_all, range_with_len}
 use Rattle.std.proofs.lemmas.Bool.{ltb-true, ltb-false, lt-ltb}
 use Rattle.std.proofs.lemmas.List.{length-map, take-append-drop, take_at}
 use lib.Pointwise.{pointwise, pointwise_decides}
-use Rattle.byte_defs.specs.Equality.{is_yes}
+use Rattle.group_defs.specs.Below.{is_yes}
 use Rattle.group_defs.specs.Views.{View, View-discrete, is_member}
 use Rattle.group_defs.specs.Process.{Letter, Letter-discrete, Delivered, Delivered-discrete, Left, Process, without_places}
 use Rattle.group_defs.specs.Accounts.{Account, account_of, Group, group_of, messages_in, HasLeft, IsPrefixOf, HasListOfEachView, AccountsHaveLists, AgreesWith, agrees_in, agrees_with, same_views, same_sequence, AgreeIsTested}

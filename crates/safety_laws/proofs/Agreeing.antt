@@ -1,7 +1,7 @@
 -- Two correct processes in one view see the same certified.
 use Rattle.std.proofs.Common.{◌≡◌, ℕ, List, Some, true, refl, sym, ap, ◌∙◌}
 use Rattle.group_defs.specs.Views.{View}
-use Rattle.message_defs.specs.Statements.{Message, Statement, Echo, Place, slot_of}
+use Rattle.group_defs.specs.Below.{Message, Statement, Echo, Place, slot_of}
 use Rattle.group_defs.specs.Process.{Process}
 use Rattle.group_defs.specs.Certified.{is_certified, payload_at}
 use Rattle.group_defs.specs.Family.{Family, ends}

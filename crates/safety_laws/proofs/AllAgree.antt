@@ -2,7 +2,7 @@
 use Rattle.std.proofs.Common.{◌≡◌, ◌⊎◌, inl, inr, ℕ, ◌+◌, ◌<◌, ◌≤◌, List, [], map, length, Some, true, refl, sym, ap, ◌∙◌, subst, arith, slice_get}
 use Rattle.std.specs.Prelude.{All, slice_index_or}
 use Rattle.group_defs.specs.Views.{View, is_member}
-use Rattle.message_defs.specs.Statements.{Message, Batch, Echo, Place, Ready, slot_of}
+use Rattle.group_defs.specs.Below.{Message, Batch, Echo, Place, Ready, slot_of}
 use Rattle.group_defs.specs.Process.{Setting, Letter, Delivered, Left, Process, views_of, deliveries_of, letter_of, without_places, places_in}
 use Rattle.group_defs.specs.Events.{Turn}
 use Rattle.group_defs.specs.Accounts.{Account, account_of, IsPrefixOf, delivered_in, messages_in, longest, group_of, AgreesWith}

@@ -6,8 +6,7 @@ use Rattle.std.specs.Option.{option_map_or}
 use Rattle.std.proofs.lemmas.List.{length-append, length-map, map-append}
 use Rattle.std.proofs.lemmas.List.Elements.{filter-append}
 use Rattle.std.proofs.lemmas.List.FromFn.{length-range_with_len}
-use Rattle.byte_defs.specs.Choices.{first_that_holds}
-use Rattle.message_defs.specs.Updates.{Value}
+use Rattle.group_defs.specs.Below.{first_that_holds, Value}
 use Rattle.std.proofs.lemmas.Grind.{flat_map-append}
 use Rattle.group_defs.specs.Views.{View}
 use Rattle.group_defs.specs.Process.{Setting, Letter, Delivered, Process, start, views_of, places_in}

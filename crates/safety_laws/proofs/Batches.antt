@@ -3,7 +3,7 @@ use Rattle.std.proofs.Common.{◌≡◌, inl, inr, ℕ, zero, suc, ◌+◌, ◌�
 use Rattle.std.specs.Prelude.{fold, option_map}
 use Rattle.std.proofs.lemmas.List.{append-nil, append_assoc, length-append, map-append}
 use Rattle.std.proofs.lemmas.List.Sums.{fold-append}
-use Rattle.message_defs.specs.Statements.{Message, Batch}
+use Rattle.group_defs.specs.Below.{Message, Batch}
 use Rattle.group_defs.specs.Process.{Pool, Delivered, Process, places_in}
 use Rattle.group_defs.specs.Certified.{messages, payload_at, place_at}
 use Rattle.group_defs.specs.Settle.{delivery, deliverable}

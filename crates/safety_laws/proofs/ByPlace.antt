@@ -6,7 +6,7 @@ use Rattle.std.proofs.lemmas.Bool.{eqb-true, eq-eqb, leb-true, ltb-true}
 use Rattle.std.proofs.lemmas.List.{append-nil, length-map}
 use Rattle.std.proofs.lemmas.List.Elements.{filter-append}
 use Rattle.group_defs.specs.Views.{View}
-use Rattle.message_defs.specs.Statements.{Message, Batch}
+use Rattle.group_defs.specs.Below.{Message, Batch}
 use Rattle.group_defs.specs.Process.{Delivered, views_of, places_in}
 use Rattle.group_defs.specs.Accounts.{account_of, delivered_in, at_place, batch_at, StandsByPlace, HaveSameBatches, ArePlaced}
 use Rattle.group_defs.specs.Family.{Correct, Family, end_of, accounts}

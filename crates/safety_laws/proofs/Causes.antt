@@ -4,10 +4,8 @@ use Rattle.std.specs.Prelude.{◌&&◌, ◌||◌, ◌==◌, nat_le, count_by, fi
 use Rattle.std.specs.List.{list_any}
 use Rattle.std.proofs.lemmas.Bool.{ltb-true}
 use native.Mathlib.Decide.{ℕ_discrete}
-use Rattle.byte_defs.specs.Equality.{is_yes, pair_discrete}
+use Rattle.group_defs.specs.Below.{is_yes, pair_discrete, Update, Update-discrete, Value, Statement, Notify}
 use Rattle.group_defs.specs.Views.{View, faulty, is_member, is_possible, next_view}
-use Rattle.message_defs.specs.Updates.{Update, Update-discrete, Value}
-use Rattle.message_defs.specs.Statements.{Statement, Notify}
 use Rattle.group_defs.specs.Process.{Setting, Pool, Process, keyed, views_of}
 use Rattle.group_defs.specs.Certified.{says, backers, is_notified, place_at}
 use Rattle.group_defs.specs.Values.{ends, is_quorum, is_free}

@@ -6,7 +6,7 @@ use Rattle.std.specs.List.Sorted.{IsStrictlyIncreasing}
 use Rattle.std.proofs.lemmas.Bool.{eqb-true, leb-true}
 use Rattle.std.proofs.lemmas.List.Sums.{length-filter}
 use Rattle.group_defs.specs.Views.{View, quorum}
-use Rattle.message_defs.specs.Statements.{Statement, Claim, same_statement, Slot, slot_of}
+use Rattle.group_defs.specs.Below.{Statement, Claim, same_statement, Slot, slot_of}
 use Rattle.group_defs.specs.Process.{Process}
 use Rattle.group_defs.specs.Certified.{says, backers, number_of_members, heard_on}
 use Rattle.group_defs.specs.Family.{Correct, Family, numbers, end_of, ends, handed, statements_of, IsOwned}

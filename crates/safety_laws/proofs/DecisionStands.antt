@@ -1,7 +1,6 @@
 -- While a decision stands, the Ready that gave it is certified.
 use Rattle.std.proofs.Common.{◌≡◌, inl, inr, ℕ, List, [], ◌∷◌, Some, true}
-use Rattle.message_defs.specs.Updates.{Value}
-use Rattle.message_defs.specs.Statements.{Ready, Claim}
+use Rattle.group_defs.specs.Below.{Value, Ready, Claim}
 use Rattle.group_defs.specs.Process.{Setting, Process, start}
 use Rattle.group_defs.specs.Certified.{is_certified}
 use Rattle.group_defs.specs.Settle.{decided_by}

@@ -2,8 +2,7 @@
 use Rattle.std.proofs.Common.{◌≡◌, inl, inr, ℕ, zero, suc, ◌-◌, List, ◌++◌, Option, Some, None, Bool, true, false, refl, ◌∙◌, subst, arith}
 use Rattle.std.specs.Prelude.{if◌then◌else◌, Contains, slice_index_or}
 use Rattle.group_defs.specs.Views.{View, is_member}
-use Rattle.message_defs.specs.Updates.{Value}
-use Rattle.message_defs.specs.Statements.{Ready, Claim}
+use Rattle.group_defs.specs.Below.{Value, Ready, Claim}
 use Rattle.group_defs.specs.Process.{Delivered, Process, start, places_in}
 use Rattle.group_defs.specs.Settle.{decide, deliver, deliverable, deliver_more, limit}
 use Rattle.group_defs.specs.Family.{Correct, Family, end_of, ends, handed_to}

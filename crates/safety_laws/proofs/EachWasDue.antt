@@ -1,10 +1,8 @@
 -- Each statement was due at its moment.
 use Rattle.std.proofs.Common.{◌≡◌, ◌⊎◌, inl, inr, ℕ, List, [], ◌∷◌, ◌++◌, map, length, Some, Bool, true, false, refl, sym, ap, ◌∙◌, subst, arith, slice_get}
 use Rattle.std.specs.Prelude.{if◌then◌else◌, is_some, All, Contains, slice_index_or}
-use Rattle.byte_defs.specs.Orders.{put}
+use Rattle.group_defs.specs.Below.{put, Update, Value, Statement, Claim, slot_of}
 use Rattle.group_defs.specs.Hearing.{Heard, verdict, is_valid}
-use Rattle.message_defs.specs.Updates.{Update, Value}
-use Rattle.message_defs.specs.Statements.{Statement, Claim, slot_of}
 use Rattle.group_defs.specs.Process.{Setting, Left, Process, start, views_of}
 use Rattle.group_defs.specs.Certified.{heard_on}
 use Rattle.group_defs.specs.Due.{may_sign}

@@ -3,7 +3,7 @@ use Rattle.std.proofs.Common.{◌≡◌, inl, inr, ℕ, zero, suc, ◌+◌, ◌<
 use Rattle.std.specs.Prelude.{slice_index_or}
 use Rattle.std.specs.List.{AllZip}
 use Rattle.group_defs.specs.Views.{View, is_member}
-use Rattle.message_defs.specs.Statements.{Claim}
+use Rattle.group_defs.specs.Below.{Claim}
 use Rattle.group_defs.specs.Process.{Setting, Delivered, Left, Process, start, views_of, deliveries_of, letter_of, without_places}
 use Rattle.group_defs.specs.Events.{Turn, after, run}
 use Rattle.group_defs.specs.Accounts.{Account, account_of, IsPrefixOf, HasLeft, messages_in, longest, group_of, AgreesWith}

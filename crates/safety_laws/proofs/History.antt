@@ -3,11 +3,9 @@ use Rattle.std.proofs.Common.{◌≡◌, ◌⊎◌, inl, inr, ℕ, suc, ◌+◌,
 use Rattle.std.specs.Prelude.{if◌then◌else◌, nat_lt, filter_map, All, is_some}
 use Rattle.std.specs.Option.{option_map_or}
 use Rattle.std.proofs.lemmas.Bool.{ltb-true}
-use Rattle.byte_defs.specs.Orders.{put}
+use Rattle.group_defs.specs.Below.{put, Value, Batch, Statement, Echo, Place, Keep, Ready, Claim, slot_of, view_of}
 use Rattle.group_defs.specs.Hearing.{with_heard}
 use Rattle.group_defs.specs.Views.{View, is_member, next_view, is_possible}
-use Rattle.message_defs.specs.Updates.{Value}
-use Rattle.message_defs.specs.Statements.{Batch, Statement, Echo, Place, Keep, Ready, Claim, slot_of, view_of}
 use Rattle.group_defs.specs.Process.{Setting, Delivered, Left, Process, start, keyed, views_of, places_in}
 use Rattle.group_defs.specs.Certified.{heard_on, is_certified, place_kept, fixed_length, certificate}
 use Rattle.group_defs.specs.Due.{may_sign}

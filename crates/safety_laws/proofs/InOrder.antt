@@ -5,7 +5,7 @@ use Rattle.std.specs.List.{range_with_len}
 use Rattle.std.proofs.lemmas.Bool.{eqb-true, eq-eqb, leb-true}
 use Rattle.std.proofs.lemmas.List.Sums.{length-filter}
 use Rattle.group_defs.specs.Views.{View}
-use Rattle.message_defs.specs.Statements.{Message, Batch, Place}
+use Rattle.group_defs.specs.Below.{Message, Batch, Place}
 use Rattle.group_defs.specs.Process.{Setting, Letter, Delivered, Process, views_of, without_places}
 use Rattle.group_defs.specs.Certified.{is_certified, placed, named, messages}
 use Rattle.group_defs.specs.Due.{may_sign, is_batch, follows, are_certified}

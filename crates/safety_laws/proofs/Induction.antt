@@ -2,17 +2,14 @@
 use Rattle.std.proofs.Common.{◌≡◌, ℕ, zero, suc, ◌+◌, ◌-◌, ◌<◌, ◌≤◌, List, [], ◌∷◌, ◌++◌, Option, None, Some, Bool, true, false, refl, sym, subst, arith, inl, inr}
 use Rattle.std.specs.Prelude.{if◌then◌else◌, ◌==◌, nat_lt, nat_le}
 use Rattle.std.proofs.lemmas.Bool.{leb-true, leb-false, eqb-true}
-use Rattle.byte_defs.specs.Orders.{put}
-use Rattle.message_defs.specs.Updates.{Update, Value}
+use Rattle.group_defs.specs.Below.{put, Update, Value, Statement, Claim, Claims, Wants, Faulty}
 use Rattle.group_defs.specs.Views.{is_member}
-use Rattle.message_defs.specs.Statements.{Statement, Claim}
 use Rattle.group_defs.specs.Process.{Kind, Setting, Process, Delivered, places_in}
 use Rattle.group_defs.specs.Due.{least_due, may_sign, offers, is_perceived}
 use Rattle.group_defs.specs.Hearing.{Verdict, Old, Early, Stranger, OutOfWindow, Known, Unsigned, Conflict, Heard, verdict, with_heard, with_verdict, kept_conflicts, hear, hear_all}
 use Rattle.group_defs.specs.Signing.{Signer, Signing, signs, sign_kind, sign_kinds, sign_all}
 use Rattle.group_defs.specs.Settle.{decide, limit, deliverable, deliver_more, deliver, install, leave_by, leave, settle}
 use Rattle.group_defs.specs.Family.{claims_in, handed_to}
-use Rattle.message_defs.specs.Claims.{Claims, Wants, Faulty}
 use Rattle.group_defs.specs.Events.{Event, Submit, Hand, Suspect, Join, RenewView, Tick, Turn, EventFault, refusal, perceived_numbers, perceives, take_in, signing, after, run}
 use Rattle.pool_laws.proofs.Members.{Mem, filter-mem}
 use Rattle.rule_laws.proofs.LeastIsDue.{least_due-passes}

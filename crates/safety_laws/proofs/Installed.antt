@@ -2,10 +2,8 @@
 use Rattle.std.proofs.Common.{◌≡◌, ◌⊎◌, inl, inr, ℕ, List, [], ◌∷◌, ◌++◌, Option, Some, None, Bool, true, false, refl, ◌∙◌, subst}
 use Rattle.std.specs.Prelude.{if◌then◌else◌, All, is_none, slice_index_or}
 use Rattle.std.specs.List.{range_with_len}
-use Rattle.byte_defs.specs.Choices.{first_some}
+use Rattle.group_defs.specs.Below.{first_some, Value, Ready, ReadyAt, Claim}
 use Rattle.group_defs.specs.Views.{View, next_fault, next_view, has_keys, is_possible, IsView}
-use Rattle.message_defs.specs.Updates.{Value}
-use Rattle.message_defs.specs.Statements.{Ready, ReadyAt, Claim}
 use Rattle.group_defs.specs.Process.{Setting, Pool, Left, Process, start, keyed, views_of}
 use Rattle.group_defs.specs.Certified.{is_certified, value_at, number_of_members}
 use Rattle.group_defs.specs.Settle.{decided_at, decided_by}

@@ -2,10 +2,7 @@
 use Rattle.std.proofs.Common.{◌≡◌, ℕ, zero, suc, ◌+◌, ◌-◌, ◌≤◌, List, [], ◌∷◌, ◌++◌, map, drop, length, Option, Some, None, Bool, true, false, refl, sym, ap, ◌∙◌, subst, arith, slice_get}
 use Rattle.std.specs.Prelude.{if◌then◌else◌, is_some, slice_index_or}
 use Rattle.std.proofs.lemmas.List.{append-nil, append_assoc, length-append, length-map}
-use Rattle.byte_defs.specs.Orders.{put}
-use Rattle.message_defs.specs.Updates.{Remove, Add, Renew, Update, Value}
-use Rattle.message_defs.specs.Statements.{Statement, Claim}
-use Rattle.message_defs.specs.Claims.{Claims, Wants, Faulty}
+use Rattle.group_defs.specs.Below.{put, Remove, Add, Renew, Update, Value, Statement, Claim, Claims, Wants, Faulty}
 use Rattle.group_defs.specs.Process.{Kind, Setting, Process}
 use Rattle.group_defs.specs.Due.{least_due, is_perceived}
 use Rattle.group_defs.specs.Hearing.{Verdict, Old, Early, Stranger, OutOfWindow, Known, Unsigned, Conflict, Heard, verdict, with_verdict, hear, hear_all}

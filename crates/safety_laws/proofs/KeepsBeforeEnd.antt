@@ -2,9 +2,7 @@
 use Rattle.std.proofs.Common.{◌≡◌, ◌⊎◌, inl, inr, ℕ, ◌<◌, ◌≤◌, List, [], ◌∷◌, ◌++◌, map, length, Some, Bool, true, false, refl, sym, ap, ◌∙◌, subst, arith, slice_get}
 use Rattle.std.specs.Prelude.{if◌then◌else◌, is_some, ◌&&◌, ◌==◌, ⊤, option_map}
 use Rattle.std.proofs.lemmas.Bool.{eqb-true, eq-eqb}
-use Rattle.byte_defs.specs.Choices.{is_some_and}
-use Rattle.message_defs.specs.Updates.{Value}
-use Rattle.message_defs.specs.Statements.{Batch, Statement, Keep, End, EndAt, Claim, slot_of, view_of, same_slot}
+use Rattle.group_defs.specs.Below.{is_some_and, Value, Batch, Statement, Keep, End, EndAt, Claim, slot_of, view_of, same_slot}
 use Rattle.group_defs.specs.Process.{Setting, Process, start}
 use Rattle.group_defs.specs.Certified.{placed, is_signed, is_ended, heard_on}
 use Rattle.group_defs.specs.Due.{may_sign, same_batch}

@@ -4,10 +4,8 @@ use Rattle.std.specs.Prelude.{◌-◌, ◌&&◌, ◌||◌, ◌==◌, nat_le, fil
 use Rattle.std.specs.List.{list_any, range_with_len}
 use Rattle.std.proofs.lemmas.Bool.{leb-true, ltb-true}
 use Rattle.std.proofs.lemmas.List.Sums.{length-filter}
-use Rattle.byte_defs.specs.Choices.{is_some_and}
+use Rattle.group_defs.specs.Below.{is_some_and, Value, Statement, Keep, End, Ack, EndAt, Slot, Batch}
 use Rattle.group_defs.specs.Views.{View, quorum, is_member, is_possible}
-use Rattle.message_defs.specs.Updates.{Value}
-use Rattle.message_defs.specs.Statements.{Statement, Keep, End, Ack, EndAt, Slot, Batch}
 use Rattle.group_defs.specs.Process.{Setting, Pool, Process, keyed}
 use Rattle.group_defs.specs.Certified.{heard_on, is_certified, is_notified, place_at}
 use Rattle.group_defs.specs.Values.{length_said, ends, is_quorum, is_free, is_first_way, is_second_way}

@@ -1,7 +1,7 @@
 -- What a process signs is of the kinds that the setting names.
 use Rattle.std.proofs.Common.{List, sym, subst}
 use Rattle.std.specs.Prelude.{Contains}
-use Rattle.message_defs.specs.Statements.{Claim}
+use Rattle.group_defs.specs.Below.{Claim}
 use Rattle.group_defs.specs.Process.{Setting, Process, start}
 use Rattle.group_defs.specs.Due.{kind_of}
 use Rattle.group_defs.specs.Signing.{own_claim}

@@ -2,14 +2,12 @@
 use Rattle.std.proofs.Common.{◌≡◌, ℕ, true, Option, length, ◌<◌, ◌≤◌}
 use Rattle.std.specs.Prelude.{not, ◌==◌, nat_lt, nat_le, ◌&&◌}
 use Rattle.std.proofs.lemmas.Bool.{eqb-true, ltb-true, leb-true}
-use Rattle.message_defs.specs.Updates.{Value, Value-discrete, Update}
-use Rattle.message_defs.specs.Statements.{Statement, Ack, Ready, slot_of, view_of, End, Last, Notify}
+use Rattle.group_defs.specs.Below.{Value, Value-discrete, Update, Statement, Ack, Ready, slot_of, view_of, End, Last, Notify, option_discrete, pair_discrete}
 use Rattle.group_defs.specs.Views.{is_member, is_possible}
 use Rattle.group_defs.specs.Process.{Setting, Process, keyed}
 use Rattle.group_defs.specs.Certified.{is_certified, is_signed, own_rank, placed, notified_updates, own_ready, removed_rank}
 use Rattle.group_defs.specs.Values.{same_ready, is_justified}
 use Rattle.group_defs.specs.Due.{may_sign, is_due, is_perceived}
-use Rattle.byte_defs.specs.Equality.{option_discrete, pair_discrete}
 use native.Mathlib.Decide.{ℕ_discrete}
 use Rattle.pool_laws.proofs.Tests.{and-first, and-four, and-second, yes-is}
 

@@ -2,7 +2,7 @@
 use Rattle.std.proofs.Common.{◌≡◌, inl, inr, List, true, sym, ◌∙◌}
 use Rattle.std.specs.Prelude.{All}
 use Rattle.group_defs.specs.Views.{View}
-use Rattle.message_defs.specs.Statements.{Statement, Claim, view_of}
+use Rattle.group_defs.specs.Below.{Statement, Claim, view_of}
 use Rattle.group_defs.specs.Process.{Process, views_of}
 use Rattle.group_defs.specs.Due.{may_sign}
 use Rattle.group_defs.specs.Family.{Correct, Family, end_of, ends, handed, handed_to, statements_of}

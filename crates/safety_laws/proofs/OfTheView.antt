@@ -2,8 +2,7 @@
 use Rattle.std.proofs.Common.{◌≡◌, ◌⊎◌, inl, inr, ℕ, zero, suc, List, [], ◌∷◌, ◌++◌, Option, Some, None, Bool, true, false, refl, sym, ◌∙◌, subst, slice_get}
 use Rattle.std.specs.Prelude.{if◌then◌else◌, not, is_some, IsTrue, All}
 use Rattle.std.specs.List.{list_any}
-use Rattle.byte_defs.specs.Choices.{is_some_and}
-use Rattle.message_defs.specs.Statements.{Message, Batch-discrete, Statement, Init, Echo, Order, Place, Keep, Claim, messages_of, slot_of}
+use Rattle.group_defs.specs.Below.{is_some_and, Message, Batch-discrete, Statement, Init, Echo, Order, Place, Keep, Claim, messages_of, slot_of}
 use Rattle.group_defs.specs.Views.{View, is_member}
 use Rattle.group_defs.specs.Process.{Setting, Pool, Delivered, Left, Process, start, places_in}
 use Rattle.group_defs.specs.Certified.{says, is_certified, is_ended, heard_on, own_orders, messages, payload_at, placed}

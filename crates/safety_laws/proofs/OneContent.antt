@@ -1,6 +1,6 @@
 -- Of each slot one content is backed.
 use Rattle.std.proofs.Common.{◌≡◌, ◌≢◌, ℕ, List, Some, sym, ap, ◌∙◌, slice_get}
-use Rattle.message_defs.specs.Statements.{Statement, Claim, slot_of}
+use Rattle.group_defs.specs.Below.{Statement, Claim, slot_of}
 use Rattle.group_defs.specs.Process.{Setting}
 use Rattle.group_defs.specs.Family.{Correct, end_of, statements_of}
 use Rattle.group_defs.specs.Laws.{may_back, OneContent}

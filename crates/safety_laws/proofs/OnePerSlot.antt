@@ -1,6 +1,6 @@
 -- A process signs each slot once.
 use Rattle.std.proofs.Common.{◌≡◌, ◌≢◌, ℕ, List, true, refl, sym, ap, ◌∙◌}
-use Rattle.message_defs.specs.Statements.{Statement, Claim, slot_of}
+use Rattle.group_defs.specs.Below.{Statement, Claim, slot_of}
 use Rattle.group_defs.specs.Process.{Setting, Process, start}
 use Rattle.group_defs.specs.Certified.{is_signed}
 use Rattle.group_defs.specs.Due.{may_sign}

@@ -3,7 +3,7 @@ use Rattle.std.proofs.Common.{◌≡◌, ◌⊎◌, inl, inr, ℕ, zero, suc, �
 use Rattle.std.specs.Prelude.{nat_lt}
 use Rattle.std.proofs.lemmas.Bool.{ltb-true}
 use Rattle.std.proofs.lemmas.List.{map-append}
-use Rattle.message_defs.specs.Statements.{Message, Batch, Batch-discrete, Statement, Order, Claim}
+use Rattle.group_defs.specs.Below.{Message, Batch, Batch-discrete, Statement, Order, Claim}
 use Rattle.group_defs.specs.Process.{Setting, Pool, Process, start}
 use Rattle.group_defs.specs.Certified.{messages, own_orders}
 use Rattle.group_defs.specs.Due.{may_sign, next_message, next_messages, next_batch, same_batch}

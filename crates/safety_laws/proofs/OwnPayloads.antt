@@ -5,7 +5,7 @@ use Rattle.std.specs.List.{range_with_len}
 use Rattle.std.proofs.lemmas.Bool.{eqb-true}
 use Rattle.std.proofs.lemmas.List.Sums.{length-filter, sum_by-cons}
 use Rattle.group_defs.specs.Views.{View, is_member}
-use Rattle.message_defs.specs.Statements.{Statement, Init, Echo}
+use Rattle.group_defs.specs.Below.{Statement, Init, Echo}
 use Rattle.group_defs.specs.Process.{Letter, Delivered, Left, Process, earlier, delivered_from, views_of, letter_of, without_places}
 use Rattle.group_defs.specs.Certified.{says, is_ended}
 use Rattle.group_defs.specs.Accounts.{account_of, IsPrefixOf, messages_in, group_of, of_sender, history, AgreesWith}

@@ -4,9 +4,8 @@ use Rattle.std.specs.Prelude.{◌&&◌, ◌||◌, ◌==◌, not, filter, All}
 use Rattle.std.specs.List.{list_any}
 use Rattle.std.proofs.lemmas.Bool.{eqb-true, eq-eqb}
 use Rattle.std.proofs.lemmas.List.Sums.{length-filter}
-use Rattle.byte_defs.specs.Members.{has}
+use Rattle.group_defs.specs.Below.{has, Statement, Claim, same_statement}
 use Rattle.group_defs.specs.Views.{View, faulty, quorum}
-use Rattle.message_defs.specs.Statements.{Statement, Claim, same_statement}
 use Rattle.group_defs.specs.Process.{Setting, Process, start, views_of}
 use Rattle.group_defs.specs.Accounts.{Account, account_of, corrupt_in}
 use Rattle.group_defs.specs.Family.{Correct, Family, numbers, end_of, ends, accounts, statements_of}

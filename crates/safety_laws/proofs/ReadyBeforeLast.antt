@@ -2,8 +2,7 @@
 use Rattle.std.proofs.Common.{◌≡◌, ◌⊎◌, inl, inr, ℕ, ◌<◌, ◌≤◌, List, [], ◌∷◌, Option, Some, None, Bool, true, false, refl, sym, ap, ◌∙◌, subst, arith, slice_get}
 use Rattle.std.specs.Prelude.{if◌then◌else◌, filter_map, fold, ◌==◌, nat_lt, ⊤}
 use Rattle.std.proofs.lemmas.Bool.{eqb-true, ltb-true, eq-eqb, ltb-false}
-use Rattle.message_defs.specs.Updates.{Value}
-use Rattle.message_defs.specs.Statements.{Statement, Last, Ready, Claim, view_of}
+use Rattle.group_defs.specs.Below.{Value, Statement, Last, Ready, Claim, view_of}
 use Rattle.group_defs.specs.Process.{Setting, Process, start}
 use Rattle.group_defs.specs.Certified.{own, own_rank, rank_said, readied, higher}
 use Rattle.group_defs.specs.Due.{may_sign, is_due}

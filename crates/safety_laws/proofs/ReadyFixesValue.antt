@@ -4,10 +4,8 @@ use Rattle.std.specs.Prelude.{◌&&◌, ◌==◌, nat_lt, filter, count_by, is_n
 use Rattle.std.specs.List.{list_any, range_with_len}
 use Rattle.std.proofs.lemmas.Bool.{eqb-true, leb-true, ltb-true, ltb-false}
 use Rattle.std.proofs.lemmas.List.Sums.{length-filter}
-use Rattle.byte_defs.specs.Choices.{is_some_and}
+use Rattle.group_defs.specs.Below.{is_some_and, Value, Statement, Last, Ack, Ready, LastAt, slot_of, Slot}
 use Rattle.group_defs.specs.Views.{View, quorum}
-use Rattle.message_defs.specs.Updates.{Value}
-use Rattle.message_defs.specs.Statements.{Statement, Last, Ack, Ready, LastAt, slot_of, Slot}
 use Rattle.group_defs.specs.Process.{Pool, Process}
 use Rattle.group_defs.specs.Certified.{heard_on, is_certified}
 use Rattle.group_defs.specs.Values.{ready_said, lasts, is_at_most, is_quorum, is_free, is_first_way, is_second_way}

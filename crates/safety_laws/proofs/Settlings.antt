@@ -1,6 +1,6 @@
 -- What each change keeps holds where an event settles, and from there to the end.
 use Rattle.std.proofs.Common.{◌≡◌, inl, inr, List, [], ◌∷◌, Option, Some, None, refl, sym, ap, subst}
-use Rattle.message_defs.specs.Statements.{Claim}
+use Rattle.group_defs.specs.Below.{Claim}
 use Rattle.group_defs.specs.Process.{Setting, Process}
 use Rattle.group_defs.specs.Settle.{decide, deliver, leave, settle}
 use Rattle.group_defs.specs.Events.{Turn, EventFault, refusal, signing, after, run}

@@ -4,9 +4,7 @@ use Rattle.std.specs.Prelude.{if◌then◌else◌, ◌&&◌, ◌==◌, min, nat_
 use Rattle.std.specs.List.{list_all, range_with_len}
 use Rattle.std.proofs.lemmas.Bool.{eqb-true, eq-eqb, leb-true, le-leb, ltb-true, ltb-false}
 use Rattle.std.proofs.lemmas.List.{length-map}
-use Rattle.byte_defs.specs.Equality.{is_yes, bytes_discrete}
-use Rattle.message_defs.specs.Updates.{Update}
-use Rattle.message_defs.specs.Statements.{Batch-discrete}
+use Rattle.group_defs.specs.Below.{is_yes, bytes_discrete, Update, Batch-discrete}
 use Rattle.group_defs.specs.Views.{View, is_member, next_view, is_possible}
 use Rattle.group_defs.specs.Process.{Letter, Delivered, places_in, without_places}
 use Rattle.group_defs.specs.Accounts.{Account, Group, group_of, longest, delivered_in, messages_in, at_place, batch_at, StandsByPlace, HaveSameBatches, ArePlaced, HasListOfEachView, IsPrefixOf, HasCause, history, of_sender, Sound, neighbours, perceived_in, same_views, has_cause, is_in_order, is_sound_in, is_accepted, stands_by_place, have_same_batches, are_placed_in, sound, SoundIsTested}

@@ -4,7 +4,7 @@ use Rattle.std.specs.Prelude.{◌||◌, ◌==◌, not, nat_le, All, Contains}
 use Rattle.std.specs.List.{list_any, list_all}
 use Rattle.std.proofs.lemmas.Bool.{eqb-true, eq-eqb, leb-true, le-leb}
 use Rattle.group_defs.specs.Views.{View, faulty}
-use Rattle.message_defs.specs.Statements.{Claim, same_statement}
+use Rattle.group_defs.specs.Below.{Claim, same_statement}
 use Rattle.group_defs.specs.Process.{Process}
 use Rattle.group_defs.specs.Hearing.{is_valid}
 use Rattle.group_defs.specs.Accounts.{Account, corrupt_in, BoundedIsTested}

@@ -2,8 +2,7 @@
 use Rattle.std.proofs.Common.{◌≡◌, ◌⊎◌, inl, inr, ℕ, zero, suc, ◌≤◌, List, map, length, Some, refl, sym, ap, ◌∙◌, subst, arith, slice_get}
 use Rattle.std.specs.Prelude.{All, slice_index_or}
 use Rattle.group_defs.specs.Views.{View, next_view, IsView}
-use Rattle.message_defs.specs.Updates.{Value}
-use Rattle.message_defs.specs.Statements.{Statement, Keep, Ready}
+use Rattle.group_defs.specs.Below.{Value, Statement, Keep, Ready}
 use Rattle.group_defs.specs.Process.{Setting, Left, Process, start, views_of}
 use Rattle.group_defs.specs.Events.{Turn}
 use Rattle.group_defs.specs.Family.{Correct, Family, end_of, ends, handed_to}

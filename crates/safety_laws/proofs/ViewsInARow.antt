@@ -2,8 +2,7 @@
 use Rattle.std.proofs.Common.{◌≡◌, inl, inr, ℕ, zero, suc, ◌+◌, List, [], ◌∷◌, ◌++◌, length, Option, Some, None, true, refl, sym, ap, ◌∙◌, subst, arith, slice_get}
 use Rattle.std.specs.Prelude.{is_none, Ok, Err}
 use Rattle.std.proofs.lemmas.List.{map-append}
-use Rattle.message_defs.specs.Updates.{Update, Value}
-use Rattle.message_defs.specs.Statements.{Claim}
+use Rattle.group_defs.specs.Below.{Update, Value, Claim}
 use Rattle.group_defs.specs.Views.{View, UpdateFault, has_keys, is_possible, next, next_fault, next_view}
 use Rattle.group_defs.specs.Process.{Setting, Left, Process, keyed, start, views_of}
 use Rattle.group_defs.specs.Settle.{decided_by}

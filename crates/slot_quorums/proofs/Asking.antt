@@ -9,12 +9,7 @@ use Rattle.message_defs.specs.Statements.{Statement, Slot, Claim, slot_of, same_
 use Rattle.group_defs.specs.Views.{quorum}
 use Rattle.group_defs.specs.Process.{Pool}
 use Rattle.group_defs.specs.Certified.{says, backers, is_certified, certified_on, number_of_members}
-use Rattle.pool_laws.proofs.Grown.{one_certified, is-certified}
-use Rattle.pool_laws.proofs.Heard.{heard-says}
-use Rattle.pool_laws.proofs.Members.{Mem, some-mem, filter-mem, mem-map}
-use Rattle.pool_laws.proofs.Slots.{same_statement-is, is-same_statement}
-use Rattle.pool_laws.proofs.Sorting.{length-sorted}
-use Rattle.pool_laws.proofs.Tests.{none-some}
+use Rattle.claim_index.proofs.Below.{one_certified, is-certified, heard-says, Mem, some-mem, filter-mem, mem-map, same_statement-is, is-same_statement, length-sorted, none-some}
 use Rattle.claim_index.specs.declared.key.SlotKey.{SlotKey}
 use Rattle.claim_index.specs.Keys.{slot_key, same_slot_key}
 use Rattle.claim_index.specs.Kept.{by_number}

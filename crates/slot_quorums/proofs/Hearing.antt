@@ -12,13 +12,7 @@ use Rattle.group_defs.specs.Views.{IsView, quorum}
 use Rattle.group_defs.specs.Process.{Pool}
 use Rattle.group_defs.specs.Certified.{claim_on, heard_on, says, backers, is_certified, certified_on, number_of_members}
 use Rattle.rp_base.specs.Pids.{put_once}
-use Rattle.pool_laws.proofs.Growing.{is_certified-stays}
-use Rattle.pool_laws.proofs.Grown.{heard_on-new, other_certified, certified-stays, none-stays, new-certified}
-use Rattle.pool_laws.proofs.Members.{Mem, filter-mem, list_any-mem}
-use Rattle.pool_laws.proofs.Places.{Pairs, all-pairs, slice_get-front, slice_get-last}
-use Rattle.pool_laws.proofs.Slots.{same_slot-is, is-same_slot, same_statement-is, is-same_statement}
-use Rattle.pool_laws.proofs.Sorting.{mem-sorted, length-sorted}
-use Rattle.pool_laws.proofs.Tests.{and-first, and-second, map-some, some-and, some-same}
+use Rattle.claim_index.proofs.Below.{is_certified-stays, heard_on-new, other_certified, certified-stays, none-stays, new-certified, Mem, filter-mem, list_any-mem, Pairs, all-pairs, slice_get-front, slice_get-last, same_slot-is, is-same_slot, same_statement-is, is-same_statement, mem-sorted, length-sorted, and-first, and-second, map-some, some-and, some-same}
 use Rattle.claim_index.specs.Kept.{by_number, with_heard}
 use Rattle.claim_index.specs.declared.key.SlotKey.{SlotKey}
 use Rattle.claim_index.specs.Keys.{slot_key, same_slot_key}

@@ -5,9 +5,7 @@ use Rattle.std.proofs.lemmas.Bool.{eqb-true, eqb-false, eq-eqb, ne_eqb, ltb-true
 use Rattle.byte_defs.specs.Members.{has}
 use Rattle.byte_defs.specs.Orders.{put, sorted}
 use Rattle.rp_base.specs.Pids.{put_once}
-use Rattle.pool_laws.proofs.Members.{Mem, filter-mem}
-use Rattle.pool_laws.proofs.Places.{Pairs, mem-slice_get}
-use Rattle.pool_laws.proofs.Sorting.{mem-sorted, by_number, below-by_number}
+use Rattle.claim_index.proofs.Below.{Mem, filter-mem, Pairs, mem-slice_get, mem-sorted, by_number, below-by_number}
 use Rattle.claim_index.proofs.Signers.{put_once-new}
 
 -- two different numbers are put into a list in any order

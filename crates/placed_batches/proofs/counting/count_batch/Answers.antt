@@ -1,5 +1,5 @@
 use Rattle.std.proofs.Common.{◌≡◌, ◌∙◌, ◌+◌, ◌<◌, Some, length, sym, ap, subst, arith, slice_get}
-use Rattle.pool_laws.proofs.Places.{slice_get-index}
+use Rattle.rule_laws.proofs.Below.{slice_get-index}
 use Rattle.placed_batches.proofs.Counted.{SoFar, skipped, count-one}
 use Rattle.placed_batches.proofs.counting.count_batch.Goals as goal
 use Rattle.placed_batches.proofs.counting.count_batch.Goals.{in-Some, in_default}
