@@ -31,7 +31,7 @@ invariant_of-self c =
           c.self.invariant.now.kept c.requires.range fresh c.self.invariant.now.filled;
       noted = all_noted c.self.inside.bytes.items (claim c.args.claim.now) c.store_spelled-kept.result c.store_spelled-kept.ensures.start
           (c.store_spelled-kept.ensures.said ∙ ap length c.requires.spelled.0) c.store_spelled-kept.ensures.signed c.self.inside.kept
-          c.self.invariant.now.kept c.requires.range fresh c.self.inside.kinds c.kind.result c.kind.ensures c.self.reported
+          c.self.invariant.now.kept c.requires.range fresh c.self.inside.kinds c.kind.result c.kind.ensures c.self.told
           c.self.invariant.now.noted;
     }))
 
