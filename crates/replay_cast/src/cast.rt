@@ -19,6 +19,7 @@ use member_core::Core;
 use rp_base::{GroupId, NoMemory, Roster};
 use said_index::SaidIndex;
 use schedule_file::{Header, Scheme};
+use shared_checks::SharedScheme;
 use sig_scheme::AnyScheme;
 use std::alloc::Global;
 use view_table::View;
@@ -27,7 +28,7 @@ use view_table::View;
 #[derive(Drop)]
 pub struct Cast {
     pub group: GroupId,
-    pub scheme: AnyScheme,
+    pub scheme: SharedScheme,
 
     /// The public keys of all processes.
     pub roster: Roster,
@@ -58,11 +59,12 @@ fn genesis_of(header: &Header) -> View
     View::new(0, header.genesis.as_slice()).unwrap()
 }
 
-// A correct process, as it starts.
+// A correct process, as it starts. It shares what is checked by the scheme.
 fn player_of(
     alloc: Global,
     header: &Header,
     entries: &[Entry],
+    scheme: &SharedScheme,
     one: Keyed,
 ) -> Result<Player, NoMemory>
     requires header { schedules.IsHeader (views.header header.now) }
@@ -71,6 +73,7 @@ fn player_of(
     ensures { IfOk result (λ player. Starts (views.header header.now) one player) }
 {
     let roster = roster_of(alloc, entries)?;
+    let signer = scheme.signer(one.signer)?;
     let core = Core::new(
         alloc,
         header.group,
@@ -78,7 +81,7 @@ fn player_of(
         genesis_of(header),
         one.process,
         header.batch,
-        one.signer,
+        signer,
     )?;
     Ok(Player {
         process: one.process,
@@ -98,9 +101,10 @@ impl Cast {
         let all = keyed_of(alloc, header.scheme, &header.processes)?;
         let entries = entries_of(alloc, &all)?;
         let roster = roster_of(alloc, &entries)?;
+        let scheme = SharedScheme::new(alloc, scheme_of(header.scheme))?;
         let mut cast = Cast {
             group: header.group,
-            scheme: scheme_of(header.scheme),
+            scheme,
             roster,
             players: Vec::new(alloc),
             liars: Vec::new(alloc),
@@ -132,7 +136,7 @@ impl Cast {
             })?;
             return Ok(());
         }
-        let player = player_of(alloc, header, entries, one)?;
+        let player = player_of(alloc, header, entries, &self.scheme, one)?;
         self.players.push(player)?;
         Ok(())
     }

@@ -1,14 +1,14 @@
 use member_core::Core;
 use rp_base::{NoMemory, Pid};
 use said_index::SaidIndex;
-use sig_scheme::{AnyScheme, AnySigner};
+use shared_checks::{SharedScheme, SharedSigner};
 use stmt_codec::{Event, Outcome};
 
 /// A correct process of a schedule: a real one.
 #[derive(Drop)]
 pub struct Player {
     pub process: Pid,
-    pub core: Core<AnySigner>,
+    pub core: Core<SharedSigner>,
 
     /// All that it signed, over all views.
     pub said: SaidIndex,
@@ -24,7 +24,7 @@ impl Player {
 
     /// The process takes an event, with as many signatures as its key has left. Where memory runs out, it is as before, or has taken the
     /// event and not all is kept of what it said.
-    pub fn step(&mut self, scheme: &AnyScheme, event: &Event<'_>) -> Result<Outcome, NoMemory>
+    pub fn step(&mut self, scheme: &SharedScheme, event: &Event<'_>) -> Result<Outcome, NoMemory>
         ensures { (s : Setting) (c : plain.Player) → Plays s self.old c → s.valid ≡ is_valid (scheme_of scheme.now)
             → IfOk result (Stepped s c self.new event.now) }
     {

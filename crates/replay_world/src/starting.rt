@@ -121,7 +121,7 @@ impl World {
     pub fn scheme(&self) -> &AnyScheme
         ensures { result.now ≡ scheme_of self.now }
     {
-        &self.scheme
+        self.scheme.scheme()
     }
 
     /// How many events there were.

@@ -20,7 +20,7 @@ use happenings::{Handed, Happening, Reported, Seen};
 use replay_cast::{Liar, Player};
 use rp_base::{GroupId, NoMemory, Pid, PidSet, Roster};
 use schedule_file::ScheduleEvent;
-use sig_scheme::AnyScheme;
+use shared_checks::SharedScheme;
 use std::alloc::Global;
 use std::mem;
 use stmt_codec::{Event, EventFault, EventVerdict, Outcome, Payload, Sending};
@@ -37,7 +37,7 @@ pub struct Refused {
 /// definitions it is. After a fault it is to be given up.
 pub struct World {
     pub(crate) group: GroupId,
-    pub(crate) scheme: AnyScheme,
+    pub(crate) scheme: SharedScheme,
     pub(crate) roster: Roster,
 
     /// The correct processes, by rising numbers.
@@ -61,7 +61,7 @@ impl Drop for World {
     fn drop(self) {
         let World {
             group: _,
-            scheme: _,
+            scheme,
             roster,
             players,
             liars,
@@ -71,6 +71,7 @@ impl Drop for World {
             spent,
             count: _,
         } = self;
+        mem::drop(scheme);
         mem::drop(roster);
         mem::drop(players);
         mem::drop(liars);
@@ -90,7 +91,7 @@ fn place_of(players: &[Player], p: Pid) -> Option<usize>
 
 // The process at a place takes an event.
 fn step_at(
-    scheme: &AnyScheme,
+    scheme: &SharedScheme,
     players: &mut Vec<Player>,
     i: usize,
     event: &Event<'_>,

@@ -9,6 +9,7 @@ ghost use Rattle.said_index.specs.Among.{in_one_piece};
 
 use indexmap::Equivalent;
 use rp_base::NoMemory;
+use smallvec::SmallVec;
 use std::alloc::Global;
 use std::hash::{Hash, Hasher};
 use std::marker::Model;
@@ -16,7 +17,8 @@ use std::marker::Model;
 /// The bytes of a statement that was said. Contracts see their list.
 #[derive(Drop)]
 pub struct Spelled {
-    bytes: Vec<u8>,
+    // most statements have no more than these
+    bytes: SmallVec<u8, 64>,
 }
 
 impl Model for Spelled {
@@ -32,7 +34,7 @@ impl Spelled {
     pub fn copied(alloc: Global, bytes: &[u8]) -> Result<Spelled, NoMemory>
         ensures { IfOk result (λ s. s ≡ bytes.now) }
     {
-        let bytes = Vec::from_slice(alloc, bytes)?;
+        let bytes = SmallVec::from_slice(alloc, bytes)?;
         Ok(Spelled { bytes })
     }
 }

@@ -8,7 +8,8 @@ use bench_parts::{Counted, Work};
 use replay_cast::{Cast, Core, Event, Liar, Outcome, OwnClaim, Payload, Player, Sending};
 use rp_base::{GroupId, NoMemory, Pid, PidSet};
 use schedule_file::{Schedule, ScheduleEvent};
-use sig_scheme::{AnyScheme, AnySigner};
+use shared_checks::SharedSigner;
+use sig_scheme::AnyScheme;
 use std::alloc::Global;
 use std::collections::VecDeque;
 use stmt_codec::read_statement;
@@ -17,7 +18,7 @@ use stmt_codec::read_statement;
 #[derive(Drop)]
 struct Process {
     number: Pid,
-    core: Core<AnySigner>,
+    core: Core<SharedSigner>,
 }
 
 /// A frame that was sent.
@@ -123,6 +124,7 @@ impl Run {
             liars,
             ..
         } = cast;
+        let scheme = *scheme.scheme();
         if scheme != AnyScheme::Plain {
             return Err(anyhow!("blocks are counted of plain keys alone"));
         }

@@ -30,8 +30,8 @@ returns c = λ l keyed.
               genesis = sym c.genesis_of.ensures;
               kinds = refl;
             }));
-        total = ap total c.in_ok-core.ensures.signer ∙ keyed.signer.total;
-        signs = ap signature c.in_ok-core.ensures.signer ∙ keyed.signer.signs;
+        total = ap total (c.in_ok-core.ensures.signer ∙ c.in_ok-signer.ensures) ∙ keyed.signer.total;
+        signs = ap signature (c.in_ok-core.ensures.signer ∙ c.in_ok-signer.ensures) ∙ keyed.signer.signs;
       };
       said = c.new-2.ensures;
     }

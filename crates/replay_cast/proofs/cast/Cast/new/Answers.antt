@@ -36,7 +36,7 @@ returns c =
     c.in_ok-entries.ensures ∙ (ap (map key_of) c.deref-2.ensures.value ∙ keys_listed h.processes c.in_ok-all.all.items keyed) in
     record {
       group = c.add_all.ensures.group;
-      scheme = c.scheme_of.ensures ∙ ap (λ x. is_valid (scheme x)) (sym c.add_all.ensures.scheme);
+      scheme = c.scheme_of.ensures ∙ ap (λ x. is_valid (scheme x)) (sym (c.add_all.ensures.scheme ∙ c.in_ok-scheme.ensures));
       roster = c.add_all.ensures.roster ∙ (c.in_ok-roster.ensures ∙ (ap (map entry) c.deref-3.ensures.value ∙ same));
       processes = c.in_ok-add_all.ensures.adds;
     }
