@@ -3,10 +3,8 @@ use Rattle.std.proofs.Common.{◌≡◌, ◌==◌, ℕ, ◌<◌, List, [], ◌�
 use Rattle.std.specs.Prelude.{codes, if◌then◌else◌}
 use Rattle.text_defs.specs.Words.{words_of}
 use Rattle.interop_signatures.specs.Signatures as signatures
-use Rattle.interop_levels.specs.Levels as levels
 use Rattle.interop_frames.specs.Frames as frames
-use Rattle.interop_kits.specs.Kits as kits
-use Rattle.interop_schedules.specs.Schedules as schedules
+use Rattle.interop_files.specs.Files as files
 use Rattle.interop_node.specs.Questions as nodes
 use Rattle.interop_pool.specs.Questions as pools
 use Rattle.interop_store.specs.Questions as stores
@@ -14,48 +12,41 @@ use Rattle.interop_runs.specs.Runs as runs
 use Rattle.interop_runs.specs.Runs.{Runs}
 use Rattle.interop_lines.specs.Lines.{Answers, AnswersOnce}
 use Rattle.interop_signatures.proofs.SignatureLaws as of_signatures
-use Rattle.interop_levels.proofs.LevelLaws as of_levels
 use Rattle.interop_frames.proofs.FrameLaws as of_frames
-use Rattle.interop_kits.proofs.KitLaws as of_kits
-use Rattle.interop_schedules.proofs.ScheduleLaws as of_schedules
+use Rattle.interop_files.proofs.FileLaws as of_files
 use Rattle.interop_node.proofs.QuestionLaws as of_nodes
 use Rattle.interop_pool.proofs.QuestionLaws as of_pools
 use Rattle.interop_store.proofs.QuestionLaws as of_stores
 
--- a line that asks on no signature, no frame, no kit, no schedule, no journal and no datagram, on no pool and no conviction, and on no store
-none_once : (line reported : List ℕ) (ws ls vs us ss ns ps ts : List (List ℕ)) → ws ≡ words_of line → ls ≡ words_of line → vs ≡ words_of line
-    → us ≡ words_of line → ss ≡ words_of line → ns ≡ words_of line → ps ≡ words_of line → ts ≡ words_of line
-    → (signatures.Answers ws reported → ⊥) → (levels.Answers ls reported → ⊥) → (frames.Answers vs reported → ⊥) → (kits.Answers us reported → ⊥)
-    → (schedules.Answers ss reported → ⊥) → (nodes.Answers ns reported → ⊥) → (pools.Answers ps reported → ⊥) → (stores.Answers ts reported → ⊥)
+-- a line that asks on no signature, no frame, no file, no journal and no datagram, on no pool and no conviction, and on no store
+none_once : (line reported : List ℕ) (ws vs us ns ps ts : List (List ℕ)) → ws ≡ words_of line → vs ≡ words_of line → us ≡ words_of line
+    → ns ≡ words_of line → ps ≡ words_of line → ts ≡ words_of line
+    → (signatures.Answers ws reported → ⊥) → (frames.Answers vs reported → ⊥) → (files.Answers us reported → ⊥)
+    → (nodes.Answers ns reported → ⊥) → (pools.Answers ps reported → ⊥) → (stores.Answers ts reported → ⊥)
     → AnswersOnce line reported → ⊥
-none_once line reported ws ls vs us ss ns ps ts e l f g h k m n one two three four five six seven eight (inl a) =
+none_once line reported ws vs us ns ps ts e f g k m n one two three four five six (inl a) =
     one (subst (λ w. signatures.Answers w reported) (sym e) a)
-none_once line reported ws ls vs us ss ns ps ts e l f g h k m n one two three four five six seven eight (inr (inl a)) =
-    two (subst (λ w. levels.Answers w reported) (sym l) a)
-none_once line reported ws ls vs us ss ns ps ts e l f g h k m n one two three four five six seven eight (inr (inr (inl a))) =
-    three (subst (λ w. frames.Answers w reported) (sym f) a)
-none_once line reported ws ls vs us ss ns ps ts e l f g h k m n one two three four five six seven eight (inr (inr (inr (inl a)))) =
-    four (subst (λ w. kits.Answers w reported) (sym g) a)
-none_once line reported ws ls vs us ss ns ps ts e l f g h k m n one two three four five six seven eight (inr (inr (inr (inr (inl a))))) =
-    five (subst (λ w. schedules.Answers w reported) (sym h) a)
-none_once line reported ws ls vs us ss ns ps ts e l f g h k m n one two three four five six seven eight (inr (inr (inr (inr (inr (inl a)))))) =
-    six (subst (λ w. nodes.Answers w reported) (sym k) a)
-none_once line reported ws ls vs us ss ns ps ts e l f g h k m n one two three four five six seven eight (inr (inr (inr (inr (inr (inr (inl a))))))) =
-    seven (subst (λ w. pools.Answers w reported) (sym m) a)
-none_once line reported ws ls vs us ss ns ps ts e l f g h k m n one two three four five six seven eight (inr (inr (inr (inr (inr (inr (inr a))))))) =
-    eight (subst (λ w. stores.Answers w reported) (sym n) a)
+none_once line reported ws vs us ns ps ts e f g k m n one two three four five six (inr (inl a)) =
+    two (subst (λ w. frames.Answers w reported) (sym f) a)
+none_once line reported ws vs us ns ps ts e f g k m n one two three four five six (inr (inr (inl a))) =
+    three (subst (λ w. files.Answers w reported) (sym g) a)
+none_once line reported ws vs us ns ps ts e f g k m n one two three four five six (inr (inr (inr (inl a)))) =
+    four (subst (λ w. nodes.Answers w reported) (sym k) a)
+none_once line reported ws vs us ns ps ts e f g k m n one two three four five six (inr (inr (inr (inr (inl a))))) =
+    five (subst (λ w. pools.Answers w reported) (sym m) a)
+none_once line reported ws vs us ns ps ts e f g k m n one two three four five six (inr (inr (inr (inr (inr a))))) =
+    six (subst (λ w. stores.Answers w reported) (sym n) a)
 
 -- and for no run
-pub none : (R : Runs) (line reported : List ℕ) (ws ls vs us ss ns ps ts rs : List (List ℕ)) → ws ≡ words_of line → ls ≡ words_of line
-    → vs ≡ words_of line → us ≡ words_of line → ss ≡ words_of line → ns ≡ words_of line → ps ≡ words_of line → ts ≡ words_of line
-    → rs ≡ words_of line
-    → (signatures.Answers ws reported → ⊥) → (levels.Answers ls reported → ⊥) → (frames.Answers vs reported → ⊥) → (kits.Answers us reported → ⊥)
-    → (schedules.Answers ss reported → ⊥) → (nodes.Answers ns reported → ⊥) → (pools.Answers ps reported → ⊥) → (stores.Answers ts reported → ⊥)
+pub none : (R : Runs) (line reported : List ℕ) (ws vs us ns ps ts rs : List (List ℕ)) → ws ≡ words_of line → vs ≡ words_of line
+    → us ≡ words_of line → ns ≡ words_of line → ps ≡ words_of line → ts ≡ words_of line → rs ≡ words_of line
+    → (signatures.Answers ws reported → ⊥) → (frames.Answers vs reported → ⊥) → (files.Answers us reported → ⊥)
+    → (nodes.Answers ns reported → ⊥) → (pools.Answers ps reported → ⊥) → (stores.Answers ts reported → ⊥)
     → (runs.Answers R rs reported → ⊥) → Answers R line reported → ⊥
-none R line reported ws ls vs us ss ns ps ts rs e l f g h k m n r one two three four five six seven eight nine (inl a) =
-    none_once line reported ws ls vs us ss ns ps ts e l f g h k m n one two three four five six seven eight a
-none R line reported ws ls vs us ss ns ps ts rs e l f g h k m n r one two three four five six seven eight nine (inr a) =
-    nine (subst (λ w. runs.Answers R w reported) (sym r) a)
+none R line reported ws vs us ns ps ts rs e f g k m n r one two three four five six seven (inl a) =
+    none_once line reported ws vs us ns ps ts e f g k m n one two three four five six a
+none R line reported ws vs us ns ps ts rs e f g k m n r one two three four five six seven (inr a) =
+    seven (subst (λ w. runs.Answers R w reported) (sym r) a)
 
 -- ---- a number for each kind of question
 
@@ -67,88 +58,74 @@ abbrev second_letter : List ℕ → ℕ
 second_letter [] = 0
 second_letter (letter ∷ word) = first_letter word
 
--- what begins with `verify lms`, with `lms`, `hss`, `frame`, `statement`, `kit`, `schedule`, `journal`, `datagram`, `pool`, `convicted`, `apply`,
--- `reply` and `state`
-of_words : List ℕ → List ℕ → ℕ
-of_words first second =
-    if first_letter first == 118 then (if first_letter second == 108 then 0 else 1)
+-- what begins with `verify`, `lms` and `hss`; `frame` and `statement`; `kit` and `schedule`; `journal` and `datagram`; `pool` and
+-- `convicted`; `apply`, `reply` and `state`
+of_word : List ℕ → ℕ
+of_word first =
+    if first_letter first == 118 then 0
     else if first_letter first == 108 then 0
-    else if first_letter first == 104 then 1
-    else if first_letter first == 102 then 2
-    else if first_letter first == 107 then 3
-    else if first_letter first == 106 then 5
-    else if first_letter first == 100 then 5
-    else if first_letter first == 112 then 6
-    else if first_letter first == 99 then 6
-    else if first_letter first == 97 then 7
-    else if first_letter first == 114 then 7
-    else if second_letter first == 116 then (if length first == 5 then 7 else 2)
-    else 4
+    else if first_letter first == 104 then 0
+    else if first_letter first == 102 then 1
+    else if first_letter first == 107 then 2
+    else if first_letter first == 106 then 3
+    else if first_letter first == 100 then 3
+    else if first_letter first == 112 then 4
+    else if first_letter first == 99 then 4
+    else if first_letter first == 97 then 5
+    else if first_letter first == 114 then 5
+    else if second_letter first == 116 then (if length first == 5 then 5 else 1)
+    else 2
 
 number : List (List ℕ) → ℕ
-number [] = 8
-number (first ∷ []) = 8
-number (first ∷ second ∷ words) = of_words first second
+number [] = 6
+number (first ∷ words) = of_word first
 
 asks_signature : (ws : List (List ℕ)) (x : List ℕ) → signatures.Answers ws x → number ws ≡ 0
-unfolding number of_words
+unfolding number of_word
 asks_signature ws x a = of a.question a.asked
   where
     of : (q : signatures.Question) → ws ≡ signatures.spelled q → number ws ≡ 0
-    of (signatures.Verify key body sig) is = ap number is
-    of (signatures.Sign s) is = ap number is
+    of (signatures.Verify scheme key body sig) is = ap number is
+    of (signatures.SignByTree s) is = ap number is
+    of (signatures.SignByLevels s) is = ap number is
 
-asks_levels : (ws : List (List ℕ)) (x : List ℕ) → levels.Answers ws x → number ws ≡ 1
-unfolding number of_words
-asks_levels ws x a = of a.question a.asked
-  where
-    of : (q : levels.Question) → ws ≡ levels.spelled q → number ws ≡ 1
-    of (levels.Verify key body sig) is = ap number is
-    of (levels.Sign s) is = ap number is
-
-asks_frame : (ws : List (List ℕ)) (x : List ℕ) → frames.Answers ws x → number ws ≡ 2
-unfolding number of_words
+asks_frame : (ws : List (List ℕ)) (x : List ℕ) → frames.Answers ws x → number ws ≡ 1
+unfolding number of_word
 asks_frame ws x a = of a.question a.asked
   where
-    of : (q : frames.Question) → ws ≡ frames.spelled q → number ws ≡ 2
+    of : (q : frames.Question) → ws ≡ frames.spelled q → number ws ≡ 1
     of (frames.OfFrame bytes) is = ap number is
     of (frames.OfStatement bytes) is = ap number is
 
-asks_kit : (ws : List (List ℕ)) (x : List ℕ) → kits.Answers ws x → number ws ≡ 3
-unfolding number of_words
-asks_kit ws x a = of a.question a.asked
+asks_file : (ws : List (List ℕ)) (x : List ℕ) → files.Answers ws x → number ws ≡ 2
+unfolding number of_word
+asks_file ws x a = of a.question a.asked
   where
-    of : (q : kits.Question) → ws ≡ kits.spelled q → number ws ≡ 3
-    of (kits.OfKit bytes) is = ap number is
+    of : (q : files.Question) → ws ≡ files.spelled q → number ws ≡ 2
+    of (files.OfKit bytes) is = ap number is
+    of (files.OfSchedule bytes) is = ap number is
 
-asks_schedule : (ws : List (List ℕ)) (x : List ℕ) → schedules.Answers ws x → number ws ≡ 4
-unfolding number of_words
-asks_schedule ws x a = of a.question a.asked
-  where
-    of : (q : schedules.Question) → ws ≡ schedules.spelled q → number ws ≡ 4
-    of (schedules.OfSchedule bytes) is = ap number is
-
-asks_node : (ws : List (List ℕ)) (x : List ℕ) → nodes.Answers ws x → number ws ≡ 5
-unfolding number of_words
+asks_node : (ws : List (List ℕ)) (x : List ℕ) → nodes.Answers ws x → number ws ≡ 3
+unfolding number of_word
 asks_node ws x a = of a.question a.asked
   where
-    of : (q : nodes.Question) → ws ≡ nodes.spelled q → number ws ≡ 5
+    of : (q : nodes.Question) → ws ≡ nodes.spelled q → number ws ≡ 3
     of (nodes.OfJournal bytes) is = ap number is
     of (nodes.OfDatagram key bytes) is = ap number is
 
-asks_pool : (ws : List (List ℕ)) (x : List ℕ) → pools.Answers ws x → number ws ≡ 6
-unfolding number of_words
+asks_pool : (ws : List (List ℕ)) (x : List ℕ) → pools.Answers ws x → number ws ≡ 4
+unfolding number of_word
 asks_pool ws x a = of a.question a.asked
   where
-    of : (q : pools.Question) → ws ≡ pools.spelled q → number ws ≡ 6
+    of : (q : pools.Question) → ws ≡ pools.spelled q → number ws ≡ 4
     of (pools.OfPool view members counts frame) is = ap number is
     of (pools.OfConvicted frame) is = ap number is
 
-asks_store : (ws : List (List ℕ)) (x : List ℕ) → stores.Answers ws x → number ws ≡ 7
-unfolding number of_words
+asks_store : (ws : List (List ℕ)) (x : List ℕ) → stores.Answers ws x → number ws ≡ 5
+unfolding number of_word
 asks_store ws x a = of a.question a.fits a.asked
   where
-    of : (q : stores.Question) → stores.IsQuestion q → ws ≡ stores.spelled q → number ws ≡ 7
+    of : (q : stores.Question) → stores.IsQuestion q → ws ≡ stores.spelled q → number ws ≡ 5
     of (stores.OfApply []) fits is = absurd (omega (arith, fits.0))
     of (stores.OfApply (payload ∷ payloads)) fits is = ap number is
     of (stores.OfReply bytes) fits is = ap number is
@@ -179,62 +156,44 @@ module _ (P Q : List (List ℕ) → List ℕ → Type 0) (n m : ℕ) (is : IsKin
   both_later ws x (inl a) = omega (arith, is ws x a, less)
   both_later ws x (inr b) = omega (arith, later ws x b, less)
 
-abbrev From6 : List (List ℕ) → List ℕ → Type 0
-From6 ws x = pools.Answers ws x ⊎ stores.Answers ws x
-
-abbrev From5 : List (List ℕ) → List ℕ → Type 0
-From5 ws x = nodes.Answers ws x ⊎ From6 ws x
-
 abbrev From4 : List (List ℕ) → List ℕ → Type 0
-From4 ws x = schedules.Answers ws x ⊎ From5 ws x
+From4 ws x = pools.Answers ws x ⊎ stores.Answers ws x
 
 abbrev From3 : List (List ℕ) → List ℕ → Type 0
-From3 ws x = kits.Answers ws x ⊎ From4 ws x
+From3 ws x = nodes.Answers ws x ⊎ From4 ws x
 
 abbrev From2 : List (List ℕ) → List ℕ → Type 0
-From2 ws x = frames.Answers ws x ⊎ From3 ws x
+From2 ws x = files.Answers ws x ⊎ From3 ws x
 
 abbrev From1 : List (List ℕ) → List ℕ → Type 0
-From1 ws x = levels.Answers ws x ⊎ From2 ws x
+From1 ws x = frames.Answers ws x ⊎ From2 ws x
 
-last : IsFrom stores.Answers 6
+last : IsFrom stores.Answers 4
 last ws x a = omega (arith, asks_store ws x a)
 
-later5 : IsFrom From6 5
-later5 = both_later pools.Answers stores.Answers 5 6 asks_pool last (omega arith)
-
-later4 : IsFrom From5 4
-later4 = both_later nodes.Answers From6 4 5 asks_node later5 (omega arith)
-
 later3 : IsFrom From4 3
-later3 = both_later schedules.Answers From5 3 4 asks_schedule later4 (omega arith)
+later3 = both_later pools.Answers stores.Answers 3 4 asks_pool last (omega arith)
 
 later2 : IsFrom From3 2
-later2 = both_later kits.Answers From4 2 3 asks_kit later3 (omega arith)
+later2 = both_later nodes.Answers From4 2 3 asks_node later3 (omega arith)
 
 later1 : IsFrom From2 1
-later1 = both_later frames.Answers From3 1 2 asks_frame later2 (omega arith)
+later1 = both_later files.Answers From3 1 2 asks_file later2 (omega arith)
 
 later0 : IsFrom From1 0
-later0 = both_later levels.Answers From2 0 1 asks_levels later1 (omega arith)
-
-one6 : HasOne From6
-one6 = both_one pools.Answers stores.Answers 6 asks_pool last of_pools.one_answer of_stores.one_answer
-
-one5 : HasOne From5
-one5 = both_one nodes.Answers From6 5 asks_node later5 of_nodes.one_answer one6
+later0 = both_later frames.Answers From2 0 1 asks_frame later1 (omega arith)
 
 one4 : HasOne From4
-one4 = both_one schedules.Answers From5 4 asks_schedule later4 of_schedules.one_answer one5
+one4 = both_one pools.Answers stores.Answers 4 asks_pool last of_pools.one_answer of_stores.one_answer
 
 one3 : HasOne From3
-one3 = both_one kits.Answers From4 3 asks_kit later3 of_kits.one_answer one4
+one3 = both_one nodes.Answers From4 3 asks_node later3 of_nodes.one_answer one4
 
 one2 : HasOne From2
-one2 = both_one frames.Answers From3 2 asks_frame later2 of_frames.one_answer one3
+one2 = both_one files.Answers From3 2 asks_file later2 of_files.one_answer one3
 
 one1 : HasOne From1
-one1 = both_one levels.Answers From2 1 asks_levels later1 of_levels.one_answer one2
+one1 = both_one frames.Answers From2 1 asks_frame later1 of_frames.one_answer one2
 
 -- no line asks two questions of different kinds, and each has one answer
 pub one_answer : (line a b : List ℕ) → AnswersOnce line a → AnswersOnce line b → a ≡ b
@@ -259,22 +218,18 @@ module _ (ws rest : List (List ℕ)) (is : ws ≡ codes "run" ∷ rest) where
   next_other spelled n e goes = sym (ap next_letter is) ∙ ap next_letter e ∙ goes
 
   no_signature : (q : signatures.Question) → ws ≡ signatures.spelled q → ⊥
-  no_signature (signatures.Verify key body sig) e = absurd (omega (arith, other (signatures.spelled (signatures.Verify key body sig)) 118 e refl))
-  no_signature (signatures.Sign s) e = absurd (omega (arith, other (signatures.spelled (signatures.Sign s)) 108 e refl))
-
-  no_levels : (q : levels.Question) → ws ≡ levels.spelled q → ⊥
-  no_levels (levels.Verify key body sig) e = absurd (omega (arith, other (levels.spelled (levels.Verify key body sig)) 118 e refl))
-  no_levels (levels.Sign s) e = absurd (omega (arith, other (levels.spelled (levels.Sign s)) 104 e refl))
+  no_signature (signatures.Verify scheme key body sig) e =
+      absurd (omega (arith, other (signatures.spelled (signatures.Verify scheme key body sig)) 118 e refl))
+  no_signature (signatures.SignByTree s) e = absurd (omega (arith, other (signatures.spelled (signatures.SignByTree s)) 108 e refl))
+  no_signature (signatures.SignByLevels s) e = absurd (omega (arith, other (signatures.spelled (signatures.SignByLevels s)) 104 e refl))
 
   no_frame : (q : frames.Question) → ws ≡ frames.spelled q → ⊥
   no_frame (frames.OfFrame bytes) e = absurd (omega (arith, other (frames.spelled (frames.OfFrame bytes)) 102 e refl))
   no_frame (frames.OfStatement bytes) e = absurd (omega (arith, other (frames.spelled (frames.OfStatement bytes)) 115 e refl))
 
-  no_kit : (q : kits.Question) → ws ≡ kits.spelled q → ⊥
-  no_kit (kits.OfKit bytes) e = absurd (omega (arith, other (kits.spelled (kits.OfKit bytes)) 107 e refl))
-
-  no_schedule : (q : schedules.Question) → ws ≡ schedules.spelled q → ⊥
-  no_schedule (schedules.OfSchedule bytes) e = absurd (omega (arith, other (schedules.spelled (schedules.OfSchedule bytes)) 115 e refl))
+  no_file : (q : files.Question) → ws ≡ files.spelled q → ⊥
+  no_file (files.OfKit bytes) e = absurd (omega (arith, other (files.spelled (files.OfKit bytes)) 107 e refl))
+  no_file (files.OfSchedule bytes) e = absurd (omega (arith, other (files.spelled (files.OfSchedule bytes)) 115 e refl))
 
   no_node : (q : nodes.Question) → ws ≡ nodes.spelled q → ⊥
   no_node (nodes.OfJournal bytes) e = absurd (omega (arith, other (nodes.spelled (nodes.OfJournal bytes)) 106 e refl))
@@ -291,10 +246,8 @@ module _ (ws rest : List (List ℕ)) (is : ws ≡ codes "run" ∷ rest) where
 
 pub run_alone : (line reported : List ℕ) (rest : List (List ℕ)) → words_of line ≡ codes "run" ∷ rest → AnswersOnce line reported → ⊥
 run_alone line reported rest is (inl a) = no_signature (words_of line) rest is a.question a.asked
-run_alone line reported rest is (inr (inl a)) = no_levels (words_of line) rest is a.question a.asked
-run_alone line reported rest is (inr (inr (inl a))) = no_frame (words_of line) rest is a.question a.asked
-run_alone line reported rest is (inr (inr (inr (inl a)))) = no_kit (words_of line) rest is a.question a.asked
-run_alone line reported rest is (inr (inr (inr (inr (inl a))))) = no_schedule (words_of line) rest is a.question a.asked
-run_alone line reported rest is (inr (inr (inr (inr (inr (inl a)))))) = no_node (words_of line) rest is a.question a.asked
-run_alone line reported rest is (inr (inr (inr (inr (inr (inr (inl a))))))) = no_pool (words_of line) rest is a.question a.asked
-run_alone line reported rest is (inr (inr (inr (inr (inr (inr (inr a))))))) = no_store (words_of line) rest is a.question a.asked
+run_alone line reported rest is (inr (inl a)) = no_frame (words_of line) rest is a.question a.asked
+run_alone line reported rest is (inr (inr (inl a))) = no_file (words_of line) rest is a.question a.asked
+run_alone line reported rest is (inr (inr (inr (inl a)))) = no_node (words_of line) rest is a.question a.asked
+run_alone line reported rest is (inr (inr (inr (inr (inl a))))) = no_pool (words_of line) rest is a.question a.asked
+run_alone line reported rest is (inr (inr (inr (inr (inr a))))) = no_store (words_of line) rest is a.question a.asked

@@ -2,10 +2,8 @@
 use Rattle.std.specs.Prelude.{◌≡◌, ◌⊎◌, ℕ, List, ◌∷◌, codes}
 use Rattle.text_defs.specs.Words.{words_of}
 use Rattle.interop_signatures.specs.Signatures as signatures
-use Rattle.interop_levels.specs.Levels as levels
 use Rattle.interop_frames.specs.Frames as frames
-use Rattle.interop_kits.specs.Kits as kits
-use Rattle.interop_schedules.specs.Schedules as schedules
+use Rattle.interop_files.specs.Files as files
 use Rattle.interop_node.specs.Questions as nodes
 use Rattle.interop_pool.specs.Questions as pools
 use Rattle.interop_store.specs.Questions as stores
@@ -15,10 +13,8 @@ use Rattle.interop_runs.specs.Runs.{Runs}
 -- the line's words are those of a question that is about the line alone, and this is what is answered
 abbrev pub AnswersOnce : List ℕ → List ℕ → Type 0
 AnswersOnce line reported =
-    signatures.Answers (words_of line) reported ⊎ levels.Answers (words_of line) reported ⊎ frames.Answers (words_of line) reported
-    ⊎ kits.Answers (words_of line) reported
-    ⊎ schedules.Answers (words_of line) reported ⊎ nodes.Answers (words_of line) reported
-    ⊎ pools.Answers (words_of line) reported ⊎ stores.Answers (words_of line) reported
+    signatures.Answers (words_of line) reported ⊎ frames.Answers (words_of line) reported ⊎ files.Answers (words_of line) reported
+    ⊎ nodes.Answers (words_of line) reported ⊎ pools.Answers (words_of line) reported ⊎ stores.Answers (words_of line) reported
 
 -- the line's words are those of a question, one about the line alone or one about a run of the program, and this is what is answered, by what
 -- a run may come to

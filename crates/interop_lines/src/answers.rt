@@ -1,13 +1,11 @@
 ghost use Rattle.std.specs.Prelude.{ℕ, List, IfOk, IsErrOf};
 ghost use Rattle.interop_lines.specs.Lines.{Answers};
 
+use interop_files::answer_files;
 use interop_frames::answer_frames;
-use interop_kits::answer_kits;
-use interop_levels::answer_levels;
 use interop_node::answer_nodes;
 use interop_pool::answer_pools;
 use interop_runs::{Program, answer_runs};
-use interop_schedules::answer_schedules;
 use interop_signatures::answer_signatures;
 use interop_store::answer_stores;
 use interop_words::{LineFault, words_of};
@@ -42,20 +40,12 @@ pub fn answer<P: Program>(alloc: Global, program: &P, line: &[u8]) -> Result<Vec
 {
     let words = words_of(alloc, line)?;
     match answer_signatures(alloc, &words) {
-        Err(LineFault::NoQuestion) => match answer_levels(alloc, &words) {
-            Err(LineFault::NoQuestion) => match answer_frames(alloc, &words) {
-                Err(LineFault::NoQuestion) => match answer_kits(alloc, &words) {
-                    Err(LineFault::NoQuestion) => match answer_schedules(alloc, &words) {
-                        Err(LineFault::NoQuestion) => match answer_nodes(alloc, &words) {
-                            Err(LineFault::NoQuestion) => match answer_pools(alloc, &words) {
-                                Err(LineFault::NoQuestion) => match answer_stores(alloc, &words) {
-                                    Err(LineFault::NoQuestion) => answer_runs(
-                                        alloc, program, &words,
-                                    ),
-                                    answered => answered,
-                                },
-                                answered => answered,
-                            },
+        Err(LineFault::NoQuestion) => match answer_frames(alloc, &words) {
+            Err(LineFault::NoQuestion) => match answer_files(alloc, &words) {
+                Err(LineFault::NoQuestion) => match answer_nodes(alloc, &words) {
+                    Err(LineFault::NoQuestion) => match answer_pools(alloc, &words) {
+                        Err(LineFault::NoQuestion) => match answer_stores(alloc, &words) {
+                            Err(LineFault::NoQuestion) => answer_runs(alloc, program, &words),
                             answered => answered,
                         },
                         answered => answered,

@@ -10,7 +10,7 @@ use Rattle.journal_defs.specs.declared.Version.TheVariants.{One, Two}
 use Rattle.journal_defs.specs.Entries.{Entry, IsEntry, Reading}
 use Rattle.journal_defs.specs.Journals.{BreaksAt, ReadsAs, behind_gate, batch_limit, magic, open_gate, record_at, record_bytes, up_to_gate}
 use Rattle.journal_defs.proofs.Recording.{one_reading, record_is_read}
-use Rattle.interop_node.specs.Journals.{BeginsAs, OneSaid, Says, SaysBroken, SaysEntries, SaysNothing, entry_words, header_of}
+use Rattle.interop_node.specs.Journals.{BeginsAs, OneSaid, SaysOfJournal, SaysBroken, SaysEntries, SaysNothing, entry_words, header_of}
 
 -- ---- records at one place
 

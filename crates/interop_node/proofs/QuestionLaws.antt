@@ -6,12 +6,13 @@ use Rattle.std.proofs.lemmas.Slice.Eq.{bytes_eq-Decides}
 use Rattle.hex.specs.Hex.{encode_lower}
 use Rattle.text_defs.specs.Words.{AreBytes, Spells, bytes_word}
 use Rattle.text_codec.proofs.Spelled.{digits_once, spelled_once}
-use Rattle.interop_node.specs.Journals.{Says}
+use Rattle.interop_node.specs.Journals.{SaysOfJournal}
 use Rattle.interop_node.specs.Datagrams.{datagram_answer}
 use Rattle.interop_node.specs.Questions.{Answers, IsAnswerTo, IsQuestion, OfDatagram, OfJournal, Question, spelled}
 use Rattle.interop_node.proofs.JournalLaws.{one_said}
 
-pub journal_answers : (word bytes reported : List ℕ) → Spells word bytes → Says bytes reported → Answers (codes "journal" ∷ word ∷ []) reported
+pub journal_answers : (word bytes reported : List ℕ) → Spells word bytes → SaysOfJournal bytes reported
+    → Answers (codes "journal" ∷ word ∷ []) reported
 journal_answers word bytes reported s says = record {
   question = OfJournal bytes;
   fits = s.0;
@@ -55,7 +56,7 @@ one_answer words x y a b = of a.question b.question a.fits b.fits a.asked b.aske
   where
     of : (p q : Question) → IsQuestion p → IsQuestion q → words ≡ spelled p → words ≡ spelled q → IsAnswerTo p x → IsAnswerTo q y → x ≡ y
     of (OfJournal m) (OfJournal n) fm fn is also t u = one_said m x y t
-        (subst (λ (bytes : List ℕ). Says bytes y) (sym (spelled_once (bytes_word m) m n (fm, refl) (fn, cc))) u)
+        (subst (λ (bytes : List ℕ). SaysOfJournal bytes y) (sym (spelled_once (bytes_word m) m n (fm, refl) (fn, cc))) u)
     of (OfDatagram k m) (OfDatagram l n) fm fn is also t u =
         let key : k ≡ l = digits_once k l fm.0.1 fn.0.1 cc in
         let bytes = spelled_once (bytes_word m) m n (fm.1, refl) (fn.1, cc) in

@@ -1,7 +1,7 @@
 -- What bytes say as a journal.
 -- Names here (* for this crate alone):
 --   event_words*, spent_word*, signature_words*, entry_words*
---   what the bytes are: header_of*, BeginsAs*, SaysEntries*, SaysBroken*, SaysNothing*, Says*, OneSaid*
+--   what the bytes are: header_of*, BeginsAs*, SaysEntries*, SaysBroken*, SaysNothing*, SaysOfJournal*, OneSaid*
 use Rattle.std.specs.Prelude.{◌≡◌, ◌⊎◌, ℕ, ◌<◌, Bool, true, false, List, ◌++◌, length, take, codes}
 use Rattle.std.specs.List.{flat_map}
 use Rattle.std.specs.Fmt.{decimal}
@@ -63,9 +63,9 @@ pub record SaysNothing (bytes reported : List ℕ) : Type 0 where
   pub no_journal : (v : Version) → ¬ BeginsAs v bytes
   pub reported_is : reported ≡ codes "notajournal"
 
-abbrev pub Says : List ℕ → List ℕ → Type 0
-Says bytes reported = SaysEntries bytes reported ⊎ SaysBroken bytes reported ⊎ SaysNothing bytes reported
+abbrev pub SaysOfJournal : List ℕ → List ℕ → Type 0
+SaysOfJournal bytes reported = SaysEntries bytes reported ⊎ SaysBroken bytes reported ⊎ SaysNothing bytes reported
 
 -- of the same bytes one thing is said
 abbrev pub OneSaid : Type 0
-OneSaid = (bytes x y : List ℕ) → Says bytes x → Says bytes y → x ≡ y
+OneSaid = (bytes x y : List ℕ) → SaysOfJournal bytes x → SaysOfJournal bytes y → x ≡ y

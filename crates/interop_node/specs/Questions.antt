@@ -2,7 +2,7 @@
 use Rattle.std.specs.Prelude.{◌≡◌, ℕ, List, [], ◌∷◌, codes}
 use Rattle.hex.specs.Hex.{IsBytes, encode_lower}
 use Rattle.text_defs.specs.Words.{AreBytes, bytes_word}
-use Rattle.interop_node.specs.Journals.{Says}
+use Rattle.interop_node.specs.Journals.{SaysOfJournal}
 use Rattle.interop_node.specs.Datagrams.{datagram_answer}
 
 pub data Question : Type 0 where
@@ -21,7 +21,7 @@ spelled (OfJournal bytes) = codes "journal" ∷ bytes_word bytes ∷ []
 spelled (OfDatagram key bytes) = codes "datagram" ∷ encode_lower key ∷ bytes_word bytes ∷ []
 
 abbrev pub IsAnswerTo : Question → List ℕ → Type 0
-IsAnswerTo (OfJournal bytes) reported = Says bytes reported
+IsAnswerTo (OfJournal bytes) reported = SaysOfJournal bytes reported
 IsAnswerTo (OfDatagram key bytes) reported = reported ≡ datagram_answer key bytes
 
 -- the words are those of a question on a journal or a datagram, and this is what is answered

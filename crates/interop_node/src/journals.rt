@@ -6,7 +6,7 @@ ghost use Rattle.journal_defs.specs.Entries as plain;
 ghost use Rattle.journal_defs.specs.Journals.{BreaksAt, ReadsAs, batch_limit, magic};
 ghost use Rattle.journal_entries.specs.Views.{entry as entry_of, event as event_of};
 ghost use Rattle.stmt_codec.specs.Kept.{signatures_left};
-ghost use Rattle.interop_node.specs.Journals.{BeginsAs, Says, entry_words, event_words, header_of, signature_words, spent_word};
+ghost use Rattle.interop_node.specs.Journals.{BeginsAs, SaysOfJournal, entry_words, event_words, header_of, signature_words, spent_word};
 
 use journal_defs::Version;
 use journal_entries::entry_at;
@@ -164,7 +164,7 @@ fn place_words(alloc: Global, place: u64) -> Result<Vec<u8>, NoMemory>
 /// What the bytes say as a journal: `journal LIMIT` and for each entry ` entry PROCESS EVENT SPENT` and its signatures; or `entry PLACE`,
 /// the place of a gate that is open and that no whole entry and next gate follow; or `notajournal`.
 pub(crate) fn answer_journal(alloc: Global, bytes: &[u8]) -> Result<Vec<u8>, NoMemory>
-    ensures { IfOk result (λ reported. Says bytes.now reported.items) }
+    ensures { IfOk result (λ reported. SaysOfJournal bytes.now reported.items) }
 {
     let Some(version) = version_of(bytes) else {
         return Ok(b"notajournal".to_vec(alloc)?);

@@ -7,14 +7,15 @@ use Rattle.std.proofs.lemmas.Fmt.{decimal_injective}
 use Rattle.std.proofs.lemmas.Slice.Eq.{bytes_eq-Decides}
 use Rattle.text_defs.specs.Words.{Spells, bytes_word}
 use Rattle.text_codec.proofs.Spelled.{spelled_once}
-use Rattle.interop_pool.specs.Questions.{Answers, IsAnswerTo, IsQuestion, OfConvicted, OfPool, Question, Says, claims_in, convicted_words, spelled}
+use Rattle.interop_pool.specs.Questions.{Answers, IsAnswerTo, IsQuestion, OfConvicted, OfPool, Question, SaysOfPool, claims_in, convicted_words, spelled}
 
 -- the line of these words behind `pool`
 abbrev pub asking : List ℕ → List ℕ → List ℕ → List ℕ → List (List ℕ)
 asking number members counts frame = codes "pool" ∷ number ∷ members ∷ counts ∷ frame ∷ []
 
 pub pool_answers : (n m c f : List ℕ) (number : ℕ) (members counts frame reported : List ℕ) → n ≡ decimal number → number ≤ 1023
-    → Spells m members → Spells c counts → Spells f frame → Says number members counts frame reported → Answers (asking n m c f) reported
+    → Spells m members → Spells c counts → Spells f frame → SaysOfPool number members counts frame reported
+    → Answers (asking n m c f) reported
 pool_answers n m c f number members counts frame reported sn low sm sc sf says = record {
   question = OfPool number members counts frame;
   fits = (low, sm.0, sc.0, sf.0);
@@ -47,7 +48,8 @@ five_words ws d b verb r more less e passes is = five ws d verb more less ((byte
 
 -- ---- one answer
 
-one_said : (number : ℕ) (members counts frame x y : List ℕ) → Says number members counts frame x → Says number members counts frame y → x ≡ y
+one_said : (number : ℕ) (members counts frame x y : List ℕ) → SaysOfPool number members counts frame x
+    → SaysOfPool number members counts frame y → x ≡ y
 one_said number members counts frame x y (inl a) (inl b) = a.1 ∙ sym b.1
 one_said number members counts frame x y (inl a) (inr b) = absurd (b.0 a.0)
 one_said number members counts frame x y (inr a) (inl b) = absurd (a.0 b.0)
@@ -62,9 +64,9 @@ one_answer words x y a b = of a.question b.question a.fits b.fits a.asked b.aske
         let members : ms ≡ ns = spelled_once (bytes_word ms) ms ns (fm.1, refl) (fn.1, cc) in
         let counts : cs ≡ ds = spelled_once (bytes_word cs) cs ds (fm.2, refl) (fn.2, cc) in
         let frame : f ≡ g = spelled_once (bytes_word f) f g (fm.3, refl) (fn.3, cc) in
-        let says : Says m ms cs f y = subst (λ (n : ℕ). Says n ms cs f y) (sym number)
-        (subst (λ (ns : List ℕ). Says n ns cs f y) (sym members) (subst (λ (ds : List ℕ). Says n ns ds f y) (sym counts)
-        (subst (λ (g : List ℕ). Says n ns ds g y) (sym frame) u))) in
+        let says : SaysOfPool m ms cs f y = subst (λ (n : ℕ). SaysOfPool n ms cs f y) (sym number)
+        (subst (λ (ns : List ℕ). SaysOfPool n ns cs f y) (sym members) (subst (λ (ds : List ℕ). SaysOfPool n ns ds f y) (sym counts)
+        (subst (λ (g : List ℕ). SaysOfPool n ns ds g y) (sym frame) u))) in
         one_said m ms cs f x y t says
     of (OfConvicted m) (OfConvicted n) fm fn is also t u =
         t ∙ ap (λ (f : List ℕ). convicted_words (claims_in f)) (spelled_once (bytes_word m) m n (fm, refl) (fn, cc)) ∙ sym u

@@ -26,8 +26,8 @@ said v counts (Ok claims) = heard_words (hearer v counts) claims
 said v counts (Err fault) = fault_word fault
 
 -- what a process that has delivered `counts` of the messages of each member hears of the frame in this view; or `noview`
-abbrev pub Says : ℕ → List ℕ → List ℕ → List ℕ → List ℕ → Type 0
-Says number members counts frame reported =
+abbrev pub SaysOfPool : ℕ → List ℕ → List ℕ → List ℕ → List ℕ → Type 0
+SaysOfPool number members counts frame reported =
     (IsHearer number members counts × (reported ≡ said (as_view number members) counts (claims_in frame)))
     ⊎ ((¬ IsHearer number members counts) × (reported ≡ codes "noview"))
 
@@ -55,7 +55,7 @@ spelled (OfPool number members counts frame) =
 spelled (OfConvicted frame) = codes "convicted" ∷ bytes_word frame ∷ []
 
 abbrev pub IsAnswerTo : Question → List ℕ → Type 0
-IsAnswerTo (OfPool number members counts frame) reported = Says number members counts frame reported
+IsAnswerTo (OfPool number members counts frame) reported = SaysOfPool number members counts frame reported
 IsAnswerTo (OfConvicted frame) reported = reported ≡ convicted_words (claims_in frame)
 
 -- the words are those of a question on a pool or on convictions, and this is what is answered

@@ -11,7 +11,7 @@ ghost use Rattle.own_place.specs.Owns.{HasDelivered};
 ghost use Rattle.interop_pool.specs.Hearers.{hearer};
 ghost use Rattle.interop_pool.specs.Telling as words;
 ghost use Rattle.interop_pool.specs.Questions as plain;
-ghost use Rattle.interop_pool.specs.Questions.{Answers, Says, said};
+ghost use Rattle.interop_pool.specs.Questions.{Answers, SaysOfPool, said};
 
 use crate::convictions::answer_on_convicted;
 use crate::hearers::{KEYED, own, view_of};
@@ -115,7 +115,7 @@ fn answer_pool(
     counts: &[u8],
     frame: &[u8],
 ) -> Result<Vec<u8>, NoMemory>
-    ensures { IfOk result (λ reported. Says number members.now counts.now frame.now reported.items) }
+    ensures { IfOk result (λ reported. SaysOfPool number members.now counts.now frame.now reported.items) }
 {
     match view_of(number, members, counts) {
         Some(view) => answer_in(alloc, view, counts, frame),

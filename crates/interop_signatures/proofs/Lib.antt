@@ -1,1 +1,4 @@
+pub mod SharedLaws
+pub mod TreeLaws
+pub mod LevelLaws
 pub mod SignatureLaws

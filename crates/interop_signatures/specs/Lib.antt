@@ -1,2 +1,5 @@
+pub mod Schemes
+pub mod Trees
+pub mod Levels
 pub mod Signatures
 pub mod Views

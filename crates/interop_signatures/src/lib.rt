@@ -1,6 +1,10 @@
-//! Questions on signatures: keys that are made, what they sign, and what is valid.
+//! Questions on signatures, of one tree and of trees in levels: keys that are made, what they sign, and what is valid.
 #![tactic(auto)]
 
-mod signatures;
+mod levels;
+mod questions;
+mod trees;
+mod verifying;
+mod words;
 
-pub use signatures::{answer_signatures, read_ots, verdict};
+pub use questions::answer_signatures;
