@@ -1,9 +1,9 @@
 -- The bars of views, and the arrows of frames.
 -- Names here (* for this crate alone):
 --   views: view_class*, view_bar*, liar_line*, life, note_bar, bars
---   frames: frames_in*, sent_in, arrow_class*, on_the_way*, departure*, frame_arrow*, bytes_arrow*, lost_arrow*, loss_arrow*,
+--   frames: frames_in*, sent_in, arrow_class*, before_bar*, departure*, frame_arrow*, bytes_arrow*, lost_arrow*, loss_arrow*,
 --     handed_arrow*, arrow
-use Rattle.std.specs.Prelude.{ℕ, ◌+◌, ◌-◌, ◌*◌, ◌/◌, ◌%◌, ◌==◌, if◌then◌else◌, List, [], ◌++◌, length, replicate, codes, slice_index_or}
+use Rattle.std.specs.Prelude.{ℕ, ◌+◌, ◌-◌, ◌%◌, ◌==◌, nat_lt, if◌then◌else◌, List, [], ◌++◌, length, replicate, codes, slice_index_or}
 use Rattle.std.specs.List.{flat_map}
 use Rattle.group_defs.specs.Events.{Note, Installs}
 use Rattle.replay_defs.specs.Schedules.{Listed, is_corrupt}
@@ -57,9 +57,9 @@ sent_in k what = replicate (frames_in what) k
 abbrev pub arrow_class : List Listed → ℕ → Word
 arrow_class ls p = if is_corrupt ls p then codes "lie" else codes "sent"
 
--- two thirds of the way from one point to another
-abbrev pub on_the_way : Point → Point → Point
-on_the_way a b = record { x = (a.x + 2 * b.x) / 3; y = (a.y + 2 * b.y) / 3 }
+-- 30 pixels beside the second point, on the side of the first: columns are further apart, so no bar is there
+abbrev pub before_bar : Point → Point → Point
+before_bar a b = record { x = if nat_lt a.x b.x then b.x - 30 else b.x + 30; y = b.y }
 
 -- where the frame of this number is sent, by the row of each frame; row k, where it is sent in none of them
 abbrev pub departure : List Listed → List ℕ → ℕ → ℕ → ℕ → Point
@@ -73,9 +73,9 @@ frame_arrow ls rows k p number from = stroke (arrow_class ls from) (departure ls
 abbrev pub bytes_arrow : List Listed → ℕ → ℕ → ℕ → List ℕ
 bytes_arrow ls k p from = stroke (codes "lie") (place ls from k) (place ls p k)
 
--- an arrow towards a point, which ends in the open
+-- an arrow towards a point, which ends in the open before it
 unfoldable pub lost_arrow : Point → Point → List ℕ
-lost_arrow a b = stroke (codes "lost") a (on_the_way a b) ++ dot (codes "gone") (on_the_way a b) 3
+lost_arrow a b = stroke (codes "lost") a (before_bar a b) ++ dot (codes "gone") (before_bar a b) 3
 
 -- the arrow of a frame that is lost in row k
 abbrev pub loss_arrow : List Listed → List ℕ → ℕ → ℕ → ℕ → ℕ → List ℕ

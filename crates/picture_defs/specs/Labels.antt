@@ -90,7 +90,7 @@ is_frame _ = false
 
 -- beside a mark
 abbrev pub beside : Point → Point
-beside a = record { x = a.x + 6; y = a.y + 4 }
+beside a = record { x = a.x + 9; y = a.y + 4 }
 
 -- there is nothing to say: a frame came, and nothing came of it
 abbrev pub is_quiet : Handed → Seen → Bool
@@ -123,7 +123,7 @@ is_delivery _ = false
 -- the mark of what was taken: that of a delivery, of a frame, or of what the process was asked for
 abbrev pub taken_mark : Point → Handed → Seen → List ℕ
 taken_mark a handed o =
-    if list_any is_delivery o.notes then dot (codes "told") a 5
+    if list_any is_delivery o.notes then dot (codes "delivered") a 5
     else (if is_frame handed then dot (codes "step") a 2 else dot (codes "asked") a 4)
 
 -- the mark of what a process was handed: that of a refusal, or of what was taken

@@ -23,6 +23,6 @@ place ls p k = record { x = column ls p; y = row k }
 abbrev pub width : List Listed → ℕ
 width ls = 90 + gap ls * length ls
 
--- how high it is with n rows: two lines of text have room below them
+-- how high it is with n rows: two lines of text have room below them, and the ten lines of the legend
 abbrev pub height : ℕ → ℕ
-height n = row n + 50
+height n = row n + 210

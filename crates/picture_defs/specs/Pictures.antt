@@ -16,6 +16,7 @@ use Rattle.picture_defs.specs.Elements.{text_of, stroke, text_at, spaced}
 use Rattle.picture_defs.specs.Styles.{style, heads}
 use Rattle.picture_defs.specs.Layout.{column, row, width, height}
 use Rattle.picture_defs.specs.Drawing.{life, bars, sent_in, arrow}
+use Rattle.picture_defs.specs.Legends.{legend}
 use Rattle.picture_defs.specs.Labels.{label, span}
 
 -- ---- rows
@@ -140,9 +141,9 @@ cast ls members = flat_map (name ls) ls ++ genesis members
 abbrev pub foreground : List Listed → List ℕ → List Row → List ℕ
 foreground ls members rows = arrows ls rows ++ (each_row (λ k n what. label ls k what) rows ++ cast ls members)
 
--- the end below n rows
+-- the end below n rows: what is left out, why the run stops, and the legend
 abbrev pub below : ℕ → ℕ → Option WorldFault → List ℕ
-below n more stop = more_text n more ++ (stop_text n stop ++ picture_end)
+below n more stop = more_text n more ++ (stop_text n stop ++ (legend n ++ picture_end))
 
 -- the picture of these rows, of all that there are
 abbrev pub drawing : List Listed → List ℕ → List Row → ℕ → Option WorldFault → List ℕ

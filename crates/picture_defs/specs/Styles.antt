@@ -2,14 +2,15 @@
 use Rattle.std.specs.Prelude.{ℕ, List, [], ◌∷◌, codes}
 use Rattle.picture_defs.specs.Elements.{text_of}
 
--- the colours; where the reader has a dark screen, those after `dark` hold instead
+-- the colours; where the reader has a dark screen, those after `dark` hold instead. A text has the paper's colour around its letters, so that
+-- an arrow breaks where it meets one.
 unfoldable pub style : List ℕ
 style =
     text_of (
     codes "<style>\n" ∷
     codes ".paper { fill: #ffffff; }\n" ∷
     codes "text { font: 11px 'DejaVu Sans', Verdana, sans-serif; fill: #1f2328; }\n" ∷
-    codes "text { paint-order: stroke; stroke: #ffffff; stroke-width: 3px; stroke-linejoin: round; }\n" ∷
+    codes "text { paint-order: stroke; stroke: #ffffff; stroke-width: 6px; stroke-linejoin: round; }\n" ∷
     codes ".title { font-size: 14px; font-weight: bold; }\n" ∷
     codes ".bad { fill: #b04a4a; }\n" ∷
     codes ".said, .event { fill: #59636e; }\n" ∷
@@ -23,7 +24,7 @@ style =
     codes ".rule { stroke: #d8dee4; }\n" ∷
     codes ".step { fill: #59636e; }\n" ∷
     codes ".asked { fill: #4a78a8; }\n" ∷
-    codes ".told { fill: #3f8a55; }\n" ∷
+    codes ".delivered { fill: #3f8a55; }\n" ∷
     codes ".wrong, .lying { fill: #b04a4a; }\n" ∷
     codes ".head { fill: #8c959f; }\n" ∷
     codes ".view0 { fill: #b6cde6; }\n" ∷

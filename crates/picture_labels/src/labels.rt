@@ -26,7 +26,7 @@ fn beside(at: Point) -> Result<Point, NoMemory>
     ensures { IfOk result (λ p. point p ≡ plain.beside (point at)) }
 {
     Ok(Point {
-        x: at.x.checked_add(6).ok_or(NoMemory)?,
+        x: at.x.checked_add(9).ok_or(NoMemory)?,
         y: at.y.checked_add(4).ok_or(NoMemory)?,
     })
 }
@@ -163,7 +163,7 @@ fn push_taken_mark(
         ++ plain.taken_mark (point at) (handed_of handed.now) (seen_of seen.now)) }
 {
     if has_delivery(seen) {
-        return push_dot(out, b"told", at, 5);
+        return push_dot(out, b"delivered", at, 5);
     }
     if is_frame(handed) {
         return push_dot(out, b"step", at, 2);

@@ -17,8 +17,8 @@ const TOP: u64 = 60;
 /// From one row to the next.
 const ROW: u64 = 15;
 
-/// For two lines of text below the rows.
-const ROOM: u64 = 50;
+/// For two lines of text below the rows, and the ten lines of the legend.
+const ROOM: u64 = 210;
 
 // From one column to the next: with many processes they are closer.
 fn gap(processes: &[Listed]) -> u64

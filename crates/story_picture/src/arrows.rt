@@ -1,6 +1,6 @@
-//! An arrow for each frame that is handed over; one that is lost ends in the open.
+//! An arrow for each frame that is handed over; one that is lost ends in the open, before the bar.
 ghost use Rattle.std.specs.List.{list_any};
-ghost use Rattle.std.specs.Prelude.{◌≡◌, ◌++◌, ◌+◌, ◌*◌, ◌/◌, ◌==◌, ◌&&◌, map, replicate, slice_index_or, IfOk, OnOk};
+ghost use Rattle.std.specs.Prelude.{◌≡◌, ◌++◌, ◌+◌, ◌-◌, ◌==◌, ◌&&◌, nat_lt, if◌then◌else◌, map, replicate, slice_index_or, IfOk, OnOk};
 ghost use Rattle.schedule_file.specs.Views.{listed};
 ghost use Rattle.replay_defs.specs.Schedules.{is_corrupt as is_corrupt_of};
 ghost use Rattle.happenings.specs.Reported.{handed as handed_of, happening as happening_of};
@@ -15,6 +15,9 @@ use picture_labels::{Point, place, push_dot, push_stroke};
 use rp_base::{NoMemory, Pid};
 use schedule_file::Listed;
 use std::alloc::Global;
+
+/// How many pixels before its bar a lost frame ends.
+const SHORT: u64 = 30;
 
 // How many frames are sent in what happens.
 fn frames_in(what: &Happening) -> usize
@@ -82,23 +85,23 @@ fn arrow_class(processes: &[Listed], from: Pid) -> &'static [u8]
     }
 }
 
-// Two thirds of the way from one number to another.
-fn two_thirds(a: u64, b: u64) -> Result<u64, NoMemory>
-    ensures { IfOk result (λ c. c ≡ (a + 2 * b) / 3) }
+// Beside a column, on the side from which the frame comes.
+fn beside_column(from: u64, to: u64) -> Result<u64, NoMemory>
+    ensures { IfOk result (λ x. x ≡ (if nat_lt from to then to - 30 else to + 30)) }
 {
-    let twice = 2u64.checked_mul(b).ok_or(NoMemory)?;
-    let sum = a.checked_add(twice).ok_or(NoMemory)?;
-    Ok(sum / 3)
+    if from < to {
+        Ok(to.saturating_sub(SHORT))
+    } else {
+        to.checked_add(SHORT).ok_or(NoMemory)
+    }
 }
 
-// Two thirds of the way from one point to another.
-fn on_the_way(from: Point, to: Point) -> Result<Point, NoMemory>
-    ensures { IfOk result (λ at. point at ≡ plain.on_the_way (point from) (point to)) }
+// Where an arrow from one point to another ends that does not arrive.
+fn before_bar(from: Point, to: Point) -> Result<Point, NoMemory>
+    ensures { IfOk result (λ at. point at ≡ plain.before_bar (point from) (point to)) }
 {
-    Ok(Point {
-        x: two_thirds(from.x, to.x)?,
-        y: two_thirds(from.y, to.y)?,
-    })
+    let x = beside_column(from.x, to.x)?;
+    Ok(Point { x, y: to.y })
 }
 
 // Where the frame is sent.
@@ -171,7 +174,7 @@ fn push_handed(
 fn push_lost(out: &mut Vec<u8>, from: Point, to: Point) -> Result<(), NoMemory>
     ensures { OnOk result (out.new.items ≡ out.old.items ++ plain.lost_arrow (point from) (point to)) }
 {
-    let end = on_the_way(from, to)?;
+    let end = before_bar(from, to)?;
     push_stroke(out, b"lost", from, end)?;
     push_dot(out, b"gone", end, 3)
 }

@@ -7,6 +7,7 @@ ghost use Rattle.picture_defs.specs.Styles as styles;
 ghost use Rattle.picture_defs.specs.Pictures as plain;
 ghost use Rattle.picture_labels.specs.Views.{point};
 
+use crate::legend::push_legend;
 use happenings::Stopped;
 use picture_labels::{Point, below, push_text};
 use rp_base::NoMemory;
@@ -16,7 +17,7 @@ use story_trace::{Word, push_pieces};
 const STYLE: &[u8] = b"<style>
 .paper { fill: #ffffff; }
 text { font: 11px 'DejaVu Sans', Verdana, sans-serif; fill: #1f2328; }
-text { paint-order: stroke; stroke: #ffffff; stroke-width: 3px; stroke-linejoin: round; }
+text { paint-order: stroke; stroke: #ffffff; stroke-width: 6px; stroke-linejoin: round; }
 .title { font-size: 14px; font-weight: bold; }
 .bad { fill: #b04a4a; }
 .said, .event { fill: #59636e; }
@@ -30,7 +31,7 @@ text { paint-order: stroke; stroke: #ffffff; stroke-width: 3px; stroke-linejoin:
 .rule { stroke: #d8dee4; }
 .step { fill: #59636e; }
 .asked { fill: #4a78a8; }
-.reported { fill: #3f8a55; }
+.delivered { fill: #3f8a55; }
 .wrong, .lying { fill: #b04a4a; }
 .head { fill: #8c959f; }
 .view0 { fill: #b6cde6; }
@@ -210,7 +211,7 @@ fn push_stop(out: &mut Vec<u8>, n: u64, stop: Option<Stopped>) -> Result<(), NoM
     }
 }
 
-/// The end below n rows.
+/// The end below n rows: what is left out, why the run stops, and the legend.
 pub(crate) fn push_below(
     out: &mut Vec<u8>,
     n: u64,
@@ -221,5 +222,6 @@ pub(crate) fn push_below(
 {
     push_more(out, n, more)?;
     push_stop(out, n, stop)?;
+    push_legend(out, n)?;
     end_picture(out)
 }

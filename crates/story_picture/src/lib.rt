@@ -6,6 +6,7 @@ mod arrows;
 mod bars;
 mod edges;
 mod labels;
+mod legend;
 mod names;
 mod picture;
 mod rows;
