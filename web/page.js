@@ -163,7 +163,7 @@ function lightPicture(moves) {
     const rules = ruled(), svg = shadow.querySelector('svg'), mark = shadow.getElementById('lit');
     if (!mark) return;
     const begins = rules[lit];
-    const ends = rules[lit + 1] ?? Number(svg.getAttribute('height')) - 48;
+    const ends = rules[lit + 1] ?? Number(svg.getAttribute('height')) - 208;
     mark.setAttribute('y', begins ?? 0);
     mark.setAttribute('height', begins === undefined ? '0' : Math.max(ends - begins, 15));
     if (moves && begins !== undefined) part('picture').scrollTop = begins - 60;

@@ -1,11 +1,12 @@
 -- What was read of an input in memory is all of it, and what was written is what the sink holds.
-use Rattle.std.proofs.Common.{◌≡◌, ℕ, Bool, Option, Some, None, List, [], ◌++◌, length, Err, sym, ap, subst, ◌∙◌, inl, inr, arith}
+use Rattle.std.proofs.Common.{◌≡◌, ℕ, Bool, true, false, Option, Some, None, List, [], ◌++◌, length, Err, sym, ap, subst, ◌∙◌, inl, inr, arith}
 use Rattle.std.proofs.lemmas.List.{append-nil, take_all}
 use Rattle.std.specs.Io.KnownBytes.{Consumes, IsAtEnd}
 use Rattle.rp_base.specs.Streams.{Says}
 use Rattle.replay_defs.specs.Reading.{schedule_of}
 use Rattle.story_defs.specs.Stories.{story_of}
-use Rattle.story_cli.specs.Top.{NoStory, NoSchedule}
+use Rattle.story_cli.specs.declared.commands.Command.{Command}
+use Rattle.story_cli.specs.Top.{NoStory, NoSchedule, takes_as_story}
 use Rattle.replay_words.specs.Answers.{Reported, Stopped}
 use Rattle.page.specs.Answers.{HasNoReport, IsNoSchedule, IsNoStory, IsReport, Line}
 
@@ -23,31 +24,43 @@ said line bytes before now (inr part) = part.0
 moved : (P : List ℕ → List ℕ → Type 0) (left input sink : List ℕ) → left ≡ input → sink ≡ [] → P left sink → P input []
 moved P left input sink is empty p = subst (λ (i : List ℕ). P i []) is (subst (λ (s : List ℕ). P left s) empty p)
 
-no_story_in : (input bytes : List ℕ) (now : Option (List ℕ)) (faults faults_now : ℕ)
-    → NoStory (Some input) now (Some []) (Some bytes) faults faults_now → IsNoStory input bytes
-no_story_in input bytes now faults faults_now n = record {
+no_story_in : (c : Command) (input bytes : List ℕ) (now : Option (List ℕ)) (faults faults_now : ℕ)
+    → NoStory c (Some input) now (Some []) (Some bytes) faults faults_now → IsNoStory input bytes
+no_story_in c input bytes now faults faults_now n = record {
   fault = n.fault;
   none = subst (λ (i : List ℕ). story_of i ≡ Err n.fault) (whole input now n.input n.taken n.ended) n.none;
   reported = said _ bytes faults faults_now n.line;
 }
 
-pub no_story : (input bytes left sink : List ℕ) (now : Option (List ℕ)) (faults faults_now : ℕ) → left ≡ input → sink ≡ []
-    → NoStory (Some left) now (Some sink) (Some bytes) faults faults_now → IsNoStory input bytes
-no_story input bytes left sink now faults faults_now is empty n = no_story_in input bytes now faults faults_now
-    (moved (λ (i s : List ℕ). NoStory (Some i) now (Some s) (Some bytes) faults faults_now) left input sink is empty n)
+pub no_story : (c : Command) (input bytes left sink : List ℕ) (now : Option (List ℕ)) (faults faults_now : ℕ) → left ≡ input → sink ≡ []
+    → NoStory c (Some left) now (Some sink) (Some bytes) faults faults_now → IsNoStory input bytes
+no_story c input bytes left sink now faults faults_now is empty n = no_story_in c input bytes now faults faults_now
+    (moved (λ (i s : List ℕ). NoStory c (Some i) now (Some s) (Some bytes) faults faults_now) left input sink is empty n)
 
-no_schedule_in : (input bytes : List ℕ) (now : Option (List ℕ)) (faults faults_now : ℕ)
-    → NoSchedule (Some input) now (Some []) (Some bytes) faults faults_now → IsNoSchedule input bytes
-no_schedule_in input bytes now faults faults_now n = record {
+-- that input is taken as a story
+pub taken_so : (c : Command) (input left : List ℕ) (now old new : Option (List ℕ)) (faults faults_now : ℕ) → left ≡ input
+    → NoStory c (Some left) now old new faults faults_now → takes_as_story c input ≡ true
+taken_so c input left now old new faults faults_now is n =
+    subst (λ (i : List ℕ). takes_as_story c i ≡ true) (whole left now n.input n.taken n.ended ∙ is) n.as_story
+
+no_schedule_in : (c : Command) (input bytes : List ℕ) (now : Option (List ℕ)) (faults faults_now : ℕ)
+    → NoSchedule c (Some input) now (Some []) (Some bytes) faults faults_now → IsNoSchedule input bytes
+no_schedule_in c input bytes now faults faults_now n = record {
   fault = n.fault;
   none = subst (λ (i : List ℕ). schedule_of i ≡ Err n.fault) (whole input now n.input n.taken n.ended) n.none;
   reported = said _ bytes faults faults_now n.line;
 }
 
-pub no_schedule : (input bytes left sink : List ℕ) (now : Option (List ℕ)) (faults faults_now : ℕ) → left ≡ input → sink ≡ []
-    → NoSchedule (Some left) now (Some sink) (Some bytes) faults faults_now → IsNoSchedule input bytes
-no_schedule input bytes left sink now faults faults_now is empty n = no_schedule_in input bytes now faults faults_now
-    (moved (λ (i s : List ℕ). NoSchedule (Some i) now (Some s) (Some bytes) faults faults_now) left input sink is empty n)
+pub no_schedule : (c : Command) (input bytes left sink : List ℕ) (now : Option (List ℕ)) (faults faults_now : ℕ) → left ≡ input → sink ≡ []
+    → NoSchedule c (Some left) now (Some sink) (Some bytes) faults faults_now → IsNoSchedule input bytes
+no_schedule c input bytes left sink now faults faults_now is empty n = no_schedule_in c input bytes now faults faults_now
+    (moved (λ (i s : List ℕ). NoSchedule c (Some i) now (Some s) (Some bytes) faults faults_now) left input sink is empty n)
+
+-- that input is taken as a schedule
+pub read_so : (c : Command) (input left : List ℕ) (now old new : Option (List ℕ)) (faults faults_now : ℕ) → left ≡ input
+    → NoSchedule c (Some left) now old new faults faults_now → takes_as_story c input ≡ false
+read_so c input left now old new faults faults_now is n =
+    subst (λ (i : List ℕ). takes_as_story c i ≡ false) (whole left now n.input n.taken n.ended ∙ is) n.as_schedule
 
 report_in : (short : Bool) (input bytes : List ℕ) (now : Option (List ℕ))
     → Reported short (Some input) now (Some []) (Some bytes) → IsReport short input bytes

@@ -1,4 +1,4 @@
-ghost use Rattle.std.specs.Prelude.{◌≡◌, ◌≢◌, ◌⊎◌, []};
+ghost use Rattle.std.specs.Prelude.{◌≡◌, ◌≢◌, ◌⊎◌, [], true, false};
 ghost use Rattle.rp_base.specs.Mem.{sink_bytes};
 ghost use Rattle.story_cli.specs.declared.commands.Command.{Command};
 ghost use Rattle.story_cli.specs.Top as story;
@@ -30,9 +30,9 @@ pub fn run_story(alloc: Global, words: &[String], input: Vec<u8>) -> Ran
     ensures silent { result.status ≡ 1 → sink_bytes result.reported ≡ [] }
     ensures words { result.status ≡ 2 → ¬ story.AskAny words.now }
     ensures story { result.status ≡ 5 → IsNoStory input.items (sink_bytes result.reported) }
-    ensures assembles { result.status ≡ 5 → story.Asks words.now Command.Assemble }
+    ensures assembles { result.status ≡ 5 → (c : Command) × story.Asks words.now c × (story.takes_as_story c input.items ≡ true) }
     ensures schedule { result.status ≡ 7 → IsNoSchedule input.items (sink_bytes result.reported) }
-    ensures reads { result.status ≡ 7 → story.AskOfSchedule words.now }
+    ensures reads { result.status ≡ 7 → (c : Command) × story.Asks words.now c × (story.takes_as_story c input.items ≡ false) }
     ensures only { (result.status ≡ 0) ⊎ (result.status ≡ 1) ⊎ (result.status ≡ 2) ⊎ (result.status ≡ 3) ⊎ (result.status ≡ 4)
         ⊎ (result.status ≡ 5) ⊎ (result.status ≡ 7) }
 {

@@ -8,7 +8,7 @@ mod rooms;
 mod tests;
 mod words;
 
-ghost use Rattle.std.specs.Prelude.{◌≡◌, ◌<◌, ◌≤◌, ◌↔◌, ◌⊎◌};
+ghost use Rattle.std.specs.Prelude.{◌≡◌, ◌≢◌, ◌<◌, ◌≤◌, ◌↔◌, ◌⊎◌};
 ghost use Rattle.story_cli.specs.declared.commands.Command.{Command};
 ghost use Rattle.story_cli.specs.Top.{MakesOf};
 ghost use Rattle.page.specs.Answers.{Answers, HasNoReport, IsNoSchedule, IsNoStory, IsReport, number_of};
@@ -46,10 +46,10 @@ pub extern "C" fn page_story(
     // 2: exactly where the number is no command's.
     ensures number { (result ≡ 2) ↔ (3 < command) }
 
-    // 5: a story was to be assembled, and the input is none; 7: a schedule was to be read, and the input is none. The answer is the
-    // program's line.
+    // 5: the command takes the input as a story, and it is none; 7: it takes the input as a schedule, and it is none. The answer is the
+    // program's line. `assemble` takes none as a schedule, and `text` none as a story.
     ensures story { result ≡ 5 → Answers (IsNoStory input.now) room.new count.new }
-    ensures assembles { result ≡ 5 → command ≡ 0 }
+    ensures assembles { result ≡ 5 → command ≢ 1 }
     ensures schedule { result ≡ 7 → Answers (IsNoSchedule input.now) room.new count.new }
     ensures reads { result ≡ 7 → 1 ≤ command }
 

@@ -44,6 +44,13 @@ const SPENT_KEY: &[u8] =
 \x00\x00\x00\x00\x00\x00\x00\x00\x00\x00\x00\x00\x00\x00\x00\x00\x00\x00\x00\x00\x00\x00\x00\x00\x00\x00\x00\x04\x01\x00\
 \x01\x00\x00\x01a";
 
+/// The same schedule as a story.
+const SPENT_STORY: &[u8] = b"group 00000000000000000000000000000000 plain
+process 0 correct plain 4
+genesis 0
+submit 0 \"a\"
+";
+
 const SPENT_TRACE: &[u8] = b"process 0: correct
 view 0: 0
 event 0: 0 is asked to send \"a\"
@@ -55,13 +62,14 @@ event 0: 0 is asked to send \"a\"
 ";
 
 /// The number of a command, what it is given, and its answer.
-const ANSWERS: [(u8, &[u8], u8, &[u8]); 7] = [
+const ANSWERS: [(u8, &[u8], u8, &[u8]); 8] = [
     (0, STORY, 0, ONE_MEMBER),
     (1, ONE_MEMBER, 0, STORY),
     (2, SPENT_KEY, 0, SPENT_TRACE),
+    (2, SPENT_STORY, 0, SPENT_TRACE),
     (1, b"", 7, b"stop 7 short 0\n"),
-    (2, b"RPX1", 7, b"stop 7 magic 0\n"),
-    (3, b"RPX1", 7, b"stop 7 magic 0\n"),
+    (2, b"RPS4", 7, b"stop 7 magic 0\n"),
+    (3, b"RPS4", 7, b"stop 7 magic 0\n"),
     (4, ONE_MEMBER, 2, b""),
 ];
 

@@ -1,5 +1,5 @@
 -- Why a run stopped, by its status.
-use Rattle.std.proofs.Common.{◌≡◌, ◌⊎◌, ℕ, ◌<◌, true, Option, Some, None, List, [], ◌++◌, take, Result, Ok, Err, refl, sym, ap, subst, ◌∙◌, arith, inl, inr}
+use Rattle.std.proofs.Common.{◌≡◌, ◌⊎◌, ℕ, ◌<◌, Option, Some, None, List, [], ◌++◌, take, Result, Ok, Err, refl, sym, ap, subst, ◌∙◌, arith, inl, inr}
 use Rattle.std.specs.Prelude.{IsErrOf, IsOk, IsSomeAnd, codes}
 use Rattle.std.proofs.lemmas.List.{append-nil}
 use lib.Seq.{take-nil}
@@ -12,9 +12,8 @@ use Rattle.story_defs.specs.Stories.{story_of}
 use Rattle.story_cli.specs.declared.stops.Stop.{Stop}
 use Rattle.story_cli.specs.declared.stops.Stop.TheVariants.{NoMemory, Read, Write, Story, Schedule}
 use Rattle.story_cli.specs.declared.commands.Command.{Command}
-use Rattle.story_cli.specs.declared.commands.Command.TheVariants.{Assemble, Text, Run, Draw}
 use Rattle.story_cli.specs.Messages.{line_of, status_of}
-use Rattle.story_cli.specs.Top.{Has, reads_schedule, IsNoStory, IsNoSchedule, NoStory, NoSchedule}
+use Rattle.story_cli.specs.Top.{Has, IsNoStory, IsNoSchedule, NoStory, NoSchedule}
 
 -- a status other than 1 is that of the stop
 pub said : {P : Type 0} (r s n : ℕ) → 1 < n → r ≡ n → (r ≡ 1) ⊎ ((r ≡ s) × P) → (s ≡ n) × P
@@ -119,11 +118,13 @@ touched r stop wrote (inr same) = inr (inr same)
 
 pub no_story : (command : Command) (before now old new : Option (List ℕ)) (faults faults_now : ℕ) (stop : Stop) (fault : StoryFault)
     → stop ≡ Story fault
-    → IsNoStory command before now fault → Says (line_of stop) old new faults faults_now → NoStory before now old new faults faults_now
+    → IsNoStory command before now fault → Says (line_of stop) old new faults faults_now
+    → NoStory command before now old new faults faults_now
 no_story command before now old new faults faults_now stop fault is none says = record {
   input = none.input;
   taken = none.taken;
   ended = none.ended;
+  as_story = none.as_story;
   fault = fault;
   none = none.none;
   line = subst (λ (s : Stop). Says (line_of s) old new faults faults_now) is says;
@@ -132,11 +133,12 @@ no_story command before now old new faults faults_now stop fault is none says = 
 pub no_schedule : (command : Command) (before now old new : Option (List ℕ)) (faults faults_now : ℕ) (stop : Stop) (fault : Fault)
     → stop ≡ Schedule fault
     → IsNoSchedule command before now fault → Says (line_of stop) old new faults faults_now
-    → NoSchedule before now old new faults faults_now
+    → NoSchedule command before now old new faults faults_now
 no_schedule command before now old new faults faults_now stop fault is none says = record {
   input = none.input;
   taken = none.taken;
   ended = none.ended;
+  as_schedule = none.as_schedule;
   fault = fault;
   none = none.none;
   line = subst (λ (s : Stop). Says (line_of s) old new faults faults_now) is says;
@@ -168,15 +170,8 @@ has_story command None now fault none has = has
 has_story command (Some reported) None fault none has = absurd none.taken
 has_story command (Some reported) (Some rest) fault none has =
     let is : reported ≡ none.input = whole reported rest none.input none.taken none.ended in
-    found_no_story none.input fault none.none
-    (subst (λ (t : List ℕ). IsOk (story_of t)) is (subst (λ (x : Command). Has x reported) none.asked has))
-
--- what a command that reads a schedule needs is one
-needs_schedule : (command : Command) → reads_schedule command ≡ true → (input : List ℕ) → Has command input → IsOk (schedule_of input)
-needs_schedule Assemble reads input has = absurd cc
-needs_schedule Text reads input has = has
-needs_schedule Run reads input has = has
-needs_schedule Draw reads input has = has
+    let needs : Has command none.input = subst (Has command) is has in
+    found_no_story none.input fault none.none (needs.story none.as_story)
 
 pub has_schedule : (command : Command) (before now : Option (List ℕ)) (fault : Fault) → IsNoSchedule command before now fault
     → ¬ IsSomeAnd before (Has command)
@@ -184,8 +179,8 @@ has_schedule command None now fault none has = has
 has_schedule command (Some reported) None fault none has = absurd none.taken
 has_schedule command (Some reported) (Some rest) fault none has =
     let is : reported ≡ none.input = whole reported rest none.input none.taken none.ended in
-    found_no_schedule none.input fault none.none
-    (subst (λ (t : List ℕ). IsOk (schedule_of t)) is (needs_schedule command none.reads reported has))
+    let needs : Has command none.input = subst (Has command) is has in
+    found_no_schedule none.input fault none.none (needs.schedule none.as_schedule)
 
 -- what stops a run where no stream fails and the input has what is asked is want of memory
 memory_alone : (stop : Stop) → ¬ (stop ≡ Read) → ¬ (stop ≡ Write) → ((fault : StoryFault) → ¬ (stop ≡ Story fault))

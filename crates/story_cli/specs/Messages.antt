@@ -1,8 +1,7 @@
 -- What is reported where a run stops: the status, and the line on standard error.
 use Rattle.std.specs.Prelude.{ℕ, List, [], ◌++◌, codes}
 use Rattle.std.specs.Fmt.{decimal}
-use Rattle.replay_defs.specs.declared.FaultKind.{FaultKind}
-use Rattle.replay_defs.specs.declared.FaultKind.TheVariants as faults
+use Rattle.replay_defs.specs.Reports.{schedule_word}
 use Rattle.story_defs.specs.declared.Expected.{Expected}
 use Rattle.story_defs.specs.declared.Expected.TheVariants as expected
 use Rattle.story_cli.specs.declared.stops.Stop.{Stop}
@@ -11,7 +10,7 @@ use Rattle.story_cli.specs.declared.stops.Stop.TheVariants.{NoMemory, Read, Writ
 -- what was expected, in words
 abbrev pub expected_words : Expected → List ℕ
 expected_words expected.Quote = codes "a quote that ends the text, and no control characters in it"
-expected_words expected.Escape = codes "a quote or a backslash behind the backslash"
+expected_words expected.Escape = codes "a quote or a backslash after the backslash"
 expected_words expected.Group = codes "group NAME SCHEME, or group NAME SCHEME batch LIMIT: NAME of 16 bytes, SCHEME plain, lms or hss, LIMIT 2 to 16"
 expected_words expected.Process = codes "process P ROLE KEY: P above the process before and at most 63, ROLE correct or corrupt, KEY of the group's scheme: plain TOTAL, plain KEY TOTAL, lms H W ID SEED or hss L H W ID SEED"
 expected_words expected.Genesis = codes "process P ROLE KEY, for at most 64 processes, or genesis P ..: 1 to 16 different processes of those above"
@@ -27,18 +26,6 @@ expected_words expected.Renew = codes "renew P: P a correct process"
 expected_words expected.Tick = codes "tick P: P a correct process"
 expected_words expected.Steps = codes "at most 1000000 steps: as many as each drain counts, and one for each other event"
 expected_words expected.Size = codes "at most 67108864 bytes of a schedule"
-
--- the word of a schedule's fault
-abbrev pub schedule_word : FaultKind → List ℕ
-schedule_word faults.Short = codes "short"
-schedule_word faults.Magic = codes "magic"
-schedule_word faults.Scheme = codes "scheme"
-schedule_word faults.Roster = codes "roster"
-schedule_word faults.Key = codes "key"
-schedule_word faults.Tag = codes "tag"
-schedule_word faults.Field = codes "field"
-schedule_word faults.TooLong = codes "toolong"
-schedule_word faults.TooMany = codes "toomany"
 
 abbrev pub status_of : Stop → ℕ
 status_of NoMemory = 1

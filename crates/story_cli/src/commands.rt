@@ -11,10 +11,10 @@ pub enum Command {
     /// The story of a schedule.
     Text,
 
-    /// What happens in the run of a schedule.
+    /// What happens in the run of a schedule, which is given as it is or as a story.
     Run,
 
-    /// The picture of the run of a schedule.
+    /// The picture of such a run.
     Draw,
 }
 

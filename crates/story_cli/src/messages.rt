@@ -1,4 +1,5 @@
 ghost use Rattle.std.specs.Prelude.{◌≡◌};
+ghost use Rattle.replay_defs.specs.Reports as plain;
 ghost use Rattle.story_cli.specs.Messages as reported;
 
 use replay_defs::FaultKind;
@@ -10,7 +11,7 @@ pub fn expected_words(x: Expected) -> &'static [u8]
 {
     match x {
         Expected::Quote => b"a quote that ends the text, and no control characters in it",
-        Expected::Escape => b"a quote or a backslash behind the backslash",
+        Expected::Escape => b"a quote or a backslash after the backslash",
         Expected::Group =>
             b"group NAME SCHEME, or group NAME SCHEME batch LIMIT: NAME of 16 bytes, SCHEME plain, lms or hss, LIMIT 2 to 16",
         Expected::Process =>
@@ -39,7 +40,7 @@ pub fn expected_words(x: Expected) -> &'static [u8]
 
 /// The word of a schedule's fault.
 pub fn schedule_word(kind: FaultKind) -> &'static [u8]
-    ensures { result.now ≡ reported.schedule_word kind }
+    ensures { result.now ≡ plain.schedule_word kind }
 {
     match kind {
         FaultKind::Short => b"short",

@@ -9,7 +9,7 @@ ghost use Rattle.story_cli.specs.Messages.{line_of, status_of};
 ghost use Rattle.story_cli.specs.Top.{Given, IsNoSchedule, IsNoStory, Made, MadeInPart};
 
 use crate::commands::Command;
-use crate::giving::{picture_of_schedule, schedule_of_text, text_of_schedule, trace_of_schedule};
+use crate::giving::{picture_of, schedule_of_text, text_of_schedule, trace_of};
 use crate::stops::Stop;
 use crate::streams::read_all;
 use rp_base::{Sink, Source, write_all};
@@ -31,8 +31,8 @@ pub fn made_of<S: Source>(alloc: Global, command: Command, input: &mut S) -> Res
     match command {
         Command::Assemble => schedule_of_text(alloc, &all),
         Command::Text => text_of_schedule(alloc, &all),
-        Command::Run => trace_of_schedule(alloc, &all),
-        Command::Draw => picture_of_schedule(alloc, &all),
+        Command::Run => trace_of(alloc, &all),
+        Command::Draw => picture_of(alloc, &all),
     }
 }
 

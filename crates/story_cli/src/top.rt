@@ -3,7 +3,7 @@ ghost use Rattle.std.specs.Io.KnownBytes.{Keeps};
 ghost use Rattle.rp_base.specs.Causes.{Rose};
 ghost use Rattle.rp_base.specs.Streams.{Says};
 ghost use Rattle.story_cli.specs.declared.commands.Command.{Command};
-ghost use Rattle.story_cli.specs.Top.{AskAny, AskOfSchedule, Asks, Has, Made, MadeInPart, NoSchedule, NoStory};
+ghost use Rattle.story_cli.specs.Top.{AskAny, Asks, Has, Made, MadeInPart, NoSchedule, NoStory};
 
 use crate::commands::{Command, command_of};
 use crate::running::{run, say, tell};
@@ -47,12 +47,13 @@ pub fn story<S: Source, K: Sink, E: Sink>(
     ensures part { (command : Command) → Asks words.now command → result ≡ 4
         → MadeInPart command (S.left input.old) (S.left input.new) (K.written output.old) (K.written output.new) }
 
-    // 5: the words are to assemble, and the input is no story; the line says in which of its lines what was expected.
-    ensures story { result ≡ 5 → Asks words.now Command.Assemble × NoStory (S.left input.old) (S.left input.new)
+    // 5: the words are those of a command that takes the input as a story, and it is none; the line says in which of its lines what was
+    // expected.
+    ensures story { result ≡ 5 → (command : Command) × Asks words.now command × NoStory command (S.left input.old) (S.left input.new)
         (E.written errors.old) (E.written errors.new) (E.faults errors.old) (E.faults errors.new) }
 
-    // 7: the words are those of a command that reads a schedule, and the input is none; the line says why.
-    ensures schedule { result ≡ 7 → AskOfSchedule words.now × NoSchedule (S.left input.old) (S.left input.new)
+    // 7: the words are those of a command that takes the input as a schedule, and it is none; the line says why.
+    ensures schedule { result ≡ 7 → (command : Command) × Asks words.now command × NoSchedule command (S.left input.old) (S.left input.new)
         (E.written errors.old) (E.written errors.new) (E.faults errors.old) (E.faults errors.new) }
 
     // 4, 5, 7: no read failed.

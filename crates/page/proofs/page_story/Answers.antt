@@ -11,10 +11,10 @@ returns-clause-number c = (
 
 pub returns-clause-assembles : goal.returns-clause-assembles
 returns-clause-assembles c = λ five.
-    assembles_at c.args.command _ _ (omega (arith, c.if-command-gt-DRAW.false)) c.deref.ensures.value c.in-Ok.ensures
+    assembles_at c.args.command _ _ _ (omega (arith, c.if-command-gt-DRAW.false)) c.deref.ensures.value c.in-Ok.ensures
     (c.run_story-ran.ensures.assembles five)
 
 pub returns-clause-reads : goal.returns-clause-reads
 returns-clause-reads c = λ seven.
-    reads_at c.args.command _ _ (omega (arith, c.if-command-gt-DRAW.false)) c.deref.ensures.value c.in-Ok.ensures
+    reads_at c.args.command _ _ _ (omega (arith, c.if-command-gt-DRAW.false)) c.deref.ensures.value c.in-Ok.ensures
     (c.run_story-ran.ensures.reads seven)

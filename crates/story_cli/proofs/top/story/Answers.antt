@@ -1,7 +1,7 @@
-use Rattle.std.proofs.Common.{◌≡◌, ℕ, List, sym, subst, inl, inr}
+use Rattle.std.proofs.Common.{◌≡◌, ℕ, List, sym, subst}
 use Rattle.story_cli.specs.declared.commands.Command.{Command}
 use Rattle.std.specs.Prelude.{IsSomeAnd}
-use Rattle.story_cli.specs.Top.{AskOfSchedule, Asks, Has, MadeInPart}
+use Rattle.story_cli.specs.Top.{Has, MadeInPart}
 use Rattle.story_cli.proofs.Stopped.{at_write, at_story, at_schedule, has_schedule, has_story, no_memory, no_story, no_schedule, at_read, said, same_command, stopped_so, touched, unread_fault}
 use Rattle.rp_base.specs.Streams.{Says}
 use Rattle.story_cli.proofs.top.story.Goals as goal
@@ -20,16 +20,14 @@ returns-in-Err-clause-story g c = λ five.
     let reported = said _ _ 5 (omega Rattle.std.proofs.Common.arith) five c.tell.ensures.reported in
     let at = at_story c.in-Err.stop reported.0 in
     let none = c.in-Err.ensures.story at.0 (stopped_so _ _ at.1) in
-    (subst (Asks c.args.words.now) none.asked c.in-Some.ensures.found, no_story _ _ _ _ _ _ _ c.in-Err.stop at.0 at.1 none reported.1)
+    (c.in-Some.command, c.in-Some.ensures.found, no_story _ _ _ _ _ _ _ c.in-Err.stop at.0 at.1 none reported.1)
 
 pub returns-in-Err-clause-schedule : goal.returns-in-Err-clause-schedule
 returns-in-Err-clause-schedule g c = λ seven.
     let reported = said _ _ 7 (omega Rattle.std.proofs.Common.arith) seven c.tell.ensures.reported in
     let at = at_schedule c.in-Err.stop reported.0 in
     let none = c.in-Err.ensures.schedule at.0 (stopped_so _ _ at.1) in
-    let asked : AskOfSchedule c.args.words.now =
-    record { command = c.in-Some.command; asked = c.in-Some.ensures.found; reads = none.reads } in
-    (asked, no_schedule _ _ _ _ _ _ _ c.in-Err.stop at.0 at.1 none reported.1)
+    (c.in-Some.command, c.in-Some.ensures.found, no_schedule _ _ _ _ _ _ _ c.in-Err.stop at.0 at.1 none reported.1)
 
 pub returns-in-Err-clause-untouched : goal.returns-in-Err-clause-untouched
 returns-in-Err-clause-untouched g c = touched _ c.in-Err.stop c.tell.ensures.write c.in-Err.ensures.untouched
