@@ -12,7 +12,7 @@ use Rattle.group_defs.specs.Views.{View}
 use Rattle.rp_base.specs.Streams.{AppendsPrefix}
 use Rattle.chain_text_defs.specs.Chains.{Answer, behind, chain_from, chain_of, done, kit_words, setting_of, stopped, view_line}
 use Rattle.chain_words.specs.Places.{Ends, Leads, Place, ReadsMore, Settles, answer_at, place}
-use Rattle.chain_words.specs.Running.{AnsweredBy, FaultyBy, ShownBy, ShownInPartBy, SomeShown, SomeShownBy, ShownInPart, Stands, StandsBy}
+use Rattle.chain_words.specs.Running.{AnsweredBy, FaultyBy, ShownBy, ShownInPartBy, SomeShown, SomeShownBy, ShownInPart, Reaches, ReachesBy}
 use Rattle.chain_words.proofs.Kits.{answer_by, kit_leads}
 
 -- the same lines before it
@@ -31,22 +31,22 @@ opened bytes = of (front_of bytes)
 
 -- a kit begins the input: the line of its first view is written, and the lines behind `go` follow
 pub begun : (before now : Option (List ℕ)) (kit : Kit) (go : ℕ) (left : List ℕ) → Begins before now [] kit go left
-    → Stands before now (view_line (setting_of kit).genesis) (place kit (go + 1) (setting_of kit).genesis left)
+    → Reaches before now (view_line (setting_of kit).genesis) (place kit (go + 1) (setting_of kit).genesis left)
 begun before now kit go left b = kit_leads chain_of chain_from opened before now kit go left [] refl b
 
 -- ---- the first view
 
 module _ (before now : Option (List ℕ)) (kit : Kit) (go : ℕ) (left ahead : List ℕ) (nothing_ahead : ahead ≡ [])
     (begins : Begins before now ahead kit go left) (v : View) (first : v ≡ (setting_of kit).genesis) where
-  pub first_stands : (n : ℕ) (w : View) → n ≡ go + 1 → w ≡ v → Stands before now (view_line v) (place kit n w left)
+  pub first_stands : (n : ℕ) (w : View) → n ≡ go + 1 → w ≡ v → Reaches before now (view_line v) (place kit n w left)
   first_stands n w next same =
-      let at : Stands before now (view_line (setting_of kit).genesis) (place kit (go + 1) (setting_of kit).genesis left) =
+      let at : Reaches before now (view_line (setting_of kit).genesis) (place kit (go + 1) (setting_of kit).genesis left) =
       begun before now kit go left (subst (λ (t : List ℕ). Begins before now t kit go left) nothing_ahead begins) in
-      let by_view : Stands before now (view_line v) (place kit (go + 1) v left) =
-      subst (λ (x : View). Stands before now (view_line x) (place kit (go + 1) x left)) (sym first) at in
-      let by_number : Stands before now (view_line v) (place kit n v left) =
-      subst (λ (m : ℕ). Stands before now (view_line v) (place kit m v left)) (sym next) by_view in
-      subst (λ (x : View). Stands before now (view_line v) (place kit n x left)) (sym same) by_number
+      let by_view : Reaches before now (view_line v) (place kit (go + 1) v left) =
+      subst (λ (x : View). Reaches before now (view_line x) (place kit (go + 1) x left)) (sym first) at in
+      let by_number : Reaches before now (view_line v) (place kit n v left) =
+      subst (λ (m : ℕ). Reaches before now (view_line v) (place kit m v left)) (sym next) by_view in
+      subst (λ (x : View). Reaches before now (view_line v) (place kit n x left)) (sym same) by_number
 
   pub first_in_part : (old new : Option (List ℕ)) → AppendsPrefix old new (view_line v) → ShownInPart before now old new
   first_in_part old new part = record {
@@ -76,7 +76,7 @@ none_shown answer before now old new e = record {
 -- ---- from a place on
 
 -- nothing was read behind it
-pub stands_there : (before : Option (List ℕ)) (p : Place) → StandsBy (answer_at p) before before [] p
+pub stands_there : (before : Option (List ℕ)) (p : Place) → ReachesBy (answer_at p) before before [] p
 stands_there before p = record { read = []; taken = Consumes-nil before; is = λ rest. refl }
 
 -- and nothing was written
@@ -86,7 +86,7 @@ shown_there before old p = record { lines = []; place = p; stands = stands_there
 -- More was read, and the answer goes on behind these lines as another one.
 module _ (answer then : List ℕ → Answer) (before mid now : Option (List ℕ)) (lines : List ℕ)
     (leads : Leads answer before mid (λ rest. behind lines (then rest))) where
-  pub stands_then : (more : List ℕ) (q : Place) → StandsBy then mid now more q → StandsBy answer before now (lines ++ more) q
+  pub stands_then : (more : List ℕ) (q : Place) → ReachesBy then mid now more q → ReachesBy answer before now (lines ++ more) q
   stands_then more q there =
       let both = leads_more answer then (behind lines) before mid now leads (λ rest. behind more (answer_at q rest)) there in
       record {
@@ -103,7 +103,7 @@ module _ (answer then : List ℕ → Answer) (before mid now : Option (List ℕ)
 
   -- and these lines were written
   module _ (old m : Option (List ℕ)) (wrote : Appends old m lines) (new : Option (List ℕ)) where
-    pub next_in_part : (q : Place) → StandsBy then mid now (view_line q.view) q → AppendsPrefix m new (view_line q.view)
+    pub next_in_part : (q : Place) → ReachesBy then mid now (view_line q.view) q → AppendsPrefix m new (view_line q.view)
         → ShownInPartBy answer before now old new
     next_in_part q shows part = record {
       mid = m;
@@ -151,7 +151,7 @@ module _ (answer then : List ℕ → Answer) (before mid now : Option (List ℕ)
       mid = a.mid;
       lines = lines ++ a.lines;
       place = a.place;
-      stands = subst (λ (t : List ℕ). StandsBy answer before now t a.place) (sym (append_assoc lines a.lines (view_line a.place.view)))
+      stands = subst (λ (t : List ℕ). ReachesBy answer before now t a.place) (sym (append_assoc lines a.lines (view_line a.place.view)))
           (stands_then (a.lines ++ view_line a.place.view) a.place a.stands);
       wrote = Appends-trans old m a.mid lines a.lines wrote a.wrote;
       part = a.part;
@@ -166,9 +166,9 @@ module _ (answer then : List ℕ → Answer) (before mid now : Option (List ℕ)
     }
 
 -- More was read behind a place, and it is the same, with more ahead.
-module _ (answer : List ℕ → Answer) (before mid now : Option (List ℕ)) (lines : List ℕ) (p : Place) (stands : StandsBy answer before mid lines p)
+module _ (answer : List ℕ → Answer) (before mid now : Option (List ℕ)) (lines : List ℕ) (p : Place) (stands : ReachesBy answer before mid lines p)
   where
-    reads_more : (read : List ℕ) → Consumes mid now read → StandsBy answer before now lines (place p.kit p.number p.view (p.ahead ++ read))
+    reads_more : (read : List ℕ) → Consumes mid now read → ReachesBy answer before now lines (place p.kit p.number p.view (p.ahead ++ read))
     reads_more read taken = record {
       read = stands.read ++ read;
       taken = Consumes-trans before mid now stands.read read stands.taken taken;

@@ -2,8 +2,8 @@
 -- before and holds now, and the counts of the sink's faults before and now. Of a stream that does not tell what it holds, nothing is said by
 -- it. The answer is any function of all bytes of the input that goes on from a place of a chain: `chain_of`, or another one that a chain is in.
 -- Names here (* for this crate alone):
---   StandsBy, AnsweredBy, ShownBy*, SomeShownBy, ShownAndSaysBy, ShownInPartBy, FaultyBy, RefusedBy, HasStatusBy
---   of a chain from a kit's first view on: Stands*, Answered*, SomeShown*, ShownAndSays*, ShownInPart*, Faulty*, Refused*, HasStatus*
+--   ReachesBy, AnsweredBy, ShownBy*, SomeShownBy, ShownAndSaysBy, ShownInPartBy, FaultyBy, RefusedBy, HasStatusBy
+--   of a chain from a kit's first view on: Reaches*, Answered*, SomeShown*, ShownAndSays*, ShownInPart*, Faulty*, Refused*, HasStatus*
 use Rattle.std.specs.Prelude.{◌≡◌, ◌⊎◌, ℕ, List, [], ◌++◌, Option, IsSomeAnd}
 use Rattle.std.specs.Io.KnownBytes.{Appends}
 use Rattle.rp_base.specs.Streams.{AppendsPrefix, Says}
@@ -11,8 +11,8 @@ use Rattle.chain_text_defs.specs.Chains.{Answer, behind, chain_of, stopped, view
 use Rattle.chain_words.specs.Places.{Ends, Leads, Place, Settles, answer_at}
 
 -- Views were read, which have these lines, and the answer goes on behind these lines at this place.
-abbrev pub StandsBy : (List ℕ → Answer) → Option (List ℕ) → Option (List ℕ) → List ℕ → Place → Type 0
-StandsBy answer before now lines p = Leads answer before now (λ rest. behind lines (answer_at p rest))
+abbrev pub ReachesBy : (List ℕ → Answer) → Option (List ℕ) → Option (List ℕ) → List ℕ → Place → Type 0
+ReachesBy answer before now lines p = Leads answer before now (λ rest. behind lines (answer_at p rest))
 
 -- The input was read to its end, its status is 0, and its answer was written and nothing else.
 pub record AnsweredBy (answer : List ℕ → Answer) (before now old new : Option (List ℕ)) : Type 0 where
@@ -24,13 +24,13 @@ pub record AnsweredBy (answer : List ℕ → Answer) (before now old new : Optio
 pub record ShownBy (answer : List ℕ → Answer) (before now old new : Option (List ℕ)) : Type 0 where
   pub lines : List ℕ
   pub place : Place
-  pub stands : StandsBy answer before now lines place
+  pub stands : ReachesBy answer before now lines place
   pub wrote : Appends old new lines
 
 -- Whole lines of views were written and nothing else: none, or those of what was read up to a place.
 pub record SomeShownBy (answer : List ℕ → Answer) (before now old new : Option (List ℕ)) : Type 0 where
   pub lines : List ℕ
-  pub are : (lines ≡ []) ⊎ ((p : Place) × StandsBy answer before now lines p)
+  pub are : (lines ≡ []) ⊎ ((p : Place) × ReachesBy answer before now lines p)
   pub wrote : Appends old new lines
 
 -- and then this line, or a prefix of it where the sink failed
@@ -44,7 +44,7 @@ pub record ShownInPartBy (answer : List ℕ → Answer) (before now old new : Op
   pub mid : Option (List ℕ)
   pub lines : List ℕ
   pub place : Place
-  pub stands : StandsBy answer before now (lines ++ view_line place.view) place
+  pub stands : ReachesBy answer before now (lines ++ view_line place.view) place
   pub wrote : Appends old mid lines
   pub part : AppendsPrefix mid new (view_line place.view)
 
@@ -67,8 +67,8 @@ HasStatusBy answer status left = IsSomeAnd left (λ bytes. (answer bytes).status
 
 -- ---- of a chain from a kit's first view on
 
-abbrev pub Stands : Option (List ℕ) → Option (List ℕ) → List ℕ → Place → Type 0
-Stands before now lines p = StandsBy chain_of before now lines p
+abbrev pub Reaches : Option (List ℕ) → Option (List ℕ) → List ℕ → Place → Type 0
+Reaches before now lines p = ReachesBy chain_of before now lines p
 
 abbrev pub Answered : Option (List ℕ) → Option (List ℕ) → Option (List ℕ) → Option (List ℕ) → Type 0
 Answered before now old new = AnsweredBy chain_of before now old new

@@ -11,7 +11,7 @@ ghost use Rattle.chain_text_defs.specs.Chains.{behind, done, setting_of, stopped
 ghost use Rattle.chain_words.specs.Stops.{input_words, line_of, status_of, words_of};
 ghost use Rattle.chain_words.specs.Lines.{if_taken, line_shows, taken};
 ghost use Rattle.chain_words.specs.Places.{Ends, ReadsMore, Settles, Shows, answer_at, place};
-ghost use Rattle.chain_words.specs.Running.{Answered, AnsweredBy, Faulty, FaultyBy, HasStatus, Refused, ShownAndSays, ShownBy, ShownInPart, ShownInPartBy, SomeShown, Stands};
+ghost use Rattle.chain_words.specs.Running.{Answered, AnsweredBy, Faulty, FaultyBy, HasStatus, Refused, ShownAndSays, ShownBy, ShownInPart, ShownInPartBy, SomeShown, Reaches};
 
 use crate::proof_lines::{MOST_PROOF_LINE, proof_in};
 use crate::stops::{Fault, Stop};

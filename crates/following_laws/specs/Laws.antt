@@ -20,8 +20,8 @@ use Rattle.store_defs.specs.Laws.{Follows, Services, TookIn}
 abbrev pub OpensPlaces : Process → Server → Type 0
 OpensPlaces p s = (k : ℕ) → places_in p.delivered ≤ k → position_at s.last k ≡ 0
 
--- Each reply that a server writes during a turn is a reply of its process, as the turn leaves it. It is signed with the leaf whose number
--- is how many messages the server has been given before.
+-- Each reply that a server writes during a turn is a reply of its process as the process is after the turn. It is signed with the leaf of
+-- this number: how many messages the server was given before.
 abbrev pub TurnReplies : Type 0
 TurnReplies = (setting : Setting) (p : Process) (t : Turn) (q : Place) (b : Beginning) (s : Server) (front rest : List Note) (x : ℕ)
     (d : Delivered) (r : Reply) → p.pool.view.number ≡ length p.left → q.me ≡ p.me → Follows p b s → OpensPlaces p s
@@ -29,41 +29,41 @@ TurnReplies = (setting : Setting) (p : Process) (t : Turn) (q : Place) (b : Begi
     → reported_of q (after_notes q s front) (Delivers x d) ≡ ReportedReply (Signed r)
     → Replies (account_of (after setting p t)) b (after_notes q s front).delivered r
 
--- and a turn keeps it so that the places that come next open at position 0
+-- Where the places that come next open at position 0, they still do after a turn.
 abbrev pub TurnOpensPlaces : Type 0
 TurnOpensPlaces = (setting : Setting) (p : Process) (t : Turn) (q : Place) (s : Server) → OpensPlaces p s
     → OpensPlaces (after setting p t) (after_notes q s (outcome setting p t).notes)
 
--- what a process replies it still replies after more events, in whichever view it was
+-- a reply of a process is still its reply after more events, whichever view it was in
 abbrev pub RepliesStay : Type 0
 RepliesStay = (setting : Setting) (p : Process) (ts : List Turn) (b : Beginning) (leaf : ℕ) (r : Reply)
     → Replies (account_of p) b leaf r → Replies (account_of (run setting p ts)) b leaf r
 
--- and so with the states that it gives
+-- and a state that it gave is still a state that it gives
 abbrev pub GivesStay : Type 0
 GivesStay = (setting : Setting) (p : Process) (ts : List Turn) (b : Beginning) (r : StateRecord)
     → Gives (account_of p) b r → Gives (account_of (run setting p ts)) b r
 
 -- ---- offers
 
--- a record that was offered, with the key that the server was handed of its signer
+-- a record that was offered, with the key of its signer, if the server was handed one
 abbrev pub Offered : Type 0
 Offered = Option (List ℕ) × StateRecord
 
--- These records and what is offered now. It is one more where the bytes are a record, the server has no store, and its process is a member
--- of its view: no other reaches the transfer.
+-- The records that were offered, after these bytes are offered. They count where they are a record, the server has no store, and its
+-- process is a member of its view; no other bytes reach the transfer.
 unfoldable pub with_offer : Place → Server → List ℕ → List Offered → List Offered
 with_offer q s bytes offered = elim (state_record_of bytes) [
   | Err fault ↦ offered
   | Ok r ↦ if is_some s.store || not (is_member s.view q.me) then offered else offered ++ (handed_key s r.signer, r) ∷ []
 ]
 
--- the transfer of a server is what these records made of it since the view began, and without a store none was ready
+-- these records, offered since the view began, made the transfer what it is; while the server has no store, no state is ready
 pub record Collects (valid : Valid) (group : List ℕ) (offered : List Offered) (s : Server) : Type 0 where
   pub transfer : s.transfer ≡ transfer_after valid group (new_transfer s.view) offered
   pub waiting : s.store ≡ None → s.transfer.state ≡ None
 
--- the process took the state that these records make ready, in its view, which is not the first; and the server follows it from there on
+-- the process took a state in its view, which is not the first, and the server follows the process from that state on
 pub record TakesOver (sv : Services) (p : Process) (s : Server) : Type 0 where
   pub beginning : Beginning
   pub view : beginning.view ≡ p.pool.view.number
@@ -71,8 +71,8 @@ pub record TakesOver (sv : Services) (p : Process) (s : Server) : Type 0 where
   pub took : TookIn sv p.me beginning
   pub follows : Follows p beginning s
 
--- After an offer the records that were offered are one more or as they were. Where `ready` is answered, the process took the store of the
--- state that is ready, and the server follows it from there on; else it follows as before.
+-- After an offer there is one more record, or there are the same. Where the answer is `ready`, the process took the state that became
+-- ready, and the server follows the process from that state on; else it follows as before.
 pub record FollowsOffers (sv : Services) (p : Process) (q : Place) (b : Beginning) (s : Server) (offered : List Offered) (bytes : List ℕ)
     : Type 0 where
   pub collects : Collects sv.family.setting.valid q.group (with_offer q s bytes offered)
@@ -82,7 +82,7 @@ pub record FollowsOffers (sv : Services) (p : Process) (q : Place) (b : Beginnin
   pub other : offer_word sv.family.setting.valid q s bytes ≢ Ready
       → Follows p b (after_offer sv.family.setting.valid q (payloads_of p.delivered) s bytes)
 
--- A server that follows its process does so after each offer, where the offers of the view are one of the process's joinings.
+-- A server that follows its process still does after an offer, if what was offered in the view is one of the process's joinings.
 abbrev pub OfferFollows : Type 0
 OfferFollows = (sv : Services) (p : Process) (q : Place) (b : Beginning) (s : Server) (offered : List Offered) (bytes : List ℕ)
     → p.pool.view.number ≡ length p.left → q.me ≡ p.me → q.group ≡ sv.family.setting.group → Follows p b s

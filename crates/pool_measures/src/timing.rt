@@ -172,12 +172,12 @@ impl Hearer {
         Ok(quickest)
     }
 
-    /// How many of `times` pairs of certificates there are, after `claims` claims are heard.
+    /// Asks for `times` pairs of certificates of the places that `claims` claims fill, and says how many it got.
     pub(crate) fn certificates(&self, claims: u32, times: u32) -> u32 {
         certify(&self.pool, places_of(claims), times)
     }
 
-    // The seconds of a certificate, where each of them is there.
+    // How many seconds it takes to get one certificate. All that are asked for must be there.
     fn time_certificate(&self, rt: &impl CpuClock, claims: u32) -> Result<f64> {
         let begun = seconds(rt)?;
         let found = self.certificates(claims, QUESTIONS);
@@ -188,12 +188,12 @@ impl Hearer {
         Ok((ended - begun) / f64::from(found))
     }
 
-    /// How many places are certified from the first on.
+    /// How many places are certified in a row, from the first on.
     pub(crate) fn places(&self) -> u16 {
         self.pool.placed_len()
     }
 
-    // The seconds of the placed length and a batch below it, where each batch has a message of each member.
+    // How many seconds it takes to ask for the placed length and one batch below it. Each batch must have a message of each member.
     fn time_placed(&self, rt: &impl CpuClock) -> Result<f64> {
         let begun = seconds(rt)?;
         let messages = walk_placed(&self.pool, QUESTIONS);

@@ -229,7 +229,4 @@ module _ (sch : Schedule) (w : World) (fits : IsSchedule sch) (ran : world_of sc
       }
 
   pub headline : Headline f
-  headline = record {
-    agree = λ honest bounded. agreement f (premises honest bounded);
-    sound = λ honest bounded. cause_and_order f (premises honest bounded);
-  }
+  headline = λ honest bounded. (agreement f (premises honest bounded), cause_and_order f (premises honest bounded))

@@ -8,7 +8,7 @@
 -- «What is trusted»). What is said by statuses and counts of faults holds of every stream.
 -- Names here (* for this crate alone):
 --   the bytes of an input: Runs, family, report_of_run, HasNoRun*
---   the headline: Headline
+--   the headline is that of a report: Headline
 --   the input: what a source had left before, and what it has left now: Replayed*, Refused*
 --   the output: what a sink held before, and what it holds now: Reported, ReportedInPart, stop_line, Stopped
 --   schedules: schedule_of_number
@@ -16,9 +16,8 @@
 use Rattle.std.specs.Prelude.{◌≡◌, ℕ, Bool, ◌≤◌, List, ◌∷◌, ◌++◌, length, Option, IfSome, Ok, Err, codes}
 use Rattle.std.specs.Io.KnownBytes.{Appends, Consumes, IsAtEnd}
 use Rattle.text_defs.specs.Words.{line_text}
-use Rattle.group_defs.specs.Process.{keyed}
-use Rattle.group_defs.specs.Accounts.{Bounded, Agree, Sound}
-use Rattle.group_defs.specs.Family.{Family, accounts, numbers, Honest}
+use Rattle.group_defs.specs.Family.{Family}
+pub use Rattle.replay_run.specs.Reported.{Headline}
 use Rattle.replay_defs.specs.Schedules.{Schedule, IsSchedule, schedule_bytes, most_bytes}
 use Rattle.replay_defs.specs.Reading.{schedule_of}
 use Rattle.replay_defs.specs.Worlds.{World, WorldFault, world_of, family_of}
@@ -54,15 +53,6 @@ pub record HasNoRun (bytes : List ℕ) : Type 0 where
   pub none : (short : Bool) → report_of short bytes ≡ Err fault
   pub no_world : (s : Schedule) → IsSchedule s → bytes ≡ schedule_bytes s
       → (why : WorldFault) × (fault ≡ Stops why) × (world_of s ≡ Err why)
-
--- ---- the headline
-
--- Where what was handed over of correct processes is their own word, and in no view that they installed more than f members are not
--- correct: all of them agree on the views, on one sequence of messages in each view, and on all of it where they left the view as members;
--- each view has its cause, and each sequence is in order and is what its senders accepted.
-pub record Headline (f : Family) : Type 0 where
-  pub agree : Honest f → Bounded (accounts f) (numbers f) → Agree (accounts f)
-  pub sound : Honest f → Bounded (accounts f) (numbers f) → Sound (accounts f) (keyed f.setting)
 
 -- ---- the input: what a source had left before, and what it has left now
 

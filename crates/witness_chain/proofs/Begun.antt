@@ -23,7 +23,7 @@ use Rattle.chain_words.specs.declared.stops.Stop.TheVariants as stops
 use Rattle.chain_words.specs.Stops.{input_words, words_of}
 use Rattle.chain_words.specs.Lines.{line_shows, no_line, taken}
 use Rattle.chain_words.specs.Places.{Ends, Leads, Settles, answer_at, place}
-use Rattle.chain_words.specs.Running.{AnsweredBy, FaultyBy, SomeShownBy, StandsBy}
+use Rattle.chain_words.specs.Running.{AnsweredBy, FaultyBy, SomeShownBy, ReachesBy}
 use Rattle.chain_words.proofs.Runs.{behind_both, none_shown}
 use Rattle.chain_words.proofs.Steps.{goes_on, nothing_left, part_answered, some_left, too_long}
 use Rattle.chain_words.proofs.Taken.{none_more, some_more, words_more}
@@ -133,7 +133,7 @@ module _ (kit : Kit) (n : ℕ) (ahead : List ℕ) (before now : Option (List ℕ
 
     -- the line of a view
     pub view_starts : (next : Next) → Reads next → (v : View) → Some v ≡ start_next s next line
-        → StandsBy G before now (view_line v) (place kit (n + 1) v l.ahead)
+        → ReachesBy G before now (view_line v) (place kit (n + 1) v l.ahead)
     view_starts nexts.Line a v e =
         leads (λ rest. behind (view_line v) (answer_at (place kit (n + 1) v l.ahead) rest)) a (λ rest. started s n line (l.ahead ++ rest) v (sym e))
     view_starts nexts.Broken a v e = absurd cc
@@ -143,7 +143,7 @@ module _ (kit : Kit) (n : ℕ) (ahead : List ℕ) (before now : Option (List ℕ
         → Appends old new (view_line v) → BegunBy G before now old new (place kit (n + 1) w l.ahead)
     started_begun next a v w e same old new wrote = record {
       lines = view_line v;
-      stands = subst (λ (u : View). StandsBy G before now (view_line v) (place kit (n + 1) u l.ahead)) (sym same) (view_starts next a v e);
+      stands = subst (λ (u : View). ReachesBy G before now (view_line v) (place kit (n + 1) u l.ahead)) (sym same) (view_starts next a v e);
       wrote = wrote;
     }
 
@@ -161,18 +161,18 @@ module _ (kit : Kit) (n : ℕ) (ahead : List ℕ) (before now : Option (List ℕ
     -- any other line, after the first view
     module _ (next : Next) (a : Reads next) (none : None ≡ start_next s next line) where
       shows-line : Reads nexts.Line → None ≡ start_in s line → (w : View) → line_shows s n s.genesis line ≡ Ok w
-          → StandsBy G before now (first ++ view_line w) (place kit (n + 1) w l.ahead)
+          → ReachesBy G before now (first ++ view_line w) (place kit (n + 1) w l.ahead)
       shows-line b other w e = leads (λ rest. behind (first ++ view_line w) (answer_at (place kit (n + 1) w l.ahead) rest)) b
           (λ rest. anew-goes-on s n line (l.ahead ++ rest) (sym other)
           ∙ ap (λ r. behind first (goes_on s n (parts_of (l.ahead ++ rest)) r)) e
           ∙ behind_both first (view_line w) (answer_at (place kit (n + 1) w l.ahead) rest))
 
       pub first_shows : (w : View) → taken s n s.genesis next line ≡ Ok (Some w)
-          → StandsBy G before now (first ++ view_line w) (place kit (n + 1) w l.ahead)
+          → ReachesBy G before now (first ++ view_line w) (place kit (n + 1) w l.ahead)
       first_shows = of next a none
         where
           of : (next : Next) → Reads next → None ≡ start_next s next line → (w : View) → taken s n s.genesis next line ≡ Ok (Some w)
-              → StandsBy G before now (first ++ view_line w) (place kit (n + 1) w l.ahead)
+              → ReachesBy G before now (first ++ view_line w) (place kit (n + 1) w l.ahead)
           of nexts.Line b other w e = shows-line b other w (some_more (line_shows s n s.genesis line) w e)
           of nexts.Broken b other w e = absurd cc
           of nexts.End b other w e = absurd cc
@@ -208,7 +208,7 @@ module _ (kit : Kit) (n : ℕ) (ahead : List ℕ) (before now : Option (List ℕ
           of nexts.End b other words e = absurd cc
 
       -- before the line is taken as a proof
-      untaken : Reads nexts.Line → None ≡ start_in s line → (bytes : List ℕ) × StandsBy G before now first (place kit n s.genesis bytes)
+      untaken : Reads nexts.Line → None ≡ start_in s line → (bytes : List ℕ) × ReachesBy G before now first (place kit n s.genesis bytes)
       untaken b other = (
         b.bytes,
         leads (λ rest. behind first (answer_at (place kit n s.genesis b.bytes) rest)) b

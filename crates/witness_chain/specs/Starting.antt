@@ -11,7 +11,7 @@ use Rattle.line_input.specs.declared.lines.Next.TheVariants as nexts
 use Rattle.chain_text_defs.specs.Chains.{Answer, setting_of, view_line}
 use Rattle.chain_words.specs.Lines.{taken}
 use Rattle.chain_words.specs.Places.{Place, Settles}
-use Rattle.chain_words.specs.Running.{FaultyBy, ShownInPartBy, SomeShownBy, StandsBy}
+use Rattle.chain_words.specs.Running.{FaultyBy, ShownInPartBy, SomeShownBy, ReachesBy}
 use Rattle.proof_defs.specs.Starts.{start_in, started_at}
 
 -- the answer to the lines after a kit, from this number on, where these bytes of them are read already
@@ -41,7 +41,7 @@ pub record PartShown (s : Setting) (n : ℕ) (next : Next) (line : List ℕ) (ol
 -- Whole lines of views were written and nothing else: those of what was read up to this place.
 pub record BegunBy (answer : List ℕ → Answer) (before now old new : Option (List ℕ)) (p : Place) : Type 0 where
   pub lines : List ℕ
-  pub stands : StandsBy answer before now lines p
+  pub stands : ReachesBy answer before now lines p
   pub wrote : Appends old new lines
 
 -- What was read has this answer, whatever comes after it, or as the input ends with it, and a prefix of it was written and nothing else.

@@ -25,7 +25,7 @@ use Rattle.witness_defs.specs.Lines.{Evidence}
 use Rattle.witness_defs.specs.Judging.{Judged, NoInput, Refusal, if_read, judged, judged_behind}
 use Rattle.witness_words.specs.declared.stops.Fault.{Fault}
 use Rattle.witness_words.specs.declared.stops.Stop.TheVariants.{Input}
-use Rattle.witness_words.specs.Places.{Place, Refuses, Tells, Verdict, and_then, behind, judged_from, place}
+use Rattle.witness_words.specs.Places.{Place, Refuses, ReportsAs, Verdict, and_then, behind, judged_from, place}
 use Rattle.witness_words.specs.Running.{Takes}
 use Rattle.witness_words.specs.Stops.{fault_line, fault_status, of_front, of_kit}
 
@@ -53,8 +53,8 @@ abbrev pub with_taken : Kit → List Evidence → Verdict → Result Judged Refu
 with_taken kit es v = and_then es v >>= λ all. Ok (record { kit = kit; evidence = all })
 
 -- a kit was read and some lines, whose evidence was taken, and judging goes on at this place
-abbrev pub Stands : Option (List ℕ) → Option (List ℕ) → List Evidence → Place → Type 0
-Stands before now es p = Leads judged before now (λ rest. with_taken p.kit es (judged_from p rest))
+abbrev pub Reaches : Option (List ℕ) → Option (List ℕ) → List Evidence → Place → Type 0
+Reaches before now es p = Leads judged before now (λ rest. with_taken p.kit es (judged_from p rest))
 
 abbrev opened : Result Front kits.KitFault → Result Judged Refusal
 opened (Err fault) = Err (NoInput fault)
@@ -74,7 +74,7 @@ none-taken kit (Ok es) = refl
 none-taken kit (Err why) = refl
 
 begun : (before now : Option (List ℕ)) (kit : Kit) (go : ℕ) (left : List ℕ) → Begins before now [] kit go left
-    → Stands before now [] (place kit (go + 1) left)
+    → Reaches before now [] (place kit (go + 1) left)
 begun before now kit go left b = record {
   read = b.read.0;
   taken = b.read.1;
@@ -85,9 +85,9 @@ begun before now kit go left b = record {
 }
 
 pub first_stands : (before now : Option (List ℕ)) (kit : Kit) (go n : ℕ) (ahead left : List ℕ) → ahead ≡ [] → Begins before now ahead kit go left
-    → n ≡ go + 1 → Stands before now [] (place kit n left)
+    → n ≡ go + 1 → Reaches before now [] (place kit n left)
 first_stands before now kit go n ahead left none begins next =
-    subst (λ (m : ℕ). Stands before now [] (place kit m left)) (sym next)
+    subst (λ (m : ℕ). Reaches before now [] (place kit m left)) (sym next)
     (begun before now kit go left (subst (λ (t : List ℕ). Begins before now t kit go left) none begins))
 
 -- ---- no kit
@@ -109,7 +109,7 @@ module _ (before now : Option (List ℕ)) where
   is : (a b : Fault) → Input a ≡ Input b → a ≡ b
   is a b e = cc
 
-  tells : (why : kits.KitFault) (reported fault : Fault) → HasFault before now [] why → Tells reported (NoInput why) → reported ≡ fault
+  tells : (why : kits.KitFault) (reported fault : Fault) → HasFault before now [] why → ReportsAs reported (NoInput why) → reported ≡ fault
       → Refuses judged before now fault
   tells why reported fault h says same = record {
     why = NoInput why;
@@ -138,10 +138,10 @@ both kit e es (Ok more) = ap (λ (all : List Evidence). let r : Result Judged Re
     (sym (append_assoc es (e ∷ []) more))
 
 module _ (before mid now : Option (List ℕ)) (kit : Kit) (n : ℕ) (ahead : List ℕ)
-    (stands : (es : List Evidence) × Stands before mid es (place kit n ahead)) where
+    (stands : (es : List Evidence) × Reaches before mid es (place kit n ahead)) where
   pub stands_more : (m : ℕ) (left : List ℕ)
       → (e : Evidence) × Leads (judged_from (place kit n ahead)) mid now (behind e (place kit m left))
-      → (es : List Evidence) × Stands before now es (place kit m left)
+      → (es : List Evidence) × Reaches before now es (place kit m left)
   stands_more m left next =
       let all = leads_more judged (judged_from (place kit n ahead)) (with_taken kit stands.0) before mid now stands.1
       (behind next.0 (place kit m left)) next.1 in (

@@ -20,7 +20,7 @@ use Rattle.witness_defs.specs.Lines.{Evidence, evidence_in, most_evidence_line}
 use Rattle.witness_defs.specs.Judging.{NoInput, NotTaken, Refusal, is_taken, judged_at}
 use Rattle.witness_words.specs.declared.stops.Fault.{Fault}
 use Rattle.witness_words.specs.declared.stops.Fault.TheVariants as faults
-use Rattle.witness_words.specs.Places.{Refuses, Tells, Verdict, and_then, behind, if_taken, judged_from, line_gives, place}
+use Rattle.witness_words.specs.Places.{Refuses, ReportsAs, Verdict, and_then, behind, if_taken, judged_from, line_gives, place}
 
 -- judging goes on behind what a line gives
 abbrev goes_on : Setting → ℕ → List (List ℕ) → Result Evidence Refusal → Verdict
@@ -155,7 +155,7 @@ module _ (kit : Kit) (n : ℕ) (ahead : List ℕ) (before now : Option (List ℕ
         },
       )
 
-      pub line_refused : (fault : Fault) → (r : Refusal) × (line_gives (setting_of kit) n line ≡ Err r) × Tells fault r
+      pub line_refused : (fault : Fault) → (r : Refusal) × (line_gives (setting_of kit) n line ≡ Err r) × ReportsAs fault r
           → Refuses (judged_from (place kit n ahead)) before now fault
       line_refused fault gives = record {
         why = gives.0;
@@ -172,14 +172,14 @@ module _ (kit : Kit) (n : ℕ) (ahead : List ℕ) (before now : Option (List ℕ
 module _ (s : Setting) (n : ℕ) (line : List ℕ) where
   -- what a fault of it tells
   abbrev pub Wrong : Fault → Type 0
-  Wrong fault = (r : Refusal) × (line_gives s n line ≡ Err r) × Tells fault r
+  Wrong fault = (r : Refusal) × (line_gives s n line ≡ Err r) × ReportsAs fault r
 
   -- it is none of evidence
   pub no_line : (let none : Option Evidence = None in none) ≡ evidence_in line → (fault : Fault) → faults.Line n ≡ fault → Wrong fault
   no_line none fault same = (
     NoInput (Line n),
     ap (if_taken s n) (sym none),
-    subst (λ (f : Fault). Tells f (NoInput (Line n))) same (refl, refl),
+    subst (λ (f : Fault). ReportsAs f (NoInput (Line n))) same (refl, refl),
   )
 
   -- its evidence is taken, or it is not
@@ -194,5 +194,5 @@ module _ (s : Setting) (n : ℕ) (line : List ℕ) where
     untaken_line fails fault same = (
       NotTaken n,
       by-test ∙ ap (λ (t : Bool). let r : Result Evidence Refusal = if t then Ok e else Err (NotTaken n) in r) fails,
-      subst (λ (f : Fault). Tells f (NotTaken n)) same (refl, refl),
+      subst (λ (f : Fault). ReportsAs f (NotTaken n)) same (refl, refl),
     )

@@ -51,11 +51,11 @@ line_gives s n line = if_taken s n (evidence_in line)
 -- ---- faults
 
 -- the fault is reported as this is
-abbrev pub Tells : Fault → Refusal → Type 0
-Tells fault r = (refusal_line r ≡ fault_line fault) × (fault_status fault ≡ 7)
+abbrev pub ReportsAs : Fault → Refusal → Type 0
+ReportsAs fault r = (refusal_line r ≡ fault_line fault) × (fault_status fault ≡ 7)
 
 -- something is in the way, which is reported as this fault is, whatever comes after what was read, or as the input ends there
 pub record Refuses {A : Type 0} (answer : List ℕ → Result A Refusal) (before now : Option (List ℕ)) (fault : Fault) : Type 0 where
   pub why : Refusal
   pub is : Settles answer before now (Err why)
-  pub reported : Tells fault why
+  pub reported : ReportsAs fault why

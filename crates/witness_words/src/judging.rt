@@ -7,7 +7,7 @@ ghost use Rattle.line_input.specs.Places.{Ends, Leads};
 ghost use Rattle.audit_defs.specs.Players.{setting_of};
 ghost use Rattle.witness_defs.specs.Lines as reported;
 ghost use Rattle.witness_defs.specs.Judging as plain;
-ghost use Rattle.witness_words.specs.Places.{Refuses, Tells, behind, judged_from, line_gives, place};
+ghost use Rattle.witness_words.specs.Places.{Refuses, ReportsAs, behind, judged_from, line_gives, place};
 ghost use Rattle.witness_words.specs.Running.{IsRefused, IsTaken, Refused, Takes};
 ghost use Rattle.witness_words.specs.Seen.{evidence_with};
 ghost use Rattle.witness_words.specs.Stops.{line_of, status_of};
@@ -41,7 +41,7 @@ pub(crate) fn is_taken(kit: &Kit, process: Pid, frame: &[u8]) -> bool
 fn take_line(alloc: Global, kit: &Kit, number: usize, line: &[u8]) -> Result<(), Stop>
     ensures taken { OnOk result ((e : reported.Evidence) × (line_gives (setting_of kit.now) number line.now ≡ Ok e)) }
     ensures refused { (fault : Fault) → IsErrOf result (Stop.Input fault)
-        → (r : plain.Refusal) × (line_gives (setting_of kit.now) number line.now ≡ Err r) × Tells fault r }
+        → (r : plain.Refusal) × (line_gives (setting_of kit.now) number line.now ≡ Err r) × ReportsAs fault r }
     ensures no_read { ¬ IsErrOf result Stop.Read }
     ensures no_write { ¬ IsErrOf result Stop.Write }
 {

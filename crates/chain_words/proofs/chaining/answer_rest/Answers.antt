@@ -6,7 +6,7 @@ use Rattle.std.proofs.KnownBytes.{Appends-nil}
 use Rattle.chain_text_defs.specs.Chains.{view_line}
 use Rattle.chain_words.specs.declared.stops.Stop.TheVariants.{Input}
 use Rattle.chain_words.specs.Places.{Place, answer_at, place}
-use Rattle.chain_words.specs.Running.{StandsBy}
+use Rattle.chain_words.specs.Running.{ReachesBy}
 use Rattle.chain_words.specs.Stops.{words_of}
 use Rattle.chain_words.proofs.Runs.{next_faulty, next_in_part, next_shown, shown_there, stands_then, stands_there}
 use Rattle.std.proofs.KnownBytes.{Appends-trans}
@@ -16,7 +16,7 @@ pub proofs-init : goal.proofs-init
 proofs-init g c = record {
   shown = (
     [],
-    subst (λ (n : ℕ). StandsBy (answer_at (place c.args.kit.now (c.args.last + 1) c.args.chain c.args.lines.now.ahead))
+    subst (λ (n : ℕ). ReachesBy (answer_at (place c.args.kit.now (c.args.last + 1) c.args.chain c.args.lines.now.ahead))
         (g.S.Source.left c.args.input.now) (g.S.Source.left c.args.input.now) [] (place c.args.kit.now n c.args.chain c.args.lines.now.ahead))
         (sym c.in_ok-first.ensures.next)
         (stands_there (g.S.Source.left c.args.input.now) (place c.args.kit.now (c.args.last + 1) c.args.chain c.args.lines.now.ahead)),
