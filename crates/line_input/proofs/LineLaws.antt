@@ -1,7 +1,7 @@
 -- The first line of bytes.
-use Rattle.std.proofs.Common.{◌≡◌, ℕ, suc, ◌+◌, ◌-◌, ◌<◌, ◌≤◌, ◌==◌, Bool, true, false, not, List, [], ◌∷◌, length, take, drop, Option, None, Some, true≢false, refl, sym, ap, ◌∙◌, arith, ⊎_elim}
-use Rattle.std.specs.Prelude.{nat_lt, if◌then◌else◌}
-use Rattle.std.proofs.lemmas.Bool.{eqb-true, ltb-true, ltb-false, le-leb, lt-leb, cases_lt}
+use Rattle.std.proofs.Common.{◌≡◌, ℕ, zero, suc, ◌+◌, ◌-◌, ◌<◌, ◌≤◌, ◌==◌, Bool, true, false, not, List, [], ◌∷◌, length, take, drop, Option, None, Some, true≢false, refl, sym, ◌∙◌, arith, ⊎_elim}
+use Rattle.std.specs.Prelude.{nat_lt, if◌then◌else◌, ◌||◌}
+use Rattle.std.proofs.lemmas.Bool.{ltb-true, ltb-false, le-leb, lt-leb, cases_lt}
 use Rattle.std.proofs.lemmas.List.{length-take-le, drop-drop}
 use Rattle.std.specs.List.{list_any, position, position_or_len, slice_range}
 use Rattle.input_defs.specs.Lines.{line_at, line_within, if_short}
@@ -44,6 +44,29 @@ line_nowhere (b ∷ bytes) past = of (line_nowhere bytes) (b == 10) refl past
         → length (b ∷ bytes) ≤ first_feed (b ∷ bytes) → line_at (b ∷ bytes) ≡ None
     of rest true e past = absurd (omega (arith, rw e at past))
     of rest false e past = let none = rest (omega (arith, rw e at past)) in rw (e, none) refl
+
+feed_behind : (n : ℕ) (bytes : List ℕ) → list_any feed (drop n bytes) ≡ true → list_any feed bytes ≡ true
+feed_behind zero bytes some = some
+feed_behind (suc n) [] some = some
+feed_behind (suc n) (b ∷ bytes) some = of (b == 10) (feed_behind n bytes some)
+  where
+    of : (t : Bool) → list_any feed bytes ≡ true → (t || list_any feed bytes) ≡ true
+    of true more = refl
+    of false more = more
+
+feed_before : (n : ℕ) (bytes : List ℕ) → list_any feed (take n bytes) ≡ true → list_any feed bytes ≡ true
+feed_before zero bytes some = absurd cc
+feed_before (suc n) [] some = some
+feed_before (suc n) (b ∷ bytes) some = of (b == 10) (feed_before n bytes) some
+  where
+    of : (t : Bool) → (list_any feed (take n bytes) ≡ true → list_any feed bytes ≡ true) → (t || list_any feed (take n bytes)) ≡ true
+        → (t || list_any feed bytes) ≡ true
+    of true more e = refl
+    of false more e = more e
+
+-- a line feed that is found among some of the bytes is among them
+pub feed_among : (bytes : List ℕ) (from to : ℕ) → list_any feed (slice_range bytes from to) ≡ true → list_any feed bytes ≡ true
+feed_among bytes from to some = feed_behind from bytes (feed_before (to - from) (drop from bytes) some)
 
 feed_within : (bytes : List ℕ) → list_any feed bytes ≡ true → first_feed bytes < length bytes
 feed_within [] some = absurd cc

@@ -1,5 +1,5 @@
 -- What a reader answers, once it has read enough.
-use Rattle.std.proofs.Common.{◌≡◌, ◌⊎◌, ℕ, ◌<◌, ◌==◌, List, length, Option, arith, ap, true≢false, sym, ◌∙◌, inl, inr}
+use Rattle.std.proofs.Common.{◌⊎◌, ℕ, ◌<◌, ◌==◌, List, length, Option, arith, ap, true≢false, sym, ◌∙◌, inl, inr}
 use Rattle.std.specs.List.{list_any}
 use Rattle.std.specs.Io.KnownBytes.{IsAtEnd}
 use Rattle.line_input.specs.declared.lines.Next.{Next}

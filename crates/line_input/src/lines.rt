@@ -85,10 +85,14 @@ impl Lines {
         &self.read[self.next..]
     }
 
-    // Moves what is ahead to the front, for each piece that is read and not for each line.
+    // Moves what is ahead to the front, for each piece that is read and not for each line. Where nothing was taken it is there: so the pieces
+    // of a long line are not moved again and again.
     fn drop_taken(&mut self)
         ensures { self.new.ahead ≡ self.old.ahead }
     {
+        if self.next == 0 {
+            return;
+        }
         let left = self.read.len() - self.next;
         self.read.copy_within(self.next.., 0);
         self.read.truncate(left);
@@ -115,13 +119,14 @@ impl Lines {
         Ok(n > 0)
     }
 
-    // Whether a line feed is ahead, or more bytes than a line may have.
-    fn is_enough(&self, most: usize) -> bool
+    // Whether a line feed is ahead from this place on, or more bytes than a line may have.
+    fn is_enough(&self, most: usize, from: usize) -> bool
+        requires { from ≤ length self.now.ahead }
         ensures enough { result ≡ true → HasFeed self.now.ahead ⊎ (most < length self.now.ahead) }
         ensures little { result ≡ false → length self.now.ahead ≤ most }
     {
         let ahead = self.ahead();
-        ahead.len() > most || ahead.contains(&b'\n')
+        ahead.len() > most || ahead[from..].contains(&b'\n')
     }
 
     // Reads on until a line feed is ahead, or more bytes than a line may have, or the input ends.
@@ -131,7 +136,10 @@ impl Lines {
         ensures failed { IsErrOf result InputFault.Read → Rose (S.faults input.old) (S.faults input.new) }
         ensures steady { IsErrOf result InputFault.Read ⊎ (S.faults input.new ≡ S.faults input.old) }
     {
-        'pieces: while !self.is_enough(most) {
+        // Up to here no line feed is ahead: each byte is looked at once.
+        let mut looked = 0;
+        'pieces: while !self.is_enough(most, looked) {
+            looked = self.ahead().len();
             if !self.read_piece(input)? {
                 return Ok(());
             }

@@ -1,4 +1,4 @@
-use Rattle.std.proofs.Common.{◌≡◌, ℕ, ◌-◌, ◌++◌, length, take, arith, ap, ◌∙◌, inl, inr, length-append, length-take, List, subst, sym, min}
+use Rattle.std.proofs.Common.{◌≡◌, ℕ, ◌-◌, ◌++◌, length, take, arith, ap, ◌∙◌, inl, inr, length-append, length-take, List, subst, sym}
 use Rattle.line_input.specs.Taking.{ReadOn}
 use Rattle.std.proofs.lemmas.Result.{err_from_is_err_and}
 use Rattle.line_input.proofs.BytesTaken.{reads_further, takes_more}

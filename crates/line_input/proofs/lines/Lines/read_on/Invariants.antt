@@ -1,11 +1,12 @@
-use Rattle.std.proofs.Common.{◌≡◌, ◌+◌, ◌-◌, length}
+use Rattle.std.proofs.Common.{◌≡◌, ◌+◌, ◌-◌, ◌≤◌, length}
 use Rattle.line_input.specs.Taking.{ReadOn}
 use Rattle.line_input.proofs.lines.Lines.read_on.Given as goal
 
--- what was taken so far is ahead, and no call has failed
+-- what was taken so far is ahead, no more of it was looked at, and no call has failed
 abbrev pub invariant-pieces : goal.invariant-pieces
 invariant-pieces g l = record {
   read : ReadOn (g.S.Source.left l.fn.input) (g.S.Source.left l.input) l.fn.self.ahead l.self.ahead;
+  looked : l.looked ≤ length l.self.ahead;
   steady : g.S.Source.faults l.input ≡ g.S.Source.faults l.fn.input;
 }
 
