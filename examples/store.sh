@@ -46,12 +46,7 @@ request() {
     hand 0 "$line"
     exchange
     tail -n "+$((shown + 1))" told_0 | sed -e '/^recv/d' -e 's/^\([^ ].\{63\}\).*/\1/'
-    {
-        grep -v '^host\|^pair' kit
-        sed -n '/^replykey/p' told_?
-        echo "view 0 : $members"
-        sed -n '/^reply [0-9]* [0-9a-f]*$/p' told_?
-    } | "$top/rampart" ask "${line##* }" | "$top/store" tell
+    cat kit told_? | "$top/store" ask "${line##* }" | "$top/rampart" ask "${line##* }" | "$top/store" tell
 }
 
 "$top/rampart" keygen 4 4 plain:1000 "$(printf %064d 0)" > kit

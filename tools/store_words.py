@@ -1,10 +1,10 @@
 #!/usr/bin/env python3
-"""Compares what `store assemble` and `store tell` write with what docs/STORE.md and docs/FORMATS.md say of the same lines.
+"""Compares what `store assemble`, `store tell` and `store ask` write with what docs/STORE.md and docs/FORMATS.md say of the same lines.
 
     python3 tools/store_words.py [FIRST [END [PROGRAM]]]
 
-Each number from FIRST (0) up to END (200) draws a text of requests in words and a text of lines about a store, some of them damaged, and what
-is to be written of each is computed here, by the pages alone. PROGRAM runs in place of ./store, which must be proved (./store --prove). A
+Each number from FIRST (0) up to END (200) draws a text of requests in words, a text of lines about a store, and a kit with lines that nodes
+wrote, some of them damaged, and what is to be written of each is computed here, by the pages alone. PROGRAM runs in place of ./store, which must be proved (./store --prove). A
 difference is printed, and at the end how many there were. The status is 1 where there is one.
 """
 import pathlib
@@ -254,8 +254,117 @@ def telling_line(rng):
     return rng.choice(["host 0 view 0 delivered 0 entries 0", "", "reply 64 none", "deliver 0 0 0 0 0 6", "answer", "state 0 00", " reply 0 none"]), []
 
 
-def run(program, word, lines):
-    done = subprocess.run([str(program), word], input="".join(line + "\n" for line in lines), capture_output=True, text=True)
+# ---- what `ask` is to read
+
+MOST_ASKED_LINE = 70000
+MOST_REPLIES = 1024
+
+
+def kit_lines(rng, roster, members):
+    keys = [f"key {p} {rng.randbytes(32).hex()}" for p in roster]
+    ports = [f"port {p} {47000 + p}" for p in roster]
+    return ["rampart kit 1", "scheme plain", f"group {rng.randbytes(16).hex()}", *keys, "genesis " + " ".join(map(str, members)), *ports, "go"]
+
+
+def reply_record(rng, p, asked):
+    record = number(p, 1) + number(rng.choice([0, 3, 1023]), 2) + number(rng.choice([0, 1, 1023]), 2) + number(rng.randrange(16), 1)
+    return record + text(asked) + text(answer(rng)) + text(rng.randbytes(32))
+
+
+def written_line(rng, roster, payloads):
+    """A line that a node may have written."""
+    p = rng.choice([*roster, *roster, 63])
+    kind = rng.randrange(8)
+    if kind == 0:
+        key = rng.randbytes(rng.choice([32, 32, 32, 31, 56])).hex()
+        return f"replykey {p} {rng.choice([key, key, key.upper()])}" + rng.choice(["", "", "", " "])
+    if kind == 1:
+        members = rng.sample(range(64), rng.choice([1, 3, 4, 16, 17]))
+        view = f"view {rng.choice([0, 1, 1023, 1024])} : " + " ".join(map(str, members))
+        return rng.choice([view, view, view, view + " 64", view + f" {members[0]}", view.replace(" :", ":"), f"view {p} {view[5:]}"])
+    if kind < 5:
+        asked = rng.choice(payloads)
+        record = reply_record(rng, p, asked)
+        signer = p if rng.random() < 0.9 else (p + 1) % 64
+        return f"reply {signer} {damaged(rng, record).hex()}"
+    return rng.choice([f"reply {p} none", f"reply {p} spent", f"statekey {p} {rng.randbytes(32).hex()}", "", "  done", f"  reply {p} 00", "go",
+                       f"deliver {p} 0 0 0 0 {rng.choice(payloads).hex()}", "view", "reply", "replykey", "state 0 " + "00" * 40000,
+                       "reply 0 " + "00" * 40000])
+
+
+def number_in(word, most):
+    return word.isascii() and word.isdigit() and str(int(word)) == word and int(word) <= most
+
+
+def hex_in(word):
+    return word if len(word) % 2 == 0 and word and set(word) <= set("0123456789abcdef") else None
+
+
+def key_in(words, roster):
+    """The process of the roster whose key the words say."""
+    right = len(words) == 3 and words[0] == "replykey" and number_in(words[1], 63) and int(words[1]) in roster
+    return int(words[1]) if right and hex_in(words[2]) and len(words[2]) == 64 else None
+
+
+def is_view(words):
+    if len(words) < 4 or words[0] != "view" or words[2] != ":" or not number_in(words[1], 1023):
+        return False
+    members = words[3:]
+    return len(members) <= 16 and all(number_in(m, 63) for m in members) and len(set(members)) == len(members)
+
+
+def is_reply(words, payload):
+    if len(words) != 3 or words[0] != "reply" or not number_in(words[1], 63) or not hex_in(words[2]):
+        return False
+    try:
+        found = reply_in(bytes.fromhex(words[2]))
+    except ValueError:
+        return False
+    return found[0] == int(words[1]) and found[4] == payload
+
+
+def picked(kit, lines, roster, members, payload):
+    """The lines that `ask` is to read; or the number of the first that is faulty, counted from 0 after the kit."""
+    keys, view, replies = {}, "view 0 : " + " ".join(map(str, members)), []
+    for n, line in enumerate(lines):
+        words = line.split(" ") if len(line) <= MOST_ASKED_LINE else []
+        p = key_in(words, roster)
+        if p is not None:
+            keys.setdefault(p, line)
+        if is_view(words):
+            view = line
+        if is_reply(words, payload):
+            if len(replies) == MOST_REPLIES:
+                return n
+            replies.append(line)
+    return [*kit, *(keys[p] for p in roster if p in keys), view, *replies]
+
+
+def asking(rng):
+    """A payload, an input, and what is written of it to the output and to standard error, and the status."""
+    roster = sorted(rng.sample(range(20), rng.choice([1, 3, 4, 7])))
+    members = rng.sample(roster, rng.randint(1, len(roster)))
+    payloads = [payload(rng.randrange(2**64), command(rng))[:1024] for _ in range(2)]
+    kit, lines = kit_lines(rng, roster, members), [written_line(rng, roster, payloads) for _ in range(rng.randrange(60))]
+    if rng.random() < 0.02:
+        p = rng.choice(roster)
+        lines += [f"reply {p} {reply_record(rng, p, payloads[0]).hex()}"] * rng.choice([1020, 1030])
+    asks = picked(kit, lines, roster, members, payloads[0])
+    whole = "".join(line + "\n" for line in kit + lines)
+    damage = rng.random()
+    if damage < 0.05:
+        return payloads[0], "".join(line + "\n" for line in kit[:-1]), ("", f"stop 7 line {len(kit)}\n", 7)
+    if damage < 0.1:
+        return payloads[0], whole.replace("scheme plain\n", "", 1), ("", "stop 7 missing 2\n", 7)
+    if isinstance(asks, int):
+        return payloads[0], whole, ("", f"stop 7 line {len(kit) + asks + 1}\n", 7)
+    if damage < 0.15:
+        return payloads[0], whole + "reply 0 00", ("", f"stop 7 line {len(kit + lines) + 1}\n", 7)
+    return payloads[0], whole, ("".join(line + "\n" for line in asks), "", 0)
+
+
+def run(program, words, whole):
+    done = subprocess.run([str(program), *words], input=whole, capture_output=True, text=True)
     return done.stdout, done.stderr, done.returncode
 
 
@@ -273,14 +382,20 @@ def main(first=0, end=200, program=STORE):
     differ = 0
     for n in range(int(first), int(end)):
         rng = random.Random(n)
-        asking = [asking_line(rng) for _ in range(rng.randrange(12))]
+        requests = [asking_line(rng) for _ in range(rng.randrange(12))]
         telling = [telling_line(rng) for _ in range(rng.randrange(40))]
         told = "".join(line + "\n" + "".join(f"  {it}\n" for it in its) for line, its in telling)
-        for word, lines, wanted in (("assemble", asking, assembled(asking)), ("tell", telling, (told, "", 0))):
-            got = run(program, word, [line for line, _ in lines])
+        asked, input_of_ask, question = asking(rng)
+        whole = lambda lines: "".join(line + "\n" for line, _ in lines)
+        for words, given, wanted in (
+            (["assemble"], whole(requests), assembled(requests)),
+            (["tell"], whole(telling), (told, "", 0)),
+            (["ask", asked.hex()], input_of_ask, question),
+        ):
+            got = run(program, words, given)
             if got != wanted:
                 differ += 1
-                print(f"{n}: {word} differs\n  got    {got}\n  wanted {wanted}")
+                print(f"{n}: {words[0]} differs\n  got    {got}\n  wanted {wanted}")
     print(f"{differ} differ")
     return 1 if differ else 0
 

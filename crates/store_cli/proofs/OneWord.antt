@@ -19,3 +19,9 @@ is_word words d w read b bytes r least most is reads e passes same =
     let equal : read ≡ b = (bytes_eq-Decides read b).0 (sym e ∙ passes) in
     one words d least most ∙ ap (λ (x : String Global). string_bytes x ∷ []) (sym is) ∙ ap (λ (x : List ℕ). x ∷ [])
     (sym reads ∙ equal ∙ same)
+
+-- words of a filter ask for nothing else
+pub not_two : {P : Type 0} (words : List (List ℕ)) (word first second : List ℕ) → words ≡ word ∷ [] → words ≡ first ∷ second ∷ [] → P
+not_two words word first second one two =
+    let same : 1 ≡ 2 = ap (λ (ws : List (List ℕ)). length ws) (sym one ∙ two) in
+    absurd (omega (arith, same))

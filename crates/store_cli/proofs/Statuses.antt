@@ -1,5 +1,5 @@
 -- Why a run stopped, by its status.
-use Rattle.std.proofs.Common.{◌≡◌, ◌⊎◌, ℕ, Option, Some, None, List, [], ◌++◌, Result, Err, refl, sym, ap, subst, ◌∙◌, arith, inl, inr}
+use Rattle.std.proofs.Common.{◌≡◌, ◌⊎◌, ℕ, true, false, Option, Some, None, List, [], ◌++◌, Result, Err, refl, sym, ap, subst, ◌∙◌, arith, inl, inr}
 use Rattle.std.specs.Prelude.{IsErrOf}
 use Rattle.std.proofs.lemmas.List.{append-nil}
 use Rattle.std.specs.Io.KnownBytes.{Appends, Consumes, IsAtEnd}
@@ -9,6 +9,8 @@ use Rattle.store_text_defs.specs.Filters.{Filtered, Stopped}
 use Rattle.store_text_defs.specs.Laws.{OneOutcome}
 use Rattle.store_cli.specs.declared.stops.Stop.{Stop}
 use Rattle.store_cli.specs.declared.stops.Stop.TheVariants.{NoMemory, Read, Write, Faulty}
+use Rattle.command_line.specs.Commands as rampart
+use Rattle.store_cli.specs.Commands.{is_question}
 use Rattle.store_cli.specs.Messages.{Ends, fault_line, read_line}
 use Rattle.store_cli.specs.Running.{Done, HasFault, HasOutput, MadeInPart, Ran, Refused, RefusedAndSays, SomeMade}
 
@@ -194,3 +196,32 @@ module _ (f : Filter) (before now old new : Option (List ℕ)) where
 
 pub same_filter : (a b : Filter) → (let o : Option Filter = Some a in o) ≡ Some b → a ≡ b
 same_filter a b e = cc
+
+-- a command that is `ask` has a payload
+pub payload_of : (c : rampart.Command) → is_question c ≡ true → (payload : List ℕ) × (c ≡ rampart.Ask payload)
+payload_of (rampart.Ask payload) e = (payload, refl)
+payload_of (rampart.Replay short) e = absurd cc
+payload_of rampart.Chain e = absurd cc
+payload_of (rampart.Gen number) e = absurd cc
+payload_of (rampart.Keygen order) e = absurd cc
+payload_of (rampart.Node file) e = absurd cc
+payload_of (rampart.Resume file) e = absurd cc
+payload_of (rampart.Guard file) e = absurd cc
+payload_of (rampart.Serve file) e = absurd cc
+payload_of (rampart.Audit listed) e = absurd cc
+
+pub is_asked : (c : rampart.Command) (payload : List ℕ) → (let o : Option rampart.Command = Some c in o) ≡ Some (rampart.Ask payload)
+    → is_question c ≡ true
+is_asked c payload e = ap is_question (same c (rampart.Ask payload) e)
+  where
+    same : (a b : rampart.Command) → (let o : Option rampart.Command = Some a in o) ≡ Some b → a ≡ b
+    same a b e = cc
+
+pub no_command : {P : Type 0} (c : rampart.Command) → (let o : Option rampart.Command = None in o) ≡ Some c → P
+no_command c e = absurd cc
+
+pub never_true : {P : Type 0} → false ≡ true → P
+never_true e = absurd cc
+
+pub nothing : (f : Filter) → (let o : Option Filter = None in o) ≡ Some f → ⊥
+nothing f e = absurd cc

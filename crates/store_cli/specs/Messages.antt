@@ -10,7 +10,7 @@ use Rattle.store_cli.specs.declared.stops.Stop.TheVariants.{NoMemory, Read, Writ
 
 -- which words there are
 abbrev pub usage : List ℕ
-usage = codes "assemble     requests in words become lines that submit them: 0 put 7 \"a\" \"b\"\ntell         lines about a store are followed by what they say\nstop 2 words\n"
+usage = codes "assemble     requests in words become lines that submit them: 0 put 7 \"a\" \"b\"\ntell         lines about a store are followed by what they say\nask HEX      a kit and lines that nodes wrote become what rampart ask HEX is to read\nstop 2 words\n"
 
 -- the line of this number is the first faulty one
 abbrev pub fault_line : ℕ → List ℕ

@@ -1,7 +1,8 @@
-use Rattle.std.proofs.Common.{inl, inr, refl, sym, subst}
+use Rattle.std.proofs.Common.{inl, inr, refl, sym, subst, arith, ◌∙◌}
 use Rattle.store_text_defs.specs.declared.Filter.{Filter}
 use Rattle.store_cli.specs.Running.{HasFault, HasOutput, MadeInPart, RefusedAndSays, SomeMade}
-use Rattle.store_cli.proofs.Statuses.{at_fault, at_read, at_write, fault_or_memory, faultless, faulty, memory_alone, no_other, no_read, no_write, only, part_made, quiet_so, refused_and_says, refused_so, same_filter, some_made, stopped_so}
+use Rattle.store_cli.proofs.OneWord.{not_two}
+use Rattle.store_cli.proofs.Statuses.{at_fault, at_read, at_write, fault_or_memory, faultless, faulty, memory_alone, no_other, no_read, no_write, only, part_made, quiet_so, refused_and_says, refused_so, nothing, same_filter, some_made, stopped_so}
 use Rattle.store_cli.proofs.top.store.Goals as goal
 
 pub returns-in-Err-clause-done : goal.returns-in-Err-clause-done
@@ -26,7 +27,7 @@ returns-in-Err-clause-read_line g c = λ three. (at_read _ _ _ _ _ c.in-Err.stop
 pub returns-in-Err-clause-words : goal.returns-in-Err-clause-words
 returns-in-Err-clause-words g c = (
   λ two. absurd (no_other _ _ _ _ _ c.in-Err.stop _ 2 c.tell.ensures two (inr refl)),
-  λ none. absurd (none (c.in-Some.filter, c.in-Some.ensures.found)),
+  λ none. absurd (none (inl (c.in-Some.filter, c.in-Some.ensures.found))),
 )
 
 pub returns-in-Err-clause-unread : goal.returns-in-Err-clause-unread
@@ -84,3 +85,51 @@ returns-in-Ok-clause-refuses g c = λ filter asks has calm calm_sink.
     let same = same_filter _ filter (c.in-Some.ensures.only filter asks) in
     let needs = subst (λ (x : Filter). HasFault x (g.S.Source.left c.args.input.now)) (sym same) has in
     absurd (faulty _ _ _ _ _ c.one_outcome.ensures _ refl needs c.in-Ok.ensures.ran)
+
+pub returns-in-Err-clause-asked : goal.returns-in-Err-clause-asked
+returns-in-Err-clause-asked g c = λ payload asks zero. not_two _ _ _ _ c.in-Some.ensures.found asks.spelled
+
+pub returns-in-Err-clause-asked_in_part : goal.returns-in-Err-clause-asked_in_part
+returns-in-Err-clause-asked_in_part g c = λ payload asks four. not_two _ _ _ _ c.in-Some.ensures.found asks.spelled
+
+pub returns-in-Err-clause-faulty : goal.returns-in-Err-clause-faulty
+returns-in-Err-clause-faulty g c = λ payload asks seven. not_two _ _ _ _ c.in-Some.ensures.found asks.spelled
+
+pub returns-in-Err-clause-asks : goal.returns-in-Err-clause-asks
+returns-in-Err-clause-asks g c = λ payload asks is calm calm_sink. not_two _ _ _ _ c.in-Some.ensures.found asks.spelled
+
+pub returns-in-Err-clause-asks_not : goal.returns-in-Err-clause-asks_not
+returns-in-Err-clause-asks_not g c = λ payload asks is calm. not_two _ _ _ _ c.in-Some.ensures.found asks.spelled
+
+pub returns-in-Err-clause-unwritten : goal.returns-in-Err-clause-unwritten
+returns-in-Err-clause-unwritten g c = λ asks which. not_two _ _ _ _ c.in-Some.ensures.found asks.1.spelled
+
+pub returns-in-Ok-clause-asked : goal.returns-in-Ok-clause-asked
+returns-in-Ok-clause-asked g c = λ payload asks zero. not_two _ _ _ _ c.in-Some.ensures.found asks.spelled
+
+pub returns-in-Ok-clause-asked_in_part : goal.returns-in-Ok-clause-asked_in_part
+returns-in-Ok-clause-asked_in_part g c = λ payload asks four. not_two _ _ _ _ c.in-Some.ensures.found asks.spelled
+
+pub returns-in-Ok-clause-faulty : goal.returns-in-Ok-clause-faulty
+returns-in-Ok-clause-faulty g c = λ payload asks seven. not_two _ _ _ _ c.in-Some.ensures.found asks.spelled
+
+pub returns-in-Ok-clause-asks : goal.returns-in-Ok-clause-asks
+returns-in-Ok-clause-asks g c = λ payload asks is calm calm_sink. not_two _ _ _ _ c.in-Some.ensures.found asks.spelled
+
+pub returns-in-Ok-clause-asks_not : goal.returns-in-Ok-clause-asks_not
+returns-in-Ok-clause-asks_not g c = λ payload asks is calm. not_two _ _ _ _ c.in-Some.ensures.found asks.spelled
+
+pub returns-in-Ok-clause-unwritten : goal.returns-in-Ok-clause-unwritten
+returns-in-Ok-clause-unwritten g c = λ asks which. not_two _ _ _ _ c.in-Some.ensures.found asks.1.spelled
+
+pub returns-in-Ok-clause-words : goal.returns-in-Ok-clause-words
+returns-in-Ok-clause-words g c = (λ two. absurd (omega (arith, two)), λ none. absurd (none (inl (c.in-Some.filter, c.in-Some.ensures.found))))
+
+pub returns-in_default-clause-words : goal.returns-in_default-clause-words
+returns-in_default-clause-words g c = (
+  λ two any. elim any [
+    | inl f ↦ absurd (nothing f.0 (sym c.in_default.is ∙ c.filter_of.ensures.only f.0 f.1))
+    | inr asks ↦ c.ask.ensures.words.0 two asks
+  ],
+  λ none. c.ask.ensures.words.1 (λ asks. none (inr asks)),
+)

@@ -1,0 +1,7 @@
+mod Kits
+mod Lines
+mod Keys
+mod FirstViews
+mod Replies
+mod Asked
+mod Answers

@@ -1,0 +1,6 @@
+mod LineWords
+mod Written
+mod Gathering
+mod Texts
+mod Runs
+mod Statuses
