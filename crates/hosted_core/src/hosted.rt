@@ -44,6 +44,15 @@ impl<G: Tally + Drop> Hosted<G> {
         Ok(Hosted { core })
     }
 
+    /// The process of a core that begins again from an image, at a place of its journal: what the core has signed, the image and the entries
+    /// before that place tell of. A core that has stepped since is none of these.
+    pub fn again(core: Core<G>) -> Hosted<G>
+        ensures core { core_of result ≡ core }
+        ensures real { (s : Setting) (p : Process) → IsCore G.used s p core → IsReal G.used result }
+    {
+        Hosted { core }
+    }
+
     /// The process, to ask what it reports of itself.
     pub fn core(&self) -> &Core<G>
         ensures { result.now ≡ core_of self.now }

@@ -9,5 +9,5 @@ mod hosted;
 mod taking;
 
 pub use hosted::Hosted;
-pub use member_core::{AbsorbFault, Entry, Event, EventFault, Outcome};
+pub use member_core::{AbsorbFault, Core, Entry, Event, EventFault, Outcome};
 pub use taking::Taken;

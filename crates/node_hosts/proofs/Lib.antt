@@ -3,4 +3,5 @@ mod Standing
 pub mod Turning
 pub mod Written
 mod Absorbing
+pub mod Again
 pub mod Cores

@@ -1,4 +1,5 @@
 pub mod Places
+pub mod Numbers
 pub mod Hosts
 pub mod Counts
 pub mod Turns

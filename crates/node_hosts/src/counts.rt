@@ -18,6 +18,13 @@ impl Counts {
         Counts { each: [0; 64] }
     }
 
+    /// So many of this process, as a node counts them that begins at a place of its journal.
+    pub fn begin(&mut self, p: Pid, entries: u64)
+        ensures { (q : ℕ) → count_in self.new q ≡ (if p == q then entries else count_in self.old q) }
+    {
+        self.each[usize::from(p.get())] = entries;
+    }
+
     /// One more of this process.
     pub fn count(&mut self, p: Pid)
         requires { count_in self.old p + 1 < 2 ^ 64 }

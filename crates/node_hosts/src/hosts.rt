@@ -4,10 +4,11 @@ ghost use Rattle.node_hosts.specs.declared.host.Host.{Host as OneHost};
 ghost use Rattle.node_hosts.specs.Places.{number_of};
 
 use crate::host::Host;
-use crate::making::place_of;
-use hosted_core::{AbsorbFault, Entry};
+use crate::making::{host_again, place_of};
+use hosted_core::{AbsorbFault, Entry, Hosted};
 use node_keys::Kit;
 use rp_base::{NoMemory, Pid, PidSet, Scheme};
+use sig_scheme::AnySigner;
 use std::alloc::Global;
 
 /// The processes that a node hosts, each in the place of its number. One may be handed out.
@@ -20,7 +21,7 @@ pub struct Hosts {
 }
 
 impl Hosts {
-    ghost use Rattle.std.specs.Prelude.{◌≢◌, ◌≤◌, Option, IfOk, IsNone, IsOkUnless, IsTrue, OnErr, OnOk};
+    ghost use Rattle.std.specs.Prelude.{◌≢◌, ◌≤◌, ◌∷◌, [], List, Option, IfOk, IsNone, IsOkUnless, IsTrue, OnErr, OnOk};
     ghost use Rattle.std.specs.Option.{option_copied};
     ghost use Rattle.byte_defs.specs.Members.{has};
     ghost use Rattle.kit_defs.specs.Kits.{IsKit, Kit as PlainKit};
@@ -28,10 +29,13 @@ impl Hosts {
     ghost use Rattle.journal_defs.specs.Journals.{batch_limit as limit_of};
     ghost use Rattle.group_defs.specs.Process.{Process};
     ghost use Rattle.journal_entries.specs.Views.{entry as entry_of};
-    ghost use Rattle.node_defs.specs.Casts.{Cast, cast_of, from_start};
+    ghost use Rattle.sig_scheme.specs.Signers.{used};
+    ghost use Rattle.hosted_core.specs.Cores.{me_of};
+    ghost use Rattle.hosted_core.specs.Hosts.{core_of, IsReal};
+    ghost use Rattle.node_defs.specs.Casts.{Cast, cast_of, from_start, hosted_by};
     ghost use Rattle.node_defs.specs.Nodes.{Node, reads_one, takes_up};
-    ghost use Rattle.node_hosts.specs.Places.{IsHost, IsPlace};
-    ghost use Rattle.node_hosts.specs.Hosts.{AreHosts, numbers_of};
+    ghost use Rattle.node_hosts.specs.Places.{IsHost, IsHosted, IsPlace};
+    ghost use Rattle.node_hosts.specs.Hosts.{AreHosts, HasHosts, numbers_of};
 
     /// The processes that the kit hosts, each as it starts: with its signer, which has signed nothing, its keys and its port. An own Order
     /// has at most `batch_limit` messages: 1 with a journal of the first version, 16 with one of the second. Signers of trees take the
@@ -55,6 +59,36 @@ impl Hosts {
             hosted: kit.hosted(),
             places,
         })
+    }
+
+    /// None yet of the processes that the kit hosts: each is put in as it begins again.
+    ///
+    /// # Errors
+    /// [`NoMemory`] where memory is refused.
+    pub fn none_yet(alloc: Global, kit: &Kit) -> Result<Hosts, NoMemory>
+        ensures { (version : Version) (now : ℕ → Process) → IfOk result (HasHosts (cast_of kit.now version) kit.now now []) }
+    {
+        let mut places = Vec::new(alloc);
+        'places: while places.len() < 64 {
+            places.push(None)?;
+        }
+        Ok(Hosts {
+            hosted: kit.hosted(),
+            places,
+        })
+    }
+
+    /// Puts in a process that the kit hosts, as it begins again, with its keys and its port. It takes no memory.
+    pub fn put(&mut self, kit: &Kit, process: Hosted<AnySigner>)
+        requires kit { IsKit kit.now }
+        requires real { IsReal used process }
+        requires hosted { IsTrue (has (hosted_by kit.now) (me_of (core_of process))) }
+        ensures { (version : Version) (now : ℕ → Process) (here : List ℕ) → let c = cast_of kit.now version in
+            let p = me_of (core_of process) in HasHosts c kit.now now here self.old → IsHosted c p (now p) process
+            → HasHosts c kit.now now (p ∷ here) self.new }
+    {
+        let me = process.core().me();
+        self.places[usize::from(me.get())] = Some(host_again(kit, me, process));
     }
 
     /// The numbers of the hosted processes.

@@ -10,7 +10,7 @@ mod running;
 
 pub use counts::Counts;
 pub use host::Host;
-pub use hosted_core::{AbsorbFault, Entry, Event, EventFault, Hosted, Taken};
+pub use hosted_core::{AbsorbFault, Core, Entry, Event, EventFault, Hosted, Taken};
 pub use hosts::Hosts;
 pub use node_keys::{Kit, LinkKeys};
 pub use running::Running;

@@ -3,15 +3,18 @@ ghost use Rattle.std.specs.Prelude.{◌≡◌, ◌<◌, ◌≤◌, IfOk, IfSome,
 ghost use Rattle.byte_defs.specs.Members.{has};
 ghost use Rattle.kit_defs.specs.Kits.{IsKit};
 ghost use Rattle.journal_defs.specs.declared.Version.{Version};
-ghost use Rattle.group_defs.specs.Process.{start};
+ghost use Rattle.group_defs.specs.Process.{Process, start};
 ghost use Rattle.view_table.specs.Views.{as_view};
 ghost use Rattle.node_defs.specs.Casts.{cast_of, hosted_by, setting_of};
-ghost use Rattle.node_hosts.specs.Places.{IsHost, IsPlace, number_of};
+ghost use Rattle.sig_scheme.specs.Signers.{used};
+ghost use Rattle.hosted_core.specs.Hosts.{IsReal};
+ghost use Rattle.node_hosts.specs.Places.{IsHost, IsHosted, IsPlace, number_of};
 
 use crate::host::Host;
 use hosted_core::Hosted;
 use node_keys::{Kit, link_keys, port_of, roster_of, signer_of};
 use rp_base::{NoMemory, Pid};
+use sig_scheme::AnySigner;
 use std::alloc::Global;
 use view_table::View;
 
@@ -42,6 +45,22 @@ fn host_of(alloc: Global, kit: &Kit, me: Pid, batch_limit: u8) -> Result<Host, N
         keys: link_keys(kit, me),
         port: port_of(kit, me),
     })
+}
+
+/// The host of a process that begins again.
+pub(crate) fn host_again(kit: &Kit, me: Pid, process: Hosted<AnySigner>) -> Host
+    requires kit { IsKit kit.now }
+    requires real { IsReal used process }
+    requires hosted { IsTrue (has (hosted_by kit.now) me) }
+    ensures is { (version : Version) (p : Process) → IsHosted (cast_of kit.now version) me p process
+        → IsHost (cast_of kit.now version) kit.now me p result }
+    ensures process { result.process ≡ process }
+{
+    Host {
+        process,
+        keys: link_keys(kit, me),
+        port: port_of(kit, me),
+    }
 }
 
 // What is in the place of this number: its host, where it is hosted.

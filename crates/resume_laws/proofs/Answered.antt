@@ -211,10 +211,10 @@ module _ (c : Cast) (es : List Entry) (n : Node) (now : ℕ → Process) (kept :
       go (Some why) = record { now = now; kept = kept; agree = agree; parts = parts; is = refl }
 
 -- the node m writes of itself what n does
-abbrev pub SnapAlike : Cast → List Entry → Snapper → Snapper → Type 0
-SnapAlike c es snap snap' = (n m : Node) → IsBeside c es n m → (digest : List ℕ) → snap' m digest ≡ snap n digest
+abbrev pub BesideAlike : Cast → List Entry → Snapper → Snapper → Type 0
+BesideAlike c es snap snap' = (n m : Node) → IsBeside c es n m → (digest : List ℕ) → snap' m digest ≡ snap n digest
 
-pub answered-beside : (c : Cast) (es : List Entry) (snap snap' : Snapper) (n m : Node) (a : Answer) → SnapAlike c es snap snap'
+pub answered-beside : (c : Cast) (es : List Entry) (snap snap' : Snapper) (n m : Node) (a : Answer) → BesideAlike c es snap snap'
     → AreHosted c n.tasks → IsBeside c es n m → IsBeside c es (answered c snap n a) (answered c snap' m a)
 answered-beside c es snap snap' n m a alike h b =
     let beside : IsBeside c es n (moved b.now b.kept n)

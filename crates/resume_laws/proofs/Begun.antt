@@ -27,7 +27,7 @@ use Rattle.opening_laws.proofs.EntriesRead.{each_reads_on}
 use Rattle.resume_laws.specs.Resuming.{IsSnapshotAfter, one_line_on, begun}
 use Rattle.resume_laws.proofs.Turning.{host-alike, kept-alike, may-alike}
 use Rattle.resume_laws.proofs.Alike.{moved}
-use Rattle.resume_laws.proofs.Answered.{IsBeside, SnapAlike}
+use Rattle.resume_laws.proofs.Answered.{IsBeside, BesideAlike}
 use Rattle.resume_laws.proofs.Readings.{reads-into, read-place, start-place, size}
 
 -- ---- of each hosted process
@@ -83,9 +83,9 @@ module _ (c : Cast) (es : List Entry) (b : Beginning) (counts : CountsBefore c e
       image_part : Image → List ℕ
       image_part i = four_bytes (length (image_bytes i)) ++ image_bytes i
 
-pub snap-alike : (c : Cast) (es : List Entry) (b : Beginning) → CountsBefore c es b
-    → SnapAlike c es (snap_line c (from_start c)) (snap_line c b)
-snap-alike c es b counts n m beside digest =
+pub beside-alike : (c : Cast) (es : List Entry) (b : Beginning) → CountsBefore c es b
+    → BesideAlike c es (snap_line c (from_start c)) (snap_line c b)
+beside-alike c es b counts n m beside digest =
     ap (λ (x : Node). snap_line c b x digest) beside.is
     ∙ moved-snap c es b counts n beside.now beside.kept beside.agree beside.parts digest
 

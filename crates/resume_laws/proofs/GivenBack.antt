@@ -28,7 +28,7 @@ snaps_give_back c b n digest es view are spelled = record {
   says = read.says;
   header = refl;
   processes = λ p h. subst (IsAlike (n.now p))
-      (sym (ap (λ (o : Option Part). process_of c.setting c.batch_limit (option_map_or (λ x. x.2) o no_image)) (part-is s c.hosted p h)))
+      (sym (ap (λ (o : Option Part). process_of c.setting c.batch_limit (option_map_or (λ x. x.2) o (no_image p))) (part-is s c.hosted p h)))
       (restored c p (n.now p) es view (are p h));
   before = λ p h. ap (λ (o : Option Part). option_map_or (λ x. x.1) o 0) (part-is s c.hosted p h);
   place = refl;

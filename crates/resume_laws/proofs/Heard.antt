@@ -1,6 +1,5 @@
 -- Two nodes that make the same calls and are given the same answers: their services answered the same to the same calls.
 use Rattle.std.proofs.Common.{◌≡◌, ℕ, List, [], ◌∷◌, ◌++◌, refl, sym, ap, ◌∙◌}
-use Rattle.std.specs.Prelude.{map}
 use Rattle.std.specs.Option.{option_map_or}
 use Rattle.std.proofs.lemmas.List.{map-append}
 use Rattle.group_defs.specs.Process.{Process}

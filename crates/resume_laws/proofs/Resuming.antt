@@ -2,23 +2,24 @@
 use Rattle.std.proofs.Common.{◌≡◌, ℕ, ◌+◌, List, [], ◌∷◌, ◌++◌, refl, sym, ap, ◌∙◌, subst, Option, Some, None}
 use Rattle.std.specs.Prelude.{option_map, IsTrue}
 use Rattle.byte_defs.specs.Members.{has}
+use Rattle.group_defs.specs.Views.{IsView}
 use Rattle.group_defs.specs.Process.{Process}
 use Rattle.journal_defs.specs.Entries.{Entry}
 use Rattle.node_defs.specs.Lines.{Stop}
 use Rattle.node_defs.specs.Casts.{Cast, from_start}
 use Rattle.node_defs.specs.Nodes.{Node, Opening, Leaving, Task, Take, Append, Flush, Say, Ask, Get, Word, Post, Mark, Call, Appends, Rests, Answer, Snapper, call_of, call_of_opening, call_of_leaving, call_of_tasks, unless_stopped, answered, run, calls, reads, at_first, opens}
-use Rattle.node_defs.specs.Lives.{staged, staged_behind, staged_by, Found, leaves, leaves_by, IsOpened, AreHosted}
+use Rattle.node_defs.specs.Lives.{staged, staged_behind, staged_by, FitsFrom, Found, leaves, leaves_by, IsOpened, AreHosted}
 use Rattle.node_defs.specs.Snapshots.{Snapshot, snap_line, from_snapshot}
 use Rattle.node_laws.proofs.Openings.{opens_sound}
 use Rattle.node_laws.proofs.Fitting.{Keeps, run-keeps, start-numbered}
-use Rattle.resume_laws.specs.Resuming.{one_line_on, IsResumed, after_these, begun, GoesAlike, ResumesAsNode}
+use Rattle.resume_laws.specs.Resuming.{GoesAlikeBy, IsResumed, IsSnapshotAfter, ResumesAsNode, ResumesAsNodeBy, SnapsAreAlike, after_these, begun, one_line_on}
 use Rattle.image_laws.specs.Alike.{IsAlike}
 use Rattle.resume_laws.proofs.Turning.{entry-alike}
 use Rattle.resume_laws.proofs.Alike.{moved}
-use Rattle.resume_laws.proofs.Answered.{IsBeside, SnapAlike, answered-beside}
+use Rattle.resume_laws.proofs.Answered.{IsBeside, BesideAlike, answered-beside}
 use Rattle.resume_laws.proofs.Readings.{reads-into}
 use Rattle.resume_laws.proofs.Refusing.{goes-on-fits}
-use Rattle.resume_laws.proofs.Begun.{CountsBefore, snap-alike, counts-before, begun-beside}
+use Rattle.resume_laws.proofs.Begun.{beside-alike, counts-before, begun-beside}
 
 -- ---- one moment
 
@@ -98,7 +99,7 @@ record RunsAlike (c : Cast) (es : List Entry) (snap snap' : Snapper) (H : Node �
   beside : IsBeside c es (run c snap n answers) (run c snap' m answers)
   still : H (run c snap n answers)
 
-module _ (c : Cast) (es : List Entry) (snap snap' : Snapper) (alike : SnapAlike c es snap snap') (H : Node → Type 0)
+module _ (c : Cast) (es : List Entry) (snap snap' : Snapper) (alike : BesideAlike c es snap snap') (H : Node → Type 0)
     (lasts : Lasts c snap H) where
   call-same : (n m : Node) → IsBeside c es n m → H n → call_of c m ≡ call_of c n
   call-same n m b h = ap (call_of c) b.is ∙ moved-call c es n b.now b.kept b.agree b.parts (lasts.hosted n h)
@@ -147,13 +148,11 @@ stopped-lasts c snap = record { hosted = λ n h. subst (AreHosted c) (sym h.noth
 beside-is : (c : Cast) (es : List Entry) (n m : Node) → IsBeside c es n m → IsResumed c es n m
 beside-is c es n m b = subst (IsResumed c es n) (sym b.is) (record { processes = b.agree; kept = b.parts; rest = refl })
 
-module _ (c : Cast) (s : Snapshot) (es : List Entry) (counts : CountsBefore c es (from_snapshot c s)) where
-  alike-by : (H : Node → Type 0) → Lasts c (snap_line c (from_start c)) H → (n m : Node) (answers : List Answer) → H n → IsBeside c es n m
-      → GoesAlike c s es n m answers
+module _ (c : Cast) (es : List Entry) (snap snap' : Snapper) (alike : BesideAlike c es snap snap') where
+  alike-by : (H : Node → Type 0) → Lasts c snap H → (n m : Node) (answers : List Answer) → H n → IsBeside c es n m
+      → GoesAlikeBy c snap snap' es n m answers
   alike-by H lasts n m answers h b =
-      let snap = snap_line c (from_start c) in
-      let snap' = snap_line c (from_snapshot c s) in
-      let both = runs-alike c es snap snap' (snap-alike c es (from_snapshot c s) counts) H lasts n m answers h b in
+      let both = runs-alike c es snap snap' alike H lasts n m answers h b in
       let last = both.beside in
       record {
         calls_are = both.calls_are;
@@ -165,12 +164,12 @@ module _ (c : Cast) (s : Snapshot) (es : List Entry) (counts : CountsBefore c es
             );
       }
 
-pub resumes_as_node : ResumesAsNode
-resumes_as_node c s lines es fs breaks answers view fits is = by breaks
+resumes-beside : (c : Cast) (s : Snapshot) (snap snap' : Snapper) (lines : ℕ) (es fs : List Entry) (breaks : Option ℕ)
+    (answers : List Answer) → BesideAlike c es snap snap' → IsView c.setting.genesis → FitsFrom c (from_start c).from es
+    → IsSnapshotAfter c es s
+    → GoesAlikeBy c snap snap' es (begun c (from_start c) lines (es ++ fs) breaks) (begun c (from_snapshot c s) (lines + 1) fs breaks) answers
+resumes-beside c s snap snap' lines es fs breaks answers alike view fits is = by breaks
   where
-    counts : CountsBefore c es (from_snapshot c s)
-    counts = counts-before c s lines es view fits is
-
     first : Node
     first = reads c (at_first (from_start c) lines) (es ++ fs)
 
@@ -178,21 +177,35 @@ resumes_as_node c s lines es fs breaks answers view fits is = by breaks
     quiet = ap (λ (x : Node). x.tasks) (reads-into c (at_first (from_start c) lines) (es ++ fs))
 
     goes : (breaks : Option ℕ) (o : Option Stop) → (begun c (from_start c) lines (es ++ fs) breaks).stopped ≡ o
-        → GoesAlike c s es (begun c (from_start c) lines (es ++ fs) breaks) (begun c (from_snapshot c s) (lines + 1) fs breaks) answers
+        → GoesAlikeBy c snap snap' es (begun c (from_start c) lines (es ++ fs) breaks) (begun c (from_snapshot c s) (lines + 1) fs breaks) answers
     goes None None runs =
         let o : IsOpened c (from_start c) (es ++ fs) (opens c (from_start c) lines (es ++ fs))
         = opens_sound c (from_start c) lines (es ++ fs) (goes-on-fits c (from_start c) lines (es ++ fs) runs) in
-        alike-by c s es counts (Sound c) (sound-lasts c (snap_line c (from_start c))) _ _ answers
+        alike-by c es snap snap' alike (Sound c) (sound-lasts c snap) _ _ answers
         (record { sound = o.sound; fits = tt; hosted = subst (AreHosted c) (sym o.tasks) tt })
         (begun-beside c s lines es view fits is fs None)
     goes None (Some why) stopped =
-        alike-by c s es counts (HasStopped c) (stopped-lasts c (snap_line c (from_start c))) _ _ answers
+        alike-by c es snap snap' alike (HasStopped c) (stopped-lasts c snap) _ _ answers
         (record { why = why; stopped = stopped; nothing = quiet }) (begun-beside c s lines es view fits is fs None)
     goes (Some place) (Some why) stopped =
-        alike-by c s es counts (HasStopped c) (stopped-lasts c (snap_line c (from_start c))) _ _ answers
+        alike-by c es snap snap' alike (HasStopped c) (stopped-lasts c snap) _ _ answers
         (record { why = why; stopped = stopped; nothing = quiet }) (begun-beside c s lines es view fits is fs (Some place))
     goes (Some place) None runs = absurd cc
 
     by : (breaks : Option ℕ)
-        → GoesAlike c s es (begun c (from_start c) lines (es ++ fs) breaks) (begun c (from_snapshot c s) (lines + 1) fs breaks) answers
+        → GoesAlikeBy c snap snap' es (begun c (from_start c) lines (es ++ fs) breaks) (begun c (from_snapshot c s) (lines + 1) fs breaks) answers
     by breaks = goes breaks (begun c (from_start c) lines (es ++ fs) breaks).stopped refl
+
+pub resumes_as_node : ResumesAsNode
+resumes_as_node c s lines es fs breaks answers view fits is =
+    resumes-beside c s (snap_line c (from_start c)) (snap_line c (from_snapshot c s)) lines es fs breaks answers
+    (beside-alike c es (from_snapshot c s) (counts-before c s lines es view fits is)) view fits is
+
+pub resumes_as_node_by : ResumesAsNodeBy
+resumes_as_node_by c s snap snap' lines es fs breaks answers alike view fits is = resumes-beside c s snap snap' lines es fs breaks answers
+    (λ n m b digest. alike n m (beside-is c es n m b) digest) view fits is
+
+pub snaps_are_alike : SnapsAreAlike
+snaps_are_alike c s es view fits is = λ n m r digest.
+    beside-alike c es (from_snapshot c s) (counts-before c s 0 es view fits is) n m
+    (record { now = m.now; kept = m.kept; agree = r.processes; parts = r.kept; is = r.rest }) digest

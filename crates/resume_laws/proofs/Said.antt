@@ -209,7 +209,7 @@ said-after : (c : Cast) (s : Snapshot) (es : List Entry) → IsSnapshotAfter c e
 said-after c s es is = record {
   place = is.place;
   entries = λ p h. ap (λ (o : Option Part). option_map_or (λ x. x.1) o 0) (part-is s c.hosted p h) ∙ is.entries p h;
-  images = λ p h. ap (λ (o : Option Part). option_map_or (λ x. x.2) o no_image) (part-is s c.hosted p h) ∙ is.images p h;
+  images = λ p h. ap (λ (o : Option Part). option_map_or (λ x. x.2) o (no_image p)) (part-is s c.hosted p h) ∙ is.images p h;
 }
 
 pub snaps_are_read : SnapsAreRead

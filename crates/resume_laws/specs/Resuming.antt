@@ -8,7 +8,7 @@ use Rattle.image_defs.specs.Images.{image_of}
 use Rattle.image_laws.specs.Alike.{IsAlike}
 use Rattle.node_defs.specs.Lines.{Stop, BadLine}
 use Rattle.node_defs.specs.Casts.{Cast, Beginning, from_start, entries_of, taken_up}
-use Rattle.node_defs.specs.Nodes.{Node, Call, Answer, opens, opens_broken, run, calls}
+use Rattle.node_defs.specs.Nodes.{Node, Call, Answer, Snapper, opens, opens_broken, run, calls}
 use Rattle.node_defs.specs.Lives.{Found, leaves, FitsFrom}
 use Rattle.node_defs.specs.Snapshots.{Snapshot, snap_line, from_snapshot}
 
@@ -58,12 +58,33 @@ abbrev pub calls_of : Cast → Beginning → Node → List Answer → List (Call
 calls_of c b n answers = calls c (snap_line c b) n answers
 
 -- With the same answers both make the same calls, those that write the lines of `snap` among them; at their end the one is the other, and a
--- stop leaves the same.
-pub record GoesAlike (c : Cast) (s : Snapshot) (es : List Entry) (node resumed : Node) (answers : List Answer) : Type 0 where
-  pub calls_are : calls_of c (from_snapshot c s) resumed answers ≡ calls_of c (from_start c) node answers
-  pub is_resumed : IsResumed c es (run_of c (from_start c) node answers) (run_of c (from_snapshot c s) resumed answers)
-  pub leaves_are : (f : Found) → leaves c (after_these es f) (run_of c (from_start c) node answers)
-      ≡ after_these es (leaves c f (run_of c (from_snapshot c s) resumed answers))
+-- stop leaves the same. Each makes its lines of `snap` in its own way.
+pub record GoesAlikeBy (c : Cast) (snap resumed_snap : Snapper) (es : List Entry) (node resumed : Node) (answers : List Answer) : Type 0 where
+  pub calls_are : calls c resumed_snap resumed answers ≡ calls c snap node answers
+  pub is_resumed : IsResumed c es (run c snap node answers) (run c resumed_snap resumed answers)
+  pub leaves_are : (f : Found) → leaves c (after_these es f) (run c snap node answers)
+      ≡ after_these es (leaves c f (run c resumed_snap resumed answers))
+
+-- as the definitions make them
+abbrev pub GoesAlike : Cast → Snapshot → List Entry → Node → Node → List Answer → Type 0
+GoesAlike c s es node resumed answers = GoesAlikeBy c (snap_line c (from_start c)) (snap_line c (from_snapshot c s)) es node resumed answers
+
+-- a node and the one that is resumed as it make the same lines
+abbrev pub SnapAlike : Cast → List Entry → Snapper → Snapper → Type 0
+SnapAlike c es snap resumed_snap = (node resumed : Node) → IsResumed c es node resumed → (digest : List ℕ)
+    → resumed_snap resumed digest ≡ snap node digest
+
+-- so they do as the definitions make them
+abbrev pub SnapsAreAlike : Type 0
+SnapsAreAlike = (c : Cast) (s : Snapshot) (es : List Entry) → IsView c.setting.genesis → FitsFrom c (from_start c).from es
+    → IsSnapshotAfter c es s → SnapAlike c es (snap_line c (from_start c)) (snap_line c (from_snapshot c s))
+
+-- as below, of nodes that make their lines of `snap` alike
+abbrev pub ResumesAsNodeBy : Type 0
+ResumesAsNodeBy = (c : Cast) (s : Snapshot) (snap resumed_snap : Snapper) (lines : ℕ) (es fs : List Entry) (breaks : Option ℕ)
+    (answers : List Answer) → SnapAlike c es snap resumed_snap → IsView c.setting.genesis → FitsFrom c (from_start c).from es
+    → IsSnapshotAfter c es s
+    → GoesAlikeBy c snap resumed_snap es (begun c (from_start c) lines (es ++ fs) breaks) (begun c (from_snapshot c s) (lines + 1) fs breaks) answers
 
 -- A node that begins by a snapshot of these entries, which fit, and goes on after them, is the node that reads the journal from its start:
 -- whatever comes after them there, and whatever the outside answers.

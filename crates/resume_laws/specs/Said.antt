@@ -109,10 +109,10 @@ snap_said hosted line = if nat_lt most_line_bytes (length line) then None else s
 
 -- ---- the snapshot that is said
 
--- of a process that no part is of
-abbrev pub no_image : Image
-no_image = record {
-  me = 0;
+-- of a process that no part is of: it has its number, and nothing else
+abbrev pub no_image : ℕ → Image
+no_image p = record {
+  me = p;
   left = [];
   perceived = [];
   accepted = [];
@@ -134,7 +134,7 @@ snapshot_said t = record {
   place = t.place;
   digest = t.digest;
   entries = λ p. option_map_or (λ part. part.1) (part_of t.parts p) 0;
-  images = λ p. option_map_or (λ part. part.2) (part_of t.parts p) no_image;
+  images = λ p. option_map_or (λ part. part.2) (part_of t.parts p) (no_image p);
 }
 
 -- ---- the law

@@ -1,0 +1,5 @@
+mod Signing
+mod Fitting
+pub mod Listed
+mod Said
+mod Walked

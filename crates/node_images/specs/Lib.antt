@@ -1,0 +1,4 @@
+pub mod Real
+pub mod Judging
+pub mod Said
+pub mod Restored
