@@ -7,7 +7,7 @@ use Rattle.message_defs.specs.Updates.{Update, Remove, Add, Renew, Value}
 use Rattle.message_defs.specs.Statements.{Claim}
 use Rattle.message_defs.specs.Claims.{Claims, Wants, Faulty}
 use Rattle.group_defs.specs.Views.{View, next_fault, has_keys, is_possible, next_view}
-use Rattle.group_defs.specs.Process.{Setting, Process, keyed, start}
+use Rattle.group_defs.specs.Process.{Setting, Process, keyed}
 use Rattle.group_defs.specs.Settle.{decided_by, decide, deliver, leave}
 use Rattle.group_defs.specs.Sending.{Sending, Parcel, Bundle, Proof, bundle, answer, others, sends_to, unless_empty}
 use Rattle.group_defs.specs.Family.{claims_in}
@@ -17,16 +17,14 @@ use Rattle.pool_laws.proofs.Sorting.{mem-sorted}
 use Rattle.pool_laws.proofs.Tests.{and-second, option_or-is}
 use Rattle.safety_laws.proofs.Induction.{Keeps, AreFrom, run-keeps, deliver-keeps, leave-keeps, sign_all-keeps, take_in-keeps}
 use Rattle.safety_laws.proofs.Installed.{decided_by-is}
-use Rattle.letter_laws.specs.Letters.{IsFromOther, IsOther, SendsToOthers}
+use Rattle.letter_laws.specs.Letters.{IsFromOther, IsKeyed, IsOther, SendsToOthers, StartIsKeyed}
 
 -- ---- members have keys
 
-record IsKeyed (s : Setting) (me : ℕ) (p : Process) : Type 0 where
-  pub number : p.me ≡ me
-  pub members : (m : ℕ) → Mem m p.pool.view.members → has (keyed s) m ≡ true
-  pub possible : (d : ℕ × Value) → p.decision ≡ Some d → is_possible (keyed s) p.pool.view d.1.update ≡ true
+abbrev HasKeyOf : Setting → ℕ → Type 0
+HasKeyOf s m = IsTrue (has (keyed s) m)
 
-next-members : (keys : List ℕ) (v : View) (u : Update) → ((m : ℕ) → Mem m v.members → has keys m ≡ true) → has_keys keys u ≡ true → (m : ℕ)
+pub next-members : (keys : List ℕ) (v : View) (u : Update) → ((m : ℕ) → Mem m v.members → has keys m ≡ true) → has_keys keys u ≡ true → (m : ℕ)
     → Mem m (next_view v u).members → has keys m ≡ true
 next-members keys v (Remove p) each has-key m there = each m (filter-mem (λ q. not (q == p)) v.members m there).0
 next-members keys v (Add p) each has-key m there = go (append-mem v.members (p ∷ []) m there)
@@ -56,19 +54,16 @@ keeps s me from = record {
   delivers = λ p ds member room e ok. record { number = ok.number; members = ok.members; possible = ok.possible };
   installs = λ p d decided whole ok. record {
     number = ok.number;
-    members = next-members (keyed s) p.pool.view d.1.update ok.members
-        (and-second (is_none (next_fault p.pool.view d.1.update)) (has_keys (keyed s) d.1.update) (ok.possible d decided));
+    members = mem-All (HasKeyOf s) (next_view p.pool.view d.1.update).members (next-members (keyed s) p.pool.view d.1.update
+        (λ m there. All-mem (HasKeyOf s) p.pool.view.members m ok.members there)
+        (and-second (is_none (next_fault p.pool.view d.1.update)) (has_keys (keyed s) d.1.update) (ok.possible d decided)));
     possible = λ e none. absurd cc;
   };
   halts = λ p d decided member ok. record { number = ok.number; members = ok.members; possible = ok.possible };
 }
 
-at-start : (s : Setting) (me limit : ℕ) → All (λ m. IsTrue (has (keyed s) m)) s.genesis.members → IsKeyed s me (start s me limit)
-at-start s me limit all = record {
-  number = refl;
-  members = λ m there. All-mem (λ m. IsTrue (has (keyed s) m)) s.genesis.members m all there;
-  possible = λ d none. absurd cc;
-}
+pub start_is_keyed : StartIsKeyed
+start_is_keyed s me limit all = record { number = refl; members = all; possible = λ d none. absurd cc }
 
 -- ---- what is sent
 
@@ -99,7 +94,7 @@ others-are : (s : Setting) (me : ℕ) (p : Process) → IsKeyed s me p → (q : 
 others-are s me p ok q there =
     let m = filter-mem (λ m. not (m == p.me)) p.pool.view.members q
     (mem-sorted (λ m. m ∷ []) (filter (λ m. not (m == p.me)) p.pool.view.members) q there) in
-    (ok.members q m.0, λ same. apart q p.me m.1 (same ∙ sym ok.number))
+    (All-mem (HasKeyOf s) p.pool.view.members q ok.members m.0, λ same. apart q p.me m.1 (same ∙ sym ok.number))
 
 answers-go : (s : Setting) (me : ℕ) (q : Process) (e : Event) → IsFromOther me e → IsKeyed s me q → EachGoes s me (answers s q e)
 answers-go s me q (Hand from (Wants x k)) other ok = go (has (keyed s) from) refl
@@ -144,8 +139,7 @@ sent-so s me p t other ok = go (refusal s p t.event)
     go (Some fault) = λ out none. absurd none
 
 pub sends_to_others : SendsToOthers
-sends_to_others s me limit ts t genesis other =
-    let p = run s (start s me limit) ts in
-    let ok = run-keeps s (IsKeyed s me) ts (keeps s me _) (start s me limit) (at-start s me limit genesis) in
-    mem-All (λ out. All (IsOther s me) out.to) (outcome s p t).sends
-    (λ out m. mem-All (IsOther s me) out.to (sent-so s me p t other ok out m))
+sends_to_others s me p ts t begun other =
+    let ok = run-keeps s (IsKeyed s me) ts (keeps s me _) p begun in
+    mem-All (λ out. All (IsOther s me) out.to) (outcome s (run s p ts) t).sends
+    (λ out m. mem-All (IsOther s me) out.to (sent-so s me (run s p ts) t other ok out m))

@@ -3,6 +3,8 @@ use Rattle.std.specs.Prelude.{◌≡◌, ◌≢◌, ℕ, ◌≤◌, List, length
 use Rattle.byte_defs.specs.Members.{has}
 use Rattle.message_defs.specs.Limits.{most_frame_bytes}
 use Rattle.message_defs.specs.Spelling.{IsClaim}
+use Rattle.message_defs.specs.Updates.{Value}
+use Rattle.group_defs.specs.Views.{is_possible}
 use Rattle.group_defs.specs.Process.{Setting, Pool, Left, Process, keyed, start}
 use Rattle.group_defs.specs.Sending.{frames_of}
 use Rattle.group_defs.specs.Family.{handed_to}
@@ -19,11 +21,21 @@ IsFromOther me _ = Unit {0}
 abbrev pub IsOther : Setting → ℕ → ℕ → Type 0
 IsOther s me q = IsTrue (has (keyed s) q) × (q ≢ me)
 
--- Whatever it was handed, as long as no frame is its own, a process sends only to others that the roster has keys of: where it has those of
--- the first members. (One that is handed a Want of its own answers itself.)
+-- it is process `me`, and the roster has keys of the members of its view and of whom its decision adds
+pub record IsKeyed (s : Setting) (me : ℕ) (p : Process) : Type 0 where
+  pub number : p.me ≡ me
+  pub members : All (λ m. IsTrue (has (keyed s) m)) p.pool.view.members
+  pub possible : (d : ℕ × Value) → p.decision ≡ Some d → IsTrue (is_possible (keyed s) p.pool.view d.1.update)
+
+-- so it is as it starts, where the roster has keys of the first members
+abbrev pub StartIsKeyed : Type 0
+StartIsKeyed = (s : Setting) (me limit : ℕ) → All (λ m. IsTrue (has (keyed s) m)) s.genesis.members → IsKeyed s me (start s me limit)
+
+-- Whatever it was handed from there on, as long as no frame is its own, it sends only to others that the roster has keys of. (One that is
+-- handed a Want of its own answers itself.)
 abbrev pub SendsToOthers : Type 0
-SendsToOthers = (s : Setting) (me limit : ℕ) (ts : List Turn) (t : Turn) → All (λ m. IsTrue (has (keyed s) m)) s.genesis.members
-    → IsFromOther me t.event → All (λ out. All (IsOther s me) out.to) (outcome s (run s (start s me limit) ts) t).sends
+SendsToOthers = (s : Setting) (me : ℕ) (p : Process) (ts : List Turn) (t : Turn) → IsKeyed s me p → IsFromOther me t.event
+    → All (λ out. All (IsOther s me) out.to) (outcome s (run s p ts) t).sends
 
 -- ---- how long
 

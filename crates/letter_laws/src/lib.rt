@@ -1,7 +1,12 @@
 //! Laws of what a turn sends, over the definitions alone: to whom, and how long the frames are. So each letter of a turn can be sealed.
 #![tactic(auto)]
 
-ghost use Rattle.letter_laws.specs.Letters.{SendsToOthers, FramesAreShort, KeptIsInRange};
+ghost use Rattle.letter_laws.specs.Letters.{StartIsKeyed, SendsToOthers, FramesAreShort, KeptIsInRange};
+
+/// The roster has keys of the members of a process's view as it starts.
+pub fn start_is_keyed()
+    ensures { StartIsKeyed }
+{}
 
 /// A process sends only to others that the roster has keys of.
 pub fn sends_to_others()

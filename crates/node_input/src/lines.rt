@@ -36,8 +36,11 @@ pub fn number_after(go: usize, count: u32) -> Result<u64, NoMemory>
     (go as u64).checked_add(u64::from(count)).ok_or(NoMemory)
 }
 
-// Takes the next line, which has this number, and at most `most` bytes.
-fn take_line<S: Source>(
+/// Takes the next line, which has this number, and at most `most` bytes.
+///
+/// # Errors
+/// `Ended` at the input's end; `BadLine` where what comes is no line of so many bytes; `ReadFailed` only where a read failed; and `NoMemory`.
+pub fn take_line<S: Source>(
     lines: &mut Lines,
     input: &mut S,
     most: usize,

@@ -2,8 +2,8 @@
 use Rattle.std.proofs.Common.{◌≡◌, ℕ, suc, ◌+◌, List, ◌∷◌, ◌++◌, Option, sym, subst}
 use Rattle.node_defs.specs.Casts.{Cast}
 use Rattle.node_defs.specs.Lines.{Stop, fault_line, recv_line}
-use Rattle.node_defs.specs.Lives.{Found}
 use Rattle.node_defs.specs.Nodes.{Node, Task, Get, Say, Done, Failed, Came, ReceivesOn, Snapper, after_came, more_gets}
+use Rattle.node_traces.specs.Stops.{Outset}
 use Rattle.node_traces.specs.Outside.{LinkSeen, LinkStep, SinkSeen, SourceSeen}
 use Rattle.node_traces.specs.Service.{Asked, HeardBy}
 use Rattle.node_taking.specs.Hosts.{IsNode, Running, cast_in}
@@ -13,8 +13,8 @@ use Rattle.node_receiving.proofs.Gets.{gets-fault, gets-none, gets-one}
 
 module _ {D : Type 0} (seen : D → Option (List ℕ)) (may_leave : D → List ℕ → Type 0) (moment : D → ℕ)
     (left_since : D → ℕ → List ℕ → Type 0) (only_now : (d : D) (image : List ℕ) → left_since d (moment d) image → may_leave d image)
-    (snap : Snapper) (most : ℕ) (f : Found) (r : Running) (n : Node) (p left count port : ℕ) (ts : List Task) (k l : LinkSeen) (s : SinkSeen)
-    (o : SourceSeen) (h : List Asked) (d : D) (is : IsNode (seen d) (may_leave d) r n (Get p (suc left) count ∷ ts))
+    (snap : Snapper) (most : ℕ) (f : Outset) (r : Running) (n : Node) (p left count port : ℕ) (ts : List Task) (k l : LinkSeen) (s : SinkSeen)
+    (o : SourceSeen) (h : List Asked) (d : D) (is : IsNode f (seen d) (may_leave d) r n (Get p (suc left) count ∷ ts))
     (own : (cast_in r).port p ≡ port) where
   abbrev c : Cast
   c = cast_in r
@@ -46,7 +46,7 @@ module _ {D : Type 0} (seen : D → Option (List ℕ)) (may_leave : D → List �
       (t : SinkSeen) (new : D) (service : V) where
     -- and what became of it
     pub one-taken : (r' : Running)
-        → ((w : Node) → IsNode (seen d) (may_leave d) r w (after_came p (c.unseal p bytes) ++ (more_gets p left (count + 1) ++ ts))
+        → ((w : Node) → IsNode f (seen d) (may_leave d) r w (after_came p (c.unseal p bytes) ++ (more_gets p left (count + 1) ++ ts))
         → HeardBy heard service (λ i. GoesOnTo seen may_leave moment left_since c snap most f w (outside l s o h) d
         (more_gets p left (count + 1) ++ ts) (outside m t o i) new r'))
         → HeardBy heard service (λ i. GoesOnTo seen may_leave moment left_since c snap most f n (outside k s o h) d
@@ -63,7 +63,7 @@ module _ {D : Type 0} (seen : D → Option (List ℕ)) (may_leave : D → List �
         }
 
     pub one-stops : (why : Stop)
-        → ((w : Node) → IsNode (seen d) (may_leave d) r w (after_came p (c.unseal p bytes) ++ (more_gets p left (count + 1) ++ ts))
+        → ((w : Node) → IsNode f (seen d) (may_leave d) r w (after_came p (c.unseal p bytes) ++ (more_gets p left (count + 1) ++ ts))
         → HeardBy heard service (λ i. StopsSo seen may_leave moment left_since c snap most f w (outside l s o h) d why (outside m t o i) new))
         → HeardBy heard service (λ i. StopsSo seen may_leave moment left_since c snap most f n (outside k s o h) d why (outside m t o i) new)
     one-stops why more =

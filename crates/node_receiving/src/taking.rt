@@ -1,8 +1,8 @@
 //! A datagram that came to a hosted process.
 ghost use Rattle.std.specs.Prelude.{◌≤◌, ◌++◌, ℕ, List, length, IfOk, IfErr, IsTrue};
 ghost use Rattle.byte_defs.specs.Members.{has};
-ghost use Rattle.node_defs.specs.Lives.{Found};
 ghost use Rattle.node_defs.specs.Nodes.{Node, Snapper, Task, after_came};
+ghost use Rattle.node_traces.specs.Stops.{Outset};
 ghost use Rattle.node_traces.specs.Outside.{SourceSeen};
 ghost use Rattle.node_traces.specs.Seen.{link_seen, sink_seen};
 ghost use Rattle.node_traces.specs.Service.{Asked, HeardBy};
@@ -35,14 +35,14 @@ pub(crate) fn take_datagram<'a, D: Disk, L: Link, K: Sink, V: Service>(
     requires node { HasNode (D.seen disk.old) (D.may_leave disk.old) running }
     requires hosted { IsTrue (has (numbers_of running.hosts) me) }
     requires room { 61054 ≤ length room.old }
-    ensures goes_on { (snap : Snapper) (most : ℕ) (f : Found) (source : SourceSeen) (h : List Asked) (n : Node) (ts : List Task)
-        → V.heard service.old h → IsNode (D.seen disk.old) (D.may_leave disk.old) running.entry n
+    ensures goes_on { (snap : Snapper) (most : ℕ) (f : Outset) (source : SourceSeen) (h : List Asked) (n : Node) (ts : List Task)
+        → V.heard service.old h → IsNode f (D.seen disk.old) (D.may_leave disk.old) running.entry n
         (after_came me ((cast_in running.entry).unseal me datagram.now) ++ ts)
         → IfOk result (λ r. HeardBy V.heard service.new (λ i. GoesOnTo D.seen D.may_leave D.moment D.left_since (cast_in running.entry) snap most f n
         (outside (link_seen L.sent L.coming L.faults link.old) (sink_seen K.written K.faults output.old) source h) disk.old ts
         (outside (link_seen L.sent L.coming L.faults link.new) (sink_seen K.written K.faults output.new) source i) disk.new r)) }
-    ensures stops { (snap : Snapper) (most : ℕ) (f : Found) (source : SourceSeen) (h : List Asked) (n : Node) (ts : List Task)
-        → V.heard service.old h → IsNode (D.seen disk.old) (D.may_leave disk.old) running.entry n
+    ensures stops { (snap : Snapper) (most : ℕ) (f : Outset) (source : SourceSeen) (h : List Asked) (n : Node) (ts : List Task)
+        → V.heard service.old h → IsNode f (D.seen disk.old) (D.may_leave disk.old) running.entry n
         (after_came me ((cast_in running.entry).unseal me datagram.now) ++ ts)
         → IfErr result (λ why. HeardBy V.heard service.new (λ i. StopsSo D.seen D.may_leave D.moment D.left_since (cast_in running.entry) snap most f n
         (outside (link_seen L.sent L.coming L.faults link.old) (sink_seen K.written K.faults output.old) source h) disk.old (stop_of why)

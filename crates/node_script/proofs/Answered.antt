@@ -3,9 +3,9 @@ use Rattle.std.proofs.Common.{◌≡◌, inl, inr, ℕ, ◌+◌, List, [], Optio
 use Rattle.std.specs.Prelude.{◌≢◌}
 use Rattle.node_defs.specs.Casts.{Cast}
 use Rattle.node_defs.specs.Lines.{Stop, Ended, NoMemory, ReadFailed, BadLine}
-use Rattle.node_defs.specs.Lives.{Found}
 use Rattle.node_defs.specs.Nodes.{Node, Snapper, tasks_of_line}
 use Rattle.node_defs.specs.Scripts.{Line, line_said, most_lines}
+use Rattle.node_traces.specs.Stops.{Outset}
 use Rattle.node_traces.specs.Outside.{LinkSeen, SinkSeen, SourceSeen}
 use Rattle.node_traces.specs.Service.{Asked}
 use Rattle.node_traces.specs.Goes.{Outside}
@@ -19,16 +19,16 @@ use Rattle.node_snapping.proofs.Handed.{Rests, still, stops-still}
 module _ {D : Type 0} (seen : D → Option (List ℕ)) (may_leave : D → List ℕ → Type 0) (moment : D → ℕ)
     (left_since : D → ℕ → List ℕ → Type 0) (only_now : (d : D) (image : List ℕ) → left_since d (moment d) image
     → may_leave d image) (c : Cast)
-    (snap : Snapper) (most : ℕ) (f : Found) where
+    (snap : Snapper) (most : ℕ) (f : Outset) where
   -- it stops with what it has kept
-  pub stops-so : (n : Node) (x y : Outside) (d : D) (why : Stop) → n.opening ≡ [] → Rests (seen d) (may_leave d) c n
+  pub stops-so : (n : Node) (x y : Outside) (d : D) (why : Stop) → n.opening ≡ [] → Rests (seen d) (may_leave d) f.head n
       → StopsWith c snap most n x why y → StopsSo seen may_leave moment left_since c snap most f n x d why y d
   stops-so n x y d why opened rests stops =
       stops-still seen may_leave moment left_since only_now c snap most f n stops.last x y d why opened rests stops.goes stops.stops
       stops.kept
 
   module _ (n : Node) (l : LinkSeen) (s : SinkSeen) (k : SourceSeen) (h : List Asked) (d : D) (todo : HasToDo n []) (rests : Rests (seen d)
-      (may_leave d) c n) where
+      (may_leave d) f.head n) where
     reads : EachReads c snap most n (outside l s k h)
     reads = reads_in_order c snap most n (outside l s k h) todo
 

@@ -3,12 +3,12 @@ use Rattle.std.proofs.Common.{◌≡◌, ℕ, ◌+◌, List, [], Option, Result,
 use Rattle.std.specs.Prelude.{◌≢◌, IfErr, IfOk}
 use Rattle.node_defs.specs.Casts.{Cast}
 use Rattle.node_defs.specs.Lines.{Stop}
-use Rattle.node_defs.specs.Lives.{Found}
 use Rattle.node_defs.specs.Nodes.{Node, Task, Snapper, tasks_of_line}
 use Rattle.node_defs.specs.Scripts.{Line, most_lines}
+use Rattle.node_traces.specs.Stops.{Outset}
 use Rattle.node_traces.specs.Outside.{LinkSeen, SinkSeen, SourceSeen}
 use Rattle.node_traces.specs.Service.{Asked, HeardBy}
-use Rattle.node_traces.specs.Goes.{Outside, Goes}
+use Rattle.node_traces.specs.Goes.{Goes}
 use Rattle.node_traces.specs.Went.{Went}
 use Rattle.script_laws.specs.Script.{HasToDo, StopsWith, with_line}
 use Rattle.node_input.specs.Reads.{Asks}
@@ -25,37 +25,39 @@ pub to-do : (n : Node) (ts : List Task) → IsAt n ts → HasToDo n ts
 to-do n ts is = record { runs = is.runs; opened = is.opened; leaving = is.leaving; tasks = is.tasks }
 
 -- a running node that has read one line more
-pub with-line-is : (seen : Option (List ℕ)) (may_leave : List ℕ → Type 0) (r : Running) (n : Node) (ts : List Task)
-    → IsNode seen may_leave r n [] → IsNode seen may_leave r (with_line n ts) ts
-with-line-is seen may_leave r n ts is = record {
+pub with-line-is : (f : Outset) (seen : Option (List ℕ)) (may_leave : List ℕ → Type 0) (r : Running) (n : Node) (ts : List Task)
+    → IsNode f seen may_leave r n [] → IsNode f seen may_leave r (with_line n ts) ts
+with-line-is f seen may_leave r n ts is = record {
   at = record { runs = is.at.runs; opened = is.at.opened; leaving = is.at.leaving; tasks = refl; text = is.at.text; late = is.at.late };
   hosts = is.hosts;
   journal = record { gate = is.journal.gate; length = is.journal.length; rest = is.journal.rest };
+  keyed = is.keyed;
   sound = record { processes = is.sound.processes; out = is.sound.out; finished = is.sound.finished };
   counts = record { each = is.counts.each; few = is.counts.few };
 }
 
 -- one that has done what it had to
-pub done-is : (seen : Option (List ℕ)) (may_leave : List ℕ → Type 0) (r : Running) (n : Node) (ts : List Task)
-    → IsNode seen may_leave r n ts → IsNode seen may_leave r (record n { tasks = [] }) []
-done-is seen may_leave r n ts is = record {
+pub done-is : (f : Outset) (seen : Option (List ℕ)) (may_leave : List ℕ → Type 0) (r : Running) (n : Node) (ts : List Task)
+    → IsNode f seen may_leave r n ts → IsNode f seen may_leave r (record n { tasks = [] }) []
+done-is f seen may_leave r n ts is = record {
   at = record { runs = is.at.runs; opened = is.at.opened; leaving = is.at.leaving; tasks = refl; text = is.at.text; late = is.at.late };
   hosts = is.hosts;
   journal = record { gate = is.journal.gate; length = is.journal.length; rest = is.journal.rest };
+  keyed = is.keyed;
   sound = record { processes = is.sound.processes; out = is.sound.out; finished = is.sound.finished };
   counts = record { each = is.counts.each; few = is.counts.few };
 }
 
 module _ {D : Type 0} (seen : D → Option (List ℕ)) (may_leave : D → List ℕ → Type 0) (moment : D → ℕ)
     (left_since : D → ℕ → List ℕ → Type 0) (only_now : (d : D) (image : List ℕ) → left_since d (moment d) image → may_leave d image)
-    (snap : Snapper) (most : ℕ) (f : Found) (r : Running) where
+    (snap : Snapper) (most : ℕ) (f : Outset) (r : Running) where
   abbrev c : Cast
   c = cast_in r
 
   -- ---- a line for the service
 
   module _ {V : Type 0} (heard : V → List Asked → Type 0) (service : V) (n : Node) (l m : LinkSeen) (s t : SinkSeen) (o : SourceSeen)
-      (h : List Asked) (d : D) (ts : List Task) (is : IsNode (seen d) (may_leave d) r n ts) where
+      (h : List Asked) (d : D) (ts : List Task) (is : IsNode f (seen d) (may_leave d) r n ts) where
     -- it was answered, and all of that is done
     pub served-on : HeardBy heard service (λ i. Goes c snap most n (outside l s o h) (record n { tasks = [] }) (outside m t o i))
         → HeardBy heard service (λ i. GoesOnTo seen may_leave moment left_since c snap most f n (outside l s o h) d [] (outside m t o i) d r)
@@ -66,7 +68,7 @@ module _ {D : Type 0} (seen : D → Option (List ℕ)) (may_leave : D → List �
         node = record n { tasks = [] };
         went = still seen may_leave moment left_since only_now c snap most f n (record n { tasks = [] }) (outside l s o h)
             (outside m t o on.history) d is.at.opened is.journal.rest on.holds;
-        is = done-is (seen d) (may_leave d) r n ts is;
+        is = done-is f (seen d) (may_leave d) r n ts is;
         cast = refl;
         lines = refl;
         script = refl;
@@ -85,14 +87,14 @@ module _ {D : Type 0} (seen : D → Option (List ℕ)) (may_leave : D → List �
   -- ---- the next line
 
   module _ (n : Node) (l m : LinkSeen) (s t : SinkSeen) (k : SourceSeen) (h : List Asked) (old new : D) (hosted : List ℕ) (number : ℕ)
-      (line : List ℕ) (said : Line) (ahead : List ℕ) (left : Option (List ℕ)) (faults : ℕ) (is : IsNode (seen old) (may_leave old) r n [])
+      (line : List ℕ) (said : Line) (ahead : List ℕ) (left : Option (List ℕ)) (faults : ℕ) (is : IsNode f (seen old) (may_leave old) r n [])
       (same : hosted ≡ numbers_of r.hosts) (few : n.script ≢ most_lines) (next : number ≡ n.lines + 1)
       (way : SeenAs (λ o. Asks most hosted k o line said) ahead left faults) where
     abbrev then-at : Node
     then-at = with_line n (tasks_of_line line said)
 
-    at-is : IsNode (seen old) (may_leave old) r then-at (tasks_of_line line said)
-    at-is = with-line-is (seen old) (may_leave old) r n (tasks_of_line line said) is
+    at-is : IsNode f (seen old) (may_leave old) r then-at (tasks_of_line line said)
+    at-is = with-line-is f (seen old) (may_leave old) r n (tasks_of_line line said) is
 
     reads-it : Went seen moment left_since c snap most f n (outside l s k h) old then-at (outside l s way.source h) old
     reads-it = asks-on seen may_leave moment left_since only_now c snap most f n l s k h old (to-do n [] is.at) is.journal.rest hosted
@@ -123,7 +125,7 @@ module _ {D : Type 0} (seen : D → Option (List ℕ)) (may_leave : D → List �
     -- by what the code answers
     module _ {V : Type 0} (heard : V → List Asked → Type 0) (service : V) where
       pub line-result : (result : Result Running Why) → ((o : SourceSeen) (w : Node)
-          → IsNode (seen old) (may_leave old) r w (tasks_of_line line said) → w.lines ≡ number
+          → IsNode f (seen old) (may_leave old) r w (tasks_of_line line said) → w.lines ≡ number
           → IfOk result (λ r'. HeardBy heard service (λ i. GoesOnTo seen may_leave moment left_since c snap most f w (outside l s o h) old []
           (outside m t o i) new r')))
           → IfOk result (λ r'. HeardBy heard service (λ i. SeenAs (λ o. ReadsOn seen may_leave moment left_since c snap most f n
@@ -134,7 +136,7 @@ module _ {D : Type 0} (seen : D → Option (List ℕ)) (may_leave : D → List �
       line-result (Err why) carries = tt
 
       pub line-stopped : (result : Result Running Why) → ((o : SourceSeen) (w : Node)
-          → IsNode (seen old) (may_leave old) r w (tasks_of_line line said) → w.lines ≡ number
+          → IsNode f (seen old) (may_leave old) r w (tasks_of_line line said) → w.lines ≡ number
           → IfErr result (λ why. HeardBy heard service (λ i. StopsSo seen may_leave moment left_since c snap most f w (outside l s o h) old
           (stop_of why) (outside m t o i) new)))
           → IfErr result (λ why. HeardBy heard service (λ i. (all : List ℕ) × SeenAs (λ o. StopsSo seen may_leave moment left_since c snap

@@ -3,9 +3,9 @@ use Rattle.std.proofs.Common.{◌≡◌, ℕ, ◌+◌, ◌<◌, List, [], Option
 use Rattle.std.specs.Prelude.{◌≢◌}
 use Rattle.node_defs.specs.Casts.{Cast}
 use Rattle.node_defs.specs.Lines.{Stop, NoMemory}
-use Rattle.node_defs.specs.Lives.{Found}
 use Rattle.node_defs.specs.Nodes.{Node, Task, Snapper}
 use Rattle.node_defs.specs.Scripts.{most_lines}
+use Rattle.node_traces.specs.Stops.{Outset}
 use Rattle.node_traces.specs.Outside.{LinkSeen, SinkSeen, SourceSeen}
 use Rattle.node_traces.specs.Service.{Asked}
 use Rattle.node_traces.specs.Goes.{Outside}
@@ -29,12 +29,13 @@ not-all count script few is same = absurd (omega arith)
 abbrev pub at-line : Node → ℕ → ℕ → Node
 at-line n lines script = record n { tasks = []; lines = lines; script = script }
 
-pub at-line-is : (seen : Option (List ℕ)) (may_leave : List ℕ → Type 0) (r : Running) (n : Node) (ts : List Task) (lines script : ℕ)
-    → IsNode seen may_leave r n ts → IsNode seen may_leave r (at-line n lines script) []
-at-line-is seen may_leave r n ts lines script is = record {
+pub at-line-is : (f : Outset) (seen : Option (List ℕ)) (may_leave : List ℕ → Type 0) (r : Running) (n : Node) (ts : List Task) (lines script : ℕ)
+    → IsNode f seen may_leave r n ts → IsNode f seen may_leave r (at-line n lines script) []
+at-line-is f seen may_leave r n ts lines script is = record {
   at = record { runs = is.at.runs; opened = is.at.opened; leaving = is.at.leaving; tasks = refl; text = is.at.text; late = is.at.late };
   hosts = is.hosts;
   journal = record { gate = is.journal.gate; length = is.journal.length; rest = is.journal.rest };
+  keyed = is.keyed;
   sound = record { processes = is.sound.processes; out = is.sound.out; finished = is.sound.finished };
   counts = record { each = is.counts.each; few = is.counts.few };
 }
@@ -47,17 +48,17 @@ untold-is ahead left faults = record { bytes = tt; count = refl }
 
 module _ {D : Type 0} (seen : D → Option (List ℕ)) (may_leave : D → List ℕ → Type 0) (moment : D → ℕ)
     (left_since : D → ℕ → List ℕ → Type 0) (only_now : (d : D) (image : List ℕ) → left_since d (moment d) image → may_leave d image)
-    (snaps : Cast → Snapper) (most : ℕ) (f : Found) (ahead : List ℕ) (left : Option (List ℕ)) (faults : ℕ) where
+    (snaps : Cast → Snapper) (most : ℕ) (f : Outset) (ahead : List ℕ) (left : Option (List ℕ)) (faults : ℕ) where
   -- the running node is a node of the definitions still
   pub has-node : (c : Cast) (n : Node) (x : Outside) (l : LinkSeen) (s : SinkSeen) (old new : D) (count : ℕ) (r : Running)
       (i : List Asked) → SeenAs (λ o. ReadsOn seen may_leave moment left_since c (snaps c) most f n x old count
       (outside l s o i) new r) ahead left faults
       → HasNode (seen new) (may_leave new) r
-  has-node c n x l s old new count r i on = record { node = on.holds.node; tasks = []; is = on.holds.is }
+  has-node c n x l s old new count r i on = record { from = f; node = on.holds.node; tasks = []; is = on.holds.is }
 
   -- ---- at one line
 
-  module _ (r : Running) (n : Node) (l : LinkSeen) (s : SinkSeen) (k : SourceSeen) (h : List Asked) (d : D) (is : IsNode (seen d) (may_leave d) r n []) where
+  module _ (r : Running) (n : Node) (l : LinkSeen) (s : SinkSeen) (k : SourceSeen) (h : List Asked) (d : D) (is : IsNode f (seen d) (may_leave d) r n []) where
     -- The script ends so, and the input was seen so then.
     abbrev EndsHere : Stop → SourceSeen → Type 0
     EndsHere why o = StopsSo seen may_leave moment left_since (cast_in r) (snaps (cast_in r)) most f n (outside l s k h) d why

@@ -1,8 +1,8 @@
 -- Parts of a script, one after the other.
 use Rattle.std.proofs.Common.{◌≡◌, ℕ, ◌+◌, List, [], Option, refl, sym, subst, ◌∙◌, add-zero, arith}
 use Rattle.node_defs.specs.Casts.{Cast}
-use Rattle.node_defs.specs.Lives.{Found}
 use Rattle.node_defs.specs.Nodes.{Node, Snapper}
+use Rattle.node_traces.specs.Stops.{Outset}
 use Rattle.node_traces.specs.Goes.{Outside}
 use Rattle.node_traces.specs.Went.{Went}
 use Rattle.node_traces.proofs.Going.{nothing_goes}
@@ -14,9 +14,9 @@ use Rattle.node_script.specs.Ends.{ReadsOn}
 
 module _ {D : Type 0} (seen : D → Option (List ℕ)) (may_leave : D → List ℕ → Type 0) (moment : D → ℕ)
     (left_since : D → ℕ → List ℕ → Type 0) (only_now : (d : D) (image : List ℕ) → left_since d (moment d) image → may_leave d image)
-    (snaps : Cast → Snapper) (most : ℕ) (f : Found) where
+    (snaps : Cast → Snapper) (most : ℕ) (f : Outset) where
   -- before the first line
-  pub none-read : (r : Running) (n : Node) (x : Outside) (d : D) → IsNode (seen d) (may_leave d) r n []
+  pub none-read : (r : Running) (n : Node) (x : Outside) (d : D) → IsNode f (seen d) (may_leave d) r n []
       → ReadsOn seen may_leave moment left_since (cast_in r) (snaps (cast_in r)) most f n x d 0 x d r
   none-read r n x d is = record {
     node = n;

@@ -1,9 +1,9 @@
 //! What a line of the script asks for, carried out.
 ghost use Rattle.std.specs.Prelude.{◌≡◌, [], ◌∷◌, ℕ, Bool, List, IfErr, IfOk, IsSome, IsTrue};
 ghost use Rattle.byte_defs.specs.Members.{has};
-ghost use Rattle.node_defs.specs.Lives.{Found};
 ghost use Rattle.node_defs.specs.Nodes.{Node, Snapper, Task, tasks_of_line};
 ghost use Rattle.node_defs.specs.Scripts as plain;
+ghost use Rattle.node_traces.specs.Stops.{Outset};
 ghost use Rattle.node_traces.specs.Outside.{SourceSeen};
 ghost use Rattle.node_traces.specs.Seen.{link_seen, sink_seen};
 ghost use Rattle.node_traces.specs.Service.{Asked, HeardBy};
@@ -36,14 +36,14 @@ fn ask<'a, D: Disk, L: Link, K: Sink, V: Service>(
     requires node { HasNode (D.seen disk.old) (D.may_leave disk.old) running }
     requires hosted { IsTrue (has (numbers_of running.hosts) me) }
     requires range { IsRange line.now (said_of said) }
-    ensures goes_on { (snap : Snapper) (most : ℕ) (f : Found) (source : SourceSeen) (h : List Asked) (n : Node)
-        → V.heard service.old h → IsNode (D.seen disk.old) (D.may_leave disk.old) running.entry n (tasks_of_line line.now (plain.Of me (said_of said)))
+    ensures goes_on { (snap : Snapper) (most : ℕ) (f : Outset) (source : SourceSeen) (h : List Asked) (n : Node)
+        → V.heard service.old h → IsNode f (D.seen disk.old) (D.may_leave disk.old) running.entry n (tasks_of_line line.now (plain.Of me (said_of said)))
         → n.lines ≡ number
         → IfOk result (λ r. HeardBy V.heard service.new (λ i. GoesOnTo D.seen D.may_leave D.moment D.left_since (cast_in running.entry) snap most f n
         (outside (link_seen L.sent L.coming L.faults link.old) (sink_seen K.written K.faults output.old) source h) disk.old []
         (outside (link_seen L.sent L.coming L.faults link.new) (sink_seen K.written K.faults output.new) source i) disk.new r)) }
-    ensures stops { (snap : Snapper) (most : ℕ) (f : Found) (source : SourceSeen) (h : List Asked) (n : Node)
-        → V.heard service.old h → IsNode (D.seen disk.old) (D.may_leave disk.old) running.entry n (tasks_of_line line.now (plain.Of me (said_of said)))
+    ensures stops { (snap : Snapper) (most : ℕ) (f : Outset) (source : SourceSeen) (h : List Asked) (n : Node)
+        → V.heard service.old h → IsNode f (D.seen disk.old) (D.may_leave disk.old) running.entry n (tasks_of_line line.now (plain.Of me (said_of said)))
         → n.lines ≡ number
         → IfErr result (λ why. HeardBy V.heard service.new (λ i. StopsSo D.seen D.may_leave D.moment D.left_since (cast_in running.entry) snap most f n
         (outside (link_seen L.sent L.coming L.faults link.old) (sink_seen K.written K.faults output.old) source h) disk.old (stop_of why)
@@ -112,20 +112,20 @@ pub fn carry_out<'a, D: Disk, L: Link, K: Sink, V: Service>(
 
     // A node that has read this line does what it asks, and then has nothing to do. `reported` says that the disk tells what it holds: then
     // the digest in the line of a snapshot is the journal's.
-    ensures goes_on { (reported : Bool) (most : ℕ) (f : Found) (source : SourceSeen) (h : List Asked) (n : Node)
+    ensures goes_on { (reported : Bool) (most : ℕ) (f : Outset) (source : SourceSeen) (h : List Asked) (n : Node)
         → (IsTrue reported → IsSome (D.seen disk.old)) → V.heard service.old h
-        → IsNode (D.seen disk.old) (D.may_leave disk.old) running.entry n (tasks_of_line line.now (line_of said)) → n.lines ≡ number
+        → IsNode f (D.seen disk.old) (D.may_leave disk.old) running.entry n (tasks_of_line line.now (line_of said)) → n.lines ≡ number
         → IfOk result (λ r. HeardBy V.heard service.new (λ i. GoesOnTo D.seen D.may_leave D.moment D.left_since (cast_in running.entry)
-        (snapper reported (cast_in running.entry)) most f n
+        (snapper f.head f.begins reported (cast_in running.entry)) most f n
         (outside (link_seen L.sent L.coming L.faults link.old) (sink_seen K.written K.faults output.old) source h) disk.old []
         (outside (link_seen L.sent L.coming L.faults link.new) (sink_seen K.written K.faults output.new) source i) disk.new r)) }
 
     // Or it stops, after some calls and their answers.
-    ensures stops { (reported : Bool) (most : ℕ) (f : Found) (source : SourceSeen) (h : List Asked) (n : Node)
+    ensures stops { (reported : Bool) (most : ℕ) (f : Outset) (source : SourceSeen) (h : List Asked) (n : Node)
         → (IsTrue reported → IsSome (D.seen disk.old)) → V.heard service.old h
-        → IsNode (D.seen disk.old) (D.may_leave disk.old) running.entry n (tasks_of_line line.now (line_of said)) → n.lines ≡ number
+        → IsNode f (D.seen disk.old) (D.may_leave disk.old) running.entry n (tasks_of_line line.now (line_of said)) → n.lines ≡ number
         → IfErr result (λ why. HeardBy V.heard service.new (λ i. StopsSo D.seen D.may_leave D.moment D.left_since (cast_in running.entry)
-        (snapper reported (cast_in running.entry)) most f n
+        (snapper f.head f.begins reported (cast_in running.entry)) most f n
         (outside (link_seen L.sent L.coming L.faults link.old) (sink_seen K.written K.faults output.old) source h) disk.old (stop_of why)
         (outside (link_seen L.sent L.coming L.faults link.new) (sink_seen K.written K.faults output.new) source i) disk.new)) }
     ensures cause { HasDiskCause (D.faults disk.old) (D.faults disk.new) result }

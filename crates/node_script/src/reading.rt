@@ -1,8 +1,8 @@
 //! The next line of the script, read and carried out; and one line too many.
 ghost use Rattle.std.specs.Prelude.{◌≡◌, ◌<◌, ◌+◌, [], ℕ, Bool, List, IfErr, IfOk, IsSome, IsTrue};
-ghost use Rattle.node_defs.specs.Lives.{Found};
 ghost use Rattle.node_defs.specs.Nodes.{Node};
 ghost use Rattle.node_defs.specs.Scripts.{most_lines};
+ghost use Rattle.node_traces.specs.Stops.{Outset};
 ghost use Rattle.node_traces.specs.Outside.{SourceSeen};
 ghost use Rattle.node_traces.specs.Seen.{link_seen, sink_seen};
 ghost use Rattle.node_traces.specs.Service.{Asked, HeardBy};
@@ -45,21 +45,21 @@ pub(crate) fn next_line<'a, S: Source, D: Disk, L: Link, K: Sink, V: Service>(
 ) -> Result<Running<'a>, Stop>
     requires node { HasNode (D.seen disk.old) (D.may_leave disk.old) running }
     requires few { count < 1000000 }
-    ensures goes_on { (reported : Bool) (f : Found) (k : SourceSeen) (h : List Asked) (n : Node)
+    ensures goes_on { (reported : Bool) (f : Outset) (k : SourceSeen) (h : List Asked) (n : Node)
         → (IsTrue reported → IsSome (D.seen disk.old)) → V.heard service.old h
         → IsSeen k lines.old.ahead (S.left input.old) (S.faults input.old)
-        → IsNode (D.seen disk.old) (D.may_leave disk.old) running.entry n [] → n.lines ≡ go + count → n.script ≡ count
+        → IsNode f (D.seen disk.old) (D.may_leave disk.old) running.entry n [] → n.lines ≡ go + count → n.script ≡ count
         → IfOk result (λ r. HeardBy V.heard service.new (λ i. SeenAs (λ l. ReadsOn D.seen D.may_leave D.moment D.left_since
-        (cast_in running.entry) (snapper reported (cast_in running.entry)) most f n
+        (cast_in running.entry) (snapper f.head f.begins reported (cast_in running.entry)) most f n
         (outside (link_seen L.sent L.coming L.faults link.old) (sink_seen K.written K.faults output.old) k h) disk.old 1
         (outside (link_seen L.sent L.coming L.faults link.new) (sink_seen K.written K.faults output.new) l i) disk.new r)
         lines.new.ahead (S.left input.new) (S.faults input.new))) }
-    ensures stops { (reported : Bool) (f : Found) (k : SourceSeen) (h : List Asked) (n : Node)
+    ensures stops { (reported : Bool) (f : Outset) (k : SourceSeen) (h : List Asked) (n : Node)
         → (IsTrue reported → IsSome (D.seen disk.old)) → V.heard service.old h
         → IsSeen k lines.old.ahead (S.left input.old) (S.faults input.old)
-        → IsNode (D.seen disk.old) (D.may_leave disk.old) running.entry n [] → n.lines ≡ go + count → n.script ≡ count
+        → IsNode f (D.seen disk.old) (D.may_leave disk.old) running.entry n [] → n.lines ≡ go + count → n.script ≡ count
         → IfErr result (λ why. HeardBy V.heard service.new (λ i. (ahead : List ℕ) × SeenAs (λ l.
-        StopsSo D.seen D.may_leave D.moment D.left_since (cast_in running.entry) (snapper reported (cast_in running.entry)) most f n
+        StopsSo D.seen D.may_leave D.moment D.left_since (cast_in running.entry) (snapper f.head f.begins reported (cast_in running.entry)) most f n
         (outside (link_seen L.sent L.coming L.faults link.old) (sink_seen K.written K.faults output.old) k h) disk.old (stop_of why)
         (outside (link_seen L.sent L.coming L.faults link.new) (sink_seen K.written K.faults output.new) l i) disk.new)
         ahead (S.left input.new) (S.faults input.new))) }

@@ -1,8 +1,8 @@
 //! The script of a node, from its first line to the node's end.
 ghost use Rattle.std.specs.Prelude.{◌≡◌, [], ℕ, Bool, List, IfErr, IfOk, IsSome, IsTrue};
-ghost use Rattle.node_defs.specs.Lives.{Found};
 ghost use Rattle.node_defs.specs.Nodes.{Node};
 ghost use Rattle.node_defs.specs.Scripts.{most_lines};
+ghost use Rattle.node_traces.specs.Stops.{Outset};
 ghost use Rattle.node_traces.specs.Outside.{SourceSeen};
 ghost use Rattle.node_traces.specs.Seen.{link_seen, sink_seen};
 ghost use Rattle.node_traces.specs.Service.{Asked, HeardBy};
@@ -34,21 +34,21 @@ fn each_line<'a, S: Source, D: Disk, L: Link, K: Sink, V: Service>(
     service: &mut V,
 ) -> Result<Running<'a>, Stop>
     requires node { HasNode (D.seen disk.old) (D.may_leave disk.old) running }
-    ensures goes_on { (reported : Bool) (f : Found) (k : SourceSeen) (h : List Asked) (n : Node)
+    ensures goes_on { (reported : Bool) (f : Outset) (k : SourceSeen) (h : List Asked) (n : Node)
         → (IsTrue reported → IsSome (D.seen disk.old)) → V.heard service.old h
         → IsSeen k lines.old.ahead (S.left input.old) (S.faults input.old)
-        → IsNode (D.seen disk.old) (D.may_leave disk.old) running.entry n [] → n.lines ≡ go → n.script ≡ 0
+        → IsNode f (D.seen disk.old) (D.may_leave disk.old) running.entry n [] → n.lines ≡ go → n.script ≡ 0
         → IfOk result (λ r. HeardBy V.heard service.new (λ i. SeenAs (λ l. ReadsOn D.seen D.may_leave D.moment D.left_since
-        (cast_in running.entry) (snapper reported (cast_in running.entry)) most f n
+        (cast_in running.entry) (snapper f.head f.begins reported (cast_in running.entry)) most f n
         (outside (link_seen L.sent L.coming L.faults link.old) (sink_seen K.written K.faults output.old) k h) disk.old most_lines
         (outside (link_seen L.sent L.coming L.faults link.new) (sink_seen K.written K.faults output.new) l i) disk.new r)
         lines.new.ahead (S.left input.new) (S.faults input.new))) }
-    ensures stops { (reported : Bool) (f : Found) (k : SourceSeen) (h : List Asked) (n : Node)
+    ensures stops { (reported : Bool) (f : Outset) (k : SourceSeen) (h : List Asked) (n : Node)
         → (IsTrue reported → IsSome (D.seen disk.old)) → V.heard service.old h
         → IsSeen k lines.old.ahead (S.left input.old) (S.faults input.old)
-        → IsNode (D.seen disk.old) (D.may_leave disk.old) running.entry n [] → n.lines ≡ go → n.script ≡ 0
+        → IsNode f (D.seen disk.old) (D.may_leave disk.old) running.entry n [] → n.lines ≡ go → n.script ≡ 0
         → IfErr result (λ why. HeardBy V.heard service.new (λ i. (ahead : List ℕ) × SeenAs (λ l.
-        StopsSo D.seen D.may_leave D.moment D.left_since (cast_in running.entry) (snapper reported (cast_in running.entry)) most f n
+        StopsSo D.seen D.may_leave D.moment D.left_since (cast_in running.entry) (snapper f.head f.begins reported (cast_in running.entry)) most f n
         (outside (link_seen L.sent L.coming L.faults link.old) (sink_seen K.written K.faults output.old) k h) disk.old (stop_of why)
         (outside (link_seen L.sent L.coming L.faults link.new) (sink_seen K.written K.faults output.new) l i) disk.new)
         ahead (S.left input.new) (S.faults input.new))) }
@@ -81,12 +81,12 @@ fn run_within<'a, S: Source, D: Disk, L: Link, K: Sink, V: Service>(
     service: &mut V,
 ) -> Stop
     requires node { HasNode (D.seen disk.old) (D.may_leave disk.old) running }
-    ensures ends { (reported : Bool) (f : Found) (k : SourceSeen) (h : List Asked) (n : Node)
+    ensures ends { (reported : Bool) (f : Outset) (k : SourceSeen) (h : List Asked) (n : Node)
         → (IsTrue reported → IsSome (D.seen disk.old)) → V.heard service.old h
         → IsSeen k lines.old.ahead (S.left input.old) (S.faults input.old)
-        → IsNode (D.seen disk.old) (D.may_leave disk.old) running.entry n [] → n.lines ≡ go → n.script ≡ 0
+        → IsNode f (D.seen disk.old) (D.may_leave disk.old) running.entry n [] → n.lines ≡ go → n.script ≡ 0
         → HeardBy V.heard service.new (λ i. (ahead : List ℕ) × SeenAs (λ l.
-        StopsSo D.seen D.may_leave D.moment D.left_since (cast_in running.entry) (snapper reported (cast_in running.entry)) most f n
+        StopsSo D.seen D.may_leave D.moment D.left_since (cast_in running.entry) (snapper f.head f.begins reported (cast_in running.entry)) most f n
         (outside (link_seen L.sent L.coming L.faults link.old) (sink_seen K.written K.faults output.old) k h) disk.old (stop_of result)
         (outside (link_seen L.sent L.coming L.faults link.new) (sink_seen K.written K.faults output.new) l i) disk.new)
         ahead (S.left input.new) (S.faults input.new)) }
@@ -119,12 +119,12 @@ pub fn run_script<'a, S: Source, D: Disk, L: Link, K: Sink, V: Service>(
 
     // The node of the definitions goes on, line by line, to this stop. Its calls did this to input, link, output and disk. `reported` says that
     // the disk tells what it holds: then the digest in the line of a snapshot is the journal's.
-    ensures ends { (reported : Bool) (f : Found) (k : SourceSeen) (h : List Asked) (n : Node)
+    ensures ends { (reported : Bool) (f : Outset) (k : SourceSeen) (h : List Asked) (n : Node)
         → (IsTrue reported → IsSome (D.seen disk.old)) → V.heard service.old h
         → IsSeen k lines.old.ahead (S.left input.old) (S.faults input.old)
-        → IsNode (D.seen disk.old) (D.may_leave disk.old) running.entry n [] → n.lines ≡ go → n.script ≡ 0
+        → IsNode f (D.seen disk.old) (D.may_leave disk.old) running.entry n [] → n.lines ≡ go → n.script ≡ 0
         → HeardBy V.heard service.new (λ i. (ahead : List ℕ) × SeenAs (λ l.
-        StopsSo D.seen D.may_leave D.moment D.left_since (cast_in running.entry) (snapper reported (cast_in running.entry)) most f n
+        StopsSo D.seen D.may_leave D.moment D.left_since (cast_in running.entry) (snapper f.head f.begins reported (cast_in running.entry)) most f n
         (outside (link_seen L.sent L.coming L.faults link.old) (sink_seen K.written K.faults output.old) k h) disk.old (stop_of result)
         (outside (link_seen L.sent L.coming L.faults link.new) (sink_seen K.written K.faults output.new) l i) disk.new)
         ahead (S.left input.new) (S.faults input.new)) }

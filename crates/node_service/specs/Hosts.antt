@@ -5,7 +5,7 @@ pub use Rattle.node_hosts.specs.Places.{IsHost, IsHosted, IsPlace}
 pub use Rattle.node_hosts.specs.Hosts.{AreHosts, numbers_of, place_of}
 pub use Rattle.node_hosts.specs.Turns.{TakesLive}
 pub use Rattle.node_hosts.specs.Counts.{AreCountsOf, count_in}
-pub use Rattle.node_hosts.specs.Nodes.{IsAt, IsJournalOf, IsNode, cast_in}
+pub use Rattle.node_hosts.specs.Nodes.{IsAt, AreKeyed, IsJournalOf, IsNode, cast_in}
 pub use Rattle.node_hosts.specs.declared.counts.Counts.{Counts}
 pub use Rattle.node_hosts.specs.declared.host.Host.{Host}
 pub use Rattle.node_hosts.specs.declared.hosts.Hosts.{Hosts}

@@ -1,5 +1,5 @@
 -- The history of a service that says nothing.
-use Rattle.std.specs.Prelude.{◌≡◌, ℕ, List, [], ◌∷◌}
+use Rattle.std.specs.Prelude.{◌≡◌, List, [], ◌∷◌}
 use Rattle.node_defs.specs.Nodes.{Call, Serves, TellsOf, Asks, Words, Answer, Done, Said}
 use Rattle.node_traces.specs.Service.{Asked}
 

@@ -1,16 +1,14 @@
 -- The parts of the hosted processes, one after the other.
-use Rattle.std.proofs.Common.{◌≡◌, ℕ, List, [], ◌∷◌, ◌++◌, map, length, sym, ap, append-nil, append_assoc, zero-add, ◌∙◌}
+use Rattle.std.proofs.Common.{◌≡◌, ℕ, List, [], ◌∷◌, ◌++◌, map, sym, ap, append-nil, append_assoc, ◌∙◌}
 use Rattle.std.proofs.lemmas.List.{map-append}
 use Rattle.kit_defs.specs.Kits.{Kit}
-use Rattle.group_defs.specs.Process.{Process}
 use Rattle.image_defs.specs.Images.{Image, image_of}
-use Rattle.journal_defs.specs.declared.Version.{Version}
-use Rattle.node_defs.specs.Casts.{cast_of, entries_of, from_start, hosted_by}
-use Rattle.node_defs.specs.Nodes.{Node, entries_in}
+use Rattle.node_defs.specs.Casts.{Beginning, hosted_by}
+use Rattle.node_defs.specs.Nodes.{Node}
 use Rattle.node_snapshots.specs.Parts.{part_as, part_in}
 use Rattle.node_snapshots.specs.declared.part.Part.{Part}
 use Rattle.state_image.specs.States.{image}
-use Rattle.node_serving.specs.Hosts.{AreCountsOf, Counts, count_in}
+use Rattle.node_serving.specs.Hosts.{AreCountsOf, Counts}
 use Rattle.node_snapping.specs.Snapping.{part_now}
 
 -- a part behind the others
@@ -31,9 +29,6 @@ pub all-put : {P : Type 0} (f : ℕ → P) (left : List ℕ) (parts all : List P
 all-put f left parts all none before = sym (append-nil parts) ∙ ap (λ ps. parts ++ map f ps) (sym none) ∙ before
 
 -- the counts are those of the node
-pub parts-are : (kit : Kit) (version : Version) (n : Node) (counts : Counts) → AreCountsOf n counts
-    → map (part_now counts n.now) (hosted_by kit) ≡ map (part_in (from_start (cast_of kit version)) n) (hosted_by kit)
-parts-are kit version n counts are =
-    let counted : (p : ℕ) → count_in counts p ≡ entries_in (from_start (cast_of kit version)) n p
-    = λ p. are.each p ∙ sym (zero-add (length (entries_of p n.kept))) in
-    λ i. map (λ p. (counted p i, image_of (n.now p))) (hosted_by kit)
+pub parts-are : (b : Beginning) (kit : Kit) (n : Node) (counts : Counts) → AreCountsOf b n counts
+    → map (part_now counts n.now) (hosted_by kit) ≡ map (part_in b n) (hosted_by kit)
+parts-are b kit n counts are = λ i. map (λ p. (are.each p i, image_of (n.now p))) (hosted_by kit)

@@ -1,5 +1,5 @@
 -- A node that is asked for a snapshot, answer by answer.
-use Rattle.std.proofs.Common.{◌≡◌, ℕ, List, [], ◌∷◌, Some, refl, sym}
+use Rattle.std.proofs.Common.{◌≡◌, ℕ, List, ◌∷◌, Some, refl, sym}
 use Rattle.std.proofs.lemmas.List.{append-nil}
 use Rattle.node_defs.specs.Casts.{Cast}
 use Rattle.node_defs.specs.Lines.{DiskFailed}

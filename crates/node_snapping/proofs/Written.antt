@@ -1,20 +1,18 @@
 -- The line of a snapshot, made and written: the node goes on to its other tasks, or stops.
-use Rattle.std.proofs.Common.{◌≡◌, ℕ, List, [], ◌∷◌, Option, None, Err, Result, refl, sym, subst}
+use Rattle.std.proofs.Common.{◌≡◌, ℕ, List, ◌∷◌, Option, None, Err, Result, refl, sym, subst}
 use Rattle.journal_disk.specs.Disks.{HasLength, OnlyReads}
 use Rattle.journal_rp.specs.Answers.{HasCauses, of_memory}
 use Rattle.journal_rp.specs.Stages.{len_of, version_of}
 use Rattle.journal_rp.specs.declared.fault.JournalFault.{JournalFault}
 use Rattle.journal_rp.specs.declared.fault.JournalFault.TheVariants as faults
-use Rattle.journal_rp.specs.declared.journal.Journal.{Journal}
-use Rattle.journal_rp.specs.declared.journal.Writing.{Writing}
 use Rattle.kit_defs.specs.Kits.{Kit}
 use Rattle.node_defs.specs.Casts.{Cast, cast_of}
 use Rattle.node_defs.specs.Lines.{Stop, NoMemory, DiskFailed}
-use Rattle.node_defs.specs.Lives.{Found}
 use Rattle.node_defs.specs.Nodes.{Node, Task, Say, Mark, Snapper}
+use Rattle.node_traces.specs.Stops.{Outset}
 use Rattle.node_traces.specs.Outside.{LinkSeen, SinkSeen, SinkWrote, SourceSeen}
 use Rattle.node_traces.specs.Service.{Asked}
-use Rattle.node_traces.specs.Goes.{Outside, Goes}
+use Rattle.node_traces.specs.Goes.{Goes}
 use Rattle.node_traces.specs.Went.{Went}
 use Rattle.node_traces.proofs.Going.{parts_go_on}
 use Rattle.node_serving.specs.Hosts.{AreCountsOf, AreHosts, Counts, Hosts, IsJournalOf, IsNode, Running, cast_in}
@@ -40,8 +38,8 @@ none-by T before now fault why causes is = subst HasNoLine (sym is) (go fault ca
 
 module _ {D : Type 0} (seen : D → Option (List ℕ)) (may_leave : D → List ℕ → Type 0) (moment : D → ℕ)
     (left_since : D → ℕ → List ℕ → Type 0) (old new : D) (reads : OnlyReads seen may_leave moment left_since old new) (snap : Snapper) (most : ℕ)
-    (f : Found) (r : Running) (n : Node) (ts : List Task) (l : LinkSeen) (s : SinkSeen) (o : SourceSeen) (h : List Asked)
-    (is : IsNode (seen old) (may_leave old) r n (Mark ∷ ts)) where
+    (f : Outset) (r : Running) (n : Node) (ts : List Task) (l : LinkSeen) (s : SinkSeen) (o : SourceSeen) (h : List Asked)
+    (is : IsNode f (seen old) (may_leave old) r n (Mark ∷ ts)) where
   abbrev c : Cast
   c = cast_in r
 
@@ -49,10 +47,10 @@ module _ {D : Type 0} (seen : D → Option (List ℕ)) (may_leave : D → List �
   asked = marking c snap most n ts (outside l s o h)
 
   -- the same node
-  pub counts-asked : AreCountsOf asked r.counts
+  pub counts-asked : AreCountsOf f.begins asked r.counts
   counts-asked = record { each = is.counts.each; few = is.counts.few }
 
-  pub journal-asked : IsJournalOf c asked r.journal (seen old) (may_leave old)
+  pub journal-asked : IsJournalOf f.head asked r.journal (seen old) (may_leave old)
   journal-asked = record { gate = is.journal.gate; length = is.journal.length; rest = is.journal.rest }
 
   stops-asked : (t : SinkSeen) (why : Stop) → Ends c snap most asked (outside l s o h) why (outside l t o h) n.kept
@@ -97,12 +95,12 @@ module _ {D : Type 0} (seen : D → Option (List ℕ)) (may_leave : D → List �
         record {
           node = at n ts;
           went = went;
-          is = is-now r r' (seen new) (may_leave new) n ts cast
+          is = is-now f r r' (seen new) (may_leave new) n ts cast
               (subst (λ (hs : Hosts). AreHosts c r'.kit.now n.now None hs) (sym hosts)
               (subst (λ (k : Kit). AreHosts c k n.now None r.hosts) (sym kit) is.hosts))
-              (journal-on seen may_leave moment left_since old new reads c n n r.journal r'.journal journal refl refl is.journal long)
-              (sound-on c snap most n (at n ts) (outside l s o h) (outside l t o h) went.goes is.sound)
-              (subst (λ (cs : Counts). AreCountsOf n cs) (sym counts) (record { each = is.counts.each; few = is.counts.few }));
+              (journal-on seen may_leave moment left_since old new reads f.head n n r.journal r'.journal journal refl refl is.journal long)
+              is.keyed (sound-on f c snap most n (at n ts) (outside l s o h) (outside l t o h) went.goes is.keyed is.sound)
+              (subst (λ (cs : Counts). AreCountsOf f.begins n cs) (sym counts) (record { each = is.counts.each; few = is.counts.few }));
           cast = cast;
           lines = refl;
           script = refl;

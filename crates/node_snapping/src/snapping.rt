@@ -3,8 +3,8 @@ ghost use Rattle.std.specs.Prelude.{◌≡◌, ◌∷◌, ℕ, Bool, List, None,
 ghost use Rattle.journal_disk.specs.Disks.{HasLength, OnlyReads};
 ghost use Rattle.journal_rp.specs.Stages.{len_of, version_of};
 ghost use Rattle.node_defs.specs.Casts.{cast_of};
-ghost use Rattle.node_defs.specs.Lives.{Found};
 ghost use Rattle.node_defs.specs.Nodes.{Mark, Node, Task};
+ghost use Rattle.node_traces.specs.Stops.{Outset};
 ghost use Rattle.node_traces.specs.Outside.{LinkSeen, SourceSeen};
 ghost use Rattle.node_traces.specs.Seen.{sink_seen};
 ghost use Rattle.node_traces.specs.Service.{Asked};
@@ -30,10 +30,10 @@ fn line_of<D: Disk>(
     disk: &mut D,
 ) -> Result<Vec<u8>, Stop>
     requires as_left { HasLength (D.seen disk.old) (len_of journal.old) }
-    ensures line { (n : Node) (reported : Bool) → let c = cast_of kit.now (version_of journal.old) in
-        AreHosts c kit.now n.now None hosts.now → AreCountsOf n counts.now
-        → IsJournalOf c n journal.old (D.seen disk.old) (D.may_leave disk.old) → (IsTrue reported → IsSome (D.seen disk.old))
-        → IfOk result (λ line. (digest : List ℕ) × (line.items ≡ snapper reported c n digest)) }
+    ensures line { (f : Outset) (n : Node) (reported : Bool) → let c = cast_of kit.now (version_of journal.old) in
+        AreHosts c kit.now n.now None hosts.now → AreCountsOf f.begins n counts.now
+        → IsJournalOf f.head n journal.old (D.seen disk.old) (D.may_leave disk.old) → (IsTrue reported → IsSome (D.seen disk.old))
+        → IfOk result (λ line. (digest : List ℕ) × (line.items ≡ snapper f.head f.begins reported c n digest)) }
     ensures same { journal.new ≡ journal.old }
     ensures as_left { HasLength (D.seen disk.new) (len_of journal.new) }
     ensures disk { OnlyReads D.seen D.may_leave D.moment D.left_since disk.old disk.new }
@@ -62,19 +62,19 @@ pub fn snap<'a, D: Disk, K: Sink>(
 
     // A node that is asked for a snapshot writes its line, and goes on with its other tasks. `reported` says that the disk tells what it holds:
     // then the digest in the line is the journal's.
-    ensures goes_on { (reported : Bool) (most : ℕ) (f : Found) (link : LinkSeen) (source : SourceSeen) (h : List Asked) (n : Node)
+    ensures goes_on { (reported : Bool) (most : ℕ) (f : Outset) (link : LinkSeen) (source : SourceSeen) (h : List Asked) (n : Node)
         (ts : List Task) → (IsTrue reported → IsSome (D.seen disk.old))
-        → IsNode (D.seen disk.old) (D.may_leave disk.old) running.entry n (Mark ∷ ts)
+        → IsNode f (D.seen disk.old) (D.may_leave disk.old) running.entry n (Mark ∷ ts)
         → IfOk result (GoesOnTo D.seen D.may_leave D.moment D.left_since (cast_in running.entry)
-        (snapper reported (cast_in running.entry)) most f n (outside link (sink_seen K.written K.faults output.old) source h) disk.old ts
+        (snapper f.head f.begins reported (cast_in running.entry)) most f n (outside link (sink_seen K.written K.faults output.old) source h) disk.old ts
         (outside link (sink_seen K.written K.faults output.new) source h) disk.new) }
 
     // Or it stops, after some calls and their answers.
-    ensures stops { (reported : Bool) (most : ℕ) (f : Found) (link : LinkSeen) (source : SourceSeen) (h : List Asked) (n : Node)
+    ensures stops { (reported : Bool) (most : ℕ) (f : Outset) (link : LinkSeen) (source : SourceSeen) (h : List Asked) (n : Node)
         (ts : List Task) → (IsTrue reported → IsSome (D.seen disk.old))
-        → IsNode (D.seen disk.old) (D.may_leave disk.old) running.entry n (Mark ∷ ts)
+        → IsNode f (D.seen disk.old) (D.may_leave disk.old) running.entry n (Mark ∷ ts)
         → IfErr result (λ why. StopsSo D.seen D.may_leave D.moment D.left_since (cast_in running.entry)
-        (snapper reported (cast_in running.entry)) most f n (outside link (sink_seen K.written K.faults output.old) source h) disk.old (stop_of why)
+        (snapper f.head f.begins reported (cast_in running.entry)) most f n (outside link (sink_seen K.written K.faults output.old) source h) disk.old (stop_of why)
         (outside link (sink_seen K.written K.faults output.new) source h) disk.new) }
     ensures cause { HasDiskCause (D.faults disk.old) (D.faults disk.new) result }
 {

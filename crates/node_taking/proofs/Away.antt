@@ -6,7 +6,7 @@ use Rattle.std.proofs.Math.Logic.{∥∥₁_elim}
 use Rattle.std.proofs.Props.{props}
 use Rattle.std.proofs.lemmas.Grind.{merely}
 use Rattle.byte_defs.specs.Members.{has}
-use Rattle.sealing_laws.specs.Letters.{IsClaim, IsFromOther, IsLast, IsSealable, letters_in}
+use Rattle.sealing_laws.specs.Letters.{AreInRange, IsFromOther, IsLast, IsSealable, letters_in}
 use Rattle.kit_defs.specs.Kits.{IsKit, Kit}
 use Rattle.group_defs.specs.Process.{Process}
 use Rattle.group_defs.specs.Events.{Note, Outcome as PlainOutcome, after}
@@ -22,8 +22,9 @@ use Rattle.stmt_codec.specs.declared.events.Outcome.{Outcome}
 use Rattle.sealing_laws.specs.Running.{AnySigner, used, Hosted, IsCore, IsOutcome, IsReal, Running, Host, Hosts, AreHosts, numbers_of, IsHost, IsHosted, IsJournalOf, IsNode, cast_in}
 use Rattle.node_defs.specs.Casts.{Cast, entries_of, entry_for, handed, live}
 use Rattle.node_defs.specs.Nodes.{Node, Task, asks, with_turn}
+use Rattle.node_traces.specs.Stops.{Outset}
 use Rattle.sealing_laws.specs.Service.{note}
-use Rattle.sealing_laws.proofs.Sealed.{turns_can_be_sealed}
+use Rattle.sealing_laws.proofs.Sealed.{keyed_turns_can_be_sealed}
 use Rattle.node_taking.specs.declared.stepping.Away.{Away}
 use Rattle.node_taking.specs.Asking.{left_to_ask}
 use Rattle.node_taking.specs.Turns.{IsAway, IsTurnOf}
@@ -37,11 +38,11 @@ turn-of c kit p now e away is = record { taken = is.takes.1; staged = is.takes.3
 -- ---- letting it out
 
 -- its entry is the last of the journal
-pub last-so : (c : Cast) (kit : Kit) (n : Node) (p : ℕ) (e : Event) (was : Away Unsynced) (now : Away Synced) (j : Journal Writing)
+pub last-so : (head : List ℕ) (c : Cast) (kit : Kit) (n : Node) (p : ℕ) (e : Event) (was : Away Unsynced) (now : Away Synced) (j : Journal Writing)
     (seen : Option (List ℕ)) (may_leave : List ℕ → Type 0) → IsAway c kit p (n.now p) e was → IsSameTurn was now
-    → IsJournalOf c (grown c n p e) j seen may_leave → IfSome seen (λ file. IsLast seen may_leave (staged_of now.turn))
-last-so c kit n p e was now j seen may_leave is same journal = if-reported seen (λ some. record {
-  head = c.header;
+    → IsJournalOf head (grown c n p e) j seen may_leave → IfSome seen (λ file. IsLast seen may_leave (staged_of now.turn))
+last-so head c kit n p e was now j seen may_leave is same journal = if-reported seen (λ some. record {
+  head = head;
   before = n.kept;
   entry = entry_for c (n.now p) e;
   gate = (grown c n p e).gate;
@@ -50,27 +51,34 @@ last-so c kit n p e was now j seen may_leave is same journal = if-reported seen 
   rest = reported seen journal.rest some;
 })
 
--- what a core's process has signed is in range
-signed-in-range : (c : Cast) (p : ℕ) (now : Process) (h : Hosted AnySigner) → IsHosted c p now h → All IsClaim now.signed
+-- what a core's process keeps is in range
+all-in-range : (c : Cast) (p : ℕ) (now : Process) (h : Hosted AnySigner) → IsHosted c p now h → AreInRange now
 unfolding IsCore
-signed-in-range c p now h is = is.core.keyless.state.lawful.said
+all-in-range c p now h is =
+    let state = is.core.keyless.state in
+    record {
+      signed = state.lawful.said;
+      heard = state.lawful.pool.in_range;
+      previous = state.ranged.previous_ranged;
+      commits = state.ranged.commits_ranged;
+    }
 
 pub among : (c : Cast) (kit : Kit) (now : ℕ → Process) (out : Option ℕ) (hosts : Hosts) (p : ℕ) → AreHosts c kit now out hosts
     → IsTrue (has (numbers_of hosts) p) → IsTrue (has c.hosted p)
 among c kit now out hosts p are there = subst (λ (ps : List ℕ). IsTrue (has ps p)) are.numbers there
 
 -- its letters can be sealed
-pub sealable-so : (r : Running) (n : Node) (ts : List Task) (p : ℕ) (e : Event) (was : Away Unsynced) (now : Away Synced)
+pub sealable-so : (f : Outset) (r : Running) (n : Node) (ts : List Task) (p : ℕ) (e : Event) (was : Away Unsynced) (now : Away Synced)
     (seen : Option (List ℕ)) (may_leave : List ℕ → Type 0) → ∥ IsKit r.kit.now ∥₁ → IsTrue (has (numbers_of r.hosts) p) → IsFromOther p (handed e)
-    → IsNode seen may_leave r n ts → IsAway (cast_in r) r.kit.now p (n.now p) e was → IsSameTurn was now
+    → IsNode f seen may_leave r n ts → IsAway (cast_in r) r.kit.now p (n.now p) e was → IsSameTurn was now
     → All (IsSealable r.kit.now p) (letters_in (outcome_of now.turn).sends.items)
-sealable-so r n ts p e was now seen may_leave real hosted other node is same =
+sealable-so f r n ts p e was now seen may_leave real hosted other node is same =
     ∥∥₁_elim real (hlevel props) (λ kit.
     let c : Cast = cast_in r in
     subst (λ o. All (IsSealable r.kit.now p) (letters_in o.sends.items)) (sym same.outcome)
-    (turns_can_be_sealed r.kit.now (version_of r.journal) p (n.now p) (entries_of p n.kept) e (outcome_of was.turn) kit
-    (among c r.kit.now n.now None r.hosts p node.hosts hosted) (node.sound.processes p) other
-    (signed-in-range c p (after c.setting (n.now p) (live c (n.now p) e)) (process_of was.turn) is.takes.0) is.takes.2))
+    (keyed_turns_can_be_sealed r.kit.now (version_of r.journal) p (f.begins.from p) (n.now p) (entries_of p n.kept) e (outcome_of was.turn) kit
+    (among c r.kit.now n.now None r.hosts p node.hosts hosted) (node.keyed p) (node.sound.processes p) other
+    (all-in-range c p (after c.setting (n.now p) (live c (n.now p) e)) (process_of was.turn) is.takes.0) is.takes.2))
 
 -- ---- back in its place
 

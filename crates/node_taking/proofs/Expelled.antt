@@ -11,8 +11,8 @@ use Rattle.stmt_codec.specs.declared.events.Note.{Note as CodeNote}
 use Rattle.stmt_codec.specs.declared.events.Outcome.{Outcome}
 use Rattle.node_defs.specs.Casts.{cast_of}
 use Rattle.node_defs.specs.Lines.{Stop, expel_line}
-use Rattle.node_defs.specs.Lives.{Found}
 use Rattle.node_defs.specs.Nodes.{Node, Snapper, Task, Take, Say, Ask, Answer, Done, Named, Asks, asks}
+use Rattle.node_traces.specs.Stops.{Outset}
 use Rattle.node_traces.specs.Outside.{SinkSeen, SinkWrote, SourceSeen}
 use Rattle.node_traces.specs.Service.{Asked, HeardBy, one_asked}
 use Rattle.sealing_laws.specs.Events.{event as event_of, Event as CodeEvent}
@@ -137,15 +137,15 @@ module _ {D V : Type 0} (seen : D → Option (List ℕ)) (may_leave : D → List
 
   -- with a node that goes on, its tasks are done
   abbrev pub LeadsIfOk : Running → Around D V → List Task → Result Running Why → Around D V → Type 0
-  LeadsIfOk r x us w y = (snap : Snapper) (most : ℕ) (f : Found) (source : SourceSeen) (h : List Asked) (n : Node) (ts : List Task)
-      → heard x.service h → IsNode (seen x.disk) (may_leave x.disk) r n (us ++ ts)
+  LeadsIfOk r x us w y = (snap : Snapper) (most : ℕ) (f : Outset) (source : SourceSeen) (h : List Asked) (n : Node) (ts : List Task)
+      → heard x.service h → IsNode f (seen x.disk) (may_leave x.disk) r n (us ++ ts)
       → IfOk w (λ r'. HeardBy heard y.service (λ i. GoesOnTo seen may_leave moment left_since (cast_in r) snap most f n
       (outside x.link x.sink source h) x.disk ts (outside y.link y.sink source i) y.disk r'))
 
   -- and with one that ends it stops so
   abbrev pub StopsIfErr : Running → Around D V → List Task → Result Running Why → Around D V → Type 0
-  StopsIfErr r x us w y = (snap : Snapper) (most : ℕ) (f : Found) (source : SourceSeen) (h : List Asked) (n : Node) (ts : List Task)
-      → heard x.service h → IsNode (seen x.disk) (may_leave x.disk) r n (us ++ ts)
+  StopsIfErr r x us w y = (snap : Snapper) (most : ℕ) (f : Outset) (source : SourceSeen) (h : List Asked) (n : Node) (ts : List Task)
+      → heard x.service h → IsNode f (seen x.disk) (may_leave x.disk) r n (us ++ ts)
       → IfErr w (λ why. HeardBy heard y.service (λ i. StopsSo seen may_leave moment left_since (cast_in r) snap most f n
       (outside x.link x.sink source h) x.disk (stop_of why) (outside y.link y.sink source i) y.disk))
 

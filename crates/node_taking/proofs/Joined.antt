@@ -4,8 +4,8 @@ use Rattle.std.specs.Prelude.{Contains, IsTrue}
 use Rattle.byte_defs.specs.Members.{has}
 use Rattle.node_defs.specs.Casts.{Cast}
 use Rattle.node_defs.specs.Lines.{Stop}
-use Rattle.node_defs.specs.Lives.{Found}
 use Rattle.node_defs.specs.Nodes.{Node, Task, Snapper}
+use Rattle.node_traces.specs.Stops.{Outset}
 use Rattle.node_traces.specs.Goes.{Outside, Goes}
 use Rattle.node_traces.specs.Went.{Went}
 use Rattle.node_traces.proofs.Going.{nothing_goes}
@@ -19,24 +19,24 @@ use Rattle.node_taking.proofs.Ends.{Ends}
 use Rattle.node_taking.proofs.Whole.{ends-still, is-now, sound-on}
 
 -- the same running node, had it these tasks
-pub with-tasks : (seen : Option (List ℕ)) (may_leave : List ℕ → Type 0) (r : Running) (n : Node) (ts us : List Task)
-    → IsNode seen may_leave r n ts → IsNode seen may_leave r (at n us) us
-with-tasks seen may_leave r n ts us is = is-now r r seen may_leave n us refl is.hosts is.journal (record {
+pub with-tasks : (f : Outset) (seen : Option (List ℕ)) (may_leave : List ℕ → Type 0) (r : Running) (n : Node) (ts us : List Task)
+    → IsNode f seen may_leave r n ts → IsNode f seen may_leave r (at n us) us
+with-tasks f seen may_leave r n ts us is = is-now f r r seen may_leave n us refl is.hosts is.journal is.keyed (record {
   processes = is.sound.processes;
   out = λ l there. is.sound.out l (subst (λ ls. Contains ls l) (sym is.at.leaving) there);
   finished = λ some. refl;
 }) (record { each = is.counts.each; few = is.counts.few })
 
 -- a process stays hosted
-pub still-hosted : (seen : Option (List ℕ)) (may_leave : List ℕ → Type 0) (c : Cast) (r : Running) (n : Node) (ts : List Task) (p : ℕ)
-    → IsNode seen may_leave r n ts → cast_in r ≡ c → IsTrue (has c.hosted p) → IsTrue (has (numbers_of r.hosts) p)
-still-hosted seen may_leave c r n ts p is same there =
+pub still-hosted : (f : Outset) (seen : Option (List ℕ)) (may_leave : List ℕ → Type 0) (c : Cast) (r : Running) (n : Node) (ts : List Task) (p : ℕ)
+    → IsNode f seen may_leave r n ts → cast_in r ≡ c → IsTrue (has c.hosted p) → IsTrue (has (numbers_of r.hosts) p)
+still-hosted f seen may_leave c r n ts p is same there =
     subst (λ (ps : List ℕ). IsTrue (has ps p)) (sym is.hosts.numbers)
     (subst (λ (k : Cast). IsTrue (has k.hosted p)) (sym same) there)
 
 module _ {D : Type 0} (seen : D → Option (List ℕ)) (may_leave : D → List ℕ → Type 0) (moment : D → ℕ)
     (left_since : D → ℕ → List ℕ → Type 0) (only_now : (d : D) (image : List ℕ) → left_since d (moment d) image → may_leave d image)
-    (snap : Snapper) (most : ℕ) (f : Found) where
+    (snap : Snapper) (most : ℕ) (f : Outset) where
   -- a part, and after it one from the running node that it led to
   pub on-and-on : (c : Cast) (n : Node) (x y z : Outside) (old mid new : D) (ts us : List Task) (r r' : Running)
       (first : GoesOnTo seen may_leave moment left_since c snap most f n x old ts y mid r)
@@ -62,7 +62,7 @@ module _ {D : Type 0} (seen : D → Option (List ℕ)) (may_leave : D → List �
       (subst (λ (k : Cast). StopsSo seen may_leave moment left_since k snap most f first.node y mid why z new) first.cast stops)
 
   -- a part in which the disk stays as it is, and with it the hosted processes and the journal
-  pub on-still : (r : Running) (n : Node) (x y : Outside) (d : D) (ts us : List Task) → IsNode (seen d) (may_leave d) r n ts
+  pub on-still : (r : Running) (n : Node) (x y : Outside) (d : D) (ts us : List Task) → IsNode f (seen d) (may_leave d) r n ts
       → Goes (cast_in r) snap most (at n ts) x (at n us) y
       → GoesOnTo seen may_leave moment left_since (cast_in r) snap most f n x d us y d r
   on-still r n x y d ts us is goes =
@@ -72,7 +72,8 @@ module _ {D : Type 0} (seen : D → Option (List ℕ)) (may_leave : D → List �
       record {
         node = at n us;
         went = went;
-        is = is-now r r (seen d) (may_leave d) n us refl is.hosts is.journal (sound-on c snap most n (at n us) x y went.goes is.sound)
+        is = is-now f r r (seen d) (may_leave d) n us refl is.hosts is.journal is.keyed
+            (sound-on f c snap most n (at n us) x y went.goes is.keyed is.sound)
             (record { each = is.counts.each; few = is.counts.few });
         cast = refl;
         lines = refl;
@@ -80,14 +81,14 @@ module _ {D : Type 0} (seen : D → Option (List ℕ)) (may_leave : D → List �
       }
 
   pub stops-there : (r : Running) (n : Node) (x y : Outside) (d : D) (ts : List Task) (why : Stop)
-      → IsNode (seen d) (may_leave d) r n ts → Ends (cast_in r) snap most (at n ts) x why y n.kept
+      → IsNode f (seen d) (may_leave d) r n ts → Ends (cast_in r) snap most (at n ts) x why y n.kept
       → StopsSo seen may_leave moment left_since (cast_in r) snap most f n x d why y d
   stops-there r n x y d ts why is ends =
       subst (λ (m : Node). StopsSo seen may_leave moment left_since (cast_in r) snap most f m x d why y d) (sym (at-so n ts is.at))
       (ends-still seen may_leave moment left_since only_now snap most f (cast_in r) (at n ts) x y d why refl is.journal.rest ends)
 
   -- no part
-  pub on-nothing : (r : Running) (n : Node) (x : Outside) (d : D) (ts : List Task) → IsNode (seen d) (may_leave d) r n ts
+  pub on-nothing : (r : Running) (n : Node) (x : Outside) (d : D) (ts : List Task) → IsNode f (seen d) (may_leave d) r n ts
       → GoesOnTo seen may_leave moment left_since (cast_in r) snap most f n x d ts x d r
   on-nothing r n x d ts is = record {
     node = n;

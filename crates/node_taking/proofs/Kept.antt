@@ -20,9 +20,9 @@ use Rattle.node_defs.specs.Casts.{Cast, entry_for, live, outcome_of}
 use Rattle.node_defs.specs.Lines as lines
 use Rattle.node_defs.specs.Lines.{DiskFailed}
 use Rattle.node_defs.specs.Lives as lives
-use Rattle.node_defs.specs.Lives.{Found, leaves}
+use Rattle.node_defs.specs.Lives.{leaves}
 use Rattle.node_defs.specs.Nodes.{Node, Task, Take, Append, Answer, Done, Failed, Snapper, answered, run}
-use Rattle.node_traces.specs.Stops.{LeftBy}
+use Rattle.node_traces.specs.Stops.{Outset, LeftFrom}
 use Rattle.node_traces.specs.Goes.{Outside}
 use Rattle.node_traces.specs.Went.{Went}
 use Rattle.node_traces.proofs.Went.{went_on}
@@ -66,8 +66,8 @@ tells-before (Some file) new untold some = refl
 
 module _ {D : Type 0} (seen : D → Option (List ℕ)) (may_leave : D → List ℕ → Type 0) (moment : D → ℕ)
     (left_since : D → ℕ → List ℕ → Type 0) (only_now : (d : D) (image : List ℕ) → left_since d (moment d) image → may_leave d image) (c : Cast)
-    (snap : Snapper) (most : ℕ) (f : Found) (n : Node) (p : ℕ) (e : Event) (ts : List Task) (x : Outside) (old new : D)
-    (journal : Journal Writing) (bytes : List ℕ) (is : IsAt n (Take p e ∷ ts)) (of : IsJournalOf c n journal (seen old) (may_leave old))
+    (snap : Snapper) (most : ℕ) (f : Outset) (n : Node) (p : ℕ) (e : Event) (ts : List Task) (x : Outside) (old new : D)
+    (journal : Journal Writing) (bytes : List ℕ) (is : IsAt n (Take p e ∷ ts)) (of : IsJournalOf f.head n journal (seen old) (may_leave old))
     (turn : IsTurnOf c (n.now p) e bytes) where
   verdict : (outcome_of c (n.now p) e).verdict ≡ None
   verdict = verdict-is c.setting (n.now p) (live c (n.now p) e) ∙ turn.taken
@@ -75,8 +75,8 @@ module _ {D : Type 0} (seen : D → Option (List ℕ)) (may_leave : D → List �
   sizes : n.gate + 1 + length (entry_bytes (entry_for c (n.now p) e)) + 5 ≡ gate_of journal + 1 + length bytes
   sizes = omega (arith, of.gate, ap length turn.staged, staged-length (entry_for c (n.now p) e))
 
-  rest-at : IsSome (seen old) → HasRest (seen old) (may_leave old) c.header n.kept (gate_of journal)
-  rest-at some = subst (λ (g : ℕ). HasRest (seen old) (may_leave old) c.header n.kept g) of.gate (reported (seen old) of.rest some)
+  rest-at : IsSome (seen old) → HasRest (seen old) (may_leave old) f.head n.kept (gate_of journal)
+  rest-at some = subst (λ (g : ℕ). HasRest (seen old) (may_leave old) f.head n.kept g) of.gate (reported (seen old) of.rest some)
 
   abbrev over : Type 0
   over = 2 ^ 30 < gate_of journal + 1 + length bytes
@@ -88,8 +88,8 @@ module _ {D : Type 0} (seen : D → Option (List ℕ)) (may_leave : D → List �
       (taken-so c snap n p e ts verdict (room-is (2 ^ 30) _ _ sizes fits)) (steps-does c most n p e ts x))
 
   -- any moment of the append
-  left-appending : (more : List Answer) (image : List ℕ) → IsWithOrWithout c.header n.kept (entry_for c (n.now p) e) image
-      → LeftBy c snap f (at n (Append p e ∷ ts)) more [] image
+  left-appending : (more : List Answer) (image : List ℕ) → IsWithOrWithout f.head n.kept (entry_for c (n.now p) e) image
+      → LeftFrom c snap f (at n (Append p e ∷ ts)) more [] image
   unfolding run leaves lives.staged
   left-appending more image (inl without) = left-at-first c snap f (at n (Append p e ∷ ts)) more image refl without
   left-appending more image (inr with) = record { front = []; fronts = (more, refl); with_more = true; reads = with }
@@ -100,10 +100,10 @@ module _ {D : Type 0} (seen : D → Option (List ℕ)) (may_leave : D → List �
       → bytes ≡ staged d → LeavesOnly moment left_since old new (IsWithOrWithout head es d)
 
   appending : (more : List Answer) → AnyMoment → IsSome (seen old)
-      → LeavesOnly moment left_since old new (LeftBy c snap f (at n (Append p e ∷ ts)) more [])
-  appending more any some = weaker moment left_since old new (IsWithOrWithout c.header n.kept (entry_for c (n.now p) e))
-      (LeftBy c snap f (at n (Append p e ∷ ts)) more []) (left-appending more)
-      (any c.header n.kept (entry_for c (n.now p) e) (rest-at some) turn.entry turn.staged)
+      → LeavesOnly moment left_since old new (LeftFrom c snap f (at n (Append p e ∷ ts)) more [])
+  appending more any some = weaker moment left_since old new (IsWithOrWithout f.head n.kept (entry_for c (n.now p) e))
+      (LeftFrom c snap f (at n (Append p e ∷ ts)) more []) (left-appending more)
+      (any f.head n.kept (entry_for c (n.now p) e) (rest-at some) turn.entry turn.staged)
 
   -- ---- it is appended
 
@@ -111,15 +111,15 @@ module _ {D : Type 0} (seen : D → Option (List ℕ)) (may_leave : D → List �
       → ((head : List ℕ) (es : List Entry) (d : Entry) → HasRest (seen old) (may_leave old) head es (gate_of journal) → IsEntry d
       → bytes ≡ staged d → HasRest (seen new) (may_leave new) head (es ++ d ∷ []) (gate_of journal'))
       → gate_of journal' ≡ gate_of journal + length bytes → HasLength (seen new) (len_of journal') → StaysUntold (seen old) (seen new)
-      → IsJournalOf c (grown c n p e) journal' (seen new) (may_leave new)
+      → IsJournalOf f.head (grown c n p e) journal' (seen new) (may_leave new)
   kept-on journal' ok place length-is untold =
       let here : (grown c n p e).gate ≡ gate_of journal'
       = omega (arith, of.gate, place, ap length turn.staged, record-length (entry_for c (n.now p) e)) in
       record {
         gate = here;
         length = length-is;
-        rest = if-reported (seen new) (λ some. subst (λ (g : ℕ). HasRest (seen new) (may_leave new) c.header (grown c n p e).kept g) (sym here)
-            (ok c.header n.kept (entry_for c (n.now p) e) (rest-at (tells-before (seen old) (seen new) untold some)) turn.entry turn.staged));
+        rest = if-reported (seen new) (λ some. subst (λ (g : ℕ). HasRest (seen new) (may_leave new) f.head (grown c n p e).kept g) (sym here)
+            (ok f.head n.kept (entry_for c (n.now p) e) (rest-at (tells-before (seen old) (seen new) untold some)) turn.entry turn.staged));
       }
 
   pub kept : (journal' : Journal Writing) → (over → ⊥) → AnyMoment
@@ -133,7 +133,7 @@ module _ {D : Type 0} (seen : D → Option (List ℕ)) (may_leave : D → List �
       let second : Went seen moment left_since c snap most f (at n (Append p e ∷ ts)) x old (letting c n p e ts) x new = record {
         goes = goes;
         tells = λ some. ap is_some
-            (ok c.header n.kept (entry_for c (n.now p) e) (rest-at some) turn.entry turn.staged).reported;
+            (ok f.head n.kept (entry_for c (n.now p) e) (rest-at some) turn.entry turn.staged).reported;
         leaves = appending goes.answers any;
       } in
       record {
@@ -158,8 +158,8 @@ module _ {D : Type 0} (seen : D → Option (List ℕ)) (may_leave : D → List �
       stops-after seen may_leave moment left_since only_now c snap most f (at n (Take p e ∷ ts)) m x x x old old new DiskFailed (steps-on fits)
       (record {
         stop = record { last = last; stops = ends.0; goes = goes; leaves = appending goes.answers any };
-        stands = if-reported (seen old) (λ some. subst (λ (es : List Entry). Stands c.header es (may_leave new)) (sym ends.1)
-            (stands c.header n.kept (entry_for c (n.now p) e) (rest-at some) turn.entry turn.staged));
+        stands = if-reported (seen old) (λ some. subst (λ (es : List Entry). Stands f.head es (may_leave new)) (sym ends.1)
+            (stands f.head n.kept (entry_for c (n.now p) e) (rest-at some) turn.entry turn.staged));
       })
 
   -- ---- the journal is full

@@ -3,8 +3,8 @@ use Rattle.std.proofs.Common.{◌≡◌, ℕ, List, [], ◌∷◌, ◌++◌, Opt
 use Rattle.std.specs.Prelude.{IsTrue}
 use Rattle.byte_defs.specs.Members.{has}
 use Rattle.node_defs.specs.Lines.{Stop}
-use Rattle.node_defs.specs.Lives.{Found, fresh}
 use Rattle.node_defs.specs.Nodes.{Node, Task, Snapper}
+use Rattle.node_traces.specs.Stops.{Outset}
 use Rattle.node_traces.specs.Outside.{LinkSeen, SinkSeen, SourceSeen}
 use Rattle.node_traces.specs.Service.{Asked, HeardBy}
 use Rattle.sealing_laws.specs.Running.{IsNode, Running, cast_in, numbers_of}
@@ -26,15 +26,15 @@ module _ {D V : Type 0} (seen : D → Option (List ℕ)) (may_leave : D → List
     (left_since : D → ℕ → List ℕ → Type 0) (heard : V → List Asked → Type 0) where
   -- From the node at these tasks, whatever its others: the node at those, and what the service answered is its own.
   abbrev pub Leads : Running → Around D V → List Task → List Task → Running → Around D V → Type 0
-  Leads r x us ws r' y = (snap : Snapper) (most : ℕ) (f : Found) (source : SourceSeen) (h : List Asked) (n : Node) (ts : List Task)
-      → heard x.service h → IsNode (seen x.disk) (may_leave x.disk) r n (us ++ ts)
+  Leads r x us ws r' y = (snap : Snapper) (most : ℕ) (f : Outset) (source : SourceSeen) (h : List Asked) (n : Node) (ts : List Task)
+      → heard x.service h → IsNode f (seen x.disk) (may_leave x.disk) r n (us ++ ts)
       → HeardBy heard y.service (λ i. GoesOnTo seen may_leave moment left_since (cast_in r) snap most f n (outside x.link x.sink source h) x.disk
       (ws ++ ts) (outside y.link y.sink source i) y.disk r')
 
   -- from the node at these tasks to its stop
   abbrev pub LeadsToStop : Running → Around D V → List Task → Stop → Around D V → Type 0
-  LeadsToStop r x us why y = (snap : Snapper) (most : ℕ) (f : Found) (source : SourceSeen) (h : List Asked) (n : Node) (ts : List Task)
-      → heard x.service h → IsNode (seen x.disk) (may_leave x.disk) r n (us ++ ts)
+  LeadsToStop r x us why y = (snap : Snapper) (most : ℕ) (f : Outset) (source : SourceSeen) (h : List Asked) (n : Node) (ts : List Task)
+      → heard x.service h → IsNode f (seen x.disk) (may_leave x.disk) r n (us ++ ts)
       → HeardBy heard y.service (λ i. StopsSo seen may_leave moment left_since (cast_in r) snap most f n (outside x.link x.sink source h) x.disk
       why (outside y.link y.sink source i) y.disk)
 
@@ -54,9 +54,9 @@ module _ {D V : Type 0} (seen : D → Option (List ℕ)) (may_leave : D → List
   node-led r r' x y us ws leads begun here =
       let nobody : Snapper = λ m digest. [] in
       let source : SourceSeen = record { left = None; faults = 0 } in
-      let on = (leads nobody 0 fresh source begun.history (at here.node (us ++ [])) [] begun.has
-      (with-tasks (seen x.disk) (may_leave x.disk) r here.node here.tasks (us ++ []) here.is)).holds in
-      record { node = on.node; tasks = ws ++ []; is = on.is }
+      let on = (leads nobody 0 here.from source begun.history (at here.node (us ++ [])) [] begun.has
+      (with-tasks here.from (seen x.disk) (may_leave x.disk) r here.node here.tasks (us ++ []) here.is)).holds in
+      record { from = here.from; node = on.node; tasks = ws ++ []; is = on.is }
 
   -- and the same are hosted
   pub hosted-led : (r r' : Running) (x y : Around D V) (us ws : List Task) (p : ℕ) → Leads r x us ws r' y → HeardBy heard x.service (λ h. Unit {0})
@@ -64,9 +64,9 @@ module _ {D V : Type 0} (seen : D → Option (List ℕ)) (may_leave : D → List
   hosted-led r r' x y us ws p leads begun here hosted =
       let nobody : Snapper = λ m digest. [] in
       let source : SourceSeen = record { left = None; faults = 0 } in
-      let on = (leads nobody 0 fresh source begun.history (at here.node (us ++ [])) [] begun.has
-      (with-tasks (seen x.disk) (may_leave x.disk) r here.node here.tasks (us ++ []) here.is)).holds in
-      still-hosted (seen y.disk) (may_leave y.disk) (cast_in r) r' on.node (ws ++ []) p on.is on.cast
+      let on = (leads nobody 0 here.from source begun.history (at here.node (us ++ [])) [] begun.has
+      (with-tasks here.from (seen x.disk) (may_leave x.disk) r here.node here.tasks (us ++ []) here.is)).holds in
+      still-hosted here.from (seen y.disk) (may_leave y.disk) (cast_in r) r' on.node (ws ++ []) p on.is on.cast
       (subst (λ (ps : List ℕ). IsTrue (has ps p)) here.is.hosts.numbers hosted)
 
   -- ---- one after the other

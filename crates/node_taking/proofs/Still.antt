@@ -7,9 +7,9 @@ use Rattle.journal_defs.proofs.Crashing.{at_rest_is_image}
 use Rattle.journal_disk.specs.Disks.{HasRest, LeavesOnly}
 use Rattle.node_defs.specs.Casts.{Cast}
 use Rattle.node_defs.specs.Lines.{Stop}
-use Rattle.node_defs.specs.Lives.{Found, leaves, leaves_by, with_or_without}
+use Rattle.node_defs.specs.Lives.{leaves, leaves_by, with_or_without}
 use Rattle.node_defs.specs.Nodes.{Node, Opening, Answer, Snapper, run}
-use Rattle.node_traces.specs.Stops.{LeftBy}
+use Rattle.node_traces.specs.Stops.{Outset, LeftFrom}
 use Rattle.node_traces.specs.Goes.{Outside, Goes}
 use Rattle.node_traces.specs.Went.{Went}
 use Rattle.node_traces.proofs.Went.{went_on}
@@ -27,9 +27,9 @@ if-reported (Some x) p = p refl
 
 -- ---- a disk that is at rest
 
--- the journal is at rest with these entries, where the disk tells
-abbrev pub Rests : Option (List ℕ) → (List ℕ → Type 0) → Cast → Node → Type 0
-Rests seen may_leave c n = IfSome seen (λ file. HasRest seen may_leave c.header n.kept n.gate)
+-- the journal is at rest with these bytes and then the node's entries, where the disk tells
+abbrev pub Rests : Option (List ℕ) → (List ℕ → Type 0) → List ℕ → Node → Type 0
+Rests seen may_leave head n = IfSome seen (λ file. HasRest seen may_leave head n.kept n.gate)
 
 pub at-rest : (seen : Option (List ℕ)) (may_leave : List ℕ → Type 0) (head : List ℕ) (es : List Entry) (gate : ℕ)
     → HasRest seen may_leave head es gate → (image : List ℕ) → may_leave image → IsImageOf head image es
@@ -44,30 +44,30 @@ rest-stands seen may_leave head es gate is = record {
 }
 
 -- before any answer it leaves what is kept
-pub left-at-first : (c : Cast) (snap : Snapper) (f : Found) (n : Node) (answers : List Answer) (image : List ℕ) → n.opening ≡ []
-    → IsImageOf c.header image n.kept → LeftBy c snap f n answers [] image
+pub left-at-first : (c : Cast) (snap : Snapper) (f : Outset) (n : Node) (answers : List Answer) (image : List ℕ) → n.opening ≡ []
+    → IsImageOf f.head image n.kept → LeftFrom c snap f n answers [] image
 unfolding run leaves
 left-at-first c snap f n answers image opened is = record {
   front = [];
   fronts = (answers, refl);
   with_more = false;
-  reads = subst (λ (os : List Opening). IsImageOf c.header image (with_or_without (leaves_by c f n os) false)) (sym opened) is;
+  reads = subst (λ (os : List Opening). IsImageOf f.head image (with_or_without (leaves_by c f.found n os) false)) (sym opened) is;
 }
 
 module _ {D : Type 0} (seen : D → Option (List ℕ)) (may_leave : D → List ℕ → Type 0) (moment : D → ℕ)
     (left_since : D → ℕ → List ℕ → Type 0) (only_now : (d : D) (image : List ℕ) → left_since d (moment d) image → may_leave d image) (c : Cast)
-    (snap : Snapper) (most : ℕ) (f : Found) where
+    (snap : Snapper) (most : ℕ) (f : Outset) where
   -- at no moment anything else is left
-  pub nothing-new : (n : Node) (d : D) (answers : List Answer) → n.opening ≡ [] → Rests (seen d) (may_leave d) c n → IsSome (seen d)
-      → LeavesOnly moment left_since d d (LeftBy c snap f n answers [])
+  pub nothing-new : (n : Node) (d : D) (answers : List Answer) → n.opening ≡ [] → Rests (seen d) (may_leave d) f.head n → IsSome (seen d)
+      → LeavesOnly moment left_since d d (LeftFrom c snap f n answers [])
   nothing-new n d answers opened rests some = record {
     later = omega arith;
     each = λ image left. left-at-first c snap f n answers image opened
-        (at-rest (seen d) (may_leave d) c.header n.kept n.gate (reported (seen d) rests some) image (only_now d image left));
+        (at-rest (seen d) (may_leave d) f.head n.kept n.gate (reported (seen d) rests some) image (only_now d image left));
     before = λ t image le left. inl left;
   }
 
-  pub still : (n m : Node) (x y : Outside) (d : D) → n.opening ≡ [] → Rests (seen d) (may_leave d) c n → Goes c snap most n x m y
+  pub still : (n m : Node) (x y : Outside) (d : D) → n.opening ≡ [] → Rests (seen d) (may_leave d) f.head n → Goes c snap most n x m y
       → Went seen moment left_since c snap most f n x d m y d
   still n m x y d opened rests goes = record {
     goes = goes;
@@ -76,7 +76,7 @@ module _ {D : Type 0} (seen : D → Option (List ℕ)) (may_leave : D → List �
   }
 
   -- the same, where the node stops
-  pub stops-still : (n last : Node) (x y : Outside) (d : D) (why : Stop) → n.opening ≡ [] → Rests (seen d) (may_leave d) c n
+  pub stops-still : (n last : Node) (x y : Outside) (d : D) (why : Stop) → n.opening ≡ [] → Rests (seen d) (may_leave d) f.head n
       → Goes c snap most n x last y → last.stopped ≡ Some why → last.kept ≡ n.kept
       → StopsSo seen may_leave moment left_since c snap most f n x d why y d
   stops-still n last x y d why opened rests goes stopped kept = record {
@@ -86,8 +86,8 @@ module _ {D : Type 0} (seen : D → Option (List ℕ)) (may_leave : D → List �
       goes = goes;
       leaves = nothing-new n d goes.answers opened rests;
     };
-    stands = if-reported (seen d) (λ some. subst (λ (es : List Entry). Stands c.header es (may_leave d)) (sym kept)
-        (rest-stands (seen d) (may_leave d) c.header n.kept n.gate (reported (seen d) rests some)));
+    stands = if-reported (seen d) (λ some. subst (λ (es : List Entry). Stands f.head es (may_leave d)) (sym kept)
+        (rest-stands (seen d) (may_leave d) f.head n.kept n.gate (reported (seen d) rests some)));
   }
 
   -- A stop after another part. (That the disk tells is asked of its beginning alone: `first` says that it tells at the stop's beginning too.)

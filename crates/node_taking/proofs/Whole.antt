@@ -6,17 +6,18 @@ use Rattle.journal_rp.specs.declared.journal.Journal.{Journal}
 use Rattle.journal_rp.specs.declared.journal.Writing.{Writing}
 use Rattle.node_laws.proofs.Soundness.{stays_sound}
 use Rattle.sealing_laws.proofs.Passed.{verdict-is}
-use Rattle.node_defs.specs.Casts.{Cast, from_start, handed, live, outcome_of}
+use Rattle.node_defs.specs.Casts.{Cast, handed, live, outcome_of}
 use Rattle.node_defs.specs.Lines.{Stop, NoMemory, refused_line}
-use Rattle.node_defs.specs.Lives.{Found, IsSound}
+use Rattle.node_defs.specs.Lives.{IsSound}
 use Rattle.node_defs.specs.Nodes.{Node, Task, Take, Say, Done, Snapper, asks, leaving_of}
+use Rattle.node_traces.specs.Stops.{Outset}
 use Rattle.node_traces.specs.Outside.{LinkSeen, SinkSeen, SinkWrote, SourceSeen}
 use Rattle.node_traces.specs.Service.{Asked}
 use Rattle.node_traces.specs.Goes.{Outside, Goes}
 use Rattle.node_traces.specs.Went.{Went}
 use Rattle.node_traces.proofs.Going.{parts_go_on}
 use Rattle.node_traces.proofs.Went.{went_on}
-use Rattle.sealing_laws.specs.Running.{Running, AreCountsOf, AreHosts, IsJournalOf, IsNode, cast_in}
+use Rattle.sealing_laws.specs.Running.{Running, AreCountsOf, AreHosts, AreKeyed, IsJournalOf, IsNode, cast_in}
 use Rattle.node_taking.specs.Taking.{outside, GoesOnTo, StopsSo}
 use Rattle.node_taking.specs.Keeping.{at, grown, letting, Keeps}
 use Rattle.node_taking.specs.Telling.{Tells}
@@ -26,29 +27,30 @@ use Rattle.node_taking.proofs.Ends.{Ends, forgets, says-on}
 use Rattle.node_taking.proofs.Reported.{tells-on}
 
 -- a sound node stays so
-pub sound-on : (c : Cast) (snap : Snapper) (most : ℕ) (n m : Node) (x y : Outside) → Goes c snap most n x m y
-    → IsSound c (from_start c).from n → IsSound c (from_start c).from m
-sound-on c snap most n m x y goes sound = subst (λ (k : Node). IsSound c (from_start c).from k) (sym goes.becomes)
-    (stays_sound c snap (from_start c).from n goes.answers (λ p. refl) sound)
+pub sound-on : (f : Outset) (c : Cast) (snap : Snapper) (most : ℕ) (n m : Node) (x y : Outside) → Goes c snap most n x m y → AreKeyed c f
+    → IsSound c f.begins.from n → IsSound c f.begins.from m
+sound-on f c snap most n m x y goes keyed sound = subst (λ (k : Node). IsSound c f.begins.from k) (sym goes.becomes)
+    (stays_sound c snap f.begins.from n goes.answers (λ p. (keyed p).number) sound)
 
 -- what the running node is now, of the same cast
-pub is-now : (r r' : Running) (seen : Option (List ℕ)) (may_leave : List ℕ → Type 0) (m : Node) (ts : List Task) → cast_in r' ≡ cast_in r
-    → AreHosts (cast_in r) r'.kit.now m.now None r'.hosts → IsJournalOf (cast_in r) m r'.journal seen may_leave
-    → IsSound (cast_in r) (from_start (cast_in r)).from (at m ts) → AreCountsOf m r'.counts → IsNode seen may_leave r' (at m ts) ts
-is-now r r' seen may_leave m ts same hosts journal sound counts = record {
+pub is-now : (f : Outset) (r r' : Running) (seen : Option (List ℕ)) (may_leave : List ℕ → Type 0) (m : Node) (ts : List Task)
+    → cast_in r' ≡ cast_in r → AreHosts (cast_in r) r'.kit.now m.now None r'.hosts → IsJournalOf f.head m r'.journal seen may_leave
+    → AreKeyed (cast_in r) f → IsSound (cast_in r) f.begins.from (at m ts) → AreCountsOf f.begins m r'.counts
+    → IsNode f seen may_leave r' (at m ts) ts
+is-now f r r' seen may_leave m ts same hosts journal keyed sound counts = record {
   at = record { runs = refl; opened = refl; leaving = refl; tasks = refl; text = refl; late = refl };
   hosts = subst (λ (c : Cast). AreHosts c r'.kit.now m.now None r'.hosts) (sym same) hosts;
-  journal = let so = subst (λ (c : Cast). IsJournalOf c m r'.journal seen may_leave) (sym same) journal in
-      record { gate = so.gate; length = so.length; rest = so.rest };
-  sound = subst (λ (c : Cast). IsSound c (from_start c).from (at m ts)) (sym same) sound;
+  journal = record { gate = journal.gate; length = journal.length; rest = journal.rest };
+  keyed = subst (λ (c : Cast). AreKeyed c f) (sym same) keyed;
+  sound = subst (λ (c : Cast). IsSound c f.begins.from (at m ts)) (sym same) sound;
   counts = record { each = counts.each; few = counts.few };
 }
 
 module _ {D : Type 0} (seen : D → Option (List ℕ)) (may_leave : D → List ℕ → Type 0) (moment : D → ℕ)
     (left_since : D → ℕ → List ℕ → Type 0) (only_now : (d : D) (image : List ℕ) → left_since d (moment d) image → may_leave d image)
-    (snap : Snapper) (most : ℕ) (f : Found) where
+    (snap : Snapper) (most : ℕ) (f : Outset) where
   -- a stop with what was kept
-  pub ends-still : (c : Cast) (m : Node) (x y : Outside) (d : D) (why : Stop) → m.opening ≡ [] → Rests (seen d) (may_leave d) c m
+  pub ends-still : (c : Cast) (m : Node) (x y : Outside) (d : D) (why : Stop) → m.opening ≡ [] → Rests (seen d) (may_leave d) f.head m
       → Ends c snap most m x why y m.kept → StopsSo seen may_leave moment left_since c snap most f m x d why y d
   ends-still c m x y d why opened rests ends =
       stops-still seen may_leave moment left_since only_now c snap most f m ends.last x y d why opened rests ends.goes ends.stops ends.keeps
@@ -58,7 +60,7 @@ module _ {D : Type 0} (seen : D → Option (List ℕ)) (may_leave : D → List �
     c = cast_in r
 
     -- memory ran out for the event
-    pub step-forgets : (d : D) (x : Outside) → IsNode (seen d) (may_leave d) r n (Take p e ∷ ts)
+    pub step-forgets : (d : D) (x : Outside) → IsNode f (seen d) (may_leave d) r n (Take p e ∷ ts)
         → StopsSo seen may_leave moment left_since c snap most f n x d NoMemory x d
     step-forgets d x is =
         subst (λ (m : Node). StopsSo seen may_leave moment left_since c snap most f m x d NoMemory x d) (sym (at-so n (Take p e ∷ ts) is.at))
@@ -67,14 +69,14 @@ module _ {D : Type 0} (seen : D → Option (List ℕ)) (may_leave : D → List �
     -- ---- it was refused
 
     module _ (fault : EventFault) (l : LinkSeen) (s t : SinkSeen) (o : SourceSeen) (h : List Asked) (d : D)
-        (is : IsNode (seen d) (may_leave d) r n (Take p e ∷ ts)) (refused : refusal c.setting (n.now p) (handed e) ≡ Some fault) where
+        (is : IsNode f (seen d) (may_leave d) r n (Take p e ∷ ts)) (refused : refusal c.setting (n.now p) (handed e) ≡ Some fault) where
       refused-first : Goes c snap most (at n (Take p e ∷ ts)) (outside l s o h) (at n (Say (refused_line p fault) ∷ ts)) (outside l s o h)
       refused-first = answers c snap most (at n (Take p e ∷ ts)) (at n (Say (refused_line p fault) ∷ ts)) Done (outside l s o h) (outside l s o h)
           (refused-so c snap n p e ts fault (verdict-is c.setting (n.now p) (live c (n.now p) e) ∙ refused))
           (steps-does c most n p e ts (outside l s o h))
 
       pub refused-on : (r' : Running) → cast_in r' ≡ c → AreHosts c r'.kit.now n.now None r'.hosts
-          → IsJournalOf c n r'.journal (seen d) (may_leave d) → AreCountsOf n r'.counts → SinkWrote s t (refused_line p fault)
+          → IsJournalOf f.head n r'.journal (seen d) (may_leave d) → AreCountsOf f.begins n r'.counts → SinkWrote s t (refused_line p fault)
           → GoesOnTo seen may_leave moment left_since c snap most f n (outside l s o h) d ts (outside l t o h) d r'
       refused-on r' same hosts journal counts wrote =
           let whole = parts_go_on c snap most (at n (Take p e ∷ ts)) (at n (Say (refused_line p fault) ∷ ts)) (at n ts) (outside l s o h)
@@ -86,8 +88,8 @@ module _ {D : Type 0} (seen : D → Option (List ℕ)) (may_leave : D → List �
           record {
             node = at n ts;
             went = went;
-            is = is-now r r' (seen d) (may_leave d) n ts same hosts journal
-                (sound-on c snap most n (at n ts) (outside l s o h) (outside l t o h) went.goes is.sound) counts;
+            is = is-now f r r' (seen d) (may_leave d) n ts same hosts journal is.keyed
+                (sound-on f c snap most n (at n ts) (outside l s o h) (outside l t o h) went.goes is.keyed is.sound) counts;
             cast = same;
             lines = refl;
             script = refl;
@@ -107,14 +109,14 @@ module _ {D : Type 0} (seen : D → Option (List ℕ)) (may_leave : D → List �
     -- ---- it was taken
 
     module _ (k l : LinkSeen) (s t : SinkSeen) (o : SourceSeen) (h g : List Asked) (old new : D)
-        (is : IsNode (seen old) (may_leave old) r n (Take p e ∷ ts)) where
+        (is : IsNode f (seen old) (may_leave old) r n (Take p e ∷ ts)) where
       -- the service is asked whom to suspect, before the other tasks
       abbrev others : List Task
       others = asks p e (outcome_of c (n.now p) e).notes ++ ts
 
       pub taken-on : (r' : Running) (us : List Task) → us ≡ others → cast_in r' ≡ c → AreHosts c r'.kit.now (grown c n p e).now None r'.hosts
           → Keeps seen may_leave moment left_since c snap most f n p e ts (outside k s o h) old new r'.journal
-          → AreCountsOf (grown c n p e) r'.counts
+          → AreCountsOf f.begins (grown c n p e) r'.counts
           → Tells c (grown c n p e).now (leaving_of p (outcome_of c (n.now p) e)) k l h g (SinkWrote s t)
           → GoesOnTo seen may_leave moment left_since c snap most f n (outside k s o h) old us (outside l t o g) new r'
       taken-on r' us left same hosts keeps counts tells =
@@ -125,8 +127,8 @@ module _ {D : Type 0} (seen : D → Option (List ℕ)) (may_leave : D → List �
           let goes : GoesOnTo seen may_leave moment left_since c snap most f n (outside k s o h) old others (outside l t o g) new r' = record {
             node = at (grown c n p e) others;
             went = went;
-            is = is-now r r' (seen new) (may_leave new) (grown c n p e) others same hosts keeps.journal
-                (sound-on c snap most n (at (grown c n p e) others) (outside k s o h) (outside l t o g) went.goes is.sound) counts;
+            is = is-now f r r' (seen new) (may_leave new) (grown c n p e) others same hosts keeps.journal is.keyed
+                (sound-on f c snap most n (at (grown c n p e) others) (outside k s o h) (outside l t o g) went.goes is.keyed is.sound) counts;
             cast = same;
             lines = refl;
             script = refl;

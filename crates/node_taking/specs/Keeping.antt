@@ -8,8 +8,8 @@ use Rattle.journal_rp.specs.declared.turn.Synced.{Synced}
 use Rattle.journal_rp.specs.declared.turn.Unsynced.{Unsynced}
 use Rattle.journal_rp.specs.Turns as turns
 use Rattle.node_defs.specs.Casts.{Cast, outcome_of}
-use Rattle.node_defs.specs.Lives.{Found}
 use Rattle.node_defs.specs.Nodes.{Node, Task, Flush, Snapper, asks, leaving_of, new_entry, with_turn}
+use Rattle.node_traces.specs.Stops.{Outset}
 use Rattle.node_traces.specs.Goes.{Outside}
 use Rattle.node_traces.specs.Went.{Went}
 use Rattle.sealing_laws.specs.Running.{IsJournalOf}
@@ -35,10 +35,10 @@ letting c n p e ts = record (at (grown c n p e) (Flush ∷ (asks p e (outcome_of
 
 -- node n went on to that, and this is its journal now
 pub record Keeps {D : Type 0} (seen : D → Option (List ℕ)) (may_leave : D → List ℕ → Type 0) (moment : D → ℕ)
-    (left_since : D → ℕ → List ℕ → Type 0) (c : Cast) (snap : Snapper) (most : ℕ) (f : Found) (n : Node) (p : ℕ) (e : Event) (ts : List Task)
+    (left_since : D → ℕ → List ℕ → Type 0) (c : Cast) (snap : Snapper) (most : ℕ) (f : Outset) (n : Node) (p : ℕ) (e : Event) (ts : List Task)
     (x : Outside) (old new : D) (j : Journal Writing) : Type 0 where
   pub went : Went seen moment left_since c snap most f n x old (letting c n p e ts) x new
-  pub journal : IsJournalOf c (grown c n p e) j (seen new) (may_leave new)
+  pub journal : IsJournalOf f.head (grown c n p e) j (seen new) (may_leave new)
 
 -- the turn is that one, and with it are the same keys and the same port
 pub record IsSameTurn (was : Away Unsynced) (now : Away Synced) : Type 0 where

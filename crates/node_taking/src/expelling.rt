@@ -6,9 +6,9 @@ ghost use Rattle.group_defs.specs.Process.{Process};
 ghost use Rattle.journal_defs.specs.declared.Version.{Version};
 ghost use Rattle.journal_defs.specs.Entries.{Suspect};
 ghost use Rattle.node_defs.specs.Casts.{cast_of, handed};
-ghost use Rattle.node_defs.specs.Lives.{Found};
 ghost use Rattle.node_defs.specs.Lines.{expel_line};
 ghost use Rattle.node_defs.specs.Nodes.{Node, Snapper, Task, Take, Say, Ask, Asks, asks};
+ghost use Rattle.node_traces.specs.Stops.{Outset};
 ghost use Rattle.node_traces.specs.Outside.{SourceSeen};
 ghost use Rattle.node_traces.specs.Seen.{link_seen, sink_seen};
 ghost use Rattle.node_traces.specs.Service.{Asked, HeardBy, one_asked};
@@ -63,14 +63,14 @@ fn expel<'a, D: Disk, L: Link, K: Sink, V: Service>(
     requires node { HasNode (D.seen disk.old) (D.may_leave disk.old) running }
     requires hosted { IsTrue (has (numbers_of running.hosts) me) }
     requires room { 61054 ≤ length room.old }
-    ensures goes_on { (snap : Snapper) (most : ℕ) (f : Found) (source : SourceSeen) (h : List Asked) (n : Node) (ts : List Task)
-        → V.heard service.old h → IsNode (D.seen disk.old) (D.may_leave disk.old) running.entry n (Say (expel_line me other) ∷ Take me (Suspect other) ∷ ts)
+    ensures goes_on { (snap : Snapper) (most : ℕ) (f : Outset) (source : SourceSeen) (h : List Asked) (n : Node) (ts : List Task)
+        → V.heard service.old h → IsNode f (D.seen disk.old) (D.may_leave disk.old) running.entry n (Say (expel_line me other) ∷ Take me (Suspect other) ∷ ts)
         → IfOk result (λ r. HeardBy V.heard service.new (λ i. GoesOnTo D.seen D.may_leave D.moment D.left_since (cast_in running.entry) snap
         most f n (outside (link_seen L.sent L.coming L.faults link.old) (sink_seen K.written K.faults output.old) source h) disk.old
         ts
         (outside (link_seen L.sent L.coming L.faults link.new) (sink_seen K.written K.faults output.new) source i) disk.new r)) }
-    ensures stops { (snap : Snapper) (most : ℕ) (f : Found) (source : SourceSeen) (h : List Asked) (n : Node) (ts : List Task)
-        → V.heard service.old h → IsNode (D.seen disk.old) (D.may_leave disk.old) running.entry n (Say (expel_line me other) ∷ Take me (Suspect other) ∷ ts)
+    ensures stops { (snap : Snapper) (most : ℕ) (f : Outset) (source : SourceSeen) (h : List Asked) (n : Node) (ts : List Task)
+        → V.heard service.old h → IsNode f (D.seen disk.old) (D.may_leave disk.old) running.entry n (Say (expel_line me other) ∷ Take me (Suspect other) ∷ ts)
         → IfErr result (λ why. HeardBy V.heard service.new (λ i. StopsSo D.seen D.may_leave D.moment D.left_since (cast_in running.entry) snap
         most f n (outside (link_seen L.sent L.coming L.faults link.old) (sink_seen K.written K.faults output.old) source h) disk.old
         (stop_of why)
@@ -101,14 +101,14 @@ fn expel_each<'a, D: Disk, L: Link, K: Sink, V: Service>(
     requires node { HasNode (D.seen disk.old) (D.may_leave disk.old) running }
     requires hosted { IsTrue (has (numbers_of running.hosts) me) }
     requires room { 61054 ≤ length room.old }
-    ensures goes_on { (snap : Snapper) (most : ℕ) (f : Found) (source : SourceSeen) (h : List Asked) (n : Node) (ts : List Task)
-        → V.heard service.old h → IsNode (D.seen disk.old) (D.may_leave disk.old) running.entry n (Ask me (event_of event.now) (map note_of notes.now) None ∷ ts)
+    ensures goes_on { (snap : Snapper) (most : ℕ) (f : Outset) (source : SourceSeen) (h : List Asked) (n : Node) (ts : List Task)
+        → V.heard service.old h → IsNode f (D.seen disk.old) (D.may_leave disk.old) running.entry n (Ask me (event_of event.now) (map note_of notes.now) None ∷ ts)
         → IfOk result (λ r. HeardBy V.heard service.new (λ i. GoesOnTo D.seen D.may_leave D.moment D.left_since (cast_in running.entry) snap
         most f n (outside (link_seen L.sent L.coming L.faults link.old) (sink_seen K.written K.faults output.old) source h) disk.old
         ts
         (outside (link_seen L.sent L.coming L.faults link.new) (sink_seen K.written K.faults output.new) source i) disk.new r)) }
-    ensures stops { (snap : Snapper) (most : ℕ) (f : Found) (source : SourceSeen) (h : List Asked) (n : Node) (ts : List Task)
-        → V.heard service.old h → IsNode (D.seen disk.old) (D.may_leave disk.old) running.entry n (Ask me (event_of event.now) (map note_of notes.now) None ∷ ts)
+    ensures stops { (snap : Snapper) (most : ℕ) (f : Outset) (source : SourceSeen) (h : List Asked) (n : Node) (ts : List Task)
+        → V.heard service.old h → IsNode f (D.seen disk.old) (D.may_leave disk.old) running.entry n (Ask me (event_of event.now) (map note_of notes.now) None ∷ ts)
         → IfErr result (λ why. HeardBy V.heard service.new (λ i. StopsSo D.seen D.may_leave D.moment D.left_since (cast_in running.entry) snap
         most f n (outside (link_seen L.sent L.coming L.faults link.old) (sink_seen K.written K.faults output.old) source h) disk.old
         (stop_of why)
@@ -145,14 +145,14 @@ fn ask<'a, D: Disk, L: Link, K: Sink, V: Service>(
     requires node { HasNode (D.seen disk.old) (D.may_leave disk.old) running }
     requires hosted { IsTrue (has (numbers_of running.hosts) me) }
     requires room { 61054 ≤ length room.old }
-    ensures goes_on { (snap : Snapper) (most : ℕ) (f : Found) (source : SourceSeen) (h : List Asked) (n : Node) (ts : List Task)
-        → V.heard service.old h → IsNode (D.seen disk.old) (D.may_leave disk.old) running.entry n (asks me (event_of event.now) (map note_of notes.now) ++ ts)
+    ensures goes_on { (snap : Snapper) (most : ℕ) (f : Outset) (source : SourceSeen) (h : List Asked) (n : Node) (ts : List Task)
+        → V.heard service.old h → IsNode f (D.seen disk.old) (D.may_leave disk.old) running.entry n (asks me (event_of event.now) (map note_of notes.now) ++ ts)
         → IfOk result (λ r. HeardBy V.heard service.new (λ i. GoesOnTo D.seen D.may_leave D.moment D.left_since (cast_in running.entry) snap
         most f n (outside (link_seen L.sent L.coming L.faults link.old) (sink_seen K.written K.faults output.old) source h) disk.old
         ts
         (outside (link_seen L.sent L.coming L.faults link.new) (sink_seen K.written K.faults output.new) source i) disk.new r)) }
-    ensures stops { (snap : Snapper) (most : ℕ) (f : Found) (source : SourceSeen) (h : List Asked) (n : Node) (ts : List Task)
-        → V.heard service.old h → IsNode (D.seen disk.old) (D.may_leave disk.old) running.entry n (asks me (event_of event.now) (map note_of notes.now) ++ ts)
+    ensures stops { (snap : Snapper) (most : ℕ) (f : Outset) (source : SourceSeen) (h : List Asked) (n : Node) (ts : List Task)
+        → V.heard service.old h → IsNode f (D.seen disk.old) (D.may_leave disk.old) running.entry n (asks me (event_of event.now) (map note_of notes.now) ++ ts)
         → IfErr result (λ why. HeardBy V.heard service.new (λ i. StopsSo D.seen D.may_leave D.moment D.left_since (cast_in running.entry) snap
         most f n (outside (link_seen L.sent L.coming L.faults link.old) (sink_seen K.written K.faults output.old) source h) disk.old
         (stop_of why)
@@ -191,16 +191,16 @@ pub fn take<'a, D: Disk, L: Link, K: Sink, V: Service>(
     requires room { 61054 ≤ length room.old }
 
     // What it reports is written, and the node goes on with its other tasks.
-    ensures goes_on { (snap : Snapper) (most : ℕ) (f : Found) (source : SourceSeen) (h : List Asked) (n : Node) (ts : List Task)
-        → V.heard service.old h → IsNode (D.seen disk.old) (D.may_leave disk.old) running.entry n (Take me (event_of event.now) ∷ ts)
+    ensures goes_on { (snap : Snapper) (most : ℕ) (f : Outset) (source : SourceSeen) (h : List Asked) (n : Node) (ts : List Task)
+        → V.heard service.old h → IsNode f (D.seen disk.old) (D.may_leave disk.old) running.entry n (Take me (event_of event.now) ∷ ts)
         → IfOk result (λ r. HeardBy V.heard service.new (λ i. GoesOnTo D.seen D.may_leave D.moment D.left_since (cast_in running.entry) snap
         most f n (outside (link_seen L.sent L.coming L.faults link.old) (sink_seen K.written K.faults output.old) source h) disk.old
         ts
         (outside (link_seen L.sent L.coming L.faults link.new) (sink_seen K.written K.faults output.new) source i) disk.new r)) }
 
     // Or it stops, after some calls and their answers.
-    ensures stops { (snap : Snapper) (most : ℕ) (f : Found) (source : SourceSeen) (h : List Asked) (n : Node) (ts : List Task)
-        → V.heard service.old h → IsNode (D.seen disk.old) (D.may_leave disk.old) running.entry n (Take me (event_of event.now) ∷ ts)
+    ensures stops { (snap : Snapper) (most : ℕ) (f : Outset) (source : SourceSeen) (h : List Asked) (n : Node) (ts : List Task)
+        → V.heard service.old h → IsNode f (D.seen disk.old) (D.may_leave disk.old) running.entry n (Take me (event_of event.now) ∷ ts)
         → IfErr result (λ why. HeardBy V.heard service.new (λ i. StopsSo D.seen D.may_leave D.moment D.left_since (cast_in running.entry) snap
         most f n (outside (link_seen L.sent L.coming L.faults link.old) (sink_seen K.written K.faults output.old) source h) disk.old
         (stop_of why)

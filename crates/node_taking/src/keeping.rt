@@ -5,8 +5,8 @@ ghost use Rattle.journal_disk.specs.Disks.{HasLength};
 ghost use Rattle.journal_rp.specs.Stages.{gate_of, len_of, version_of};
 ghost use Rattle.journal_rp.specs.Turns.{staged_of};
 ghost use Rattle.node_defs.specs.Casts.{Cast};
-ghost use Rattle.node_defs.specs.Lives.{Found};
 ghost use Rattle.node_defs.specs.Nodes.{Node, Snapper, Task, Take};
+ghost use Rattle.node_traces.specs.Stops.{Outset};
 ghost use Rattle.node_traces.specs.Goes.{Outside};
 ghost use Rattle.sealing_laws.specs.Running.{IsAt, IsJournalOf};
 ghost use Rattle.sealing_laws.specs.Running.{stop as stop_of};
@@ -29,12 +29,12 @@ pub(crate) fn keep<D: Disk>(
     disk: &mut D,
 ) -> Result<(Journal<Writing>, Away<Synced>), Stop>
     requires { HasLength (D.seen disk.old) (len_of journal) }
-    ensures keeps { (c : Cast) (snap : Snapper) (most : ℕ) (f : Found) (n : Node) (p : ℕ) (e : Event) (ts : List Task) (x : Outside)
-        → IsAt n (Take p e ∷ ts) → IsJournalOf c n journal (D.seen disk.old) (D.may_leave disk.old)
+    ensures keeps { (c : Cast) (snap : Snapper) (most : ℕ) (f : Outset) (n : Node) (p : ℕ) (e : Event) (ts : List Task) (x : Outside)
+        → IsAt n (Take p e ∷ ts) → IsJournalOf f.head n journal (D.seen disk.old) (D.may_leave disk.old)
         → IsTurnOf c (n.now p) e (staged_of away.turn)
         → IfOk result (λ r. Keeps D.seen D.may_leave D.moment D.left_since c snap most f n p e ts x disk.old disk.new r.0) }
-    ensures stops { (c : Cast) (snap : Snapper) (most : ℕ) (f : Found) (n : Node) (p : ℕ) (e : Event) (ts : List Task) (x : Outside)
-        → IsAt n (Take p e ∷ ts) → IsJournalOf c n journal (D.seen disk.old) (D.may_leave disk.old)
+    ensures stops { (c : Cast) (snap : Snapper) (most : ℕ) (f : Outset) (n : Node) (p : ℕ) (e : Event) (ts : List Task) (x : Outside)
+        → IsAt n (Take p e ∷ ts) → IsJournalOf f.head n journal (D.seen disk.old) (D.may_leave disk.old)
         → IsTurnOf c (n.now p) e (staged_of away.turn)
         → IfErr result (λ why. StopsSo D.seen D.may_leave D.moment D.left_since c snap most f n x disk.old (stop_of why) x disk.new) }
     ensures same { IfOk result (λ r. IsSameTurn away r.1) }

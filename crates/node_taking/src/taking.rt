@@ -3,8 +3,8 @@ ghost use Rattle.std.specs.Prelude.{◌≤◌, ◌∷◌, ◌++◌, ℕ, List, l
 ghost use Rattle.byte_defs.specs.Members.{has};
 ghost use Rattle.sealing_laws.specs.Events.{event as event_of};
 ghost use Rattle.node_defs.specs.Casts.{handed};
-ghost use Rattle.node_defs.specs.Lives.{Found};
 ghost use Rattle.node_defs.specs.Nodes.{Node, Snapper, Task, Take};
+ghost use Rattle.node_traces.specs.Stops.{Outset};
 ghost use Rattle.node_traces.specs.Outside.{SourceSeen};
 ghost use Rattle.node_traces.specs.Seen.{link_seen, sink_seen};
 ghost use Rattle.node_traces.specs.Service.{Asked, HeardBy};
@@ -53,16 +53,16 @@ pub(crate) fn take_turn<'a, D: Disk, L: Link, K: Sink, V: Service>(
     requires room { 61054 ≤ length room.old }
 
     // What it reports is written, and the node goes on: it asks the service whom to suspect, and then to its other tasks.
-    ensures goes_on { (snap : Snapper) (most : ℕ) (f : Found) (source : SourceSeen) (h : List Asked) (n : Node) (ts : List Task)
-        → V.heard service.old h → IsNode (D.seen disk.old) (D.may_leave disk.old) running.entry n (Take me (event_of event.now) ∷ ts)
+    ensures goes_on { (snap : Snapper) (most : ℕ) (f : Outset) (source : SourceSeen) (h : List Asked) (n : Node) (ts : List Task)
+        → V.heard service.old h → IsNode f (D.seen disk.old) (D.may_leave disk.old) running.entry n (Take me (event_of event.now) ∷ ts)
         → IfOk result (λ r. HeardBy V.heard service.new (λ i. GoesOnTo D.seen D.may_leave D.moment D.left_since (cast_in running.entry) snap
         most f n (outside (link_seen L.sent L.coming L.faults link.old) (sink_seen K.written K.faults output.old) source h) disk.old
         (left_to_ask me (event_of event.now) r.outcome ++ ts)
         (outside (link_seen L.sent L.coming L.faults link.new) (sink_seen K.written K.faults output.new) source i) disk.new r.running)) }
 
     // Or it stops, after some calls and their answers.
-    ensures stops { (snap : Snapper) (most : ℕ) (f : Found) (source : SourceSeen) (h : List Asked) (n : Node) (ts : List Task)
-        → V.heard service.old h → IsNode (D.seen disk.old) (D.may_leave disk.old) running.entry n (Take me (event_of event.now) ∷ ts)
+    ensures stops { (snap : Snapper) (most : ℕ) (f : Outset) (source : SourceSeen) (h : List Asked) (n : Node) (ts : List Task)
+        → V.heard service.old h → IsNode f (D.seen disk.old) (D.may_leave disk.old) running.entry n (Take me (event_of event.now) ∷ ts)
         → IfErr result (λ why. HeardBy V.heard service.new (λ i. StopsSo D.seen D.may_leave D.moment D.left_since (cast_in running.entry) snap
         most f n (outside (link_seen L.sent L.coming L.faults link.old) (sink_seen K.written K.faults output.old) source h) disk.old
         (stop_of why)

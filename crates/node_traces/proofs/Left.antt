@@ -24,7 +24,7 @@ parts_leave c snap f n first more = record {
     front = first ++ left.front;
     fronts = front-after first left.front more left.fronts;
     with_more = left.with_more;
-    reads = subst (λ (m : Node). IsImageOf c.header image (before ++ with_or_without (leaves c f m) left.with_more))
+    reads = subst (λ (m : Node). IsImageOf f.head image (before ++ with_or_without (leaves c f.found m) left.with_more))
         (sym (each_goes_on c snap n first left.front).run_is) left.reads;
   };
 }

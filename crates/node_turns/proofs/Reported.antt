@@ -1,5 +1,5 @@
 -- Notes that were told, to the lines and to the service.
-use Rattle.std.proofs.Common.{◌≡◌, ℕ, List, [], ◌∷◌, ◌++◌, length, get_or, take, drop, refl, sym, ap, subst, append_assoc, arith, ◌<◌, ◌+◌, ◌≤◌, ◌∙◌}
+use Rattle.std.proofs.Common.{◌≡◌, ℕ, List, [], ◌∷◌, ◌++◌, length, get_or, take, drop, refl, sym, ap, subst, append_assoc, ◌<◌, ◌+◌, ◌≤◌, ◌∙◌}
 use Rattle.std.specs.Prelude.{flat_map, zip, None}
 use Rattle.std.specs.List.{AllZip}
 use Rattle.std.proofs.lemmas.List.{append-nil, map-append, take_all, take_more, take-append-drop}
@@ -16,7 +16,7 @@ use Rattle.node_traces.specs.Service.{Asked, HeardBy, one_asked}
 use Rattle.letting_laws.specs.Letting.{Fits, asked, reported_by, failed_by, edge, LetOut, HasBegun}
 use Rattle.node_service.specs.Answers.{Tells as TellsMore}
 use Rattle.node_turns.specs.Letters.{tells_of, TellsNotes}
-use Rattle.letting_laws.proofs.Joined.{let-both, let-nothing, begun-after, begun-front, begun-with}
+use Rattle.letting_laws.proofs.Joined.{let-both, begun-after, begun-front, begun-with}
 
 -- ---- one note
 

@@ -17,10 +17,10 @@ use Rattle.auth_link.specs.Opening.{sent_by}
 use Rattle.kit_defs.specs.Kits.{Kit}
 use Rattle.journal_defs.specs.declared.Version.{Version}
 use Rattle.node_defs.specs.Casts.{Cast, cast_of, datagram, known_of, pair_of}
-use Rattle.node_defs.specs.Nodes.{Sends, SendsTo, Answer}
+use Rattle.node_defs.specs.Nodes.{Sends, SendsTo}
 use Rattle.node_traces.specs.Outside.{LinkSeen, LinkStep}
 use Rattle.node_traces.specs.Service.{Asked}
-use Rattle.letting_laws.specs.Letting.{Edge, edge, LetOut, HasBegun}
+use Rattle.letting_laws.specs.Letting.{Edge, LetOut, HasBegun}
 use Rattle.node_turns.specs.Letters.{letters_to, letters_in, sends_of, IsSealable, answer_of}
 use Rattle.letting_laws.proofs.Joined.{let-nothing, let-both, begun-after, begun-front}
 

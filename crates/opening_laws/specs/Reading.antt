@@ -36,11 +36,10 @@ OneMoreCounts = (p : ℕ) (es : List Entry) (e : Entry) → length (entries_of p
 abbrev pub IsBadAt : Cast → Node → List ℕ → ℕ → Type 0
 IsBadAt c n file place = IsBrokenAt file place ⊎ ((e : Entry) × (next : ℕ) × HasEntryAt file place e next × (takes_up c n e ≡ false))
 
--- The file has these entries before this place, after those with which the run begins; the node takes them up; and what is at the place
--- is no entry of this node.
-pub record BreaksReading (c : Cast) (b : Beginning) (lines : ℕ) (before : List Entry) (file : List ℕ) (es : List Entry) (place : ℕ)
-    : Type 0 where
-  pub stands : StandsBefore c.header file (before ++ es) place
+-- The file has these bytes, after which the run begins, and then these entries before this place; the node takes them up; and what is at the
+-- place is no entry of this node.
+pub record BreaksReading (c : Cast) (b : Beginning) (lines : ℕ) (head file : List ℕ) (es : List Entry) (place : ℕ) : Type 0 where
+  pub stands : StandsBefore head file es place
   pub runs : (after_reading c b lines es).stopped ≡ None
   pub gate : (after_reading c b lines es).gate ≡ place
   pub bad : IsBadAt c (after_reading c b lines es) file place

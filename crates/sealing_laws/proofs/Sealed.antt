@@ -1,13 +1,13 @@
 -- Each letter can be sealed.
 use Rattle.std.proofs.Common.{◌≡◌, inl, inr, ℕ, ◌≤◌, List, [], ◌∷◌, ◌++◌, length, map, refl, sym, subst}
-use Rattle.std.specs.Prelude.{◌≢◌, flat_map, All, IsTrue}
+use Rattle.std.specs.Prelude.{flat_map, All, IsTrue}
 use Rattle.std.proofs.lemmas.Grind.{flat_map-append}
 use Rattle.std.proofs.lemmas.List.Elements.{All-append, All-from_recursion, All-weaker}
 use Rattle.byte_defs.specs.Members.{has}
 use Rattle.message_defs.specs.Limits.{most_frame_bytes}
 use Rattle.message_defs.specs.Spelling.{IsClaim}
 use Rattle.kit_defs.specs.Kits.{Kit, IsKit, roster_of}
-use Rattle.group_defs.specs.Process.{Setting, Process, keyed, start}
+use Rattle.group_defs.specs.Process.{Setting, Process, start}
 use Rattle.group_defs.specs.Sending.{Sending, frames_of}
 use Rattle.group_defs.specs.Events.{Turn, Outcome, after, outcome, run}
 use Rattle.pool_laws.proofs.Members.{Mem, All-mem, append-mem, map-mem, mem-All}
@@ -15,13 +15,13 @@ use Rattle.group_defs.specs.Family.{claims_in, handed_to}
 use Rattle.node_defs.specs.Casts.{Cast, cast_of, handed, hosted_by, letters_of, live, setting_of, turns_from}
 use Rattle.node_keys.proofs.InKits.{shared}
 use Rattle.letter_laws.specs.Letters.{AreInRange, IsOther}
-use Rattle.letter_laws.proofs.Addressees.{sends_to_others}
+use Rattle.letter_laws.proofs.Addressees.{sends_to_others, start_is_keyed}
 use Rattle.letter_laws.proofs.Claims.{frames_are_short}
 use Rattle.letter_laws.proofs.Keeping.{kept_is_in_range}
 use Rattle.node_turns.specs.Service.{CanBeSent}
-use Rattle.node_turns.specs.Letters.{IsSealable, letters_in}
+use Rattle.node_turns.specs.Letters.{IsSealable}
 use Rattle.node_turns.proofs.Turned.{letters-are}
-use Rattle.sealing_laws.specs.Sealing.{CanBeSealed, LettersCanBeSealed, SendsCanBeSealed, TurnsCanBeSealed}
+use Rattle.sealing_laws.specs.Sealing.{CanBeSealed, KeyedTurnsCanBeSealed, LettersCanBeSealed, SendsCanBeSealed, TurnsCanBeSealed}
 use Rattle.sealing_laws.proofs.InRange.{handed-in-range, kept-in-range}
 
 abbrev Each : {A : Type 0} → (A → Type 0) → List A → Type 0
@@ -67,7 +67,7 @@ letters_can_be_sealed kit me limit ts t r is hosted other handed said came =
     (subst (λ (q : Process). All IsClaim q.signed) (sym last) said)) in
     subst (λ (ls : List (ℕ × List ℕ)). All (IsSealable kit me) ls) (letters-are (outcome s p t) r came)
     (mem-All (IsSealable kit me) (letters_of (outcome s p t))
-    (all-sealable kit me (outcome s p t) is hosted (sends_to_others s me limit ts t listed other) (frames_are_short s p t range)))
+    (all-sealable kit me (outcome s p t) is hosted (sends_to_others s me (start s me limit) ts t (start_is_keyed s me limit listed) other) (frames_are_short s p t range)))
 
 pub turns_can_be_sealed : TurnsCanBeSealed
 turns_can_be_sealed kit version me p es e r is hosted same other =
@@ -80,6 +80,16 @@ turns_can_be_sealed kit version me p es e r is hosted same other =
     (All-append IsClaim (claims_in (handed e)) [] (handed-in-range e) (All-from_recursion IsClaim [] tt))) in
     subst (λ (q : Process). CanBeSealed kit me q t r) (sym same)
     (letters_can_be_sealed kit me c.batch_limit ts t r is hosted other range)
+
+pub keyed_turns_can_be_sealed : KeyedTurnsCanBeSealed
+keyed_turns_can_be_sealed kit version me from p es e r is hosted begun same other range came =
+    let s : Setting = setting_of kit in
+    let ts : List Turn = turns_from s from es in
+    let t : Turn = live (cast_of kit version) p e in
+    let others = subst (λ (q : Process). All (λ out. All (IsOther s me) out.to) (outcome s q t).sends) (sym same)
+    (sends_to_others s me from ts t begun other) in
+    subst (λ (ls : List (ℕ × List ℕ)). All (IsSealable kit me) ls) (letters-are (outcome s p t) r came)
+    (mem-All (IsSealable kit me) (letters_of (outcome s p t)) (all-sealable kit me (outcome s p t) is hosted others (frames_are_short s p t range)))
 
 -- ---- what a service sends
 

@@ -3,7 +3,7 @@ use Rattle.std.specs.Prelude.{◌≡◌, ℕ, List, [], ◌∷◌, ◌++◌, All
 use Rattle.byte_defs.specs.Members.{has}
 use Rattle.message_defs.specs.Spelling.{IsClaim}
 use Rattle.kit_defs.specs.Kits.{Kit, IsKit}
-use Rattle.group_defs.specs.Process.{Setting, Process, start}
+use Rattle.group_defs.specs.Process.{Process, start}
 use Rattle.group_defs.specs.Family.{handed_to}
 use Rattle.group_defs.specs.Events.{Turn, after, outcome, run}
 use Rattle.stmt_codec.specs.declared.events.Outcome.{Outcome}
@@ -11,7 +11,7 @@ use Rattle.node_turns.specs.Outcomes.{IsOutcome}
 use Rattle.journal_defs.specs.declared.Version.{Version}
 use Rattle.journal_defs.specs.Entries.{Event, Entry}
 use Rattle.node_defs.specs.Casts.{cast_of, from_start, handed, hosted_by, live, setting_of, taken_up}
-use Rattle.letter_laws.specs.Letters.{IsFromOther}
+use Rattle.letter_laws.specs.Letters.{AreInRange, IsFromOther, IsKeyed}
 use Rattle.node_turns.specs.Service.{CanBeSent}
 use Rattle.node_turns.specs.Letters.{IsSealable, letters_in}
 
@@ -32,6 +32,13 @@ abbrev pub TurnsCanBeSealed : Type 0
 TurnsCanBeSealed = (kit : Kit) (version : Version) (me : ℕ) (p : Process) (es : List Entry) (e : Event) (r : Outcome) → IsKit kit
     → IsTrue (has (hosted_by kit) me) → p ≡ taken_up (setting_of kit) ((from_start (cast_of kit version)).from me) es
     → IsFromOther me (handed e) → CanBeSealed kit me p (live (cast_of kit version) p e) r
+
+-- The same of one that begins anywhere with members that the roster has keys of, where what it keeps after the turn is in range.
+abbrev pub KeyedTurnsCanBeSealed : Type 0
+KeyedTurnsCanBeSealed = (kit : Kit) (version : Version) (me : ℕ) (from p : Process) (es : List Entry) (e : Event) (r : Outcome) → IsKit kit
+    → IsTrue (has (hosted_by kit) me) → IsKeyed (setting_of kit) me from → p ≡ taken_up (setting_of kit) from es → IsFromOther me (handed e)
+    → AreInRange (after (setting_of kit) p (live (cast_of kit version) p e))
+    → IsOutcome (outcome (setting_of kit) p (live (cast_of kit version) p e)) r → All (IsSealable kit me) (letters_in r.sends.items)
 
 -- What a service has a hosted process send can be sealed, where it goes to other processes of the roster in short frames.
 abbrev pub SendsCanBeSealed : Type 0

@@ -1,7 +1,7 @@
 //! The letters of a turn can be sealed, and those of a service: what `let_out` and `let_frames_out` require of them.
 #![tactic(auto)]
 
-ghost use Rattle.sealing_laws.specs.Sealing.{LettersCanBeSealed, SendsCanBeSealed, TurnsCanBeSealed};
+ghost use Rattle.sealing_laws.specs.Sealing.{KeyedTurnsCanBeSealed, LettersCanBeSealed, SendsCanBeSealed, TurnsCanBeSealed};
 
 pub use node_turns::{
     AnySigner, Counts, Event, EventFault, Host, Hosted, Hosts, Kit, LinkFault, LinkKeys, NoService,
@@ -17,6 +17,11 @@ pub fn letters_can_be_sealed()
 /// The same of a hosted process of a node, whatever entries its journal has.
 pub fn turns_can_be_sealed()
     ensures { TurnsCanBeSealed }
+{}
+
+/// The same of one that begins anywhere, where what it keeps is in range.
+pub fn keyed_turns_can_be_sealed()
+    ensures { KeyedTurnsCanBeSealed }
 {}
 
 /// What a service has a hosted process send can be sealed too.

@@ -8,7 +8,7 @@ use Rattle.group_defs.specs.Process.{Process}
 use Rattle.journal_defs.specs.Entries.{Entry, IsEntry}
 use Rattle.journal_defs.specs.Journals.{ReadsAs, StandsBefore, HasEntryAt, IsClosedAt, up_to_gate, record_bytes, behind_gate, open_gate}
 use Rattle.journal_defs.proofs.Gates.{entry_is_there, gate_is_there, one_entry}
-use Rattle.node_defs.specs.Casts.{Cast, from_start, entries_of, taken_up, may_have_written}
+use Rattle.node_defs.specs.Casts.{Cast, Beginning, entries_of, taken_up, may_have_written}
 use Rattle.node_defs.specs.Nodes.{takes_up}
 use Rattle.node_defs.specs.Lives.{FitsAt, FitsBehind, FitsFrom}
 use Rattle.node_laws.proofs.Openings.{opens_sound}
@@ -71,53 +71,53 @@ fits-parts c from before (x ∷ es) more e fits =
     let rest = fits-parts c from (before ++ x ∷ []) es more e fits.1 in
     ((fits.0, rest.0), subst (λ (xs : List Entry). FitsAt c from xs e) (append_assoc before (x ∷ []) es) rest.1)
 
-taken-there : (c : Cast) (lines : ℕ) (es more : List Entry) (e : Entry) → FitsFrom c (from_start c).from (es ++ e ∷ more)
-    → takes_up c (after_reading c (from_start c) lines es) e ≡ true
-taken-there c lines es more e fits =
-    let parts = fits-parts c (from_start c).from [] es more e fits in
-    let opened = opens_sound c (from_start c) lines es parts.0 in
-    let now : (after_reading c (from_start c) lines es).now e.process
-    ≡ taken_up c.setting ((from_start c).from e.process) (entries_of e.process es) =
-    opened.sound.processes e.process ∙ ap (λ (xs : List Entry). taken_up c.setting ((from_start c).from e.process) (entries_of e.process xs)) opened.kept in
-    ap (λ b. if b then may_have_written c ((after_reading c (from_start c) lines es).now e.process) e else false) parts.1.0
+taken-there : (c : Cast) (b : Beginning) (lines : ℕ) (es more : List Entry) (e : Entry) → FitsFrom c b.from (es ++ e ∷ more)
+    → takes_up c (after_reading c b lines es) e ≡ true
+taken-there c b lines es more e fits =
+    let parts = fits-parts c b.from [] es more e fits in
+    let opened = opens_sound c b lines es parts.0 in
+    let now : (after_reading c b lines es).now e.process
+    ≡ taken_up c.setting (b.from e.process) (entries_of e.process es) =
+    opened.sound.processes e.process ∙ ap (λ (xs : List Entry). taken_up c.setting (b.from e.process) (entries_of e.process xs)) opened.kept in
+    ap (λ t. if t then may_have_written c ((after_reading c b lines es).now e.process) e else false) parts.1.0
     ∙ ap (λ (p : Process). may_have_written c p e) now ∙ parts.1.1
 
 -- ---- the end of the entries
 
-module _ (c : Cast) (lines : ℕ) (file : List ℕ) (es : List Entry) where
-  ends-there : ReadsAs c.header file es → IsBadAt c (after_reading c (from_start c) lines es) file (length (up_to_gate c.header es)) → ⊥
-  ends-there reads (inl broken) = open-closed file _ _ broken.parts (gate_is_there c.header file es reads)
-  ends-there reads (inr strange) = open-closed file _ _ strange.2.parts (gate_is_there c.header file es reads)
+module _ (c : Cast) (b : Beginning) (lines : ℕ) (head file : List ℕ) (es : List Entry) where
+  ends-there : ReadsAs head file es → IsBadAt c (after_reading c b lines es) file (length (up_to_gate head es)) → ⊥
+  ends-there reads (inl broken) = open-closed file _ _ broken.parts (gate_is_there head file es reads)
+  ends-there reads (inr strange) = open-closed file _ _ strange.2.parts (gate_is_there head file es reads)
 
   split : (behind more : List ℕ) (e : Entry) → IsEntry e → behind ≡ behind_gate e ++ more → 1 ≤ length more
       → ((f : Entry) (gate : ℕ) (rest : List ℕ) → IsEntry f → behind ≡ behind_gate f ++ gate ∷ rest → ⊥) → ⊥
   split behind [] e is parts some none = absurd (omega (arith, some))
   split behind (g ∷ more) e is parts some none = none e g more is parts
 
-  goes-on-there : (more : List Entry) (e : Entry) → ReadsAs c.header file (es ++ e ∷ more) → FitsFrom c (from_start c).from (es ++ e ∷ more)
-      → IsBadAt c (after_reading c (from_start c) lines es) file (length (up_to_gate c.header es)) → ⊥
+  goes-on-there : (more : List Entry) (e : Entry) → ReadsAs head file (es ++ e ∷ more) → FitsFrom c b.from (es ++ e ∷ more)
+      → IsBadAt c (after_reading c b lines es) file (length (up_to_gate head es)) → ⊥
   goes-on-there more e reads fits (inl broken) =
-      let there = entry_is_there c.header file es more e reads in
+      let there = entry_is_there head file es more e reads in
       let both : open_gate ∷ broken.behind ≡ open_gate ∷ (behind_gate e ++ there.more) = sym broken.parts ∙ there.parts in
       let behind : broken.behind ≡ behind_gate e ++ there.more = cc in
       split broken.behind there.more e there.entry behind there.goes_on broken.no_entry
   goes-on-there more e reads fits (inr strange) =
-      let there = entry_is_there c.header file es more e reads in
+      let there = entry_is_there head file es more e reads in
       let same : strange.0 ≡ e = one_entry file _ strange.0 e _ _ strange.2 there in
-      let not : takes_up c (after_reading c (from_start c) lines es) e ≡ false =
-      subst (λ (x : Entry). takes_up c (after_reading c (from_start c) lines es) x ≡ false) same strange.3 in
-      let yes = taken-there c lines es more e fits in
+      let not : takes_up c (after_reading c b lines es) e ≡ false =
+      subst (λ (x : Entry). takes_up c (after_reading c b lines es) x ≡ false) same strange.3 in
+      let yes = taken-there c b lines es more e fits in
       let bad : true ≡ false = sym yes ∙ not in
       absurd cc
 
-  nowhere : (fs more : List Entry) → fs ≡ es ++ more → ReadsAs c.header file fs → FitsFrom c (from_start c).from fs
-      → IsBadAt c (after_reading c (from_start c) lines es) file (length (up_to_gate c.header es)) → ⊥
-  nowhere fs [] is reads fits = ends-there (subst (ReadsAs c.header file) (is ∙ append-nil es) reads)
+  nowhere : (fs more : List Entry) → fs ≡ es ++ more → ReadsAs head file fs → FitsFrom c b.from fs
+      → IsBadAt c (after_reading c b lines es) file (length (up_to_gate head es)) → ⊥
+  nowhere fs [] is reads fits = ends-there (subst (ReadsAs head file) (is ∙ append-nil es) reads)
   nowhere fs (e ∷ more) is reads fits =
-      goes-on-there more e (subst (ReadsAs c.header file) is reads) (subst (FitsFrom c (from_start c).from) is fits)
+      goes-on-there more e (subst (ReadsAs head file) is reads) (subst (FitsFrom c b.from) is fits)
 
 pub journal_is_read : JournalIsRead
-journal_is_read c lines file es fs place reads fits = λ breaks.
-    let first = front c.header file [] es fs place breaks.stands reads in
-    nowhere c lines file es fs first.0 first.1 reads fits
-    (subst (IsBadAt c (after_reading c (from_start c) lines es) file) breaks.stands.where_it_is breaks.bad)
+journal_is_read c b lines head file es fs place reads fits = λ breaks.
+    let first = front head file [] es fs place breaks.stands reads in
+    nowhere c b lines head file es fs first.0 first.1 reads fits
+    (subst (IsBadAt c (after_reading c b lines es) file) breaks.stands.where_it_is breaks.bad)

@@ -16,13 +16,13 @@ open_datagram-requires-clause-hosts g c =
 pub returns-in-Ok-clause-goes_on : goal.returns-in-Ok-clause-goes_on
 returns-in-Ok-clause-goes_on g c = λ snap most f source h n ts has is.
     c.take.ensures.goes_on snap most f source h n ts has
-    (subst (λ r. IsNode (g.D.Disk.seen c.args.disk.now) (g.D.Disk.may_leave c.args.disk.now) c.args.running n (after_came c.args.me r ++ ts))
+    (subst (λ r. IsNode f (g.D.Disk.seen c.args.disk.now) (g.D.Disk.may_leave c.args.disk.now) c.args.running n (after_came c.args.me r ++ ts))
     (c.in-Ok.ensures.opened (version_of c.args.running.journal)) is)
 
 pub returns-in-Ok-clause-stops : goal.returns-in-Ok-clause-stops
 returns-in-Ok-clause-stops g c = λ snap most f source h n ts has is.
     c.take.ensures.stops snap most f source h n ts has
-    (subst (λ r. IsNode (g.D.Disk.seen c.args.disk.now) (g.D.Disk.may_leave c.args.disk.now) c.args.running n (after_came c.args.me r ++ ts))
+    (subst (λ r. IsNode f (g.D.Disk.seen c.args.disk.now) (g.D.Disk.may_leave c.args.disk.now) c.args.running n (after_came c.args.me r ++ ts))
     (c.in-Ok.ensures.opened (version_of c.args.running.journal)) is)
 
 pub returns-in_err-say_drop-in-Err-clause-stops : goal.returns-in_err-say_drop-in-Err-clause-stops
@@ -34,7 +34,7 @@ returns-in_err-say_drop-in-Err-clause-stops g c = λ snap most f source h n ts h
     rw (p.1, p.2) (says-to-stop g.D.Disk.seen g.D.Disk.may_leave g.D.Disk.moment g.D.Disk.left_since g.V.Service.heard
     (λ d image left. g.D.Disk.only_now d image left) (Unit {0}) c.in_err-say_drop-in-Err.field-0.0 c.args.running x
     (drop_line c.args.me c.in-Err.fault) [] t c.in_err-say_drop-in-Err.ensures snap most f source h n ts has
-    (subst (λ r. IsNode (g.D.Disk.seen c.args.disk.now) (g.D.Disk.may_leave c.args.disk.now) c.args.running n (after_came c.args.me r ++ ts))
+    (subst (λ r. IsNode f (g.D.Disk.seen c.args.disk.now) (g.D.Disk.may_leave c.args.disk.now) c.args.running n (after_came c.args.me r ++ ts))
     (c.in-Err.ensures.opened (version_of c.args.running.journal)) is))
 
 pub returns-in_ok-say_drop-in-Err-clause-goes_on : goal.returns-in_ok-say_drop-in-Err-clause-goes_on
@@ -45,5 +45,5 @@ returns-in_ok-say_drop-in-Err-clause-goes_on g c = λ snap most f source h n ts 
     says-leads g.D.Disk.seen g.D.Disk.may_leave g.D.Disk.moment g.D.Disk.left_since g.V.Service.heard
     (λ d image left. g.D.Disk.only_now d image left) c.args.running x (drop_line c.args.me c.in-Err.fault) [] t
     c.in_ok-say_drop-in-Err.ensures snap most f source h n ts has
-    (subst (λ r. IsNode (g.D.Disk.seen c.args.disk.now) (g.D.Disk.may_leave c.args.disk.now) c.args.running n (after_came c.args.me r ++ ts))
+    (subst (λ r. IsNode f (g.D.Disk.seen c.args.disk.now) (g.D.Disk.may_leave c.args.disk.now) c.args.running n (after_came c.args.me r ++ ts))
     (c.in-Err.ensures.opened (version_of c.args.running.journal)) is)

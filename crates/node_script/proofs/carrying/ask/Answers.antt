@@ -16,25 +16,25 @@ take-requires-clause-other g c = other-so c.args.me c.in-Hand.event _ c.event.en
 pub returns-in-Hand-clause-goes_on : goal.returns-in-Hand-clause-goes_on
 returns-in-Hand-clause-goes_on g c = λ snap most f source h n has is number.
     c.take.ensures.goes_on snap most f source h n [] has
-    (subst (λ (ts : List Task). IsNode (g.D.Disk.seen c.args.disk.now) (g.D.Disk.may_leave c.args.disk.now) c.args.running n ts)
+    (subst (λ (ts : List Task). IsNode f (g.D.Disk.seen c.args.disk.now) (g.D.Disk.may_leave c.args.disk.now) c.args.running n ts)
     (hands c.args.me c.args.line.now c.args.said c.in-Hand.event _ c.in-Hand.is c.event.ensures) is)
 
 pub returns-in-Hand-clause-stops : goal.returns-in-Hand-clause-stops
 returns-in-Hand-clause-stops g c = λ snap most f source h n has is number.
     c.take.ensures.stops snap most f source h n [] has
-    (subst (λ (ts : List Task). IsNode (g.D.Disk.seen c.args.disk.now) (g.D.Disk.may_leave c.args.disk.now) c.args.running n ts)
+    (subst (λ (ts : List Task). IsNode f (g.D.Disk.seen c.args.disk.now) (g.D.Disk.may_leave c.args.disk.now) c.args.running n ts)
     (hands c.args.me c.args.line.now c.args.said c.in-Hand.event _ c.in-Hand.is c.event.ensures) is)
 
 pub returns-in-Receive-clause-goes_on : goal.returns-in-Receive-clause-goes_on
 returns-in-Receive-clause-goes_on g c = λ snap most f source h n has is number.
     c.receive.ensures.goes_on snap most f source h n [] has
-    (subst (λ (ts : List Task). IsNode (g.D.Disk.seen c.args.disk.now) (g.D.Disk.may_leave c.args.disk.now) c.args.running n ts)
+    (subst (λ (ts : List Task). IsNode f (g.D.Disk.seen c.args.disk.now) (g.D.Disk.may_leave c.args.disk.now) c.args.running n ts)
     (receives c.args.me c.in-Receive.most c.args.line.now c.args.said c.in-Receive.is) is)
 
 pub returns-in-Receive-clause-stops : goal.returns-in-Receive-clause-stops
 returns-in-Receive-clause-stops g c = λ snap most f source h n has is number.
     c.receive.ensures.stops snap most f source h n [] has
-    (subst (λ (ts : List Task). IsNode (g.D.Disk.seen c.args.disk.now) (g.D.Disk.may_leave c.args.disk.now) c.args.running n ts)
+    (subst (λ (ts : List Task). IsNode f (g.D.Disk.seen c.args.disk.now) (g.D.Disk.may_leave c.args.disk.now) c.args.running n ts)
     (receives c.args.me c.in-Receive.most c.args.line.now c.args.said c.in-Receive.is) is)
 
 pub serve-requires-clause-hosts : goal.serve-requires-clause-hosts
@@ -46,7 +46,7 @@ serve-requires-clause-text g c = is-text c.args.line.now c.args.said c.in-Other.
 
 pub returns-in_ok-serve-in-Other-clause-goes_on : goal.returns-in_ok-serve-in-Other-clause-goes_on
 returns-in_ok-serve-in-Other-clause-goes_on g c = λ snap most f source h n has is number.
-    let here = subst (λ (ts : List Task). IsNode (g.D.Disk.seen c.args.disk.now) (g.D.Disk.may_leave c.args.disk.now) c.args.running n ts)
+    let here = subst (λ (ts : List Task). IsNode f (g.D.Disk.seen c.args.disk.now) (g.D.Disk.may_leave c.args.disk.now) c.args.running n ts)
     (asks-service c.args.me c.args.line.now c.args.said c.in-Other.is) is in
     served-on g.D.Disk.seen g.D.Disk.may_leave g.D.Disk.moment g.D.Disk.left_since (λ d image left. g.D.Disk.only_now d image left) snap most f
     c.args.running g.V.Service.heard c.serve.new.service n
@@ -58,7 +58,7 @@ returns-in_ok-serve-in-Other-clause-goes_on g c = λ snap most f source h n has 
 
 pub returns-in_err-serve-in-Other-clause-stops : goal.returns-in_err-serve-in-Other-clause-stops
 returns-in_err-serve-in-Other-clause-stops g c = λ snap most f source h n has is number.
-    let here = subst (λ (ts : List Task). IsNode (g.D.Disk.seen c.args.disk.now) (g.D.Disk.may_leave c.args.disk.now) c.args.running n ts)
+    let here = subst (λ (ts : List Task). IsNode f (g.D.Disk.seen c.args.disk.now) (g.D.Disk.may_leave c.args.disk.now) c.args.running n ts)
     (asks-service c.args.me c.args.line.now c.args.said c.in-Other.is) is in
     let p = err_from_is_err_and c.from_residual.result c.from_residual.ensures.1 in
     rw (p.1, p.2) (served-to-stop g.D.Disk.seen g.D.Disk.may_leave g.D.Disk.moment g.D.Disk.left_since

@@ -4,7 +4,7 @@ use Rattle.node_traces.specs.Seen.{link_seen, sink_seen}
 use Rattle.node_input.specs.Reads.{Asks, IsFor}
 use Rattle.node_input.specs.Sources.{SeenAs}
 use Rattle.node_input.specs.Texts.{line as line_of}
-use Rattle.node_snapping.specs.Hosts.{cast_in, numbers_of}
+use Rattle.node_snapping.specs.Hosts.{cast_in}
 use Rattle.node_snapping.specs.Stops.{stop as stop_of}
 use Rattle.node_snapping.specs.Snapping.{snapper}
 use Rattle.node_script.proofs.Carried.{line-result, line-stopped}
@@ -19,7 +19,7 @@ returns-in_err-number-clause-stops g c = λ reported f k h n some has seen is li
       history = h;
       has = has;
       holds = forgets-here g.D.Disk.seen g.D.Disk.may_leave g.D.Disk.moment g.D.Disk.left_since
-          (λ d image left. g.D.Disk.only_now d image left) (snapper reported) c.args.most f c.args.lines.now.ahead (g.S.Source.left c.args.input.now)
+          (λ d image left. g.D.Disk.only_now d image left) (snapper f.head f.begins reported) c.args.most f c.args.lines.now.ahead (g.S.Source.left c.args.input.now)
           (g.S.Source.faults c.args.input.now) c.args.running n
           (link_seen g.L.Link.sent g.L.Link.coming g.L.Link.faults c.args.link.now)
           (sink_seen g.K.Sink.written g.K.Sink.faults c.args.output.now) k h c.args.disk.now is seen;
@@ -35,7 +35,7 @@ returns-in_err-said-clause-stops g c = λ reported f k h n some has seen is line
       holds = (
         none.0,
         asked-none g.D.Disk.seen g.D.Disk.may_leave g.D.Disk.moment g.D.Disk.left_since (λ d image left. g.D.Disk.only_now d image left)
-            (snapper reported) c.args.most f none.0
+            (snapper f.head f.begins reported) c.args.most f none.0
             (g.S.Source.left c.read_next.new.input) (g.S.Source.faults c.read_next.new.input) c.args.running n
             (link_seen g.L.Link.sent g.L.Link.coming g.L.Link.faults c.args.link.now)
             (sink_seen g.K.Sink.written g.K.Sink.faults c.args.output.now) k h c.args.disk.now is c.numbers.result c.in_ok-number.number
@@ -64,7 +64,7 @@ returns-clause-goes_on g c = λ reported f k h n some has seen is lines script.
     let way = subst (λ (line : List ℕ). SeenAs (λ o. Asks c.args.most c.numbers.result k o line (line_of c.in_ok-said.said)) ahead left faults)
     (sym c.line.ensures) (c.in_ok-said.ensures.asks k seen) in
     line-result g.D.Disk.seen g.D.Disk.may_leave g.D.Disk.moment g.D.Disk.left_since (λ d image left. g.D.Disk.only_now d image left)
-    (snapper reported (cast_in c.args.running)) c.args.most f c.args.running n
+    (snapper f.head f.begins reported (cast_in c.args.running)) c.args.most f c.args.running n
     (link_seen g.L.Link.sent g.L.Link.coming g.L.Link.faults c.args.link.now)
     (link_seen g.L.Link.sent g.L.Link.coming g.L.Link.faults c.carry_out.new.link)
     (sink_seen g.K.Sink.written g.K.Sink.faults c.args.output.now) (sink_seen g.K.Sink.written g.K.Sink.faults c.carry_out.new.output) k h
@@ -81,7 +81,7 @@ returns-clause-stops g c = λ reported f k h n some has seen is lines script.
     let way = subst (λ (line : List ℕ). SeenAs (λ o. Asks c.args.most c.numbers.result k o line (line_of c.in_ok-said.said)) ahead left faults)
     (sym c.line.ensures) (c.in_ok-said.ensures.asks k seen) in
     line-stopped g.D.Disk.seen g.D.Disk.may_leave g.D.Disk.moment g.D.Disk.left_since (λ d image left. g.D.Disk.only_now d image left)
-    (snapper reported (cast_in c.args.running)) c.args.most f c.args.running n
+    (snapper f.head f.begins reported (cast_in c.args.running)) c.args.most f c.args.running n
     (link_seen g.L.Link.sent g.L.Link.coming g.L.Link.faults c.args.link.now)
     (link_seen g.L.Link.sent g.L.Link.coming g.L.Link.faults c.carry_out.new.link)
     (sink_seen g.K.Sink.written g.K.Sink.faults c.args.output.now) (sink_seen g.K.Sink.written g.K.Sink.faults c.carry_out.new.output) k h

@@ -1,5 +1,4 @@
 use Rattle.std.proofs.Common.{◌≡◌, ◌+◌, ℕ, false, refl, subst, ◌∙◌, arith}
-use Rattle.node_defs.specs.Lives.{fresh}
 use Rattle.node_defs.specs.Nodes.{Node}
 use Rattle.node_defs.specs.Scripts.{most_lines}
 use Rattle.node_traces.specs.Seen.{link_seen, sink_seen}
@@ -24,7 +23,7 @@ lines-init g c = record {
       source = k;
       seen = seen;
       holds = none-read g.D.Disk.seen g.D.Disk.may_leave g.D.Disk.moment g.D.Disk.left_since
-          (λ d image left. g.D.Disk.only_now d image left) (snapper reported)
+          (λ d image left. g.D.Disk.only_now d image left) (snapper f.head f.begins reported)
           c.args.most f c.args.running n
           (outside (link_seen g.L.Link.sent g.L.Link.coming g.L.Link.faults c.args.link.now)
           (sink_seen g.K.Sink.written g.K.Sink.faults c.args.output.now) k h) c.args.disk.now is;
@@ -38,13 +37,14 @@ lines-preserved g c =
     let here : Node = c.lines.invariant.node.node in
     let faults : ℕ = g.S.Source.faults c.lines.input in
     let begun = g.V.Service.begun c.lines.service in
-    let next = c.in-Ok.ensures.goes_on false fresh (untold faults) begun.history (at-line here (c.args.go + c.lines.count) c.lines.count)
+    let next = c.in-Ok.ensures.goes_on false c.lines.invariant.node.from (untold faults) begun.history (at-line here (c.args.go + c.lines.count) c.lines.count)
     (λ e. absurd cc) begun.has (untold-is _ _ faults)
-    (at-line-is (g.D.Disk.seen c.lines.disk) (g.D.Disk.may_leave c.lines.disk) c.lines.running here c.lines.invariant.node.tasks
+    (at-line-is c.lines.invariant.node.from (g.D.Disk.seen c.lines.disk) (g.D.Disk.may_leave c.lines.disk) c.lines.running here c.lines.invariant.node.tasks
     (c.args.go + c.lines.count) c.lines.count c.lines.invariant.node.is) refl refl in
     record {
       node = has-node g.D.Disk.seen g.D.Disk.may_leave g.D.Disk.moment g.D.Disk.left_since (λ d image left. g.D.Disk.only_now d image left)
-          (snapper false) c.args.most fresh c.next_line.new.lines.ahead (g.S.Source.left c.next_line.new.input) (g.S.Source.faults c.next_line.new.input)
+          (snapper c.lines.invariant.node.from.head c.lines.invariant.node.from.begins false) c.args.most c.lines.invariant.node.from
+          c.next_line.new.lines.ahead (g.S.Source.left c.next_line.new.input) (g.S.Source.faults c.next_line.new.input)
           (cast_in c.lines.running) (at-line here (c.args.go + c.lines.count) c.lines.count)
           (outside (link_seen g.L.Link.sent g.L.Link.coming g.L.Link.faults c.lines.link)
           (sink_seen g.K.Sink.written g.K.Sink.faults c.lines.output) (untold faults) begun.history)
@@ -60,7 +60,7 @@ lines-preserved g c =
             history = more.history;
             has = more.has;
             holds = then-more g.D.Disk.seen g.D.Disk.may_leave g.D.Disk.moment g.D.Disk.left_since
-                (λ d image left. g.D.Disk.only_now d image left) (snapper reported) c.args.most f
+                (λ d image left. g.D.Disk.only_now d image left) (snapper f.head f.begins reported) c.args.most f
                 c.next_line.new.lines.ahead (g.S.Source.left c.next_line.new.input) (g.S.Source.faults c.next_line.new.input)
                 (cast_in c.args.running) n (outside (link_seen g.L.Link.sent g.L.Link.coming g.L.Link.faults c.args.link.now)
                 (sink_seen g.K.Sink.written g.K.Sink.faults c.args.output.now) k h)
@@ -85,7 +85,7 @@ returns-in-Err-clause-stops g c = λ reported f k h n some has seen is lines scr
       holds = (
         stops.holds.0,
         then-stops g.D.Disk.seen g.D.Disk.may_leave g.D.Disk.moment g.D.Disk.left_since (λ d image left. g.D.Disk.only_now d image left)
-            (snapper reported) c.args.most f stops.holds.0
+            (snapper f.head f.begins reported) c.args.most f stops.holds.0
             (g.S.Source.left c.next_line.new.input) (g.S.Source.faults c.next_line.new.input)
             (cast_in c.args.running) n (outside (link_seen g.L.Link.sent g.L.Link.coming g.L.Link.faults c.args.link.now)
             (sink_seen g.K.Sink.written g.K.Sink.faults c.args.output.now) k h)
@@ -102,7 +102,7 @@ unfolding most_lines
 returns-clause-goes_on g c = λ reported f k h n some has seen is lines script.
     let all : c.lines.count ≡ most_lines = omega (arith, c.lines.auto.count-end, c.lines-test.false) in
     subst (λ (m : ℕ). HeardBy g.V.Service.heard c.lines.service (λ i. SeenAs (λ o. ReadsOn g.D.Disk.seen g.D.Disk.may_leave
-    g.D.Disk.moment g.D.Disk.left_since (cast_in c.args.running) (snapper reported (cast_in c.args.running)) c.args.most f n
+    g.D.Disk.moment g.D.Disk.left_since (cast_in c.args.running) (snapper f.head f.begins reported (cast_in c.args.running)) c.args.most f n
     (outside (link_seen g.L.Link.sent g.L.Link.coming g.L.Link.faults c.args.link.now)
     (sink_seen g.K.Sink.written g.K.Sink.faults c.args.output.now) k h) c.args.disk.now m
     (outside (link_seen g.L.Link.sent g.L.Link.coming g.L.Link.faults c.lines.link) (sink_seen g.K.Sink.written g.K.Sink.faults

@@ -1,7 +1,7 @@
 use Rattle.std.proofs.Common.{◌≡◌, Bool, [], List}
 use Rattle.std.specs.Prelude.{IsSome, IsTrue}
-use Rattle.node_defs.specs.Lives.{Found}
 use Rattle.node_defs.specs.Nodes.{Node}
+use Rattle.node_traces.specs.Stops.{Outset}
 use Rattle.node_traces.specs.Outside.{SourceSeen}
 use Rattle.node_traces.specs.Seen.{link_seen, sink_seen}
 use Rattle.node_traces.specs.Service.{Asked, HeardBy}
@@ -16,12 +16,12 @@ use Rattle.node_script.proofs.running.each_line.Given as goal
 abbrev pub invariant-lines : goal.invariant-lines
 invariant-lines g l = record {
   node : HasNode (g.D.Disk.seen l.disk) (g.D.Disk.may_leave l.disk) l.running;
-  read : (reported : Bool) (f : Found) (k : SourceSeen) (h : List Asked) (n : Node) → (IsTrue reported → IsSome (g.D.Disk.seen l.fn.disk))
+  read : (reported : Bool) (f : Outset) (k : SourceSeen) (h : List Asked) (n : Node) → (IsTrue reported → IsSome (g.D.Disk.seen l.fn.disk))
       → g.V.Service.heard l.fn.service h
       → IsSeen k l.fn.lines.ahead (g.S.Source.left l.fn.input) (g.S.Source.faults l.fn.input)
-      → IsNode (g.D.Disk.seen l.fn.disk) (g.D.Disk.may_leave l.fn.disk) l.fn.running n [] → n.lines ≡ l.fn.go → n.script ≡ 0
+      → IsNode f (g.D.Disk.seen l.fn.disk) (g.D.Disk.may_leave l.fn.disk) l.fn.running n [] → n.lines ≡ l.fn.go → n.script ≡ 0
       → HeardBy g.V.Service.heard l.service (λ i. SeenAs (λ o. ReadsOn g.D.Disk.seen g.D.Disk.may_leave g.D.Disk.moment
-      g.D.Disk.left_since (cast_in l.fn.running) (snapper reported (cast_in l.fn.running)) l.fn.most f n
+      g.D.Disk.left_since (cast_in l.fn.running) (snapper f.head f.begins reported (cast_in l.fn.running)) l.fn.most f n
       (outside (link_seen g.L.Link.sent g.L.Link.coming g.L.Link.faults l.fn.link) (sink_seen g.K.Sink.written g.K.Sink.faults
       l.fn.output) k h)
       l.fn.disk l.count

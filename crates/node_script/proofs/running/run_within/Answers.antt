@@ -18,7 +18,7 @@ returns-in-Ok-clause-ends g c = λ reported f k h n some has seen is lines scrip
       holds = (
         _,
         ends-at-last g.D.Disk.seen g.D.Disk.may_leave g.D.Disk.moment g.D.Disk.left_since (λ d image left. g.D.Disk.only_now d image left)
-            (snapper reported) c.args.most f _ _ _
+            (snapper f.head f.begins reported) c.args.most f _ _ _
             (cast_in c.args.running) n _
             (link_seen g.L.Link.sent g.L.Link.coming g.L.Link.faults c.each_line.new.link)
             (sink_seen g.K.Sink.written g.K.Sink.faults c.each_line.new.output) on.history c.args.disk.now c.each_line.new.disk c.in-Ok._node

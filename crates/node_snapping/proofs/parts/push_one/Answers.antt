@@ -1,4 +1,4 @@
-use Rattle.std.proofs.Common.{◌≡◌, None, true≢false, sym, ◌∙◌}
+use Rattle.std.proofs.Common.{None, true≢false, sym, ◌∙◌}
 use Rattle.image_defs.specs.Images.{image_of}
 use Rattle.node_serving.specs.Hosts.{count_in}
 use Rattle.node_snapping.proofs.Each.{one-part}

@@ -1,7 +1,7 @@
 use Rattle.std.proofs.Common.{ap, map, ◌∙◌}
 use Rattle.journal_rp.specs.Answers.{of_memory}
 use Rattle.journal_rp.specs.Stages.{version_of}
-use Rattle.node_defs.specs.Casts.{cast_of, from_start}
+use Rattle.node_defs.specs.Casts.{cast_of}
 use Rattle.node_snapshots.specs.Parts.{part_as}
 use Rattle.node_serving.specs.Stops.{stop as stop_of}
 use Rattle.node_serving.proofs.Handed.{by-fault}
@@ -11,15 +11,15 @@ use Rattle.node_snapping.proofs.Written.{none-by}
 use Rattle.node_snapping.proofs.snapping.line_of.Goals as goal
 
 pub returns-in-Ok-clause-line : goal.returns-in-Ok-clause-line
-returns-in-Ok-clause-line g c = λ n reported are counts journal some.
+returns-in-Ok-clause-line g c = λ f n reported are counts journal some.
     let kit = c.args.kit.now in
     let version = version_of c.args.journal.now in
     let k = cast_of kit version in
-    let made = c.in-Ok.ensures.line (from_start k) n journal.gate
-    (ap (map part_as) c.as_slice.ensures.value ∙ c.in_ok-parts.ensures k kit n.now are ∙ parts-are kit version n c.args.counts.now counts) in (
+    let made = c.in-Ok.ensures.line f.begins n journal.gate
+    (ap (map part_as) c.as_slice.ensures.value ∙ c.in_ok-parts.ensures k kit n.now are ∙ parts-are f.begins kit n c.args.counts.now counts) in (
       made.0,
-      line-is (g.D.Disk.seen c.args.disk.now) (g.D.Disk.may_leave c.args.disk.now) k n made.0 c.in-Ok.line.items reported some journal.rest made.1
-          made.2,
+      line-is (g.D.Disk.seen c.args.disk.now) (g.D.Disk.may_leave c.args.disk.now) f.head f.begins k n made.0 c.in-Ok.line.items reported some
+          journal.rest made.1 made.2,
     )
 
 pub returns-clause-none : goal.returns-clause-none

@@ -6,7 +6,6 @@ use Rattle.auth_link.specs.Keys.{known}
 use Rattle.sealing_laws.specs.Running.{AnySigner, used, Hosted, IsOutcome, fault as fault_of, IsReal, cast_in, stop as stop_of}
 use Rattle.node_defs.specs.Casts.{cast_of, outcome_of}
 use Rattle.node_defs.specs.Lines.{refused_line}
-use Rattle.node_defs.specs.Lives.{fresh}
 use Rattle.node_defs.specs.Nodes.{Node, Snapper, Take}
 use Rattle.node_traces.specs.Outside.{SourceSeen}
 use Rattle.node_traces.specs.Seen.{link_seen, sink_seen}
@@ -92,11 +91,11 @@ tell-requires-clause-kept g c =
     let was = c.requires.node.is in
     let steps = subst (λ (w : Fate). StepsTo k c.args.running.kit.now n.now c.args.me e c.step.new.hosts w) c.in-Taken.is
     (c.in_ok-fault.ensures (version_of c.args.running.journal) n.now was.hosts) in
-    let keeps = c.in_ok-journal-in-Taken.ensures.keeps k nobody 0 fresh n c.args.me e [] x
+    let keeps = c.in_ok-journal-in-Taken.ensures.keeps k nobody 0 c.requires.node.from n c.args.me e [] x
     (record { runs = refl; opened = refl; leaving = refl; tasks = refl; text = refl; late = refl })
     (record { gate = was.journal.gate; length = was.journal.length; rest = was.journal.rest })
     (turn-of k c.args.running.kit.now c.args.me (n.now c.args.me) e c.in-Taken.away steps.1) in
-    last-so k c.args.running.kit.now n c.args.me e c.in-Taken.away c.in_ok-journal-in-Taken.away c.in_ok-journal-in-Taken.journal
+    last-so c.requires.node.from.head k c.args.running.kit.now n c.args.me e c.in-Taken.away c.in_ok-journal-in-Taken.away c.in_ok-journal-in-Taken.journal
     (g.D.Disk.seen c.keep.new.disk) (g.D.Disk.may_leave c.keep.new.disk) steps.1 c.in_ok-journal-in-Taken.ensures.same keeps.journal
 
 pub tell-requires-clause-sealable : goal.tell-requires-clause-sealable
@@ -106,7 +105,7 @@ tell-requires-clause-sealable g c =
     let n = c.requires.node.node in
     let steps = subst (λ (w : Fate). StepsTo k c.args.running.kit.now n.now c.args.me e c.step.new.hosts w) c.in-Taken.is
     (c.in_ok-fault.ensures (version_of c.args.running.journal) n.now c.requires.node.is.hosts) in
-    sealable-so c.args.running n c.requires.node.tasks c.args.me e c.in-Taken.away c.in_ok-journal-in-Taken.away
+    sealable-so c.requires.node.from c.args.running n c.requires.node.tasks c.args.me e c.in-Taken.away c.in_ok-journal-in-Taken.away
     (g.D.Disk.seen c.args.disk.now) (g.D.Disk.may_leave c.args.disk.now) c.args.running.valid c.requires.hosted c.requires.other
     c.requires.node.is steps.1 c.in_ok-journal-in-Taken.ensures.same
 
@@ -158,7 +157,7 @@ invariant_of-put_back g c =
 pub count-requires : goal.count-requires
 count-requires g c =
     let was = c.requires.node.is in
-    room-to-count c.requires.node.node c.args.running.counts c.args.me (gate_of c.args.running.journal) was.counts was.journal.gate
+    room-to-count c.requires.node.from.begins c.requires.node.node c.args.running.counts c.args.me (gate_of c.args.running.journal) was.counts was.journal.gate
     c.in_ok-journal-in-Taken.ensures.room
 
 pub returns-in_ok-say_refused-in-Refused-clause-goes_on : goal.returns-in_ok-say_refused-in-Refused-clause-goes_on
@@ -206,5 +205,5 @@ returns-in_ok-tell-in-Taken-clause-goes_on g c = λ snap most f source h n ts ha
           (among k kit n.now None c.args.running.hosts c.args.me is.hosts c.requires.hosted)
           (back-so k kit n c.args.me e c.in-Taken.away c.in_ok-journal-in-Taken.away _ steps.1 same c.into_parts-process.ensures.process refl refl))
           keeps
-          (counts-grown k n c.args.me e c.args.running.counts _ is.sound is.counts c.count.ensures) reported.holds;
+          (counts-grown f k n c.args.me e c.args.running.counts _ is.keyed is.sound is.counts c.count.ensures) reported.holds;
     }

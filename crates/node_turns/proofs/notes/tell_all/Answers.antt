@@ -1,4 +1,3 @@
-use Rattle.node_service.proofs.Lines.{goes_on-more}
 use Rattle.node_turns.proofs.Sent.{on-err}
 use Rattle.node_turns.proofs.Reported.{heard-all, heard-notes}
 use Rattle.node_turns.proofs.notes.tell_all.Goals as goal
