@@ -1,5 +1,5 @@
 -- What a run in order may stop for.
-use Rattle.std.proofs.Common.{◌≡◌, ◌≢◌, ◌⊎◌, inl, inr, ℕ, ◌+◌, ◌≤◌, Bool, true, false, List, [], ◌∷◌, Option, Some, None, Result, Ok, Err, refl, sym, ap, subst, arith, ◌∙◌}
+use Rattle.std.proofs.Common.{◌≡◌, ◌≢◌, ◌⊎◌, inl, inr, ℕ, ◌+◌, ◌≤◌, Bool, true, false, List, [], ◌∷◌, Option, Some, None, Ok, Err, refl, sym, ap, subst, arith, ◌∙◌}
 use Rattle.std.specs.Prelude.{IfSome, if◌then◌else◌}
 use Rattle.kit_defs.specs.Kits.{Kit}
 use Rattle.input_defs.specs.Fronts.{Front}
@@ -17,7 +17,7 @@ use Rattle.node_traces.specs.Goes.{Outside, Goes}
 use Rattle.node_script.specs.Inputs.{BeginsWith, HasKit, HasNoKit, node_front}
 use Rattle.node_opening.specs.Holding.{HoldsAs}
 use Rattle.node_opening.specs.Opened.{Unopened, reading, opening}
-use Rattle.node_opening.specs.Reading.{Unread, no_memory, no_disk, no_header, no_entry}
+use Rattle.node_opening.specs.Reading.{Unread, no_memory, no_disk, no_header, no_place, no_entry}
 use Rattle.node_script.specs.Words.{outside}
 use Rattle.stop_laws.specs.Scripts.{CarriesOut, IsScript}
 use Rattle.stop_laws.specs.Stops.{CanStop, CanHaveStopped}
@@ -36,7 +36,7 @@ IsNoFault (BadSnap line) = ⊥
 IsNoFault (BadJournal place) = ⊥
 IsNoFault _ = Unit {0}
 
-no-fault : (why : Stop) → CanStop why → ((number : ℕ) → why ≢ BadLine number) → IsNoFault why
+pub no-fault : (why : Stop) → CanStop why → ((number : ℕ) → why ≢ BadLine number) → IsNoFault why
 no-fault (BadKit fault) can other = can
 no-fault (BadLine line) can other = absurd (other line refl)
 no-fault (BadSnap line) can other = can
@@ -68,7 +68,7 @@ after-kit most bytes file kit go (Some rest) order begins =
 
 -- ---- a node that opened
 
-reads-script : (c : Cast) (n : Node) (es : List Entry) → (reads c n es).script ≡ n.script
+pub reads-script : (c : Cast) (n : Node) (es : List Entry) → (reads c n es).script ≡ n.script
 unfolding reads
 reads-script c n [] = refl
 reads-script c n (e ∷ es) = by (takes_up c n e) (reads-script c (reads_one c n e) es)
@@ -79,9 +79,13 @@ reads-script c n (e ∷ es) = by (takes_up c n e) (reads-script c (reads_one c n
     by false _ = refl
 
 -- it carries out its script, and stops as a node that ran may
-record Ends (last : Node) : Type 0 where
-  carries : CarriesOut last
-  can : CanHaveStopped last.stopped
+pub record Ends (last : Node) : Type 0 where
+  pub carries : CarriesOut last
+  pub can : CanHaveStopped last.stopped
+
+pub stops-fine : (last : Node) (why : Stop) → last.stopped ≡ Some why → Ends last → IsNoFault why
+stops-fine last why is end = no-fault why (subst CanHaveStopped is end.can) (λ number e. absurd (end.carries number
+    (is ∙ ap (λ (w : Stop). Some w) e)))
 
 module _ (kit : Kit) (snap : Snapper) (most : ℕ) (go : ℕ) (file : List ℕ) (x : Outside) (order : InOrder most kit x.source.left file) where
   ends : (v : Version) (es : List Entry) (last : Node) (y : Outside) → HoldsAs kit v es (Some file)
@@ -97,33 +101,29 @@ module _ (kit : Kit) (snap : Snapper) (most : ℕ) (go : ℕ) (file : List ℕ) 
         can = stops_only_so c snap most n last x y goes opened.goes_on;
       }
 
-  stops-fine : (last : Node) (why : Stop) → last.stopped ≡ Some why → Ends last → IsNoFault why
-  stops-fine last why is end = no-fault why (subst CanHaveStopped is end.can) (λ number e. absurd (end.carries number
-      (is ∙ ap (λ (w : Stop). Some w) e)))
-
-  unread-fine : (why : Stop) → Unread kit go (Some file) why → IsNoFault why
+  unread-fine : (why : Stop) → Unread kit None go (Some file) why → IsNoFault why
   unread-fine _ no_memory = tt
   unread-fine _ no_disk = tt
   unread-fine _ (no_header other) = absurd (not-other kit file order.journal other)
+  unread-fine _ (no_place t is other) = absurd cc
   unread-fine _ (no_entry v es place breaks) = absurd (no-place kit go file v es place order.journal breaks)
 
-  unopened-fine : (why : Stop) (y : Outside) → Unopened kit snap most go (Some file) x y why → IsNoFault why
+  unopened-fine : (why : Stop) (y : Outside) → Unopened kit None snap most go (Some file) x y why → IsNoFault why
   unopened-fine _ y (reading why unread same) = unread-fine why unread
   unopened-fine _ y (opening why v es holds stops) = stops-fine stops.last why stops.stops (ends v es stops.last y holds stops.goes)
 
 -- ---- a run
 
-no-kit-fine : (most : ℕ) (left : Option (List ℕ)) (steady faults : ℕ) (bytes file : List ℕ) (why : Stop) → left ≡ Some bytes
-    → IsInOrder most bytes file
-    → HasNoKit (record { left = left; faults = steady }) faults why → IsNoFault why
-no-kit-fine most left steady faults bytes file (BadKit fault) is order none =
+pub no-kit-fine : (left : Option (List ℕ)) (steady faults : ℕ) (bytes : List ℕ) (front : Front) (why : Stop) → left ≡ Some bytes
+    → node_front bytes ≡ Ok front → HasNoKit (record { left = left; faults = steady }) faults why → IsNoFault why
+no-kit-fine left steady faults bytes front (BadKit fault) is begins none =
     let refused : node_front bytes ≡ Err fault = subst (λ (o : Option (List ℕ)). IfSome o (λ b. node_front b ≡ Err fault)) is none.0 in
-    let both : Ok order.front ≡ Err fault = sym order.begins ∙ refused in
+    let both : Ok front ≡ Err fault = sym begins ∙ refused in
     absurd cc
-no-kit-fine most left steady faults bytes file (BadLine line) is order none = none
-no-kit-fine most left steady faults bytes file (BadSnap line) is order none = none
-no-kit-fine most left steady faults bytes file (BadJournal place) is order none = none
-no-kit-fine most left steady faults bytes file _ is order none = tt
+no-kit-fine left steady faults bytes front (BadLine line) is begins none = none
+no-kit-fine left steady faults bytes front (BadSnap line) is begins none = none
+no-kit-fine left steady faults bytes front (BadJournal place) is begins none = none
+no-kit-fine left steady faults bytes front _ is begins none = tt
 
 module _ {D : Type 0} (seen : D → Option (List ℕ)) (may_leave : D → List ℕ → Type 0) (moment : D → ℕ)
     (left_since : D → ℕ → List ℕ → Type 0) (most : ℕ) (f : Found) (k : SourceSeen) (link : LinkSeen) (sink : SinkSeen) (old : D)
@@ -141,13 +141,13 @@ module _ {D : Type 0} (seen : D → Option (List ℕ)) (may_leave : D → List �
 
   pub in-order : (why : Stop) → HasStopped seen may_leave moment left_since most f k link sink old left faults link_now sink_now new h i why
       → IsNoFault why
-  in-order _ (no_kit why none links sinks disks same) = no-kit-fine most k.left k.faults faults bytes file why tells order none
+  in-order _ (no_kit why none links sinks disks same) = no-kit-fine k.left k.faults faults bytes order.front why tells order.begins none
   in-order _ (not_opened why ahead read) =
       let l = read.source in
       let x = outside link sink l h in
       let y = outside link_now sink_now l i in
       unopened-fine read.kit read.holds.1.snap most read.go file x (kit-there read.kit read.go l read.has) why y
-      (subst (λ (o : Option (List ℕ)). Unopened read.kit read.holds.1.snap most read.go o x y why) holds read.holds.1.unopened)
+      (subst (λ (o : Option (List ℕ)). Unopened read.kit None read.holds.1.snap most read.go o x y why) holds read.holds.1.unopened)
   in-order _ (ran why ahead can read) =
       let end = run-ends read.kit read.go read.source read.holds.source read.holds.holds.0 read.has read.holds.holds.2 in
       no-fault why can (λ number e. absurd (end.carries number (read.holds.holds.1 ∙ ap (λ (w : Stop). Some w) e)))

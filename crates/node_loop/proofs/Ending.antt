@@ -1,5 +1,5 @@
 -- The counts of faults at the end of a run, after its last line.
-use Rattle.std.proofs.Common.{◌≡◌, ◌≢◌, ◌⊎◌, ℕ, List, [], codes, Option, Some, None, refl, sym, ap, subst, ◌∙◌, arith}
+use Rattle.std.proofs.Common.{◌≡◌, ◌≢◌, ℕ, List, codes, Option, Some, None, refl, sym, ap, subst, ◌∙◌, arith}
 use Rattle.std.specs.Prelude.{IsSomeAnd}
 use Rattle.rp_base.specs.Causes.{Rose}
 use Rattle.node_defs.specs.Lines.{Stop, Ended, WriteFailed, stop_line}
@@ -8,10 +8,12 @@ use Rattle.node_traces.specs.Outside.{LinkSeen, SinkSeen, SourceSeen}
 use Rattle.node_traces.specs.Service.{Asked}
 use Rattle.node_script.specs.Words.{StopsByDisk}
 use Rattle.node_loop.specs.Ended.{EndsWith, SaysLast}
-use Rattle.node_loop.specs.Inputs.{IsInOrder, TellInOrder}
+use Rattle.node_loop.specs.Inputs.{IsInOrder, IsInOrderResuming, TellInOrder, TellInOrderResuming}
+use Rattle.node_loop.specs.Resumed.{HasStoppedResuming}
 use Rattle.node_loop.specs.Runs.{HasStopped}
 use Rattle.node_loop.proofs.Causes.{Counted}
 use Rattle.node_loop.proofs.Complete.{IsFine, IsNoFault, fine-status, in-order}
+use Rattle.node_loop.proofs.CompleteResuming.{in-order-resuming}
 use Rattle.node_loop.proofs.Statuses.{bind-by, ended-by, no-read-by, read-by, rose-by-disk, said-by, silent, write-by}
 
 module _ (why : Stop) (status faults now : ℕ) (sink before new : SinkSeen) (link link_now : LinkSeen)
@@ -70,3 +72,21 @@ module _ {D : Type 0} (seen : D → Option (List ℕ)) (may_leave : D → List �
 
   pub reported-in-order : TellInOrder most k.left (seen old) → IsNoFault why
   reported-in-order order = by-input k.left refl order
+
+-- the same of a node that begins by a snapshot
+module _ {D : Type 0} (seen : D → Option (List ℕ)) (may_leave : D → List ℕ → Type 0) (moment : D → ℕ)
+    (left_since : D → ℕ → List ℕ → Type 0) (most : ℕ) (f : Found) (k : SourceSeen) (link : LinkSeen) (sink : SinkSeen) (old : D)
+    (left : Option (List ℕ)) (faults : ℕ) (link_now : LinkSeen) (sink_now : SinkSeen) (new : D) (h i : List Asked) (why : Stop)
+    (run : HasStoppedResuming seen may_leave moment left_since most f k link sink old left faults link_now sink_now new h i why) where
+  by-place : (bytes : List ℕ) (o : Option (List ℕ)) → k.left ≡ Some bytes → seen old ≡ o → IsSomeAnd o (IsInOrderResuming most bytes)
+      → IsNoFault why
+  by-place bytes None tells holds order = absurd order
+  by-place bytes (Some file) tells holds order = in-order-resuming seen may_leave moment left_since most f k link sink old left faults link_now
+      sink_now new h i bytes file tells holds order why run
+
+  by-snap : (o : Option (List ℕ)) → k.left ≡ o → TellInOrderResuming most o (seen old) → IsNoFault why
+  by-snap None tells order = absurd order
+  by-snap (Some bytes) tells order = by-place bytes (seen old) tells refl order
+
+  pub reported-in-order-resuming : TellInOrderResuming most k.left (seen old) → IsNoFault why
+  reported-in-order-resuming order = by-snap k.left refl order

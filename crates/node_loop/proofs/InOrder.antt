@@ -1,23 +1,22 @@
 -- A node whose input and journal are in order.
-use Rattle.std.proofs.Common.{◌≡◌, ◌≢◌, ◌⊎◌, inl, inr, ℕ, ◌+◌, ◌≤◌, List, [], ◌∷◌, ◌++◌, length, get_or, Option, Some, None, refl, sym, ap, subst, arith, ◌∙◌, append_assoc, length-append}
+use Rattle.std.proofs.Common.{◌≡◌, ◌⊎◌, inl, inr, ℕ, List, [], ◌∷◌, ◌++◌, length, get_or, Some, refl, sym, ap, subst, arith, ◌∙◌, append_assoc, length-append}
 use Rattle.kit_defs.specs.Kits.{Kit}
 use Rattle.journal_defs.specs.declared.Version.{Version}
 use Rattle.journal_defs.specs.declared.Version.TheVariants.{One, Two}
 use Rattle.journal_defs.specs.Entries.{Entry}
 use Rattle.std.specs.List.{flat_map}
-use Rattle.journal_defs.specs.Journals.{Header, ReadsAs, StandsBefore, header_bytes, record_bytes, up_to_gate}
+use Rattle.journal_defs.specs.Journals.{Header, ReadsAs, header_bytes, record_bytes, up_to_gate}
 use Rattle.journal_defs.proofs.Recording.{one_reading}
-use Rattle.journal_rp.specs.Headers.{IsJournal}
 use Rattle.node_defs.specs.Casts.{cast_of, from_start}
 use Rattle.node_defs.specs.Lives.{FitsFrom}
 use Rattle.opening_laws.specs.Reading.{BreaksReading}
-use Rattle.node_opening.specs.Holding.{HoldsAs, IsNew, IsOther, header_in}
+use Rattle.node_opening.specs.Holding.{HoldsAs, IsOther, header_in}
 use Rattle.stop_laws.proofs.Whole.{journal_is_read}
 use Rattle.node_loop.specs.Inputs.{IsJournalOf}
 
 -- ---- the header says of which kind a journal is
 
-one-kind : (h : Header) (v w : Version) (xs ys : List ℕ) → header_bytes v h ++ xs ≡ header_bytes w h ++ ys → v ≡ w
+pub one-kind : (h : Header) (v w : Version) (xs ys : List ℕ) → header_bytes v h ++ xs ≡ header_bytes w h ++ ys → v ≡ w
 one-kind h One One xs ys e = refl
 one-kind h One Two xs ys e = let differ : 49 ≡ 50 = ap (λ (l : List ℕ). get_or l 3 0) e in absurd (omega (arith, differ))
 one-kind h Two One xs ys e = let differ : 50 ≡ 49 = ap (λ (l : List ℕ). get_or l 3 0) e in absurd (omega (arith, differ))
@@ -61,7 +60,7 @@ module _ (kit : Kit) where
 
   -- and its reading breaks off nowhere
   pub no-place : (go : ℕ) (file : List ℕ) (v : Version) (es : List Entry) (place : ℕ) → (file ≡ []) ⊎ IsJournalOf kit file
-      → BreaksReading (cast_of kit v) (from_start (cast_of kit v)) go [] file es place → ⊥
+      → BreaksReading (cast_of kit v) (from_start (cast_of kit v)) go (cast_of kit v).header file es place → ⊥
   no-place go file v es place (inl empty) breaks =
       let s = breaks.stands in
       let none : up_to_gate (cast_of kit v).header es ++ s.rest ≡ [] = sym s.parts ∙ empty in
@@ -72,7 +71,7 @@ module _ (kit : Kit) where
       (sym (after-head (cast_of kit journal.version).header file _ _ journal.reads.parts) ∙ after-head (cast_of kit v).header file _ _ s.parts) in
       let reads = subst (λ (w : Version). ReadsAs (cast_of kit w).header file journal.entries) same journal.reads in
       let fits = subst (λ (w : Version). FitsFrom (cast_of kit w) (from_start (cast_of kit w)).from journal.entries) same journal.fits in
-      journal_is_read (cast_of kit v) go file es journal.entries place reads fits breaks
+      journal_is_read (cast_of kit v) (from_start (cast_of kit v)) go (cast_of kit v).header file es journal.entries place reads fits breaks
 
   pub not-other : (file : List ℕ) → (file ≡ []) ⊎ IsJournalOf kit file → IsOther kit file → ⊥
   not-other file (inl empty) other = absurd (other.some empty)

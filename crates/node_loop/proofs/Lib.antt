@@ -1,8 +1,12 @@
+mod AsNode
 mod Limits
 mod Joined
+mod Snaps
+mod Started
 mod Last
 mod Causes
 mod Statuses
 mod InOrder
 mod Complete
+mod CompleteResuming
 mod Ending

@@ -1,7 +1,7 @@
 -- The status by the stop, and what the last line changes.
-use Rattle.std.proofs.Common.{◌≡◌, ◌≢◌, inl, inr, ℕ, List, [], ◌∷◌, refl, sym, ap, subst, ◌∙◌, arith}
+use Rattle.std.proofs.Common.{◌≡◌, ◌≢◌, inl, inr, ℕ, List, [], refl, sym, ap, subst, ◌∙◌, arith}
 use Rattle.rp_base.specs.Causes.{Rose}
-use Rattle.node_defs.specs.Lines.{Stop, Ended, NoMemory, ReadFailed, WriteFailed, DiskFailed, BindFailed, BadKit, BadLine, BadSnap, BadJournal, Full, status_of, stop_line}
+use Rattle.node_defs.specs.Lines.{Stop, Ended, ReadFailed, WriteFailed, DiskFailed, BindFailed, status_of, stop_line}
 use Rattle.node_traces.specs.Outside.{SinkSeen, SourceSeen}
 use Rattle.node_script.specs.Inputs.{HasNoKit}
 use Rattle.node_script.specs.Words.{StopsByDisk}

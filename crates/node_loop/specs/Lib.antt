@@ -1,3 +1,4 @@
 pub mod Runs
+pub mod Resumed
 pub mod Ended
 pub mod Inputs

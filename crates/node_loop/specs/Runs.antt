@@ -1,5 +1,5 @@
 -- The run of a node, from its kit to its stop, by what input, link, output and disk were before it and are after it.
-use Rattle.std.specs.Prelude.{◌≡◌, ◌⊎◌, ℕ, List, [], Option, Some, IsSome, is_some}
+use Rattle.std.specs.Prelude.{◌≡◌, ◌⊎◌, ℕ, List, [], Option, Some, None, IsSome, is_some}
 use Rattle.kit_defs.specs.Kits.{Kit}
 use Rattle.journal_defs.specs.declared.Version.{Version}
 use Rattle.journal_defs.specs.Entries.{Entry}
@@ -7,12 +7,14 @@ use Rattle.journal_defs.specs.Crashes.{Stands}
 use Rattle.journal_disk.specs.Disks.{HasRest, LeavesOnly, LeavesStaged}
 use Rattle.node_defs.specs.Casts.{Cast, cast_of, from_start}
 use Rattle.node_defs.specs.Lines.{Stop}
-use Rattle.node_defs.specs.Lives.{Found}
+use Rattle.node_defs.specs.Lives.{Found, fresh}
 use Rattle.node_defs.specs.Nodes.{Node, Answer, Snapper, opens}
 use Rattle.node_traces.specs.Outside.{LinkSeen, SinkSeen, SourceSeen}
 use Rattle.node_traces.specs.Service.{Asked}
 use Rattle.node_traces.specs.Goes.{Outside, Goes}
-use Rattle.node_traces.specs.Stops.{LeftBy}
+use Rattle.node_traces.specs.Stops.{LeftFrom, Outset, at_start}
+use Rattle.node_images.specs.Said.{SnapSaid}
+use Rattle.node_opening.specs.Begins.{head_in}
 use Rattle.node_opening.specs.Holding.{HoldsAs}
 use Rattle.node_opening.specs.Opened.{Unopened}
 use Rattle.node_script.specs.Inputs.{HasKit, HasNoKit}
@@ -24,53 +26,71 @@ use Rattle.stop_laws.specs.Stops.{CanStop}
 abbrev pub opened_on : Kit → Version → ℕ → List Entry → Node
 opened_on kit version go es = opens (cast_of kit version) (from_start (cast_of kit version)) go es
 
--- how the node makes the lines of its snapshots, by whether its disk tells what it holds
+-- how a node that began there makes the lines of its snapshots, by whether its disk tells what it holds
+abbrev pub snaps_from : Outset → Option (List ℕ) → Cast → Snapper
+snaps_from f held c = snapper f.head f.begins (is_some held) c
+
+-- the same of one that began at the start of its journal
 abbrev pub snaps_of : Option (List ℕ) → Kit → Version → Snapper
-snaps_of held kit version = snapper (is_some held) (cast_of kit version)
+snaps_of held kit version = snaps_from (at_start (cast_of kit version) fresh) held (cast_of kit version)
 
 -- The image reads as what the run found, with the entry that every image had staged or without it; or as what a stop after some front of the
 -- answers leaves.
-abbrev pub MayBeLeft : Cast → Snapper → Found → Node → List Answer → (List ℕ → Type 0) → List ℕ → Type 0
-MayBeLeft c snap f n answers images image = LeavesStaged c.header f.sure images image ⊎ LeftBy c snap f n answers [] image
+abbrev pub MayBeLeft : Cast → Snapper → Outset → Node → List Answer → (List ℕ → Type 0) → List ℕ → Type 0
+MayBeLeft c snap f n answers images image = LeavesStaged f.head f.found.sure images image ⊎ LeftFrom c snap f n answers [] image
 
 -- Once the opening was over the journal was at rest, with the entries of some node of the run. From that moment on a crash leaves what a stop
 -- after some front of the answers leaves. So it is of a journal too that this run has made.
 pub record LeavesOnceOpened {D : Type 0} (seen : D → Option (List ℕ)) (may_leave : D → List ℕ → Type 0) (moment : D → ℕ)
-    (left_since : D → ℕ → List ℕ → Type 0) (c : Cast) (snap : Snapper) (f : Found) (n : Node) (answers : List Answer) (new : D) : Type 0 where
+    (left_since : D → ℕ → List ℕ → Type 0) (c : Cast) (snap : Snapper) (f : Outset) (n : Node) (answers : List Answer) (new : D) : Type 0 where
   pub disk : D
   pub begun : Node
-  pub rest : HasRest (seen disk) (may_leave disk) c.header begun.kept begun.gate
-  pub leaves : LeavesOnly moment left_since disk new (LeftBy c snap f n answers [])
+  pub rest : HasRest (seen disk) (may_leave disk) f.head begun.kept begun.gate
+  pub leaves : LeavesOnly moment left_since disk new (LeftFrom c snap f n answers [])
 
--- The node of this kit was opened on entries that the disk held, and after its opening it went on to node `last`: x is link, output and input
--- before, and y is what they are then. What a crash leaves at any moment is what was found, or what a stop leaves; and what the next run
--- finds is the entries that are kept, perhaps with one more that was staged. `f.sure` is what this run found.
-pub record HasRun {D : Type 0} (seen : D → Option (List ℕ)) (may_leave : D → List ℕ → Type 0) (moment : D → ℕ)
-    (left_since : D → ℕ → List ℕ → Type 0) (kit : Kit) (most : ℕ) (f : Found) (go : ℕ) (x : Outside) (old : D) (last : Node)
-    (y : Outside) (new : D) : Type 0 where
+-- The node of this kit began at `from`, by the kind of its journal, and was opened on entries that the disk held (`holds`), and after its opening
+-- it went on to node `last`: x is link, output and input before, and y is what they are then. What a crash leaves at any moment is what was
+-- found, or what a stop leaves; and what the next run finds is the entries that are kept, perhaps with one more that was staged.
+pub record HasRunFrom {D : Type 0} (seen : D → Option (List ℕ)) (may_leave : D → List ℕ → Type 0) (moment : D → ℕ)
+    (left_since : D → ℕ → List ℕ → Type 0) (kit : Kit) (from : Version → Outset) (held : Version → List Entry → Type 0) (most : ℕ) (go : ℕ)
+    (x : Outside) (old : D) (last : Node) (y : Outside) (new : D) : Type 0 where
   pub version : Version
   pub entries : List Entry
-  pub holds : HoldsAs kit version entries (seen old)
-  pub goes : Goes (cast_of kit version) (snaps_of (seen old) kit version) most (opened_on kit version go entries) x last y
-  pub leaves : IsSome (seen old) → Stands (cast_of kit version).header f.sure (may_leave old)
+  pub holds : held version entries
+  pub goes : Goes (cast_of kit version) (snaps_from (from version) (seen old) (cast_of kit version)) most
+      (opens (cast_of kit version) (from version).begins go entries) x last y
+  pub leaves : IsSome (seen old) → Stands (from version).head (from version).found.sure (may_leave old)
       → LeavesOnly moment left_since old new
-      (MayBeLeft (cast_of kit version) (snaps_of (seen old) kit version) f (opened_on kit version go entries) goes.answers (may_leave old))
-  pub once_opened : IsSome (seen old) → LeavesOnceOpened seen may_leave moment left_since (cast_of kit version) (snaps_of (seen old) kit version) f
-      (opened_on kit version go entries) goes.answers new
-  pub finds : IsSome (seen old) → Stands (cast_of kit version).header last.kept (may_leave new)
+      (MayBeLeft (cast_of kit version) (snaps_from (from version) (seen old) (cast_of kit version)) (from version)
+      (opens (cast_of kit version) (from version).begins go entries) goes.answers (may_leave old))
+  pub once_opened : IsSome (seen old) → LeavesOnceOpened seen may_leave moment left_since (cast_of kit version)
+      (snaps_from (from version) (seen old) (cast_of kit version)) (from version)
+      (opens (cast_of kit version) (from version).begins go entries) goes.answers new
+  pub finds : IsSome (seen old) → Stands (from version).head last.kept (may_leave new)
 
--- The node has not opened, and this is why. Its journal is as it was found: at every moment a crash leaves what the run found, with the
--- staged entry or without it, and the next run finds it again.
-pub record HasNotOpened {D : Type 0} (seen : D → Option (List ℕ)) (may_leave : D → List ℕ → Type 0) (moment : D → ℕ)
-    (left_since : D → ℕ → List ℕ → Type 0) (kit : Kit) (most : ℕ) (f : Found) (go : ℕ) (x : Outside) (old : D) (why : Stop)
-    (y : Outside) (new : D) : Type 0 where
+-- the same of a node that began at the start of its journal; `f.sure` is what this run found
+abbrev pub HasRun : {D : Type 0} → (D → Option (List ℕ)) → (D → List ℕ → Type 0) → (D → ℕ) → (D → ℕ → List ℕ → Type 0) → Kit → ℕ → Found → ℕ
+    → Outside → D → Node → Outside → D → Type 0
+HasRun {D} seen may_leave moment left_since kit most f go x old last y new = HasRunFrom seen may_leave moment left_since kit
+    (λ v. at_start (cast_of kit v) f) (λ v es. HoldsAs kit v es (seen old)) most go x old last y new
+
+-- The node, which begins so, has not opened, and this is why. Its journal is as it was found: at every moment a crash leaves what the run found,
+-- with the staged entry or without it, and the next run finds it again.
+pub record HasNotOpenedBy {D : Type 0} (seen : D → Option (List ℕ)) (may_leave : D → List ℕ → Type 0) (moment : D → ℕ)
+    (left_since : D → ℕ → List ℕ → Type 0) (kit : Kit) (s : Option SnapSaid) (most : ℕ) (f : Found) (go : ℕ) (x : Outside) (old : D)
+    (why : Stop) (y : Outside) (new : D) : Type 0 where
   -- it has written no snapshot, however it makes one
   pub snap : Snapper
-  pub unopened : Unopened kit snap most go (seen old) x y why
-  pub leaves : (version : Version) → IsSome (seen old) → Stands (cast_of kit version).header f.sure (may_leave old)
-      → LeavesOnly moment left_since old new (LeavesStaged (cast_of kit version).header f.sure (may_leave old))
-  pub finds : (version : Version) → IsSome (seen old) → Stands (cast_of kit version).header f.sure (may_leave old)
-      → Stands (cast_of kit version).header f.sure (may_leave new)
+  pub unopened : Unopened kit s snap most go (seen old) x y why
+  pub leaves : (version : Version) → IsSome (seen old) → Stands (head_in (cast_of kit version) s (seen old)) f.sure (may_leave old)
+      → LeavesOnly moment left_since old new (LeavesStaged (head_in (cast_of kit version) s (seen old)) f.sure (may_leave old))
+  pub finds : (version : Version) → IsSome (seen old) → Stands (head_in (cast_of kit version) s (seen old)) f.sure (may_leave old)
+      → Stands (head_in (cast_of kit version) s (seen old)) f.sure (may_leave new)
+
+abbrev pub HasNotOpened : {D : Type 0} → (D → Option (List ℕ)) → (D → List ℕ → Type 0) → (D → ℕ) → (D → ℕ → List ℕ → Type 0) → Kit → ℕ → Found
+    → ℕ → Outside → D → Stop → Outside → D → Type 0
+HasNotOpened {D} seen may_leave moment left_since kit most f go x old why y new =
+    HasNotOpenedBy seen may_leave moment left_since kit None most f go x old why y new
 
 -- a kit was read up to its line `go`, and of it, of the number of that line and of the input after it this holds
 pub record HasRead (k : SourceSeen) (P : Kit → ℕ → SourceSeen → Type 0) : Type 0 where

@@ -1,30 +1,34 @@
 //! A node from its kit to its stop.
-ghost use Rattle.std.specs.Prelude.{◌≡◌, ◌≢◌, ◌⊎◌, [], ℕ, List, codes};
+ghost use Rattle.std.specs.Prelude.{◌≡◌, ◌≢◌, ◌⊎◌, [], ℕ, List, Option, codes};
 ghost use Rattle.kit_defs.specs.Kits.{IsKit};
 ghost use Rattle.rp_base.specs.Causes.{Rose};
 ghost use Rattle.node_defs.specs.Lives.{Found};
 ghost use Rattle.node_traces.specs.Outside.{SourceSeen};
 ghost use Rattle.node_traces.specs.Seen.{link_seen, sink_seen, source_seen};
 ghost use Rattle.node_traces.specs.Service.{Asked, HeardBy};
+ghost use Rattle.node_images.specs.Said.{SnapSaid};
+ghost use Rattle.node_opening.specs.Begins.{BeginsBy};
 ghost use Rattle.node_script.specs.Words.{stop as stop_of};
-ghost use Rattle.node_script.specs.Inputs.{HasKit};
 ghost use Rattle.node_script.specs.Sources.{IsSeen, line_limit};
 ghost use Rattle.node_script.specs.Words.{StopsByDisk};
 ghost use Rattle.node_loop.specs.Ended.{HasEnded, SaysLast};
 ghost use Rattle.node_loop.specs.Inputs.{TellInOrder};
+ghost use Rattle.node_loop.specs.Resumed.{NodeEnds};
 ghost use Rattle.node_loop.specs.Runs.{HasStopped};
 
 use crate::last_lines::tell;
+use node_images::Snap;
 use node_opening::open;
 use node_script::{Front, Kit, Lines, Service, Stop, most_of_line, read_kit, run_script};
 use rp_base::{Disk, Link, Sink, Source};
 use std::alloc::Global;
 
-// Opens the node of the kit, whose line `go` has this number, and carries out its script.
+/// Opens the node of the kit, by the snapshot if there is one, and carries out its script. The line before the script's first has this number.
 #[tactic(none)]
-fn run_node<S: Source, K: Sink, D: Disk, L: Link, V: Service>(
+pub(crate) fn run_node<S: Source, K: Sink, D: Disk, L: Link, V: Service>(
     alloc: Global,
     kit: &Kit,
+    snap: Option<Snap>,
     go: usize,
     lines: &mut Lines,
     input: &mut S,
@@ -33,17 +37,18 @@ fn run_node<S: Source, K: Sink, D: Disk, L: Link, V: Service>(
     link: &mut L,
     service: &mut V,
 ) -> Stop
-    requires { IsKit kit.now }
-    ensures stops { (f : Found) (k l : SourceSeen) (h : List Asked) → V.heard service.old h → HasKit k kit.now go l
+    requires kit { IsKit kit.now }
+    requires begins { (s : Option SnapSaid) × BeginsBy kit.now s snap }
+    ensures stops { (s : Option SnapSaid) (f : Found) (l : SourceSeen) (h : List Asked) → BeginsBy kit.now s snap → V.heard service.old h
         → IsSeen l lines.old.ahead (S.left input.old) (S.faults input.old)
-        → HeardBy V.heard service.new (λ i. HasStopped D.seen D.may_leave D.moment D.left_since
-        (line_limit (V.longest_line service.old)) f k
+        → HeardBy V.heard service.new (λ i. NodeEnds D.seen D.may_leave D.moment D.left_since kit.now s
+        (line_limit (V.longest_line service.old)) f go l
         (link_seen L.sent L.coming L.faults link.old) (sink_seen K.written K.faults output.old) disk.old (S.left input.new) (S.faults input.new)
         (link_seen L.sent L.coming L.faults link.new) (sink_seen K.written K.faults output.new) disk.new h i (stop_of result)) }
     ensures cause { StopsByDisk (D.faults disk.old) (D.faults disk.new) (stop_of result) }
 {
     let most = most_of_line(service.longest());
-    match open(alloc, kit, disk, link, output, service) {
+    match open(alloc, kit, snap, disk, link, output, service) {
         Ok(running) => run_script(
             alloc, running, go, most, lines, input, disk, link, output, service,
         ),
@@ -71,7 +76,7 @@ fn run<S: Source, K: Sink, D: Disk, L: Link, V: Service>(
     let mut lines = Lines::new(alloc);
     match read_kit(alloc, &mut lines, input) {
         Ok(Front { kit, go }) => run_node(
-            alloc, &kit, go, &mut lines, input, output, disk, link, service,
+            alloc, &kit, None, go, &mut lines, input, output, disk, link, service,
         ),
         Err(stop) => stop,
     }

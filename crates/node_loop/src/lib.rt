@@ -3,6 +3,8 @@
 
 mod hosting;
 mod last_lines;
+mod resuming;
 
 pub use hosting::host;
 pub use node_script::{AnySigner, Event, Hosted, Hosts, Kit, NoService, Note, Sending, Service};
+pub use resuming::resume_host;

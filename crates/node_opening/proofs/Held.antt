@@ -21,6 +21,7 @@ use Rattle.journal_rp.specs.Headers.{IsJournal}
 use Rattle.node_defs.specs.Lines.{Stop}
 use Rattle.node_defs.specs.Casts.{cast_of}
 use Rattle.node_service.specs.Causes.{stop_of_fault}
+use Rattle.node_images.specs.Said.{SnapSaid}
 use Rattle.node_opening.specs.Holding.{HoldsAs, IsBegun, header_in}
 use Rattle.node_opening.specs.Reading.{Unread, no_disk, no_header}
 
@@ -113,6 +114,7 @@ begun-so kit v h old new may_leave gate same started place =
       holds = started-holds kit v old new may_leave gate s.begun s.only_read s.untold s.kind;
       fresh = λ empty. rest-there new may_leave (cast_of kit v).header gate
           (rests kit v old new may_leave gate s.begun s.only_read s.untold s.kind empty);
+      kind = s.kind;
       same = s.only_read;
       tells = started-tells kit v old new may_leave gate s.begun s.only_read;
       untold = s.untold;
@@ -120,14 +122,14 @@ begun-so kit v h old new may_leave gate same started place =
     }
 
 -- why a journal was not started
-pub not-started : (T : Type 0) (kit : Kit) (lines before now : ℕ) (held : Option (List ℕ)) (h : Header) (fault : JournalFault) (why : Stop)
+pub not-started : (T : Type 0) (kit : Kit) (by : Option SnapSaid) (lines before now : ℕ) (held : Option (List ℕ)) (h : Header) (fault : JournalFault) (why : Stop)
     → h ≡ header_in kit
     → IfNotAJournal {T = T} (Err fault) (IfSome held (λ file. (file ≢ []) × ((v : Version) → ¬ IsJournal v h file)))
-    → HasCauses {T = T} of_start before now (Err fault) → why ≡ stop_of_fault fault → Unread kit lines held why
-not-started T kit lines before now held h fault why same other causes is = subst (Unread kit lines held) (sym is) (go fault other causes)
+    → HasCauses {T = T} of_start before now (Err fault) → why ≡ stop_of_fault fault → Unread kit by lines held why
+not-started T kit by lines before now held h fault why same other causes is = subst (Unread kit by lines held) (sym is) (go fault other causes)
   where
     go : (f : JournalFault) → IfNotAJournal {T = T} (Err f) (IfSome held (λ file. (file ≢ []) × ((v : Version) → ¬ IsJournal v h file)))
-        → HasCauses {T = T} of_start before now (Err f) → Unread kit lines held (stop_of_fault f)
+        → HasCauses {T = T} of_start before now (Err f) → Unread kit by lines held (stop_of_fault f)
     go DiskFault there cause = no_disk
     go NotAJournal there cause = no_header (reported held (λ file is. record {
       some = is.0;

@@ -4,6 +4,7 @@ pub mod Finished
 pub mod Held
 pub mod Lines
 pub mod Moments
+pub mod Placed
 pub mod Presented
 pub mod TakenUp
 pub mod Whole

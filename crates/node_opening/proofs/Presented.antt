@@ -4,7 +4,7 @@ use Rattle.kit_defs.specs.Kits.{Kit}
 use Rattle.journal_defs.specs.declared.Version.{Version}
 use Rattle.journal_defs.specs.Entries.{Entry}
 use Rattle.node_defs.specs.Lines.{Stop, BindFailed, DiskFailed, NoMemory, WriteFailed}
-use Rattle.node_defs.specs.Casts.{Cast, cast_of, from_start}
+use Rattle.node_defs.specs.Casts.{Cast, cast_of}
 use Rattle.node_defs.specs.Nodes.{Node, Opening, Greet, Serve, Finish, Serves, Said, Snapper, opens}
 use Rattle.node_traces.specs.Outside.{LinkSeen, SinkSeen, SourceSeen, SinkWrote, SinkFailed}
 use Rattle.node_traces.specs.Service.{Asked, HeardBy, one_asked}
@@ -13,7 +13,9 @@ use Rattle.node_traces.proofs.Going.{parts_go_on}
 use Rattle.opening_laws.specs.Opening.{HasToOpen, FailsAtOne, StopsBy, binds, left_to_open, stopped_by}
 use Rattle.opening_laws.proofs.Opened.{opens_in_order}
 use Rattle.node_service.specs.Answers.{Tells}
-use Rattle.node_opening.specs.Holding.{HoldsAs}
+use Rattle.node_images.specs.Said.{SnapSaid}
+use Rattle.node_opening.specs.Begins.{begins_by}
+use Rattle.node_opening.specs.Holding.{HoldsBy}
 use Rattle.node_opening.specs.Opened.{Unopened, reading, opening}
 use Rattle.node_service.specs.Outside.{outside}
 use Rattle.node_opening.specs.Reading.{Unread}
@@ -195,24 +197,24 @@ module _ (c : Cast) (snap : Snapper) (most : ℕ) (n : Node) (x y : Outside) (ru
 -- ---- a node that has not opened
 
 -- its journal was not read, and the service was asked nothing
-pub unread : {V : Type 0} (heard : V → List Asked → Type 0) (service : V) (kit : Kit) (snap : Snapper) (most lines : ℕ)
-    (held : Option (List ℕ)) (link : LinkSeen) (sink : SinkSeen) (source : SourceSeen) (h : List Asked) (why : Stop) → heard service h
-    → Unread kit lines held why
-    → HeardBy heard service (λ i. Unopened kit snap most lines held (outside link sink source h) (outside link sink source i) why)
-unread heard service kit snap most lines held link sink source h why still is = record {
+pub unread : {V : Type 0} (heard : V → List Asked → Type 0) (service : V) (kit : Kit) (by : Option SnapSaid) (snap : Snapper)
+    (most lines : ℕ) (held : Option (List ℕ)) (link : LinkSeen) (sink : SinkSeen) (source : SourceSeen) (h : List Asked) (why : Stop) → heard service h
+    → Unread kit by lines held why
+    → HeardBy heard service (λ i. Unopened kit by snap most lines held (outside link sink source h) (outside link sink source i) why)
+unread heard service kit by snap most lines held link sink source h why still is = record {
   history = h;
   has = still;
   holds = reading why is refl;
 }
 
 -- it was read, and the node stopped before its first line
-pub unopened : {V : Type 0} (heard : V → List Asked → Type 0) (service : V) (kit : Kit) (v : Version) (es : List Entry) (snap : Snapper)
-    (most lines : ℕ) (held : Option (List ℕ)) (k l : LinkSeen) (s t : SinkSeen) (source : SourceSeen) (h : List Asked) (why : Stop)
-    → HoldsAs kit v es held
-    → HeardBy heard service (λ i. StopsBy (cast_of kit v) snap most (opens (cast_of kit v) (from_start (cast_of kit v)) lines es)
+pub unopened : {V : Type 0} (heard : V → List Asked → Type 0) (service : V) (kit : Kit) (by : Option SnapSaid) (v : Version) (es : List Entry)
+    (snap : Snapper) (most lines : ℕ) (held : Option (List ℕ)) (k l : LinkSeen) (s t : SinkSeen) (source : SourceSeen) (h : List Asked) (why : Stop)
+    → HoldsBy kit v by es held
+    → HeardBy heard service (λ i. StopsBy (cast_of kit v) snap most (opens (cast_of kit v) (begins_by (cast_of kit v) by) lines es)
     (outside k s source h) why (outside l t source i))
-    → HeardBy heard service (λ i. Unopened kit snap most lines held (outside k s source h) (outside l t source i) why)
-unopened heard service kit v es snap most lines held k l s t source h why holds stops = record {
+    → HeardBy heard service (λ i. Unopened kit by snap most lines held (outside k s source h) (outside l t source i) why)
+unopened heard service kit by v es snap most lines held k l s t source h why holds stops = record {
   history = stops.history;
   has = stops.has;
   holds = opening why v es holds stops.holds;

@@ -1,3 +1,4 @@
+pub mod Begins
 pub mod Holding
 pub mod Opened
 pub mod Reading

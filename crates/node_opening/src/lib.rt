@@ -5,8 +5,10 @@
 mod binding;
 mod greeting;
 mod opening;
+mod placing;
 mod presenting;
 mod reading;
+mod setting_out;
 mod starting;
 
 pub use opening::open;

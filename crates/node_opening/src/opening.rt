@@ -1,5 +1,5 @@
 //! A node that opens.
-ghost use Rattle.std.specs.Prelude.{◌≡◌, ◌≢◌, [], ℕ, List, IfErr, IfOk, IsSome};
+ghost use Rattle.std.specs.Prelude.{◌≡◌, ℕ, List, Option, IfErr, IfOk, IsSome};
 ghost use Rattle.kit_defs.specs.Kits.{IsKit};
 ghost use Rattle.journal_defs.specs.declared.Version.{Version};
 ghost use Rattle.journal_defs.specs.Entries.{Entry};
@@ -12,60 +12,68 @@ ghost use Rattle.node_traces.specs.Seen.{link_seen, sink_seen};
 ghost use Rattle.node_traces.specs.Service.{Asked, HeardBy};
 ghost use Rattle.node_service.specs.Lines.{stop as stop_of};
 ghost use Rattle.node_service.specs.Causes.{HasDiskCause};
+ghost use Rattle.node_images.specs.Said.{SnapSaid};
+ghost use Rattle.node_opening.specs.Begins.{BeginsBy, head_in};
 ghost use Rattle.node_opening.specs.Opened.{HasOpened, Unopened};
 ghost use Rattle.node_service.specs.Outside.{outside};
 
 use crate::greeting::host_lines;
 use crate::presenting::present;
 use crate::reading::read_journal;
+use node_images::Snap;
 use node_service::{Kit, Running, Service, Stop, stop_at};
 use rp_base::{Disk, Link, Sink};
 use std::alloc::Global;
 
-/// Opens the node of a kit on its journal; an empty disk gets a new one, of the second kind. Each entry is taken up by its process, the ports
-/// of the hosted processes are bound, a line of each is written, all in one write, the service begins and what it says is written, and the
-/// journal then takes in turns.
+/// Opens the node of a kit on its journal; an empty disk gets a new one, of the second kind. The node begins at the start of the journal, or by
+/// a snapshot at its place: the bytes before that are only hashed. Each entry from there on is taken up by its process, the ports of the hosted
+/// processes are bound, a line of each is written, all in one write, the service begins and what it says is written, and the journal then takes
+/// in turns.
 ///
 /// # Errors
-/// `BadJournal` with place 0 where the disk is not empty and begins with no header of the kit, and else with the place at which the journal
-/// has what is no entry of this node; `DiskFailed`, `BindFailed`, `WriteFailed` where a call failed; and `NoMemory`. Until the journal is
-/// read, nothing is bound and nothing written, and a disk that is not empty is only read.
+/// `BadJournal` with place 0 where the disk is not empty and begins with no header of the kit; with the snapshot's place where that is none of
+/// this journal; and else with the place at which the journal has what is no entry of this node. `DiskFailed`, `BindFailed`, `WriteFailed` where
+/// a call failed; and `NoMemory`. Until the journal is read, nothing is bound and nothing written, and a disk that is not empty is only read.
 pub fn open<'a, D: Disk, L: Link, K: Sink, V: Service>(
     alloc: Global,
     kit: &'a Kit,
+    snap: Option<Snap>,
     disk: &mut D,
     link: &mut L,
     output: &mut K,
     service: &mut V,
 ) -> Result<Running<'a>, Stop>
-    requires { IsKit kit.now }
+    requires kit { IsKit kit.now }
+    requires begins { (s : Option SnapSaid) × BeginsBy kit.now s snap }
 
     // At Ok it is a node of the definitions, opened on the entries that the disk held.
-    ensures opens { (snap : Snapper) (most lines : ℕ) (source : SourceSeen) (h : List Asked) → V.heard service.old h
-        → IfOk result (λ r. HeardBy V.heard service.new (λ i. HasOpened r snap most lines (D.seen disk.old)
+    ensures opens { (s : Option SnapSaid) (snaps : Snapper) (most lines : ℕ) (source : SourceSeen) (h : List Asked) → BeginsBy kit.now s snap
+        → V.heard service.old h
+        → IfOk result (λ r. HeardBy V.heard service.new (λ i. HasOpened s r snaps most lines (D.seen disk.old)
         (outside (link_seen L.sent L.coming L.faults link.old) (sink_seen K.written K.faults output.old) source h)
         (outside (link_seen L.sent L.coming L.faults link.new) (sink_seen K.written K.faults output.new) source i)
         (D.seen disk.new) (D.may_leave disk.new))) }
     ensures kit { IfOk result (λ r. r.kit.now ≡ kit.now) }
 
     // At Err that is why.
-    ensures stops { (snap : Snapper) (most lines : ℕ) (source : SourceSeen) (h : List Asked) → V.heard service.old h
-        → IfErr result (λ why. HeardBy V.heard service.new (λ i. Unopened kit.now snap most lines (D.seen disk.old)
+    ensures stops { (s : Option SnapSaid) (snaps : Snapper) (most lines : ℕ) (source : SourceSeen) (h : List Asked) → BeginsBy kit.now s snap
+        → V.heard service.old h
+        → IfErr result (λ why. HeardBy V.heard service.new (λ i. Unopened kit.now s snaps most lines (D.seen disk.old)
         (outside (link_seen L.sent L.coming L.faults link.old) (sink_seen K.written K.faults output.old) source h)
         (outside (link_seen L.sent L.coming L.faults link.new) (sink_seen K.written K.faults output.new) source i) (stop_of why))) }
 
     // A crash at any moment leaves a well formed journal with the entries that the run found, or with the staged one too.
-    ensures moments { (version : Version) (es : List Entry) → IsSome (D.seen disk.old)
-        → Stands (cast_of kit.now version).header es (D.may_leave disk.old)
-        → LeavesOnly D.moment D.left_since disk.old disk.new (LeavesStaged (cast_of kit.now version).header es (D.may_leave disk.old)) }
+    ensures moments { (s : Option SnapSaid) (version : Version) (es : List Entry) → BeginsBy kit.now s snap → IsSome (D.seen disk.old)
+        → let head = head_in (cast_of kit.now version) s (D.seen disk.old) in Stands head es (D.may_leave disk.old)
+        → LeavesOnly D.moment D.left_since disk.old disk.new (LeavesStaged head es (D.may_leave disk.old)) }
 
     // And what the next run may find.
-    ensures stands { (version : Version) (es : List Entry) → IsSome (D.seen disk.old)
-        → Stands (cast_of kit.now version).header es (D.may_leave disk.old)
-        → Stands (cast_of kit.now version).header es (D.may_leave disk.new) }
+    ensures stands { (s : Option SnapSaid) (version : Version) (es : List Entry) → BeginsBy kit.now s snap → IsSome (D.seen disk.old)
+        → let head = head_in (cast_of kit.now version) s (D.seen disk.old) in Stands head es (D.may_leave disk.old)
+        → Stands head es (D.may_leave disk.new) }
     ensures cause { HasDiskCause (D.faults disk.old) (D.faults disk.new) result }
 {
-    let readers = read_journal(alloc, kit, disk)?;
+    let readers = read_journal(alloc, kit, snap, disk)?;
     let greeting = host_lines(alloc, &readers.hosts, &readers.counts)?;
     present(
         alloc,

@@ -1,5 +1,5 @@
 //! How a journal is read: each entry is taken up by its process.
-ghost use Rattle.std.specs.Prelude.{◌≡◌, ◌≢◌, ◌+◌, ◌<◌, ◌^◌, ◌==◌, [], ℕ, List, None, if◌then◌else◌, IfErr, IfOk, IsSome, IsTrue, OnOk};
+ghost use Rattle.std.specs.Prelude.{◌≡◌, ◌≢◌, ◌+◌, ◌<◌, ◌≤◌, ◌^◌, ◌==◌, [], ℕ, List, None, Option, if◌then◌else◌, IfErr, IfOk, IsSome, IsTrue, OnOk};
 ghost use Rattle.std.specs.Option.{IsSomeAnd};
 ghost use Rattle.kit_defs.specs.Kits.{IsKit};
 ghost use Rattle.journal_defs.specs.declared.Version.{Version};
@@ -7,16 +7,20 @@ ghost use Rattle.journal_defs.specs.Entries.{Entry as PlainEntry};
 ghost use Rattle.journal_disk.specs.Disks.{HasLength, OnlyReads, StaysUntold};
 ghost use Rattle.journal_entries.specs.Kept.{kept};
 ghost use Rattle.journal_rp.specs.Stages.{gate_of, len_of, version_of};
-ghost use Rattle.node_defs.specs.Casts.{cast_of};
+ghost use Rattle.node_defs.specs.Casts.{Beginning, cast_of};
 ghost use Rattle.node_defs.specs.Nodes.{Node, reads_one, takes_up};
 ghost use Rattle.node_service.specs.Hosts.{AreHosts};
 ghost use Rattle.node_service.specs.Lines.{stop as stop_of};
 ghost use Rattle.node_service.specs.Causes.{HasDiskCause};
 ghost use Rattle.node_service.specs.Hosts.{count_in};
+ghost use Rattle.node_images.specs.Said.{SnapSaid};
+ghost use Rattle.node_opening.specs.Begins.{BeginsBy};
 ghost use Rattle.node_opening.specs.Reading.{BreaksOff, HasRead, HasReadAll, HasReadJournal, HasReadOn, RefusesEntry, Unread};
 
+use crate::setting_out::set_out;
 use crate::starting::begin;
 use journal_rp::{EntryBytes, Journal, Reading};
+use node_images::Snap;
 use node_service::{AbsorbFault, Counts, Entry, Event, Hosts, Kit, Stop, stop_at};
 use rp_base::Disk;
 use std::alloc::Global;
@@ -80,14 +84,14 @@ fn take_next<D: Disk>(
     counts: &mut Counts,
 ) -> Result<bool, Stop>
     requires as_left { HasLength (D.seen disk.old) (len_of journal.old) }
-    requires few { (p : ℕ) → count_in counts.old p < gate_of journal.old }
-    ensures reads { (version : Version) (lines : ℕ) (es : List PlainEntry) → let c = cast_of kit.now version in
-        HasRead c kit.now lines (D.seen disk.old) es (gate_of journal.old) hosts.old counts.old
-        → IfOk result (HasReadOn c kit.now lines (D.seen disk.old) es (gate_of journal.new) hosts.new counts.new) }
-    ensures breaks { (version : Version) (lines : ℕ) (es : List PlainEntry) → let c = cast_of kit.now version in
-        HasRead c kit.now lines (D.seen disk.old) es (gate_of journal.old) hosts.old counts.old
-        → IfErr result (λ why. BreaksOff c lines (D.seen disk.old) (stop_of why)) }
-    ensures few { OnOk result ((p : ℕ) → count_in counts.new p < gate_of journal.new) }
+    requires few { (p : ℕ) → count_in counts.old p ≤ gate_of journal.old }
+    ensures reads { (version : Version) (head : List ℕ) (b : Beginning) (lines : ℕ) (es : List PlainEntry) → let c = cast_of kit.now version in
+        HasRead c kit.now head b lines (D.seen disk.old) es (gate_of journal.old) hosts.old counts.old
+        → IfOk result (HasReadOn c kit.now head b lines (D.seen disk.old) es (gate_of journal.new) hosts.new counts.new) }
+    ensures breaks { (version : Version) (head : List ℕ) (b : Beginning) (lines : ℕ) (es : List PlainEntry) → let c = cast_of kit.now version in
+        HasRead c kit.now head b lines (D.seen disk.old) es (gate_of journal.old) hosts.old counts.old
+        → IfErr result (λ why. BreaksOff c head b lines (D.seen disk.old) (stop_of why)) }
+    ensures few { OnOk result ((p : ℕ) → count_in counts.new p ≤ gate_of journal.new) }
     ensures goes_on { IfOk result (λ more. IsTrue more → gate_of journal.old < gate_of journal.new) }
     ensures as_left { HasLength (D.seen disk.new) (len_of journal.new) }
     ensures as_long { len_of journal.new ≡ len_of journal.old }
@@ -98,6 +102,8 @@ fn take_next<D: Disk>(
     let place = journal.place();
     match journal.read(alloc, disk) {
         Ok(Some(bytes)) => {
+            let next = journal.place();
+            prove!(next > place);
             take_up(kit, place, &bytes, hosts, counts)?;
             Ok(true)
         }
@@ -116,14 +122,14 @@ fn take_all<D: Disk>(
     counts: &mut Counts,
 ) -> Result<(), Stop>
     requires as_left { HasLength (D.seen disk.old) (len_of journal.old) }
-    requires few { (p : ℕ) → count_in counts.old p < gate_of journal.old }
-    ensures reads { (version : Version) (lines : ℕ) → let c = cast_of kit.now version in
-        HasRead c kit.now lines (D.seen disk.old) [] (gate_of journal.old) hosts.old counts.old
-        → OnOk result (HasReadAll c kit.now lines (D.seen disk.old) (gate_of journal.new) hosts.new counts.new) }
-    ensures breaks { (version : Version) (lines : ℕ) → let c = cast_of kit.now version in
-        HasRead c kit.now lines (D.seen disk.old) [] (gate_of journal.old) hosts.old counts.old
-        → IfErr result (λ why. BreaksOff c lines (D.seen disk.old) (stop_of why)) }
-    ensures few { OnOk result ((p : ℕ) → count_in counts.new p < gate_of journal.new) }
+    requires few { (p : ℕ) → count_in counts.old p ≤ gate_of journal.old }
+    ensures reads { (version : Version) (head : List ℕ) (b : Beginning) (lines : ℕ) → let c = cast_of kit.now version in
+        HasRead c kit.now head b lines (D.seen disk.old) [] (gate_of journal.old) hosts.old counts.old
+        → OnOk result (HasReadAll c kit.now head b lines (D.seen disk.old) (gate_of journal.new) hosts.new counts.new) }
+    ensures breaks { (version : Version) (head : List ℕ) (b : Beginning) (lines : ℕ) → let c = cast_of kit.now version in
+        HasRead c kit.now head b lines (D.seen disk.old) [] (gate_of journal.old) hosts.old counts.old
+        → IfErr result (λ why. BreaksOff c head b lines (D.seen disk.old) (stop_of why)) }
+    ensures few { OnOk result ((p : ℕ) → count_in counts.new p ≤ gate_of journal.new) }
     ensures as_left { HasLength (D.seen disk.new) (len_of journal.new) }
     ensures kind { version_of journal.new ≡ version_of journal.old }
     ensures disk { OnlyReads D.seen D.may_leave D.moment D.left_since disk.old disk.new }
@@ -133,16 +139,25 @@ fn take_all<D: Disk>(
     Ok(())
 }
 
-/// The hosted processes of a kit, as the entries of their journal make them. An empty disk gets a new journal.
-pub(crate) fn read_journal<D: Disk>(alloc: Global, kit: &Kit, disk: &mut D) -> Result<Readers, Stop>
-    requires { IsKit kit.now }
-    ensures reads { (lines : ℕ) → IfOk result (λ r. HasReadJournal kit.now (version_of r.journal) lines (D.seen disk.old) (D.seen disk.new)
+/// The hosted processes of a kit, as the entries of their journal make them from where the node begins: its start, or the place of the
+/// snapshot. An empty disk gets a new journal.
+pub(crate) fn read_journal<D: Disk>(
+    alloc: Global,
+    kit: &Kit,
+    snap: Option<Snap>,
+    disk: &mut D,
+) -> Result<Readers, Stop>
+    requires kit { IsKit kit.now }
+    requires begins { (s : Option SnapSaid) × BeginsBy kit.now s snap }
+    ensures reads { (s : Option SnapSaid) (lines : ℕ) → BeginsBy kit.now s snap
+        → IfOk result (λ r. HasReadJournal kit.now (version_of r.journal) s lines (D.seen disk.old) (D.seen disk.new)
         (gate_of r.journal) r.hosts r.counts) }
-    ensures few { IfOk result (λ r. (p : ℕ) → count_in r.counts p < gate_of r.journal) }
+    ensures few { IfOk result (λ r. (p : ℕ) → count_in r.counts p ≤ gate_of r.journal) }
     ensures length { IfOk result (λ r. HasLength (D.seen disk.new) (len_of r.journal)) }
     ensures tells { OnOk result (IsSome (D.seen disk.old) → IsSome (D.seen disk.new)) }
     ensures untold { OnOk result (StaysUntold (D.seen disk.old) (D.seen disk.new)) }
-    ensures unread { (lines : ℕ) → IfErr result (λ why. Unread kit.now lines (D.seen disk.old) (stop_of why)) }
+    ensures unread { (s : Option SnapSaid) (lines : ℕ) → BeginsBy kit.now s snap
+        → IfErr result (λ why. Unread kit.now s lines (D.seen disk.old) (stop_of why)) }
 
     // A disk that is not empty is only read.
     ensures only_read { IsSomeAnd (D.seen disk.old) (λ file. file ≢ [])
@@ -150,8 +165,9 @@ pub(crate) fn read_journal<D: Disk>(alloc: Global, kit: &Kit, disk: &mut D) -> R
     ensures cause { HasDiskCause (D.faults disk.old) (D.faults disk.new) result }
 {
     let mut journal = begin(kit, disk)?;
-    let mut hosts = Hosts::new(alloc, kit, journal.batch())?;
-    let mut counts = Counts::new();
+    let first = set_out(alloc, kit, snap, &mut journal, disk)?;
+    let mut hosts = first.hosts;
+    let mut counts = first.counts;
     take_all(alloc, kit, disk, &mut journal, &mut hosts, &mut counts)?;
     Ok(Readers {
         journal,

@@ -1,5 +1,5 @@
 //! The journal of a kit's processes, as it is started.
-ghost use Rattle.std.specs.Prelude.{◌≡◌, ◌≢◌, [], ℕ, length, IfErr, IfOk};
+ghost use Rattle.std.specs.Prelude.{◌≡◌, ◌≢◌, [], ℕ, length, Option, IfErr, IfOk};
 ghost use Rattle.std.specs.Option.{IsSomeAnd};
 ghost use Rattle.kit_defs.specs.Kits.{IsKit};
 ghost use Rattle.journal_defs.specs.declared.Version.{Version};
@@ -9,6 +9,7 @@ ghost use Rattle.journal_rp.specs.Headers.{header};
 ghost use Rattle.journal_rp.specs.Stages.{gate_of, len_of, version_of};
 ghost use Rattle.node_service.specs.Lines.{stop as stop_of};
 ghost use Rattle.node_service.specs.Causes.{HasDiskCause};
+ghost use Rattle.node_images.specs.Said.{SnapSaid};
 ghost use Rattle.node_opening.specs.Holding.{IsBegun, header_in};
 ghost use Rattle.node_opening.specs.Reading.{Unread};
 
@@ -34,7 +35,7 @@ pub(crate) fn begin<D: Disk>(kit: &Kit, disk: &mut D) -> Result<Journal<Reading>
     ensures begun { IfOk result (λ j. IsBegun kit.now (version_of j) (D.seen disk.old) (D.seen disk.new) (gate_of j)) }
     ensures gate { IfOk result (λ j. gate_of j ≡ 60) }
     ensures length { IfOk result (λ j. HasLength (D.seen disk.new) (len_of j)) }
-    ensures unread { (lines : ℕ) → IfErr result (λ why. Unread kit.now lines (D.seen disk.old) (stop_of why)) }
+    ensures unread { (s : Option SnapSaid) (lines : ℕ) → IfErr result (λ why. Unread kit.now s lines (D.seen disk.old) (stop_of why)) }
 
     // A disk that is not empty is only read.
     ensures only_read { IsSomeAnd (D.seen disk.old) (λ file. file ≢ [])

@@ -41,6 +41,19 @@ pub const SNAP: &[u8] =
     001e00000000000000000000000000000000000000000000000000000000000000000000000000000000001e0100000000000000000000\
     00000000000000000000000000000000000000\n";
 
+/// A journal of its node with an entry that is none.
+pub const REFUSED: &[u8] =
+    b"\x52\x50\x4a\x32\x6f\x28\x9d\x5b\x5a\xa4\x25\xdc\x2f\x36\x58\x77\xe4\xcf\x85\x95\x00\x00\x00\x00\x00\x00\x00\x03\
+\x90\xbf\xcb\x0f\x0f\xe0\xda\xc8\x19\xcc\xcb\x81\x7c\xa6\xc2\x6c\x17\xfb\xef\xeb\xfe\x48\x54\x0c\xa3\xee\x9d\x3b\
+\x81\x74\x97\x67\x01\x00\x00\x00\x01\xff\x00";
+
+/// The line of a snapshot behind that entry, with 7 entries of process 0.
+pub const BEHIND: &[u8] =
+    b"snap 52504e326f289d5b5aa425dc2f365877e4cf8595000000000000000390bfcb0f0fe0dac819cccb817ca6c26c17fbefebfe48540ca\
+    3ee9d3b8174976700000000000000424e4da232ca0173ba47e0578da4ba56032811660db1d1f16ce6b356884152974a000000000000000\
+    70000001e00000000000000000000000000000000000000000000000000000000000000000000000000000000001e01000000000000000\
+    0000000000000000000000000000000000000000000\n";
+
 /// How the node begins again after each number of turns of the script.
 pub const AGAIN: [&[u8]; 7] = [
     b"host 0 view 0 delivered 0 entries 0\nhost 1 view 0 delivered 0 entries 0\n",

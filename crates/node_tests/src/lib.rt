@@ -6,6 +6,8 @@ mod data;
 #[cfg(test)]
 mod faults;
 #[cfg(test)]
+mod resuming;
+#[cfg(test)]
 mod runs;
 #[cfg(test)]
 mod services;

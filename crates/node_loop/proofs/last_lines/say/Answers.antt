@@ -1,4 +1,3 @@
-use Rattle.std.proofs.Common.{ℕ}
 use Rattle.node_traces.specs.Seen.{sink_seen}
 use Rattle.node_loop.proofs.Last.{has-line, has-none, says, says-nothing}
 use Rattle.node_loop.proofs.last_lines.say.Goals as goal

@@ -13,16 +13,16 @@ pub entries-preserved : goal.entries-preserved
 entries-preserved g c = record {
   few = c.in_ok-take_next.ensures.few;
   as_left = c.take_next.ensures.as_left;
-  read = λ version lines first.
+  read = λ version head b lines first.
       let kit = c.args.kit.now in
-      let so = c.entries.invariant.read version lines first in
-      let more = read-more (cast_of kit version) kit lines (g.D.Disk.seen c.entries.disk) so.0 (gate_of c.take_next.new.journal)
+      let so = c.entries.invariant.read version head b lines first in
+      let more = read-more (cast_of kit version) kit head b lines (g.D.Disk.seen c.entries.disk) so.0 (gate_of c.take_next.new.journal)
       c.take_next.new.hosts c.take_next.new.counts c.in_ok-take_next.field-0 c.if-branch.true
-      (c.in_ok-take_next.ensures.reads version lines so.0
-      (subst (λ (o : Option (List ℕ)). HasRead (cast_of kit version) kit lines o so.0 (gate_of c.entries.journal) c.entries.hosts c.entries.counts)
+      (c.in_ok-take_next.ensures.reads version head b lines so.0
+      (subst (λ (o : Option (List ℕ)). HasRead (cast_of kit version) kit head b lines o so.0 (gate_of c.entries.journal) c.entries.hosts c.entries.counts)
       (sym c.entries.invariant.disk.reads) so.1)) in (
         more.0,
-        subst (λ (o : Option (List ℕ)). HasRead (cast_of kit version) kit lines o more.0 (gate_of c.take_next.new.journal) c.take_next.new.hosts
+        subst (λ (o : Option (List ℕ)). HasRead (cast_of kit version) kit head b lines o more.0 (gate_of c.take_next.new.journal) c.take_next.new.hosts
             c.take_next.new.counts) c.entries.invariant.disk.reads more.1,
       );
   kind = c.take_next.ensures.kind ∙ c.entries.invariant.kind;
@@ -32,13 +32,13 @@ entries-preserved g c = record {
 }
 
 pub returns-in_err-take_next-clause-breaks : goal.returns-in_err-take_next-clause-breaks
-returns-in_err-take_next-clause-breaks g c = λ version lines first.
+returns-in_err-take_next-clause-breaks g c = λ version head b lines first.
     let kit = c.args.kit.now in
     let out = err_from_is_err_and c.from_residual.result c.from_residual.ensures.1 in
-    let so = c.entries.invariant.read version lines first in
-    rw (out.1, out.2) (subst (λ (o : Option (List ℕ)). BreaksOff (cast_of kit version) lines o (stop c.in_err-take_next.field-0.0))
-    c.entries.invariant.disk.reads (c.in_err-take_next.ensures.breaks version lines so.0
-    (subst (λ (o : Option (List ℕ)). HasRead (cast_of kit version) kit lines o so.0 (gate_of c.entries.journal) c.entries.hosts c.entries.counts)
+    let so = c.entries.invariant.read version head b lines first in
+    rw (out.1, out.2) (subst (λ (o : Option (List ℕ)). BreaksOff (cast_of kit version) head b lines o (stop c.in_err-take_next.field-0.0))
+    c.entries.invariant.disk.reads (c.in_err-take_next.ensures.breaks version head b lines so.0
+    (subst (λ (o : Option (List ℕ)). HasRead (cast_of kit version) kit head b lines o so.0 (gate_of c.entries.journal) c.entries.hosts c.entries.counts)
     (sym c.entries.invariant.disk.reads) so.1)))
 
 pub returns-in_err-take_next-clause-kind : goal.returns-in_err-take_next-clause-kind
@@ -55,15 +55,15 @@ returns-in_err-take_next-clause-cause g c =
     c.entries.invariant.steady c.in_err-take_next.ensures.cause)
 
 pub returns-clause-reads : goal.returns-clause-reads
-returns-clause-reads g c = λ version lines first.
+returns-clause-reads g c = λ version head b lines first.
     let kit = c.args.kit.now in
-    let so = c.entries.invariant.read version lines first in
-    subst (λ (o : Option (List ℕ)). HasReadAll (cast_of kit version) kit lines o (gate_of c.take_next.new.journal) c.take_next.new.hosts
+    let so = c.entries.invariant.read version head b lines first in
+    subst (λ (o : Option (List ℕ)). HasReadAll (cast_of kit version) kit head b lines o (gate_of c.take_next.new.journal) c.take_next.new.hosts
     c.take_next.new.counts) c.entries.invariant.disk.reads
-    (read-ended (cast_of kit version) kit lines (g.D.Disk.seen c.entries.disk) so.0 (gate_of c.take_next.new.journal) c.take_next.new.hosts
+    (read-ended (cast_of kit version) kit head b lines (g.D.Disk.seen c.entries.disk) so.0 (gate_of c.take_next.new.journal) c.take_next.new.hosts
     c.take_next.new.counts c.in_ok-take_next.field-0 c.if-branch.false
-    (c.in_ok-take_next.ensures.reads version lines so.0
-    (subst (λ (o : Option (List ℕ)). HasRead (cast_of kit version) kit lines o so.0 (gate_of c.entries.journal) c.entries.hosts c.entries.counts)
+    (c.in_ok-take_next.ensures.reads version head b lines so.0
+    (subst (λ (o : Option (List ℕ)). HasRead (cast_of kit version) kit head b lines o so.0 (gate_of c.entries.journal) c.entries.hosts c.entries.counts)
     (sym c.entries.invariant.disk.reads) so.1)))
 
 pub returns-clause-kind : goal.returns-clause-kind

@@ -20,6 +20,6 @@ returns-in-Ok-clause-begun g c = begun-so c.args.kit.now (version_of c.in-Ok.jou
     (c.in-Ok.ensures.gate ∙ sym (c.header_of.ensures.long (version_of c.in-Ok.journal)))
 
 pub returns-in-Err-clause-unread : goal.returns-in-Err-clause-unread
-returns-in-Err-clause-unread g c = λ lines. not-started (Journal Reading) c.args.kit.now lines (g.D.Disk.faults c.args.disk.now)
+returns-in-Err-clause-unread g c = λ s lines. not-started (Journal Reading) c.args.kit.now s lines (g.D.Disk.faults c.args.disk.now)
     (g.D.Disk.faults c.start.new.disk) (g.D.Disk.seen c.args.disk.now) (header c.header_of.result) c.in-Err.fault (stop c.stop_at.result)
     c.header_of.ensures.value c.in-Err.ensures.refused c.in-Err.ensures.cause c.stop_at.ensures
