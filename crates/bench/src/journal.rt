@@ -4,6 +4,7 @@ use anyhow::{Result, anyhow};
 use file_disk::FileDisk;
 use journal_rp::{Header, Journal, Journalled, Reading, Turn, Unsynced, Writing};
 use rp_base::{GroupId, Pid, PidSet};
+use sha2::{Digest, Sha256};
 use std::alloc::Global;
 use std::fs::OpenFile;
 use std::io::{Seek, SeekFrom, Write};
@@ -210,6 +211,33 @@ pub(crate) fn bare_times(
     };
     let micros = time_bare(rt, rt.alloc(), bytes.into(), times)?;
     println!(rt; "{times} pairs of bare writes of {bytes} bytes: {micros} us")?;
+    Ok(())
+}
+
+/// Prints the microseconds of SHA-256 of a file, which was read before, and its bytes.
+pub(crate) fn hash_times(
+    rt: &(impl Print + Files + Clock + AllocGlobal),
+    words: &[String],
+) -> Result<()> {
+    let Some(name) = words.first() else {
+        return Err(anyhow!("the word is a file's name"));
+    };
+    let bytes = fs::read(rt, name.as_str())?;
+    let begun = Instant::now(rt)?;
+    let digest = Sha256::digest(bytes.as_slice());
+    let micros = micros(begun.elapsed(rt)?);
+    let count = bytes.len();
+    let first = digest[0];
+    println!(rt; "{count} bytes: {micros} us, a digest that begins with {first}")?;
+    Ok(())
+}
+
+/// Hashes a file.
+pub(crate) fn hash_once(rt: &(impl Print + Files + Clock + AllocGlobal)) -> Result<()> {
+    fs::write(rt, BARE, [5; 100].as_slice())?;
+    let digest = Sha256::digest(fs::read(rt, BARE)?.as_slice());
+    let _ = fs::remove_file(rt, BARE);
+    println!(rt; "a file with a digest of {} bytes", digest.len())?;
     Ok(())
 }
 

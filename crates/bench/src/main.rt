@@ -18,7 +18,7 @@ use std::process::ExitCode;
 const OTHER_WORD: u8 = 2;
 
 const WORDS: &str =
-    "lms, link, journal, bare BYTES TIMES, frames GROUPS TIMES, schedules submits|ticks|copy PIECES, pool CLAIMS, core MEMBERS HUNDREDS, \
+    "lms, link, journal, bare BYTES TIMES, hash FILE, frames GROUPS TIMES, schedules submits|ticks|copy PIECES, pool CLAIMS, core MEMBERS HUNDREDS, \
      replay FILE [times], store [get|set|remove|exchange TIMES], chain, or audit [alone] over the input of `rampart audit`";
 
 /// What is measured.
@@ -30,6 +30,7 @@ enum Measure {
     Link,
     Journal,
     Bare,
+    Hash,
     Pool,
     Core,
     Replay,
@@ -48,6 +49,7 @@ impl Measure {
             "link" => Some(Measure::Link),
             "journal" => Some(Measure::Journal),
             "bare" => Some(Measure::Bare),
+            "hash" => Some(Measure::Hash),
             "pool" => Some(Measure::Pool),
             "core" => Some(Measure::Core),
             "replay" => Some(Measure::Replay),
@@ -67,6 +69,7 @@ impl Measure {
             Measure::Link => link::times(rt),
             Measure::Journal => journal::times(rt),
             Measure::Bare => journal::bare_times(rt, words),
+            Measure::Hash => journal::hash_times(rt, words),
             Measure::Pool => pool_measures::times_of(rt, words),
             Measure::Core => cores::times_of(rt, words),
             Measure::Replay => replay::count_in(rt, words),
@@ -85,6 +88,7 @@ fn once(rt: &HostRuntime) -> Result<()> {
     link::once(rt)?;
     journal::once(rt)?;
     journal::bare_once(rt)?;
+    journal::hash_once(rt)?;
     pool_measures::once(rt)?;
     cores::once(rt)?;
     replay::once(rt)?;

@@ -10,7 +10,7 @@ use Rattle.text_defs.proofs.Bytes.{bytes_found, bytes_spelled}
 use Rattle.text_defs.proofs.Choosing.{if_some, map_some, some_is, then_some}
 use Rattle.text_defs.proofs.Numbers.{number_within_found, number_within_spelled}
 use Rattle.text_defs.proofs.Tests.{word_is, and_true}
-use Rattle.command_line.specs.Commands.{Asks, Command, Replay, Chain, Gen, Keygen, Node, Guard, Serve, Ask, Audit, IsOrder, KitOrder, plan_word}
+use Rattle.command_line.specs.Commands.{Asks, Command, Replay, Chain, Gen, Keygen, Node, Resume, Guard, Serve, Ask, Audit, IsOrder, KitOrder, plan_word}
 use Rattle.command_line.specs.Laws.{CommandIsSpelled}
 use Rattle.command_line.specs.Reading.{command_of, hosting_of, listed_of, order_of, other_of, payload_of, plan_of}
 use Rattle.command_line.proofs.RisingNumbers.{listed_found, listed_spelled}
@@ -67,13 +67,22 @@ hosting_found word file c e = of_node (same_bytes word (codes "node")) refl e
         (record { fits = tt; spelled = λ i. word_is word (codes "guard") is i ∷ file ∷ [] })
     of_guard false is e = of_serve e
 
-    of_node : (is_node : Bool) → same_bytes word (codes "node") ≡ is_node
-        → (if is_node then Some (Node file) else (if same_bytes word (codes "guard") then Some (Guard file) else
+    of_resume : (is_resume : Bool) → same_bytes word (codes "resume") ≡ is_resume
+        → (if is_resume then Some (Resume file) else (if same_bytes word (codes "guard") then Some (Guard file) else
         (if same_bytes word (codes "serve") then Some (Serve file) else None))) ≡ Some c
+        → Asks (word ∷ file ∷ []) c
+    of_resume true is e = subst (Asks (word ∷ file ∷ [])) (some_is (Resume file) c e)
+        (record { fits = tt; spelled = λ i. word_is word (codes "resume") is i ∷ file ∷ [] })
+    of_resume false is e = of_guard (same_bytes word (codes "guard")) refl e
+
+    of_node : (is_node : Bool) → same_bytes word (codes "node") ≡ is_node
+        → (if is_node then Some (Node file) else (if same_bytes word (codes "resume") then Some (Resume file) else
+        (if same_bytes word (codes "guard") then Some (Guard file) else
+        (if same_bytes word (codes "serve") then Some (Serve file) else None)))) ≡ Some c
         → Asks (word ∷ file ∷ []) c
     of_node true is e = subst (Asks (word ∷ file ∷ [])) (some_is (Node file) c e)
         (record { fits = tt; spelled = λ i. word_is word (codes "node") is i ∷ file ∷ [] })
-    of_node false is e = of_guard (same_bytes word (codes "guard")) refl e
+    of_node false is e = of_resume (same_bytes word (codes "resume")) refl e
 
 other_found : (words : List (List ℕ)) (c : Command) → other_of words ≡ Some c → Asks words c
 other_found (word ∷ []) c e = of_replay (same_bytes word (codes "replay")) refl e
@@ -150,6 +159,7 @@ command_spelled (Gen number) words asks =
     ap command_of asks.spelled ∙ ap (option_map Gen) (number_within_spelled 0 (2 ^ 32 - 1) number (omega arith) (omega arith) (omega arith))
 command_spelled (Keygen order) words asks = ap command_of asks.spelled ∙ ap (option_map Keygen) (order_spelled order asks.fits)
 command_spelled (Node file) words asks = ap command_of asks.spelled
+command_spelled (Resume file) words asks = ap command_of asks.spelled
 command_spelled (Guard file) words asks = ap command_of asks.spelled
 command_spelled (Serve file) words asks = ap command_of asks.spelled
 command_spelled (Ask payload) words asks = ap command_of asks.spelled ∙ ap (option_map Ask) (payload_spelled payload asks.fits)

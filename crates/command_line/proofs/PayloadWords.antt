@@ -1,9 +1,9 @@
 -- A payload is read of the word that spells it, and of no other.
-use Rattle.std.proofs.Common.{◌≡◌, ℕ, ◌<◌, ◌≤◌, ◌/◌, ◌*◌, Bool, true, false, List, [], ◌∷◌, length, codes, Option, Some, None, option_map, refl, sym, ap, subst, ◌∙◌, arith}
+use Rattle.std.proofs.Common.{◌≡◌, ℕ, ◌≤◌, ◌/◌, true, false, List, [], ◌∷◌, length, codes, Option, Some, None, option_map, refl, sym, ap, subst, ◌∙◌, arith}
 use Rattle.std.specs.Prelude.{◌&&◌, nat_le, if◌then◌else◌, is_some}
 use Rattle.std.specs.Option.{unwrap_or}
 use Rattle.std.proofs.lemmas.Bool.{le-leb, leb-true}
-use Rattle.hex.specs.Hex.{IsBytes, encode_lower, lower_digits}
+use Rattle.hex.specs.Hex.{encode_lower, lower_digits}
 use Rattle.hex.proofs.HexLemmas.{length-encode_with}
 use Rattle.text_defs.specs.Words.{bytes_of, Spells}
 use Rattle.text_defs.proofs.Bytes.{bytes_found, bytes_spelled}

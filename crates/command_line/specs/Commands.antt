@@ -7,8 +7,9 @@
 --                             typecodes of height, 5 to 7, and one-time parameter set, 1 to 4, or hss:L:H:W with L levels of such
 --                             trees, where they are built; SEED is 32 bytes in hexadecimal
 --   node FILE                 the kit and the script that are read run a node, whose journal is the file of this name; any word is one
---   guard FILE                the same as a guard: on evidence it has its processes ask to remove others
---   serve FILE                the same, and its processes serve a store
+--   resume FILE               the same, from the snapshot that is read after the kit
+--   guard FILE                a node as a guard: on evidence it has its processes ask to remove others
+--   serve FILE                a node whose processes serve a store
 --   ask HEX                   the kit, reply keys, view and replies that are read give what enough members of the view answered to this
 --                             payload: 1 to 1,024 bytes in hexadecimal
 --   audit P P ..              the kit and the journals that are read give what they say of these processes, which are taken as correct:
@@ -41,6 +42,8 @@ pub data Command : Type 0 where
   Keygen : (order : KitOrder) → Command
   -- a node, whose journal is the file of this name
   Node : (file : List ℕ) → Command
+  -- a node that begins by a snapshot
+  Resume : (file : List ℕ) → Command
   -- a node that is a guard
   Guard : (file : List ℕ) → Command
   -- a node whose processes serve a store
@@ -71,6 +74,7 @@ command_words (Gen number) = codes "gen" ∷ decimal number ∷ []
 command_words (Keygen order) = codes "keygen" ∷ decimal order.members ∷ decimal order.roster ∷ plan_word order.keys
     ∷ encode_lower order.seed ∷ []
 command_words (Node file) = codes "node" ∷ file ∷ []
+command_words (Resume file) = codes "resume" ∷ file ∷ []
 command_words (Guard file) = codes "guard" ∷ file ∷ []
 command_words (Serve file) = codes "serve" ∷ file ∷ []
 command_words (Ask payload) = codes "ask" ∷ encode_lower payload ∷ []
@@ -108,6 +112,7 @@ IsCommand Chain = Unit {0}
 IsCommand (Gen number) = number < 2 ^ 32
 IsCommand (Keygen order) = IsOrder order
 IsCommand (Node file) = Unit {0}
+IsCommand (Resume file) = Unit {0}
 IsCommand (Guard file) = Unit {0}
 IsCommand (Serve file) = Unit {0}
 IsCommand (Ask payload) = IsPayload payload

@@ -12,7 +12,7 @@ use Rattle.signature_defs.specs.Secrets.{levels_are_built}
 use Rattle.kit_defs.specs.declared.KeyPlan.{KeyPlan}
 use Rattle.kit_defs.specs.declared.KeyPlan.TheVariants.{Plain, Lms, Hss}
 use Rattle.text_defs.specs.Words.{number_within, bytes_of}
-use Rattle.command_line.specs.Commands.{KitOrder, Command, Replay, Chain, Gen, Keygen, Node, Guard, Serve, Ask, Audit}
+use Rattle.command_line.specs.Commands.{KitOrder, Command, Replay, Chain, Gen, Keygen, Node, Resume, Guard, Serve, Ask, Audit}
 
 -- what comes after this front
 abbrev pub behind : List ℕ → List ℕ → Option (List ℕ)
@@ -76,8 +76,9 @@ listed_of (word ∷ words) = rising_from 0 (word ∷ words)
 abbrev pub hosting_of : List ℕ → List ℕ → Option Command
 hosting_of word file =
     if same_bytes word (codes "node") then Some (Node file) else
+    (if same_bytes word (codes "resume") then Some (Resume file) else
     (if same_bytes word (codes "guard") then Some (Guard file) else
-    (if same_bytes word (codes "serve") then Some (Serve file) else None))
+    (if same_bytes word (codes "serve") then Some (Serve file) else None)))
 
 -- the command that the words ask for, unless it is an audit
 abbrev pub other_of : List (List ℕ) → Option Command

@@ -1,7 +1,7 @@
 -- Commands of the code, as plain data.
 use Rattle.command_line.specs.Commands as plain
 use Rattle.command_line.specs.declared.commands.Command.{Command}
-use Rattle.command_line.specs.declared.commands.Command.TheVariants.{Replay, Chain, Gen, Keygen, Node, Guard, Serve, Ask, Audit}
+use Rattle.command_line.specs.declared.commands.Command.TheVariants.{Replay, Chain, Gen, Keygen, Node, Resume, Guard, Serve, Ask, Audit}
 use Rattle.command_line.specs.Reading.{spelled_payload}
 use Rattle.command_line.specs.declared.orders.KitOrder.{KitOrder}
 
@@ -14,6 +14,7 @@ command Chain = plain.Chain
 command (Gen number) = plain.Gen number
 command (Keygen o) = plain.Keygen (order o)
 command (Node file) = plain.Node file.now
+command (Resume file) = plain.Resume file.now
 command (Guard file) = plain.Guard file.now
 command (Serve file) = plain.Serve file.now
 command (Ask word) = plain.Ask (spelled_payload word.now)

@@ -29,6 +29,9 @@ pub enum Command<'a> {
     /// Read a kit and a script, and run a node whose journal is the file of this name.
     Node(&'a str),
 
+    /// Read a kit, a snapshot and a script, and run a node that begins by the snapshot, whose journal is the file of this name.
+    Resume(&'a str),
+
     /// Read a kit and a script, and run a node that is a guard, whose journal is the file of this name.
     Guard(&'a str),
 
@@ -70,6 +73,8 @@ fn of_file<'a>(word: &[u8], file: &'a str) -> Option<Command<'a>>
 {
     if word == b"node".as_slice() {
         Some(Command::Node(file))
+    } else if word == b"resume".as_slice() {
+        Some(Command::Resume(file))
     } else if word == b"guard".as_slice() {
         Some(Command::Guard(file))
     } else if word == b"serve".as_slice() {
@@ -145,8 +150,8 @@ fn of_words(words: &[String]) -> Option<Command<'_>>
 
 /// The command that the words ask for; None exactly where they ask for none. The words are those after the program's
 /// name: `replay`, `replay short`, `chain`, `gen NUMBER` with a number of 32 bits, `keygen N R KEYS SEED` with the ranges of
-/// [`KitOrder`], `node FILE`, `guard FILE` or `serve FILE` with any word, `ask HEX` with 1 to 1,024 bytes in lower-case hexadecimal, or
-/// `audit P P ..` with 1 to 64 rising numbers up to 63.
+/// [`KitOrder`], `node FILE`, `resume FILE`, `guard FILE` or `serve FILE` with any word, `ask HEX` with 1 to 1,024 bytes in lower-case
+/// hexadecimal, or `audit P P ..` with 1 to 64 rising numbers up to 63.
 pub fn read_command(words: &[String]) -> Option<Command<'_>>
     // The words are those of the command that is read, and it is in its ranges.
     ensures found { IfSome result (λ c. Asks (map string_bytes words.now) (views.command c)) }

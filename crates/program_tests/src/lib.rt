@@ -14,6 +14,8 @@ mod node_calls;
 #[cfg(test)]
 mod rampart_calls;
 #[cfg(test)]
+mod resume_calls;
+#[cfg(test)]
 mod story_calls;
 #[cfg(test)]
 mod tutorial;

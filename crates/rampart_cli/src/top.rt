@@ -9,17 +9,17 @@ ghost use Rattle.audit_words.specs.Running as audits;
 ghost use Rattle.audit_words.specs.Running.{HasFindings, HasNoFindings, Unfound};
 ghost use Rattle.store_asking.specs.Answers as answers;
 ghost use Rattle.store_asking.specs.Answers.{AnsweredInPart, AsksNothing};
-ghost use Rattle.command_line.specs.Commands.{KitOrder, Replay, Chain, Gen, Keygen, Node, Guard, Serve, Ask, Audit};
+ghost use Rattle.command_line.specs.Commands.{KitOrder, Replay, Chain, Gen, Keygen, Node, Resume, Guard, Serve, Ask, Audit};
 ghost use Rattle.guarding_laws.specs.Laws.{AreOfGuards};
 ghost use Rattle.store_defs.specs.Words.{most_state_line_bytes};
 ghost use Rattle.serve_laws.specs.Laws.{ServesStore};
 ghost use Rattle.node_defs.specs.Lives.{Found};
 ghost use Rattle.node_traces.specs.Seen.{link_seen, sink_seen, source_seen};
 ghost use Rattle.node_loop.specs.Ended.{HasEndedAlone, SaysLast};
-ghost use Rattle.node_loop.specs.Inputs.{TellInOrder, most_line_bytes};
+ghost use Rattle.node_loop.specs.Inputs.{TellInOrder, TellInOrderResuming, most_line_bytes};
 ghost use Rattle.rp_base.specs.Streams.{AppendsPrefix, Says};
 ghost use Rattle.replay_words.specs.Answers.{Reported, ReportedInPart, Stopped, kit_of_order, schedule_of_number};
-ghost use Rattle.rampart_cli.specs.Hosts.{HasEndedWith};
+ghost use Rattle.rampart_cli.specs.Hosts.{HasEndedWith, HasResumedAlone};
 ghost use Rattle.rampart_cli.specs.Reported.{AskTells};
 ghost use Rattle.rampart_cli.specs.Top.{Asks, AskAny, AskAudit, AskHost};
 
@@ -27,22 +27,24 @@ use crate::asking::run_ask;
 use audit_words::run_audit;
 use chain_words::chain;
 use command_line::{Command, listed_in, read_command};
-use node_loop::{NoService, host};
+use node_loop::{NoService, host, resume_host};
 use replay_words::{Stop, run_gen, run_keygen, run_replay, tell};
 use rp_base::{Disk, Link, Sink, Source};
 use serve_laws::Servers;
 use std::alloc::Global;
 
-/// The name of the file that is a node's journal: the word after `node`, `guard` or `serve`, and empty where the words ask for none of
-/// these.
+/// The name of the file that is a node's journal: the word after `node`, `resume`, `guard` or `serve`, and empty where the words ask for
+/// none of these.
 pub fn journal_name(words: &[String]) -> &str
     ensures node { (file : List ℕ) → Asks words.now (Node file) → result.now ≡ file }
+    ensures resume { (file : List ℕ) → Asks words.now (Resume file) → result.now ≡ file }
     ensures guard { (file : List ℕ) → Asks words.now (Guard file) → result.now ≡ file }
     ensures serve { (file : List ℕ) → Asks words.now (Serve file) → result.now ≡ file }
     ensures other { ¬ AskHost words.now → result.now ≡ [] }
 {
     match read_command(words) {
         Some(Command::Node(file)) => file,
+        Some(Command::Resume(file)) => file,
         Some(Command::Guard(file)) => file,
         Some(Command::Serve(file)) => file,
         _ => "",
@@ -87,7 +89,15 @@ pub fn rampart<S: Source, K: Sink, D: Disk, L: Link>(
         (link_seen L.sent L.coming L.faults link.old) (sink_seen K.written K.faults output.old) disk.old (S.left input.new) (S.faults input.new)
         (link_seen L.sent L.coming L.faults link.new) (sink_seen K.written K.faults output.new) disk.new result }
 
-    // guard, whatever the status: the same, but its service answered each of these calls as a guard does: after a frame it names whom the
+    // resume, whatever the status: there was no kit, or the line after it is no snapshot by which the kit's node may begin, and nothing else was
+    // touched; or what was done is a run of the node of the definitions that begins by this snapshot, at its place of the journal, with the
+    // processes of its images and its counts of entries, up to a stop with this status. And then comes the stop's line. It has no service.
+    ensures ended_resume { (file : List ℕ) → Asks words.now (Resume file) → (f : Found)
+        → HasResumedAlone D.seen D.may_leave D.moment D.left_since f (source_seen S.left S.faults input.old)
+        (link_seen L.sent L.coming L.faults link.old) (sink_seen K.written K.faults output.old) disk.old (S.left input.new) (S.faults input.new)
+        (link_seen L.sent L.coming L.faults link.new) (sink_seen K.written K.faults output.new) disk.new result }
+
+    // guard, whatever the status: as by node, but its service answered each of these calls as a guard does: after a frame it names whom the
     // frame shows and its process may expel, and by a line of its own a process sends the others what convicts one. So each hosted process is a
     // guard of the definitions: if it was one by the entries that the run found, it is one by those that the journal holds then.
     ensures ended_guard { (file : List ℕ) → Asks words.now (Guard file) → (f : Found)
@@ -165,7 +175,7 @@ pub fn rampart<S: Source, K: Sink, D: Disk, L: Link>(
 
     // 7: what was read has no report, long or short, and the line says why. By chain: it has a fault, and the lines of the views before
     // the fault were written, and then its own. By ask: it has a fault, whatever comes after it, and the line says which. By a node: its kit
-    // has one, or a line of its script is none.
+    // has one, the line after that is no snapshot for it, or a line of its script is none.
     ensures input { (short : Bool) → Asks words.now (Replay short) → result ≡ 7 → Stopped (S.left input.old) (S.left input.new)
         (K.written output.old) (K.written output.new) (K.faults output.old) (K.faults output.new) }
     ensures fault { Asks words.now Chain → result ≡ 7 → chains.Refused (S.left input.old) (S.left input.new)
@@ -250,8 +260,13 @@ pub fn rampart<S: Source, K: Sink, D: Disk, L: Link>(
         → (result ≡ 0) ⊎ (result ≡ 1) ⊎ (result ≡ 3) ⊎ (result ≡ 4) ⊎ (result ≡ 7) ⊎ (result ≡ 8) }
 
     // node, guard, serve: an input in the node's own words and a journal in order give 0, where memory and room are left and nothing
-    // failed; a send or receive that fails changes no status.
+    // failed; a send or receive that fails changes no status. resume: the same of an input with a snapshot after its kit, and a journal that
+    // is in order from the snapshot's place on.
     ensures hosts { (file : List ℕ) → Asks words.now (Node file) → TellInOrder most_line_bytes (S.left input.old) (D.seen disk.old)
+        → ¬ Rose (S.faults input.old) (S.faults input.new) → ¬ Rose (K.faults output.old) (K.faults output.new)
+        → ¬ Rose (D.faults disk.old) (D.faults disk.new) → (result ≡ 0) ⊎ (result ≡ 1) ⊎ (result ≡ 6) ⊎ (result ≡ 9) }
+    ensures hosts_resume { (file : List ℕ) → Asks words.now (Resume file)
+        → TellInOrderResuming most_line_bytes (S.left input.old) (D.seen disk.old)
         → ¬ Rose (S.faults input.old) (S.faults input.new) → ¬ Rose (K.faults output.old) (K.faults output.new)
         → ¬ Rose (D.faults disk.old) (D.faults disk.new) → (result ≡ 0) ⊎ (result ≡ 1) ⊎ (result ≡ 6) ⊎ (result ≡ 9) }
     ensures hosts_guard { (file : List ℕ) → Asks words.now (Guard file) → TellInOrder most_line_bytes (S.left input.old) (D.seen disk.old)
@@ -261,7 +276,7 @@ pub fn rampart<S: Source, K: Sink, D: Disk, L: Link>(
         → ¬ Rose (S.faults input.old) (S.faults input.new) → ¬ Rose (K.faults output.old) (K.faults output.new)
         → ¬ Rose (D.faults disk.old) (D.faults disk.new) → (result ≡ 0) ⊎ (result ≡ 1) ⊎ (result ≡ 6) ⊎ (result ≡ 9) }
 
-    // No other status comes, 5, 6 and 9 only by node, guard and serve, and 8 only by these and audit; and by other words neither disk nor link
+    // No other status comes, 5, 6 and 9 only by node, resume, guard and serve, and 8 only by these and audit; and by other words neither disk nor link
     // is touched.
     ensures only { (result ≡ 0) ⊎ (result ≡ 1) ⊎ (result ≡ 2) ⊎ (result ≡ 3) ⊎ (result ≡ 4) ⊎ (result ≡ 5) ⊎ (result ≡ 6) ⊎ (result ≡ 7)
         ⊎ (result ≡ 8) ⊎ (result ≡ 9) }
@@ -278,6 +293,7 @@ pub fn rampart<S: Source, K: Sink, D: Disk, L: Link>(
         Some(Command::Ask(_)) => run_ask(alloc, words, input, output),
         Some(Command::Audit(_)) => run_audit(alloc, listed_in(words), input, output),
         Some(Command::Node(_)) => host(alloc, input, output, disk, link, &mut NoService),
+        Some(Command::Resume(_)) => resume_host(alloc, input, output, disk, link, &mut NoService),
         Some(Command::Guard(_)) => host(
             alloc,
             input,

@@ -115,12 +115,29 @@ fn what_is_missing_at_the_end_is_reported(rt: HostRuntime) -> Result<(), Fail> {
 }
 
 #[test]
+fn a_run_is_of_a_schedule_or_a_story(rt: HostRuntime) -> Result<(), Fail> {
+    let (status, trace, errors) = run(rt.alloc(), "run", BYTES, [&[], &[]])?;
+    assert!(rt; status == 0 && errors.bytes().is_empty());
+    assert!(rt; is_answered(rt.alloc(), "run", STORY, trace.bytes())?);
+    for (word, input, line, ended) in [
+        ("run", b"RPS4".as_slice(), b"stop 7 magic 0\n".as_slice(), 7),
+        ("draw", b"RPS4", b"stop 7 magic 0\n", 7),
+        ("run", b"tick 0\n", b"line 1: expected group NAME SCHEME", 5),
+        ("draw", b"", b"line 1: expected group NAME SCHEME", 5),
+    ] {
+        assert!(rt; is_reported(rt.alloc(), word, input, line, ended)?);
+    }
+    Ok(())
+}
+
+#[test]
 fn a_run_is_drawn(rt: HostRuntime) -> Result<(), Fail> {
     let (status, sink, errors) = run(rt.alloc(), "draw", BYTES, [&[], &[]])?;
     assert!(rt; status == 0 && errors.bytes().is_empty());
     let picture = sink.bytes();
     assert!(rt; picture.starts_with(b"<svg xmlns='http://www.w3.org/2000/svg' "));
     assert!(rt; picture.ends_with(b"</svg>\n"));
+    assert!(rt; is_answered(rt.alloc(), "draw", STORY, picture)?);
     Ok(())
 }
 

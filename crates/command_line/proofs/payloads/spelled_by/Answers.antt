@@ -1,6 +1,5 @@
-use Rattle.std.proofs.Common.{◌≡◌, [], ◌∷◌, List, ℕ, map, ap, subst, sym, ◌∙◌}
+use Rattle.std.proofs.Common.{◌≡◌, ◌∷◌, List, ℕ, map, ap, subst, sym, ◌∙◌}
 use Rattle.std.specs.Prelude.{string_bytes}
-use Rattle.hex.specs.Hex.{encode_lower}
 use Rattle.text_defs.specs.Words.{Spells}
 use Rattle.command_line.proofs.PayloadWords.{first_spells}
 use Rattle.command_line.proofs.payloads.spelled_by.Goals as goal

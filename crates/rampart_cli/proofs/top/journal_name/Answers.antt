@@ -8,4 +8,7 @@ pub returns-in-Some-Guard-clause-other : goal.returns-in-Some-Guard-clause-other
 returns-in-Some-Guard-clause-other c = λ no_host. absurd (no_host (_, inr (inl (rw c.in-Some-Guard.field-0-is at c.in-Some-Guard.ensures.found))))
 
 pub returns-in-Some-Serve-clause-other : goal.returns-in-Some-Serve-clause-other
-returns-in-Some-Serve-clause-other c = λ no_host. absurd (no_host (_, inr (inr (rw c.in-Some-Serve.field-0-is at c.in-Some-Serve.ensures.found))))
+returns-in-Some-Serve-clause-other c = λ no_host. absurd (no_host (_, inr (inr (inl (rw c.in-Some-Serve.field-0-is at c.in-Some-Serve.ensures.found)))))
+
+pub returns-in-Some-Resume-clause-other : goal.returns-in-Some-Resume-clause-other
+returns-in-Some-Resume-clause-other c = λ no_host. absurd (no_host (_, inr (inr (inr (rw c.in-Some-Resume.field-0-is at c.in-Some-Resume.ensures.found)))))

@@ -2,7 +2,7 @@ use Rattle.std.proofs.Common.{ℕ, List, Bool, [], None, inl, inr, subst, sym}
 use Rattle.std.specs.Prelude.{IsSomeAnd, IsOk, IsErr}
 use Rattle.std.specs.Io.KnownBytes.{Appends}
 use Rattle.replay_defs.specs.Reports.{report_of}
-use Rattle.command_line.specs.Commands.{KitOrder, Replay, Gen, Keygen, Node, Guard, Serve, Ask, Audit}
+use Rattle.command_line.specs.Commands.{KitOrder, Replay, Gen, Keygen, Node, Resume, Guard, Serve, Ask, Audit}
 use Rattle.rp_base.specs.Streams.{AppendsPrefix}
 use Rattle.node_loop.specs.Inputs.{most_line_bytes}
 use Rattle.guarding_laws.proofs.Runs.{are_of_guards}
@@ -17,7 +17,7 @@ use Rattle.node_traces.specs.Seen.{link_seen, sink_seen, source_seen}
 use Rattle.replay_words.specs.Answers.{Reported, ReportedInPart, kit_of_order, schedule_of_number}
 use Rattle.rampart_cli.proofs.Orders.{same_order, same_number, same_short, no_command}
 use Rattle.rampart_cli.proofs.ReadFaults.{none_failed, none_failed_either}
-use Rattle.rampart_cli.proofs.Services.{alone, alone_limit, guard_limit, in_order, serve_limit, with_service}
+use Rattle.rampart_cli.proofs.Services.{alone, alone_limit, guard_limit, in_order, in_order_resuming, resumed_alone, serve_limit, with_service}
 use Rattle.rampart_cli.proofs.Reported.{ask_tells}
 use Rattle.rampart_cli.proofs.top.rampart.Goals as goal
 
@@ -169,22 +169,22 @@ returns-in-Some-Audit-clause-no_read g c = none_failed_either c.run_audit.result
     c.run_audit.ensures.only c.run_audit.ensures.steady c.run_audit.ensures.whole
 
 pub returns-in-Some-Serve-clause-silent : goal.returns-in-Some-Serve-clause-silent
-returns-in-Some-Serve-clause-silent g c = λ no_chain no_host. absurd (no_host (_, inr (inr (rw c.in-Some-Serve.field-0-is at c.in-Some-Serve.ensures.found))))
+returns-in-Some-Serve-clause-silent g c = λ no_chain no_host. absurd (no_host (_, inr (inr (inl (rw c.in-Some-Serve.field-0-is at c.in-Some-Serve.ensures.found)))))
 
 pub returns-in-Some-Serve-clause-read_line : goal.returns-in-Some-Serve-clause-read_line
-returns-in-Some-Serve-clause-read_line g c = λ no_chain no_host. absurd (no_host (_, inr (inr (rw c.in-Some-Serve.field-0-is at c.in-Some-Serve.ensures.found))))
+returns-in-Some-Serve-clause-read_line g c = λ no_chain no_host. absurd (no_host (_, inr (inr (inl (rw c.in-Some-Serve.field-0-is at c.in-Some-Serve.ensures.found)))))
 
 pub returns-in-Some-Serve-clause-by_host : goal.returns-in-Some-Serve-clause-by_host
-returns-in-Some-Serve-clause-by_host g c = λ _. (_, inr (inr (rw c.in-Some-Serve.field-0-is at c.in-Some-Serve.ensures.found)))
+returns-in-Some-Serve-clause-by_host g c = λ _. (_, inr (inr (inl (rw c.in-Some-Serve.field-0-is at c.in-Some-Serve.ensures.found))))
 
 pub returns-in-Some-Serve-clause-of_journals : goal.returns-in-Some-Serve-clause-of_journals
-returns-in-Some-Serve-clause-of_journals g c = λ _. inl (_, inr (inr (rw c.in-Some-Serve.field-0-is at c.in-Some-Serve.ensures.found)))
+returns-in-Some-Serve-clause-of_journals g c = λ _. inl (_, inr (inr (inl (rw c.in-Some-Serve.field-0-is at c.in-Some-Serve.ensures.found))))
 
 pub returns-in-Some-Serve-clause-disk : goal.returns-in-Some-Serve-clause-disk
-returns-in-Some-Serve-clause-disk g c = λ no_host. absurd (no_host (_, inr (inr (rw c.in-Some-Serve.field-0-is at c.in-Some-Serve.ensures.found))))
+returns-in-Some-Serve-clause-disk g c = λ no_host. absurd (no_host (_, inr (inr (inl (rw c.in-Some-Serve.field-0-is at c.in-Some-Serve.ensures.found)))))
 
 pub returns-in-Some-Serve-clause-link : goal.returns-in-Some-Serve-clause-link
-returns-in-Some-Serve-clause-link g c = λ no_host. absurd (no_host (_, inr (inr (rw c.in-Some-Serve.field-0-is at c.in-Some-Serve.ensures.found))))
+returns-in-Some-Serve-clause-link g c = λ no_host. absurd (no_host (_, inr (inr (inl (rw c.in-Some-Serve.field-0-is at c.in-Some-Serve.ensures.found)))))
 
 pub returns-in-Some-Serve-clause-ended_serve : goal.returns-in-Some-Serve-clause-ended_serve
 returns-in-Some-Serve-clause-ended_serve g c = λ file asks f.
@@ -199,6 +199,27 @@ returns-in-Some-Serve-clause-ended_serve g c = λ file asks f.
 pub returns-in-Some-Serve-clause-hosts_serve : goal.returns-in-Some-Serve-clause-hosts_serve
 returns-in-Some-Serve-clause-hosts_serve g c = λ file asks order.
     c.host-in-Some-Serve.ensures.completes (in_order most_state_line_bytes most_state_line_bytes serve_limit (g.S.Source.left c.args.input.now) (g.D.Disk.seen c.args.disk.now) order)
+
+pub returns-in-Some-Resume-clause-silent : goal.returns-in-Some-Resume-clause-silent
+returns-in-Some-Resume-clause-silent g c = λ no_chain no_host. absurd (no_host (_, inr (inr (inr (rw c.in-Some-Resume.field-0-is at c.in-Some-Resume.ensures.found)))))
+
+pub returns-in-Some-Resume-clause-read_line : goal.returns-in-Some-Resume-clause-read_line
+returns-in-Some-Resume-clause-read_line g c = λ no_chain no_host. absurd (no_host (_, inr (inr (inr (rw c.in-Some-Resume.field-0-is at c.in-Some-Resume.ensures.found)))))
+
+pub returns-in-Some-Resume-clause-by_host : goal.returns-in-Some-Resume-clause-by_host
+returns-in-Some-Resume-clause-by_host g c = λ _. (_, inr (inr (inr (rw c.in-Some-Resume.field-0-is at c.in-Some-Resume.ensures.found))))
+
+pub returns-in-Some-Resume-clause-of_journals : goal.returns-in-Some-Resume-clause-of_journals
+returns-in-Some-Resume-clause-of_journals g c = λ _. inl (_, inr (inr (inr (rw c.in-Some-Resume.field-0-is at c.in-Some-Resume.ensures.found))))
+
+pub returns-in-Some-Resume-clause-disk : goal.returns-in-Some-Resume-clause-disk
+returns-in-Some-Resume-clause-disk g c = λ no_host. absurd (no_host (_, inr (inr (inr (rw c.in-Some-Resume.field-0-is at c.in-Some-Resume.ensures.found)))))
+
+pub returns-in-Some-Resume-clause-link : goal.returns-in-Some-Resume-clause-link
+returns-in-Some-Resume-clause-link g c = λ no_host. absurd (no_host (_, inr (inr (inr (rw c.in-Some-Resume.field-0-is at c.in-Some-Resume.ensures.found)))))
+
+pub returns-in-None-clause-ended_resume : goal.returns-in-None-clause-ended_resume
+returns-in-None-clause-ended_resume g c = λ file asks f. absurd (no_command _ (c.in-None.ensures.only (Resume file) asks))
 
 pub returns-in-None-clause-ended_guard : goal.returns-in-None-clause-ended_guard
 returns-in-None-clause-ended_guard g c = λ file asks f. absurd (no_command _ (c.in-None.ensures.only (Guard file) asks))
@@ -219,6 +240,22 @@ returns-in-Some-Node-clause-ended g c = λ file asks f.
     c.args.disk.now (g.S.Source.left c.host.new.input) (g.S.Source.faults c.host.new.input)
     (link_seen g.L.Link.sent g.L.Link.coming g.L.Link.faults c.host.new.link) (sink_seen g.K.Sink.written g.K.Sink.faults c.host.new.output)
     c.host.new.disk c.host.result c.host.new.service (c.host.ensures.ended f [] tt)
+
+pub returns-in-Some-Resume-clause-ended_resume : goal.returns-in-Some-Resume-clause-ended_resume
+returns-in-Some-Resume-clause-ended_resume g c = λ file asks f.
+    resumed_alone g.D.Disk.seen g.D.Disk.may_leave g.D.Disk.moment g.D.Disk.left_since f
+    (source_seen g.S.Source.left g.S.Source.faults c.args.input.now)
+    (link_seen g.L.Link.sent g.L.Link.coming g.L.Link.faults c.args.link.now) (sink_seen g.K.Sink.written g.K.Sink.faults c.args.output.now)
+    c.args.disk.now (g.S.Source.left c.resume_host.new.input) (g.S.Source.faults c.resume_host.new.input)
+    (link_seen g.L.Link.sent g.L.Link.coming g.L.Link.faults c.resume_host.new.link) (sink_seen g.K.Sink.written g.K.Sink.faults c.resume_host.new.output)
+    c.resume_host.new.disk c.resume_host.result c.resume_host.new.service (c.resume_host.ensures.ended f [] tt)
+
+pub returns-in-Some-Resume-clause-hosts_resume : goal.returns-in-Some-Resume-clause-hosts_resume
+returns-in-Some-Resume-clause-hosts_resume g c = λ file asks order.
+    c.resume_host.ensures.completes (in_order_resuming 0 most_line_bytes alone_limit (g.S.Source.left c.args.input.now) (g.D.Disk.seen c.args.disk.now) order)
+
+pub returns-in-None-clause-hosts_resume : goal.returns-in-None-clause-hosts_resume
+returns-in-None-clause-hosts_resume g c = λ file asks order calm calm_sink calm_disk. absurd (no_command _ (c.in-None.ensures.only (Resume file) asks))
 
 pub returns-in-Some-Node-clause-hosts : goal.returns-in-Some-Node-clause-hosts
 returns-in-Some-Node-clause-hosts g c = λ file asks order.
