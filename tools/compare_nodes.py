@@ -4,7 +4,7 @@
     python3 tools/compare_nodes.py FROM TO FOLDER
 
 FOLDER has the other implementation, in Python: node.py with `Host`, a node that takes an input, a disk and a link, and its `Stop`;
-devices.py with `MemDisk`, `MemLink`, `Failed` and `Stopped`; frames.py with `seal`; journals.py with `entry_at`, `entry_bytes` and
+snapshots.py with `read_image`, `write_image` and `read_snap_line`; devices.py with `MemDisk`, `MemLink`, `Failed` and `Stopped`; frames.py with `seal`; journals.py with `entry_at`, `entry_bytes` and
 `JournalFault`; kits.py with `Lines`, `make_kit`, `public_part` and `write_kit`; signatures.py with `make_signer`; and audit.py. From each
 number from FROM up to TO are drawn: a kit of 1 to 16 members; nodes, each with a journal of its own, that host one to four of its
 processes; and openings of these nodes one after the other, each with a script, and with the datagrams that wait: those that were sent
@@ -12,8 +12,10 @@ before, late, lost or twice, and hostile ones, of processes that lie and of stra
 two openings a journal may be damaged, be that of another node, or get an entry that its process cannot have written. In an opening calls
 of the link, the disk, the input and the output fail, and some are cut off at a write or a sync of the disk; the next one then begins with
 one of three images of the disk. Compared are the status, all that was written, the journal or the three images, and all datagrams that
-were sent. In the scripts of every third number `snap` is between other lines. Ours are the answers of the program `interop` to
-`run WORDS INPUT JOURNAL FAILS COMING STOP`.
+were sent. In the scripts of every third number `snap` is between other lines, and nodes are opened by `resume` too: from a line that `snap`
+wrote, now or long ago, of this node or another, or from one that is damaged, of another moment, or has an image with one thing changed.
+Ours are the answers of the program `interop` to `run WORDS INPUT JOURNAL FAILS COMING STOP`. Where the snapshot is one that `snap` wrote on
+this journal and nothing fails, what `resume` answers is also compared with what `node` answers without it, but for the number of a line.
 
 Where the length or a read of the disk is to fail, the other one may have made fewer or more such calls up to the same place: then ours must
 be one of its answers where some such call fails, or none. Each difference is printed, and at the end how many openings there were, how they
@@ -26,6 +28,7 @@ import random
 import sys
 
 import audits
+from draw_snapshots import Snapshot, Snapshots
 from interop import build, run, word
 from schedules import KEEP, PLACE, READY, RENEW, WANT, add, at_place, at_rank, bundle, echo, remove, u16, u8, value
 
@@ -47,8 +50,9 @@ class Theirs(audits.Theirs):
     def __init__(self, folder):
         super().__init__(folder)
         import frames
+        import snapshots
 
-        self.frames = frames
+        self.frames, self.snapshots = frames, snapshots
         self.kits.make_signer = self.signer
         # each node has a signer of its own, of which nothing is used
         self.node.make_signer = lambda secret: copy.copy(self.signer(secret))
@@ -111,10 +115,10 @@ class Theirs(audits.Theirs):
             def told(self):
                 return "".join(line + "\n" for line in self.out[:self.gone]).encode()
 
-            def ended(self):
+            def ended(self, by_snapshot):
                 """The status, or None where the disk was cut off."""
                 try:
-                    self._run(False)
+                    self._run(by_snapshot)
                     return 0
                 except theirs.devices.Stopped:
                     return None
@@ -142,6 +146,8 @@ class Opening:
 
     def __init__(self, words, data, journal, fails, coming, stop):
         self.words, self.data, self.journal, self.fails, self.coming, self.stop = words, data, journal, fails, coming, stop
+        # of one by `resume`, the same by `node`, where both say the same
+        self.by_node = None
 
     def line(self):
         fails = ",".join("%s:%d" % fail for fail in self.fails) or "-"
@@ -158,9 +164,9 @@ class Opening:
         link = theirs.devices.MemLink(of(("bind", "send", "recv")))
         for port, data in self.coming:
             link.coming.setdefault(port, []).append(data)
-        if self.words.split(" ")[:1] == ["node"] and self.words.count(" ") == 1:
+        if self.words.split(" ")[0] in ("node", "resume") and self.words.count(" ") == 1:
             host = theirs.host(self.data, disk, link, numbers("source"), numbers("sink"))
-            status = host.ended()
+            status = host.ended(self.words.startswith("resume"))
             told, calls = host.told(), disk.counts
         else:
             told, status, calls = b"stop 2 words\n", 2, disk.counts
@@ -187,7 +193,7 @@ class Opening:
 
 class Node:
     def __init__(self, hosted, kit):
-        self.hosted, self.kit, self.journal = hosted, kit, b""
+        self.hosted, self.kit, self.journal, self.snapshots = hosted, kit, b"", []
 
 
 class Drawing(audits.Drawing):
@@ -206,6 +212,7 @@ class Drawing(audits.Drawing):
         self.correct = sorted(self.draw.sample(self.roster, max(1, roster - liars)))[:12]
         self.liars = [p for p in self.roster if p not in self.correct]
         self.waiting, self.late = [], []
+        self.drawn_snapshots = Snapshots(self)
 
     # -- nodes
 
@@ -225,6 +232,9 @@ class Drawing(audits.Drawing):
         return kit
 
     # -- inputs
+
+    def whole_front(self, node):
+        return self.theirs.kits.write_kit(node.kit) + b"go\n"
 
     def front(self, node):
         """The kit's lines, rarely damaged."""
@@ -365,7 +375,7 @@ class Drawing(audits.Drawing):
         return self.draw.choice(["write", "sync"]), self.draw.choice([1, 2, 3, 4, self.draw.randint(1, 40)])
 
     def words(self):
-        other = ["node", "node a b", "", "Node a", "gen -1", "node  a", " node a"]
+        other = ["node", "node a b", "", "Node a", "gen -1", "node  a", " node a", "resume", "resume a b", "Resume a"]
         return self.draw.choice(other) if self.often(0.02) else "node " + self.draw.choice(["a", "journal", "\u00e4/b"])
 
     # -- journals between openings
@@ -398,15 +408,30 @@ class Drawing(audits.Drawing):
 
     # -- openings
 
+    def opening(self, node, nodes):
+        """An opening of this node, and whether its processes begin as the journal says."""
+        words, front, script = self.words(), self.front(node), self.script(node)
+        outside = node.journal, self.failing(node), self.arriving(node), self.cut()
+        if self.number % 3 or not words.startswith("node ") or self.often(0.4 if node.snapshots else 0.9):
+            return Opening(words, front + script, *outside), True
+        snapshot = self.drawn_snapshots.one(node, nodes)
+        line = (snapshot.line + ("" if self.often(0.01) else "\n")).encode()
+        opening = Opening(words.replace("node", "resume"), front + line + script, *outside)
+        is_true = snapshot.is_of(node.journal)
+        if is_true and line.endswith(b"\n") and not opening.fails and front == self.whole_front(node):
+            opening.by_node = Opening(words, front + script, *outside)
+        return opening, is_true
+
     def openings(self):
         """Each opening, with the other one's answers."""
         nodes = self.nodes()
         for _ in range(self.draw.choice([1, 2, 3, 4, 6, 8])):
             node = self.draw.choice(nodes)
-            data = self.front(node) + self.script(node)
-            opening = Opening(self.words(), data, node.journal, self.failing(node), self.arriving(node), self.cut())
+            opening, begins_truly = self.opening(node, nodes)
             (answer, told, images, link, _), any_of = opening.answers(self.theirs)
             yield opening, answer, told, any_of
+            written = [line for line in told.splitlines() if line.startswith("snap ") and not line.startswith("snap large")]
+            node.snapshots += [Snapshot(line, begins_truly) for line in written]
             self.waiting += [(port, datagram) for port, queue in link.coming.items() for datagram in queue]
             hosted_ports = {self.kit.ports[p] for p in self.correct}
             self.waiting = [datagram for datagram in self.waiting if datagram[0] in hosted_ports]
@@ -432,6 +457,8 @@ class Reached:
                 self.lines[words[0]] += 1
         for kind, _ in opening.fails:
             self.kinds["failing " + kind] += 1
+        if opening.words.startswith("resume "):
+            self.kinds["resume " + ("as node" if opening.by_node else "ended %s" % status)] += 1
         if opening.journal and status != "2":
             self.kinds["journal opened again"] += 1
         if opening.stop:
@@ -442,17 +469,33 @@ class Reached:
             print(", ".join("%s %d" % item for item in sorted(counted.items())))
 
 
+def a_line_later(answer):
+    """The answer of a node whose kit is followed by one line more, before its script."""
+    words = answer.split(" ")
+    lines = bytes.fromhex(words[1].replace("-", "")).decode().splitlines()
+    last = lines[-1].split(" ") if lines else []
+    if words[0] == "7" and last[:3] == ["stop", "7", "line"]:
+        lines[-1] = "stop 7 line %d" % (int(last[3]) + 1)
+    words[1] = word("".join(line + "\n" for line in lines).encode())
+    return " ".join(words)
+
+
 def compare_all(asked):
     """How many answers differ."""
-    status, told = run("".join(opening.line() + "\n" for _, opening, _ in asked))
+    lines = [(number, opening, opening.line(), wanted) for number, opening, wanted in asked]
+    lines += [(number, opening, opening.by_node.line(), None) for number, opening, _ in asked if opening.by_node]
+    status, told = run("".join(line + "\n" for _, _, line, _ in lines))
     ours = told.split("\n")[:-1]
-    different = 0 if status == 0 and len(ours) == len(asked) else 1
+    different = 0 if status == 0 and len(ours) == len(lines) else 1
     if different:
-        print("status %d, %d answers to %d lines" % (status, len(ours), len(asked)))
-    for (number, opening, wanted), mine in zip(asked, ours):
+        print("status %d, %d answers to %d lines" % (status, len(ours), len(lines)))
+    of_opening = {id(opening): mine for (_, opening, _), mine in zip(asked, ours)}
+    for (number, opening, line, wanted), mine in zip(lines, ours):
+        if wanted is None:
+            wanted, mine = {a_line_later(mine)}, of_opening[id(opening)]
         if mine not in wanted:
             different += 1
-            print("number %d: %s\n  %s, not %s" % (number, opening.line(), mine, " or ".join(sorted(wanted))))
+            print("number %d: %s\n  %s, not %s" % (number, line, mine, " or ".join(sorted(wanted))))
     return different
 
 

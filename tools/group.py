@@ -12,6 +12,7 @@ prompt, or a line of standard input:
     submit P TEXT    process P is given a message to send
     join P Q         P asks for Q as a member; suspect P Q, for a view without Q
     kill P           ends the node at once (SIGKILL); start P opens its journal again
+    snap P           P writes a snapshot, and the last one is kept here; resume P opens its journal from that one
     cut P Q          nothing passes between P and Q any more; heal mends all cuts
     lie P Q TEXT     Q is handed TEXT as P's last message, signed with P's key: P has then signed two texts under one number
     show             each node's view, members and deliveries, and what the network did
@@ -93,7 +94,11 @@ def inside(fd, own, others):
     sender = socket.socket(socket.AF_INET, socket.SOCK_DGRAM)
     while True:
         for key, _ in waits.select():
-            data = key.fileobj.recv(ROOM)
+            try:
+                data = key.fileobj.recv(ROOM)
+            except ConnectionResetError:
+                # the group's program has ended
+                return
             if key.data is not None:
                 outside.send(struct.pack(">H", key.data) + data)
             elif data:
@@ -244,21 +249,29 @@ class Node:
         self.is_open = False
         self.view, self.members, self.delivered, self.submitted = 0, "", 0, 0
         self.texts, self.wrote = {}, []
+        # the line of its last snapshot
+        self.snapshot = None
 
     @property
     def runs(self):
         return self.child is not None and self.child.poll() is None
 
-    def start(self):
+    def network_of(self):
+        """What a child does that is to live in the node's network."""
         inside_of = self.group.network and self.group.network.processes[self.p].pid
+        return (lambda: enter(inside_of)) if inside_of else None
+
+    def start(self, snapshot=None):
+        """Opens the journal: from the snapshot of this line, where there is one."""
+        word = "resume" if snapshot else self.group.word
         child = subprocess.Popen(
-            [self.group.program, self.group.word, str(self.group.folder / f"{self.p}.journal")],
+            [self.group.program, word, str(self.group.folder / f"{self.p}.journal")],
             stdin=subprocess.PIPE, stdout=subprocess.PIPE, stderr=subprocess.STDOUT, text=True, bufsize=1,
-            preexec_fn=(lambda: enter(inside_of)) if inside_of else None, start_new_session=True)
+            preexec_fn=self.network_of(), start_new_session=True)
         self.asked = self.ticked = time.monotonic()
         self.waits = self.is_open = False
         # before the node is fed lines of a script
-        write_to(child, self.group.kit.of(self.p))
+        write_to(child, self.group.kit.of(self.p) + (f"{snapshot}\n" if snapshot else ""))
         self.child = child
         threading.Thread(target=self.listen, args=(child,), daemon=True).start()
 
@@ -284,6 +297,8 @@ class Node:
             self.view, self.members, self.submitted = int(words[2]), line.partition(" : ")[2], 0
         elif words[0] == "deliver":
             self.delivered += 1
+        elif words[0] == "snap" and words[1] != "large":
+            self.snapshot, line = line, f"snap {words[1][:8]} .. ({len(words[1]) // 2} bytes)"
         self.wrote.append(words[:1] + words[2:])
         self.group.say(self.p, line)
 
@@ -379,6 +394,17 @@ class Group:
             raise ValueError(f"{p} runs")
         self.nodes[int(p)].start()
 
+    def snap(self, p):
+        write_to(self.nodes[int(p)].child, "snap\n")
+
+    def resume(self, p):
+        node = self.nodes[int(p)]
+        if node.runs:
+            raise ValueError(f"{p} runs")
+        if not node.snapshot:
+            raise ValueError(f"{p} has written no snapshot")
+        node.start(node.snapshot)
+
     def cut(self, p, q):
         self.needs_network().cuts.add((min(int(p), int(q)), max(int(p), int(q))))
 
@@ -433,7 +459,7 @@ class Group:
     def wait(self, seconds):
         time.sleep(float(seconds))
 
-    WORDS = {"submit", "join", "suspect", "kill", "start", "cut", "heal", "lie", "show", "audit", "until", "wait"}
+    WORDS = {"submit", "join", "suspect", "kill", "start", "snap", "resume", "cut", "heal", "lie", "show", "audit", "until", "wait"}
 
     def do(self, line):
         """Carries out a line; false at the end."""

@@ -4,27 +4,33 @@
     python3 tools/torture.py NUMBER COUNT [--program PROGRAM] [--show] [--plant FAULT]
 
 One run of each number from NUMBER on: a group of 4 to 7 nodes (tools/group.py), over a network that loses, repeats and delays; with plain
-keys or trees; nodes are killed at any time and started again on their journals, of which what comes after the closed gate is cut
-anywhere, as a crash may leave it that comes while an entry is written; cuts that heal; at most f liars, of whom some members are handed
-other texts than the rest, who for a while send nothing to some of them, or send again what they sent long ago; suspicions and joins of so
-many members that views change. At last the network is whole, all nodes run, and time goes on. Then
+keys or trees; one message at a time, or many; nodes are killed at any time, or when a new signature of theirs has just gone out, and
+started again on their journals, by `node` or by `resume` from the last snapshot; what comes after the closed gate is cut anywhere, as a
+crash may leave it that comes while an entry is written; cuts that heal; at most f liars, of whom some members are handed other texts than
+the rest, who for a while send nothing to some of them, or send again what they sent long ago; suspicions and joins of so many members that
+views change. At last the network is whole, all nodes run, and time goes on. Then
 
 - no correct process has signed two texts for one slot, nor two bodies with one leaf, in any datagram that a node sent;
 - what the nodes wrote agrees: one message for a view, place, sender and number, each delivered once by a node, in rising order;
 - an audit of all journals says `honest`, `agree` and `sound`, and convicts nobody but liars;
-- what a journal holds is at least what its node wrote, and has all signatures that its node sent: at each start, and at the end.
+- what a journal holds is at least what its node wrote, and has all signatures that its node sent: at each start, and at the end;
+- opened from its last snapshot, a node says what it says where it is opened without.
 
 Where members were removed until liars were more than f of a view, the audit says that the run is not bounded, and agreement is not asked
 for. What a correct member that stayed was given to send, and was not delivered by all that stayed within 100 ticks, is counted and is no
 fault: nothing promises progress. A run that breaks a rule is printed with its number; the status is 1 then.
 
---plant makes a fault, to show that it is seen: `forget`, a node that is started again lacks the last entry of its journal, as one would
-that sends before it syncs; `anew`, it begins with no journal; `skip`, the audit is not handed the journal of one correct process.
+--plant makes a fault, to show that it is seen: `late`, the nodes are those of the crate late_writes, which send before an entry is in the
+file; `forget`, a node that is started again lacks the last entry of its journal; `anew`, it begins with no journal, and its key again with
+the first signature; `skip`, the audit is not handed the journal of one correct process.
 """
 import argparse
 import collections
+import contextlib
 import json
+import pathlib
 import random
+import shutil
 import signal
 import subprocess
 import sys
@@ -70,12 +76,18 @@ class Watch(group.Network):
         super().__init__(ports, parts, seed)
         self.slots, self.leaves, self.faults, self.trees = {}, {}, [], False
         self.liars, self.withheld, self.old, self.sent = set(), set(), [], collections.defaultdict(set)
+        # nodes that are killed as soon as a new signature of theirs has gone out, and how
+        self.doomed, self.kill = set(), None
 
     def take(self, p, q, datagram):
+        before = len(self.sent[p])
         for signer, statement, signature in claims_in(datagram[22:-32]):
             self.look(signer, statement, signature)
             if signer == p:
                 self.sent[p].add(signature)
+        if p in self.doomed and len(self.sent[p]) > before:
+            self.doomed.discard(p)
+            self.kill(p)
         if p in self.liars:
             self.old.append((q, datagram))
         if (p, q) in self.withheld:
@@ -134,7 +146,7 @@ class Run(group.Group):
         super().__init__(argparse.Namespace(
             program=words.program, guards=False, tick=TICK, folder=None, seed=number, n=self.n, keys=keys, direct=False,
             loss=self.draw.choice([0, 0.05, 0.2]), twice=self.draw.choice([0, 0.1]), late=self.draw.choice([0, 0.1, 0.3])))
-        self.network.trees, self.network.liars = self.trees, self.liars
+        self.network.trees, self.network.liars, self.network.kill = self.trees, self.liars, self.kill_now
         self.given = collections.defaultdict(list)
 
     def make_network(self, parts, seed):
@@ -154,7 +166,10 @@ class Run(group.Group):
         if path.exists():
             self.leave(path, path.read_bytes())
             self.network.faults += self.lost(p)
-        super().start(p)
+        # a journal that lost its end has no place for a snapshot
+        by_snapshot = self.nodes[p].snapshot and self.plant not in ("forget", "anew") and self.draw.random() < 0.5
+        self.count["resumes"] += bool(by_snapshot)
+        (super().resume if by_snapshot else super().start)(p)
 
     def lost(self, p):
         """What a correct node sent, and its journal lacks."""
@@ -180,23 +195,28 @@ class Run(group.Group):
         return [p for p, it in self.nodes.items() if it.runs]
 
     def act(self, number):
-        what = self.draw.choices(["submit", "kill", "start", "cut", "heal", "vote", "lie", "rest"], [8, 2, 3, 1, 1, 1, 2, 3])[0]
+        what = self.draw.choices(["submit", "kill", "start", "snap", "cut", "heal", "vote", "lie", "rest"], [8, 4, 5, 4, 1, 1, 1, 2, 3])[0]
         running = self.running()
         if what == "submit" and running:
             p = self.draw.choice(running)
-            text = f"{number} of {p}"
-            self.given[p].append(text.encode())
-            self.submit(p, text)
+            # a tree has few signatures
+            for at in range(1 if self.trees else self.draw.choice([1, 1, 1, 1, 4, 20])):
+                text = f"{number} of {p}, {at}"
+                self.given[p].append(text.encode())
+                # it may have been killed meanwhile
+                with contextlib.suppress(ValueError):
+                    self.submit(p, text)
         elif what == "kill" and running:
-            self.count["kills"] += 1
             p = self.draw.choice(running)
-            self.kill(p)
-            # what it had not delivered yet it may not have taken in
-            own = {line.split()[6] for line in self.delivered(p)}
-            self.given[p] = [text for text in self.given[p] if text.hex() in own]
+            if self.draw.random() < 0.5:
+                self.kill_now(p)
+            else:
+                self.network.doomed.add(p)
         elif what == "start" and len(running) < self.n:
             self.count["starts"] += 1
             self.start(self.draw.choice([p for p in self.nodes if p not in running]))
+        elif what == "snap" and running:
+            self.snap(self.draw.choice(running))
         elif what == "cut":
             self.count["cuts"] += 1
             self.cut(*self.draw.sample(range(self.n), 2))
@@ -212,6 +232,13 @@ class Run(group.Group):
             self.lie_to(p, self.draw.choice([q for q in self.nodes if q != p]), f"another {number}")
         time.sleep(self.draw.choice([0, 0.02, 0.2]))
 
+    def kill_now(self, p):
+        self.count["kills"] += 1
+        self.kill(p)
+        # what it had not delivered yet it may not have taken in
+        own = {line.split()[6] for line in self.delivered(p)}
+        self.given[p] = [text for text in self.given[p] if text.hex() in own]
+
     def lie_to(self, p, q, text):
         how = self.draw.choice(["another", "another", "withheld", "old"])
         if how == "another" and self.nodes[p].submitted:
@@ -226,6 +253,7 @@ class Run(group.Group):
     def settle(self):
         """The network is whole, all run, and time goes on until nothing is missing, or for so many ticks."""
         self.heal()
+        self.network.doomed.clear()
         self.network.withheld.clear()
         self.network.parts = {"loss": 0, "twice": 0, "late": 0}
         for p, it in self.nodes.items():
@@ -283,10 +311,27 @@ class Run(group.Group):
             if len({tuple(line.split()[2:6]) for line in self.delivered(p)}) < len(seen):
                 yield f"{p} delivered a message twice"
 
+    def begun(self, p, word, snapshot=""):
+        """What a node of p says on its journal as it is, without a script."""
+        journal = self.folder / "begun.journal"
+        shutil.copyfile(self.folder / f"{p}.journal", journal)
+        done = subprocess.run([self.program, word, journal], input=(self.kit.of(p) + snapshot).encode(), capture_output=True,
+                              preexec_fn=self.nodes[p].network_of(), check=False)
+        return done.returncode, done.stdout.decode()
+
+    def begins_otherwise(self, p):
+        if not self.nodes[p].snapshot:
+            return
+        by_node, by_snapshot = self.begun(p, "node"), self.begun(p, "resume", self.nodes[p].snapshot + "\n")
+        if by_node[0] or by_node != by_snapshot:
+            yield f"{p} begins by node with {by_node}, and from its snapshot with {by_snapshot}"
+
     def of_audit(self):
         data = self.kit.without_secrets().encode()
         for p in self.nodes:
             self.nodes[p].kill()
+            if self.plant not in ("forget", "anew"):
+                yield from self.begins_otherwise(p)
             if self.plant == "skip" and p == min(self.nodes.keys() - self.liars):
                 continue
             journal = (self.folder / f"{p}.journal").read_bytes()
@@ -333,19 +378,27 @@ def one(number, words, counts):
     return bool(faults)
 
 
+def late_program():
+    """The program whose nodes send before an entry is in the file, built."""
+    crate = pathlib.Path(__file__).resolve().parent.parent / "crates" / "late_writes"
+    subprocess.run(["rt", "run"], cwd=crate, stdin=subprocess.DEVNULL, stdout=subprocess.DEVNULL, check=True)
+    return str(crate / "out" / "late_writes")
+
+
 def main():
     words = argparse.ArgumentParser(description=__doc__.partition("\n")[0])
     words.add_argument("number", type=int)
     words.add_argument("runs", type=int)
-    words.add_argument("--program", default=str(group.TOP / "rampart"))
+    words.add_argument("--program")
     words.add_argument("--show", action="store_true")
-    words.add_argument("--plant", choices=["forget", "anew", "skip"])
+    words.add_argument("--plant", choices=["late", "forget", "anew", "skip"])
     words = words.parse_args()
+    words.program = words.program or (late_program() if words.plant == "late" else str(group.TOP / "rampart"))
     signal.signal(signal.SIGTERM, lambda *_: sys.exit(143))
     counts, wrong = collections.Counter(), 0
     for number in range(words.number, words.number + words.runs):
         wrong += one(number, words, counts)
-    told = ("kills", "starts", "torn", "cuts", "lies", "old", "withheld", "leaves", "deliver", "view", "liar", "refused", "spent",
+    told = ("kills", "starts", "resumes", "snap", "torn", "cuts", "lies", "old", "withheld", "leaves", "deliver", "view", "liar", "refused", "spent",
             "convicted", "late runs", "unbounded", "unaudited")
     print(f"{words.runs} runs, {wrong} wrong; {', '.join(f'{counts[it]} {it}' for it in told)}")
     sys.exit(1 if wrong else 0)

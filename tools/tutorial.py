@@ -146,7 +146,7 @@ def write():
     for about, name, pairs in (("Stories, and the reports of their schedules.", "REPORTS", replays), ("Stories, and parts of their traces.", "TRACES", runs)):
         out += [f"/// {about}", f"pub const {name}: [(&[u8], &[u8]); {len(pairs)}] = ["]
         out += [f"({story.upper()}, {spelled(text)})," for story, text in pairs] + ["];", ""]
-    out += ["/// Texts that are no stories, and what is told of them.", f"pub const FAULTS: [(&[u8], &[u8]); {len(faults)}] = ["]
+    out += ["/// Texts that are no stories, and what is reported of them.", f"pub const FAULTS: [(&[u8], &[u8]); {len(faults)}] = ["]
     out += [f"({spelled(text)}, {spelled(told)})," for text, told in faults] + ["];", ""]
     DATA.write_text("\n".join(out))
     return 0
