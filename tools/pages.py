@@ -5,7 +5,8 @@
 Looked at are README.md, docs/ARCHITECTURE.md, docs/PROVED.md, docs/TESTED.md and docs/CONTRIBUTING.md:
 
 - a name of the last column of docs/PROVED.md is a function, a clause or a type of the crates in its row's first column;
-- each crate has one row in docs/ARCHITECTURE.md, tests aside, and comes after those of its table that it uses;
+- each crate has one row in docs/ARCHITECTURE.md, tests aside, and comes after those of its table that it uses; no area uses a later one,
+  and crates.txt is in the order of the areas (tools/areas.py);
 - a test that docs/TESTED.md names is a test;
 - a link leads to a file, and so does a path that begins with tools/, bench/, docs/, examples/ or crates/;
 - README.md has at most 120 lines, a line at most 140 characters and a row at most 300.
@@ -16,6 +17,8 @@ Each fault is printed. The status is 1 where there is one.
 import pathlib
 import re
 import sys
+
+import areas
 
 TOP = pathlib.Path(__file__).resolve().parent.parent
 PAGES = ["README.md"] + [f"docs/{name}.md" for name in "ARCHITECTURE PROVED TESTED CONTRIBUTING COMPARING".split()]
@@ -96,6 +99,7 @@ def faults_of_map(crates):
         for i, crate in enumerate(table):
             for below in set(crates[crate]).intersection(table[i + 1 :]):
                 yield f"docs/ARCHITECTURE.md: «{heading}» has {crate} before {below}, which it uses"
+    yield from areas.all_faults()
 
 
 def faults_of_tested(names):

@@ -4,12 +4,14 @@
     python3 tools/pictures.py            writes them all
     python3 tools/pictures.py crates     writes this one
 
-`crates` is drawn from crates.txt and the areas below, so draw it again when a crate comes or goes: what is then missing is told. `schedule`
-is the example one_member. The others are drawn from the text below.
+`crates` is drawn from crates.txt and the areas of docs/ARCHITECTURE.md, so draw it again when a crate comes or goes. `schedule` is the
+example one_member. The others are drawn from the text below.
 """
 import html
 import pathlib
 import sys
+
+import areas
 
 TOP = pathlib.Path(__file__).resolve().parent.parent
 FOLDER = TOP / "docs" / "pictures"
@@ -122,7 +124,7 @@ def view():
     p.text(20, 190, "Once f + 1 members notify one update u", "title", "start")
     y = 208
     ending = [
-        ("Notify", "who was asked", "end"),
+        ("Notify", "on a request", "end"),
         ("End", "says the placed length", "quorum"),
         ("Suggest", "the manager, rank 0", "box"),
         ("Ack", "(u, K) is justified", "quorum"),
@@ -167,25 +169,14 @@ def phases():
     p.box(740, 40, 130, 62, ["next view", "open or observer"], "quorum")
     p.box(740, 220, 130, 62, ["halted", "for good"], "stop")
     p.arrow([(200, 231), (310, 231)], "f + 1 notify\nan update: End", (254, 208))
-    p.arrow([(200, 91), (510, 146)], "a Ready is certified\nwhose update is possible", (330, 80), anchor="start")
-    p.arrow([(460, 222), (510, 184)], "the same", (504, 220))
-    p.arrow([(105, 200), (105, 162), (510, 162)], "the same", (300, 156))
+    p.arrow([(200, 91), (510, 146)], "deciding: a Ready is certified\nwhose update is possible", (330, 80), anchor="start")
+    p.arrow([(460, 222), (510, 184)], "deciding", (504, 220))
+    p.arrow([(105, 200), (105, 162), (510, 162)], "deciding", (300, 156))
     p.arrow([(660, 146), (740, 80)], "K places delivered,\nor no member", (668, 76))
     p.arrow([(660, 178), (740, 240)], "more than K\ndelivered", (672, 228))
     p.arrow([(565, 192), (565, 250), (605, 250), (605, 192)], "fewer than K: it waits, and signs nothing", (585, 268))
     p.text(30, 312, "In an honest, bounded family no process halts (nobody_halts). In the code: Observing, OpenView, ClosingView, DecidedView, HaltedView.", "small", "start")
     p.write("phases")
-
-
-def read_crates():
-    """The crates of crates.txt, each with those below it."""
-    crates = {}
-    for line in (TOP / "crates.txt").read_text().splitlines():
-        line = line.split("#")[0].strip()
-        if line:
-            name, _, below = line.partition(":")
-            crates[name.split()[0]] = below.split()
-    return {name: [b for b in below if b in crates] for name, below in crates.items()}
 
 
 def reduced(crates):
@@ -202,115 +193,101 @@ def reduced(crates):
     return {name: [b for b in bs if not any(b in reach[c] for c in bs if c != b)] for name, bs in crates.items()}
 
 
-# The areas of the crates: where each is drawn, how many crates stand side by side, and its crates, none above one that it uses.
-AREAS = {
-    "the program": (20, 20, 2, "replay_words rampart_cli rampart page"),
-    "a replay": (
-        20, 121, 2,
-        "said_index replay_cast group_questions sound_question trace_defs reported_defs reported_laws happenings replay_world replay_questions"
-        " report_lines replay_report replay_run",
-    ),
-    "a member": (20, 405, 2, "accounts own_moves sent_claims reliable_mcast member_state member_taking member_signing member_settling member_sending member_core hosted_core"),
-    "the rules": (20, 622, 2, "multicast_rules ending_rules rank_rules view_phases due_statements"),
-    "what is heard": (
-        20, 777, 2, "view_table claim_index claim_lists own_place slot_quorums placed_batches pool_values claim_pool pool_questions member_laws claim_hearing"
-    ),
-    "laws and rows": (20, 1013, 2, "pool_laws rule_laws safety_laws event_laws group_rows front_laws length_laws schedule_laws schedule_rows"),
-    "definitions": (20, 1195, 6, "byte_defs signature_defs message_defs text_defs group_defs kit_defs replay_defs input_defs"),
-    "a run shown": (348, 20, 2, "picture_defs story_words story_telling story_trace picture_labels story_picture story_cli story"),
-    "beside other implementations": (
-        348, 203, 2,
-        "interop_words interop_signatures interop_levels interop_frames interop_kits interop_schedules interop_node interop_pool interop_store"
-        " interop_runs interop_lines interop",
-    ),
-    "schedules and stories": (
-        348, 413, 2,
-        "schedule_file schedule_fields schedule_header schedule_events schedule_reading schedule_pieces schedule_making"
-        " story_defs story_laws story_lines story_statements story_headers story_events story_reading story_writing",
-    ),
-    "frames and statements": (348, 777, 2, "byte_fields frame_codec statements stmt_codec"),
-    "the outside": (348, 1013, 2, "rp_base rp_devices line_input line_laws net_edge file_disk udp_link"),
-    "how fast": (676, 20, 2, "pool_measures group_measures audit_measures store_measures chain_measures bench"),
-    "kits and words": (676, 413, 2, "text_codec kit_file kit_lines kit_draft kit_reading kit_making command_line"),
-    "signatures": (676, 622, 2, "sha256_lanes lms_chains lms_ots lms_tree lms_hss sig_scheme bench_parts"),
-    "links and journals": (676, 777, 2, "link_defs auth_link journal_defs journal_disk journal_entries journal_rp"),
-    "a store": (1040, 20, 2, "store_defs store_laws following_laws store_rows store_records kv_service vote_client state_transfer view_words store_words store_keys store_replies store_giving store_server store_asking store_service serve_laws taking_laws"),
-    "a store in words": (676, 150, 2, "store_text_defs store_text_laws store_text_rows store_wording store_telling store_cli store"),
-    "chains of views, and guards": (1040, 370, 2, "chain_defs chain_text_defs chain_laws chain_rows chain_check chain_words guard_defs guard_laws guard_rows guard_service guarding_laws proof_defs proof_laws proof_rows proof_lines witness_defs witness_laws witness_rows witness_words witness_chain witness_cli witness"),
-    "convictions and audits": (1040, 720, 2, "conviction_defs conviction_laws conviction audit_defs audit_laws evidence_laws findings_laws claim_firsts audit_claims audit_turns journal_steps audit_sources audit_walk audit_cast findings_json audit_core audit_input audit_words audit_rows"),
-    "nodes": (1040, 1043, 2, "image_defs image_laws snapshot_defs snapshot_laws snapshot_rows snapshot_rp kept_images heard_images image_parts restored_place restored_past restored_left restored_present member_restoring state_image member_image node_defs node_snapshots node_laws node_text node_keys node_hosts node_traces node_service opening_laws resume_laws script_laws letting_laws letter_laws node_input node_opening node_turns sealing_laws node_taking node_receiving node_serving node_snapping node_script stop_laws node_loop node_rows"),
-}
-
-# The lines from each area to those that it uses, without those that others imply.
-LINES = {
-    ("the program", "chains of views, and guards"): [(200, 20), (200, 13), (1022, 13), (1022, 410), (1040, 410)],
-    ("the program", "a run shown"): [(324, 60), (348, 60)],
-    ("a replay", "a member"): [(172, 321), (172, 405)],
-    ("a replay", "schedules and stories"): [(250, 321), (250, 394), (430, 394), (430, 413)],
-    ("a member", "the rules"): [(172, 606), (172, 622)],
-    ("a member", "links and journals"): [(324, 598), (339, 598), (339, 722), (670, 722), (670, 840), (676, 840)],
-    ("the rules", "what is heard"): [(172, 741), (172, 777)],
-    ("what is heard", "laws and rows"): [(172, 977), (172, 1013)],
-    ("what is heard", "frames and statements"): [(324, 823), (348, 823)],
-    ("laws and rows", "definitions"): [(172, 1159), (172, 1195)],
-    ("a run shown", "a replay"): [(348, 155), (324, 155)],
-    ("beside other implementations", "the program"): [(348, 230), (336, 230), (336, 60), (324, 60)],
-    ("how fast", "chains of views, and guards"): [(980, 60), (1004, 60), (1004, 430), (1040, 430)],
-    ("schedules and stories", "kits and words"): [(652, 486), (676, 486)],
-    ("schedules and stories", "frames and statements"): [(500, 667), (500, 777)],
-    ("schedules and stories", "laws and rows"): [(348, 510), (336, 510), (336, 1070), (324, 1070)],
-    ("frames and statements", "the outside"): [(500, 869), (500, 1013)],
-    ("links and journals", "frames and statements"): [(676, 823), (652, 823)],
-    ("kits and words", "signatures"): [(828, 559), (828, 622)],
-    ("signatures", "the outside"): [(676, 690), (664, 690), (664, 1070), (652, 1070)],
-    ("the outside", "definitions"): [(500, 1132), (500, 1195)],
-    ("a store", "nodes"): [(1344, 120), (1364, 120), (1364, 1090), (1344, 1090)],
-    ("nodes", "convictions and audits"): [(1192, 1043), (1192, 1028)],
-    ("a store in words", "a store"): [(980, 223), (1040, 223)],
-    ("chains of views, and guards", "a store"): [(1192, 370), (1192, 274)],
-    ("convictions and audits", "a replay"): [(1040, 740), (1012, 740), (1012, 608), (662, 608), (662, 706), (330, 706), (330, 290), (324, 290)],
-}
+# The areas of docs/ARCHITECTURE.md in four columns, each from the top down.
+COLUMNS = [
+    ["The program", "A replay", "A member", "The rules", "What is heard", "Laws and rows", "Definitions"],
+    ["A run shown", "Beside other implementations", "Schedules and stories", "Frames and statements", "The outside"],
+    ["How fast", "A store in words", "Kits and words", "Signatures", "Links and journals", "Images of a member"],
+    ["A store", "Chains, guards and evidence", "Convictions and audits", "Nodes"],
+]
+WIDE, CHANNEL, LEFT, TOP_EDGE, GAP = 304, 56, 30, 40, 26
 
 
-def check_areas(crates):
-    """Each crate is in one area, behind those of it that it uses; and the lines are those that crates.txt asks for."""
-    of = {}
-    for area, (_, _, _, names) in AREAS.items():
-        for name in names.split():
-            if name not in crates or name in of:
-                sys.exit(f"pictures: {name} of the area {area} is no crate, or is in two areas")
-            of[name] = area
-            for below in crates[name]:
-                if below not in of and below in names.split():
-                    sys.exit(f"pictures: {name} stands before {below} in the area {area}")
-    for name in crates:
-        if name not in of:
-            sys.exit(f"pictures: {name} is in no area")
-    uses = {area: sorted({of[b] for name in names.split() for b in crates[name]} - {area}) for area, (_, _, _, names) in AREAS.items()}
-    asked = {(area, below) for area, belows in reduced(uses).items() for below in belows}
-    if asked != set(LINES):
-        sys.exit(f"pictures: lines to draw {sorted(asked - set(LINES))}, and to leave out {sorted(set(LINES) - asked)}")
+class Layout:
+    """Where the boxes of the areas are, and the ways of the lines between them: through the channels beside the columns, and from one
+    channel to the next through a gap between two boxes. Each line has a track of its own in each channel and gap, and a port of its own
+    at a box."""
+
+    def __init__(self, of):
+        self.boxes, self.column, self.tracks, self.ports = {}, {}, {}, {}
+        for c, column in enumerate(COLUMNS):
+            y = TOP_EDGE
+            for area in column:
+                high = 38 + 27 * -(-len(of[area]) // 2)
+                self.boxes[area], self.column[area] = (LEFT + c * (WIDE + CHANNEL), y, high), c
+                y += high + GAP
+        self.bottom = max(y + high for _, y, high in self.boxes.values())
+
+    def track(self, place, begin, step):
+        """The next free track of a channel or a gap."""
+        self.tracks[place] = self.tracks.get(place, 0) + 1
+        return begin + step * self.tracks[place]
+
+    def channel(self, c):
+        """A track in the channel to the right of column c, which is -1 left of them all."""
+        return self.track(("channel", c), LEFT + c * (WIDE + CHANNEL) + WIDE + 3, 5)
+
+    def gap(self, c, y):
+        """A track through column c, in the gap that is nearest to this height."""
+        gaps = [self.boxes[area][1] - GAP for area in COLUMNS[c]]
+        at = min(gaps, key=lambda it: abs(it - y))
+        return self.track(("gap", c, at), at + 2, 5)
+
+    def port(self, area, side):
+        """A place at a side of a box: x and y."""
+        x, y, high = self.boxes[area]
+        self.ports[area, side] = self.ports.get((area, side), 0) + 1
+        return (x if side == "left" else x + WIDE), y + min(high - 6, 6 + 11 * self.ports[area, side])
+
+    def way(self, area, below):
+        """The line from an area to one that it uses."""
+        a, b = self.column[area], self.column[below]
+        (x, y, high), (_, to, _) = self.boxes[area], self.boxes[below]
+        if a == b and to == y + high + GAP:
+            return [(x + WIDE // 2, y + high), (x + WIDE // 2, to)]
+        side, other = ("right", "right") if a == b else ("right", "left") if a < b else ("left", "right")
+        points = [self.port(area, side)]
+        end = self.port(below, other)
+        passed = list(range(a, b)) if a < b else list(range(a - 1, b - 1, -1)) if a > b else [a]
+        for i, c in enumerate(passed):
+            track = self.channel(c)
+            points.append((track, points[-1][1]))
+            last = i == len(passed) - 1
+            crossed = c + 1 if a < b else c
+            points.append((track, end[1] if last else self.gap(crossed, end[1])))
+        return points + [end]
 
 
 def crates_picture():
-    """The crates by areas: each area stands above those that it uses; lines that others imply are left out."""
-    crates = {name: below for name, below in read_crates().items() if not name.endswith("_tests")}
-    check_areas(crates)
-    p = Picture(1372, 1600, "The crates and what uses what")
-    for points in LINES.values():
-        p.arrow(points)
-    for area, (x, y, across, names) in AREAS.items():
-        names = names.split()
-        wide, rows = (304 if across == 2 else 960), -(-len(names) // across)
-        p.parts.append(f'<rect x="{x}" y="{y}" width="{wide}" height="{38 + 27 * rows}" rx="6" class="area"/>')
+    """The crates by areas; lines that others imply are left out."""
+    lines = areas.read_lines()
+    found = list(areas.all_faults())
+    of = {area: crates for area, (_, crates) in areas.read_areas(lines).items() if area != "Tests"}
+    found += [f"pictures: the area {area} has no column, or is no area" for area in set(of) ^ set(sum(COLUMNS, []))]
+    if found:
+        sys.exit("\n".join(found))
+    area_of = {crate: area for area, crates in of.items() for crate in crates}
+    uses = {area: sorted({area_of[it] for crate in crates for it in areas.uses_of(lines)[crate]} - {area}) for area, crates in of.items()}
+    layout = Layout(of)
+    p = Picture(LEFT + len(COLUMNS) * (WIDE + CHANNEL), layout.bottom + 40, "The crates and what uses what")
+    for area, belows in reduced(uses).items():
+        for below in belows:
+            p.arrow(layout.way(area, below))
+    for area, (x, y, high) in layout.boxes.items():
+        p.parts.append(f'<rect x="{x}" y="{y}" width="{WIDE}" height="{high}" rx="6" class="area"/>')
         p.text(x + 10, y + 21, area, "title", "start")
-        step = (wide - 12) / across
-        for i, name in enumerate(names):
+        step = (WIDE - 12) / 2
+        for i, name in enumerate(of[area]):
             kind = "quorum" if name.endswith("_defs") else "end" if name.endswith(("_laws", "_rows")) else "box"
-            left, top = x + 8 + step * (i % across), y + 32 + 27 * (i // across)
+            left, top = x + 8 + step * (i % 2), y + 32 + 27 * (i // 2)
             p.parts.append(f'<rect x="{left:g}" y="{top}" width="{step - 4:g}" height="23" rx="4" class="{kind}"/>')
             p.text(left + (step - 4) / 2, top + 16, name)
-    p.text(20, 1586, "Green: definitions. Yellow: laws and rows. Blue: code. In an area no crate uses one that comes after it. Lines that others imply are left out.", "small", "start")
+    p.text(
+        LEFT, layout.bottom + 26,
+        "Green: definitions. Yellow: laws and rows. Blue: code. An arrow leads from an area to one that it uses;"
+        " arrows that others imply are left out.",
+        "small", "start",
+    )
     p.write("crates")
 
 

@@ -17,5 +17,5 @@ awk -v room="$room" '
     match($0, /`[a-z]+\.story`/) { name = substr($0, RSTART + 1, RLENGTH - 2) }
 ' "$top/docs/TUTORIAL.md"
 for name in hello liar; do
-    "$top/story" assemble <"$room/$name.story" | "$top/story" draw >"$top/docs/pictures/$name.svg"
+    "$top/story" draw <"$room/$name.story" >"$top/docs/pictures/$name.svg"
 done
