@@ -10,7 +10,7 @@ use Rattle.node_defs.specs.Casts.{Cast, from_start}
 use Rattle.node_defs.specs.Nodes.{Node, opens}
 use Rattle.node_defs.specs.Snapshots.{from_snapshot, snap_line}
 use Rattle.node_traces.specs.Goes.{Outside, Goes}
-use Rattle.node_images.specs.Said.{SnapSaid, snapshot_said}
+use Rattle.node_opening.specs.Below.{SnapSaid, snapshot_said}
 use Rattle.node_script.specs.Words.{snapper}
 use Rattle.resume_laws.specs.Resuming.{IsResumed, SnapAlike}
 use Rattle.resume_laws.specs.Traces.{DidTheSameBy}

@@ -19,7 +19,7 @@ use Rattle.stop_laws.specs.Binds.{IsSilent}
 use Rattle.stop_laws.proofs.Binding.{binds_first}
 use Rattle.stop_laws.proofs.Rested.{ends-so}
 use Rattle.node_script.specs.Inputs.{HasNoKit}
-use Rattle.node_images.specs.Said.{SnapSaid, snapshot_said}
+use Rattle.node_opening.specs.Below.{SnapSaid, snapshot_said}
 use Rattle.node_opening.specs.Begins.{begins_by}
 use Rattle.node_opening.specs.Holding.{HoldsAs, HoldsBy}
 use Rattle.node_opening.specs.Opened.{Unopened, reading, opening}

@@ -20,7 +20,7 @@ use Rattle.node_traces.specs.Outside.{LinkSeen, SinkSeen, SourceSeen, SourceTook
 use Rattle.node_traces.specs.Service.{Asked}
 use Rattle.node_traces.specs.Goes.{Outside, Goes}
 use Rattle.opening_laws.specs.Reading.{BreaksReading}
-use Rattle.node_images.specs.Said.{SnapSaid, snap_said, snapshot_said}
+use Rattle.node_opening.specs.Below.{SnapSaid, snap_said, snapshot_said}
 use Rattle.node_opening.specs.Holding.{HoldsBy, IsPlaceOf, IsStartedOn, header_in}
 use Rattle.node_opening.specs.Opened.{Unopened, reading, opening}
 use Rattle.node_opening.specs.Reading.{Unread, no_memory, no_disk, no_header, no_place, no_entry}

@@ -7,10 +7,8 @@ use Rattle.node_defs.specs.Casts.{cast_of, hosted_by}
 use Rattle.node_defs.specs.Lines.{Stop, Ended, NoMemory, ReadFailed, BadLine, BadSnap}
 use Rattle.node_defs.specs.Snapshots.{IsSnapshotFor}
 use Rattle.node_traces.specs.Outside.{SourceSeen, SourceTook}
-use Rattle.node_images.specs.Said.{ArePartsOf, SnapSaid, snap_said, snapshot_said}
-use Rattle.node_images.specs.Judging.{IsSaidFor, IsSnapOf}
-use Rattle.node_images.specs.declared.snap.Snap.{Snap}
-use Rattle.node_input.specs.Reads.{TakesNone}
+use Rattle.node_opening.specs.Below.{ArePartsOf, SnapSaid, snap_said, snapshot_said, IsSaidFor, IsSnapOf, Snap}
+use Rattle.node_script.specs.Below.{TakesNone}
 use Rattle.node_opening.specs.Begins.{IsSnapFor}
 use Rattle.node_script.specs.Sources.{IsSeen}
 use Rattle.node_script.specs.Words.{StopsByDisk}

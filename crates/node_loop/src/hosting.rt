@@ -6,7 +6,7 @@ ghost use Rattle.node_defs.specs.Lives.{Found};
 ghost use Rattle.node_traces.specs.Outside.{SourceSeen};
 ghost use Rattle.node_traces.specs.Seen.{link_seen, sink_seen, source_seen};
 ghost use Rattle.node_traces.specs.Service.{Asked, HeardBy};
-ghost use Rattle.node_images.specs.Said.{SnapSaid};
+ghost use Rattle.node_opening.specs.Below.{SnapSaid};
 ghost use Rattle.node_opening.specs.Begins.{BeginsBy};
 ghost use Rattle.node_script.specs.Words.{stop as stop_of};
 ghost use Rattle.node_script.specs.Sources.{IsSeen, line_limit};
@@ -17,8 +17,7 @@ ghost use Rattle.node_loop.specs.Resumed.{NodeEnds};
 ghost use Rattle.node_loop.specs.Runs.{HasStopped};
 
 use crate::last_lines::tell;
-use node_images::Snap;
-use node_opening::open;
+use node_opening::{Snap, open};
 use node_script::{Front, Kit, Lines, Service, Stop, most_of_line, read_kit, run_script};
 use rp_base::{Disk, Link, Sink, Source};
 use std::alloc::Global;

@@ -9,8 +9,7 @@ ghost use Rattle.node_defs.specs.Lives.{Found};
 ghost use Rattle.node_traces.specs.Outside.{SourceSeen};
 ghost use Rattle.node_traces.specs.Seen.{link_seen, sink_seen, source_seen};
 ghost use Rattle.node_traces.specs.Service.{Asked, HeardBy};
-ghost use Rattle.node_images.specs.Said.{SnapSaid, snap_said};
-ghost use Rattle.node_images.specs.Judging.{IsSaidFor};
+ghost use Rattle.node_opening.specs.Below.{SnapSaid, snap_said, IsSaidFor};
 ghost use Rattle.node_opening.specs.Begins.{IsSnapFor};
 ghost use Rattle.node_script.specs.Words.{stop as stop_of};
 ghost use Rattle.node_script.specs.Words.{StopsByDisk};
@@ -22,9 +21,8 @@ ghost use Rattle.node_loop.specs.Resumed.{HasStoppedResuming, IsNoSnap, IsSnap, 
 
 use crate::hosting::run_node;
 use crate::last_lines::tell;
-use node_images::{Snap, judge_line};
-use node_input::{number_after, take_line};
-use node_script::{Front, Kit, Lines, Service, Stop, read_kit};
+use node_opening::{Snap, judge_line};
+use node_script::{Front, Kit, Lines, Service, Stop, number_after, read_kit, take_line};
 use rp_base::{Disk, Link, Sink, Source};
 use std::alloc::Global;
 

@@ -21,7 +21,7 @@ use Rattle.journal_rp.specs.Headers.{IsJournal}
 use Rattle.node_defs.specs.Lines.{Stop}
 use Rattle.node_defs.specs.Casts.{cast_of}
 use Rattle.node_service.specs.Causes.{stop_of_fault}
-use Rattle.node_images.specs.Said.{SnapSaid}
+use Rattle.restored_hosts.specs.Below.{SnapSaid}
 use Rattle.node_opening.specs.Holding.{HoldsAs, IsBegun, header_in}
 use Rattle.node_opening.specs.Reading.{Unread, no_disk, no_header}
 

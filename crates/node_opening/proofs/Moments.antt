@@ -13,7 +13,7 @@ use Rattle.journal_disk.proofs.Moments.{weaker}
 use Rattle.journal_disk.proofs.OnceRead.{reads_before}
 use Rattle.journal_disk.proofs.Shutting.{fewer_stand, found_images}
 use Rattle.node_defs.specs.Casts.{cast_of}
-use Rattle.node_images.specs.Said.{SnapSaid}
+use Rattle.restored_hosts.specs.Below.{SnapSaid}
 use Rattle.node_opening.specs.Begins.{head_in}
 use Rattle.node_opening.specs.Holding.{header_in}
 

@@ -13,7 +13,7 @@ use Rattle.node_traces.proofs.Going.{parts_go_on}
 use Rattle.opening_laws.specs.Opening.{HasToOpen, FailsAtOne, StopsBy, binds, left_to_open, stopped_by}
 use Rattle.opening_laws.proofs.Opened.{opens_in_order}
 use Rattle.node_service.specs.Answers.{Tells}
-use Rattle.node_images.specs.Said.{SnapSaid}
+use Rattle.restored_hosts.specs.Below.{SnapSaid}
 use Rattle.node_opening.specs.Begins.{begins_by}
 use Rattle.node_opening.specs.Holding.{HoldsBy}
 use Rattle.node_opening.specs.Opened.{Unopened, reading, opening}

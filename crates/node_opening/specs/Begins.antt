@@ -9,9 +9,7 @@ use Rattle.node_defs.specs.Casts.{Cast, Beginning, cast_of, from_start, hosted_b
 use Rattle.node_defs.specs.Lives.{Found}
 use Rattle.node_defs.specs.Snapshots.{IsSnapshotFor, from_snapshot}
 use Rattle.node_traces.specs.Stops.{Outset}
-use Rattle.node_images.specs.Said.{ArePartsOf, SnapSaid, snapshot_said}
-use Rattle.node_images.specs.Judging.{IsSnapOf}
-use Rattle.node_images.specs.declared.snap.Snap.{Snap}
+use Rattle.restored_hosts.specs.Below.{ArePartsOf, SnapSaid, snapshot_said, IsSnapOf, Snap}
 use Rattle.node_service.specs.Hosts.{AreHosts, Counts, Hosts, count_in}
 use Rattle.node_opening.specs.Holding.{IsPlaceOf}
 

@@ -12,7 +12,7 @@ use Rattle.journal_defs.specs.Crashes.{IsAtRest}
 use Rattle.journal_disk.specs.Disks.{StaysUntold}
 use Rattle.journal_rp.specs.Headers.{IsJournal}
 use Rattle.node_defs.specs.Casts.{cast_of, hosted_by}
-use Rattle.node_images.specs.Said.{SnapSaid}
+use Rattle.restored_hosts.specs.Below.{SnapSaid}
 
 -- what the header of their journal says after its magic
 abbrev pub header_in : Kit → Header

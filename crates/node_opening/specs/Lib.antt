@@ -1,3 +1,4 @@
+pub mod Below
 pub mod Begins
 pub mod Holding
 pub mod Opened

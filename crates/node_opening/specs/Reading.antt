@@ -12,7 +12,7 @@ use Rattle.node_defs.specs.Lives.{FitsFrom}
 use Rattle.opening_laws.specs.Reading.{after_reading, BreaksReading}
 use Rattle.node_service.specs.Hosts.{Hosts, AreHosts, Counts, count_in}
 use Rattle.node_defs.specs.Snapshots.{from_snapshot}
-use Rattle.node_images.specs.Said.{SnapSaid, snapshot_said}
+use Rattle.restored_hosts.specs.Below.{SnapSaid, snapshot_said}
 use Rattle.node_opening.specs.Begins.{AreKeyedBy, HasItsPlace, begins_by, head_in}
 use Rattle.node_opening.specs.Holding.{HoldsBy, IsOther, IsPlaceOf, IsStartedOn}
 

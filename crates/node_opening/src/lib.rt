@@ -11,4 +11,5 @@ mod reading;
 mod setting_out;
 mod starting;
 
+pub use restored_hosts::{Snap, judge_line};
 pub use opening::open;

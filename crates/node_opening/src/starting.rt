@@ -9,7 +9,7 @@ ghost use Rattle.journal_rp.specs.Headers.{header};
 ghost use Rattle.journal_rp.specs.Stages.{gate_of, len_of, version_of};
 ghost use Rattle.node_service.specs.Lines.{stop as stop_of};
 ghost use Rattle.node_service.specs.Causes.{HasDiskCause};
-ghost use Rattle.node_images.specs.Said.{SnapSaid};
+ghost use Rattle.restored_hosts.specs.Below.{SnapSaid};
 ghost use Rattle.node_opening.specs.Holding.{IsBegun, header_in};
 ghost use Rattle.node_opening.specs.Reading.{Unread};
 

@@ -1,3 +1,4 @@
+pub mod Below
 pub mod Ends
 pub mod Words
 pub mod Sources
