@@ -12,10 +12,9 @@ use Rattle.letter_laws.proofs.Addressees.{start_is_keyed}
 use Rattle.node_defs.specs.Casts.{Beginning, cast_of, from_start, setting_of}
 use Rattle.node_defs.specs.Nodes.{reads}
 use Rattle.node_defs.specs.Lines.{Stop, NoMemory}
-use Rattle.restored_hosts.specs.Below.{SnapSaid, Snap}
+use Rattle.restored_hosts.specs.Below.{SnapSaid, Snap, Hosts, AreHosts, Counts, count_in}
 use Rattle.restored_hosts.specs.Begun.{HasBegun}
 use Rattle.restored_hosts.specs.declared.hosts.Begun.{Begun}
-use Rattle.node_service.specs.Hosts.{Hosts, AreHosts, Counts, count_in}
 use Rattle.node_opening.specs.Begins.{BeginsBy, HasItsPlace, IsSetOut, IsSnapFor, begins_by, head_in}
 use Rattle.node_opening.specs.Holding.{IsBegun, IsPlaceOf}
 use Rattle.node_opening.specs.Reading.{HasRead, IsNotSetOut, too_little}

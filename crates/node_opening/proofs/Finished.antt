@@ -19,8 +19,7 @@ use Rattle.node_laws.proofs.Openings.{opens_sound}
 use Rattle.node_traces.specs.Goes.{Outside, Goes}
 use Rattle.opening_laws.specs.Opening.{left_to_open}
 use Rattle.opening_laws.proofs.EntriesRead.{each_reads_on}
-use Rattle.node_service.specs.Hosts.{Hosts, Running, cast_in, Counts, count_in}
-use Rattle.restored_hosts.specs.Below.{SnapSaid}
+use Rattle.restored_hosts.specs.Below.{Hosts, Running, cast_in, Counts, count_in, SnapSaid}
 use Rattle.node_opening.specs.Begins.{HasItsPlace, IsHeadIn, begins_by, head_in}
 use Rattle.node_opening.specs.Holding.{IsPlaceOf}
 use Rattle.node_opening.specs.Opened.{HasOpened}

@@ -20,8 +20,7 @@ use Rattle.journal_rp.specs.Answers.{HasCauses, IfNotAJournal, of_start}
 use Rattle.journal_rp.specs.Headers.{IsJournal}
 use Rattle.node_defs.specs.Lines.{Stop}
 use Rattle.node_defs.specs.Casts.{cast_of}
-use Rattle.node_service.specs.Causes.{stop_of_fault}
-use Rattle.restored_hosts.specs.Below.{SnapSaid}
+use Rattle.restored_hosts.specs.Below.{stop_of_fault, SnapSaid}
 use Rattle.node_opening.specs.Holding.{HoldsAs, IsBegun, header_in}
 use Rattle.node_opening.specs.Reading.{Unread, no_disk, no_header}
 

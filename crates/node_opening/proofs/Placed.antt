@@ -11,9 +11,8 @@ use Rattle.journal_rp.specs.declared.fault.JournalFault.{JournalFault}
 use Rattle.journal_rp.specs.declared.fault.JournalFault.TheVariants as faults
 use Rattle.journal_disk.proofs.Reported.{reported}
 use Rattle.node_defs.specs.Lines.{Stop, BadJournal}
-use Rattle.node_service.specs.Causes.{stop_of_fault}
+use Rattle.restored_hosts.specs.Below.{stop_of_fault, SnapSaid, Snap}
 use Rattle.snapshot_defs.specs.declared.Version.TheVariants as images
-use Rattle.restored_hosts.specs.Below.{SnapSaid, Snap}
 use Rattle.node_opening.specs.Begins.{IsSnapFor}
 use Rattle.node_opening.specs.Holding.{IsPlaceOf, header_in}
 use Rattle.node_opening.specs.Reading.{IsNotAt, disk_fails, other_place}

@@ -18,8 +18,7 @@ use Rattle.node_defs.specs.Lives.{FitsFrom}
 use Rattle.node_laws.proofs.Fitting.{fits-snoc}
 use Rattle.node_laws.proofs.Openings.{opens_sound}
 use Rattle.opening_laws.proofs.EntriesRead.{each_reads_on, one_more_counts}
-use Rattle.node_service.specs.Hosts.{Hosts, AreHosts, Counts, count_in}
-use Rattle.node_service.specs.Causes.{stop_of_fault}
+use Rattle.restored_hosts.specs.Below.{Hosts, AreHosts, Counts, count_in, stop_of_fault}
 use Rattle.node_opening.specs.Reading.{node_after, HasRead, HasReadOn, HasReadAll, RefusesEntry, forgets, strange, BreaksOff, lacks_memory, disk_failed, breaks}
 
 -- ---- one entry

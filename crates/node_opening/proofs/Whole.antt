@@ -16,8 +16,7 @@ use Rattle.node_defs.specs.Lines.{Stop}
 use Rattle.node_defs.specs.Casts.{Cast, cast_of, from_start}
 use Rattle.node_defs.specs.Nodes.{Node}
 use Rattle.opening_laws.specs.Reading.{BreaksReading, IsBadAt}
-use Rattle.node_service.specs.Hosts.{Hosts, Counts}
-use Rattle.restored_hosts.specs.Below.{SnapSaid}
+use Rattle.restored_hosts.specs.Below.{Hosts, Counts, SnapSaid}
 use Rattle.node_opening.specs.Begins.{AreKeyedBy, HasItsPlace, IsSetOut, begins_by, head_in}
 use Rattle.node_opening.specs.Holding.{HoldsBy, IsBegun, IsStartedOn, ReadsFrom}
 use Rattle.node_opening.proofs.Begun.{first-read}

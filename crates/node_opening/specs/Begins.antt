@@ -9,8 +9,7 @@ use Rattle.node_defs.specs.Casts.{Cast, Beginning, cast_of, from_start, hosted_b
 use Rattle.node_defs.specs.Lives.{Found}
 use Rattle.node_defs.specs.Snapshots.{IsSnapshotFor, from_snapshot}
 use Rattle.node_traces.specs.Stops.{Outset}
-use Rattle.restored_hosts.specs.Below.{ArePartsOf, SnapSaid, snapshot_said, IsSnapOf, Snap}
-use Rattle.node_service.specs.Hosts.{AreHosts, Counts, Hosts, count_in}
+use Rattle.restored_hosts.specs.Below.{ArePartsOf, SnapSaid, snapshot_said, IsSnapOf, Snap, AreHosts, Counts, Hosts, count_in}
 use Rattle.node_opening.specs.Holding.{IsPlaceOf}
 
 -- the hosted processes, their counts of entries, and the place: by the snapshot that is said, if one is

@@ -10,8 +10,7 @@ use Rattle.node_defs.specs.Lives.{Found}
 use Rattle.node_defs.specs.Nodes.{Node, Snapper, opens}
 use Rattle.node_traces.specs.Goes.{Outside, Goes}
 use Rattle.opening_laws.specs.Opening.{StopsBy}
-use Rattle.node_service.specs.Hosts.{Running, IsNode, cast_in}
-use Rattle.restored_hosts.specs.Below.{SnapSaid}
+use Rattle.restored_hosts.specs.Below.{Running, IsNode, cast_in, SnapSaid}
 use Rattle.node_opening.specs.Begins.{IsHeadIn, begins_by, head_in, outset}
 use Rattle.node_opening.specs.Holding.{HoldsBy}
 use Rattle.node_opening.specs.Reading.{Unread}

@@ -10,9 +10,8 @@ use Rattle.node_defs.specs.Casts.{Cast, Beginning, cast_of, from_start, entries_
 use Rattle.node_defs.specs.Nodes.{Node, takes_up}
 use Rattle.node_defs.specs.Lives.{FitsFrom}
 use Rattle.opening_laws.specs.Reading.{after_reading, BreaksReading}
-use Rattle.node_service.specs.Hosts.{Hosts, AreHosts, Counts, count_in}
+use Rattle.restored_hosts.specs.Below.{Hosts, AreHosts, Counts, count_in, SnapSaid, snapshot_said}
 use Rattle.node_defs.specs.Snapshots.{from_snapshot}
-use Rattle.restored_hosts.specs.Below.{SnapSaid, snapshot_said}
 use Rattle.node_opening.specs.Begins.{AreKeyedBy, HasItsPlace, begins_by, head_in}
 use Rattle.node_opening.specs.Holding.{HoldsBy, IsOther, IsPlaceOf, IsStartedOn}
 

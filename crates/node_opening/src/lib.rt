@@ -11,5 +11,5 @@ mod reading;
 mod setting_out;
 mod starting;
 
-pub use restored_hosts::{Snap, judge_line};
 pub use opening::open;
+pub use restored_hosts::{Snap, judge_line};

@@ -9,16 +9,13 @@ ghost use Rattle.journal_defs.specs.declared.Version.TheVariants.{One, Two};
 ghost use Rattle.snapshot_defs.specs.declared.Version.TheVariants as images;
 ghost use Rattle.journal_disk.specs.Disks.{HasLength, OnlyReads};
 ghost use Rattle.journal_rp.specs.Stages.{gate_of, len_of, version_of};
-ghost use Rattle.restored_hosts.specs.Below.{SnapSaid};
-ghost use Rattle.node_service.specs.Lines.{stop as stop_of};
-ghost use Rattle.node_service.specs.Causes.{HasDiskCause};
+ghost use Rattle.restored_hosts.specs.Below.{SnapSaid, stop as stop_of, HasDiskCause};
 ghost use Rattle.node_opening.specs.Begins.{IsSnapFor};
 ghost use Rattle.node_opening.specs.Holding.{IsPlaceOf, header_in};
 ghost use Rattle.node_opening.specs.Reading.{IsNotAt};
 
 use journal_rp::{Journal, Reading};
-use restored_hosts::{Snap, Version};
-use node_service::{Kit, Stop, stop_at};
+use restored_hosts::{Kit, Snap, Stop, Version, stop_at};
 use rp_base::{Disk, PidSet};
 
 // A set of processes as a header has it: bit p is process p.

@@ -9,19 +9,14 @@ ghost use Rattle.journal_entries.specs.Kept.{kept};
 ghost use Rattle.journal_rp.specs.Stages.{gate_of, len_of, version_of};
 ghost use Rattle.node_defs.specs.Casts.{Beginning, cast_of};
 ghost use Rattle.node_defs.specs.Nodes.{Node, reads_one, takes_up};
-ghost use Rattle.node_service.specs.Hosts.{AreHosts};
-ghost use Rattle.node_service.specs.Lines.{stop as stop_of};
-ghost use Rattle.node_service.specs.Causes.{HasDiskCause};
-ghost use Rattle.node_service.specs.Hosts.{count_in};
-ghost use Rattle.restored_hosts.specs.Below.{SnapSaid};
+ghost use Rattle.restored_hosts.specs.Below.{AreHosts, stop as stop_of, HasDiskCause, count_in, SnapSaid};
 ghost use Rattle.node_opening.specs.Begins.{BeginsBy};
 ghost use Rattle.node_opening.specs.Reading.{BreaksOff, HasRead, HasReadAll, HasReadJournal, HasReadOn, RefusesEntry, Unread};
 
 use crate::setting_out::set_out;
 use crate::starting::begin;
 use journal_rp::{EntryBytes, Journal, Reading};
-use restored_hosts::Snap;
-use node_service::{AbsorbFault, Counts, Entry, Event, Hosts, Kit, Stop, stop_at};
+use restored_hosts::{AbsorbFault, Counts, Entry, Event, Hosts, Kit, Snap, Stop, stop_at};
 use rp_base::Disk;
 use std::alloc::Global;
 

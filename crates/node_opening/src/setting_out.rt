@@ -4,9 +4,7 @@ ghost use Rattle.kit_defs.specs.Kits.{IsKit};
 ghost use Rattle.journal_defs.specs.Journals.{magic};
 ghost use Rattle.journal_disk.specs.Disks.{HasLength, OnlyReads};
 ghost use Rattle.journal_rp.specs.Stages.{gate_of, len_of, version_of};
-ghost use Rattle.restored_hosts.specs.Below.{SnapSaid};
-ghost use Rattle.node_service.specs.Lines.{stop as stop_of};
-ghost use Rattle.node_service.specs.Causes.{HasDiskCause};
+ghost use Rattle.restored_hosts.specs.Below.{SnapSaid, stop as stop_of, HasDiskCause};
 ghost use Rattle.node_defs.specs.Lines as plain;
 ghost use Rattle.node_opening.specs.Begins.{BeginsBy, IsSetOut, IsSnapFor};
 ghost use Rattle.node_opening.specs.Holding.{IsBegun};
@@ -14,8 +12,7 @@ ghost use Rattle.node_opening.specs.Reading.{IsNotSetOut};
 
 use crate::placing::go_to;
 use journal_rp::{Journal, Reading};
-use restored_hosts::{Snap, hosts_of};
-use node_service::{Counts, Hosts, Kit, Stop};
+use restored_hosts::{Counts, Hosts, Kit, Snap, Stop, hosts_of};
 use rp_base::Disk;
 use std::alloc::Global;
 

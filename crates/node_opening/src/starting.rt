@@ -7,14 +7,12 @@ ghost use Rattle.journal_defs.specs.Journals.{header_bytes};
 ghost use Rattle.journal_disk.specs.Disks.{HasLength, OnlyReads};
 ghost use Rattle.journal_rp.specs.Headers.{header};
 ghost use Rattle.journal_rp.specs.Stages.{gate_of, len_of, version_of};
-ghost use Rattle.node_service.specs.Lines.{stop as stop_of};
-ghost use Rattle.node_service.specs.Causes.{HasDiskCause};
-ghost use Rattle.restored_hosts.specs.Below.{SnapSaid};
+ghost use Rattle.restored_hosts.specs.Below.{stop as stop_of, HasDiskCause, SnapSaid};
 ghost use Rattle.node_opening.specs.Holding.{IsBegun, header_in};
 ghost use Rattle.node_opening.specs.Reading.{Unread};
 
 use journal_rp::{Header, Journal, Reading};
-use node_service::{Kit, Stop, stop_at};
+use restored_hosts::{Kit, Stop, stop_at};
 use rp_base::Disk;
 
 fn header_of(kit: &Kit) -> Header

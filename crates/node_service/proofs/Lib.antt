@@ -1,3 +1,4 @@
+pub mod Hosts
 pub mod Among
 pub mod Laws
 pub mod Nothing

@@ -7,8 +7,8 @@ mod silent;
 mod stopping;
 
 pub use node_hosts::{
-    AbsorbFault, AnySigner, Counts, Entry, Event, EventFault, Host, Hosted, Hosts, Kit, LinkKeys,
-    Running, Taken,
+    AbsorbFault, AnySigner, Core, Counts, Entry, Event, EventFault, Host, Hosted, Hosts, Kit,
+    LinkKeys, Running, Taken,
 };
 pub use node_text::{
     LinkFault, Stop, push_drop, push_expel, push_fault, push_host, push_note, push_recv,

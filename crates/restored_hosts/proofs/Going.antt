@@ -8,9 +8,7 @@ use Rattle.kit_defs.specs.Kits.{Kit}
 use Rattle.node_defs.specs.Casts.{cast_of, setting_of}
 use Rattle.sig_scheme.specs.declared.any_signer.AnySigner.{AnySigner}
 use Rattle.sig_scheme.specs.Signers.{used, total, signature}
-use Rattle.node_hosts.specs.Cores.{Hosted, IsCore, core_of, signer_of}
-use Rattle.node_hosts.specs.Numbers.{me_of}
-use Rattle.node_hosts.specs.Places.{IsHosted}
+use Rattle.node_service.specs.Hosts.{Hosted, IsCore, core_of, signer_of, me_of, IsHosted}
 use Rattle.node_images.specs.declared.judged.Judged.{Judged}
 use Rattle.node_images.specs.Said.{Part}
 use Rattle.node_images.specs.Judging.{IsJudged}

@@ -1,3 +1,4 @@
+pub mod Below
 mod Going
 mod Keyed
 mod Walked

@@ -12,11 +12,8 @@ use Rattle.group_defs.specs.Process.{Process}
 use Rattle.node_defs.specs.Casts.{Cast, cast_of, hosted_by, setting_of}
 use Rattle.node_defs.specs.Snapshots.{IsSnapshotFor, Snapshot}
 use Rattle.letter_laws.specs.Letters.{IsKeyed}
-use Rattle.node_hosts.specs.Counts.{count_in}
-use Rattle.node_hosts.specs.Hosts.{HasHosts}
-use Rattle.node_hosts.specs.declared.counts.Counts.{Counts}
-use Rattle.node_hosts.specs.declared.hosts.Hosts.{Hosts}
-use Rattle.node_hosts.proofs.Again.{all-here}
+use Rattle.node_service.specs.Hosts.{count_in, HasHosts, Counts, Hosts}
+use Rattle.node_service.proofs.Hosts.{all-here}
 use Rattle.pool_laws.proofs.Members.{Mem, list_any-mem}
 use Rattle.node_images.specs.declared.judged.Judged.{Judged}
 use Rattle.node_images.specs.Said.{ArePartsOf, Part, SnapSaid, no_image, part_of, snapshot_said}

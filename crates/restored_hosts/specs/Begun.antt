@@ -5,8 +5,7 @@ use Rattle.journal_defs.specs.declared.Version.{Version}
 use Rattle.node_defs.specs.Casts.{Beginning, cast_of, setting_of}
 use Rattle.node_defs.specs.Snapshots.{from_snapshot}
 use Rattle.letter_laws.specs.Letters.{IsKeyed}
-use Rattle.node_hosts.specs.Counts.{count_in}
-use Rattle.node_hosts.specs.Hosts.{AreHosts}
+use Rattle.node_service.specs.Hosts.{count_in, AreHosts}
 use Rattle.node_images.specs.Said.{SnapSaid, snapshot_said}
 use Rattle.restored_hosts.specs.declared.hosts.Begun.{Begun}
 

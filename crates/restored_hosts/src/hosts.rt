@@ -10,8 +10,8 @@ ghost use Rattle.node_images.specs.Judging.{AreJudged};
 ghost use Rattle.restored_hosts.specs.Begun.{HasBegun};
 
 use crate::again::go_on;
-use node_hosts::{Counts, Hosts};
 use node_images::{Judged, Kit};
+use node_service::{Counts, Hosts};
 use rp_base::NoMemory;
 use std::alloc::Global;
 

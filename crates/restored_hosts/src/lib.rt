@@ -6,5 +6,7 @@ mod again;
 mod hosts;
 
 pub use hosts::{Begun, hosts_of};
-pub use node_hosts::{Counts, Hosts};
 pub use node_images::{Judged, Kit, Snap, Version, judge_line};
+pub use node_service::{
+    AbsorbFault, Counts, Entry, Event, Hosts, Running, Service, Stop, push_host, stop_at,
+};

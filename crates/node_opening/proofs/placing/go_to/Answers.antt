@@ -3,7 +3,7 @@ use Rattle.std.specs.Bool.{OnFalse, OnTrue}
 use Rattle.journal_defs.specs.declared.Version.TheVariants.{One, Two}
 use Rattle.snapshot_defs.specs.declared.Version.TheVariants as images
 use Rattle.journal_rp.specs.Stages.{version_of}
-use Rattle.node_service.specs.Lines.{stop}
+use Rattle.restored_hosts.specs.Below.{stop}
 use Rattle.node_opening.proofs.Placed.{at-place, not-skipped, other-header, other-kind}
 use Rattle.node_opening.proofs.placing.go_to.Goals as goal
 

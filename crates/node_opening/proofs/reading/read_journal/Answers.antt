@@ -1,7 +1,7 @@
 use Rattle.std.proofs.lemmas.Result.{err_from_is_err_and}
 use Rattle.journal_disk.proofs.OnceRead.{reads_then}
 use Rattle.journal_rp.specs.Stages.{gate_of, version_of}
-use Rattle.node_service.specs.Lines.{stop}
+use Rattle.restored_hosts.specs.Below.{stop}
 use Rattle.node_opening.proofs.Whole.{not-set-out, read-all, read-broken}
 use Rattle.node_opening.proofs.reading.read_journal.Goals as goal
 

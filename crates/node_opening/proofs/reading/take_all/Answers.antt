@@ -3,8 +3,7 @@ use Rattle.std.proofs.lemmas.Result.{err_from_is_err_and}
 use Rattle.journal_disk.proofs.OnceRead.{reads_then}
 use Rattle.journal_rp.specs.Stages.{gate_of}
 use Rattle.node_defs.specs.Casts.{cast_of}
-use Rattle.node_service.specs.Lines.{stop}
-use Rattle.node_service.specs.Causes.{StopsByDisk}
+use Rattle.restored_hosts.specs.Below.{stop, StopsByDisk}
 use Rattle.node_opening.specs.Reading.{BreaksOff, HasRead, HasReadAll}
 use Rattle.node_opening.proofs.TakenUp.{read-ended, read-more}
 use Rattle.node_opening.proofs.reading.take_all.Goals as goal

@@ -4,7 +4,7 @@ use Rattle.journal_defs.specs.Entries.{Entry}
 use Rattle.journal_disk.specs.Disks.{HasLength, OnlyReads}
 use Rattle.journal_rp.specs.Stages.{gate_of, len_of, version_of}
 use Rattle.node_defs.specs.Casts.{Beginning, cast_of}
-use Rattle.node_service.specs.Hosts.{count_in}
+use Rattle.restored_hosts.specs.Below.{count_in}
 use Rattle.node_opening.specs.Reading.{HasRead}
 use Rattle.node_opening.proofs.reading.take_all.Given as goal
 

@@ -4,9 +4,9 @@ use Rattle.journal_entries.specs.declared.entry_bytes.EntryBytes.{EntryBytes}
 use Rattle.journal_entries.specs.Kept.{kept}
 use Rattle.journal_rp.specs.Stages.{gate_of}
 use Rattle.node_defs.specs.Casts.{cast_of}
-use Rattle.node_service.specs.Lines.{stop}
+use Rattle.restored_hosts.specs.Below.{stop}
 use Rattle.node_opening.specs.Reading.{node_after}
-use Rattle.node_service.proofs.Stopped.{by-no-disk}
+use Rattle.restored_hosts.proofs.Below.{by-no-disk}
 use Rattle.node_opening.proofs.TakenUp.{breaks-by, read-failed, read-on}
 use Rattle.node_opening.proofs.reading.take_next.Goals as goal
 

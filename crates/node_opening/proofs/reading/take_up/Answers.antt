@@ -7,7 +7,7 @@ use Rattle.journal_entries.specs.Views.{entry as entry_of}
 use Rattle.node_defs.specs.Lines.{BadJournal}
 use Rattle.node_defs.specs.Casts.{Cast, cast_of}
 use Rattle.node_defs.specs.Nodes.{reads_one, takes_up}
-use Rattle.node_service.specs.Hosts.{AreHosts}
+use Rattle.restored_hosts.specs.Below.{AreHosts}
 use Rattle.node_opening.specs.Reading.{RefusesEntry, forgets}
 use Rattle.node_opening.proofs.TakenUp.{not-taken}
 use Rattle.node_opening.proofs.reading.take_up.Goals as goal

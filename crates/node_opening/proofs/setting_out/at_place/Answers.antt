@@ -2,7 +2,7 @@ use Rattle.std.proofs.Common.{refl, subst, sym, Option, List, ℕ}
 use Rattle.std.specs.Prelude.{IfSome}
 use Rattle.std.proofs.lemmas.Result.{err_from_is_err_and}
 use Rattle.journal_rp.specs.Stages.{gate_of, version_of}
-use Rattle.node_service.specs.Lines.{stop}
+use Rattle.restored_hosts.specs.Below.{stop}
 use Rattle.node_opening.specs.Holding.{IsPlaceOf}
 use Rattle.node_opening.specs.Reading.{not_there, too_little}
 use Rattle.node_opening.proofs.Begun.{snap-set-out}

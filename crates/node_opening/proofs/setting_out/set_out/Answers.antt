@@ -1,8 +1,7 @@
 use Rattle.std.proofs.Common.{Option, subst, sym}
 use Rattle.std.specs.Prelude.{IfErr, IfOk}
 use Rattle.journal_rp.specs.Stages.{gate_of, version_of}
-use Rattle.restored_hosts.specs.Below.{SnapSaid, Snap}
-use Rattle.node_service.specs.Lines.{stop}
+use Rattle.restored_hosts.specs.Below.{SnapSaid, Snap, stop}
 use Rattle.node_opening.specs.Begins.{BeginsBy, IsSetOut}
 use Rattle.node_opening.specs.Reading.{IsNotSetOut}
 use Rattle.node_opening.proofs.Begun.{lacks-memory, none-begins, snap-begins}

@@ -3,7 +3,7 @@ use Rattle.journal_rp.specs.declared.journal.Journal.{Journal}
 use Rattle.journal_rp.specs.declared.journal.Reading.{Reading}
 use Rattle.journal_rp.specs.Headers.{header}
 use Rattle.journal_rp.specs.Stages.{gate_of, version_of}
-use Rattle.node_service.specs.Lines.{stop}
+use Rattle.restored_hosts.specs.Below.{stop}
 use Rattle.node_opening.proofs.Held.{begun-so, not-started}
 use Rattle.node_opening.proofs.starting.begin.Goals as goal
 

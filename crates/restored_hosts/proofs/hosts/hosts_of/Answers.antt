@@ -4,7 +4,7 @@ use Rattle.std.specs.Vec.Iter.{into_iter_items}
 use Rattle.std.proofs.lemmas.List.{nil_from_length}
 use Rattle.byte_defs.specs.Members.{has}
 use Rattle.node_defs.specs.Casts.{cast_of, hosted_by}
-use Rattle.node_hosts.specs.Hosts.{HasHosts}
+use Rattle.node_service.specs.Hosts.{HasHosts}
 use Rattle.node_images.specs.Judging.{AreJudged}
 use Rattle.restored_hosts.specs.Begun.{beginning}
 use Rattle.restored_hosts.proofs.Going.{numbered-so}
