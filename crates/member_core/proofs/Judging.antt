@@ -10,8 +10,7 @@ use Rattle.group_defs.specs.Process.{Setting}
 use Rattle.group_defs.specs.Hearing.{is_valid}
 use Rattle.stmt_codec.specs.Views.{signed}
 use Rattle.stmt_codec.specs.declared.own.OwnClaim.{OwnClaim}
-use Rattle.claim_hearing.specs.Hearing.{Shares}
-use Rattle.claim_hearing.specs.Settings.{as_setting}
+use Rattle.member_sending.specs.Below.{Shares, as_setting}
 use Rattle.pool_laws.proofs.Members.{Mem, All-mem, mem-drop}
 
 -- by the judge's rule and by the setting's

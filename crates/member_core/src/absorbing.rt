@@ -8,7 +8,7 @@ ghost use Rattle.group_defs.specs.Process.{Setting, Process};
 ghost use Rattle.group_defs.specs.Hearing as hearing;
 ghost use Rattle.stmt_codec.specs.Views.{signed};
 ghost use Rattle.stmt_codec.specs.Kept.{signatures_left};
-ghost use Rattle.claim_hearing.specs.Hearing.{Shares};
+ghost use Rattle.member_sending.specs.Below.{Shares};
 ghost use Rattle.group_defs.specs.Events as defs;
 ghost use Rattle.member_signing.specs.States.{event as event_of, IsOutcome};
 ghost use Rattle.member_core.specs.Cores.{IsCore, IsKeyless, Takes, left_of, me_of, signer_of};
@@ -17,8 +17,7 @@ ghost use Rattle.member_core.specs.Entries.{Agrees, Absorbs};
 use crate::attempts::attempt;
 use crate::journalled::Journalled;
 use crate::member::{Core, Keyless};
-use claim_hearing::is_signed;
-use member_sending::Judge;
+use member_sending::{Judge, is_signed};
 use rp_base::{NoMemory, Scheme, Tally};
 use stmt_codec::{Claim, Entry, EntrySignatures, Outcome, OwnClaim, read_statement};
 

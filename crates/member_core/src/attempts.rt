@@ -1,7 +1,7 @@
 //! An event that is taken in whole or not at all.
 ghost use Rattle.std.specs.Prelude.{◌≡◌, ◌-◌, ◌≤◌, [], length, true, IfOk, OnOk, OnErr, None};
 ghost use Rattle.group_defs.specs.Process.{Setting, Process, all_kinds};
-ghost use Rattle.claim_hearing.specs.Hearing.{Shares};
+ghost use Rattle.member_sending.specs.Below.{Shares};
 ghost use Rattle.member_sending.specs.Taking.{fault as fault_of};
 ghost use Rattle.member_signing.specs.States.{event as event_of, IsOutcome, IsReal, IsStateOf, MayAsk, Stays, Since};
 ghost use Rattle.member_sending.specs.Sends.{IsEmpty};

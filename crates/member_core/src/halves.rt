@@ -2,7 +2,7 @@
 ghost use Rattle.std.specs.Prelude.{◌≡◌, ◌-◌, ◌≤◌, length, true, IfOk, OnOk, None};
 ghost use Rattle.group_defs.specs.Process.{Setting, Process, all_kinds};
 ghost use Rattle.group_defs.specs.Events as defs;
-ghost use Rattle.claim_hearing.specs.Hearing.{Shares};
+ghost use Rattle.member_sending.specs.Below.{Shares};
 ghost use Rattle.member_signing.specs.States.{IsReal, IsStateOf, MayAsk, Stays, Since};
 ghost use Rattle.member_sending.specs.Taking.{handed, asks, InRange};
 ghost use Rattle.member_sending.specs.Sends.{IsEmpty};

@@ -1,3 +1,4 @@
+pub mod Below
 pub mod Began
 pub mod Sends
 pub mod Taking

@@ -1,6 +1,6 @@
 -- Frames that are handed over to processes.
 use Rattle.std.specs.Prelude.{◌≡◌, ℕ, List, [], map}
-use Rattle.reliable_mcast.specs.Packed.{Packing}
+use Rattle.member_taking.specs.Below.{Packing}
 
 -- each of the frames, with those to whom it goes
 abbrev pub each_to : List ℕ → List (List ℕ) → List (List ℕ × List ℕ)

@@ -8,8 +8,7 @@ ghost use Rattle.member_taking.specs.Inputs.{handed, InRange};
 ghost use Rattle.member_sending.specs.Sends.{IsEmpty};
 
 use crate::sends::{hand_over, is_nobody, others};
-use member_taking::{Input, ProcessState};
-use reliable_mcast::Frames;
+use member_taking::{Frames, Input, ProcessState};
 use rp_base::{NoMemory, Pid, PidSet};
 use stmt_codec::Sending;
 

@@ -9,8 +9,7 @@ ghost use Rattle.member_sending.specs.Sends.{IsEmpty};
 
 use crate::base::base_places;
 use crate::sends::{hand_over, is_nobody, others};
-use member_taking::ProcessState;
-use reliable_mcast::Frames;
+use member_taking::{Frames, ProcessState};
 use rp_base::NoMemory;
 use stmt_codec::Sending;
 

@@ -8,5 +8,4 @@ mod sends;
 
 pub use answers::send_answers;
 pub use bundle::send_bundle;
-pub use member_taking::{Input, Judge, admit, take_in};
-pub use reliable_mcast::Frames;
+pub use member_taking::{Frames, Input, Judge, admit, is_signed, take_in};

@@ -30,7 +30,7 @@ use Rattle.claim_index.specs.Kept.{empty_pool}
 use Rattle.own_place.specs.Owns.{Tells}
 use Rattle.member_state.specs.Parts.{has_update}
 use Rattle.member_state.specs.Parts.{all_signed}
-use Rattle.view_phases.specs.Phases.{IsIn}
+use Rattle.member_state.specs.Below.{IsIn}
 use Rattle.accounts.specs.Views.{account}
 use Rattle.member_laws.specs.Telling.{Begins}
 use Rattle.member_laws.proofs.Lawful.{installing_is_lawful}

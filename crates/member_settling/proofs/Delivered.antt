@@ -10,9 +10,8 @@ use Rattle.group_defs.specs.Settle.{delivery, limit}
 use Rattle.group_defs.specs.Events.{Delivers}
 use Rattle.group_defs.specs.Accounts.{Account, account_of}
 use Rattle.own_place.specs.declared.own.Own.{Own}
-use Rattle.view_phases.specs.declared.phases.Phase.{Phase}
-use Rattle.view_phases.specs.declared.phases.Phase.TheVariants as phases
-use Rattle.view_phases.specs.Phases.{IsIn}
+use Rattle.member_state.specs.Below.{Phase, IsIn}
+use Rattle.member_state.specs.Phases as phases
 use Rattle.accounts.specs.declared.account.Account as code
 use Rattle.accounts.specs.Views.{account}
 use Rattle.member_laws.specs.Lawful.{IsLawful}

@@ -1,3 +1,4 @@
+pub mod Below
 pub mod Bounded
 pub mod Decisions
 pub mod Deliveries

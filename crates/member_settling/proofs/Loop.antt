@@ -14,7 +14,7 @@ use Rattle.group_defs.specs.Settle.{deliverable, deliver, deliver_more, limit}
 use Rattle.pool_laws.proofs.Tests.{map-some}
 use Rattle.stmt_codec.specs.declared.events.Note as code
 use Rattle.own_place.specs.Owns.{HasDelivered}
-use Rattle.view_phases.specs.Delivering.{batch_in}
+use Rattle.member_state.specs.Below.{batch_in}
 use Rattle.member_state.specs.declared.state.ProcessState.{ProcessState}
 use Rattle.member_state.specs.Events.{note}
 use Rattle.member_state.specs.States.{IsStateOf, HasProcess}

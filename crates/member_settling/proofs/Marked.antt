@@ -10,7 +10,7 @@ use Rattle.pool_laws.proofs.Places.{length-snoc}
 use Rattle.claim_index.specs.Kept.{Holding}
 use Rattle.own_place.specs.declared.own.Own.{Own}
 use Rattle.member_state.specs.Parts.{Archived}
-use Rattle.view_phases.specs.declared.phases.Phase.{Phase}
+use Rattle.member_state.specs.Below.{Phase}
 use Rattle.accounts.specs.declared.account.Account as code
 use Rattle.accounts.specs.Views.{account}
 use Rattle.accounts.specs.Marks.{TellsSince, without_last}

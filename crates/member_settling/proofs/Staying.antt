@@ -9,11 +9,8 @@ use Rattle.group_defs.specs.Process.{Setting, Process, places_in}
 use Rattle.group_defs.specs.Events.{Note, Delivers, Installs, note_if}
 use Rattle.group_defs.specs.Settle.{install, leave, leave_by, Observing, OpenView, ClosingView}
 use Rattle.stmt_codec.specs.declared.events.Note as code
-use Rattle.view_phases.specs.declared.phases.DecidedView.{DecidedView}
-use Rattle.view_phases.specs.declared.phases.HaltedView.{HaltedView}
-use Rattle.view_phases.specs.declared.phases.Phase.{Phase}
-use Rattle.view_phases.specs.declared.phases.Phase.TheVariants as phases
-use Rattle.view_phases.specs.Phases.{IsIn, IsHalted, counts, decided}
+use Rattle.member_state.specs.Below.{DecidedView, HaltedView, Phase, IsIn, IsHalted, counts, decided}
+use Rattle.member_state.specs.Phases as phases
 use Rattle.member_state.specs.declared.state.ProcessState.{ProcessState}
 use Rattle.member_state.specs.Events.{note}
 use Rattle.member_state.specs.States.{IsStateOf}

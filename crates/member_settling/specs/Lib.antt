@@ -1,3 +1,5 @@
+pub mod Phases
+pub mod Below
 pub mod Reported
 pub mod Steps
 pub mod Begun

@@ -6,8 +6,7 @@ use Rattle.group_defs.specs.Process as defs
 use Rattle.group_defs.specs.Process.{Setting, Process, places_in}
 use Rattle.group_defs.specs.Settle.{deliverable, limit}
 use Rattle.stmt_codec.specs.declared.events.Note.{Note}
-use Rattle.view_phases.specs.Delivering.{batch_in}
-use Rattle.view_phases.specs.declared.phases.Phase.{Phase}
+use Rattle.member_state.specs.Below.{batch_in, Phase}
 use Rattle.member_state.specs.declared.state.ProcessState.{ProcessState}
 use Rattle.member_state.specs.States.{IsStateOf}
 use Rattle.member_settling.specs.Reported.{TellsDelivered, TellsInstalled}

@@ -3,17 +3,14 @@ ghost use Rattle.std.specs.Prelude.{◌≡◌, IsSome};
 ghost use Rattle.group_defs.specs.Process.{Setting, Process};
 ghost use Rattle.group_defs.specs.Certified.{readied};
 ghost use Rattle.group_defs.specs.Settle as defs;
-ghost use Rattle.claim_pool.specs.Certificates.{content_of};
+ghost use Rattle.member_state.specs.Below.{content_of, decides, IsIn};
 ghost use Rattle.member_state.specs.Parts.{HasKeys};
-ghost use Rattle.view_phases.specs.Phases.{decides, IsIn};
 ghost use Rattle.member_state.specs.Marks.{Stays};
 ghost use Rattle.member_state.specs.States.{IsStateOf};
 
-use claim_pool::{Certificate, Commit, Own, Pool};
-use member_state::{Before, ProcessState};
+use member_state::{Before, Certificate, Commit, Own, Phase, Pool, ProcessState};
 use rank_rules::{commit, decided};
 use rp_base::PidSet;
-use view_phases::Phase;
 use view_table::View;
 
 // The phase after the certified Ready: decided by it, where the phase is undecided and the Ready's update is possible; else the

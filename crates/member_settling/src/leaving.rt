@@ -19,7 +19,7 @@ ghost use Rattle.own_place.specs.Owns.{Tells};
 ghost use Rattle.member_state.specs.Parts.{has_update};
 ghost use Rattle.member_laws.specs.Telling.{Begins};
 ghost use Rattle.member_state.specs.Parts.{all_signed, IsRanged};
-ghost use Rattle.view_phases.specs.Phases.{counts, decision_of, IsIn};
+ghost use Rattle.member_state.specs.Below.{counts, decision_of, IsIn};
 ghost use Rattle.member_state.specs.Events.{note};
 ghost use Rattle.member_state.specs.Marks.{Stays, Since};
 ghost use Rattle.member_state.specs.States.{IsStateOf, IsReal};
@@ -27,16 +27,14 @@ ghost use Rattle.member_settling.specs.Steps.{in_phase, IsLeaving, CanLeave, Lea
 ghost use Rattle.member_settling.specs.Begun.{IsLast, HasShortLast};
 
 use arrayvec::ArrayVec;
-use claim_pool::{Own, Pool};
 use member_state::{
-    Account, Before, ClaimList, Delivered, Displaced, LeftView, Perceived, ProcessState,
-    SaidBefore, begin_view,
+    Account, Before, ClaimList, DecidedView, Decision, Delivered, Displaced, LeftView, Own,
+    Perceived, Phase, Pool, ProcessState, SaidBefore, Settled, begin_view,
 };
 use rp_base::{NoMemory, Pid, Update};
 use std::alloc::Global;
 use std::mem;
 use stmt_codec::Note;
-use view_phases::{DecidedView, Decision, Phase, Settled};
 use view_table::{View, next};
 
 // How many places count as delivered: a member's own, and the cut of one who is no member.

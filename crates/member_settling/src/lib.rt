@@ -6,4 +6,7 @@ mod delivering;
 mod leaving;
 mod settling;
 
+pub use member_state::{
+    ClaimList, Conflicts, Decision, Phase, Pool, ProcessState, SaidBefore, pair_at,
+};
 pub use settling::settle;

@@ -7,10 +7,8 @@ use Rattle.group_defs.specs.Signing.{Signer, signs}
 use Rattle.group_defs.specs.Values.{length_said}
 use Rattle.rule_laws.proofs.Signable.{may-parts}
 use Rattle.own_place.specs.Noting.{is_end}
-use Rattle.view_phases.specs.Phases.{IsIn, IsClosing}
-use Rattle.view_phases.specs.declared.phases.Phase.{Phase}
-use Rattle.view_phases.specs.declared.phases.Phase.TheVariants.{Observing, OpenView, ClosingView, DecidedView, HaltedView}
-use Rattle.view_phases.specs.declared.phases.ClosingView.{ClosingView as Closing}
+use Rattle.member_state.specs.Below.{IsIn, IsClosing, Phase, ClosingView as Closing}
+use Rattle.member_state.specs.Phases.{Observing, OpenView, ClosingView, DecidedView, HaltedView}
 use Rattle.member_signing.specs.Signed.{IsUndecided}
 use Rattle.member_signing.proofs.Ending.{Precedes, end-kept, observer-signs-none, one-end, phase-kept, undecided}
 

@@ -16,7 +16,7 @@ use Rattle.own_place.specs.Signed.{Signed}
 use Rattle.claim_index.specs.Keys.{slot_key, same_slot_key}
 use Rattle.std.specs.List.{list_any}
 use Rattle.claim_lists.specs.Pairs.{Pairing}
-use Rattle.view_phases.specs.Phases.{IsIn}
+use Rattle.member_state.specs.Below.{IsIn}
 use Rattle.member_state.specs.Parts.{Keeps, has_update}
 use Rattle.accounts.specs.Views.{account}
 use Rattle.member_laws.proofs.Lawful.{signing_is_lawful}

@@ -8,8 +8,8 @@ use Rattle.group_defs.specs.Due.{may_sign}
 use Rattle.group_defs.specs.Signing.{Signing, own_claim}
 use Rattle.stmt_codec.specs.Views.{signed}
 use Rattle.stmt_codec.specs.declared.own.OwnClaim.{OwnClaim}
-use Rattle.view_phases.specs.declared.phases.Phase.{Phase}
-use Rattle.view_phases.specs.declared.phases.Phase.TheVariants.{Observing, OpenView, ClosingView, DecidedView, HaltedView}
+use Rattle.member_state.specs.Below.{Phase}
+use Rattle.member_state.specs.Phases.{Observing, OpenView, ClosingView, DecidedView, HaltedView}
 use Rattle.member_state.specs.declared.state.ProcessState.{ProcessState}
 use Rattle.member_state.specs.States.{IsStateOf}
 

@@ -12,16 +12,15 @@ ghost use Rattle.stmt_codec.specs.Views.{stmt, signed, claim as claim_of};
 ghost use Rattle.claim_index.specs.Kept.{claim_bytes};
 ghost use Rattle.own_place.specs.Owns.{Tells};
 ghost use Rattle.own_place.specs.Signed.{has_slot};
-ghost use Rattle.view_phases.specs.Phases.{IsIn};
+ghost use Rattle.member_state.specs.Below.{IsIn};
 ghost use Rattle.member_state.specs.Marks.{Stays};
 ghost use Rattle.member_state.specs.States.{IsStateOf, IsReal};
 ghost use Rattle.member_signing.specs.Signed.{IsUndecided, IsOwed, IsReadable};
 
 use claim_lists::ClaimList;
-use member_state::{Before, ProcessState};
+use member_state::{Before, Own, Phase, Pool, ProcessState};
 use rp_base::NoMemory;
 use stmt_codec::{Claim, OwnClaim, Statement, read_statement, spelled_len};
-use view_phases::{Own, Phase, Pool};
 use view_table::View;
 
 // The claim in these bytes.

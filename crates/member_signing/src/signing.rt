@@ -7,7 +7,7 @@ ghost use Rattle.group_defs.specs.Process as defs;
 ghost use Rattle.group_defs.specs.Due.{least_due};
 ghost use Rattle.group_defs.specs.Signing as signing;
 ghost use Rattle.stmt_codec.specs.Views.{signed as signed_by};
-ghost use Rattle.view_phases.specs.Phases.{IsIn};
+ghost use Rattle.member_state.specs.Below.{IsIn};
 ghost use Rattle.due_statements.specs.Standings.{kind_of, Stands, IsSeated};
 ghost use Rattle.member_state.specs.Marks.{Stays};
 ghost use Rattle.member_state.specs.States.{IsStateOf, IsReal};
@@ -16,11 +16,10 @@ ghost use Rattle.member_signing.specs.Signed.{IsUndecided, IsOwed, IsSigned};
 use crate::making::make;
 use crate::putting::put;
 use due_statements::{KINDS, Kind, Standing, due};
-use member_state::{Before, ProcessState};
+use member_state::{Before, Phase, ProcessState};
 use rp_base::{GroupId, NoMemory, Signer, Tally};
 use std::alloc::Global;
 use stmt_codec::OwnClaim;
-use view_phases::Phase;
 
 // Whether the view is decided.
 fn is_decided(phase: &Phase) -> bool

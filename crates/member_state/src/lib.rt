@@ -7,10 +7,12 @@ mod marks;
 mod state;
 
 pub use accounts::{Account, Delivered};
-pub use ending_rules::{Perceived, perceive};
+pub use ending_rules::{Certificate, Commit, Perceived, perceive};
 pub use left::{LeftView, SaidBefore};
 pub use marks::Before;
 pub use own_moves::{begin_view, deliver_batch};
-pub use reliable_mcast::{ClaimList, Conflicts, Displaced};
+pub use reliable_mcast::{ClaimList, Conflicts, Displaced, Frames};
 pub use state::{ProcessState, pair_at};
-pub use view_phases::{PhaseWord, counts_of};
+pub use view_phases::{
+    DecidedView, Decision, Own, Phase, PhaseWord, Pool, Settled, counts_of, deliverable,
+};

@@ -6,8 +6,8 @@ mod inputs;
 mod refusals;
 mod taking_in;
 
-pub use claim_hearing::Judge;
+pub use claim_hearing::{Judge, is_signed};
 pub use inputs::Input;
-pub use member_state::{Delivered, ProcessState};
+pub use member_state::{Delivered, Frames, ProcessState};
 pub use refusals::admit;
 pub use taking_in::take_in;

@@ -9,7 +9,7 @@ use Rattle.message_defs.specs.Packing.{Signed}
 use Rattle.group_defs.specs.Process.{Setting, Pool, Left, Process}
 use Rattle.image_defs.specs.Images.{left_by}
 use Rattle.state_image.specs.States.{IsRanged, IsStateOf, ProcessState, claims_of}
-use Rattle.member_state.proofs.Ranges.{claims-once, statement-once}
+use Rattle.member_settling.proofs.Below.{claims-once, statement-once}
 use Rattle.state_image.specs.Commits.{claims_as}
 use Rattle.state_image.specs.Ranges.{ArePairsRanged, IsCommit}
 use Rattle.state_image.proofs.Walks.{all-parts}

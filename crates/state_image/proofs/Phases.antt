@@ -2,11 +2,8 @@
 use Rattle.std.proofs.Common.{◌≡◌, None, false, refl}
 use Rattle.group_defs.specs.Process.{Process}
 use Rattle.group_defs.specs.Settle as defs
-use Rattle.view_phases.specs.declared.phases.DecidedView.{DecidedView as Decided}
-use Rattle.view_phases.specs.declared.phases.HaltedView.{HaltedView as Halted}
-use Rattle.view_phases.specs.declared.phases.Phase.{Phase}
-use Rattle.view_phases.specs.declared.phases.Phase.TheVariants.{Observing, OpenView, ClosingView, DecidedView, HaltedView}
-use Rattle.view_phases.specs.Phases.{IsIn}
+use Rattle.member_settling.specs.Below.{DecidedView as Decided, HaltedView as Halted, Phase, IsIn}
+use Rattle.member_settling.specs.Phases.{Observing, OpenView, ClosingView, DecidedView, HaltedView}
 use Rattle.member_settling.proofs.Phases.{undecided, observing, open_, closing, runs}
 
 -- who is in no phase that is decided has decided nothing

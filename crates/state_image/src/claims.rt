@@ -11,13 +11,12 @@ ghost use Rattle.state_image.specs.States.{IsRanged};
 ghost use Rattle.state_image.specs.Pairs.{first_above};
 ghost use Rattle.state_image.specs.Ranges.{ArePairsRanged};
 
-use member_state::{Conflicts, pair_at};
+use member_settling::{Conflicts, Pool, pair_at};
 use reliable_mcast::Archive;
 use rp_base::{NoMemory, Pid};
 use snapshot_rp::KeptClaim;
 use std::alloc::Global;
 use stmt_codec::Claim;
-use view_phases::Pool;
 
 /// Puts a copy of the claim behind the others.
 pub(crate) fn keep(

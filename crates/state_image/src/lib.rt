@@ -7,6 +7,6 @@ mod reported;
 mod signed;
 mod whole;
 
-pub use member_state::ProcessState;
+pub use member_settling::ProcessState;
 pub use snapshot_rp::Image;
 pub use whole::image_in;

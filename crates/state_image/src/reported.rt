@@ -2,15 +2,15 @@
 ghost use Rattle.std.specs.Prelude.{◌≡◌, map, Some, IfOk};
 ghost use Rattle.group_defs.specs.Process.{Process};
 ghost use Rattle.stmt_codec.specs.Views.{report};
-ghost use Rattle.view_phases.specs.Phases.{IsIn, decision_of};
+ghost use Rattle.member_settling.specs.Below.{IsIn, decision_of};
 ghost use Rattle.accounts.specs.Views.{account as account_as};
 ghost use Rattle.snapshot_rp.specs.Views.{delivered, perceived};
 
 use accounts::{Account, Delivered, Payload, copy_account};
+use member_settling::{Decision, Phase};
 use rp_base::{NoMemory, Update, Value};
 use std::alloc::Global;
 use std::mem;
-use view_phases::{Decision, Phase};
 
 /// What a process tells of itself, without its number and its views.
 #[derive(Drop)]

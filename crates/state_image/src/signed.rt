@@ -6,7 +6,7 @@ ghost use Rattle.group_defs.specs.Process.{Setting, Process};
 ghost use Rattle.state_image.specs.States.{IsReal, IsStateOf, claims_of};
 
 use crate::claims::keep;
-use member_state::{ClaimList, ProcessState, SaidBefore};
+use member_settling::{ClaimList, ProcessState, SaidBefore};
 use rp_base::NoMemory;
 use snapshot_rp::KeptClaim;
 use std::alloc::Global;

@@ -9,7 +9,7 @@ use crate::claims::{conflicts_in, heard_before, heard_in};
 use crate::left::left_views;
 use crate::reported::{decision_in, is_halted, reported_in};
 use crate::signed::signed_in;
-use member_state::ProcessState;
+use member_settling::ProcessState;
 use rp_base::NoMemory;
 use snapshot_rp::Image;
 use std::alloc::Global;

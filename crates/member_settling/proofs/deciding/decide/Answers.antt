@@ -1,6 +1,5 @@
 use Rattle.std.proofs.Common.{sym, subst}
-use Rattle.view_phases.specs.declared.phases.Phase.{Phase}
-use Rattle.view_phases.specs.Phases.{IsIn}
+use Rattle.member_state.specs.Below.{Phase, IsIn}
 use Rattle.member_settling.proofs.Changed.{decides-state}
 use Rattle.member_settling.proofs.deciding.decide.Goals as goal
 

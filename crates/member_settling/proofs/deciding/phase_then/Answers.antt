@@ -4,8 +4,7 @@ use Rattle.group_defs.specs.Views.{View}
 use Rattle.group_defs.specs.Settle.{decided_by}
 use Rattle.rp_base.specs.Views.{value}
 use Rattle.stmt_codec.specs.Views.{report}
-use Rattle.claim_pool.specs.Certificates.{content_of}
-use Rattle.view_phases.specs.Phases.{decides}
+use Rattle.member_state.specs.Below.{content_of, decides}
 use Rattle.member_settling.proofs.Decisions.{ready-certified, ready-decides}
 use Rattle.member_settling.proofs.deciding.phase_then.Goals as goal
 

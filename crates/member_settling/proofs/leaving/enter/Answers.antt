@@ -9,7 +9,7 @@ use Rattle.own_place.specs.declared.own.Own.{Own}
 use Rattle.member_state.specs.Parts.{all_signed}
 use Rattle.accounts.specs.Views.{account}
 use Rattle.member_laws.specs.Telling.{Begins}
-use Rattle.view_phases.specs.Phases.{decision_of}
+use Rattle.member_state.specs.Below.{decision_of}
 use Rattle.member_state.specs.declared.left.LeftView.{LeftView}
 use Rattle.member_state.specs.declared.left.SaidBefore.{SaidBefore}
 use Rattle.member_state.specs.declared.state.ProcessState.{ProcessState}

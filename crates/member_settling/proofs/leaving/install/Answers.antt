@@ -3,7 +3,7 @@ use Rattle.std.specs.Result.{result_ok}
 use Rattle.group_defs.specs.Views.{next}
 use Rattle.rp_base.specs.declared.updates.Update.{Update}
 use Rattle.rp_base.specs.Views.{update}
-use Rattle.view_phases.specs.Phases.{decision_of}
+use Rattle.member_state.specs.Below.{decision_of}
 use Rattle.member_settling.proofs.Begun.{behind-none, behind-some}
 use Rattle.member_settling.proofs.Marked.{since-here}
 use Rattle.member_settling.proofs.leaving.install.Goals as goal

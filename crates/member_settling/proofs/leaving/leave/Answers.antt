@@ -1,7 +1,6 @@
 use Rattle.std.proofs.Common.{sym, ap, subst}
 use Rattle.group_defs.specs.Settle.{leave}
-use Rattle.view_phases.specs.declared.phases.Phase.{Phase}
-use Rattle.view_phases.specs.Phases.{IsIn}
+use Rattle.member_state.specs.Below.{Phase, IsIn}
 use Rattle.member_state.specs.States.{IsStateOf}
 use Rattle.member_settling.specs.Steps.{in_phase}
 use Rattle.member_settling.proofs.Marked.{since-here, stays-in}

@@ -3,10 +3,8 @@ use Rattle.std.specs.Prelude.{OnOk}
 use Rattle.std.proofs.Math.Logic.{∥∥₁_map}
 use Rattle.group_defs.specs.Process.{Setting, Process}
 use Rattle.group_defs.specs.Settle.{install, leave}
-use Rattle.view_phases.specs.declared.phases.Decision.{Decision}
-use Rattle.view_phases.specs.declared.phases.DecidedView.{DecidedView}
-use Rattle.view_phases.specs.declared.phases.Phase.TheVariants as phases
-use Rattle.view_phases.specs.Phases.{decision_of}
+use Rattle.member_state.specs.Below.{Decision, DecidedView, decision_of}
+use Rattle.member_state.specs.Phases as phases
 use Rattle.member_state.specs.declared.state.ProcessState.{ProcessState}
 use Rattle.member_state.specs.States.{IsStateOf}
 use Rattle.member_settling.specs.Steps.{in_phase, IsLeaving, Leaves}

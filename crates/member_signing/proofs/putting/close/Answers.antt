@@ -3,8 +3,7 @@ use Rattle.message_defs.specs.Statements.{Statement, view_of}
 use Rattle.group_defs.specs.Due.{may_sign}
 use Rattle.group_defs.specs.Signing.{signs}
 use Rattle.stmt_codec.specs.Views.{stmt}
-use Rattle.view_phases.specs.Phases.{IsIn}
-use Rattle.view_phases.specs.declared.phases.Phase.{Phase}
+use Rattle.member_state.specs.Below.{IsIn, Phase}
 use Rattle.member_signing.specs.Signed.{IsUndecided}
 use Rattle.member_signing.proofs.Open.{end-reported, not-end, other-stays}
 use Rattle.member_signing.proofs.putting.close.Goals as goal

@@ -1,6 +1,5 @@
 use Rattle.std.proofs.Common.{subst}
-use Rattle.view_phases.specs.Phases.{IsIn}
-use Rattle.view_phases.specs.declared.phases.Phase.{Phase}
+use Rattle.member_state.specs.Below.{IsIn, Phase}
 use Rattle.member_signing.proofs.Open.{end-of-view, end-where-open}
 use Rattle.member_signing.proofs.putting.closed.Goals as goal
 

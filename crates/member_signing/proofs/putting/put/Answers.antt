@@ -10,8 +10,7 @@ use Rattle.group_defs.specs.Signing.{own_claim, signs}
 use Rattle.stmt_codec.specs.Views.{claim}
 use Rattle.own_place.specs.Owns.{Tells}
 use Rattle.own_place.specs.declared.own.Own.{Own}
-use Rattle.view_phases.specs.Phases.{IsIn}
-use Rattle.view_phases.specs.declared.phases.Phase.{Phase}
+use Rattle.member_state.specs.Below.{IsIn, Phase}
 use Rattle.member_laws.proofs.Ranges.{due_is_in_range}
 use Rattle.member_signing.proofs.Open.{none-decided}
 use Rattle.member_signing.proofs.Seated.{fresh, orders-length}

@@ -1,7 +1,5 @@
 use Rattle.std.proofs.Common.{Some, sym, ap, ◌∙◌, subst}
-use Rattle.view_phases.specs.declared.phases.Decision.{Decision}
-use Rattle.view_phases.specs.declared.phases.Phase.{Phase}
-use Rattle.view_phases.specs.Phases.{IsIn, decision_of}
+use Rattle.member_settling.specs.Below.{Decision, Phase, IsIn, decision_of}
 use Rattle.state_image.proofs.Phases.{none-decided}
 use Rattle.state_image.proofs.reported.decision_in.Goals as goal
 

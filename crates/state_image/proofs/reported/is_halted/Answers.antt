@@ -1,6 +1,5 @@
 use Rattle.std.proofs.Common.{subst}
-use Rattle.view_phases.specs.declared.phases.Phase.{Phase}
-use Rattle.view_phases.specs.Phases.{IsIn}
+use Rattle.member_settling.specs.Below.{Phase, IsIn}
 use Rattle.member_settling.proofs.Phases.{halted}
 use Rattle.state_image.proofs.Phases.{not-halted}
 use Rattle.state_image.proofs.reported.is_halted.Goals as goal

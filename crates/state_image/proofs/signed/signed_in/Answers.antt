@@ -3,7 +3,7 @@ use Rattle.std.specs.List.{AllByRecursion}
 use Rattle.std.proofs.Math.Logic.{∥∥₁_elim}
 use Rattle.message_defs.specs.Spelling.{IsClaim}
 use Rattle.state_image.specs.States.{claims_of}
-use Rattle.member_state.proofs.Ranges.{claims-once}
+use Rattle.member_settling.proofs.Below.{claims-once}
 use Rattle.state_image.proofs.Parts.{signed-parts}
 use Rattle.state_image.proofs.signed.signed_in.Goals as goal
 

@@ -5,7 +5,7 @@ use Rattle.std.proofs.Props.{props}
 use Rattle.group_defs.specs.Accounts.{Account}
 use Rattle.group_defs.specs.Process.{Pool}
 use Rattle.image_defs.specs.Images.{by_signer}
-use Rattle.member_state.proofs.Ranges.{claims-once}
+use Rattle.member_settling.proofs.Below.{claims-once}
 use Rattle.member_settling.proofs.Real.{order, ranged}
 use Rattle.state_image.proofs.Parts.{commits-once, commits-ranged, left-by, pairs-once, pairs-ranged, previous-ranged}
 use Rattle.state_image.proofs.whole.image_in.Goals as goal

@@ -1,6 +1,6 @@
 use Rattle.std.proofs.Common.{◌∙◌, ap, sym, subst, arith, is_none}
 use Rattle.group_defs.specs.Events.{Turn, after, outcome, journalled}
-use Rattle.claim_hearing.specs.Hearing.{Shares}
+use Rattle.member_sending.specs.Below.{Shares}
 use Rattle.stmt_codec.specs.Kept.{signatures_left}
 use Rattle.member_signing.specs.States.{event, IsStateOf}
 use Rattle.member_core.specs.Outcomes.{HasTaken}

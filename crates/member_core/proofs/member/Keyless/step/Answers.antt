@@ -1,6 +1,6 @@
 use Rattle.std.proofs.Common.{◌-◌, ap, sym, subst, is_none}
 use Rattle.group_defs.specs.Events.{Turn, after}
-use Rattle.claim_hearing.specs.Hearing.{Shares}
+use Rattle.member_sending.specs.Below.{Shares}
 use Rattle.member_signing.specs.States.{event, IsStateOf}
 use Rattle.member_core.specs.Outcomes.{HasTaken}
 use Rattle.member_core.proofs.Back.{real-so}
