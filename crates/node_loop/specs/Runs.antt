@@ -1,4 +1,8 @@
 -- The run of a node, from its kit to its stop, by what input, link, output and disk were before it and are after it.
+-- Names here (* for this crate alone):
+--   opened_on*, snaps_from*, snaps_of*
+--   what a crash leaves: MayBeLeft*, LeavesOnceOpened*
+--   a run: HasRunFrom*, HasRun*, HasNotOpenedBy*, HasNotOpened*, HasRead*, HasStopped*
 use Rattle.std.specs.Prelude.{◌≡◌, ◌⊎◌, ℕ, List, [], Option, Some, None, IsSome, is_some}
 use Rattle.kit_defs.specs.Kits.{Kit}
 use Rattle.journal_defs.specs.declared.Version.{Version}

@@ -1,4 +1,7 @@
 -- How far a journal was read, and why its reading ends.
+-- Names here (* for this crate alone):
+--   what was read: node_after*, HasRead*, HasReadOn*, HasReadAll*, HasReadJournal*
+--   why not: RefusesEntry*, BreaksOff*, HasNoPlace*, IsNotAt*, IsNotSetOut*, BreaksFrom*, BreaksBy*, Unread
 use Rattle.std.specs.Prelude.{◌≡◌, ◌≢◌, ℕ, ◌+◌, Bool, true, false, List, [], ◌∷◌, ◌++◌, length, take, Option, Some, None, IfSome, IsSome}
 use Rattle.std.specs.Option.{IsSomeAnd}
 use Rattle.kit_defs.specs.Kits.{Kit}

@@ -1,4 +1,7 @@
 -- A node that begins by a snapshot, compared with one that reads the whole journal.
+-- Names here (* for this crate alone):
+--   one beside the other: IsSnapshotAfter, one_line_on*, IsResumed, after_these*
+--   the law: begun*, run_of*, calls_of*, GoesAlikeBy*, GoesAlike*, SnapAlike, SnapsAreAlike*, ResumesAsNodeBy*, ResumesAsNode*
 use Rattle.std.specs.Prelude.{◌≡◌, ℕ, ◌+◌, List, ◌++◌, length, option_map, Option, Some, None, IsTrue}
 use Rattle.byte_defs.specs.Members.{has}
 use Rattle.group_defs.specs.Views.{IsView}
