@@ -14,7 +14,7 @@ work=$(mktemp -d)
 trap 'rm -rf "$work"' EXIT
 git -C "$top" archive HEAD crates crates.txt HANDLES | tar -x -C "$work"
 echo 'misuse_audit: rp_base audit_core' >> "$work/crates.txt"
-echo 'misuse: rp_base stmt_codec view_table claim_index pool_values claim_pool view_phases rp_devices journal_rp member_core hosted_core node_turns chain_check store_records kv_service' >> "$work/crates.txt"
+echo 'misuse: rp_base stmt_codec member_events view_table claim_index pool_values claim_pool view_phases rp_devices journal_rp member_core hosted_core node_turns chain_check store_records kv_service' >> "$work/crates.txt"
 mkdir -p "$work/crates/misuse/src" "$work/crates/misuse_audit/src"
 failed=0
 
@@ -210,8 +210,8 @@ fn main() {}' borrow-e0382
 # ---- turns
 
 misuse 'a synced turn that nobody synced' 'use journal_rp::{Synced, Turn};
+use member_events::Outcome;
 use std::marker::PhantomData;
-use stmt_codec::Outcome;
 
 fn forged(bytes: Vec<u8>, outcome: Outcome) -> Turn<Synced, ()> {
     Turn {

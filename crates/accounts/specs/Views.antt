@@ -5,7 +5,7 @@ use Rattle.group_defs.specs.Process as defs
 use Rattle.group_defs.specs.Accounts as reported
 use Rattle.rp_base.specs.declared.updates.Update.{Update}
 use Rattle.rp_base.specs.Views.{update}
-use Rattle.stmt_codec.specs.declared.events.Delivered.{Delivered}
+use Rattle.member_events.specs.declared.events.Delivered.{Delivered}
 use Rattle.accounts.specs.declared.account.Account.{Account}
 
 -- a message that was delivered, with its place and its payload

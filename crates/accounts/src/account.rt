@@ -1,6 +1,6 @@
+use member_events::{Delivered, Payload};
 use rp_base::{Pid, Update};
 use std::mem;
-use stmt_codec::{Delivered, Payload};
 use view_table::View;
 
 /// What a process reports of itself. The word `account` of the specs gives the definitions' account of it.

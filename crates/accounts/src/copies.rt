@@ -3,9 +3,9 @@ ghost use Rattle.std.specs.Prelude.{◌≡◌, map, IfOk};
 ghost use Rattle.accounts.specs.Views.{account, delivery};
 
 use crate::account::Account;
+use member_events::{Delivered, Payload};
 use rp_base::NoMemory;
 use std::alloc::Global;
-use stmt_codec::{Delivered, Payload};
 use view_table::View;
 
 fn copy_payload(alloc: Global, payload: &Payload) -> Result<Payload, NoMemory>

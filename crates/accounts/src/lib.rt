@@ -9,4 +9,4 @@ mod mark;
 pub use account::Account;
 pub use copies::copy_account;
 pub use mark::AccountMark;
-pub use stmt_codec::{Delivered, Payload};
+pub use member_events::{Delivered, Payload};

@@ -6,8 +6,8 @@ ghost use Rattle.accounts.specs.Views.{account, delivery};
 ghost use Rattle.accounts.specs.Marks.{TellsSince, without_last};
 
 use crate::account::Account;
+use member_events::Delivered;
 use rp_base::{NoMemory, Update};
-use stmt_codec::Delivered;
 
 /// What an account had at a mark: how much was delivered in the current view and how much was accepted, and the updates that were
 /// perceived, where others may come.

@@ -14,11 +14,11 @@ use Rattle.rp_base.specs.declared.scheme.Count.{Count}
 use Rattle.rp_base.specs.Signer.{count_total, count_used}
 use Rattle.std.specs.Borrow.{Bor}
 use Rattle.journal_entries.specs.Views.{entry as entry_of, event as plain_event}
-use Rattle.stmt_codec.specs.declared.events.Event.{Event}
-use Rattle.stmt_codec.specs.declared.events.Event.TheVariants as events
-use Rattle.stmt_codec.specs.declared.entry.Entry.{Entry}
-use Rattle.stmt_codec.specs.declared.events.Outcome.{Outcome}
-use Rattle.stmt_codec.specs.Kept.{signatures_left}
+use Rattle.member_events.specs.declared.events.Event.{Event}
+use Rattle.member_events.specs.declared.events.Event.TheVariants as events
+use Rattle.member_events.specs.declared.entry.Entry.{Entry}
+use Rattle.member_events.specs.declared.events.Outcome.{Outcome}
+use Rattle.member_events.specs.Kept.{signatures_left}
 use Rattle.pool_laws.proofs.Members.{Mem, All-mem, mem-All, mem-behind}
 use Rattle.claim_firsts.specs.Seen.{Saw}
 use Rattle.audit_claims.specs.Handed.{claims_handed, claims_of_frame}

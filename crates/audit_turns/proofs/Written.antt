@@ -9,10 +9,10 @@ use Rattle.group_defs.specs.Events as defs
 use Rattle.pool_laws.proofs.Tests.{and-four}
 use Rattle.rp_base.specs.Signer.{count_total, count_used}
 use Rattle.journal_entries.specs.Views.{entry as entry_of, event as plain_event}
-use Rattle.stmt_codec.specs.declared.entry.Entry.{Entry}
-use Rattle.stmt_codec.specs.declared.events.Event.{Event}
-use Rattle.stmt_codec.specs.declared.events.Event.TheVariants as events
-use Rattle.stmt_codec.specs.Kept.{signatures_left}
+use Rattle.member_events.specs.declared.entry.Entry.{Entry}
+use Rattle.member_events.specs.declared.events.Event.{Event}
+use Rattle.member_events.specs.declared.events.Event.TheVariants as events
+use Rattle.member_events.specs.Kept.{signatures_left}
 use Rattle.member_core.specs.Cores.{IsCore, left_of, signer_of}
 use Rattle.member_core.specs.Entries.{Agrees}
 use Rattle.member_core.specs.Events.{event as event_in}

@@ -3,6 +3,7 @@
 use anyhow::{Result, anyhow};
 use file_disk::FileDisk;
 use journal_rp::{Header, Journal, Journalled, Reading, Turn, Unsynced, Writing};
+use member_events::{Event, EventVerdict, Outcome};
 use rp_base::{GroupId, Pid, PidSet};
 use sha2::{Digest, Sha256};
 use std::alloc::Global;
@@ -11,7 +12,6 @@ use std::io::{Seek, SeekFrom, Write};
 use std::rt::{Clock, Files};
 use std::time::{Duration, Instant};
 use std::{fs, io};
-use stmt_codec::{Event, EventVerdict, Outcome};
 
 const PAYLOAD: [u8; 1024] = [5; 1024];
 

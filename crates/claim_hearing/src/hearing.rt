@@ -7,7 +7,6 @@ ghost use Rattle.group_defs.specs.Certified.{number_of_members, claim_on};
 ghost use Rattle.group_defs.specs.Hearing as defs;
 ghost use Rattle.stmt_codec.specs.Views.{stmt, claim as claim_of};
 ghost use Rattle.stmt_codec.specs.Left.{claims_left};
-ghost use Rattle.claim_pool.specs.Kept.{claim_bytes};
 ghost use Rattle.rule_laws.specs.Heard.{IsPool};
 ghost use Rattle.claim_pool.specs.Kept.{HasDelivered};
 ghost use Rattle.claim_hearing.specs.Hearing.{Shares, IsHeard};
@@ -15,7 +14,7 @@ ghost use Rattle.claim_hearing.specs.Hearing.{Shares, IsHeard};
 use claim_lists::Conflicts;
 use claim_pool::{Own, Pool, Verdict};
 use rp_base::{GroupId, NoMemory, Roster, Scheme};
-use stmt_codec::{Claim, Claims, slot_of, spelled_len};
+use stmt_codec::{Claim, Claims, claim_len, slot_of};
 
 /// The most bytes of a signature.
 const SIGNATURE_BYTES: usize = 16_384;
@@ -33,14 +32,6 @@ pub struct Judge<'a, V> {
     pub group: &'a GroupId,
 }
 
-// How many bytes the claim's statement and signature have.
-fn bytes_of(claim: &Claim<'_>) -> usize
-    requires { IsClaim (claim_of claim.now) }
-    ensures { result ≡ claim_bytes (claim_of claim.now) }
-{
-    spelled_len(&claim.statement) + claim.signature.len()
-}
-
 // Keeps the claim beside the heard one of its signer and slot, which says something else.
 fn keep_conflict(pool: &Pool, conflicts: &mut Conflicts, claim: &Claim<'_>) -> Result<(), NoMemory>
     requires { IsClaim (claim_of claim.now) }
@@ -56,7 +47,7 @@ fn keep_conflict(pool: &Pool, conflicts: &mut Conflicts, claim: &Claim<'_>) -> R
     if heard.signature.len() > SIGNATURE_BYTES {
         return Ok(());
     }
-    conflicts.reserve(1, bytes_of(&heard).max(bytes_of(claim)))?;
+    conflicts.reserve(1, claim_len(&heard).max(claim_len(claim)))?;
     conflicts.keep(&heard, claim);
     Ok(())
 }
@@ -78,7 +69,7 @@ fn hear<V: Scheme>(
     ensures marked { pool.new.marked ≡ pool.old.marked }
     ensures marked_pairs { conflicts.new.marked ≡ conflicts.old.marked }
 {
-    pool.reserve(1, bytes_of(claim))?;
+    pool.reserve(1, claim_len(claim))?;
     match pool.take(judge.scheme, judge.roster, judge.group, own, claim) {
         Verdict::Conflict => keep_conflict(pool, conflicts, claim),
         _ => Ok(()),

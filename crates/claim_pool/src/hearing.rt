@@ -18,25 +18,6 @@ use stmt_codec::{Batch, Claim, Statement};
 /// How far beyond what was delivered numbers and places may go.
 const WINDOW: u32 = 32;
 
-// The number of the view that the statement belongs to.
-fn view_of(statement: &Statement<'_>) -> u16
-    ensures { result ≡ plain.view_of (stmt statement.now) }
-{
-    match *statement {
-        Statement::Init { view, .. }
-        | Statement::Echo { view, .. }
-        | Statement::Order { view, .. }
-        | Statement::Place { view, .. }
-        | Statement::Keep { view, .. }
-        | Statement::Notify { view, .. }
-        | Statement::End { view, .. }
-        | Statement::Last { view, .. }
-        | Statement::Suggest { view, .. }
-        | Statement::Ack { view, .. }
-        | Statement::Ready { view, .. } => view,
-    }
-}
-
 // Whether a sender of these messages is no member.
 fn any_stranger(view: &View, messages: &[(Pid, u16)]) -> bool
     ensures { result ≡ list_any (λ m. not (views.is_member view.now m.0)) messages.now }
@@ -116,7 +97,7 @@ pub(crate) fn turned_away(view: &View, own: &Own, claim: &Claim<'_>) -> Option<V
         → option_map verdict result ≡ first_that_holds (early_tests p (claim_of claim.now)) }
     ensures unheard { IfSome result (λ v. verdict v ≢ hearing.Heard) }
 {
-    let number = view_of(&claim.statement);
+    let number = claim.statement.view();
     if number < view.number() {
         Some(Verdict::Old)
     } else if view.number() < number {

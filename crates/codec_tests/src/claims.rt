@@ -1,12 +1,12 @@
 use frame_codec::split_frame;
-use rp_base::{GroupId, Pid, PidSet, Update, Value};
-use std::process::Abort;
-use std::test::Fail;
-use stmt_codec::{
+use member_events::{
     Batch, Entry, EntrySignatures, Event, EventFault, EventVerdict, FrameFault, Note, Outcome,
     OwnClaim, Payload, Sending, Slot, Statement, body_into, claims_of, conflicts, read_statement,
     slot_of, spell_into, spelled_len,
 };
+use rp_base::{GroupId, Pid, PidSet, Update, Value};
+use std::process::Abort;
+use std::test::Fail;
 
 fn pid(rt: &impl Abort, n: u8) -> Pid {
     Pid::new(n).expect(rt, "a process number")

@@ -1,8 +1,8 @@
+use member_events::{Claim, Statement};
 use rp_base::Pid;
 use snapshot_rp::{Image, KeptClaim, SnapshotFault, Version, read_snapshot, write_snapshot};
 use std::process::Abort;
 use std::test::Fail;
-use stmt_codec::{Claim, Statement};
 
 // One image in both versions, by another program, in Python. Process 3 left view 0; it halted in view 1.
 

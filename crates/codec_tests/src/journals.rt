@@ -1,8 +1,8 @@
 use journal_steps::{Source, Steps, Version};
 use kit_reading::read_kit;
+use member_events::{Entry, Event};
 use std::process::Abort;
 use std::test::Fail;
-use stmt_codec::{Entry, Event};
 
 // The kit and the journal are those of another program, in Python.
 

@@ -1,5 +1,6 @@
 //! The lines of a node, and those of its script, as another program writes and reads them.
 use arrayvec::ArrayVec;
+use member_events::Payload;
 use message_defs::FrameFault;
 use node_text::{
     EventFault, Handed, KitFault, Line, LinkFault, Note, Said, Stop, push_drop, push_expel,
@@ -9,7 +10,6 @@ use rp_base::{Pid, PidSet};
 use std::alloc::Global;
 use std::process::Abort;
 use std::test::Fail;
-use stmt_codec::Payload;
 
 fn pid(rt: &impl Abort, n: u8) -> Pid {
     Pid::new(n).expect(rt, "below 64")

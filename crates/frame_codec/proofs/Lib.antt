@@ -3,3 +3,4 @@ pub mod Items
 pub mod Grammar
 pub mod Drafting
 pub mod Said
+pub mod Below

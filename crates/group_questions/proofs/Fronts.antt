@@ -9,7 +9,7 @@ use Rattle.byte_defs.specs.Equality.{is_yes, same_bytes}
 use Rattle.group_defs.specs.Views.{View, View-discrete}
 use Rattle.group_defs.specs.Process.{Letter, Letter-discrete, letter_of}
 use Rattle.group_defs.specs.Accounts.{same_views, same_sequence}
-use Rattle.stmt_codec.specs.declared.events.Delivered.{Delivered}
+use Rattle.member_events.specs.declared.events.Delivered.{Delivered}
 use Rattle.accounts.specs.Views.{delivery}
 use Rattle.pool_laws.proofs.Tests.{and-first, and-second, both-true, is-yes, yes-is}
 use Rattle.group_questions.specs.Letters.{letters, same_view}

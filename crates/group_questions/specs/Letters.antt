@@ -3,7 +3,7 @@ use Rattle.std.specs.Prelude.{◌==◌, ◌&&◌, Bool, List, map}
 use Rattle.byte_defs.specs.Equality.{same_bytes}
 use Rattle.group_defs.specs.Views.{View}
 use Rattle.group_defs.specs.Process.{Letter, without_places}
-use Rattle.stmt_codec.specs.declared.events.Delivered.{Delivered}
+use Rattle.member_events.specs.declared.events.Delivered.{Delivered}
 use Rattle.accounts.specs.Views.{delivery}
 
 -- the messages, without their places

@@ -9,7 +9,7 @@ use Rattle.message_defs.specs.Limits.{last_number, last_process, last_rank, most
 use Rattle.message_defs.specs.Updates.{Update, Remove, Add, Renew, Value}
 use Rattle.message_defs.specs.Statements.{Message, Batch, Statement, Init, Echo, Order, Place, Keep, Notify, End, Last, Suggest, Ack, Ready, Claim}
 use Rattle.message_defs.specs.Spelling.{IsBatch, IsClaim, IsMessage, IsReport, IsStatement, IsUpdate, IsValue, IsViewNumber}
-use Rattle.stmt_codec.specs.Views.{message}
+use Rattle.member_events.specs.Below.{message}
 use Rattle.pool_laws.proofs.Tests.{and-first, and-second, both-true}
 use Rattle.guard_service.specs.Ranges.{batch_fits, claim_fits, message_fits, placed_fits, ranked_fits, report_fits, statement_fits, update_fits, value_fits}
 

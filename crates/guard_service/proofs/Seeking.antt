@@ -18,10 +18,10 @@ use Rattle.group_defs.specs.Process.{Setting, Process}
 use Rattle.group_defs.specs.Due.{is_perceived}
 use Rattle.group_defs.specs.Events.{Hand}
 use Rattle.group_defs.specs.Family.{claims_in}
-use Rattle.stmt_codec.specs.Cursor.{given}
-use Rattle.stmt_codec.specs.declared.events.Event as events
-use Rattle.stmt_codec.specs.declared.events.Event.TheVariants.{Frame}
-use Rattle.stmt_codec.specs.declared.events.Note.{Note}
+use Rattle.member_events.specs.Below.{given}
+use Rattle.member_events.specs.declared.events.Event as events
+use Rattle.member_events.specs.declared.events.Event.TheVariants.{Frame}
+use Rattle.member_events.specs.declared.events.Note.{Note}
 use Rattle.frame_codec.specs.declared.groups.FrameView as code
 use Rattle.frame_codec.specs.Views.{frame_view}
 use Rattle.node_defs.specs.Casts.{handed}

@@ -11,7 +11,7 @@ use Rattle.message_defs.specs.Statements.{Claim}
 use Rattle.message_defs.specs.Spelling.{IsClaim}
 use Rattle.group_defs.specs.Process.{Setting, Process, keyed}
 use Rattle.group_defs.specs.Sending.{Bundle, Parcel, frames_of, sends_to}
-use Rattle.stmt_codec.specs.declared.events.Sending.{Sending}
+use Rattle.member_events.specs.declared.events.Sending.{Sending}
 use Rattle.node_defs.specs.Casts.{Cast}
 use Rattle.node_service.specs.Answers.{CanBeSent, letters_in, letters_to}
 use Rattle.guard_defs.specs.Lines.{accuse_line, conflict_of}

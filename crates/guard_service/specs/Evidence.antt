@@ -6,8 +6,8 @@ use Rattle.byte_defs.specs.Members.{has}
 use Rattle.message_defs.specs.Claims as plain
 use Rattle.message_defs.specs.Statements.{Claim}
 use Rattle.group_defs.specs.Process.{Setting, Process}
-use Rattle.stmt_codec.specs.Cursor.{given}
-use Rattle.stmt_codec.specs.declared.events.Note.{Note}
+use Rattle.member_events.specs.Below.{given}
+use Rattle.member_events.specs.declared.events.Note.{Note}
 use Rattle.frame_codec.specs.declared.groups.FrameView.{FrameView}
 use Rattle.frame_codec.specs.Views.{frame_view}
 use Rattle.node_service.specs.Words.{note}

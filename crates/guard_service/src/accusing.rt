@@ -4,7 +4,7 @@ ghost use Rattle.byte_defs.specs.Members.{has};
 ghost use Rattle.byte_defs.specs.Orders.{sorted};
 ghost use Rattle.group_defs.specs.Process.{Process};
 ghost use Rattle.node_service.specs.Histories.{Version};
-ghost use Rattle.stmt_codec.specs.Views.{claim as claim_of};
+ghost use Rattle.member_events.specs.Below.{claim as claim_of};
 ghost use Rattle.node_defs.specs.Casts.{cast_of, setting_of};
 ghost use Rattle.node_service.specs.Words.{IsHosted};
 ghost use Rattle.guard_defs.specs.Lines.{conflict_of};
@@ -12,9 +12,9 @@ ghost use Rattle.guard_service.specs.Accusing.{HasAccused, listed_others, sent};
 
 use crate::packing::bundle_of;
 use crate::words::push_accuse;
+use member_events::{Claim, Payload};
 use node_service::{AnySigner, Hosted, Kit, Sending};
 use rp_base::{NoMemory, Pid, PidSet};
-use stmt_codec::{Claim, Payload};
 use view_table::View;
 
 // Whether the member is another one, and among these.

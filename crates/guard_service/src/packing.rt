@@ -4,15 +4,15 @@ ghost use Rattle.message_defs.specs.Packing.{add, fits, signed_of};
 ghost use Rattle.message_defs.specs.Spelling.{IsClaim};
 ghost use Rattle.group_defs.specs.Sending as plain;
 ghost use Rattle.group_defs.specs.Sending.{frames_of};
-ghost use Rattle.stmt_codec.specs.Views.{claim as claim_of};
+ghost use Rattle.member_events.specs.Below.{claim as claim_of};
 ghost use Rattle.guard_service.specs.Accusing.{Packs};
 ghost use Rattle.guard_service.specs.Ranges.{claim_fits};
 
 use crate::ranges::can_be_carried;
 use frame_codec::{BUNDLE, FRAME_BYTES, FrameWriter};
+use member_events::{Claim, Payload, STATEMENT_BYTES, spell_into};
 use rp_base::NoMemory;
 use std::alloc::Global;
-use stmt_codec::{Claim, Payload, STATEMENT_BYTES, spell_into};
 
 // Puts the claim into a frame that has room for it.
 fn put(writer: &mut FrameWriter, claim: &Claim<'_>)

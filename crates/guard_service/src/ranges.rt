@@ -4,12 +4,12 @@ ghost use Rattle.std.specs.List.{list_all};
 ghost use Rattle.message_defs.specs.Limits.{last_process};
 ghost use Rattle.message_defs.specs.Statements as defs;
 ghost use Rattle.rp_base.specs.Views.{update as update_of, value as value_of};
-ghost use Rattle.stmt_codec.specs.Views.{claim as claim_of, message, report, stmt};
+ghost use Rattle.member_events.specs.Below.{claim as claim_of, message, report, stmt};
 ghost use Rattle.guard_service.specs.Ranges as tests;
 
 use frame_codec::SIGNATURE_BYTES;
+use member_events::{Batch, Claim, LAST_NUMBER, PAYLOAD_BYTES, Statement};
 use rp_base::{Pid, Update, Value};
-use stmt_codec::{Batch, Claim, LAST_NUMBER, PAYLOAD_BYTES, Statement};
 
 /// The most places of a view.
 const MOST_PLACES: u16 = 1_024;

@@ -3,13 +3,12 @@ ghost use Rattle.std.specs.Prelude.{◌≡◌, ℕ};
 ghost use Rattle.byte_defs.specs.Members.{has};
 ghost use Rattle.message_defs.specs.Claims as plain;
 ghost use Rattle.frame_codec.specs.Views.{frame_view};
-ghost use Rattle.stmt_codec.specs.Cursor.{given};
-ghost use Rattle.stmt_codec.specs.Left.{claims_left};
+ghost use Rattle.member_events.specs.Below.{given, claims_left};
 ghost use Rattle.guard_service.specs.Evidence.{makes_one};
 
 use frame_codec::FrameView;
+use member_events::{Claims, claims_of};
 use rp_base::PidSet;
-use stmt_codec::{Claims, claims_of};
 
 // All who make these claims.
 fn signers_among(claims: Claims<'_>) -> PidSet

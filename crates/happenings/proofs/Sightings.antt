@@ -5,11 +5,10 @@ use Rattle.std.proofs.lemmas.List.{map-append}
 use Rattle.group_defs.specs.Sending as parcels
 use Rattle.group_defs.specs.Events as group
 use Rattle.trace_defs.specs.Outcomes as outcomes
-use Rattle.stmt_codec.specs.Views.{signed}
-use Rattle.stmt_codec.specs.declared.own.OwnClaim.{OwnClaim}
-use Rattle.stmt_codec.specs.declared.events.Note.{Note}
-use Rattle.stmt_codec.specs.declared.events.Outcome.{Outcome}
-use Rattle.stmt_codec.specs.declared.events.Sending.{Sending}
+use Rattle.member_events.specs.Below.{signed, OwnClaim}
+use Rattle.member_events.specs.declared.events.Note.{Note}
+use Rattle.member_events.specs.declared.events.Outcome.{Outcome}
+use Rattle.member_events.specs.declared.events.Sending.{Sending}
 use Rattle.member_state.specs.Events.{refusal, note, frame_to, frames_to, IsOutcome}
 use Rattle.happenings.specs.declared.seen.Seen.{Seen}
 use Rattle.happenings.specs.Reported.{seen, IsSeenOf, OutcomeIsSeen}

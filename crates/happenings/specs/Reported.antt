@@ -3,8 +3,8 @@ use Rattle.std.specs.Prelude.{◌≡◌, ℕ, List, ◌++◌, map, Option, Some,
 use Rattle.group_defs.specs.Events as group
 use Rattle.trace_defs.specs.Outcomes as outcomes
 use Rattle.trace_defs.specs.Happenings as plain
-use Rattle.stmt_codec.specs.Views.{signed}
-use Rattle.stmt_codec.specs.declared.events.Outcome.{Outcome}
+use Rattle.member_events.specs.Below.{signed}
+use Rattle.member_events.specs.declared.events.Outcome.{Outcome}
 use Rattle.member_state.specs.Events.{refusal, note, IsOutcome}
 use Rattle.replay_defs.specs.Worlds as worlds
 use Rattle.happenings.specs.declared.seen.Seen.{Seen}

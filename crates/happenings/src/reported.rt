@@ -3,9 +3,9 @@ ghost use Rattle.std.specs.Prelude.{◌≡◌, ◌∷◌, [], is_some, OnOk};
 ghost use Rattle.happenings.specs.Reported.{happening, reported_of, Tells};
 
 use crate::seen::Seen;
+use member_events::Payload;
 use rp_base::{NoMemory, Pid, PidSet};
 use std::mem;
-use stmt_codec::Payload;
 
 /// What a process is handed.
 #[derive(Clone, Copy)]

@@ -2,10 +2,10 @@
 ghost use Rattle.std.specs.Prelude.{◌≡◌, map, IfOk};
 ghost use Rattle.happenings.specs.Reported.{IsSeenOf};
 
+use member_events::{EventVerdict, Note, Outcome, OwnClaim, Sending};
 use rp_base::{NoMemory, PidSet};
 use std::alloc::Global;
 use std::mem;
-use stmt_codec::{EventVerdict, Note, Outcome, OwnClaim, Sending};
 
 /// What came of an event at a process. Of a frame that it sends, it has to whom it goes.
 pub struct Seen {

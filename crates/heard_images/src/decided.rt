@@ -4,11 +4,11 @@ ghost use Rattle.message_defs.specs.Updates as plain;
 ghost use Rattle.message_defs.specs.Statements.{Ready};
 ghost use Rattle.group_defs.specs.Certified as defs;
 ghost use Rattle.rp_base.specs.Views.{value as value_of};
-ghost use Rattle.stmt_codec.specs.Views.{report};
+ghost use Rattle.member_events.specs.Below.{report};
 
+use member_events::{Slot, Statement, conflicts};
 use pool_questions::{Commit, Pool};
 use rp_base::Value;
-use stmt_codec::{Slot, Statement, conflicts};
 
 // Whether the pool certifies the Ready of this rank and value.
 fn is_certified(pool: &Pool, rank: u8, value: Value) -> bool

@@ -5,26 +5,18 @@ ghost use Rattle.group_defs.specs.Process.{Setting, Process};
 ghost use Rattle.group_defs.specs.Certified.{number_of_members};
 ghost use Rattle.group_defs.specs.Hearing.{Heard, verdict};
 ghost use Rattle.image_defs.specs.Kept.{AreHeard};
-ghost use Rattle.stmt_codec.specs.Views.{claim as claim_of};
+ghost use Rattle.member_events.specs.Below.{claim as claim_of};
 ghost use Rattle.claim_hearing.specs.Hearing.{Shares};
-ghost use Rattle.claim_pool.specs.Kept.{HasDelivered, claim_bytes};
+ghost use Rattle.claim_pool.specs.Kept.{HasDelivered};
 ghost use Rattle.heard_images.specs.Hearing.{AreNew, heard_in, with_more};
 
 use claim_hearing::Judge;
 use claim_pool::{Own, Pool, Verdict};
+use member_events::{Claim, claim_len};
 use rp_base::{NoMemory, Scheme};
 use snapshot_rp::KeptClaim;
 use std::alloc::Global;
-use stmt_codec::{Claim, spelled_len};
 use view_table::View;
-
-// How many bytes the claim's statement and signature have.
-fn bytes_of(claim: &Claim<'_>) -> usize
-    requires { IsClaim (claim_of claim.now) }
-    ensures { result ≡ claim_bytes (claim_of claim.now) }
-{
-    spelled_len(&claim.statement) + claim.signature.len()
-}
 
 // Hears the claim, and answers whether it is heard new.
 fn hear_one<V: Scheme>(
@@ -40,7 +32,7 @@ fn hear_one<V: Scheme>(
         → IfOk result (λ b. IsTrue b ↔ (verdict s p (claim_of claim.now) ≡ Heard)) }
     ensures heard { IfOk result (λ b. b ≡ true → pool.new.pool ≡ with_more pool.old.pool (claim_of claim.now ∷ [])) }
 {
-    pool.reserve(1, bytes_of(claim))?;
+    pool.reserve(1, claim_len(claim))?;
     match pool.take(judge.scheme, judge.roster, judge.group, own, claim) {
         Verdict::Heard => Ok(true),
         _ => Ok(false),

@@ -3,36 +3,17 @@ ghost use Rattle.std.specs.Prelude.{◌≡◌, ◌≢◌, ◌↔◌, ◌++◌, �
 ghost use Rattle.std.specs.List.{list_all};
 ghost use Rattle.message_defs.specs.Statements as plain;
 ghost use Rattle.group_defs.specs.Certified.{heard_on};
-ghost use Rattle.stmt_codec.specs.Views.{stmt};
+ghost use Rattle.member_events.specs.Below.{stmt};
 ghost use Rattle.own_place.specs.Signed.{has_slot};
 ghost use Rattle.own_place.specs.Words.{slot_key};
 ghost use Rattle.heard_images.specs.Signed as tests;
 
+use member_events::{Statement, slot_of};
 use own_place::SignedSlots;
 use pool_questions::Pool;
 use rp_base::{NoMemory, Pid};
 use snapshot_rp::KeptClaim;
 use std::alloc::Global;
-use stmt_codec::{Statement, slot_of};
-
-// The number of the view that the statement belongs to.
-fn view_of(statement: &Statement<'_>) -> u16
-    ensures { result ≡ plain.view_of (stmt statement.now) }
-{
-    match *statement {
-        Statement::Init { view, .. }
-        | Statement::Echo { view, .. }
-        | Statement::Order { view, .. }
-        | Statement::Place { view, .. }
-        | Statement::Keep { view, .. }
-        | Statement::Notify { view, .. }
-        | Statement::End { view, .. }
-        | Statement::Last { view, .. }
-        | Statement::Suggest { view, .. }
-        | Statement::Ack { view, .. }
-        | Statement::Ready { view, .. } => view,
-    }
-}
 
 // Whether a claim of this process is heard on the statement's slot.
 fn is_said(pool: &Pool, me: Pid, statement: &Statement<'_>) -> bool
@@ -48,7 +29,7 @@ fn is_heard(pool: &Pool, me: Pid, kept: &KeptClaim) -> bool
     ensures { result ≡ tests.is_heard pool.now.pool me kept.now }
 {
     let statement = &kept.claim().statement;
-    view_of(statement) != pool.view().number() || is_said(pool, me, statement)
+    statement.view() != pool.view().number() || is_said(pool, me, statement)
 }
 
 fn each_is_heard(pool: &Pool, me: Pid, signed: &[KeptClaim]) -> bool

@@ -5,13 +5,13 @@ ghost use Rattle.std.specs.Option.{option_map};
 ghost use Rattle.group_defs.specs.Process.{places_in};
 ghost use Rattle.group_defs.specs.Certified.{payload_at, place_at};
 ghost use Rattle.group_defs.specs.Accounts.{StandsByPlace, batch_at};
-ghost use Rattle.stmt_codec.specs.Batches.{message_of};
+ghost use Rattle.member_events.specs.Below.{message_of};
 ghost use Rattle.snapshot_rp.specs.Views.{delivered as plain};
 ghost use Rattle.heard_images.specs.Walks as tests;
 
+use member_events::Delivered;
 use pool_questions::{Pool, certified_batch, certified_payload};
 use rp_base::Pid;
-use stmt_codec::Delivered;
 
 // Whether the message was delivered at this place.
 fn is_delivered(d: &Delivered, place: u16, message: &(Pid, u16)) -> bool

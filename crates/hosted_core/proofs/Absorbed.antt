@@ -4,7 +4,7 @@ use Rattle.std.specs.Prelude.{IfOk, OnErr}
 use Rattle.std.proofs.Math.Logic.{∥∥₁_map}
 use Rattle.group_defs.specs.Process.{Setting, Process}
 use Rattle.group_defs.specs.Events as defs
-use Rattle.stmt_codec.specs.declared.events.Outcome.{Outcome}
+use Rattle.member_events.specs.declared.events.Outcome.{Outcome}
 use Rattle.member_core.specs.Cores.{IsCore}
 use Rattle.member_core.specs.Entries.{Absorbs}
 use Rattle.member_core.proofs.Stepped.{with-rule}

@@ -6,8 +6,8 @@ use Rattle.std.proofs.Props.{props}
 use Rattle.message_defs.specs.Limits.{most_signature_bytes}
 use Rattle.group_defs.specs.Process.{Setting, Process}
 use Rattle.group_defs.specs.Events as defs
-use Rattle.stmt_codec.specs.declared.events.Event.{Event}
-use Rattle.stmt_codec.specs.declared.events.Outcome.{Outcome}
+use Rattle.member_events.specs.declared.events.Event.{Event}
+use Rattle.member_events.specs.declared.events.Outcome.{Outcome}
 use Rattle.journal_defs.specs.Entries as plain
 use Rattle.journal_defs.specs.Entries.{Entry, IsEntry, IsEvent, AreSignatures}
 use Rattle.journal_entries.specs.Views.{event as plain_event, turn_entry}
@@ -17,8 +17,8 @@ use Rattle.member_core.specs.Events.{event as event_of, fault as fault_of, refus
 use Rattle.member_core.proofs.Joined.{after-me, after-refused}
 use Rattle.member_core.proofs.Spelled.{verdict-is}
 use Rattle.member_core.proofs.Stepped.{me-so, with-rule}
-use Rattle.stmt_codec.specs.declared.events.EventFault.{EventFault}
-use Rattle.stmt_codec.specs.declared.events.EventVerdict.TheVariants as verdicts
+use Rattle.member_events.specs.declared.events.EventFault.{EventFault}
+use Rattle.member_events.specs.declared.events.EventVerdict.TheVariants as verdicts
 use Rattle.journal_defs.specs.Crashes.{staged}
 use Rattle.journal_rp.specs.declared.turn.Turn.{Turn}
 use Rattle.journal_rp.specs.declared.turn.Unsynced.{Unsynced}

@@ -2,8 +2,8 @@
 use Rattle.std.specs.Prelude.{◌≡◌, ℕ, Bool, List, Some, None}
 use Rattle.group_defs.specs.Process.{Setting, Process}
 use Rattle.group_defs.specs.Events as defs
-use Rattle.stmt_codec.specs.declared.events.Event.{Event}
-use Rattle.stmt_codec.specs.declared.events.Outcome.{Outcome}
+use Rattle.member_events.specs.declared.events.Event.{Event}
+use Rattle.member_events.specs.declared.events.Outcome.{Outcome}
 use Rattle.journal_defs.specs.Entries as plain
 use Rattle.journal_defs.specs.Entries.{IsEntry}
 use Rattle.journal_defs.specs.Crashes.{staged}

@@ -1,7 +1,7 @@
 //! A hosted process as it starts, and as it takes up its journal.
 ghost use Rattle.std.specs.Prelude.{◌≡◌, ◌≤◌, ◌+◌, length, IfOk, OnErr, OnOk, IsOkUnless};
 ghost use Rattle.group_defs.specs.Process.{Setting, Process, start};
-ghost use Rattle.stmt_codec.specs.Kept.{signatures_left};
+ghost use Rattle.member_events.specs.Kept.{signatures_left};
 ghost use Rattle.member_core.specs.Events.{event as event_of};
 ghost use Rattle.member_core.specs.Cores.{IsCore, Shares, left_of, me_of, signer_of};
 ghost use Rattle.member_core.specs.Entries.{Agrees, Absorbs};

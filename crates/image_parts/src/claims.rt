@@ -2,8 +2,7 @@
 ghost use Rattle.std.specs.Prelude.{◌≡◌, ◌≢◌, ◌==◌, ◌++◌, ◌∷◌, [], filter, AllPairs, IfOk, OnOk};
 ghost use Rattle.message_defs.specs.Spelling.{IsClaim};
 ghost use Rattle.message_defs.specs.Statements as plain;
-ghost use Rattle.stmt_codec.specs.Views.{stmt, claim as claim_of};
-ghost use Rattle.claim_pool.specs.Kept.{claim_bytes};
+ghost use Rattle.stmt_codec.specs.Views.{claim as claim_of};
 ghost use Rattle.claim_lists.specs.Pairs.{with_pair};
 ghost use Rattle.image_parts.specs.Walks.{with_said, with_all_said, with_pairs};
 
@@ -11,41 +10,14 @@ use claim_lists::{ClaimList, Conflicts};
 use rp_base::NoMemory;
 use snapshot_rp::KeptClaim;
 use std::alloc::Global;
-use stmt_codec::{Claim, Statement, spelled_len};
-
-// The number of the view that the statement belongs to.
-fn view_of(statement: &Statement<'_>) -> u16
-    ensures { result ≡ plain.view_of (stmt statement.now) }
-{
-    match *statement {
-        Statement::Init { view, .. }
-        | Statement::Echo { view, .. }
-        | Statement::Order { view, .. }
-        | Statement::Place { view, .. }
-        | Statement::Keep { view, .. }
-        | Statement::Notify { view, .. }
-        | Statement::End { view, .. }
-        | Statement::Last { view, .. }
-        | Statement::Suggest { view, .. }
-        | Statement::Ack { view, .. }
-        | Statement::Ready { view, .. } => view,
-    }
-}
-
-/// How many bytes the claim's statement and signature have.
-pub fn bytes_of(claim: &Claim<'_>) -> usize
-    requires { IsClaim (claim_of claim.now) }
-    ensures { result ≡ claim_bytes (claim_of claim.now) }
-{
-    spelled_len(&claim.statement) + claim.signature.len()
-}
+use stmt_codec::{Claim, Statement, claim_len};
 
 // Puts the claim after the others.
 fn put(claims: &mut ClaimList, claim: &Claim<'_>) -> Result<(), NoMemory>
     requires { IsClaim (claim_of claim.now) }
     ensures { OnOk result (claims.new.claims ≡ claims.old.claims ++ claim_of claim.now ∷ []) }
 {
-    claims.reserve(1, bytes_of(claim))?;
+    claims.reserve(1, claim_len(claim))?;
     claims.push(claim);
     Ok(())
 }
@@ -86,7 +58,7 @@ fn put_said(said: &mut ClaimList, number: u16, kept: &KeptClaim) -> Result<(), N
     ensures { OnOk result (said.new.claims ≡ with_said number said.old.claims kept.now) }
 {
     let claim = kept.claim();
-    if view_of(&claim.statement) == number {
+    if claim.statement.view() == number {
         put(said, &claim)?;
     }
     Ok(())
@@ -117,7 +89,7 @@ fn keep(conflicts: &mut Conflicts, heard: &Claim<'_>, other: &Claim<'_>) -> Resu
     requires other { IsClaim (claim_of other.now) }
     ensures { OnOk result (conflicts.new.pairs ≡ with_pair conflicts.old.pairs (claim_of heard.now) (claim_of other.now)) }
 {
-    conflicts.reserve(1, bytes_of(heard).max(bytes_of(other)))?;
+    conflicts.reserve(1, claim_len(heard).max(claim_len(other)))?;
     conflicts.keep(heard, other);
     Ok(())
 }

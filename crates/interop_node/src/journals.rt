@@ -5,14 +5,14 @@ ghost use Rattle.journal_defs.specs.declared.Version.{Version as Kind};
 ghost use Rattle.journal_defs.specs.Entries as plain;
 ghost use Rattle.journal_defs.specs.Journals.{BreaksAt, ReadsAs, batch_limit, magic};
 ghost use Rattle.journal_entries.specs.Views.{entry as entry_of, event as event_of};
-ghost use Rattle.stmt_codec.specs.Kept.{signatures_left};
+ghost use Rattle.member_events.specs.Kept.{signatures_left};
 ghost use Rattle.interop_node.specs.Journals.{BeginsAs, SaysOfJournal, entry_words, event_words, header_of, signature_words, spent_word};
 
 use journal_defs::Version;
 use journal_entries::entry_at;
+use member_events::{Entry, EntrySignatures, Event};
 use rp_base::{NoMemory, Pid};
 use std::alloc::Global;
-use stmt_codec::{Entry, EntrySignatures, Event};
 use text_codec::{push_byte_list, push_number};
 
 /// The bytes of a header, after which the first gate comes.

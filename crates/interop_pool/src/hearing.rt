@@ -14,7 +14,7 @@ ghost use Rattle.interop_pool.specs.Telling as words;
 
 use claim_pool::{Own, Pool, Verdict};
 use rp_base::{GroupId, NoMemory, PlainScheme, Roster};
-use stmt_codec::{Claim, Claims, spelled_len};
+use stmt_codec::{Claim, Claims, claim_len};
 
 /// The group's name.
 pub(crate) const GROUP: GroupId = GroupId([0; 16]);
@@ -44,7 +44,7 @@ fn take(roster: &Roster, own: &Own, pool: &mut Pool, claim: &Claim<'_>) -> Resul
         → OnOk result ((defs.hear (setting_with roster.now) p (claim_of claim.now)).pool ≡ pool.new.pool) }
     ensures view { pool.new.pool.view ≡ pool.old.pool.view }
 {
-    pool.reserve(1, spelled_len(&claim.statement) + claim.signature.len())?;
+    pool.reserve(1, claim_len(&claim))?;
     Ok(pool.take(&PlainScheme, roster, &GROUP, own, claim))
 }
 

@@ -6,7 +6,7 @@ use Rattle.journal_defs.specs.Entries.{Entry, IsEntry, AreBytes, Reading, entry_
 use Rattle.journal_defs.specs.Journals.{open_gate, behind_gate, record_at, IsClosedAt, HasEntryAt, IsBrokenAt}
 use Rattle.journal_defs.proofs.Entering.{entry_is_spelled, entry_is_read}
 use Rattle.journal_defs.proofs.Recording.{record_is_read, record_is_spelled}
-use Rattle.stmt_codec.specs.Finds.{Finds}
+use Rattle.member_events.specs.Finds.{Finds}
 use Rattle.journal_entries.specs.Kept.{entry_or_tick}
 
 abbrev fault : Reading (Entry × List ℕ)

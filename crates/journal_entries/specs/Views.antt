@@ -1,12 +1,12 @@
 -- Events and entries of the code, as plain data.
 use Rattle.std.specs.Prelude.{ℕ, List, map}
 use Rattle.journal_defs.specs.Entries as plain
-use Rattle.stmt_codec.specs.declared.events.Event.{Event}
-use Rattle.stmt_codec.specs.declared.events.Event.TheVariants.{Submit, Frame, Suspect, Join, Renew, Tick}
-use Rattle.stmt_codec.specs.declared.events.Outcome.{Outcome}
-use Rattle.stmt_codec.specs.declared.own.OwnClaim.{OwnClaim}
-use Rattle.stmt_codec.specs.declared.entry.Entry.{Entry}
-use Rattle.stmt_codec.specs.Kept.{signatures_left}
+use Rattle.member_events.specs.declared.events.Event.{Event}
+use Rattle.member_events.specs.declared.events.Event.TheVariants.{Submit, Frame, Suspect, Join, Renew, Tick}
+use Rattle.member_events.specs.declared.events.Outcome.{Outcome}
+use Rattle.member_events.specs.Below.{OwnClaim}
+use Rattle.member_events.specs.declared.entry.Entry.{Entry}
+use Rattle.member_events.specs.Kept.{signatures_left}
 
 abbrev pub event : Event → plain.Event
 event (Submit payload) = plain.Submit payload.now

@@ -2,12 +2,11 @@
 ghost use Rattle.std.specs.Int.{w8, w16};
 ghost use Rattle.byte_defs.specs.Fields.{number_at};
 ghost use Rattle.journal_defs.specs.Entries.{process_at, text_at, flag_at, signatures_at};
-ghost use Rattle.stmt_codec.specs.Finds.{Finds};
-ghost use Rattle.stmt_codec.specs.Kept.{signatures_left};
+ghost use Rattle.member_events.specs.Finds.{Finds};
+ghost use Rattle.member_events.specs.Kept.{signatures_left};
 
-use frame_codec::{bytes_at, u8_at, u16_at};
+use member_events::{EntrySignatures, bytes_at, u8_at, u16_at};
 use rp_base::Pid;
-use stmt_codec::EntrySignatures;
 
 /// What is left of an entry's bytes. A cursor that found nothing is not read from again.
 #[derive(Drop)]

@@ -2,7 +2,7 @@ ghost use Rattle.std.specs.Prelude.{IsOk};
 ghost use Rattle.journal_defs.specs.Entries.{entry_of};
 
 use crate::reading::read_entry;
-use stmt_codec::Entry;
+use member_events::Entry;
 
 /// The bytes of one entry. Only bytes that are an entry are ever kept so.
 #[derive(Drop)]
@@ -14,7 +14,7 @@ pub struct EntryBytes {
 impl EntryBytes {
     ghost use Rattle.std.specs.Prelude.{◌≡◌, IfSome};
     ghost use Rattle.journal_defs.specs.Entries.{entry_bytes, IsEntry};
-    ghost use Rattle.stmt_codec.specs.Finds.{Finds};
+    ghost use Rattle.member_events.specs.Finds.{Finds};
     ghost use Rattle.journal_entries.specs.Views.{entry};
     ghost use Rattle.journal_entries.specs.Kept.{kept};
 

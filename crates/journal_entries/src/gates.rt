@@ -2,12 +2,11 @@
 ghost use Rattle.std.specs.Prelude.{◌≡◌, ◌<◌, ◌≤◌, ◌++◌, length, IfOk, IfErr, IfSome, IfNone};
 ghost use Rattle.journal_defs.specs.Entries.{IsEntry};
 ghost use Rattle.journal_defs.specs.Journals.{record_at, behind_gate, IsClosedAt, HasEntryAt, IsBrokenAt};
-ghost use Rattle.stmt_codec.specs.Finds.{Finds};
+ghost use Rattle.member_events.specs.Finds.{Finds};
 ghost use Rattle.journal_entries.specs.Views.{entry};
 
 use crate::reading::read_entry;
-use frame_codec::{bytes_at, u32_at};
-use stmt_codec::Entry;
+use member_events::{Entry, bytes_at, u32_at};
 
 const OPEN: u8 = 1;
 

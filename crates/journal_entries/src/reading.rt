@@ -9,11 +9,11 @@
 ghost use Rattle.std.specs.Prelude.{◌≡◌, IfSome, IsSomeAnd};
 ghost use Rattle.journal_defs.specs.Entries as plain;
 ghost use Rattle.journal_defs.specs.Entries.{submit_at, frame_at, of_process_at, event_at, entry_of, entry_bytes, IsEntry};
-ghost use Rattle.stmt_codec.specs.Finds.{Finds};
+ghost use Rattle.member_events.specs.Finds.{Finds};
 ghost use Rattle.journal_entries.specs.Views.{event, entry};
 
 use crate::cursor::Cursor;
-use stmt_codec::{Entry, Event};
+use member_events::{Entry, Event};
 
 const SUBMIT: u8 = 1;
 

@@ -7,9 +7,9 @@ ghost use Rattle.journal_defs.specs.Entries.{IsEntry, AreSignatures, IsEvent, en
 ghost use Rattle.journal_defs.specs.Crashes.{staged};
 ghost use Rattle.journal_entries.specs.Views.{event as event_of, turn_entry, signatures_of};
 
+use member_events::{Event, Outcome, OwnClaim};
 use rp_base::{NoMemory, Pid};
 use std::alloc::Global;
-use stmt_codec::{Event, Outcome, OwnClaim};
 
 const SUBMIT: u8 = 1;
 

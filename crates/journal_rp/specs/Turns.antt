@@ -1,6 +1,6 @@
 -- A turn, as clauses see it.
 use Rattle.std.specs.Prelude.{ℕ, List}
-use Rattle.stmt_codec.specs.declared.events.Outcome.{Outcome}
+use Rattle.member_events.specs.declared.events.Outcome.{Outcome}
 use Rattle.journal_rp.specs.declared.turn.Turn.{Turn}
 
 abbrev pub outcome_of : {S P : Type 0} → Turn S P → Outcome

@@ -1,8 +1,8 @@
 use journal_entries::staged_entry;
+use member_events::{Event, Note, Outcome, Sending};
 use rp_base::{NoMemory, Pid};
 use std::alloc::Global;
 use std::marker::PhantomData;
-use stmt_codec::{Event, Note, Outcome, Sending};
 
 /// A process whose events a journal keeps. Whoever took an event goes into its [`Turn`], and comes back once the entry is in the journal
 /// for good; where the turn is lost, the process is too. So nothing goes on with a process that is ahead of its journal.
@@ -10,8 +10,8 @@ pub trait Journalled {
     ghost use Rattle.std.specs.Prelude.{◌≡◌, ℕ};
     ghost use Rattle.journal_defs.specs.Entries.{IsEntry};
     ghost use Rattle.journal_entries.specs.Views.{event as event_of, turn_entry};
-    ghost use Rattle.stmt_codec.specs.declared.events.Event.{Event as Taken};
-    ghost use Rattle.stmt_codec.specs.declared.events.Outcome.{Outcome as Came};
+    ghost use Rattle.member_events.specs.declared.events.Event.{Event as Taken};
+    ghost use Rattle.member_events.specs.declared.events.Outcome.{Outcome as Came};
 
     /// The process's number.
     ghost number: { Self → ℕ };

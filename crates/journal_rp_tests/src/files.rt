@@ -1,6 +1,7 @@
 use crate::runs::{header, is_turn, read_all, turn_of};
 use file_disk::FileDisk;
 use journal_rp::{Journal, JournalFault, Reading, entry_at};
+use member_events::Event;
 use rp_base::Disk;
 use rp_devices::MemDisk;
 use std::alloc::Global;
@@ -8,7 +9,6 @@ use std::fs;
 use std::process::Abort;
 use std::rt::Files;
 use std::test::Fail;
-use stmt_codec::Event;
 
 // A journal that was written before there were batches, whose one entry is a tick of process 0 that signed nothing.
 fn old_journal(alloc: Global) -> Result<Vec<u8>, Fail> {

@@ -12,10 +12,10 @@ ghost use Rattle.rp_base.specs.Signer.{used_of};
 use frame_codec::split_frame;
 use hosted_core::{Hosted, Taken};
 use journal_rp::{EntryBytes, Header, Journal, Reading, Writing};
+use member_events::{Entry, Event, Sending, claims_of};
 use rp_base::{GroupId, NoMemory, Pid, PidSet, PlainScheme, PlainSigner, Roster};
 use rp_devices::MemDisk;
 use std::alloc::Global;
-use stmt_codec::{Entry, Event, Sending, claims_of};
 use view_table::View;
 
 const KEYS: [[u8; 32]; 4] = [[1; 32], [2; 32], [3; 32], [4; 32]];

@@ -6,11 +6,11 @@ ghost use Rattle.journal_disk.specs.Disks.{HasLength};
 ghost use Rattle.journal_rp.specs.Stages.{gate_of, len_of};
 
 use journal_rp::{EntryBytes, Header, Journal, Journalled, Reading, Turn, Unsynced, Writing};
+use member_events::{Event, EventVerdict, Outcome};
 use rp_base::{GroupId, Pid, PidSet};
 use rp_devices::MemDisk;
 use std::alloc::Global;
 use std::process::Abort;
-use stmt_codec::{Event, EventVerdict, Outcome};
 
 /// Process 0, which is said to have taken whatever has a spelling.
 #[derive(Drop)]

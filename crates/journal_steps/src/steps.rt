@@ -4,7 +4,7 @@ ghost use Rattle.journal_entries.specs.Views.{entry};
 ghost use Rattle.journal_steps.specs.Places.{steps_at, all_steps};
 
 use journal_entries::entry_at;
-use stmt_codec::Entry;
+use member_events::Entry;
 
 /// The place of the first gate.
 const FIRST_GATE: u64 = 60;

@@ -4,8 +4,8 @@ ghost use Rattle.snapshot_rp.specs.Views.{delivered as plain};
 ghost use Rattle.kept_images.specs.Facts.{AreAccepted, own_delivered};
 ghost use Rattle.kept_images.specs.Tests as tests;
 
+use member_events::{Delivered, PAYLOAD_BYTES, Payload};
 use rp_base::Pid;
-use stmt_codec::{Delivered, PAYLOAD_BYTES, Payload};
 
 /// How many accepted payloads may be not yet delivered.
 const MOST_WAITING: usize = 256;

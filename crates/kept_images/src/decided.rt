@@ -1,5 +1,5 @@
 ghost use Rattle.std.specs.Prelude.{◌≡◌, ◌↔◌, IsTrue};
-ghost use Rattle.stmt_codec.specs.Views.{report};
+ghost use Rattle.member_events.specs.Below.{report};
 ghost use Rattle.kept_images.specs.Facts.{Decides, IsHaltedSo};
 ghost use Rattle.kept_images.specs.Tests as tests;
 

@@ -11,9 +11,9 @@ ghost use Rattle.kept_images.specs.Tests as tests;
 
 use crate::said::is_same;
 use crate::valid::is_valid;
+use member_events::Statement;
 use rp_base::{GroupId, Roster, Scheme, Value};
 use snapshot_rp::{KeptClaim, LeftView};
-use stmt_codec::Statement;
 use view_table::{View, is_possible, next, quorum};
 
 // Whether the claim is a member's, says the Ready of this rank and value, and is valid.

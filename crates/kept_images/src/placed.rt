@@ -5,8 +5,8 @@ ghost use Rattle.snapshot_rp.specs.Views.{delivered as plain};
 ghost use Rattle.kept_images.specs.Facts.{StandByPlace};
 ghost use Rattle.kept_images.specs.Tests as tests;
 
+use member_events::Delivered;
 use sound_question::is_by_place;
-use stmt_codec::Delivered;
 
 /// The most places of a view.
 const MOST_PLACES: u32 = 1_024;

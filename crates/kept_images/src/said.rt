@@ -1,10 +1,10 @@
 //! Whether statements are one, or conflict.
 ghost use Rattle.std.specs.Prelude.{◌≡◌};
 ghost use Rattle.message_defs.specs.Statements.{same_statement};
-ghost use Rattle.stmt_codec.specs.Views.{stmt};
+ghost use Rattle.member_events.specs.Below.{stmt};
 ghost use Rattle.kept_images.specs.Tests as tests;
 
-use stmt_codec::{Statement, conflicts, is_same_slot};
+use member_events::{Statement, conflicts, is_same_slot};
 
 /// Whether they are of one slot, and differ.
 pub(crate) fn are_conflicting(a: &Statement<'_>, b: &Statement<'_>) -> bool

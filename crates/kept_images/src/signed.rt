@@ -1,7 +1,5 @@
 ghost use Rattle.std.specs.Prelude.{◌≡◌, ◌↔◌, IsTrue};
 ghost use Rattle.std.specs.List.{list_all};
-ghost use Rattle.message_defs.specs.Statements as plain;
-ghost use Rattle.stmt_codec.specs.Views.{stmt};
 ghost use Rattle.claim_pool.specs.Settings.{as_setting};
 ghost use Rattle.kept_images.specs.Facts.{AreOwn};
 ghost use Rattle.kept_images.specs.Tests as tests;
@@ -9,27 +7,7 @@ ghost use Rattle.kept_images.specs.Tests as tests;
 use crate::valid::is_valid;
 use rp_base::{GroupId, Pid, Roster, Scheme};
 use snapshot_rp::KeptClaim;
-use stmt_codec::Statement;
 use view_table::View;
-
-// The number of the view that the statement belongs to.
-fn view_of(statement: &Statement<'_>) -> u16
-    ensures { result ≡ plain.view_of (stmt statement.now) }
-{
-    match *statement {
-        Statement::Init { view, .. }
-        | Statement::Echo { view, .. }
-        | Statement::Order { view, .. }
-        | Statement::Place { view, .. }
-        | Statement::Keep { view, .. }
-        | Statement::Notify { view, .. }
-        | Statement::End { view, .. }
-        | Statement::Last { view, .. }
-        | Statement::Suggest { view, .. }
-        | Statement::Ack { view, .. }
-        | Statement::Ready { view, .. } => view,
-    }
-}
 
 // Whether the claim is of this process, of no view above this one, and valid.
 fn is_own<V: Scheme>(
@@ -43,7 +21,7 @@ fn is_own<V: Scheme>(
     ensures { result ≡ tests.is_own (as_setting (V.valid scheme.now) group.now roster.now) me view.now kept.now }
 {
     kept.signer() == me
-        && view_of(&kept.claim().statement) <= view.number()
+        && kept.claim().statement.view() <= view.number()
         && is_valid(scheme, roster, group, kept)
 }
 

@@ -7,8 +7,8 @@ use Rattle.message_defs.specs.Spelling.{IsClaim, IsStatement}
 use Rattle.message_defs.specs.Packing.{signed_of}
 use Rattle.group_defs.specs.Process.{Setting, Process}
 use Rattle.group_defs.specs.Events.{Event, Turn, Outcome, after, outcome, journalled}
-use Rattle.stmt_codec.specs.Views.{signed}
-use Rattle.stmt_codec.specs.declared.events.Outcome.{Outcome as Came}
+use Rattle.member_events.specs.Below.{signed}
+use Rattle.member_events.specs.declared.events.Outcome.{Outcome as Came}
 use Rattle.pool_laws.proofs.Members.{All-mem, mem-All, mem-behind, Mem}
 use Rattle.member_signing.specs.States.{ProcessState, IsOutcome}
 use Rattle.member_core.specs.declared.member.Core.{Core}

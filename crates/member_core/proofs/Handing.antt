@@ -9,7 +9,7 @@ use Rattle.byte_defs.specs.Fields.{◌>>=◌, refuse_if, number_at, bytes_at}
 use Rattle.byte_defs.proofs.Fields.{bind_ok, refuse_ok, guard_ok}
 use Rattle.message_defs.specs.Limits.{most_signature_bytes}
 use Rattle.message_defs.specs.Entries.{kept_at, all_kept_at}
-use Rattle.stmt_codec.specs.Finds.{items_of}
+use Rattle.member_events.specs.Finds.{items_of}
 
 -- ---- none has more bytes than a signature may
 

@@ -12,10 +12,9 @@ use Rattle.group_defs.specs.Signing.{Signer, Signing, sign_all}
 use Rattle.group_defs.specs.Settle.{decide, deliver, leave, settle}
 use Rattle.group_defs.specs.Sending.{Bundle, bundle, newly_signed, others, unless_empty}
 use Rattle.group_defs.specs.Events.{Event, EventFault, Outcome, Turn, Delivers, Installs, Spent, refusal, take_in, signing, after, answered, outcome, is_tick, answers, note_if}
-use Rattle.stmt_codec.specs.Views.{signed}
-use Rattle.stmt_codec.specs.declared.events.Outcome.{Outcome as Came}
-use Rattle.stmt_codec.specs.declared.events.EventVerdict.TheVariants.{Taken}
-use Rattle.stmt_codec.specs.declared.own.OwnClaim.{OwnClaim}
+use Rattle.member_events.specs.Below.{signed, OwnClaim}
+use Rattle.member_events.specs.declared.events.Outcome.{Outcome as Came}
+use Rattle.member_events.specs.declared.events.EventVerdict.TheVariants.{Taken}
 use Rattle.member_signing.specs.States.{ProcessState}
 use Rattle.member_signing.specs.Signed.{IsSigned}
 use Rattle.pool_laws.proofs.Members.{Mem, All-mem, mem-All, mem-behind}

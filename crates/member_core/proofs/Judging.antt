@@ -8,8 +8,7 @@ use Rattle.message_defs.specs.Spelling.{IsStatement}
 use Rattle.message_defs.specs.Packing.{signed_of}
 use Rattle.group_defs.specs.Process.{Setting}
 use Rattle.group_defs.specs.Hearing.{is_valid}
-use Rattle.stmt_codec.specs.Views.{signed}
-use Rattle.stmt_codec.specs.declared.own.OwnClaim.{OwnClaim}
+use Rattle.member_events.specs.Below.{signed, OwnClaim}
 use Rattle.member_sending.specs.Below.{Shares, as_setting}
 use Rattle.pool_laws.proofs.Members.{Mem, All-mem, mem-drop}
 

@@ -18,12 +18,11 @@ use Rattle.group_defs.specs.Process.{Setting, Process, earlier, delivered_from}
 use Rattle.group_defs.specs.Events.{Hand, EventFault, Outsider, TooLong, Backlog, Turn, refusal, refusals, outcome, after}
 use Rattle.pool_laws.proofs.Members.{Mem, All-mem, mem-behind}
 use Rattle.event_laws.specs.Slots.{most_signed}
-use Rattle.stmt_codec.specs.Views.{signed}
-use Rattle.stmt_codec.specs.declared.own.OwnClaim.{OwnClaim}
-use Rattle.stmt_codec.specs.declared.events.Event.{Event}
-use Rattle.stmt_codec.specs.declared.events.Event.TheVariants as events
-use Rattle.stmt_codec.specs.declared.events.Outcome.{Outcome}
-use Rattle.stmt_codec.specs.declared.events.EventVerdict.TheVariants.{Taken}
+use Rattle.member_events.specs.Below.{signed, OwnClaim}
+use Rattle.member_events.specs.declared.events.Event.{Event}
+use Rattle.member_events.specs.declared.events.Event.TheVariants as events
+use Rattle.member_events.specs.declared.events.Outcome.{Outcome}
+use Rattle.member_events.specs.declared.events.EventVerdict.TheVariants.{Taken}
 use Rattle.journal_defs.specs.Entries.{IsEntry, IsEvent, AreSignatures}
 use Rattle.journal_entries.specs.Views.{event as plain_event, turn_entry, signatures_of}
 use Rattle.member_signing.specs.States.{event, refusal as verdict-of}

@@ -2,7 +2,7 @@
 use Rattle.std.proofs.Common.{◌≡◌, ℕ, List, Bool}
 use Rattle.group_defs.specs.Process.{Setting, Process}
 use Rattle.group_defs.specs.Events.{Event}
-use Rattle.stmt_codec.specs.declared.events.Outcome.{Outcome as Came}
+use Rattle.member_events.specs.declared.events.Outcome.{Outcome as Came}
 use Rattle.member_core.specs.declared.member.Core.{Core}
 use Rattle.member_signing.specs.States.{ProcessState, IsStateOf}
 use Rattle.member_core.specs.Cores.{IsCore, Steps, Takes, me_of, turn_of}

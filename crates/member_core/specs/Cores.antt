@@ -4,7 +4,7 @@ use Rattle.group_defs.specs.Views.{View}
 use Rattle.group_defs.specs.Process.{Setting, Process, all_kinds}
 use Rattle.group_defs.specs.Events as defs
 use Rattle.event_laws.specs.Slots.{most_signed}
-use Rattle.stmt_codec.specs.declared.events.Outcome.{Outcome}
+use Rattle.member_events.specs.declared.events.Outcome.{Outcome}
 use Rattle.member_signing.specs.States.{IsStateOf, IsOutcome}
 use Rattle.member_core.specs.declared.member.Core.{Core}
 use Rattle.member_core.specs.declared.member.Keyless.{Keyless}

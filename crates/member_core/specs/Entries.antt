@@ -5,9 +5,9 @@ use Rattle.std.specs.List.{list_all}
 use Rattle.group_defs.specs.Process.{Setting, Process}
 use Rattle.group_defs.specs.Hearing.{is_valid}
 use Rattle.group_defs.specs.Events as defs
-use Rattle.stmt_codec.specs.declared.events.Event.{Event}
-use Rattle.stmt_codec.specs.declared.events.Event.TheVariants as events
-use Rattle.stmt_codec.specs.declared.events.Outcome.{Outcome}
+use Rattle.member_events.specs.declared.events.Event.{Event}
+use Rattle.member_events.specs.declared.events.Event.TheVariants as events
+use Rattle.member_events.specs.declared.events.Outcome.{Outcome}
 use Rattle.member_signing.specs.States.{IsOutcome}
 use Rattle.member_core.specs.declared.member.Core.{Core}
 use Rattle.member_core.specs.Cores.{IsCore}

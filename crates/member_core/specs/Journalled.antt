@@ -1,7 +1,7 @@
 -- What the signatures of an entry are as a signer's.
 use Rattle.std.specs.Prelude.{◌≡◌, ℕ, ◌+◌, ◌-◌, true, List, [], length, slice_index_or, refl}
 use Rattle.rp_base.specs.Signer.{KeyKeeps}
-use Rattle.stmt_codec.specs.Kept.{signatures_left}
+use Rattle.member_events.specs.Kept.{signatures_left}
 use Rattle.member_core.specs.declared.journalled.Journalled.{Journalled}
 
 -- how many signatures were made

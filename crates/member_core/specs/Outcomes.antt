@@ -9,9 +9,9 @@ use Rattle.group_defs.specs.Settle.{decide, deliver, settle}
 use Rattle.group_defs.specs.Sending.{Bundle, bundle, others, unless_empty}
 use Rattle.group_defs.specs.Events as defs
 use Rattle.event_laws.specs.Slots.{most_signed}
-use Rattle.stmt_codec.specs.Views.{signed}
-use Rattle.stmt_codec.specs.declared.events.Outcome.{Outcome}
-use Rattle.stmt_codec.specs.declared.events.EventVerdict.TheVariants.{Taken}
+use Rattle.member_events.specs.Below.{signed}
+use Rattle.member_events.specs.declared.events.Outcome.{Outcome}
+use Rattle.member_events.specs.declared.events.EventVerdict.TheVariants.{Taken}
 use Rattle.member_signing.specs.States.{ProcessState, IsStateOf, frame_to, frames_to, note, IsOutcome}
 
 -- what an event answers that is refused: its fault alone

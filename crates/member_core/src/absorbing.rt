@@ -6,8 +6,8 @@ ghost use Rattle.message_defs.specs.Spelling.{IsStatement};
 ghost use Rattle.message_defs.specs.Packing.{signed_of};
 ghost use Rattle.group_defs.specs.Process.{Setting, Process};
 ghost use Rattle.group_defs.specs.Hearing as hearing;
-ghost use Rattle.stmt_codec.specs.Views.{signed};
-ghost use Rattle.stmt_codec.specs.Kept.{signatures_left};
+ghost use Rattle.member_events.specs.Below.{signed};
+ghost use Rattle.member_events.specs.Kept.{signatures_left};
 ghost use Rattle.member_sending.specs.Below.{Shares};
 ghost use Rattle.group_defs.specs.Events as defs;
 ghost use Rattle.member_signing.specs.States.{event as event_of, IsOutcome};
@@ -17,9 +17,9 @@ ghost use Rattle.member_core.specs.Entries.{Agrees, Absorbs};
 use crate::attempts::attempt;
 use crate::journalled::Journalled;
 use crate::member::{Core, Keyless};
+use member_events::{Claim, Entry, EntrySignatures, Outcome, OwnClaim, read_statement};
 use member_sending::{Judge, is_signed};
 use rp_base::{NoMemory, Scheme, Tally};
-use stmt_codec::{Claim, Entry, EntrySignatures, Outcome, OwnClaim, read_statement};
 
 /// Why an entry of a journal was not absorbed.
 #[derive(Clone, Copy, Debug, PartialEq, Eq)]

@@ -8,11 +8,11 @@ ghost use Rattle.member_sending.specs.Sends.{IsEmpty};
 ghost use Rattle.member_core.specs.Outcomes.{refusing, is_asked, HasTaken};
 
 use crate::halves::take;
+use member_events::{Event, EventFault, EventVerdict, Outcome};
 use member_sending::{Frames, Judge, admit};
 use member_signing::{Before, ProcessState};
 use rp_base::{NoMemory, Scheme, Signer, Tally};
 use std::alloc::Global;
-use stmt_codec::{Event, EventFault, EventVerdict, Outcome};
 
 // Whether the event asks for an update.
 fn is_asking(event: &Event<'_>) -> bool

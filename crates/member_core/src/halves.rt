@@ -9,12 +9,12 @@ ghost use Rattle.member_sending.specs.Sends.{IsEmpty};
 ghost use Rattle.member_core.specs.Outcomes.{HasBegun, HasEnded, HasTaken};
 
 use crate::notes::tell;
+use member_events::{EventVerdict, Outcome};
 use member_sending::{Frames, Input, Judge, send_answers, send_bundle, take_in};
 use member_settling::settle;
 use member_signing::{Before, ProcessState, sign_all};
 use rp_base::{NoMemory, Scheme, Signer, Tally};
 use std::alloc::Global;
-use stmt_codec::{EventVerdict, Outcome};
 
 // Whether the process is asked to send again what it signed.
 fn is_tick(input: &Input<'_>) -> bool

@@ -1,9 +1,9 @@
 //! The signatures that a journal's entry keeps, in place of those that a key makes.
 ghost use Rattle.std.specs.Prelude.{◌≡◌, ◌+◌, ◌-◌, ◌≤◌, length, drop};
-ghost use Rattle.stmt_codec.specs.Kept.{signatures_left};
+ghost use Rattle.member_events.specs.Kept.{signatures_left};
 
+use member_events::EntrySignatures;
 use rp_base::{Signer, Spent, Tally};
-use stmt_codec::EntrySignatures;
 
 /// The most bytes of a signature.
 const SIGNATURE_BYTES: usize = 16_384;

@@ -12,7 +12,7 @@ mod telling;
 
 pub use absorbing::AbsorbFault;
 pub use member::Core;
-pub use member_signing::{Account, Delivered, PhaseWord};
-pub use stmt_codec::{
+pub use member_events::{
     Entry, Event, EventFault, EventVerdict, Note, Outcome, OwnClaim, Payload, Sending,
 };
+pub use member_signing::{Account, Delivered, PhaseWord};

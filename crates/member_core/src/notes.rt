@@ -5,9 +5,9 @@ ghost use Rattle.group_defs.specs.Events as defs;
 ghost use Rattle.member_signing.specs.States.{note, IsStateOf};
 ghost use Rattle.member_core.specs.Outcomes.{halts, liars_from};
 
+use member_events::Note;
 use member_signing::{Conflicts, ProcessState};
 use rp_base::NoMemory;
-use stmt_codec::Note;
 
 // Reports the signer of each pair from this place on.
 fn tell_liars(conflicts: &Conflicts, from: usize, notes: &mut Vec<Note>) -> Result<(), NoMemory>

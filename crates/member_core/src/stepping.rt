@@ -4,16 +4,16 @@ ghost use Rattle.group_defs.specs.Process.{Setting, Process};
 ghost use Rattle.event_laws.specs.Slots.{most_signed};
 ghost use Rattle.journal_defs.specs.Entries.{IsEntry};
 ghost use Rattle.journal_entries.specs.Views.{event as plain_event, turn_entry};
-ghost use Rattle.stmt_codec.specs.declared.events.EventVerdict.TheVariants.{Taken};
+ghost use Rattle.member_events.specs.declared.events.EventVerdict.TheVariants.{Taken};
 ghost use Rattle.member_signing.specs.States.{event as event_of};
 ghost use Rattle.member_core.specs.Cores.{IsCore, IsKeyless, Steps, Takes, signer_of};
 ghost use Rattle.member_core.specs.Entries.{NamesProcesses};
 
 use crate::attempts::attempt;
 use crate::member::{Core, Keyless};
+use member_events::{Event, Outcome};
 use member_sending::Judge;
 use rp_base::{NoMemory, Retract, Scheme, Signer, Tally};
-use stmt_codec::{Event, Outcome};
 
 impl Keyless {
     // One event, with this signer.

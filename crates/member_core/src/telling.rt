@@ -4,17 +4,17 @@ ghost use Rattle.std.specs.Option.{option_map};
 ghost use Rattle.group_defs.specs.Process.{Setting, Process, all_kinds, start};
 ghost use Rattle.group_defs.specs.Accounts.{account_of};
 ghost use Rattle.group_defs.specs.Settle.{phase_of};
-ghost use Rattle.stmt_codec.specs.Views.{claim as claim_of};
+ghost use Rattle.member_events.specs.Below.{claim as claim_of};
 ghost use Rattle.member_signing.specs.States.{IsReal, IsStateOf, account, word, kept_of, liars_of, halted_at};
 ghost use Rattle.member_core.specs.Cores.{IsCore, Shares, me_of, signer_of};
 
 use crate::attempts::Rooms;
 use crate::member::{Core, Keyless};
+use member_events::Claim;
 use member_sending::Frames;
 use member_signing::{Account, PhaseWord, ProcessState};
 use rp_base::{GroupId, NoMemory, Pid, PidSet, Roster, Tally};
 use std::alloc::Global;
-use stmt_codec::Claim;
 use view_table::View;
 
 impl<G: Tally + Drop> Core<G> {

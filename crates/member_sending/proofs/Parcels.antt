@@ -4,7 +4,7 @@ use Rattle.std.specs.Prelude.{flat_map}
 use Rattle.std.proofs.lemmas.List.{append-nil, map-append}
 use Rattle.message_defs.specs.Statements.{Claim}
 use Rattle.group_defs.specs.Sending.{Parcel, Bundle, Proof, Want, frames_of, sends_to, unless_empty}
-use Rattle.stmt_codec.specs.declared.events.Sending.{Sending}
+use Rattle.member_events.specs.declared.events.Sending.{Sending}
 use Rattle.member_taking.specs.States.{frame_to, frames_to}
 use Rattle.member_sending.specs.Sends.{each_to}
 

@@ -8,9 +8,9 @@ ghost use Rattle.member_taking.specs.Inputs.{handed, InRange};
 ghost use Rattle.member_sending.specs.Sends.{IsEmpty};
 
 use crate::sends::{hand_over, is_nobody, others};
+use member_events::Sending;
 use member_taking::{Frames, Input, ProcessState};
 use rp_base::{NoMemory, Pid, PidSet};
-use stmt_codec::Sending;
 
 // Answers the Want of a process that has a key.
 fn answer(

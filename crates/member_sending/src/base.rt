@@ -4,14 +4,14 @@ ghost use Rattle.std.specs.List.{list_any};
 ghost use Rattle.group_defs.specs.Process.{Process};
 ghost use Rattle.group_defs.specs.Sending as sending;
 ghost use Rattle.group_defs.specs.Due.{same_message};
-ghost use Rattle.stmt_codec.specs.Views.{message, stmt};
+ghost use Rattle.member_events.specs.Below.{message, stmt};
 ghost use Rattle.accounts.specs.Views.{delivery};
 ghost use Rattle.sent_claims.specs.Beside.{chosen};
 ghost use Rattle.member_sending.specs.Began.{HasDone};
 
+use member_events::Statement;
 use member_taking::{Delivered, ProcessState};
 use rp_base::{NoMemory, Pid};
-use stmt_codec::Statement;
 
 // Whether it is the message of this number of this sender.
 fn is_of(one: &Delivered, sender: Pid, number: u16) -> bool

@@ -9,9 +9,9 @@ ghost use Rattle.member_sending.specs.Sends.{IsEmpty};
 
 use crate::base::base_places;
 use crate::sends::{hand_over, is_nobody, others};
+use member_events::Sending;
 use member_taking::{Frames, ProcessState};
 use rp_base::NoMemory;
-use stmt_codec::Sending;
 
 // Whether nothing is to be sent: nothing is new, and nothing is to be repeated.
 fn is_silent(tick: bool, newly: usize) -> bool

@@ -5,9 +5,9 @@ ghost use Rattle.claim_index.specs.Kept.{by_number};
 ghost use Rattle.member_taking.specs.States.{frame_to};
 ghost use Rattle.member_sending.specs.Sends.{each_to, IsEmpty};
 
+use member_events::Sending;
 use member_taking::Frames;
 use rp_base::{NoMemory, Pid, PidSet};
-use stmt_codec::Sending;
 use view_table::View;
 
 /// The other members of the view, rising.

@@ -18,7 +18,7 @@ use Rattle.group_defs.specs.Certified.{certificate, is_ended}
 use Rattle.group_defs.specs.Settle.{install}
 use Rattle.group_defs.specs.Accounts.{Account, account_of}
 use Rattle.group_defs.specs.Events.{Note, Installs, note_if}
-use Rattle.stmt_codec.specs.declared.events.Note as code
+use Rattle.member_events.specs.declared.events.Note as code
 use Rattle.member_state.specs.Events.{note}
 use Rattle.member_settling.specs.Reported.{TellsInstalled}
 use Rattle.member_settling.specs.Begun.{IsLast}

@@ -18,7 +18,7 @@ use Rattle.member_laws.specs.Lawful.{IsLawful}
 use Rattle.member_laws.specs.Telling.{OnePlaceMore}
 use Rattle.member_laws.proofs.Telling.{delivering_tells}
 use Rattle.member_state.specs.declared.state.ProcessState.{ProcessState}
-use Rattle.stmt_codec.specs.declared.events.Note as notes
+use Rattle.member_events.specs.declared.events.Note as notes
 use Rattle.member_state.specs.Events.{note}
 use Rattle.member_state.specs.States.{IsStateOf}
 use Rattle.member_settling.specs.Reported.{ArePutLast}

@@ -12,7 +12,7 @@ use Rattle.group_defs.specs.Process.{Setting, Process, places_in}
 use Rattle.group_defs.specs.Events.{Note, Delivers}
 use Rattle.group_defs.specs.Settle.{deliverable, deliver, deliver_more, limit}
 use Rattle.pool_laws.proofs.Tests.{map-some}
-use Rattle.stmt_codec.specs.declared.events.Note as code
+use Rattle.member_events.specs.declared.events.Note as code
 use Rattle.own_place.specs.Owns.{HasDelivered}
 use Rattle.member_state.specs.Below.{batch_in}
 use Rattle.member_state.specs.declared.state.ProcessState.{ProcessState}

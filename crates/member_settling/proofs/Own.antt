@@ -3,7 +3,7 @@ use Rattle.std.proofs.Common.{◌≡◌, ℕ, ◌+◌, List, [], ◌∷◌, map,
 use Rattle.std.specs.Prelude.{◌==◌, count_by, fold}
 use Rattle.group_defs.specs.Process as defs
 use Rattle.group_defs.specs.Process.{delivered_from}
-use Rattle.stmt_codec.specs.declared.events.Delivered.{Delivered}
+use Rattle.member_events.specs.declared.events.Delivered.{Delivered}
 use Rattle.accounts.specs.Views.{delivery}
 
 alike : (me n : ℕ) (ds : List Delivered)

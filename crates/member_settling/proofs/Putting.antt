@@ -7,10 +7,10 @@ use Rattle.group_defs.specs.Process.{Pool}
 use Rattle.group_defs.specs.Certified.{payload_at}
 use Rattle.group_defs.specs.Events.{Delivers}
 use Rattle.group_defs.specs.Settle.{delivery}
-use Rattle.stmt_codec.specs.Batches.{message_of}
+use Rattle.member_events.specs.Below.{message_of}
 use Rattle.pool_laws.proofs.Tests.{map-some, some-same, then-some}
-use Rattle.stmt_codec.specs.declared.events.Delivered.{Delivered}
-use Rattle.stmt_codec.specs.declared.events.Note.{Note}
+use Rattle.member_events.specs.declared.events.Delivered.{Delivered}
+use Rattle.member_events.specs.declared.events.Note.{Note}
 use Rattle.accounts.specs.Views as accounts
 use Rattle.member_state.specs.Events.{note}
 use Rattle.member_settling.specs.Reported.{ArePut, HasMore}

@@ -8,7 +8,7 @@ use Rattle.group_defs.specs.Views.{is_member}
 use Rattle.group_defs.specs.Process.{Setting, Process, places_in}
 use Rattle.group_defs.specs.Events.{Note, Delivers, Installs, note_if}
 use Rattle.group_defs.specs.Settle.{install, leave, leave_by, Observing, OpenView, ClosingView}
-use Rattle.stmt_codec.specs.declared.events.Note as code
+use Rattle.member_events.specs.declared.events.Note as code
 use Rattle.member_state.specs.Below.{DecidedView, HaltedView, Phase, IsIn, IsHalted, counts, decided}
 use Rattle.member_state.specs.Phases as phases
 use Rattle.member_state.specs.declared.state.ProcessState.{ProcessState}

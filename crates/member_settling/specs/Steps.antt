@@ -5,7 +5,7 @@ use Rattle.message_defs.specs.Statements.{Batch}
 use Rattle.group_defs.specs.Process as defs
 use Rattle.group_defs.specs.Process.{Setting, Process, places_in}
 use Rattle.group_defs.specs.Settle.{deliverable, limit}
-use Rattle.stmt_codec.specs.declared.events.Note.{Note}
+use Rattle.member_events.specs.declared.events.Note.{Note}
 use Rattle.member_state.specs.Below.{batch_in, Phase}
 use Rattle.member_state.specs.declared.state.ProcessState.{ProcessState}
 use Rattle.member_state.specs.States.{IsStateOf}

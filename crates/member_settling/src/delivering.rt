@@ -5,18 +5,18 @@ ghost use Rattle.group_defs.specs.Process.{Setting, Process, places_in};
 ghost use Rattle.group_defs.specs.Certified.{payload_at};
 ghost use Rattle.group_defs.specs.Settle as settle;
 ghost use Rattle.accounts.specs.Views.{delivery};
-ghost use Rattle.stmt_codec.specs.Batches.{message_of};
+ghost use Rattle.member_events.specs.Below.{message_of};
 ghost use Rattle.member_state.specs.Below.{IsIn};
 ghost use Rattle.member_state.specs.Marks.{Stays};
 ghost use Rattle.member_state.specs.States.{IsStateOf, IsReal};
 ghost use Rattle.member_settling.specs.Reported.{ArePut, ArePutLast, HasMore, HasMoreLast};
 ghost use Rattle.member_settling.specs.Steps.{ComesNext, Delivers};
 
+use member_events::{Batch, Note, Payload};
 use member_state::{Before, Delivered, Phase, Pool, ProcessState, deliver_batch, deliverable};
 use rank_rules::certified_payload;
 use rp_base::{NoMemory, Pid};
 use std::alloc::Global;
-use stmt_codec::{Batch, Note, Payload};
 
 // How many places may be delivered in the view: the cut where it is decided, else one more than the greatest kept place.
 fn limit_of(phase: &Phase, pool: &Pool) -> u16

@@ -27,6 +27,7 @@ ghost use Rattle.member_settling.specs.Steps.{in_phase, IsLeaving, CanLeave, Lea
 ghost use Rattle.member_settling.specs.Begun.{IsLast, HasShortLast};
 
 use arrayvec::ArrayVec;
+use member_events::Note;
 use member_state::{
     Account, Before, ClaimList, DecidedView, Decision, Delivered, Displaced, LeftView, Own,
     Perceived, Phase, Pool, ProcessState, SaidBefore, Settled, begin_view,
@@ -34,7 +35,6 @@ use member_state::{
 use rp_base::{NoMemory, Pid, Update};
 use std::alloc::Global;
 use std::mem;
-use stmt_codec::Note;
 use view_table::{View, next};
 
 // How many places count as delivered: a member's own, and the cut of one who is no member.

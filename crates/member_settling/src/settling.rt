@@ -9,10 +9,10 @@ ghost use Rattle.member_state.specs.States.{IsStateOf, IsReal};
 use crate::deciding::decide;
 use crate::delivering::deliver;
 use crate::leaving::leave;
+use member_events::Note;
 use member_state::{Before, ProcessState};
 use rp_base::NoMemory;
 use std::alloc::Global;
-use stmt_codec::Note;
 
 /// Settles an event: the view is decided, then what may be delivered is, and then the view is left. What was delivered, and the view
 /// that was installed, are reported after the other notes. Without memory nothing is promised of the state but that it can go back to its

@@ -9,7 +9,6 @@ ghost use Rattle.group_defs.specs.Due.{may_sign};
 ghost use Rattle.group_defs.specs.Values as values;
 ghost use Rattle.group_defs.specs.Signing.{Signer, own_claim, signs};
 ghost use Rattle.stmt_codec.specs.Views.{stmt, signed, claim as claim_of};
-ghost use Rattle.claim_index.specs.Kept.{claim_bytes};
 ghost use Rattle.own_place.specs.Owns.{Tells};
 ghost use Rattle.own_place.specs.Signed.{has_slot};
 ghost use Rattle.member_state.specs.Below.{IsIn};
@@ -20,7 +19,7 @@ ghost use Rattle.member_signing.specs.Signed.{IsUndecided, IsOwed, IsReadable};
 use claim_lists::ClaimList;
 use member_state::{Before, Own, Phase, Pool, ProcessState};
 use rp_base::NoMemory;
-use stmt_codec::{Claim, OwnClaim, Statement, read_statement, spelled_len};
+use stmt_codec::{Claim, OwnClaim, Statement, claim_len, read_statement};
 use view_table::View;
 
 // The claim in these bytes.
@@ -45,14 +44,6 @@ fn read_own(own: &OwnClaim) -> Claim<'_>
     }
 }
 
-// How many bytes the claim's statement and signature have.
-fn bytes_of(claim: &Claim<'_>) -> usize
-    requires { IsClaim (claim_of claim.now) }
-    ensures { result ≡ claim_bytes (claim_of claim.now) }
-{
-    spelled_len(&claim.statement) + claim.signature.len()
-}
-
 // Hears the own claim.
 fn hear(pool: &mut Pool, claim: &Claim<'_>) -> Result<(), NoMemory>
     requires { IsClaim (claim_of claim.now) }
@@ -61,7 +52,7 @@ fn hear(pool: &mut Pool, claim: &Claim<'_>) -> Result<(), NoMemory>
         → OnOk result ((signs s signer p (stmt claim.now.statement)).pool ≡ pool.new.pool) }
     ensures marked { pool.new.marked ≡ pool.old.marked }
 {
-    pool.reserve(1, bytes_of(claim))?;
+    pool.reserve(1, claim_len(claim))?;
     pool.hear_own(claim);
     Ok(())
 }
@@ -87,7 +78,7 @@ fn keep(said: &mut ClaimList, claim: &Claim<'_>) -> Result<(), NoMemory>
     ensures kept { OnOk result (said.new.claims ≡ said.old.claims ++ claim_of claim.now ∷ []) }
     ensures marked { said.new.marked ≡ said.old.marked }
 {
-    said.reserve(1, bytes_of(claim))?;
+    said.reserve(1, claim_len(claim))?;
     said.push(claim);
     Ok(())
 }

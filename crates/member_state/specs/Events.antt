@@ -7,15 +7,15 @@ use Rattle.group_defs.specs.Events as defs
 use Rattle.group_defs.specs.Sending as parcels
 use Rattle.view_table.specs.Views.{as_view}
 use Rattle.ending_rules.specs.Perceiving.{fault}
-use Rattle.stmt_codec.specs.Views.{signed}
-use Rattle.stmt_codec.specs.declared.events.Event.{Event}
-use Rattle.stmt_codec.specs.declared.events.Event.TheVariants as events
-use Rattle.stmt_codec.specs.declared.events.EventVerdict.{EventVerdict}
-use Rattle.stmt_codec.specs.declared.events.EventVerdict.TheVariants.{Taken, Refused}
-use Rattle.stmt_codec.specs.declared.events.Sending.{Sending}
-use Rattle.stmt_codec.specs.declared.events.Note.{Note}
-use Rattle.stmt_codec.specs.declared.events.Note.TheVariants as notes
-use Rattle.stmt_codec.specs.declared.events.Outcome.{Outcome}
+use Rattle.member_events.specs.Below.{signed}
+use Rattle.member_events.specs.declared.events.Event.{Event}
+use Rattle.member_events.specs.declared.events.Event.TheVariants as events
+use Rattle.member_events.specs.declared.events.EventVerdict.{EventVerdict}
+use Rattle.member_events.specs.declared.events.EventVerdict.TheVariants.{Taken, Refused}
+use Rattle.member_events.specs.declared.events.Sending.{Sending}
+use Rattle.member_events.specs.declared.events.Note.{Note}
+use Rattle.member_events.specs.declared.events.Note.TheVariants as notes
+use Rattle.member_events.specs.declared.events.Outcome.{Outcome}
 
 -- the event; of a frame, what its bytes say
 abbrev pub event : Event → defs.Event

@@ -5,19 +5,19 @@ ghost use Rattle.group_defs.specs.Accounts.{account_of};
 ghost use Rattle.own_place.specs.Words.{empty_pool};
 ghost use Rattle.own_place.specs.Owns.{Tells};
 ghost use Rattle.accounts.specs.Views.{account};
-ghost use Rattle.stmt_codec.specs.Views.{claim as claim_of};
+ghost use Rattle.member_events.specs.Below.{claim as claim_of};
 ghost use Rattle.member_state.specs.States.{ArePairs, IsStateOf, StartsWith, kept_of, signers_in, liars_of, halted_at};
 
 use crate::left::{LeftView, SaidBefore};
 use accounts::Account;
 use ending_rules::Perceived;
+use member_events::Claim;
 use own_moves::no_counts;
 use own_place::SignedSlots;
 use reliable_mcast::{Archive, ClaimList, Conflicts};
 use rp_base::{NoMemory, Pid, PidSet, Roster};
 use std::alloc::Global;
 use std::mem;
-use stmt_codec::Claim;
 use view_phases::{Own, Phase, Pool};
 use view_table::View;
 

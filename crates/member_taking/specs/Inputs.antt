@@ -6,7 +6,7 @@ use Rattle.message_defs.specs.Spelling.{IsClaim}
 use Rattle.message_defs.specs.Claims as frames
 use Rattle.group_defs.specs.Events as defs
 use Rattle.rp_base.specs.Views.{update as update_of}
-use Rattle.stmt_codec.specs.Left.{claims_left}
+use Rattle.member_events.specs.Below.{claims_left}
 use Rattle.member_state.specs.Perceiving.{asking}
 use Rattle.member_taking.specs.declared.inputs.Input.{Input}
 use Rattle.member_taking.specs.declared.inputs.Input.TheVariants.{Payload, Claims, Want, Update, Tick}

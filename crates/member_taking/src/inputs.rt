@@ -6,8 +6,8 @@ ghost use Rattle.group_defs.specs.Events.{Hand, refusals};
 ghost use Rattle.member_taking.specs.Inputs.{handed, InRange};
 
 use frame_codec::{FrameView, split_frame};
+use member_events::{Claims, FrameFault, claims_of};
 use rp_base::{Pid, Update};
-use stmt_codec::{Claims, FrameFault, claims_of};
 
 /// What is handed to a process, read. `handed` of the specs says what it is in the definitions.
 #[derive(Clone, Copy)]

@@ -14,9 +14,9 @@ ghost use Rattle.member_state.specs.Events.{event as event_of};
 ghost use Rattle.member_taking.specs.Inputs.{handed, InRange};
 
 use crate::inputs::{Input, read_frame};
+use member_events::{Event, EventFault, PAYLOAD_BYTES};
 use member_state::{ProcessState, counts_of, perceive};
 use rp_base::{Pid, Update};
-use stmt_codec::{Event, EventFault, PAYLOAD_BYTES};
 
 /// The most accepted payloads that are not delivered yet.
 const MOST_WAITING: usize = 256;

@@ -8,7 +8,7 @@ ghost use Rattle.group_defs.specs.Hearing as hearing;
 ghost use Rattle.group_defs.specs.Events as defs;
 ghost use Rattle.group_defs.specs.Events.{Submit, refusal, perceives, perceived_numbers};
 ghost use Rattle.rp_base.specs.Views.{update as update_of};
-ghost use Rattle.stmt_codec.specs.Left.{claims_left};
+ghost use Rattle.member_events.specs.Below.{claims_left};
 ghost use Rattle.member_state.specs.Perceiving.{asking};
 ghost use Rattle.claim_hearing.specs.Hearing.{Shares};
 ghost use Rattle.accounts.specs.Views.{account as account_of, perceived as perceived_of};
@@ -19,9 +19,9 @@ ghost use Rattle.member_taking.specs.Inputs.{handed, asks, InRange, most_claims}
 use crate::inputs::Input;
 use accounts::Account;
 use claim_hearing::{Judge, hear_all};
+use member_events::{Claims, Payload};
 use member_state::{Before, ProcessState, perceive};
 use rp_base::{NoMemory, Scheme, Update};
-use stmt_codec::{Claims, Payload};
 
 // Accepts the payload.
 fn accept(state: &mut ProcessState, payload: &[u8]) -> Result<(), NoMemory>

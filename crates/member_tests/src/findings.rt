@@ -1,9 +1,9 @@
 use accounts::{Account, Payload};
 use findings_json::{Conviction, Findings, push_findings};
+use member_events::OwnClaim;
 use rp_base::Pid;
 use std::alloc::Global;
 use std::test::Fail;
-use stmt_codec::OwnClaim;
 use view_table::View;
 
 // An audit of processes 0 and 1 by two journals in which process 3 says two things in its Echo of one message.

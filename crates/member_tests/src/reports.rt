@@ -1,4 +1,5 @@
 use accounts::{Account, Delivered, Payload};
+use member_events::EventFault;
 use member_image::PhaseWord;
 use message_defs::FrameFault;
 use report_lines::{
@@ -8,7 +9,6 @@ use report_lines::{
 use rp_base::{Pid, PidSet};
 use std::alloc::Global;
 use std::test::Fail;
-use stmt_codec::EventFault;
 use view_table::View;
 
 fn pid(n: u8) -> Result<Pid, Fail> {

@@ -12,9 +12,9 @@ use Rattle.group_defs.specs.Events as defs
 use Rattle.group_defs.specs.Events.{after, journalled}
 use Rattle.journal_defs.specs.Entries as entries
 use Rattle.journal_entries.specs.Views.{entry as entry_of}
-use Rattle.stmt_codec.specs.declared.entry.Entry.{Entry}
-use Rattle.stmt_codec.specs.declared.events.Outcome.{Outcome}
-use Rattle.stmt_codec.specs.Kept.{signatures_left}
+use Rattle.member_events.specs.declared.entry.Entry.{Entry}
+use Rattle.member_events.specs.declared.events.Outcome.{Outcome}
+use Rattle.member_events.specs.Kept.{signatures_left}
 use Rattle.sig_scheme.specs.declared.any_signer.AnySigner.{AnySigner}
 use Rattle.sig_scheme.specs.Signers.{used, total, signature, SameKey, any_keeps}
 use Rattle.hosted_core.specs.Cores.{IsCore, left_of, me_of, signer_of}

@@ -9,11 +9,10 @@ use Rattle.journal_defs.specs.Entries as plain
 use Rattle.journal_defs.specs.Entries.{Entry, IsEntry}
 use Rattle.journal_defs.specs.Crashes.{staged}
 use Rattle.journal_entries.specs.Views.{event as plain_event, turn_entry}
-use Rattle.stmt_codec.specs.declared.events.Event.{Event}
-use Rattle.stmt_codec.specs.declared.events.Event.TheVariants as events
-use Rattle.stmt_codec.specs.declared.events.Outcome.{Outcome}
-use Rattle.stmt_codec.specs.declared.own.OwnClaim.{OwnClaim}
-use Rattle.stmt_codec.specs.Views.{signed}
+use Rattle.member_events.specs.declared.events.Event.{Event}
+use Rattle.member_events.specs.declared.events.Event.TheVariants as events
+use Rattle.member_events.specs.declared.events.Outcome.{Outcome}
+use Rattle.member_events.specs.Below.{OwnClaim, signed}
 use Rattle.journal_rp.specs.Turns as rp
 use Rattle.sig_scheme.specs.declared.any_signer.AnySigner.{AnySigner}
 use Rattle.sig_scheme.specs.Signers.{used, total, signature}

@@ -2,7 +2,7 @@
 use Rattle.std.proofs.Common.{ℕ, List, [], ◌∷◌, ◌++◌, refl, sym}
 use Rattle.std.proofs.lemmas.List.{append-nil}
 use Rattle.group_defs.specs.Process.{Process}
-use Rattle.stmt_codec.specs.declared.events.Sending.{Sending}
+use Rattle.member_events.specs.declared.events.Sending.{Sending}
 use Rattle.node_defs.specs.Casts.{Cast}
 use Rattle.node_defs.specs.Nodes.{Call, Words, Answer, Done, Said}
 use Rattle.node_traces.specs.Service.{Asked, one_asked}

@@ -2,7 +2,7 @@
 use Rattle.std.specs.Prelude.{◌≡◌, ◌≢◌, ℕ, ◌<◌, ◌≤◌, Bool, true, false, List, [], ◌∷◌, ◌++◌, length, map, flat_map, All, Option, Some, None, IsTrue}
 use Rattle.byte_defs.specs.Members.{has}
 use Rattle.group_defs.specs.Process.{Process, keyed}
-use Rattle.stmt_codec.specs.declared.events.Sending.{Sending}
+use Rattle.member_events.specs.declared.events.Sending.{Sending}
 use Rattle.node_defs.specs.Casts.{Cast}
 use Rattle.node_defs.specs.Nodes.{Call, Words, Answer, Done, Said, Named}
 use Rattle.node_text.specs.Outcomes.{frame_to}

@@ -1,3 +1,3 @@
 -- An event of a process, in the words of the crates below, passed on.
 pub use Rattle.journal_entries.specs.Views.{event}
-pub use Rattle.stmt_codec.specs.declared.events.Event.{Event}
+pub use Rattle.member_events.specs.declared.events.Event.{Event}

@@ -6,5 +6,5 @@ pub use Rattle.journal_defs.specs.Entries.{Event}
 pub use Rattle.journal_defs.specs.declared.Version.{Version}
 pub use Rattle.node_defs.specs.Casts.{Cast, cast_of, host_of, hosted_by}
 pub use Rattle.node_defs.specs.Nodes.{Answer, Asks, Call, Done, Named, Said, Serves, TellsOf, Words}
-pub use Rattle.stmt_codec.specs.declared.events.Sending.{Sending}
+pub use Rattle.member_events.specs.declared.events.Sending.{Sending}
 pub use Rattle.node_traces.specs.Service.{Asked, HeardBy, one_asked}

@@ -6,6 +6,7 @@ mod service;
 mod silent;
 mod stopping;
 
+pub use member_events::{Note, Outcome, Sending};
 pub use node_hosts::{
     AbsorbFault, AnySigner, Core, Counts, Entry, Event, EventFault, Host, Hosted, Hosts, Kit,
     LinkKeys, Running, Taken,
@@ -16,5 +17,4 @@ pub use node_text::{
 };
 pub use service::Service;
 pub use silent::NoService;
-pub use stmt_codec::{Note, Outcome, Sending};
 pub use stopping::stop_at;

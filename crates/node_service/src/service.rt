@@ -9,9 +9,9 @@ ghost use Rattle.node_traces.specs.Service.{Asked, HeardBy, one_asked};
 ghost use Rattle.node_service.specs.Words.{AreHosts, IsHosted, note as note_of, event as event_of};
 ghost use Rattle.node_service.specs.Answers.{AnswersLine, GoesOn, IsAbove, Tells, named_by};
 
+use member_events::{Note, Sending};
 use node_hosts::{AnySigner, Event, Hosted, Hosts, Kit};
 use rp_base::{NoMemory, Pid};
-use stmt_codec::{Note, Sending};
 
 /// What is built on the hosted processes of a node: it reports their deliveries in its own words, takes lines of the script, and names
 /// processes that are to be suspected on evidence.

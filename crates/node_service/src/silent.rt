@@ -3,10 +3,10 @@ ghost use Rattle.std.specs.Prelude.{ℕ, List, []};
 ghost use Rattle.node_service.specs.Silent.{AreNothing};
 
 use crate::service::Service;
+use member_events::{Note, Sending};
 use node_hosts::{AnySigner, Event, Hosted, Hosts, Kit};
 use rp_base::{NoMemory, Pid};
 use std::alloc::Global;
-use stmt_codec::{Note, Sending};
 
 /// No service: it says nothing, names nobody and has no line.
 #[derive(Clone, Copy)]

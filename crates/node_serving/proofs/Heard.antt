@@ -8,7 +8,7 @@ use Rattle.byte_defs.specs.Members.{has}
 use Rattle.kit_defs.specs.Kits.{IsKit, Kit}
 use Rattle.group_defs.specs.Process.{Process}
 use Rattle.journal_defs.specs.declared.Version.{Version}
-use Rattle.stmt_codec.specs.declared.events.Sending.{Sending}
+use Rattle.member_events.specs.declared.events.Sending.{Sending}
 use Rattle.node_defs.specs.Casts.{Cast, cast_of}
 use Rattle.node_defs.specs.Nodes.{Answer, Done, Leaving, Said, Words}
 use Rattle.node_traces.specs.Outside.{LinkSeen}

@@ -18,7 +18,7 @@ use Rattle.journal_rp.specs.declared.turn.Unsynced.{Unsynced}
 use Rattle.journal_rp.specs.Stages.{version_of}
 use Rattle.journal_rp.specs.Turns.{outcome_of, process_of, staged_of}
 use Rattle.auth_link.specs.Keys.{known}
-use Rattle.stmt_codec.specs.declared.events.Outcome.{Outcome}
+use Rattle.member_events.specs.declared.events.Outcome.{Outcome}
 use Rattle.sealing_laws.specs.Running.{AnySigner, used, Hosted, IsCore, IsOutcome, IsReal, Running, Host, Hosts, AreHosts, numbers_of, IsHost, IsHosted, IsJournalOf, IsNode, cast_in}
 use Rattle.node_defs.specs.Casts.{Cast, entries_of, entry_for, handed, live}
 use Rattle.node_defs.specs.Nodes.{Node, Task, asks, with_turn}

@@ -6,9 +6,9 @@ use Rattle.group_defs.specs.Events.{Note}
 use Rattle.journal_defs.specs.declared.Version.{Version}
 use Rattle.journal_defs.specs.Entries.{Event, Suspect}
 use Rattle.journal_rp.specs.Stages.{version_of}
-use Rattle.stmt_codec.specs.declared.events.Event.TheVariants as codes
-use Rattle.stmt_codec.specs.declared.events.Note.{Note as CodeNote}
-use Rattle.stmt_codec.specs.declared.events.Outcome.{Outcome}
+use Rattle.member_events.specs.declared.events.Event.TheVariants as codes
+use Rattle.member_events.specs.declared.events.Note.{Note as CodeNote}
+use Rattle.member_events.specs.declared.events.Outcome.{Outcome}
 use Rattle.node_defs.specs.Casts.{cast_of}
 use Rattle.node_defs.specs.Lines.{Stop, expel_line}
 use Rattle.node_defs.specs.Nodes.{Node, Snapper, Task, Take, Say, Ask, Answer, Done, Named, Asks, asks}

@@ -1,7 +1,7 @@
 -- What is left of a turn: the service is asked whom to suspect, where the event was a frame.
 use Rattle.std.specs.Prelude.{ℕ, List, [], map, Option, Some, None}
 use Rattle.journal_defs.specs.Entries.{Event}
-use Rattle.stmt_codec.specs.declared.events.Outcome.{Outcome}
+use Rattle.member_events.specs.declared.events.Outcome.{Outcome}
 use Rattle.node_defs.specs.Nodes.{Task, asks}
 use Rattle.sealing_laws.specs.Service.{note}
 

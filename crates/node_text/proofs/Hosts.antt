@@ -3,7 +3,7 @@ use Rattle.std.proofs.Common.{◌≡◌, ℕ, Vec, Global, map, length, sum, sym
 use Rattle.group_defs.specs.Process.{Process}
 use Rattle.group_defs.specs.Accounts as reported
 use Rattle.group_defs.specs.Accounts.{account_of}
-use Rattle.stmt_codec.specs.declared.events.Delivered.{Delivered}
+use Rattle.member_events.specs.declared.events.Delivered.{Delivered}
 use Rattle.accounts.specs.declared.account.Account.{Account}
 use Rattle.accounts.specs.Views.{account, delivery}
 use Rattle.report_lines.proofs.Reported.{lengths-same}

@@ -3,8 +3,8 @@ ghost use Rattle.std.specs.Prelude.{◌≡◌};
 ghost use Rattle.journal_entries.specs.Views.{event as event_of};
 ghost use Rattle.node_text.specs.Views.{handed};
 
+use member_events::Event;
 use rp_base::Pid;
-use stmt_codec::Event;
 
 /// An event that a line hands to its process, with a payload of its own.
 #[derive(Drop)]

@@ -13,7 +13,7 @@ pub use handed::Handed;
 pub use kit_reading::KitFault;
 pub use lines::{push_drop, push_expel, push_fault, push_host, push_recv, push_refused};
 pub use link_defs::LinkFault;
+pub use member_events::{Event, EventFault, Note};
 pub use script::{Line, Said, read_line};
-pub use stmt_codec::{Event, EventFault, Note};
 pub use stops::Stop;
 pub use telling::push_note;

@@ -11,9 +11,9 @@ ghost use Rattle.node_text.specs.Words.{host_words};
 use crate::words::{Word, process_word, push_line};
 use accounts::{Account, Delivered};
 use link_defs::LinkFault;
+use member_events::EventFault;
 use report_lines::refusal_word;
 use rp_base::{NoMemory, Pid};
-use stmt_codec::EventFault;
 use view_table::View;
 
 // How much was delivered in all views. More than fits into memory can't be kept.

@@ -6,8 +6,8 @@ ghost use Rattle.member_state.specs.Events.{note as note_of};
 ghost use Rattle.node_defs.specs.Lines as plain;
 
 use crate::words::{Word, process_word, push_line};
+use member_events::Note;
 use rp_base::{NoMemory, Pid};
-use stmt_codec::Note;
 
 fn push_delivery(
     out: &mut Vec<u8>,

@@ -5,7 +5,7 @@ use Rattle.std.specs.List.{AllZip}
 use Rattle.std.proofs.lemmas.List.{append-nil, map-append, take_all, take_more, take-append-drop}
 use Rattle.group_defs.specs.Events as defs
 use Rattle.group_defs.specs.Process.{Process}
-use Rattle.stmt_codec.specs.declared.events.Note.{Note}
+use Rattle.member_events.specs.declared.events.Note.{Note}
 use Rattle.node_service.specs.Lines.{note}
 use Rattle.node_defs.specs.Casts.{Cast}
 use Rattle.node_defs.specs.Lines.{note_line}

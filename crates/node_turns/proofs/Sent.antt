@@ -6,7 +6,7 @@ use Rattle.std.proofs.lemmas.Grind.{flat_map-append}
 use Rattle.std.proofs.lemmas.List.{append-nil, append_assoc, map-append, take_all, take_more, take-append-drop}
 use Rattle.group_defs.specs.Process.{Process}
 use Rattle.pool_laws.proofs.Members.{Mem, All-mem, mem-All, mem-map, mem-behind, mem-flat_map, index-mem}
-use Rattle.stmt_codec.specs.declared.events.Sending.{Sending}
+use Rattle.member_events.specs.declared.events.Sending.{Sending}
 use Rattle.node_service.specs.Lines.{frame_to}
 use Rattle.rp_base.specs.Causes.{HasCause}
 use Rattle.rp_base.specs.Links.{Sends as LinkSends}

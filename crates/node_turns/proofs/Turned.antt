@@ -7,9 +7,9 @@ use Rattle.group_defs.specs.Process.{Process}
 use Rattle.group_defs.specs.Sending as parcels
 use Rattle.group_defs.specs.Sending.{frames_of}
 use Rattle.group_defs.specs.Events as defs
-use Rattle.stmt_codec.specs.declared.events.Outcome.{Outcome}
-use Rattle.stmt_codec.specs.declared.events.Sending.{Sending}
-use Rattle.stmt_codec.specs.declared.events.Note.{Note}
+use Rattle.member_events.specs.declared.events.Outcome.{Outcome}
+use Rattle.member_events.specs.declared.events.Sending.{Sending}
+use Rattle.member_events.specs.declared.events.Note.{Note}
 use Rattle.node_service.specs.Lines.{frame_to, frames_to, IsOutcome, note}
 use Rattle.node_defs.specs.Casts.{Cast, letters_of}
 use Rattle.node_defs.specs.Nodes.{Leaving, Tells, leaving_of}

@@ -2,7 +2,7 @@
 use Rattle.std.specs.Prelude.{ℕ, ◌≤◌, List, [], length, map, Option, Result, Ok, Err, IsSome, ◌≡◌, ◌++◌}
 use Rattle.kit_defs.specs.Kits.{Kit}
 use Rattle.group_defs.specs.Process.{Process}
-use Rattle.stmt_codec.specs.declared.events.Note.{Note}
+use Rattle.member_events.specs.declared.events.Note.{Note}
 use Rattle.node_service.specs.Lines.{note}
 use Rattle.node_defs.specs.Casts.{Cast, pair_of}
 use Rattle.node_defs.specs.Nodes.{Leaving, Tells, Answer, Done, Failed}

@@ -9,9 +9,9 @@ ghost use Rattle.node_traces.specs.Service.{Asked, HeardBy};
 ghost use Rattle.letting_laws.specs.Letting.{edge, HasBegun, LetOut};
 ghost use Rattle.node_turns.specs.Letters.{TellsNotes, tells_of};
 
+use member_events::Note;
 use node_service::{AnySigner, Hosted, Service, push_note};
 use rp_base::{NoMemory, Pid};
-use stmt_codec::Note;
 
 // The line of a note, and after it what the service says of it.
 fn tell_note<V: Service>(

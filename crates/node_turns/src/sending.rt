@@ -12,9 +12,9 @@ ghost use Rattle.node_turns.specs.Letters.{IsSealable, letters_in, letters_to, s
 
 use crate::speaker::Speaker;
 use auth_link::{FRAME_BYTES, SEAL_BYTES, seal_into};
+use member_events::Sending;
 use node_service::push_fault;
 use rp_base::{Failed, Link, NoMemory, Pid};
-use stmt_codec::Sending;
 
 /// The most bytes of a frame that is sealed. A room of this size serves for each letter.
 pub const SEALED_BYTES: usize = FRAME_BYTES + SEAL_BYTES;

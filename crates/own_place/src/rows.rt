@@ -1,6 +1,5 @@
 //! The rows of slots of a view.
 ghost use Rattle.std.specs.Prelude.{◌≡◌, ◌<◌};
-ghost use Rattle.message_defs.specs.Statements as plain;
 ghost use Rattle.claim_index.specs.Statements.{stmt};
 ghost use Rattle.own_place.specs.Rows as rows;
 
@@ -44,24 +43,5 @@ pub(crate) fn row_of(statement: &Statement<'_>) -> Option<Row>
         Statement::Place { .. } => Some(Row::Places),
         Statement::Keep { .. } => Some(Row::Keeps),
         _ => None,
-    }
-}
-
-/// The number of the view that the statement belongs to.
-pub(crate) fn view_of(statement: &Statement<'_>) -> u16
-    ensures { result ≡ plain.view_of (stmt statement.now) }
-{
-    match *statement {
-        Statement::Init { view, .. }
-        | Statement::Echo { view, .. }
-        | Statement::Order { view, .. }
-        | Statement::Place { view, .. }
-        | Statement::Keep { view, .. }
-        | Statement::Notify { view, .. }
-        | Statement::End { view, .. }
-        | Statement::Last { view, .. }
-        | Statement::Suggest { view, .. }
-        | Statement::Ack { view, .. }
-        | Statement::Ready { view, .. } => view,
     }
 }

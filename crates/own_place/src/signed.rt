@@ -9,7 +9,7 @@ ghost use Rattle.pool_laws.specs.Least.{IsLeastBelow};
 ghost use Rattle.own_place.specs.Signed.{has_slot};
 ghost use Rattle.own_place.specs.Rows.{slot_in};
 
-use crate::rows::{ROWS, Row, row_of, view_of};
+use crate::rows::{ROWS, Row, row_of};
 use claim_index::{KeyHasher, NoMemory, Pid, Slot, SlotKey, Statement, slot_key_at, slot_key_of};
 use indexmap::IndexSet;
 use std::alloc::Global;
@@ -218,7 +218,7 @@ impl SignedSlots {
         ensures marked { self.new.marked ≡ self.old.marked }
         ensures left { self.old.left ≤ self.new.left + 1 }
     {
-        self.turn_to(view_of(statement));
+        self.turn_to(statement.view());
         self.note(statement);
         if let Some(row) = row_of(statement) {
             self.follow(&row);

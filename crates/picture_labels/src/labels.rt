@@ -16,9 +16,9 @@ use crate::layout::place;
 use crate::short::{push_all_short, push_short};
 use crate::spans::{push_notes, push_one_span};
 use happenings::{Handed, Happening, Seen};
+use member_events::{EventFault, EventVerdict, Note};
 use rp_base::{NoMemory, Pid};
 use schedule_file::Listed;
-use stmt_codec::{EventFault, EventVerdict, Note};
 use story_words::{Word, process_word, push_pieces, refusal_word};
 
 // Beside a mark.

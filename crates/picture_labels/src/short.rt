@@ -2,14 +2,14 @@
 ghost use Rattle.std.specs.Prelude.{◌≡◌, ◌++◌, codes, map, take, OnOk};
 ghost use Rattle.std.specs.List.{flat_map};
 ghost use Rattle.statements.specs.Batches.{message};
-ghost use Rattle.stmt_codec.specs.Views.{stmt, signed as signed_of};
+ghost use Rattle.member_events.specs.Below.{stmt, signed as signed_of};
 ghost use Rattle.trace_defs.specs.Phrases.{quoted};
 ghost use Rattle.message_defs.specs.Statements as statements;
 ghost use Rattle.picture_defs.specs.Labels as plain;
 ghost use Rattle.picture_defs.specs.Labels.{in_statement};
 
+use member_events::{OwnClaim, Statement, read_statement};
 use rp_base::{NoMemory, Pid};
-use stmt_codec::{OwnClaim, Statement, read_statement};
 use story_words::{Word, push_pieces, push_quoted};
 
 /// The most bytes of a payload that are shown.

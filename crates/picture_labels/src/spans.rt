@@ -13,8 +13,8 @@ ghost use Rattle.picture_defs.specs.Labels.{in_delivery};
 
 use crate::elements::push_spaced;
 use crate::short::shown;
+use member_events::Note;
 use rp_base::{NoMemory, Pid};
-use stmt_codec::Note;
 use story_words::{Word, process_word, push_pieces, push_quoted};
 
 /// The most bytes of a payload that are shown.

@@ -4,12 +4,12 @@ ghost use Rattle.std.specs.Option.{option_map};
 ghost use Rattle.message_defs.specs.Statements.{AckAt, ReadyAt};
 ghost use Rattle.group_defs.specs.Certified as defs;
 ghost use Rattle.rp_base.specs.Views as base;
-ghost use Rattle.stmt_codec.specs.Views.{message};
+ghost use Rattle.member_events.specs.Below.{message};
 
 use crate::parts::{batch_of, payload_of, value_of};
 use claim_pool::{Ack, Commit, Message, Place, Pool};
+use member_events::{Batch, Slot};
 use rp_base::{Pid, Value};
-use stmt_codec::{Batch, Slot};
 
 /// The value of the rank's certified Ack; None exactly where none is certified.
 pub fn certified_ack(pool: &Pool, rank: u8) -> Option<Value>

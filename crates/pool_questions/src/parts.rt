@@ -5,10 +5,10 @@ ghost use Rattle.message_defs.specs.Statements as plain;
 ghost use Rattle.group_defs.specs.Certified as certified;
 ghost use Rattle.group_defs.specs.Values as values;
 ghost use Rattle.rp_base.specs.Views as base;
-ghost use Rattle.stmt_codec.specs.Views.{stmt, report};
+ghost use Rattle.member_events.specs.Below.{stmt, report};
 
+use member_events::{Batch, Statement};
 use rp_base::Value;
-use stmt_codec::{Batch, Statement};
 
 // The length that an End says.
 pub(crate) fn length_said(statement: &Statement<'_>) -> Option<u16>

@@ -6,12 +6,12 @@ ghost use Rattle.message_defs.specs.Statements as plain;
 ghost use Rattle.group_defs.specs.Certified as certified;
 ghost use Rattle.group_defs.specs.Values as values;
 ghost use Rattle.rp_base.specs.Views as base;
-ghost use Rattle.stmt_codec.specs.Views.{report};
+ghost use Rattle.member_events.specs.Below.{report};
 
 use crate::parts::{length_said, ordered, ready_said, value_of};
 use claim_pool::Pool;
+use member_events::{Batch, Slot};
 use rp_base::{Pid, Value};
-use stmt_codec::{Batch, Slot};
 
 /// The length that the member's heard End says; None exactly where no End of its is heard.
 pub fn end_of(pool: &Pool, member: Pid) -> Option<u16>

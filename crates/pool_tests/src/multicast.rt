@@ -10,7 +10,7 @@ use multicast_rules::{
 use own_place::SignedSlots;
 use rp_base::{GroupId, NoMemory, Pid, PidSet, Roster, Scheme};
 use std::process::Abort;
-use stmt_codec::{Batch, Claim, Statement, spelled_len};
+use stmt_codec::{Batch, Claim, Statement, claim_len};
 use view_table::View;
 
 // A signature is valid where it is not empty.
@@ -73,7 +73,7 @@ fn own(rt: &impl AllocGlobal, me: Pid, rank: u8, none: &[u16]) -> Own
 fn hear(rt: &impl Abort, pool: &mut Pool, own: &Own, roster: &Roster, claim: &Claim<'_>)
     requires { IsClaim (claim_of claim.now) }
 {
-    let bytes = spelled_len(&claim.statement) + claim.signature.len();
+    let bytes = claim_len(&claim);
     pool.reserve(1, bytes).expect(rt, "memory");
     assert!(rt; own.counts.len() == pool.view().members().len());
     let verdict = pool.take(&NotEmpty, roster, &GroupId([7; 16]), own, claim);

@@ -8,9 +8,8 @@ use Rattle.message_defs.specs.Spelling.{spelling}
 use Rattle.message_defs.specs.Packing.{Signed, signed_of}
 use Rattle.group_defs.specs.Process.{Setting, Process}
 use Rattle.group_defs.specs.Events.{Turn, after, outcome}
-use Rattle.stmt_codec.specs.Views.{signed}
-use Rattle.stmt_codec.specs.declared.own.OwnClaim.{OwnClaim}
-use Rattle.stmt_codec.specs.declared.events.Outcome.{Outcome as Came}
+use Rattle.member_events.specs.Below.{signed, OwnClaim}
+use Rattle.member_events.specs.declared.events.Outcome.{Outcome as Came}
 use Rattle.member_core.specs.Events.{IsOutcome}
 use Rattle.member_core.proofs.Joined.{signed-more}
 use Rattle.said_index.specs.declared.index.SaidIndex.{SaidIndex}

@@ -10,8 +10,8 @@ use Rattle.replay_defs.specs.Worlds as plain
 use Rattle.replay_defs.specs.Worlds.{with_turn, turn_of}
 use Rattle.sig_scheme.specs.Signers.{used, total, signature}
 use Rattle.sig_scheme.specs.declared.any_signer.AnySigner.{AnySigner}
-use Rattle.stmt_codec.specs.declared.events.Event.{Event}
-use Rattle.stmt_codec.specs.declared.events.Outcome.{Outcome}
+use Rattle.member_events.specs.declared.events.Event.{Event}
+use Rattle.member_events.specs.declared.events.Outcome.{Outcome}
 use Rattle.member_core.specs.Events.{event, IsOutcome}
 pub use Rattle.member_core.specs.declared.member.Core.{Core}
 unfoldable pub use Rattle.member_core.specs.Cores.{IsCore}

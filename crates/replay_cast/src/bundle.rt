@@ -4,9 +4,9 @@ ghost use Rattle.message_defs.specs.Packing.{signed};
 ghost use Rattle.replay_cast.specs.Liars.{bundle_of};
 
 use frame_codec::{BUNDLE, FRAME_BYTES, FrameWriter};
+use member_events::Payload;
 use rp_base::{NoMemory, Pid};
 use std::alloc::Global;
-use stmt_codec::Payload;
 
 /// The Bundle of a statement's bytes, signed by one process.
 pub fn bundle(

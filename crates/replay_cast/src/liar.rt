@@ -1,8 +1,8 @@
 use crate::bundle::bundle;
+use member_events::{Payload, Statement, body_into, spell_into};
 use rp_base::{GroupId, NoMemory, Pid, Signer, Tally};
 use sig_scheme::AnySigner;
 use std::alloc::Global;
-use stmt_codec::{Payload, Statement, body_into, spell_into};
 
 /// The room of a body that is signed.
 const BODY_ROOM: usize = 1100;
@@ -24,7 +24,7 @@ impl Liar {
     ghost use Rattle.std.specs.Prelude.{◌≡◌, IfOk, IfSome, IfNone, OnOk};
     ghost use Rattle.message_defs.specs.Spelling.{IsStatement};
     ghost use Rattle.sig_scheme.specs.Signers.{total, signature};
-    ghost use Rattle.stmt_codec.specs.Views.{stmt};
+    ghost use Rattle.member_events.specs.Below.{stmt};
     ghost use Rattle.replay_cast.specs.Liars.{Reported, Silent, lie_of};
 
     /// The process signs a statement, and the answer is the Bundle of this one claim. None comes exactly where its key is spent, and

@@ -1,8 +1,8 @@
 use member_core::Core;
+use member_events::{Event, Outcome};
 use rp_base::{NoMemory, Pid};
 use said_index::SaidIndex;
 use shared_checks::{SharedScheme, SharedSigner};
-use stmt_codec::{Event, Outcome};
 
 /// A correct process of a schedule: a real one.
 #[derive(Drop)]

@@ -14,8 +14,8 @@ use Rattle.group_defs.specs.Family.{claims_in}
 use Rattle.replay_defs.specs.Schedules.{Header}
 use Rattle.replay_defs.specs.Worlds as plain
 use Rattle.replay_defs.specs.Worlds.{setting_of, turn_of}
-use Rattle.stmt_codec.specs.declared.events.Event.{Event}
-use Rattle.stmt_codec.specs.declared.events.Outcome.{Outcome}
+use Rattle.member_events.specs.declared.events.Event.{Event}
+use Rattle.member_events.specs.declared.events.Outcome.{Outcome}
 use Rattle.happenings.specs.Events.{event, IsOutcome}
 use Rattle.replay_cast.specs.declared.player.Player.{Player}
 use Rattle.replay_world.specs.declared.traffic.Sent.{Sent}

@@ -10,8 +10,8 @@ use Rattle.group_defs.specs.Family.{claims_in, handed_to}
 use Rattle.replay_defs.specs.Schedules.{Header}
 use Rattle.replay_defs.specs.Worlds as plain
 use Rattle.replay_defs.specs.Worlds.{family_of, setting_of, correct_of}
-use Rattle.stmt_codec.specs.declared.events.Event.{Event}
-use Rattle.stmt_codec.specs.declared.events.Event.TheVariants as events
+use Rattle.member_events.specs.declared.events.Event.{Event}
+use Rattle.member_events.specs.declared.events.Event.TheVariants as events
 use Rattle.happenings.specs.Events.{event}
 use Rattle.replay_world.specs.Handing.{handed_frames, bytes_in, claims_of}
 use Rattle.replay_world.specs.declared.traffic.Sent.{Sent}

@@ -11,8 +11,8 @@ use Rattle.message_defs.specs.Statements.{Statement}
 use Rattle.group_defs.specs.Process.{Setting}
 use Rattle.replay_defs.specs.Worlds as plain
 use Rattle.rp_base.specs.declared.memory.NoMemory.{NoMemory}
-use Rattle.stmt_codec.specs.declared.events.Event.{Event}
-use Rattle.stmt_codec.specs.declared.events.Outcome.{Outcome}
+use Rattle.member_events.specs.declared.events.Event.{Event}
+use Rattle.member_events.specs.declared.events.Outcome.{Outcome}
 use Rattle.replay_cast.specs.declared.player.Player.{Player}
 use Rattle.replay_cast.specs.declared.liar.Liar.{Liar}
 use Rattle.replay_cast.specs.Players.{Plays, ArePlayers, Stepped}

@@ -13,9 +13,9 @@ use Rattle.group_defs.specs.Family.{handed, claims_in}
 use Rattle.replay_defs.specs.Schedules.{Header, Listed}
 use Rattle.replay_defs.specs.Worlds as plain
 use Rattle.replay_defs.specs.Worlds.{setting_of, with_turn, turn_of, takes, correct_of, family_of}
-use Rattle.stmt_codec.specs.declared.events.EventVerdict.{EventVerdict}
-use Rattle.stmt_codec.specs.declared.events.EventVerdict.TheVariants as verdicts
-use Rattle.stmt_codec.specs.declared.events.Outcome.{Outcome}
+use Rattle.member_events.specs.declared.events.EventVerdict.{EventVerdict}
+use Rattle.member_events.specs.declared.events.EventVerdict.TheVariants as verdicts
+use Rattle.member_events.specs.declared.events.Outcome.{Outcome}
 use Rattle.happenings.specs.Events.{frame_to, IsOutcome, refusal}
 use Rattle.signature_defs.specs.Schemes.{is_valid}
 use Rattle.sig_scheme.specs.Views.{scheme as scheme_of}

@@ -8,8 +8,8 @@ use Rattle.group_defs.specs.Family.{claims_in, handed}
 use Rattle.replay_defs.specs.Schedules.{Header}
 use Rattle.replay_defs.specs.Worlds as plain
 use Rattle.replay_defs.specs.Worlds.{family_of}
-use Rattle.stmt_codec.specs.declared.events.Event.{Event}
-use Rattle.stmt_codec.specs.declared.events.Event.TheVariants as events
+use Rattle.member_events.specs.declared.events.Event.{Event}
+use Rattle.member_events.specs.declared.events.Event.TheVariants as events
 use Rattle.replay_world.specs.declared.traffic.Sent.{Sent}
 
 -- the bytes of the frames that a correct process took

@@ -7,10 +7,10 @@ use Rattle.replay_defs.specs.Worlds as plain
 use Rattle.replay_defs.specs.Worlds.{with_turn, turn_of}
 use Rattle.sig_scheme.specs.declared.any_scheme.AnyScheme.{AnyScheme}
 use Rattle.sig_scheme.specs.Views.{scheme as scheme_of}
-use Rattle.stmt_codec.specs.declared.events.Event.{Event}
-use Rattle.stmt_codec.specs.declared.events.EventVerdict.{EventVerdict}
-use Rattle.stmt_codec.specs.declared.events.EventVerdict.TheVariants as verdicts
-use Rattle.stmt_codec.specs.declared.events.Outcome.{Outcome}
+use Rattle.member_events.specs.declared.events.Event.{Event}
+use Rattle.member_events.specs.declared.events.EventVerdict.{EventVerdict}
+use Rattle.member_events.specs.declared.events.EventVerdict.TheVariants as verdicts
+use Rattle.member_events.specs.declared.events.Outcome.{Outcome}
 use Rattle.happenings.specs.Events.{event, IsOutcome}
 use Rattle.happenings.specs.Events.{fault as fault_of}
 use Rattle.replay_cast.specs.Players.{ArePlayers}

@@ -5,7 +5,7 @@ use Rattle.group_defs.specs.Process.{Setting}
 use Rattle.group_defs.specs.Events as group
 use Rattle.replay_defs.specs.Schedules.{Header}
 use Rattle.replay_defs.specs.Worlds as plain
-use Rattle.stmt_codec.specs.declared.events.Outcome.{Outcome}
+use Rattle.member_events.specs.declared.events.Outcome.{Outcome}
 use Rattle.happenings.specs.Events.{IsOutcome}
 use Rattle.replay_world.specs.Traffic.{IsTooMuch, numbers}
 use Rattle.replay_world.specs.Worlds.{Shows}

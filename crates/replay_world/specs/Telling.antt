@@ -7,7 +7,7 @@ use Rattle.replay_defs.specs.Worlds as plain
 use Rattle.trace_defs.specs.Outcomes.{seen}
 use Rattle.trace_defs.specs.Happenings.{Happening, Takes}
 use Rattle.reported_defs.specs.Reported.{gets_frame, loses, next_tells}
-use Rattle.stmt_codec.specs.declared.events.Outcome.{Outcome}
+use Rattle.member_events.specs.declared.events.Outcome.{Outcome}
 use Rattle.happenings.specs.Events.{IsOutcome}
 use Rattle.happenings.specs.declared.reported.Handed.{Handed}
 use Rattle.happenings.specs.declared.reported.Reported.{Reported}

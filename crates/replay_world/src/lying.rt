@@ -4,7 +4,7 @@ ghost use Rattle.std.specs.List.{position_from};
 ghost use Rattle.message_defs.specs.Spelling.{IsStatement};
 ghost use Rattle.rp_base.specs.Pids.{mask_of};
 ghost use Rattle.replay_defs.specs.Schedules as schedules;
-ghost use Rattle.stmt_codec.specs.Views.{stmt};
+ghost use Rattle.member_events.specs.Below.{stmt};
 ghost use Rattle.happenings.specs.Reported.{Tells};
 ghost use Rattle.trace_defs.specs.Happenings as defs;
 ghost use Rattle.reported_defs.specs.Reported as reported_defs;
@@ -14,10 +14,10 @@ ghost use Rattle.replay_world.specs.Telling.{frame_count};
 use crate::fault::WorldFault;
 use crate::world::World;
 use happenings::{Happening, Reported};
+use member_events::{Payload, Statement, read_statement};
 use replay_cast::Liar;
 use rp_base::{GroupId, NoMemory, Pid, PidSet};
 use std::alloc::Global;
-use stmt_codec::{Payload, Statement, read_statement};
 
 // The place of a process among the corrupt ones.
 fn place_of(liars: &[Liar], p: Pid) -> Option<usize>

@@ -8,13 +8,13 @@ use crate::fault::WorldFault;
 use crate::traffic::{Sent, Traffic};
 use crate::world::{Refused, World};
 use happenings::Reported;
+use member_events::Payload;
 use replay_cast::{Cast, Player};
 use rp_base::{GroupId, NoMemory, Pid, Roster};
 use schedule_file::{Header, Schedule};
 use sig_scheme::AnyScheme;
 use std::alloc::Global;
 use std::collections::VecDeque;
-use stmt_codec::Payload;
 
 impl World {
     ghost use Rattle.replay_world.specs.Worlds.{Shows, IsWorldOf, IsEarlyEnd, count_of, players_of, refused_of, spent_of, frames_of, raws_of, group_of, roster_of, scheme_of};

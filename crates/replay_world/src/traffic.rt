@@ -9,11 +9,11 @@ ghost use Rattle.replay_world.specs.Traffic.{delivery, sends_all, Carries, Sends
 ghost use Rattle.replay_world.specs.Handing.{handed_frames};
 
 use crate::fault::WorldFault;
+use member_events::{Payload, Sending};
 use replay_cast::Player;
 use rp_base::{NoMemory, Pid, PidSet};
 use std::collections::VecDeque;
 use std::mem;
-use stmt_codec::{Payload, Sending};
 
 /// The most bytes that may be sent in all.
 const MOST_SENT: u64 = 1_073_741_824;

@@ -17,13 +17,13 @@ ghost use Rattle.replay_world.specs.Stepping.{StepsAt, Refuses, Spends};
 use crate::fault::WorldFault;
 use crate::traffic::{Delivery, Sent, Traffic};
 use happenings::{Handed, Happening, Reported, Seen};
+use member_events::{Event, EventFault, EventVerdict, Outcome, Payload, Sending};
 use replay_cast::{Liar, Player};
 use rp_base::{GroupId, NoMemory, Pid, PidSet, Roster};
 use schedule_file::ScheduleEvent;
 use shared_checks::SharedScheme;
 use std::alloc::Global;
 use std::mem;
-use stmt_codec::{Event, EventFault, EventVerdict, Outcome, Payload, Sending};
 
 /// An event that a process refused, by the event's number in the schedule, from 0.
 #[derive(Clone, Copy)]

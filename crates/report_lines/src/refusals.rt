@@ -5,9 +5,9 @@ ghost use Rattle.ending_rules.specs.Perceiving as asked;
 ghost use Rattle.replay_defs.specs.Reports as plain;
 
 use crate::words::{end_line, push_number_word, push_word};
+use member_events::EventFault;
 use message_defs::FrameFault;
 use rp_base::{NoMemory, Pid, UpdateFault};
-use stmt_codec::EventFault;
 
 /// Why bytes are no frame of claims.
 pub fn frame_word(fault: FrameFault) -> &'static [u8]

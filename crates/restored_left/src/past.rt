@@ -18,12 +18,12 @@ ghost use Rattle.restored_left.specs.Judged.{Judges};
 ghost use Rattle.restored_left.specs.Parts.{Commits, HasPast, IsLeftSo, IsLastSo};
 
 use kept_images::{count_places, view_behind};
+use member_events::Delivered;
 use restored_past::{Archive, Judge, Past, Pool, hear_list, keep_last, past_before};
 use restored_place::place_in;
 use rp_base::{NoMemory, Pid, Scheme};
 use snapshot_rp::{Image, KeptClaim, LeftView};
 use std::alloc::Global;
-use stmt_codec::Delivered;
 use view_table::View;
 
 /// What is kept of the views that were left, and the current view.

@@ -15,12 +15,12 @@ ghost use Rattle.snapshot_rp.specs.Views.{left_view};
 ghost use Rattle.restored_past.specs.Hearing.{with_all};
 ghost use Rattle.restored_past.specs.Keeping.{KeepsOne};
 
-use image_parts::{Pool, bytes_of, is_certified};
+use image_parts::{Pool, is_certified};
 use reliable_mcast::Archive;
 use rp_base::NoMemory;
 use snapshot_rp::{KeptClaim, LeftView};
 use std::alloc::Global;
-use stmt_codec::{Claim, Statement};
+use stmt_codec::{Claim, Statement, claim_len};
 use view_table::{View, next};
 
 /// What is kept of the views that were left before one, and that view.
@@ -35,7 +35,7 @@ fn hear(pool: &mut Pool, claim: &Claim<'_>) -> Result<(), NoMemory>
     requires { IsClaim (claim_of claim.now) }
     ensures { OnOk result (pool.new.pool ≡ with_all pool.old.pool (claim_of claim.now ∷ [])) }
 {
-    pool.reserve(1, bytes_of(claim))?;
+    pool.reserve(1, claim_len(claim))?;
     pool.hear_own(claim);
     Ok(())
 }

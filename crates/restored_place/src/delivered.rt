@@ -5,8 +5,8 @@ ghost use Rattle.group_defs.specs.Process.{delivered_from};
 ghost use Rattle.snapshot_rp.specs.Views.{delivered as plain};
 
 use arrayvec::ArrayVec;
+use member_events::Delivered;
 use rp_base::Pid;
-use stmt_codec::Delivered;
 use view_table::View;
 
 // How many of the sender's messages are among these.

@@ -4,14 +4,14 @@ ghost use Rattle.std.specs.Option.{option_map};
 ghost use Rattle.std.specs.List.{sum_by};
 ghost use Rattle.message_defs.specs.Statements as plain;
 ghost use Rattle.group_defs.specs.Certified.{named};
-ghost use Rattle.stmt_codec.specs.Views.{stmt};
+ghost use Rattle.member_events.specs.Below.{stmt};
 ghost use Rattle.restored_place.specs.Walks.{batch_said, with_orders};
 
 use arrayvec::ArrayVec;
+use member_events::{Batch, Statement};
 use rp_base::{NoMemory, Pid};
 use snapshot_rp::KeptClaim;
 use std::alloc::Global;
-use stmt_codec::{Batch, Statement};
 use view_table::View;
 
 /// What a count of 16 bits holds at most.

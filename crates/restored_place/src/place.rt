@@ -9,11 +9,11 @@ use crate::delivered::counts_of;
 use crate::orders::{count_orders, names_in, orders_in};
 use crate::said::{greatest_rank, highest_ready, slots_in};
 use arrayvec::ArrayVec;
+use member_events::Delivered;
 use own_place::{Own, SignedSlots};
 use rp_base::{NoMemory, Pid, Roster};
 use snapshot_rp::KeptClaim;
 use std::alloc::Global;
-use stmt_codec::Delivered;
 use view_table::View;
 
 /// The own place of process `me` in the view, where it has delivered these messages at `places` places, and `earlier` own messages in the

@@ -1,35 +1,15 @@
 //! What the own statements of a view say: which slots are signed, the greatest rank, and the Ready of greatest rank.
 ghost use Rattle.std.specs.Prelude.{◌≡◌, [], IfOk, OnOk, None};
-ghost use Rattle.message_defs.specs.Statements as plain;
 ghost use Rattle.group_defs.specs.Certified as certified;
-ghost use Rattle.stmt_codec.specs.Views.{stmt, report};
+ghost use Rattle.member_events.specs.Below.{stmt, report};
 ghost use Rattle.own_place.specs.Noting.{ready_after};
 ghost use Rattle.restored_place.specs.Walks.{rank_in, greatest, ready_in, readies, with_slot, with_slots};
 
+use member_events::{Statement, slot_of};
 use own_place::SignedSlots;
 use rp_base::{NoMemory, Value};
 use snapshot_rp::KeptClaim;
 use std::alloc::Global;
-use stmt_codec::{Statement, slot_of};
-
-// The number of the view that the statement belongs to.
-fn view_of(statement: &Statement<'_>) -> u16
-    ensures { result ≡ plain.view_of (stmt statement.now) }
-{
-    match *statement {
-        Statement::Init { view, .. }
-        | Statement::Echo { view, .. }
-        | Statement::Order { view, .. }
-        | Statement::Place { view, .. }
-        | Statement::Keep { view, .. }
-        | Statement::Notify { view, .. }
-        | Statement::End { view, .. }
-        | Statement::Last { view, .. }
-        | Statement::Suggest { view, .. }
-        | Statement::Ack { view, .. }
-        | Statement::Ready { view, .. } => view,
-    }
-}
 
 // The rank of a Last, an Ack or a Ready of the view of this number, and 0 of another statement.
 fn rank_of(number: u16, statement: &Statement<'_>) -> u8
@@ -102,7 +82,7 @@ fn note(slots: &mut SignedSlots, number: u16, statement: &Statement<'_>) -> Resu
 {
     let kind = statement.kind();
     let slot = slot_of(statement);
-    if view_of(statement) == number && !slots.has_signed(kind, &slot) {
+    if statement.view() == number && !slots.has_signed(kind, &slot) {
         slots.reserve(1)?;
         slots.sign(statement);
     }

@@ -12,9 +12,10 @@ ghost use Rattle.restored_left.specs.Members.{IsIn};
 ghost use Rattle.snapshot_defs.specs.Ranges.{IsImage};
 ghost use Rattle.snapshot_defs.specs.declared.Version.TheVariants.{Two};
 ghost use Rattle.snapshot_rp.specs.Views.{delivered as delivered_as, image as image_as};
-ghost use Rattle.stmt_codec.specs.Views.{report};
+ghost use Rattle.member_events.specs.Below.{report};
 ghost use Rattle.restored_present.specs.Parts.{HasPresent, IsPresentSo, IsSaid, IsShown};
 
+use member_events::Delivered;
 use restored_left::{
     Judge, Own, Phase, Pool, are_heard, are_once, are_paid, are_placed, copied, count_places,
     hear_list, is_halted_so, note_signed, own_delivered, own_end, phase_of, place_in,
@@ -22,7 +23,6 @@ use restored_left::{
 use rp_base::{NoMemory, Pid, Scheme};
 use snapshot_rp::{Image, KeptClaim};
 use std::alloc::Global;
-use stmt_codec::Delivered;
 use view_table::View;
 
 /// What a process keeps of its view: its own place, what it heard, and its phase.

@@ -6,7 +6,7 @@ use Rattle.kit_defs.specs.Kits.{Kit, IsKit}
 use Rattle.group_defs.specs.Process.{Process, start}
 use Rattle.group_defs.specs.Family.{handed_to}
 use Rattle.group_defs.specs.Events.{Turn, after, outcome, run}
-use Rattle.stmt_codec.specs.declared.events.Outcome.{Outcome}
+use Rattle.member_events.specs.declared.events.Outcome.{Outcome}
 use Rattle.node_turns.specs.Outcomes.{IsOutcome}
 use Rattle.journal_defs.specs.declared.Version.{Version}
 use Rattle.journal_defs.specs.Entries.{Event, Entry}

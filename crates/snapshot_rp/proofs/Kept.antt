@@ -6,7 +6,7 @@ use Rattle.message_defs.specs.declared.FrameFault.{FrameFault}
 use Rattle.message_defs.specs.Statements.{Statement, Claim}
 use Rattle.message_defs.specs.Spelling.{IsStatement, spelling}
 use Rattle.message_defs.specs.Reading.{statement_of}
-use Rattle.stmt_codec.proofs.Grammar.{spelling_again}
+use Rattle.member_events.proofs.Grammar.{spelling_again}
 use Rattle.snapshot_laws.proofs.Claims.{read_statement_is}
 use Rattle.snapshot_rp.specs.Claims.{statement_or_end, kept}
 

@@ -4,7 +4,7 @@ use Rattle.message_defs.specs.Updates.{Update, Value}
 use Rattle.message_defs.specs.Statements.{Claim}
 use Rattle.group_defs.specs.Process as plain
 use Rattle.image_defs.specs.Images as images
-use Rattle.stmt_codec.specs.Views.{report}
+use Rattle.member_events.specs.Below.{report}
 use Rattle.snapshot_rp.specs.declared.reading.Reported.{Reported}
 use Rattle.snapshot_rp.specs.declared.reading.Claimed.{Claimed}
 use Rattle.snapshot_rp.specs.declared.reading.Settled.{Settled}

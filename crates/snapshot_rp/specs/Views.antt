@@ -5,8 +5,8 @@ use Rattle.group_defs.specs.Process as plain
 use Rattle.image_defs.specs.Images as images
 use Rattle.rp_base.specs.declared.updates.Update.{Update}
 use Rattle.rp_base.specs.Views.{update, value}
-use Rattle.stmt_codec.specs.declared.events.Delivered.{Delivered}
-use Rattle.stmt_codec.specs.Views.{report}
+use Rattle.member_events.specs.declared.events.Delivered.{Delivered}
+use Rattle.member_events.specs.Below.{report}
 use Rattle.snapshot_rp.specs.declared.image.LeftView.{LeftView}
 use Rattle.snapshot_rp.specs.declared.image.Image.{Image}
 

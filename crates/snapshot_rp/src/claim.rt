@@ -10,11 +10,10 @@ ghost use Rattle.snapshot_rp.specs.Faults.{left_of};
 use crate::cursor::Cursor;
 use crate::fault::ReadError;
 use crate::pushing::push_text;
-use frame_codec::SIGNATURE_BYTES;
+use member_events::{Claim, SIGNATURE_BYTES, STATEMENT_BYTES, read_statement, spell_into};
 use rp_base::{NoMemory, Pid};
 use std::alloc::Global;
 use std::marker::Model;
-use stmt_codec::{Claim, STATEMENT_BYTES, read_statement, spell_into};
 
 /// A claim that an image keeps. Contracts see it as the claim: only bytes that are a statement are kept as one.
 #[derive(Drop)]
@@ -96,7 +95,7 @@ pub(crate) fn push_claim(out: &mut Vec<u8>, claim: &KeptClaim) -> Result<(), NoM
 impl KeptClaim {
     ghost use Rattle.std.specs.Prelude.{◌≡◌, IfOk};
     ghost use Rattle.message_defs.specs.Spelling.{IsClaim};
-    ghost use Rattle.stmt_codec.specs.Views.{claim as claim_of};
+    ghost use Rattle.member_events.specs.Below.{claim as claim_of};
 
     /// Keeps the claim.
     ///

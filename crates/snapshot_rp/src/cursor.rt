@@ -8,9 +8,8 @@ ghost use Rattle.snapshot_defs.specs.Steps as steps;
 ghost use Rattle.snapshot_defs.specs.Reading as plain;
 ghost use Rattle.snapshot_rp.specs.Claims.{statement_or_end, process_in, updated};
 
-use frame_codec::{bytes_at, u8_at, u16_at, u32_at};
+use member_events::{bytes_at, read_statement, u8_at, u16_at, u32_at};
 use rp_base::{Pid, Update, Value};
-use stmt_codec::read_statement;
 
 const MOST_PLACES: u16 = 1024;
 

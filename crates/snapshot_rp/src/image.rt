@@ -1,7 +1,7 @@
 use crate::claim::KeptClaim;
+use member_events::{Delivered, Payload};
 use rp_base::{Pid, Update, Value};
 use std::mem;
-use stmt_codec::{Delivered, Payload};
 
 /// How a view was left: the rank and the value of the Ready that decided it, and its commit certificate.
 #[derive(Drop)]

@@ -11,10 +11,10 @@ use crate::entries::{Entry, Reading, list, push_list};
 use crate::fault::ReadError;
 use crate::image::LeftView;
 use crate::pushing::{push_short, push_text, push_update, push_value};
+use member_events::{Delivered, LAST_NUMBER, Payload};
 use rp_base::{NoMemory, Update};
 use snapshot_defs::Version;
 use std::alloc::Global;
-use stmt_codec::{Delivered, LAST_NUMBER, Payload};
 
 pub(crate) const LAST_RANK: u8 = 15;
 

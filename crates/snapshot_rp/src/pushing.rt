@@ -4,7 +4,7 @@ ghost use Rattle.byte_defs.specs.Fields.{two_bytes, four_bytes, text};
 ghost use Rattle.message_defs.specs.Updates.{update_numbers};
 ghost use Rattle.message_defs.specs.Spelling.{value_bytes, ready_bytes};
 ghost use Rattle.rp_base.specs.Views.{update as update_of, value as value_of};
-ghost use Rattle.stmt_codec.specs.Views.{report};
+ghost use Rattle.member_events.specs.Below.{report};
 
 use rp_base::{NoMemory, Update, Value};
 

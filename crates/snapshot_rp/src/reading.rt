@@ -6,7 +6,7 @@ ghost use Rattle.snapshot_defs.specs.Reading as plain;
 ghost use Rattle.snapshot_defs.specs.Spelling.{spelled};
 ghost use Rattle.snapshot_defs.specs.Ranges.{IsImage};
 ghost use Rattle.snapshot_defs.specs.declared.Version.TheVariants.{Two};
-ghost use Rattle.stmt_codec.specs.Views.{report};
+ghost use Rattle.member_events.specs.Below.{report};
 ghost use Rattle.snapshot_rp.specs.Faults.{fault_of, left_of};
 ghost use Rattle.snapshot_rp.specs.Parts.{reported, claimed, settled};
 ghost use Rattle.snapshot_rp.specs.Views.{left_view, perceived, image};
@@ -18,10 +18,10 @@ use crate::fault::{ReadError, SnapshotFault};
 use crate::image::{Image, LeftView};
 use crate::parts::{LAST_RANK, claims};
 use crate::rising::rises;
+use member_events::{Delivered, LAST_NUMBER, Payload};
 use rp_base::{Pid, Update, Value};
 use snapshot_defs::Version;
 use std::alloc::Global;
-use stmt_codec::{Delivered, LAST_NUMBER, Payload};
 
 const PROCESSES: u8 = 64;
 

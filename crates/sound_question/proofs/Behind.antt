@@ -10,7 +10,7 @@ use Rattle.group_defs.specs.Process.{Letter}
 use Rattle.group_defs.specs.Accounts.{IsPrefixOf, of_sender}
 use lib.Pointwise.{pointwise}
 use Rattle.safety_laws.proofs.AgreeTested.{discrete-decides, is-prefix, prefix-is}
-use Rattle.stmt_codec.specs.declared.events.Delivered.{Delivered}
+use Rattle.member_events.specs.declared.events.Delivered.{Delivered}
 use Rattle.group_questions.specs.Letters.{letters}
 use Rattle.sound_question.specs.Parts.{payloads_of}
 use Rattle.sound_question.proofs.Lists.{letters-append, range-more, range-split, split-at}

@@ -4,7 +4,7 @@ use Rattle.std.specs.List.{range_with_len, zip}
 use Rattle.std.proofs.lemmas.List.{at_drop_more, map-append, take-append-drop, take_more}
 use Rattle.group_defs.specs.Accounts.{neighbours}
 use Rattle.group_defs.specs.Process.{letter_of}
-use Rattle.stmt_codec.specs.declared.events.Delivered.{Delivered}
+use Rattle.member_events.specs.declared.events.Delivered.{Delivered}
 use Rattle.accounts.specs.Views.{delivery}
 use Rattle.group_questions.specs.Letters.{letters}
 

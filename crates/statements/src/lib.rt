@@ -15,5 +15,5 @@ pub use limits::{LAST_NUMBER, MOST_PLACES, PAYLOAD_BYTES, STATEMENT_BYTES};
 pub use message_defs::FrameFault;
 pub use reading::{Carrier, read_carried, read_statement};
 pub use rp_base::{Pid, PidSet, UpdateFault};
-pub use spelling::{body_into, spell_into, spelled_len};
+pub use spelling::{body_into, claim_len, spell_into, spelled_len};
 pub use statement::{Claim, Slot, Statement, conflicts, is_same_slot, slot_of};

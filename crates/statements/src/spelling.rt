@@ -8,16 +8,16 @@
 //! | statement | 5 to 1,032 |
 ghost use Rattle.std.specs.Prelude.{◌≡◌, ◌+◌, ◌*◌, ◌++◌, ◌∷◌, ◌≤◌, [], codes, flat_map, length, map, take};
 ghost use Rattle.byte_defs.specs.Fields.{two_bytes};
-ghost use Rattle.message_defs.specs.Spelling.{IsStatement, spelling, body, batch_bytes, place_kind, value_bytes};
+ghost use Rattle.message_defs.specs.Spelling.{IsStatement, IsClaim, spelling, body, batch_bytes, place_kind, value_bytes};
 ghost use Rattle.message_defs.specs.Spelling.{message_bytes as plain_bytes};
 ghost use Rattle.message_defs.specs.Updates.{update_numbers};
 ghost use Rattle.message_defs.specs.Statements as plain;
 ghost use Rattle.rp_base.specs.Views as base;
 ghost use Rattle.statements.specs.Batches.{message, message_of};
-ghost use Rattle.statements.specs.Views.{stmt, report};
+ghost use Rattle.statements.specs.Views.{stmt, report, claim as claim_of};
 
 use crate::batch::Batch;
-use crate::statement::Statement;
+use crate::statement::{Claim, Statement};
 use rp_base::{GroupId, Pid, Update, Value};
 
 // The bytes at the front of `out`, and how many they are.
@@ -180,6 +180,14 @@ pub fn spelled_len(statement: &Statement<'_>) -> usize
         Statement::Last { ready: Some(_), .. } => 10,
         Statement::Suggest { .. } | Statement::Ack { .. } | Statement::Ready { .. } => 8,
     }
+}
+
+/// How many bytes the claim's statement and signature have.
+pub fn claim_len(claim: &Claim<'_>) -> usize
+    requires { IsClaim (claim_of claim.now) }
+    ensures { result ≡ length (spelling (stmt claim.now.statement)) + length claim.now.signature.now }
+{
+    spelled_len(&claim.statement) + claim.signature.len()
 }
 
 /// Writes the statement's bytes at the front of `out`, and answers how many they are, 5 to 1,032.

@@ -145,6 +145,25 @@ impl Statement<'_> {
             Statement::Ready { .. } => 11,
         }
     }
+
+    /// The number of the view that the statement belongs to.
+    pub fn view(&self) -> u16
+        ensures { result ≡ plain.view_of (stmt self.now) }
+    {
+        match *self {
+            Statement::Init { view, .. }
+            | Statement::Echo { view, .. }
+            | Statement::Order { view, .. }
+            | Statement::Place { view, .. }
+            | Statement::Keep { view, .. }
+            | Statement::Notify { view, .. }
+            | Statement::End { view, .. }
+            | Statement::Last { view, .. }
+            | Statement::Suggest { view, .. }
+            | Statement::Ack { view, .. }
+            | Statement::Ready { view, .. } => view,
+        }
+    }
 }
 
 /// The statement's slot. With the kind it says what a correct process signs once.

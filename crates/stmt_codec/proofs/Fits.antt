@@ -4,8 +4,8 @@ use Rattle.std.specs.List.{AllByRecursion}
 use Rattle.std.proofs.lemmas.Bool.{ltb-false}
 use Rattle.std.proofs.lemmas.List.{length-take}
 use Rattle.std.specs.Int.{w8, w16}
-use Rattle.byte_defs.specs.Fields.{number_at, bytes_at}
-use Rattle.byte_defs.proofs.Fields.{bind_ok, refuse_ok, guard_ok, ok_is}
+use Rattle.frame_codec.specs.Below.{number_at, bytes_at}
+use Rattle.frame_codec.proofs.Below.{bind_ok, refuse_ok, guard_ok, ok_is}
 use Rattle.message_defs.specs.declared.FrameFault.{FrameFault}
 use Rattle.message_defs.specs.declared.FrameFault.TheVariants as faults
 use Rattle.message_defs.specs.Frames.{Group, signature_at, signatures_at, group_at, groups_at}

@@ -2,7 +2,7 @@
 use Rattle.std.proofs.Common.{◌≡◌, ℕ, ◌≤◌, Bool, true, false, ltb, List, [], ◌∷◌, Result, Ok, Err, refl, sym, ap, subst, ◌∙◌}
 use Rattle.std.specs.Prelude.{IsOk}
 use Rattle.std.proofs.lemmas.Bool.{ltb-false}
-use Rattle.byte_defs.specs.Fields.{◌>>=◌, refuse_if}
+use Rattle.frame_codec.specs.Below.{◌>>=◌, refuse_if}
 use Rattle.message_defs.specs.declared.FrameFault.{FrameFault}
 use Rattle.message_defs.specs.declared.FrameFault.TheVariants.{Range}
 use Rattle.message_defs.specs.Frames.{Group}

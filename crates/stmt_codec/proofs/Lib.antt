@@ -1,5 +1,4 @@
 pub mod Looking
 pub mod Lending
 pub mod Fits
-pub mod Keeping
 pub mod Grammar

@@ -1,7 +1,7 @@
 -- Looking at claims one after the other, as a loop does.
 use Rattle.std.proofs.Common.{◌≡◌, ℕ, ◌<◌, ◌≤◌, Bool, true, false, ltb, List, [], ◌∷◌, ◌++◌, Result, Ok, Err, refl}
 use Rattle.std.proofs.lemmas.Bool.{lt-ltb, le-ltb}
-use Rattle.byte_defs.specs.Fields.{◌>>=◌}
+use Rattle.frame_codec.specs.Below.{◌>>=◌}
 use Rattle.message_defs.specs.declared.FrameFault.{FrameFault}
 use Rattle.message_defs.specs.declared.FrameFault.TheVariants.{Range}
 use Rattle.message_defs.specs.Frames.{Group}

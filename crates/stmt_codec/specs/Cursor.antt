@@ -1,6 +1,6 @@
 -- What an iterator over the claims of a frame has left.
 use Rattle.std.specs.Prelude.{List, [], ◌∷◌, ◌++◌, Option, Some, None, Result, Ok, Err}
-use Rattle.byte_defs.specs.Fields.{◌>>=◌}
+use Rattle.frame_codec.specs.Below.{◌>>=◌}
 use Rattle.message_defs.specs.declared.FrameFault.{FrameFault}
 use Rattle.message_defs.specs.Frames as plain
 use Rattle.message_defs.specs.Statements.{Claim}

@@ -1,6 +1,6 @@
 -- What looking at all claims answers, where they are not kept.
 use Rattle.std.specs.Prelude.{List, Result, Ok}
-use Rattle.byte_defs.specs.Fields.{◌>>=◌}
+use Rattle.frame_codec.specs.Below.{◌>>=◌}
 use Rattle.message_defs.specs.declared.FrameFault.{FrameFault}
 use Rattle.message_defs.specs.Statements.{Claim}
 

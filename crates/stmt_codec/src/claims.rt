@@ -7,7 +7,7 @@
 //! | Want | no claims |
 ghost use Rattle.std.specs.Prelude.{◌≡◌, [], IfOk};
 ghost use Rattle.std.specs.List.{AllByRecursion};
-ghost use Rattle.byte_defs.specs.Reads.{Gives};
+ghost use Rattle.frame_codec.specs.Below.{Gives};
 ghost use Rattle.message_defs.specs.Spelling.{IsClaim};
 ghost use Rattle.message_defs.specs.Claims as plain;
 ghost use Rattle.frame_codec.specs.Views as frames;

@@ -1,22 +1,19 @@
-//! The claims of frames, the entries of journals, and what becomes of an event. Statements, of which claims are made, are
-//! those of `statements`, handed on.
+//! The claims of frames. Statements, of which claims are made, are those of `statements`, handed on, with the fields that
+//! frames are read by.
 #![tactic(auto)]
 
 mod claims;
 mod cursor;
-mod entry;
-mod events;
 mod own;
 mod payload;
 
 pub use claims::claims_of;
 pub use cursor::Claims;
-pub use entry::{Entry, EntrySignatures};
-pub use events::{Delivered, Event, EventFault, EventVerdict, Note, Outcome, Sending};
+pub use frame_codec::{SIGNATURE_BYTES, bytes_at, u8_at, u16_at, u32_at};
 pub use own::OwnClaim;
 pub use payload::Payload;
 pub use statements::{
-    Batch, Claim, FrameFault, LAST_NUMBER, PAYLOAD_BYTES, STATEMENT_BYTES, Slot, Statement,
-    body_determines_statement, body_into, conflicts, is_same_slot, read_statement, slot_of,
-    spell_into, spelled_len, spelling_determines_statement,
+    Batch, Claim, FrameFault, LAST_NUMBER, PAYLOAD_BYTES, Pid, PidSet, STATEMENT_BYTES, Slot,
+    Statement, UpdateFault, body_determines_statement, body_into, claim_len, conflicts,
+    is_same_slot, read_statement, slot_of, spell_into, spelled_len, spelling_determines_statement,
 };

@@ -7,7 +7,7 @@ use Rattle.accounts.specs.Views.{delivery}
 use Rattle.group_defs.specs.Views.{View, is_member}
 use Rattle.group_defs.specs.Process as process
 use Rattle.group_defs.specs.Accounts.{Account, delivered_in}
-use Rattle.stmt_codec.specs.declared.events.Delivered.{Delivered}
+use Rattle.member_events.specs.declared.events.Delivered.{Delivered}
 use Rattle.store_defs.specs.Stores.{Store, store_after}
 use Rattle.store_defs.specs.Holding.{delivered_below, payloads_of, stayed, store_over, was_member}
 use Rattle.store_server.specs.Beginning.{lists_of}

@@ -1,8 +1,8 @@
 -- What a note leaves.
 use Rattle.std.proofs.Common.{◌≡◌, ◌⊎◌, inl, inr, ℕ, List, refl, sym, ap, ◌∙◌, subst}
 use Rattle.message_defs.specs.Statements.{Message}
-use Rattle.stmt_codec.specs.declared.events.Note.{Note}
-use Rattle.stmt_codec.specs.declared.events.Note.TheVariants.{Delivered}
+use Rattle.member_events.specs.declared.events.Note.{Note}
+use Rattle.member_events.specs.declared.events.Note.TheVariants.{Delivered}
 use Rattle.store_defs.specs.Serving as plain
 use Rattle.store_defs.specs.Serving.{Place, after_message, after_note}
 use Rattle.store_giving.specs.Given.{IsGiving}

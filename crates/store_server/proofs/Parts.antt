@@ -3,7 +3,7 @@ use Rattle.std.proofs.Common.{◌≡◌, inl, inr, ℕ, List, [], ◌∷◌, ◌
 use Rattle.std.proofs.lemmas.List.{map-append, length-map}
 use Rattle.accounts.specs.Views.{delivery}
 use Rattle.group_defs.specs.Process as process
-use Rattle.stmt_codec.specs.declared.events.Delivered.{Delivered}
+use Rattle.member_events.specs.declared.events.Delivered.{Delivered}
 use Rattle.store_defs.specs.Serving as plain
 use Rattle.store_defs.specs.Serving.{Place, after_message, with_key}
 use Rattle.store_defs.specs.Stores.{Store}

@@ -1,8 +1,8 @@
 -- Notes, and which of them a server can take.
 use Rattle.std.specs.Prelude.{ℕ, ◌<◌, List}
 use Rattle.group_defs.specs.Events as defs
-pub use Rattle.stmt_codec.specs.declared.events.Note.{Note}
-pub use Rattle.stmt_codec.specs.declared.events.Note.TheVariants.{Delivered, Installed, Liar, Spent, Halted}
+pub use Rattle.member_events.specs.declared.events.Note.{Note}
+pub use Rattle.member_events.specs.declared.events.Note.TheVariants.{Delivered, Installed, Liar, Spent, Halted}
 use Rattle.store_giving.specs.Given.{view_in}
 use Rattle.store_replies.specs.Replying.{Fits}
 use Rattle.store_server.specs.declared.server.Server.{Server}

@@ -8,8 +8,8 @@ mod server;
 mod wording;
 
 pub use accounts::{Account, Delivered, Payload};
+pub use member_events::Note;
 pub use server::{Server, longest, push_keys};
 pub use sig_scheme::{AnyScheme, OtsType, Secret};
-pub use stmt_codec::Note;
 pub use store_giving::View;
 pub use store_replies::{GroupId, NoMemory, Pid, Roster};

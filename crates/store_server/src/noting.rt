@@ -9,8 +9,8 @@ ghost use Rattle.store_server.specs.Serving.{IsServer};
 ghost use Rattle.view_table.specs.Views.{as_view};
 
 use crate::server::Server;
+use member_events::Note;
 use std::alloc::Global;
-use stmt_codec::Note;
 use store_giving::View;
 use store_replies::{NoMemory, Pid};
 

@@ -14,7 +14,7 @@ use Rattle.pool_laws.proofs.Members.{mem-behind, mem-list_any}
 use Rattle.pool_laws.proofs.Places.{length-snoc}
 use Rattle.accounts.specs.Views.{account, delivery}
 use Rattle.accounts.specs.declared.account.Account.{Account}
-use Rattle.stmt_codec.specs.declared.events.Delivered.{Delivered}
+use Rattle.member_events.specs.declared.events.Delivered.{Delivered}
 use Rattle.node_service.specs.Histories.{Cast, Version, cast_of}
 use Rattle.node_service.specs.Words.{AreHosts, Core, IsCore, numbers_of}
 use Rattle.node_service.specs.Hosts.{Hosts}

@@ -10,10 +10,10 @@ ghost use Rattle.story_picture.specs.Views.{row as row_of};
 
 use crate::rows::Row;
 use happenings::{Happening, Seen};
+use member_events::Note;
 use picture_labels::{Point, between, left_of, place, push_bar, push_stroke, row};
 use rp_base::{NoMemory, Pid};
 use schedule_file::Listed;
-use stmt_codec::Note;
 
 // Views take turns in four colours.
 fn view_class(view: u16) -> &'static [u8]

@@ -4,13 +4,13 @@ ghost use Rattle.text_defs.specs.Words.{line_text};
 ghost use Rattle.rp_base.specs.Views.{update as update_of, value as value_of};
 ghost use Rattle.statements.specs.Batches.{message};
 ghost use Rattle.statements.specs.Views.{report};
-ghost use Rattle.stmt_codec.specs.Views.{stmt};
+ghost use Rattle.member_events.specs.Below.{stmt};
 ghost use Rattle.message_defs.specs.Statements as plain;
 ghost use Rattle.trace_defs.specs.Phrases.{place_words, rank_words, last_words, statement_words, spelled_words};
 ghost use Rattle.trace_defs.specs.Outcomes.{of_process};
 
+use member_events::{Batch, Statement, read_statement};
 use rp_base::{NoMemory, Pid, Update, Value};
-use stmt_codec::{Batch, Statement, read_statement};
 use story_words::{
     Word, begin_said, end_line, push_said, said_with_batch, said_with_payload, said_with_update,
 };

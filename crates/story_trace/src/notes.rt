@@ -7,8 +7,8 @@ ghost use Rattle.group_defs.specs.Events as group;
 ghost use Rattle.happenings.specs.Events.{note as note_of};
 ghost use Rattle.trace_defs.specs.Outcomes.{note_line};
 
+use member_events::Note;
 use rp_base::{NoMemory, Pid};
-use stmt_codec::Note;
 use story_words::{Word, process_word, push_said, said_with_members, said_with_payload};
 
 fn push_delivery(

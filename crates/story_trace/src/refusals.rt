@@ -11,9 +11,9 @@ ghost use Rattle.trace_defs.specs.Outcomes as plain;
 
 use crate::handed::push_handed;
 use happenings::Handed;
+use member_events::EventFault;
 use message_defs::FrameFault;
 use rp_base::{NoMemory, Pid, UpdateFault};
-use stmt_codec::EventFault;
 use story_words::{Word, begin_said, end_line, push_more, refusal_word};
 
 fn frame_reason(fault: FrameFault) -> &'static [u8]

@@ -3,7 +3,7 @@ ghost use Rattle.std.specs.Prelude.{◌≡◌, ◌++◌, ◌∷◌, [], codes, m
 ghost use Rattle.std.specs.List.{flat_map, enumerate_from, join_with_byte};
 ghost use Rattle.std.specs.Fmt.{decimal};
 ghost use Rattle.text_defs.specs.Words.{space, line_text};
-ghost use Rattle.stmt_codec.specs.Views.{signed as signed_of};
+ghost use Rattle.member_events.specs.Below.{signed as signed_of};
 ghost use Rattle.happenings.specs.Events.{note as note_of};
 ghost use Rattle.trace_defs.specs.Outcomes as lines;
 ghost use Rattle.trace_defs.specs.Outcomes.{claims_word as claims_word_of};
@@ -18,9 +18,9 @@ use crate::handed::push_handed;
 use crate::notes::push_note;
 use crate::refusals::push_refusal;
 use happenings::{Handed, Happening, Seen};
+use member_events::{EventVerdict, Note, OwnClaim};
 use rp_base::{NoMemory, Pid, PidSet};
 use schedule_file::ScheduleEvent;
-use stmt_codec::{EventVerdict, Note, OwnClaim};
 use story_words::{
     Word, begin_said, end_line, process_word, push_line, push_said, said_with_processes,
 };

@@ -1,9 +1,9 @@
 use crate::members::members::{after, one_by_journal, one_member};
+use member_events::EntrySignatures;
 use member_image::{AbsorbFault, Core, Entry, Event, Outcome, OwnClaim};
 use rp_base::{Count, NoMemory, Pid, PlainScheme, PlainSigner};
 use std::alloc::Global;
 use std::process::Abort;
-use stmt_codec::EntrySignatures;
 
 const TOO_LONG: [u8; 1025] = [97; 1025];
 

@@ -7,7 +7,7 @@ use claim_pool::{Message, Own, Pool, Verdict, is_signed};
 use own_place::SignedSlots;
 use rp_base::{GroupId, NoMemory, Pid, PidSet, Roster, Scheme};
 use std::process::Abort;
-use stmt_codec::{Claim, Slot, Statement, spelled_len};
+use stmt_codec::{Claim, Slot, Statement, claim_len};
 use view_table::View;
 
 // A signature is valid where it is not empty.
@@ -69,7 +69,7 @@ fn own(rt: &impl AllocGlobal) -> Own {
 fn hear(rt: &impl Abort, pool: &mut Pool, roster: &Roster, own: &Own, claim: &Claim<'_>) -> Verdict
     requires { IsClaim (claim_of claim.now) }
 {
-    let bytes = spelled_len(&claim.statement) + claim.signature.len();
+    let bytes = claim_len(&claim);
     pool.reserve(1, bytes).expect(rt, "memory");
     assert!(rt; own.counts.len() == pool.view().members().len());
     pool.take(&NotEmpty, roster, &GroupId([7; 16]), own, claim)

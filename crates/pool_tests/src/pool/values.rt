@@ -5,7 +5,7 @@ ghost use Rattle.stmt_codec.specs.Views.{claim as claim_of};
 use claim_pool::{Place, Pool};
 use rp_base::{NoMemory, Pid, Update};
 use std::process::Abort;
-use stmt_codec::{Batch, Claim, Slot, Statement, spelled_len};
+use stmt_codec::{Batch, Claim, Slot, Statement, claim_len};
 use view_table::View;
 
 fn pid(n: u8) -> Pid
@@ -18,7 +18,7 @@ fn pid(n: u8) -> Pid
 fn hear_own(rt: &impl Abort, pool: &mut Pool, claim: &Claim<'_>)
     requires { IsClaim (claim_of claim.now) }
 {
-    let bytes = spelled_len(&claim.statement) + claim.signature.len();
+    let bytes = claim_len(&claim);
     pool.reserve(1, bytes).expect(rt, "memory");
     pool.hear_own(claim);
 }

@@ -1,7 +1,7 @@
 use Rattle.std.proofs.Common.{◌≡◌, ◌∙◌, List, ◌++◌, ◌∷◌, [], map, take, ap, refl, sym, arith, Vec, Global}
 use Rattle.std.proofs.lemmas.List.{take-map}
 use Rattle.group_defs.specs.Process as defs
-use Rattle.stmt_codec.specs.declared.events.Delivered.{Delivered}
+use Rattle.member_events.specs.declared.events.Delivered.{Delivered}
 use Rattle.accounts.specs.Views.{delivery}
 use Rattle.accounts.proofs.Lists.{last-changed}
 use Rattle.accounts.proofs.mark.cut_last.Goals as goal

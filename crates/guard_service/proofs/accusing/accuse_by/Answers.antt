@@ -1,4 +1,4 @@
-use Rattle.stmt_codec.specs.Views.{claim as claim_of}
+use Rattle.member_events.specs.Below.{claim as claim_of}
 use Rattle.guard_service.proofs.Sent.{accused-some}
 use Rattle.guard_service.proofs.accusing.accuse_by.Goals as goal
 

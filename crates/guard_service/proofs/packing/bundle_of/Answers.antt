@@ -1,5 +1,5 @@
 use Rattle.std.proofs.Common.{◌∙◌, sym}
-use Rattle.stmt_codec.specs.Views.{claim as claim_of}
+use Rattle.member_events.specs.Below.{claim as claim_of}
 use Rattle.guard_service.proofs.Packed.{both-claims, not-packed}
 use Rattle.guard_service.proofs.packing.bundle_of.Goals as goal
 

@@ -1,4 +1,4 @@
-use Rattle.stmt_codec.specs.Views.{claim as claim_of}
+use Rattle.member_events.specs.Below.{claim as claim_of}
 use Rattle.guard_service.proofs.Packed.{has-groups, room-for-first, room-for-second}
 use Rattle.guard_service.proofs.packing.pack_both.Goals as goal
 

@@ -1,8 +1,7 @@
 use Rattle.std.proofs.Common.{◌∙◌, ap}
 use Rattle.std.specs.Prelude.{◌||◌}
 use Rattle.byte_defs.specs.Members.{has}
-use Rattle.stmt_codec.specs.Left.{claims_left}
-use Rattle.stmt_codec.specs.Views.{claim as claim_of}
+use Rattle.member_events.specs.Below.{claims_left, claim as claim_of}
 use Rattle.guard_service.specs.Evidence.{makes_one}
 use Rattle.guard_service.proofs.Signing.{all-noted, one-noted}
 use Rattle.guard_service.proofs.signers.signers_among.Goals as goal

@@ -1,7 +1,7 @@
 use Rattle.std.proofs.Common.{◌≡◌, ℕ, length}
 use Rattle.std.specs.Prelude.{◌||◌}
 use Rattle.byte_defs.specs.Members.{has}
-use Rattle.stmt_codec.specs.Left.{claims_left}
+use Rattle.member_events.specs.Below.{claims_left}
 use Rattle.guard_service.specs.Evidence.{makes_one}
 use Rattle.guard_service.proofs.signers.signers_among.Given as goal
 

@@ -1,6 +1,6 @@
 use Rattle.std.proofs.Common.{◌∙◌, ap, sym}
 use Rattle.byte_defs.specs.Members.{has}
-use Rattle.stmt_codec.specs.Cursor.{given}
+use Rattle.member_events.specs.Below.{given}
 use Rattle.guard_service.specs.Evidence.{makes_one}
 use Rattle.guard_service.proofs.signers.signers_of.Goals as goal
 

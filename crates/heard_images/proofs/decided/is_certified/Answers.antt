@@ -5,7 +5,7 @@ use Rattle.group_defs.specs.Views.{View, IsView}
 use Rattle.group_defs.specs.Process.{Pool}
 use Rattle.group_defs.specs.Certified.{certified_on}
 use Rattle.rp_base.specs.Views.{value}
-use Rattle.stmt_codec.specs.Views.{stmt}
+use Rattle.member_events.specs.Below.{stmt}
 use Rattle.heard_images.proofs.Ranks.{found-ready, none-ready}
 use Rattle.heard_images.proofs.decided.is_certified.Goals as goal
 

@@ -5,7 +5,7 @@ use Rattle.message_defs.specs.Statements.{Ready}
 use Rattle.group_defs.specs.Process.{Pool}
 use Rattle.group_defs.specs.Certified.{is_certified}
 use Rattle.rp_base.specs.Views.{value}
-use Rattle.stmt_codec.specs.Views.{report}
+use Rattle.member_events.specs.Below.{report}
 use Rattle.heard_images.proofs.Ranks.{decided-none, decided-some}
 use Rattle.heard_images.proofs.decided.is_decided.Goals as goal
 

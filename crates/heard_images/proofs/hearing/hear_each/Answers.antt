@@ -1,7 +1,7 @@
 use Rattle.std.proofs.Common.{◌∙◌, [], ◌∷◌, sym, ap}
 use Rattle.group_defs.specs.Process.{Pool}
 use Rattle.group_defs.specs.Hearing.{with_heard}
-use Rattle.stmt_codec.specs.Views.{claim as claim_of}
+use Rattle.member_events.specs.Below.{claim as claim_of}
 use Rattle.heard_images.specs.Hearing.{with_more}
 use Rattle.heard_images.proofs.Each.{delivered-more, new-more, new-whole, none-more, pool-more, pool-whole}
 use Rattle.heard_images.proofs.hearing.hear_each.Goals as goal

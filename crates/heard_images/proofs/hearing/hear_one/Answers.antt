@@ -1,6 +1,6 @@
 use Rattle.std.proofs.Common.{◌≡◌, ◌∙◌, [], ◌∷◌, sym, ap}
 use Rattle.group_defs.specs.Process.{Pool}
-use Rattle.stmt_codec.specs.Views.{claim as claim_of}
+use Rattle.member_events.specs.Below.{claim as claim_of}
 use Rattle.heard_images.specs.Hearing.{with_more}
 use Rattle.heard_images.proofs.New.{is-new, is-none}
 use Rattle.heard_images.proofs.hearing.hear_one.Goals as goal

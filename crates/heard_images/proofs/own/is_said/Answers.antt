@@ -1,7 +1,7 @@
 use Rattle.std.proofs.Common.{◌∙◌, sym, ap}
 use Rattle.std.specs.Prelude.{is_some, option_and_then}
 use Rattle.group_defs.specs.Certified.{heard_on}
-use Rattle.stmt_codec.specs.Views.{stmt, slot}
+use Rattle.member_events.specs.Below.{stmt, slot}
 use Rattle.heard_images.proofs.Said.{some-mapped}
 use Rattle.heard_images.proofs.own.is_said.Goals as goal
 

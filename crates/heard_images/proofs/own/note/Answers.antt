@@ -2,7 +2,7 @@ use Rattle.std.proofs.Common.{◌≡◌, ◌∙◌, sym, ap, not}
 use Rattle.std.specs.List.{list_any}
 use Rattle.byte_defs.specs.Choices.{is_some_and}
 use Rattle.message_defs.specs.Statements.{slot_of}
-use Rattle.stmt_codec.specs.Views.{stmt, slot}
+use Rattle.member_events.specs.Below.{stmt, slot}
 use Rattle.own_place.specs.Signed.{has_slot}
 use Rattle.own_place.specs.Words.{slot_key, same_slot_key}
 use Rattle.heard_images.proofs.own.note.Goals as goal

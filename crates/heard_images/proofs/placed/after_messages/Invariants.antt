@@ -1,5 +1,5 @@
 use Rattle.std.proofs.Common.{◌≡◌, map, drop}
-use Rattle.stmt_codec.specs.Batches.{message_of}
+use Rattle.member_events.specs.Below.{message_of}
 use Rattle.snapshot_rp.specs.Views.{delivered}
 use Rattle.heard_images.specs.Walks.{after_batch}
 use Rattle.heard_images.proofs.placed.after_messages.Given as goal

@@ -1,6 +1,6 @@
 use Rattle.std.proofs.Common.{◌≡◌, ◌++◌, length}
 use Rattle.std.specs.List.{flat_map}
-use Rattle.stmt_codec.specs.Kept.{signatures_left}
+use Rattle.member_events.specs.Kept.{signatures_left}
 use Rattle.interop_node.specs.Journals.{signature_words}
 use Rattle.interop_node.proofs.journals.push_signatures.Given as goal
 

@@ -1,4 +1,4 @@
-use Rattle.stmt_codec.specs.Views.{report}
+use Rattle.member_events.specs.Below.{report}
 use Rattle.kept_images.proofs.Ending.{ends-so}
 use Rattle.kept_images.proofs.decided.decides.Goals as goal
 

@@ -1,4 +1,4 @@
-use Rattle.stmt_codec.specs.Views.{stmt}
+use Rattle.member_events.specs.Below.{stmt}
 use Rattle.kept_images.specs.Tests.{conflicting}
 use Rattle.kept_images.proofs.Entries.{same-truth, conflicting-so, so-conflicting}
 use Rattle.kept_images.proofs.said.are_conflicting.Goals as goal

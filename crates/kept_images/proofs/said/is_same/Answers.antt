@@ -1,6 +1,6 @@
 use Rattle.std.proofs.Common.{sym, ap, ◌∙◌}
 use Rattle.std.specs.Prelude.{◌&&◌, not}
-use Rattle.stmt_codec.specs.Views.{stmt}
+use Rattle.member_events.specs.Below.{stmt}
 use Rattle.kept_images.proofs.Entries.{same-of}
 use Rattle.kept_images.proofs.said.is_same.Goals as goal
 

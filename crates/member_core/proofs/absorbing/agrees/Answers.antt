@@ -1,7 +1,7 @@
 use Rattle.std.proofs.Common.{◌∙◌, map, sym, ap}
 use Rattle.std.specs.List.{list_all}
 use Rattle.group_defs.specs.Hearing.{is_valid}
-use Rattle.stmt_codec.specs.Views.{signed}
+use Rattle.member_events.specs.Below.{signed}
 use Rattle.member_core.proofs.Absorbed.{unfit-so, fit-so}
 use Rattle.member_core.proofs.absorbing.agrees.Goals as goal
 

@@ -1,5 +1,5 @@
 use Rattle.std.proofs.Common.{◌≡◌, ◌+◌, ◌≤◌, length}
-use Rattle.stmt_codec.specs.Kept.{signatures_left}
+use Rattle.member_events.specs.Kept.{signatures_left}
 use Rattle.member_core.proofs.absorbing.count_up_to.Given as goal
 
 abbrev pub invariant-signatures : goal.invariant-signatures

@@ -1,6 +1,6 @@
 use Rattle.std.proofs.Common.{◌-◌, ◌∙◌, map, length, refl, ap}
 use Rattle.group_defs.specs.Events.{Event, Turn, take_in, signing}
-use Rattle.stmt_codec.specs.Views.{signed}
+use Rattle.member_events.specs.Below.{signed}
 use Rattle.member_signing.specs.States.{frame_to, note}
 use Rattle.member_sending.specs.Taking.{handed}
 use Rattle.member_signing.specs.Signed.{IsSigned}

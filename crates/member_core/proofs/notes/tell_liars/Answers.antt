@@ -1,8 +1,8 @@
 use Rattle.std.proofs.Common.{◌++◌, ◌+◌, ◌∙◌, [], ◌∷◌, map, ap, Vec, Global}
 use Rattle.std.proofs.lemmas.List.{map-append}
-use Rattle.stmt_codec.specs.Views.{claim}
-use Rattle.stmt_codec.specs.declared.events.Note.{Note}
-use Rattle.stmt_codec.specs.declared.events.Note.TheVariants.{Liar}
+use Rattle.member_events.specs.Below.{claim}
+use Rattle.member_events.specs.declared.events.Note.{Note}
+use Rattle.member_events.specs.declared.events.Note.TheVariants.{Liar}
 use Rattle.member_signing.specs.States.{note}
 use Rattle.member_core.specs.Outcomes.{liars_from}
 use Rattle.member_core.proofs.Liars.{liar-reported, none-reported}

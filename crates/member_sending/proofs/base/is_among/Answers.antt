@@ -1,7 +1,7 @@
 use Rattle.std.proofs.Common.{sym, ◌∙◌}
 use Rattle.group_defs.specs.Process as defs
 use Rattle.group_defs.specs.Due.{same_message}
-use Rattle.stmt_codec.specs.Views.{message}
+use Rattle.member_events.specs.Below.{message}
 use Rattle.accounts.specs.Views.{delivery}
 use Rattle.sent_claims.proofs.Walks.{any-passed, any-found}
 use Rattle.member_sending.proofs.base.is_among.Goals as goal

@@ -1,7 +1,7 @@
 use Rattle.std.proofs.Common.{◌≡◌, drop, map}
 use Rattle.std.specs.List.{list_any}
 use Rattle.group_defs.specs.Due.{same_message}
-use Rattle.stmt_codec.specs.Views.{message}
+use Rattle.member_events.specs.Below.{message}
 use Rattle.accounts.specs.Views.{delivery}
 use Rattle.member_sending.proofs.base.is_among.Given as goal
 

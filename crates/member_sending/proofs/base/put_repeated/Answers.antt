@@ -2,7 +2,7 @@ use Rattle.std.proofs.Common.{sym, ap, ◌∙◌, List, ℕ}
 use Rattle.std.specs.Prelude.{not}
 use Rattle.message_defs.specs.Statements.{Claim}
 use Rattle.group_defs.specs.Sending.{was_delivered}
-use Rattle.stmt_codec.specs.Views.{claim}
+use Rattle.member_events.specs.Below.{claim}
 use Rattle.sent_claims.specs.Beside.{chosen}
 use Rattle.member_sending.proofs.Places.{put-none, put-skip, put-keep}
 use Rattle.member_sending.proofs.base.put_repeated.Goals as goal

@@ -3,7 +3,7 @@ use Rattle.message_defs.specs.Updates.{Value}
 use Rattle.group_defs.specs.Views.{View}
 use Rattle.group_defs.specs.Settle.{decided_by}
 use Rattle.rp_base.specs.Views.{value}
-use Rattle.stmt_codec.specs.Views.{report}
+use Rattle.member_events.specs.Below.{report}
 use Rattle.member_state.specs.Below.{content_of, decides}
 use Rattle.member_settling.proofs.Decisions.{ready-certified, ready-decides}
 use Rattle.member_settling.proofs.deciding.phase_then.Goals as goal

@@ -1,7 +1,7 @@
 use Rattle.std.proofs.Common.{◌∙◌, map, ap, refl, arith, Vec, Global}
 use Rattle.std.proofs.lemmas.Result.{on_ok_weaker}
 use Rattle.group_defs.specs.Settle.{delivery}
-use Rattle.stmt_codec.specs.declared.events.Delivered.{Delivered}
+use Rattle.member_events.specs.declared.events.Delivered.{Delivered}
 use Rattle.accounts.specs.Views as accounts
 use Rattle.member_settling.proofs.Lists.{put-last, some-last}
 use Rattle.member_settling.proofs.delivering.put_batch.Goals as goal

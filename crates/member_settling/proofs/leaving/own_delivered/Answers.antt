@@ -4,7 +4,7 @@ use Rattle.std.proofs.Props.{props}
 use Rattle.std.specs.Prelude.{◌==◌, count_by}
 use Rattle.std.proofs.lemmas.List.{length-map}
 use Rattle.group_defs.specs.Process.{delivered_from}
-use Rattle.stmt_codec.specs.declared.events.Delivered.{Delivered}
+use Rattle.member_events.specs.declared.events.Delivered.{Delivered}
 use Rattle.accounts.specs.Views.{delivery}
 use Rattle.member_settling.proofs.Lists.{last-is}
 use Rattle.member_settling.proofs.Own.{count-own}

@@ -1,6 +1,6 @@
 use Rattle.std.proofs.Common.{◌≡◌, ◌∙◌, ◌+◌, ◌-◌, ℕ, List, drop, sym, ap, arith}
 use Rattle.member_state.specs.States.{signers_in}
-use Rattle.stmt_codec.specs.Views.{claim}
+use Rattle.member_events.specs.Below.{claim}
 use Rattle.member_state.proofs.Liars.{none-reported, one-reported, none-there}
 use Rattle.member_state.proofs.state.liars_in.Goals as goal
 

@@ -1,5 +1,5 @@
 use Rattle.std.proofs.Common.{◌≡◌, ◌∙◌, ◌+◌, suc, ℕ, sym, ap, arith, drop, length}
-use Rattle.stmt_codec.specs.Views.{claim}
+use Rattle.member_events.specs.Below.{claim}
 use Rattle.member_state.specs.States.{kept_of}
 use Rattle.member_state.proofs.Seeking.{passed, found, absent}
 use Rattle.member_state.proofs.state.pair_of.Goals as goal

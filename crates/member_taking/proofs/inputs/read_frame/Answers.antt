@@ -2,7 +2,7 @@ use Rattle.std.proofs.Common.{rules, ◌∙◌, Ok, sym, ap}
 use Rattle.group_defs.specs.Events.{Hand}
 use Rattle.message_defs.specs.Claims.{claims_of}
 use Rattle.frame_codec.specs.Views.{frame_view}
-use Rattle.stmt_codec.specs.Left.{claims_left}
+use Rattle.member_events.specs.Below.{claims_left}
 use Rattle.frame_codec.proofs.Said.{said-fault, said-claims-fault, said-want, said-claims}
 use Rattle.member_taking.proofs.Said.{length-of, want-range}
 use Rattle.member_taking.proofs.inputs.read_frame.Goals as goal

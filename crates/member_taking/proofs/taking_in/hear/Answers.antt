@@ -1,7 +1,7 @@
 use Rattle.std.proofs.Common.{refl, subst, arith}
 use Rattle.std.proofs.Math.Logic.{∥∥₁_elim}
 use Rattle.std.proofs.Props.{props}
-use Rattle.stmt_codec.specs.Left.{claims_left}
+use Rattle.member_events.specs.Below.{claims_left}
 use Rattle.rule_laws.specs.Heard.{IsPool}
 use Rattle.claim_hearing.specs.Settings.{as_setting}
 use Rattle.member_taking.proofs.States.{hears, newly-heard}

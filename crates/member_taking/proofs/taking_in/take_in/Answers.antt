@@ -6,7 +6,7 @@ use Rattle.group_defs.specs.Process.{Process}
 use Rattle.group_defs.specs.Hearing.{hear_all}
 use Rattle.group_defs.specs.Events.{Submit, refusal, take_in, perceives}
 use Rattle.rp_base.specs.Views.{update as update_of}
-use Rattle.stmt_codec.specs.Left.{claims_left}
+use Rattle.member_events.specs.Below.{claims_left}
 use Rattle.claim_hearing.specs.Settings.{as_setting}
 use Rattle.member_state.specs.States.{IsStateOf}
 use Rattle.member_taking.specs.Inputs.{handed, asks as asks_by}

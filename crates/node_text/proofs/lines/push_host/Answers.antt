@@ -1,6 +1,6 @@
 use Rattle.std.proofs.Common.{◌++◌, ℕ, List, length, map, sum, sym, ap, ◌∙◌, Vec, Global}
 use Rattle.group_defs.specs.Accounts as reported
-use Rattle.stmt_codec.specs.declared.events.Delivered.{Delivered}
+use Rattle.member_events.specs.declared.events.Delivered.{Delivered}
 use Rattle.node_text.proofs.Hosts.{host-is}
 use Rattle.node_text.proofs.lines.push_host.Goals as goal
 

@@ -1,7 +1,7 @@
 use Rattle.std.proofs.Common.{List, sym, ap, ◌∙◌}
 use Rattle.std.specs.List.{list_any}
 use Rattle.happenings.specs.Events.{note}
-use Rattle.stmt_codec.specs.declared.events.Note.{Note}
+use Rattle.member_events.specs.declared.events.Note.{Note}
 use Rattle.picture_defs.specs.Labels.{is_delivery}
 use Rattle.picture_labels.proofs.Mapped.{any-map}
 use Rattle.picture_labels.proofs.labels.has_delivery.Goals as goal

@@ -1,9 +1,8 @@
 use Rattle.std.proofs.Common.{List, ◌++◌, map, ap, ◌∙◌}
 use Rattle.std.specs.List.{flat_map}
 use Rattle.happenings.specs.Events.{note}
-use Rattle.stmt_codec.specs.declared.own.OwnClaim.{OwnClaim}
-use Rattle.stmt_codec.specs.declared.events.Note.{Note}
-use Rattle.stmt_codec.specs.Views.{signed}
+use Rattle.member_events.specs.Below.{OwnClaim, signed}
+use Rattle.member_events.specs.declared.events.Note.{Note}
 use Rattle.picture_defs.specs.Labels.{note_span, short_of}
 use Rattle.story_words.proofs.Pieces.{behind}
 use Rattle.picture_labels.proofs.labels.push_outcome_words.Goals as goal

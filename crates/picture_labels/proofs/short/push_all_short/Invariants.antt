@@ -1,6 +1,6 @@
 use Rattle.std.proofs.Common.{◌≡◌, ◌++◌, map, take}
 use Rattle.std.specs.List.{flat_map}
-use Rattle.stmt_codec.specs.Views.{signed}
+use Rattle.member_events.specs.Below.{signed}
 use Rattle.picture_defs.specs.Labels.{short_of}
 use Rattle.picture_labels.proofs.short.push_all_short.Given as goal
 

@@ -1,4 +1,4 @@
-use Rattle.stmt_codec.specs.Views.{stmt}
+use Rattle.member_events.specs.Below.{stmt}
 use Rattle.replay_world.proofs.Places.{lies_at}
 use Rattle.replay_world.proofs.lying.lie_at.Goals as goal
 

@@ -1,7 +1,7 @@
 use Rattle.std.proofs.Common.{◌++◌, List, map, ap, ◌∙◌, Vec, Global}
 use Rattle.std.specs.List.{flat_map}
 use Rattle.replay_defs.specs.Reports.{message_line}
-use Rattle.stmt_codec.specs.declared.events.Delivered.{Delivered}
+use Rattle.member_events.specs.declared.events.Delivered.{Delivered}
 use Rattle.accounts.specs.Views.{delivery}
 use Rattle.report_lines.proofs.Pieces.{view-more}
 use Rattle.report_lines.proofs.histories.push_deliveries.Goals as goal

@@ -2,7 +2,7 @@ use Rattle.std.proofs.Common.{◌++◌, List, map, ap, ◌∙◌, Vec, Global}
 use Rattle.std.specs.List.{flat_map, enumerate_from}
 use Rattle.group_defs.specs.Views.{View}
 use Rattle.replay_defs.specs.Reports.{view_line, message_lines}
-use Rattle.stmt_codec.specs.declared.events.Delivered.{Delivered}
+use Rattle.member_events.specs.declared.events.Delivered.{Delivered}
 use Rattle.accounts.specs.Views.{delivery}
 use Rattle.report_lines.proofs.Reported.{block-written}
 use Rattle.report_lines.proofs.processes.push_block.Goals as goal

@@ -1,7 +1,7 @@
 use Rattle.std.proofs.Common.{◌++◌, ◌∷◌, [], ℕ, List, length, map, sum, sym, ap, ◌∙◌, Vec, Global}
 use Rattle.std.specs.Fmt.{decimal}
 use Rattle.text_defs.specs.Words.{space, line_text}
-use Rattle.stmt_codec.specs.declared.events.Delivered.{Delivered}
+use Rattle.member_events.specs.declared.events.Delivered.{Delivered}
 use Rattle.accounts.specs.Views.{delivery}
 use Rattle.report_lines.proofs.Reported.{lengths-same, process-written}
 use Rattle.report_lines.proofs.processes.push_process.Goals as goal

@@ -1,5 +1,5 @@
 use Rattle.std.proofs.Common.{◌≡◌, None, drop}
-use Rattle.stmt_codec.specs.Views.{report}
+use Rattle.member_events.specs.Below.{report}
 use Rattle.restored_place.specs.Walks.{readies}
 use Rattle.restored_place.proofs.said.highest_ready.Given as goal
 

@@ -1,6 +1,6 @@
 use Rattle.std.proofs.Common.{◌≡◌, ℕ, true, false, sym, subst}
 use Rattle.std.specs.Prelude.{◌↔◌, is_some, IsTrue}
-use Rattle.stmt_codec.specs.Views.{report}
+use Rattle.member_events.specs.Below.{report}
 use Rattle.restored_left.specs.Facts.{IsDecidedSo, IsHaltedSo}
 use Rattle.restored_present.proofs.present.phase_in.Goals as goal
 

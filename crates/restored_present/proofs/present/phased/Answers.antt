@@ -2,7 +2,7 @@ use Rattle.std.proofs.Common.{◌≡◌, ◌∙◌, map, refl, sym, ap, subst}
 use Rattle.std.specs.Prelude.{◌↔◌, is_some, IfSome, IsTrue}
 use Rattle.group_defs.specs.Views.{View}
 use Rattle.group_defs.specs.Process.{Pool}
-use Rattle.stmt_codec.specs.Views.{report}
+use Rattle.member_events.specs.Below.{report}
 use Rattle.restored_left.specs.Members.{IsIn}
 use Rattle.restored_left.specs.Facts.{HasEnd}
 use Rattle.restored_present.proofs.Phased.{Decided, IsSo, decided_of, ended-so, so-same}

@@ -2,7 +2,7 @@ use Rattle.std.proofs.Common.{◌≡◌, ◌<◌, ◌+◌, List, Vec, Global, le
 use Rattle.std.specs.Prelude.{min}
 use Rattle.std.proofs.lemmas.Grind.{common_steps}
 use Rattle.accounts.specs.Views.{account}
-use Rattle.stmt_codec.specs.declared.events.Delivered.{Delivered}
+use Rattle.member_events.specs.declared.events.Delivered.{Delivered}
 use Rattle.store_replies.specs.Words.{most_counted}
 use Rattle.store_server.proofs.Counted.{count_begins, count_ends, count_more}
 use Rattle.store_server.proofs.beginning.count.Goals as goal

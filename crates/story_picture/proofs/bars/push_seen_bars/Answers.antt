@@ -2,7 +2,7 @@ use Rattle.std.proofs.Common.{List, ◌++◌, map, ap, ◌∙◌}
 use Rattle.std.specs.List.{flat_map}
 use Rattle.schedule_file.specs.Views.{listed}
 use Rattle.happenings.specs.Events.{note}
-use Rattle.stmt_codec.specs.declared.events.Note.{Note}
+use Rattle.member_events.specs.declared.events.Note.{Note}
 use Rattle.picture_defs.specs.Drawing.{note_bar}
 use Rattle.story_picture.proofs.bars.push_seen_bars.Goals as goal
 

@@ -1,7 +1,7 @@
 use Rattle.std.proofs.Common.{◌≡◌, ◌++◌, map, take}
 use Rattle.std.specs.List.{flat_map}
 use Rattle.text_defs.specs.Words.{line_text}
-use Rattle.stmt_codec.specs.Views.{signed}
+use Rattle.member_events.specs.Below.{signed}
 use Rattle.trace_defs.specs.Outcomes.{signed_line}
 use Rattle.story_trace.proofs.steps.push_all_signed.Given as goal
 

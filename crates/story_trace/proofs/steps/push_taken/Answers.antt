@@ -2,9 +2,8 @@ use Rattle.std.proofs.Common.{◌++◌, List, ℕ, map, ap, sym, ◌∙◌}
 use Rattle.std.specs.List.{flat_map, enumerate_from}
 use Rattle.std.proofs.lemmas.List.Folds.{flat_map-map}
 use Rattle.text_defs.specs.Words.{line_text}
-use Rattle.stmt_codec.specs.declared.own.OwnClaim.{OwnClaim}
-use Rattle.stmt_codec.specs.declared.events.Note.{Note}
-use Rattle.stmt_codec.specs.Views.{signed}
+use Rattle.member_events.specs.Below.{OwnClaim, signed}
+use Rattle.member_events.specs.declared.events.Note.{Note}
 use Rattle.happenings.specs.Events.{note}
 use Rattle.trace_defs.specs.Outcomes.{signed_line, note_line, sent_line}
 use Rattle.story_trace.proofs.Behind.{three_of}

@@ -2,7 +2,7 @@ use Rattle.std.proofs.Common.{◌≡◌, ◌∙◌, ◌-◌, ℕ, List, length, 
 use Rattle.std.proofs.lemmas.List.{length-map, take-map}
 use Rattle.group_defs.specs.Views.{View}
 use Rattle.group_defs.specs.Process as defs
-use Rattle.stmt_codec.specs.declared.events.Delivered.{Delivered}
+use Rattle.member_events.specs.declared.events.Delivered.{Delivered}
 use Rattle.accounts.specs.Views.{account, delivery}
 use Rattle.accounts.proofs.account.Account.drop_last.Goals as goal
 

@@ -4,7 +4,7 @@ use Rattle.group_defs.specs.Events.{outcome}
 use Rattle.group_defs.specs.Family.{claims_in, handed_to}
 use Rattle.rp_base.specs.Signer.{count_total, count_used}
 use Rattle.journal_entries.specs.Views.{entry as entry_of, event as plain_event}
-use Rattle.stmt_codec.specs.Views.{signed}
+use Rattle.member_events.specs.Below.{signed}
 use Rattle.audit_claims.proofs.Asked.{known-shares}
 use Rattle.claim_firsts.specs.Seen.{Saw}
 use Rattle.member_core.specs.Cores.{left_of, signer_of}

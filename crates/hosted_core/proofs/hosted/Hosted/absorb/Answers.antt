@@ -1,4 +1,4 @@
-use Rattle.stmt_codec.specs.Kept.{signatures_left}
+use Rattle.member_events.specs.Kept.{signatures_left}
 use Rattle.member_core.specs.Events.{event}
 use Rattle.member_core.specs.Cores.{left_of}
 use Rattle.hosted_core.specs.Hosts.{core_of}

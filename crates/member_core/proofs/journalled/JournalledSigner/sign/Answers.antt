@@ -1,6 +1,6 @@
 use Rattle.std.proofs.Common.{◌-◌, ◌≤◌, ◌∙◌, length, drop, refl, sym, arith}
 use Rattle.std.proofs.lemmas.List.{length-take-le}
-use Rattle.stmt_codec.specs.Kept.{signatures_left}
+use Rattle.member_events.specs.Kept.{signatures_left}
 use Rattle.rp_base.proofs.Copies.{front_is, rest_is}
 use Rattle.member_core.proofs.Handing.{next-short, next-is, some-left, one-more, passed-on}
 use Rattle.member_core.proofs.journalled.JournalledSigner.sign.Goals as goal

@@ -1,5 +1,5 @@
 use Rattle.std.proofs.Common.{◌≡◌, ◌<◌, ◌≤◌, arith}
-use Rattle.stmt_codec.specs.Kept.{signatures_left}
+use Rattle.member_events.specs.Kept.{signatures_left}
 use Rattle.member_core.proofs.Handing.{skipped}
 use Rattle.member_core.proofs.journalled.JournalledTally.skip_to.Goals as goal
 

@@ -1,5 +1,5 @@
 use Rattle.std.proofs.Common.{◌+◌, ◌≤◌, ◌∙◌, sym, arith}
-use Rattle.stmt_codec.specs.Kept.{signatures_left}
+use Rattle.member_events.specs.Kept.{signatures_left}
 use Rattle.member_signing.specs.States.{event}
 use Rattle.member_core.specs.Cores.{IsCore, left_of}
 use Rattle.member_core.proofs.Absorbed.{absorbs-so}

@@ -1,7 +1,7 @@
 use Rattle.std.proofs.Common.{◌∙◌, ap, sym, subst, arith, is_none}
 use Rattle.group_defs.specs.Events.{Turn, after, outcome, journalled}
 use Rattle.member_sending.specs.Below.{Shares}
-use Rattle.stmt_codec.specs.Kept.{signatures_left}
+use Rattle.member_events.specs.Kept.{signatures_left}
 use Rattle.member_signing.specs.States.{event, IsStateOf}
 use Rattle.member_core.specs.Outcomes.{HasTaken}
 use Rattle.member_core.specs.Journalled.{used_of}

@@ -1,5 +1,5 @@
 use Rattle.std.proofs.lemmas.Result.{err_from_is_err_and}
-use Rattle.stmt_codec.specs.Kept.{signatures_left}
+use Rattle.member_events.specs.Kept.{signatures_left}
 use Rattle.sig_scheme.specs.Signers.{used, total}
 use Rattle.hosted_core.specs.Cores.{event as event_of, left_of}
 use Rattle.hosted_core.specs.Hosts.{core_of}

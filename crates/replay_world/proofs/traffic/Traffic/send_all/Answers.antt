@@ -1,7 +1,7 @@
 use Rattle.std.proofs.Common.{List, map, sym, subst}
 use Rattle.std.specs.Vec.Iter.{into_iter_items}
 use Rattle.std.proofs.lemmas.Result.{err_from_is_err_and}
-use Rattle.stmt_codec.specs.declared.events.Sending.{Sending}
+use Rattle.member_events.specs.declared.events.Sending.{Sending}
 use Rattle.happenings.specs.Events.{frame_to}
 use Rattle.replay_world.specs.declared.fault.WorldFault.{WorldFault}
 use Rattle.replay_world.specs.Traffic.{SendsTooMuch, sends_all}

@@ -5,7 +5,7 @@ use Rattle.std.proofs.lemmas.Result.{on_ok_weaker, IfErr-weaker}
 use Rattle.byte_defs.specs.Members.{has}
 use Rattle.rp_base.specs.Pids.{mask_of, members}
 use Rattle.rp_base.specs.Masks.{mask_of-members}
-use Rattle.stmt_codec.specs.Views.{stmt}
+use Rattle.member_events.specs.Below.{stmt}
 use Rattle.replay_defs.specs.Schedules.{Lie}
 use Rattle.replay_defs.specs.Worlds as plain
 use Rattle.replay_defs.specs.Worlds.{setting_of}

@@ -1,6 +1,6 @@
 use Rattle.std.proofs.Common.{◌≡◌, ◌∙◌, length, ap, arith}
 use Rattle.message_defs.specs.Spelling.{spelling}
-use Rattle.stmt_codec.specs.Views.{claim, stmt}
+use Rattle.member_events.specs.Below.{claim, stmt}
 use Rattle.snapshot_rp.proofs.Kept.{spelling_is_read, kept_so}
 use Rattle.snapshot_rp.proofs.claim.KeptClaim.new.Goals as goal
 

@@ -3,7 +3,7 @@ use Rattle.std.specs.Prelude.{min, option_map, slice_index_or}
 use Rattle.accounts.specs.Views.{account, delivery}
 use Rattle.group_defs.specs.Views.{View}
 use Rattle.sig_scheme.specs.Views.{secret as secret_in}
-use Rattle.stmt_codec.specs.declared.events.Delivered.{Delivered}
+use Rattle.member_events.specs.declared.events.Delivered.{Delivered}
 use Rattle.store_defs.specs.Holding.{delivered_below, payloads_of, stayed, store_over}
 use Rattle.store_defs.specs.Serving.{held, server_of}
 use Rattle.store_defs.specs.Stores.{Store, store_after}

@@ -5,13 +5,12 @@
 //! | length | 2, at most 16,384 |
 //! | signature | as many as the length says |
 ghost use Rattle.std.specs.Prelude.{◌≡◌, IsOk};
-ghost use Rattle.byte_defs.specs.Reads.{rest_of};
+ghost use Rattle.stmt_codec.specs.Below.{rest_of};
 ghost use Rattle.message_defs.specs.Entries.{kept_at, all_kept_at};
-ghost use Rattle.stmt_codec.specs.Finds.{Finds};
+ghost use Rattle.member_events.specs.Finds.{Finds};
 
 use crate::events::Event;
-use frame_codec::{SIGNATURE_BYTES, bytes_at, u16_at};
-use statements::Pid;
+use stmt_codec::{Pid, SIGNATURE_BYTES, bytes_at, u16_at};
 
 /// What a journal keeps of one event.
 #[derive(Clone, Copy)]
@@ -63,7 +62,7 @@ fn skip_signatures(count: u16, bytes: &[u8]) -> Option<&[u8]>
 }
 
 impl<'a> EntrySignatures<'a> {
-    ghost use Rattle.stmt_codec.specs.Kept.{kept_of};
+    ghost use Rattle.member_events.specs.Kept.{kept_of};
 
     /// `count` signatures from the front of the bytes, and the bytes after them. None, exactly where the bytes end
     /// within a signature, or a signature has more than 16,384 bytes.
@@ -77,7 +76,7 @@ impl<'a> EntrySignatures<'a> {
 
 impl<'a> Iterator for EntrySignatures<'a> {
     ghost use Rattle.std.specs.Iterator.{YieldsFirstRef, item_count};
-    ghost use Rattle.stmt_codec.specs.Kept.{signatures_left};
+    ghost use Rattle.member_events.specs.Kept.{signatures_left};
 
     type Item = &'a [u8];
 

@@ -2,8 +2,8 @@
 use Rattle.std.specs.Prelude.{ℕ, List}
 use Rattle.std.specs.Borrow.{Bor}
 use Rattle.message_defs.specs.Entries.{all_kept_at}
-use Rattle.stmt_codec.specs.Finds.{items_of}
-use Rattle.stmt_codec.specs.declared.entry.EntrySignatures.{EntrySignatures}
+use Rattle.member_events.specs.Finds.{items_of}
+use Rattle.member_events.specs.declared.entry.EntrySignatures.{EntrySignatures}
 
 abbrev pub signatures_left : EntrySignatures → List (List ℕ)
 signatures_left s = items_of (all_kept_at s.left s.bytes.now)

@@ -1,6 +1,6 @@
 use Rattle.std.proofs.Common.{arith, ap, length}
-use Rattle.stmt_codec.proofs.Keeping.{none_kept, kept_lends, kept_stands}
-use Rattle.stmt_codec.proofs.entry.EntrySignaturesIterator.next.Goals as goal
+use Rattle.member_events.proofs.Keeping.{none_kept, kept_lends, kept_stands}
+use Rattle.member_events.proofs.entry.EntrySignaturesIterator.next.Goals as goal
 
 pub returns-then-self-eq0-clause-steps : goal.returns-then-self-eq0-clause-steps
 returns-then-self-eq0-clause-steps c = let none = none_kept c.args.self.now.bytes.now c.args.self.now.left c.if-self-eq0.true in (

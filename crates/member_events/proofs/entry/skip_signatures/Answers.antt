@@ -1,7 +1,7 @@
-use Rattle.byte_defs.specs.Reads.{rest_of}
+use Rattle.stmt_codec.specs.Below.{rest_of}
 use Rattle.message_defs.specs.Entries.{all_kept_at}
-use Rattle.stmt_codec.proofs.Keeping.{kept_passes, kept_fails, all_passed}
-use Rattle.stmt_codec.proofs.entry.skip_signatures.Goals as goal
+use Rattle.member_events.proofs.Keeping.{kept_passes, kept_fails, all_passed}
+use Rattle.member_events.proofs.entry.skip_signatures.Goals as goal
 
 pub returns-in_default : goal.returns-in_default
 returns-in_default c = kept_fails c.args.count c.loop.counter c.loop.rest.now

@@ -1,10 +1,9 @@
 -- The signatures of an entry: skipping one after the other, as a loop does, and lending the next.
 use Rattle.std.proofs.Common.{◌≡◌, ◌≢◌, ℕ, zero, suc, ◌+◌, ◌-◌, ◌<◌, ◌≤◌, List, [], ◌∷◌, Result, Ok, Err, refl, sym, ◌∙◌, arith}
 use Rattle.std.specs.Prelude.{IsOk}
-use Rattle.byte_defs.specs.Fields.{◌>>=◌}
-use Rattle.byte_defs.specs.Reads.{rest_of}
+use Rattle.stmt_codec.specs.Below.{◌>>=◌, rest_of}
 use Rattle.message_defs.specs.Entries.{kept_at, all_kept_at}
-use Rattle.stmt_codec.specs.Finds.{items_of}
+use Rattle.member_events.specs.Finds.{items_of}
 
 abbrev Read : Type 0 → Type 0
 Read X = Result (X × List ℕ) (Unit {0})

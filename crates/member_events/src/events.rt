@@ -1,9 +1,6 @@
-use crate::own::OwnClaim;
-use crate::payload::Payload;
 use arrayvec::ArrayVec;
-use message_defs::FrameFault;
-use statements::{Pid, PidSet, UpdateFault};
 use std::mem;
+use stmt_codec::{FrameFault, OwnClaim, Payload, Pid, PidSet, UpdateFault};
 
 /// What is handed to a process. One event is taken whole.
 #[derive(Clone, Copy)]
